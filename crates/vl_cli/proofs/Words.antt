@@ -8,30 +8,47 @@ use Rattle.vl_replay.specs.Runs.{IsFront}
 use Rattle.vl_replay.specs.Steps.{Finishes}
 use Rattle.vl_replay.specs.declared.ending.Ending.{Ending}
 use Rattle.vl_replay.specs.declared.fails.Refusal.{Refusal}
-use Rattle.vl_replay.specs.declared.ending.Ending.TheVariants.{Complete, BadLine, BadWords, DiskFault, Refused, Damaged, NoMemory, ReadFault, WriteFault, AnswerCut, Stopped}
+use Rattle.vl_replay.specs.declared.ending.Ending.TheVariants.{Complete, BadLine, BadWords, DiskFault, ReaderFault, Refused, Damaged, NoMemory, ReadFault, WriteFault, AnswerCut, Stopped}
 
 -- the status of an ending by an object
 abbrev pub StatusBy : Culprit → ℕ → Type 0
 StatusBy who n = (ending : Ending) → (status_of ending ≡ n → culprit_of ending ≡ who) × (culprit_of ending ≡ who → status_of ending ≡ n)
 
-pub disk_status : StatusBy TheDisk 3
-disk_status Complete = (λ e. cc, λ e. cc)
-disk_status BadLine = (λ e. cc, λ e. cc)
-disk_status BadWords = (λ e. cc, λ e. cc)
-disk_status DiskFault = (λ e. refl, λ e. refl)
-disk_status (Refused refusal) = (λ e. cc, λ e. cc)
-disk_status (Damaged name place) = (λ e. cc, λ e. cc)
-disk_status NoMemory = (λ e. cc, λ e. cc)
-disk_status ReadFault = (λ e. cc, λ e. cc)
-disk_status WriteFault = (λ e. cc, λ e. cc)
-disk_status AnswerCut = (λ e. cc, λ e. cc)
-disk_status Stopped = (λ e. refl, λ e. refl)
+-- Status 3 is that of the disk's fault, and of a read's.
+pub fault_status : (ending : Ending) → status_of ending ≡ 3 → (culprit_of ending ≡ TheDisk) ⊎ (ending ≡ ReaderFault)
+fault_status Complete e = absurd (cc)
+fault_status BadLine e = absurd (cc)
+fault_status BadWords e = absurd (cc)
+fault_status DiskFault e = inl refl
+fault_status ReaderFault e = inr refl
+fault_status (Refused refusal) e = absurd (cc)
+fault_status (Damaged name place) e = absurd (cc)
+fault_status NoMemory e = absurd (cc)
+fault_status ReadFault e = absurd (cc)
+fault_status WriteFault e = absurd (cc)
+fault_status AnswerCut e = absurd (cc)
+fault_status Stopped e = inl refl
+
+disk_status : (ending : Ending) → culprit_of ending ≡ TheDisk → status_of ending ≡ 3
+disk_status DiskFault e = refl
+disk_status Stopped e = refl
+disk_status Complete e = absurd (cc)
+disk_status BadLine e = absurd (cc)
+disk_status BadWords e = absurd (cc)
+disk_status ReaderFault e = absurd (cc)
+disk_status (Refused refusal) e = absurd (cc)
+disk_status (Damaged name place) e = absurd (cc)
+disk_status NoMemory e = absurd (cc)
+disk_status ReadFault e = absurd (cc)
+disk_status WriteFault e = absurd (cc)
+disk_status AnswerCut e = absurd (cc)
 
 pub source_status : StatusBy TheSource 6
 source_status Complete = (λ e. cc, λ e. cc)
 source_status BadLine = (λ e. cc, λ e. cc)
 source_status BadWords = (λ e. cc, λ e. cc)
 source_status DiskFault = (λ e. cc, λ e. cc)
+source_status ReaderFault = (λ e. cc, λ e. cc)
 source_status (Refused refusal) = (λ e. cc, λ e. cc)
 source_status (Damaged name place) = (λ e. cc, λ e. cc)
 source_status NoMemory = (λ e. cc, λ e. cc)
@@ -45,6 +62,7 @@ sink_status Complete = (λ e. cc, λ e. cc)
 sink_status BadLine = (λ e. cc, λ e. cc)
 sink_status BadWords = (λ e. cc, λ e. cc)
 sink_status DiskFault = (λ e. cc, λ e. cc)
+sink_status ReaderFault = (λ e. cc, λ e. cc)
 sink_status (Refused refusal) = (λ e. cc, λ e. cc)
 sink_status (Damaged name place) = (λ e. cc, λ e. cc)
 sink_status NoMemory = (λ e. cc, λ e. cc)
@@ -59,6 +77,7 @@ is_refused Complete e = absurd (cc)
 is_refused BadLine e = absurd (cc)
 is_refused BadWords e = absurd (cc)
 is_refused DiskFault e = absurd (cc)
+is_refused ReaderFault e = absurd (cc)
 is_refused (Refused refusal) e = inl (refusal, refl)
 is_refused (Damaged name place) e = inr (name, place, refl)
 is_refused NoMemory e = absurd (cc)
@@ -72,6 +91,7 @@ is_bad_words Complete e = cc
 is_bad_words BadLine e = cc
 is_bad_words BadWords e = refl
 is_bad_words DiskFault e = cc
+is_bad_words ReaderFault e = cc
 is_bad_words (Refused refusal) e = cc
 is_bad_words (Damaged name place) e = cc
 is_bad_words NoMemory e = cc
@@ -94,6 +114,17 @@ module _ (who : Culprit) (n : ℕ) (by : StatusBy who n) (ending : Ending) (befo
   -- and counted nothing where it ended otherwise, and the last line could be put
   pub steady_by : status_of ending ≢ n → status_of ending ≢ 7 → now ≡ before
   steady_by other whole = counts.steady (λ e. other ((by ending).1 (same (culprit_of ending) who e))) (λ e. whole (cut ending e))
+
+-- so it is with the disk
+module _ (ending : Ending) (before now : ℕ) (counts : CountsFaultsOf TheDisk (Some ending) before now) where
+  pub rose_or_unread : status_of ending ≡ 3 → Rose before now ⊎ (ending ≡ ReaderFault)
+  rose_or_unread is = ⊎_elim
+      (λ (by : culprit_of ending ≡ TheDisk). inl (counts.rose (ap Some by)))
+      (λ (unread : ending ≡ ReaderFault). inr unread)
+      (fault_status ending is)
+
+  pub disk_steady : status_of ending ≢ 3 → status_of ending ≢ 7 → now ≡ before
+  disk_steady other whole = counts.steady (λ e. other (disk_status ending (same (culprit_of ending) TheDisk e))) (λ e. whole (cut ending e))
 
 -- ---- words that aren't plain
 

@@ -12,7 +12,7 @@ use Rattle.vl_replay.specs.Start.{AnswersInput}
 use Rattle.vl_replay.specs.Steps.{FinishesBy, EndsWithoutOpening}
 use Rattle.vl_replay.specs.Trial.{EndsTrial, Trial}
 use Rattle.vl_replay.specs.declared.ending.Ending.{Ending}
-use Rattle.vl_replay.specs.declared.ending.Ending.TheVariants.{Damaged, Stopped}
+use Rattle.vl_replay.specs.declared.ending.Ending.TheVariants.{Damaged, ReaderFault, Stopped}
 use Rattle.vl_replay.specs.declared.fails.Refusal.{Refusal}
 
 -- the words are plain, and ask for this
@@ -51,6 +51,11 @@ abbrev pub MetDamage : (old new : Streams) → Type 0
 MetDamage old new =
     (name : Name) × (place : ℕ)
     × ((input : List ℕ) → old.left ≡ Some input → ReadsInput input old new (Damaged name place))
+
+-- A line's read of an open store's file failed. So much it tells of the input: the lines before were answered, and the line of a
+-- disk's fault was put last.
+abbrev pub FailedToRead : (old new : Streams) → Type 0
+FailedToRead old new = (input : List ℕ) → old.left ≡ Some input → ReadsInput input old new ReaderFault
 
 -- A trial has the status of its ending, and printed what such a trial prints.
 abbrev pub StatusOfTrial : Trial → (held held' left : Option (List ℕ)) → (status : ℕ) → Type 0

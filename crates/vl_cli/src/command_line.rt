@@ -21,13 +21,14 @@ ghost use Rattle.vl_replay.specs.declared.fails.Refusal.{Refusal};
 ghost use Rattle.vl_replay.specs.Trial.{begun};
 ghost use Rattle.vl_replay.specs.Trying.{trial_of};
 ghost use Rattle.vl_mem.specs.declared.outcome.Outcome.{Outcome};
-ghost use Rattle.vl_cli.specs.Run.{AreNotPlain, AskFor, EndsBy, MetDamage, StatusOfAnswers, StatusOfTrial, StatusWithoutOpening, TellsOfInput};
+ghost use Rattle.vl_cli.specs.Run.{AreNotPlain, AskFor, EndsBy, FailedToRead, MetDamage, StatusOfAnswers, StatusOfTrial, StatusWithoutOpening, TellsOfInput};
 ghost use Rattle.vl_cli.specs.declared.command_line.words.Command.{Command as Commands};
 
 use crate::command_line::words::{Command, command_in};
 use std::alloc::Global;
 use vl_disk::Disk;
 use vl_io::{Sink, Source};
+use vl_model::reads_without_conflict_stay_explained;
 use vl_replay::{Ended as Replayed, Ending, NO_MEMORY, USAGE, finish, replay, trial};
 
 /// How a run ended: the process's status, as docs/SCRIPT.md lists them, and the disk.
@@ -80,11 +81,12 @@ pub fn run<S: Source, K: Sink, D: Disk>(
     ensures untouched { (stop : ℕ) (outcome : Outcome) → AskFor (map string_bytes words.now) (Command.Trial stop outcome)
         → result.disk ≡ disk }
 
-    // Status 3 comes only by a fault of the disk, and all others but 7 only without. A trial never comes to it: its stop is not
-    // reported.
+    // Status 3 comes only by a fault of the disk, or where a line's read of an open store's file failed, of which the disk counts
+    // no fault. All other statuses but 7 come only without a fault of the disk. A trial never comes to 3: its stop is not reported.
     ensures no_fault_in_trial { (stop : ℕ) (outcome : Outcome) → AskFor (map string_bytes words.now) (Command.Trial stop outcome)
         → result.status ≢ 3 }
-    ensures disk_fault { result.status ≡ 3 → Rose (D.faults disk) (D.faults result.disk) }
+    ensures disk_fault { result.status ≡ 3 → Rose (D.faults disk) (D.faults result.disk)
+        ⊎ FailedToRead (streams S.Source K.Sink source.old sink.old) (streams S.Source K.Sink source.new sink.new) }
     ensures no_disk_fault { result.status ≢ 3 → result.status ≢ 7
         → D.faults result.disk ≡ D.faults disk }
 
@@ -122,6 +124,7 @@ pub fn run<S: Source, K: Sink, D: Disk>(
         → TellsOfInput (streams S.Source K.Sink source.old sink.old) (streams S.Source K.Sink source.new sink.new)
         result.status }
 {
+    reads_without_conflict_stay_explained();
     match command_in(words) {
         Some(Command::Replay) => {
             let Replayed { ending, disk } = replay(alloc, source, sink, disk);

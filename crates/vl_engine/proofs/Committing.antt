@@ -214,7 +214,7 @@ module _ {H : Type 0} (bytes : H → Option (List ℕ)) (before after : Core H) 
     pub accepted : IsAccepted l h t
     accepted = answered_accepted l h t (last_number h + 1) (ap (λ (r : Ruling CommitAnswer). r.answer) (sym write))
 
-    next_is : Fronts before h l → next_frame before.front writes ≡ commit_frame h (entries writes)
+    pub next_is : Fronts before h l → next_frame before.front writes ≡ commit_frame h (entries writes)
     next_is is = ap (λ (n : ℕ). Committed (n + 1) (entries writes)) is.front.last
 
     frame_is : Fronts before h l

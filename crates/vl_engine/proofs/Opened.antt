@@ -10,7 +10,7 @@ use Rattle.vl_disk.specs.Moments.{HoldsThroughout, holds_weaker}
 use Rattle.vl_disk.specs.Started.{IsRead}
 use Rattle.vl_disk.specs.declared.name.Name.TheVariants as names
 use Rattle.vl_disk.specs.declared.watched.Watched.{Ghosts}
-use Rattle.vl_engine.specs.Opening.{IsDurable, recovered, state_then}
+use Rattle.vl_engine.specs.Opening.{IsBackAtStart, IsDurable, recovered, state_then}
 use Rattle.vl_engine.specs.Represents.{Fronts, Represents, StandsFor, file_of}
 use Rattle.vl_engine.specs.Shown.{LeavesBetween, Shown}
 use Rattle.vl_engine.specs.declared.kept.Core.{Core}
@@ -24,6 +24,8 @@ use Rattle.vl_layout.specs.Sources.{sources}
 use Rattle.vl_layout.specs.Start.{layout_at_start}
 use Rattle.vl_layout.specs.declared.layout.Layout.{Layout}
 use Rattle.vl_layout.specs.declared.segment.Segment.{Segment}
+use Rattle.vl_manifest.specs.declared.manifest_log.ManifestLog.{ManifestLog}
+use Rattle.vl_manifest.specs.declared.state.ManifestState.{ManifestState}
 use Rattle.vl_memtable.specs.declared.frozen_log.FrozenLog.{FrozenLog}
 use Rattle.vl_model.specs.History.{History, last_number}
 use Rattle.vl_model.specs.Limits.{max_room}
@@ -31,6 +33,7 @@ use Rattle.vl_model.specs.declared.entry.Entry.{Entry}
 use Rattle.vl_oracle.specs.LiveTickets.{LiveTickets}
 use Rattle.vl_recover.specs.crash.Alike.{OpensAsOf}
 use Rattle.vl_recover.specs.crash.Held.{HoldsStore}
+use Rattle.vl_recover.specs.crash.Meanwhile.{IsAsLong}
 use Rattle.vl_recover.specs.declared.parts.Parts.{Parts}
 use Rattle.vl_recover.specs.laws.opening.OneFinding.{same_greatest, same_logs, same_opening}
 use Rattle.vl_recover.specs.opening.Answers.{Finds, HeldLog, Opened, held_log, logs_then, opened_from}
@@ -84,6 +87,7 @@ pub record IsMadeOf {D H : Type 0} (parts : Parts D) (room : ℕ) (core : Core H
   pub halted : core.front.halted ≡ None
   pub state : core.back.state ≡ parts.state
   pub next_log : core.back.next_log ≡ max parts.state.next_log (min (parts.active.number + 1) (2 ^ 32 - 1))
+  pub manifest : core.back.manifest ≡ parts.manifest
   pub version_number : core.back.version_number ≡ 0
   pub active : core.version.active.entries ≡ []
   pub frozen : core.version.behind.frozen.items ≡ reverse parts.frozen.items
@@ -100,18 +104,13 @@ number_stands disk number lawful stands = by (get disk.standing (names.Log numbe
 least_within : (number : ℕ) → number ≤ 2 ^ 32 - 2 → min (number + 1) (2 ^ 32 - 1) ≡ number + 1
 least_within number within = omega (arith, within)
 
-module _ {D H : Type 0} (bytes : H → Option (List ℕ)) (parts : Parts D) (room : ℕ) (core : Core H)
-    (made : IsMadeOf parts room core) (short : parts.active.length ≡ 16) (roomy : room ≤ max_room)
-    (read : Image) (found other : Finds read) (opened : opened_of parts ≡ opened_from other) (h : History)
-    (shown : Shown read h (last_number h)) where
+module _ {D H : Type 0} (parts : Parts D) (room : ℕ) (core : Core H) (made : IsMadeOf parts room core)
+    (read : Image) (found other : Finds read) (opened : opened_of parts ≡ opened_from other) where
   is : opened_of parts ≡ opened_from found
   is = opened ∙ same_opened read other found
 
   abbrev its_layout : Layout
   its_layout = layout_at_start room (recovered found)
-
-  number_is : parts.number ≡ last_number h
-  number_is = ap (λ (o : Opened). o.number) is ∙ opened_number found h shown
 
   active_number : parts.active.number ≡ active_log found.greatest found.opening.state found.logs
   active_number = ap (λ (o : Opened). o.active) is
@@ -119,67 +118,79 @@ module _ {D H : Type 0} (bytes : H → Option (List ℕ)) (parts : Parts D) (roo
   parts_state : parts.state ≡ state_then found
   parts_state = ap (λ (o : Opened). o.state) is
 
-  entries_are : map entries_of parts.frozen.items ≡ map memtable found.opening.logs
-  entries_are = entries_kept parts.frozen.items ∙ ap (λ (o : Opened). map held_in o.frozen) is ∙ entries_found found.opening.logs
-
-  sources_then : sources its_layout ≡ in_memory core.version
-  sources_then =
-      sources_started found room
-      ∙ sym (newest_entries entries_of parts.frozen.items found.opening.logs entries_are)
-      ∙ sym (ap (λ (es : List Entry). es ++ held_entries core.version.behind.frozen.items) made.active
-      ∙ ap held_entries made.frozen)
-
-  last_is : core.front.oracle.last ≡ last_number h
-  last_is = ap (λ (o : LiveTickets). o.last) made.last ∙ number_is
-
-  none_lives : core.front.oracle.tickets ≡ []
-  none_lives = ap (λ (o : LiveTickets). o.tickets) made.last
-
-  pub opened_fronts : Fronts core h its_layout
-  opened_fronts = record {
-    front = front_known core.front.oracle [] h its_layout (front_started h its_layout core.front.oracle refl last_is none_lives)
-        core.front.oracle core.front.recent.named refl (made.knows h (sym number_is)).remembers;
-    number = ap (λ (a : ActiveLog). a.number) made.log ∙ active_number;
-    length_is = ap (λ (a : ActiveLog). a.length) made.log ∙ short;
-    format = refl;
-    room = made.room_is;
-    roomy = roomy;
-    halted = ap (option_map file_of) made.halted;
-    version = made.version_number;
+  -- What steps on files need is what was found.
+  pub opened_back : (now : DiskState) → IsLawful now → Stands (names.Log parts.active.number) now
+      → IsAsLong parts.state parts.manifest → IsBackAtStart found room core.back
+  opened_back now lawful stand long = record {
+    state = made.state ∙ parts_state;
+    next_log = made.next_log
+        ∙ ap (max parts.state.next_log) (least_within parts.active.number (number_stands now parts.active.number lawful stand))
+        ∙ (λ i. max (parts_state i).next_log (active_number i + 1));
+    number = ap (λ (m : ManifestLog). m.number) made.manifest ∙ ap (λ (o : Opened). o.manifest) is;
+    long = subst (λ (m : ManifestLog). IsAsLong core.back.state m) (sym made.manifest)
+        (subst (λ (s : ManifestState). IsAsLong s parts.manifest) (sym made.state) long);
   }
 
-  -- It stands for the history that the opened image shows, and for the layout at its start;
-  pub opened_stands : StandsFor bytes core h its_layout
-  opened_stands = record {
-    fronts = opened_fronts;
-    sources_are = has_entries bytes core.version made.alone (sources its_layout) sources_then;
-    active_is = made.active;
-    tidy = opened_tidy found h shown room;
-    bare = refl;
-    alone = made.alone;
-  }
+  module _ (bytes : H → Option (List ℕ)) (short : parts.active.length ≡ 16) (roomy : room ≤ max_room) (h : History)
+      (shown : Shown read h (last_number h)) where
+    number_is : parts.number ≡ last_number h
+    number_is = ap (λ (o : Opened). o.number) is ∙ opened_number found h shown
 
-  -- and where the disk holds what was opened it represents them.
-  pub opened_represents : (told : Option DiskState) (now : DiskState) → told ≡ Some now
-      → HoldsStore parts.state (logs_then found) now → IsLawful now → Stands (names.Log parts.active.number) now
-      → Represents bytes core told h its_layout
-  opened_represents told now is_told holds lawful stand = record {
-    stands = opened_stands;
-    held = λ running. record {
-      state = now;
-      told_is = is_told;
-      base = base_at_start found;
-      is_base = opened_base found h shown room;
-      back_is = record {
-        state = made.state ∙ parts_state;
-        next_log = made.next_log
-            ∙ ap (max parts.state.next_log) (least_within parts.active.number (number_stands now parts.active.number lawful stand))
-            ∙ (λ i. max (parts_state i).next_log (active_number i + 1));
-        next_table = refl;
+    entries_are : map entries_of parts.frozen.items ≡ map memtable found.opening.logs
+    entries_are = entries_kept parts.frozen.items ∙ ap (λ (o : Opened). map held_in o.frozen) is ∙ entries_found found.opening.logs
+
+    sources_then : sources its_layout ≡ in_memory core.version
+    sources_then =
+        sources_started found room
+        ∙ sym (newest_entries entries_of parts.frozen.items found.opening.logs entries_are)
+        ∙ sym (ap (λ (es : List Entry). es ++ held_entries core.version.behind.frozen.items) made.active
+        ∙ ap held_entries made.frozen)
+
+    last_is : core.front.oracle.last ≡ last_number h
+    last_is = ap (λ (o : LiveTickets). o.last) made.last ∙ number_is
+
+    none_lives : core.front.oracle.tickets ≡ []
+    none_lives = ap (λ (o : LiveTickets). o.tickets) made.last
+
+    pub opened_fronts : Fronts core h its_layout
+    opened_fronts = record {
+      front = front_known core.front.oracle [] h its_layout (front_started h its_layout core.front.oracle refl last_is none_lives)
+          core.front.oracle core.front.recent.named refl (made.knows h (sym number_is)).remembers;
+      number = ap (λ (a : ActiveLog). a.number) made.log ∙ active_number;
+      length_is = ap (λ (a : ActiveLog). a.length) made.log ∙ short;
+      format = refl;
+      room = made.room_is;
+      roomy = roomy;
+      halted = ap (option_map file_of) made.halted;
+      version = made.version_number;
+    }
+
+    -- It stands for the history that the opened image shows, and for the layout at its start;
+    pub opened_stands : StandsFor bytes core h its_layout
+    opened_stands = record {
+      fronts = opened_fronts;
+      sources_are = has_entries bytes core.version made.alone (sources its_layout) sources_then;
+      active_is = made.active;
+      tidy = opened_tidy found h shown room;
+      bare = refl;
+      alone = made.alone;
+    }
+
+    -- and where the disk holds what was opened it represents them.
+    pub opened_represents : (told : Option DiskState) (now : DiskState) → told ≡ Some now
+        → HoldsStore parts.state (logs_then found) now → IsLawful now → IsBackAtStart found room core.back
+        → Represents bytes core told h its_layout
+    opened_represents told now is_told holds lawful back = record {
+      stands = opened_stands;
+      held = λ running. record {
+        state = now;
+        told_is = is_told;
+        base = base_at_start found;
+        is_base = opened_base found h shown room;
+        back_is = record { state = back.state; next_log = back.next_log; next_table = refl };
+        holds = start_holds found room now (subst (λ s. HoldsStore s (logs_then found) now) parts_state holds) lawful;
       };
-      holds = start_holds found room now (subst (λ s. HoldsStore s (logs_then found) now) parts_state holds) lawful;
-    };
-  }
+    }
 
 -- What a crash leaves meanwhile shows what was opened, where all of it was durable.
 pub opening_through : {D : Type 0} (g : Ghosts D) (old new : D) (state : DiskState) → IsDurable state → (read : Image)

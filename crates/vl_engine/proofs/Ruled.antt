@@ -9,10 +9,10 @@ use Rattle.vl_disk.specs.declared.name.Name.TheVariants as names
 use Rattle.vl_disk.specs.declared.name.Name.{Name}
 use Rattle.vl_disk.specs.declared.watched.Watched.{Ghosts}
 use Rattle.vl_engine.proofs.Carrying.{IsWatched}
-use Rattle.vl_engine.proofs.Committing.{accepted, carries_failed_so, carries_refused, carries_unwritten, carries_written, fronts_failed, fronts_unwritten, fronts_written, stands_failed, stands_unwritten, stands_written}
+use Rattle.vl_engine.proofs.Committing.{accepted, carries_failed_so, carries_refused, carries_unwritten, carries_written, fronts_failed, fronts_unwritten, fronts_written, next_is, stands_failed, stands_unwritten, stands_written}
 use Rattle.vl_engine.proofs.Filing.{same_files, same_files_handed, stops_failed}
 use Rattle.vl_engine.proofs.Standing.{decides_as}
-use Rattle.vl_engine.specs.Answers.{CommitFailed, commit_effects, commit_outcome}
+use Rattle.vl_engine.specs.Answers.{CommitFailed, IsWritable, commit_effects, commit_outcome}
 use Rattle.vl_engine.specs.Carries.{Carries, SameFiles}
 use Rattle.vl_engine.specs.Represents.{Fronts, IsLive, Represents, StandsFor, file_of}
 use Rattle.vl_engine.specs.Steps.{IsUnwritten, WritesAs, log_of}
@@ -25,6 +25,7 @@ use Rattle.vl_engine.specs.declared.kept.Core.{Core}
 use Rattle.vl_engine.specs.laws.LiveLaws.{floor_below}
 use Rattle.vl_engine.specs.laws.RulingLaws.{ruled, ruled_so}
 use Rattle.vl_conflict.specs.Recent.{Remembers}
+use Rattle.vl_frame.specs.Runs.{HasFrame}
 use Rattle.vl_front.specs.Decisions.{decision_of}
 use Rattle.vl_front.specs.declared.decision.Decision.{Decision}
 use Rattle.vl_layout.specs.Decides.{Answered, Decides, Failed, Otherwise, as_before, no_effects}
@@ -37,7 +38,8 @@ use Rattle.vl_model.specs.Formats.{log_format}
 use Rattle.vl_model.specs.History.{History}
 use Rattle.vl_model.specs.Keys.{Writes}
 use Rattle.vl_model.specs.Reads.{Read}
-use Rattle.vl_seglog.specs.Frames.{frame_at}
+use Rattle.vl_model.specs.declared.log_frame.LogFrame.{LogFrame}
+use Rattle.vl_seglog.specs.Frames.{frame_at, frames_grammar}
 
 -- the ruling is that on what the front decided
 pub ruling_so : {H : Type 0} (core : Core H) (h : History) (l : Layout) → Fronts core h l → (ticket number : ℕ)
@@ -146,6 +148,21 @@ module _ {D H : Type 0} (g : Ghosts D) (watched : IsWatched g) (bytes : H → Op
         subst (λ (n : Name). Carries g bytes old new after h l ruling otherwise (Failed (file_of n)) no_effects)
         (its_name is.stands.fronts name named)
         (carries_failed_so bytes before after h l ticket number reads writes back write g old new failed watched no_effects is)
+
+    -- where the disk failed, it was to be written
+    pub failed_by : (result : Result Done (CommitFail H R)) → WritesAs g old new before after ticket writes result
+        → Fronts before h l → CommitFailed result → IsWritable l h t
+    failed_by (Ok answer) wrote is stopped = absurd stopped
+    failed_by (Err (fails.Halted name)) wrote is stopped = absurd stopped
+    failed_by (Err (fails.Exhausted txn)) wrote is stopped = absurd stopped
+    failed_by (Err (fails.Conflict key n)) wrote is stopped = absurd stopped
+    failed_by (Err (fails.Full txn long frame)) wrote is stopped = absurd stopped
+    failed_by (Err (fails.NoMemory txn)) wrote is stopped = absurd stopped
+    failed_by (Err (fails.Disk name)) (named, failed) is stopped = record {
+      accepted = sym write;
+      fits = subst (λ (frame : LogFrame). HasFrame (frames_grammar log_format) frame)
+          (next_is bytes before after h l ticket number reads writes back write is) failed.hands.has;
+    }
 
   -- ---- whatever was decided
 

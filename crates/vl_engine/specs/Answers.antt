@@ -1,5 +1,5 @@
 -- What a call came to, as the ruling on it has it, and how many changing calls it made.
-use Rattle.std.specs.Prelude.{Option, None, Some, Result, Ok, Err}
+use Rattle.std.specs.Prelude.{◌≡◌, Option, None, Some, Result, Ok, Err}
 use Rattle.vl_engine.specs.Represents.{file_of}
 use Rattle.vl_engine.specs.declared.engine.Done.{Done}
 use Rattle.vl_engine.specs.declared.engine.Done.TheVariants as done
@@ -7,12 +7,17 @@ use Rattle.vl_engine.specs.declared.fails.CommitFail.{CommitFail}
 use Rattle.vl_engine.specs.declared.fails.CommitFail.TheVariants as fails
 use Rattle.vl_engine.specs.declared.txn.Txn.{Txn}
 use Rattle.vl_engine.specs.declared.view.View.{View}
+use Rattle.vl_frame.specs.Runs.{HasFrame}
 use Rattle.vl_layout.specs.Decides.{Answered, Effects, Failed, NoMemory, Outcome, no_effects}
 use Rattle.vl_layout.specs.Rulings.Begin.{BeginAnswer, Begun, TooMany}
-use Rattle.vl_layout.specs.Rulings.Commit.{At, CommitAnswer, Conflict, Exhausted, Full, Halted, Nothing}
+use Rattle.vl_layout.specs.Rulings.Commit.{At, CommitAnswer, Conflict, Exhausted, Full, Halted, Nothing, Transaction, commit_frame, commit_ruling, committed}
+use Rattle.vl_layout.specs.declared.layout.Layout.{Layout}
+use Rattle.vl_model.specs.Formats.{log_format}
+use Rattle.vl_model.specs.History.{History}
 use Rattle.vl_model.specs.declared.counter.Counter.TheVariants as counters
 use Rattle.vl_oracle.specs.declared.begin_fail.BeginFail.{BeginFail}
 use Rattle.vl_oracle.specs.declared.begin_fail.BeginFail.TheVariants as begin
+use Rattle.vl_seglog.specs.Frames.{frames_grammar}
 
 -- ---- begins
 
@@ -74,3 +79,8 @@ LeavesDisk (Err (fails.Conflict key number)) = Unit {0}
 LeavesDisk (Err (fails.Full txn length frame)) = Unit {0}
 LeavesDisk (Err (fails.NoMemory txn)) = Unit {0}
 LeavesDisk (Err (fails.Disk name)) = ⊥
+
+-- The commit is one that the ruling accepts, and its frame fits the log's format.
+pub record IsWritable (l : Layout) (h : History) (t : Transaction) : Type 0 where
+  pub accepted : commit_ruling l h t ≡ committed l h t
+  pub fits : HasFrame (frames_grammar log_format) (commit_frame h t.writes)

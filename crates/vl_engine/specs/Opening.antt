@@ -1,14 +1,16 @@
 -- What an opening gives, where a store was opened and where not.
-use Rattle.std.specs.Prelude.{◌≡◌, List, [], ◌∷◌, Option, None, Some, Result, Ok, Err}
+use Rattle.std.specs.Prelude.{◌≡◌, ℕ, ◌+◌, List, [], ◌∷◌, Option, None, Some, Result, Ok, Err}
 use Rattle.vl_disk.specs.Crash.{Image}
 use Rattle.vl_disk.specs.DiskState.{DiskState}
 use Rattle.vl_disk.specs.Started.{IsRead}
 use Rattle.vl_disk.specs.declared.watched.Watched.{Ghosts}
 use Rattle.vl_engine.specs.declared.engine.Engine.{Engine}
-use Rattle.vl_layout.specs.Start.{Recovered, no_tables}
+use Rattle.vl_engine.specs.declared.kept.Back.{Back}
+use Rattle.vl_layout.specs.Start.{Recovered, layout_at_start, no_tables}
 use Rattle.vl_layout.specs.declared.segment.Segment.{Segment}
 use Rattle.vl_manifest.specs.declared.state.ManifestState.{ManifestState}
 use Rattle.vl_recover.specs.crash.Alike.{IsLeft, OpensLike}
+use Rattle.vl_recover.specs.crash.Meanwhile.{IsAsLong}
 use Rattle.vl_recover.specs.crash.Starts.{MayOpen}
 use Rattle.vl_recover.specs.declared.fails.OpenError.{OpenError}
 use Rattle.vl_recover.specs.declared.fails.OpenError.TheVariants as why
@@ -80,3 +82,11 @@ recovered found = record {
   since = (state_then found).since;
   gone = (state_then found).gone;
 }
+
+-- What steps on files need of an engine that was just opened: what the new manifest says, which number the next log gets, and
+-- the new manifest at its length.
+pub record IsBackAtStart {read : Image} (found : Finds read) (room : ℕ) (back : Back) : Type 0 where
+  pub state : back.state ≡ state_then found
+  pub next_log : back.next_log ≡ (layout_at_start room (recovered found)).next_log
+  pub number : back.manifest.number ≡ found.greatest.manifest + 1
+  pub long : IsAsLong back.state back.manifest

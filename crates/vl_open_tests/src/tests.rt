@@ -109,6 +109,13 @@ const LAST_LOG_MANIFEST: [u8; 55] = [
     0x37, 0x26, 0xc5, 0x74,
 ];
 
+/// A manifest without logs that covers the commits up to the last number that one may have, 9,223,372,036,854,775,806.
+const LAST_COMMIT_MANIFEST: [u8; 55] = [
+    0x56, 0x4d, 0x41, 0x4e, 0, 0, 0, 4, 0, 0, 0, 1, 0, 0, 0, 0, 6, 0, 0, 0, 0x1a, 0, 0, 0, 2, 3, 0,
+    0, 0, 1, 0x7f, 0xff, 0xff, 0xff, 0xff, 0xff, 0xff, 0xfe, 4, 0, 0, 0, 1, 0, 0, 0, 1, 0x4c, 0x35,
+    0x28, 0x27, 0xd1, 0x5a, 0x33, 0xeb,
+];
+
 /// A manifest with the greatest number, 4,294,967,294.
 const LAST_MANIFEST: [u8; 55] = [
     0x56, 0x4d, 0x41, 0x4e, 0, 0, 0, 4, 0xff, 0xff, 0xff, 0xfe, 0, 0, 0, 0, 6, 0, 0, 0, 0x1a, 0, 0,
@@ -334,6 +341,26 @@ fn stores_without_a_number_left_are_refused(rt: HostRuntime) -> Result<(), Fail>
     let files = with(alloc, Vec::new(alloc), last, &LAST_MANIFEST)?;
     let disk = refused(alloc, started(alloc, files, &[])?, "exhausted manifest\n")?;
     assert!(rt; left(&disk, last, &LAST_MANIFEST));
+    Ok(())
+}
+
+#[test]
+fn the_last_commit_has_the_greatest_number(rt: HostRuntime) -> Result<(), Fail> {
+    let alloc = rt.alloc();
+    let files = with(
+        alloc,
+        Vec::new(alloc),
+        Name::Manifest(1),
+        &LAST_COMMIT_MANIFEST,
+    )?;
+    let case = plain(
+        "begin a\nset a 61 01\ncommit a\nget a 61\n",
+        "ok 9223372036854775806\nok\nexhausted commit\nvalue 01\n",
+        0,
+    );
+    let (status, printed, _) = outcome_over(alloc, &case, started(alloc, files, &[])?)?;
+    assert_eq!(rt; printed.as_slice(), case.printed.as_bytes());
+    assert_eq!(rt; status, case.status);
     Ok(())
 }
 

@@ -1,5 +1,5 @@
 pub mod Disk
 pub mod Openings
 pub mod Runs
-pub mod Store
 pub mod Trials
+pub mod Names

@@ -1,4 +1,5 @@
 -- A store that was opened: what is kept and stored of it, and what is printed of it.
+pub mod Begun
 pub mod Numbered
 pub mod NumbersLeft
 pub mod OpenedText

@@ -1,5 +1,7 @@
 -- Runs of lines: what they read and print, and how they end.
+pub mod Asking
 pub mod Ends
+pub mod Extending
 pub mod Lines
 pub mod OpenedRuns
 pub mod ReadingOn

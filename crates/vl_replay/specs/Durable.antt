@@ -10,7 +10,7 @@ use Rattle.vl_disk.specs.Crash.{Image}
 use Rattle.vl_disk.specs.Moments.{HoldsThroughout}
 use Rattle.vl_recover.specs.crash.Alike.{IsLeft}
 use Rattle.vl_recover.specs.crash.Starts.{MayOpen}
-use Rattle.vl_replay.specs.Sequential.{State}
+use Rattle.vl_replay.specs.Sequential.{State, history_of}
 use Rattle.vl_replay.specs.Exchanges.{Exchange, last_state}
 pub use Rattle.vl_replay.specs.Between.{Holding}
 use Rattle.vl_replay.specs.Between.{HasPassed, Showing, ShowsBetween, Stopping}
@@ -35,7 +35,7 @@ IsAsBefore g old new = (g.told new ≡ g.told old) × (g.calls new ≡ g.calls o
 pub record LeavesItsHistory (holds : Holding) (shows : Showing) : Type 0 where
   -- the images that a crash leaves show exactly its history,
   pub leaves : (s : State) (disk : DiskState) → holds s disk
-      → Leaves (λ image. shows image s.history (last_number s.history)) disk
+      → Leaves (λ image. shows image (history_of s) (last_number (history_of s))) disk
   -- and a store may be opened on it
   pub may_open : (s : State) (disk : DiskState) → holds s disk → MayOpen disk
 
@@ -63,12 +63,12 @@ pub record HoldsState {D : Type 0} (g : Ghosts D) (holds : Holding)
 
 -- it holds the commits of a state and nothing else, whatever changing calls it was asked for
 abbrev pub HoldsCommits : {D : Type 0} → Ghosts D → Holding → State → D → Type 0
-HoldsCommits g holds t disk = (s : State) × (s.history ≡ t.history) × Tells g disk (holds s)
+HoldsCommits g holds t disk = (s : State) × ((history_of s) ≡ (history_of t)) × Tells g disk (holds s)
 
 -- and it was asked for those that the state counts; the numbers of its files are bounded as there
 abbrev pub HoldsCounted : {D : Type 0} → Ghosts D → Holding → State → D → Type 0
 HoldsCounted g holds t disk =
-    (s : State) × (s.history ≡ t.history) × (s.calls ≡ t.calls) × (s.files ≡ t.files) × HoldsState g holds s disk
+    (s : State) × ((history_of s) ≡ (history_of t)) × (s.calls ≡ t.calls) × (s.files ≡ t.files) × HoldsState g holds s disk
 
 -- Whatever a crash leaves at any moment from the old disk to the new one shows at least the one history and at most the
 -- other.
@@ -104,7 +104,7 @@ pub record LeadsTo {D T : Type 0} (g : Ghosts D) (holds : Holding) (shows : Show
   -- it tells its bytes, and a store may be opened on them, also where it failed;
   pub tells : Tells g new MayOpen
   -- what a crash meanwhile leaves shows the commits before, or those after it;
-  pub through : CrashesShow g shows old new before.history after.history
+  pub through : CrashesShow g shows old new (history_of before) (history_of after)
   -- and where the disk failed, and fails cleanly, it was stopped within the line that leads from one state to the next
   pub stopped : HaltsByDisk result → IsTrue g.fails_cleanly → StopsWithin g stops before after old new
 
@@ -118,13 +118,13 @@ CarriesOut g holds shows stops old new before after result =
 pub record PassesLine {D : Type 0} (g : Ghosts D) (holds : Holding) (shows : Showing) (new : D) (most : State)
     (disk : D) (s : State) (e : Exchange) (passed : D) : Type 0 where
   -- what a crash leaves up to it shows the commits before the line, or those after it;
-  pub before : CrashesShow g shows disk passed s.history e.after.history
+  pub before : CrashesShow g shows disk passed (history_of s) (history_of e.after)
   -- it held the commits up to the line and nothing else, after just the changing calls of these lines;
   pub held : HoldsCounted g holds e.after passed
   -- no fault was counted meanwhile;
   pub steady : g.faults passed ≡ g.faults disk
   -- and what a crash leaves from it on, until the run's end, shows at least the latter
-  pub behind : CrashesShow g shows passed new e.after.history most.history
+  pub behind : CrashesShow g shows passed new (history_of e.after) (history_of most)
 
 -- The disk went, from one that held the commits of a state, through one for each of these lines, in order.
 abbrev pub GoesAlong : {D : Type 0} → Ghosts D → Holding → Showing → (new : D) (most : State) → D
@@ -139,12 +139,12 @@ GoesAlong {D} g holds shows new most disk s (e ∷ later) =
 pub record DiskEnds {D : Type 0} (g : Ghosts D) (holds : Holding) (shows : Showing) (stops : Stopping)
     (unopened failed_to_open : Type 0) (old new : D) (run : Course) : Type 0 where
   -- what a crash at any moment since the begin leaves shows a first part of the commits
-  pub crash_during : CrashesShow g shows old new run.first.history run.most.history
+  pub crash_during : CrashesShow g shows old new (history_of run.first) (history_of run.most)
   -- and the disk went through one for each answered line, from which on a crash leaves its commit too
   pub line_by_line : GoesAlong g holds shows new run.most old run.first run.answered
   -- what a crash leaves after the run's end shows each acknowledged one. This covers a stop inside the run too: by the run
   -- over a disk of which each call fails from that moment on, as docs/PROMISES.md argues
-  pub crash_after : Tells g new (Leaves (ShowsBetween shows (last_state run.first run.answered).history run.most.history))
+  pub crash_after : Tells g new (Leaves (ShowsBetween shows (history_of (last_state run.first run.answered)) (history_of run.most)))
   -- where the disk didn't fail nothing is torn: it wasn't opened, or holds the acknowledged commits, or these and that of
   -- one line more
   pub without_fault : (Rose (g.faults old) (g.faults new) → ⊥)

@@ -11,7 +11,7 @@ use Rattle.vl_replay.specs.declared.fails.Refusal.TheVariants.{NotAStore, NewerF
 use Rattle.vl_replay.specs.declared.ending.Ending.{Ending}
 use Rattle.vl_replay.specs.declared.ending.OnFault.{OnFault}
 use Rattle.vl_replay.specs.declared.ending.OnFault.TheVariants.{Report, Stop}
-use Rattle.vl_replay.specs.declared.ending.Ending.TheVariants.{Complete, BadLine, BadWords, DiskFault, Refused, Damaged, NoMemory, ReadFault, WriteFault, AnswerCut, Stopped}
+use Rattle.vl_replay.specs.declared.ending.Ending.TheVariants.{Complete, BadLine, BadWords, DiskFault, ReaderFault, Refused, Damaged, NoMemory, ReadFault, WriteFault, AnswerCut, Stopped}
 
 -- a count of lines stands still at its type's end
 abbrev pub line_number : ℕ → ℕ
@@ -61,6 +61,8 @@ pub data Culprit : Type 0 where
   -- words that aren't plain
   TheWords : Culprit
   TheDisk : Culprit
+  -- the reader of an open store's files; the disk counts no fault of its own then
+  TheReader : Culprit
   -- what stands on the disk and is no store
   TheFiles : Culprit
   -- bytes of a file at a place, which a read of an open store met and which aren't what should stand there
@@ -92,6 +94,7 @@ end_of Complete = record { status = 0; culprit = NoOne; last = NoPiece }
 end_of BadLine = record { status = 1; culprit = TheLine; last = BadLinePiece }
 end_of BadWords = record { status = 2; culprit = TheWords; last = Line usage_line }
 end_of DiskFault = record { status = 3; culprit = TheDisk; last = Line disk_fault_line }
+end_of ReaderFault = record { status = 3; culprit = TheReader; last = Line disk_fault_line }
 end_of (Refused refusal) = record { status = 4; culprit = TheFiles; last = Line (refusal_line refusal) }
 end_of (Damaged name place) =
     record { status = 4; culprit = TheBytes name place; last = Line (damage_line name place) }
@@ -124,6 +127,7 @@ IsBetweenLines NoOne = Unit {0}
 IsBetweenLines TheLine = Unit {0}
 IsBetweenLines TheWords = ⊥
 IsBetweenLines TheDisk = ⊥
+IsBetweenLines TheReader = ⊥
 IsBetweenLines TheFiles = ⊥
 IsBetweenLines (TheBytes name place) = ⊥
 IsBetweenLines Memory = ⊥
@@ -156,6 +160,7 @@ Evidence by_source by_disk NoOne = ⊥
 Evidence by_source by_disk TheLine = ⊥
 Evidence by_source by_disk TheWords = ⊥
 Evidence by_source by_disk TheDisk = by_disk
+Evidence by_source by_disk TheReader = ⊥
 Evidence by_source by_disk TheFiles = ⊥
 Evidence by_source by_disk (TheBytes name place) = ⊥
 Evidence by_source by_disk Memory = ⊥

@@ -1,17 +1,23 @@
 -- A script's lines with their answers, up to the first line that is none of the language.
-use Rattle.std.specs.Prelude.{◌≡◌, ◌+◌, ◌-◌, ◌≤◌, ℕ, ◌==◌, if◌then◌else◌, List, [], ◌∷◌, length, count_by, Option, Some, None}
+use Rattle.std.specs.Prelude.{◌≡◌, ◌+◌, ◌-◌, ◌≤◌, ℕ, ◌==◌, ◌&&◌, if◌then◌else◌, nat_le, List, [], ◌∷◌, length, count_by, Option, Some, None}
 use Rattle.std.specs.List.{flat_map, AllByRecursion}
-use Rattle.std.specs.FinMap.{get}
+use Rattle.std.specs.FinMap.{find}
 use Rattle.std.specs.Option.{option_map}
-use Rattle.vl_model.specs.History.{History, value_at}
-use Rattle.vl_model.specs.Reads.{Read, IsExplained}
-use Rattle.vl_model.specs.Keys.{Writes, is_key_length}
-use Rattle.vl_replay.specs.Sequential.{Handle, State, answer_to, state_after, OpenTransaction, OpenView, found, with_tag}
-use Rattle.vl_script.specs.Script.{line_of, text_of}
+use Rattle.vl_layout.specs.Store.Commits.{Changes}
+use Rattle.vl_layout.specs.Store.Lines.{Answer, Invalid, Number, Rows}
+use Rattle.vl_layout.specs.Store.Reading.{answer_of, answer_with_tag, rows_told, scan_of}
+use Rattle.vl_layout.specs.Store.Things.{AJob, APass, ATransaction, AView, Thing, thing_of}
+use Rattle.vl_layout.specs.AtAnswer.{Beginning}
+use Rattle.vl_layout.specs.Rulings.Commit.{Transaction}
+use Rattle.vl_model.specs.History.{History, contents_at, value_at}
+use Rattle.vl_model.specs.Keys.{Stored, is_key_length, key_cmp}
+use Rattle.vl_model.specs.Limits.{max_key_bytes}
+use Rattle.vl_model.specs.Reads.{IsExplained, rows_of}
+use Rattle.vl_model.specs.declared.way.Way.{Way}
+use Rattle.vl_replay.specs.Sequential.{State, answer_text, answer_to, history_of, state_after}
+use Rattle.vl_script.specs.Script.{line_of}
 use Rattle.vl_script.specs.declared.line.Line.{Line}
-use Rattle.vl_script.specs.declared.line.Line.TheVariants.{Begin, View, Get, Set, SetTagged, GetTagged, Delete, Commit, Drop}
-use Rattle.vl_script.specs.declared.answer.Answer.{Answer}
-use Rattle.vl_script.specs.declared.answer.Answer.TheVariants.{Number, Invalid}
+use Rattle.vl_script.specs.declared.line.Line.TheVariants.{Begin, View, Get, Set, SetTagged, GetTagged, Scan, Delete, Commit, Drop}
 
 -- a line with its answer, and the states before and after it
 pub record Exchange : Type 0 where
@@ -51,7 +57,7 @@ last_state s (e ∷ later) = last_state e.after later
 
 -- the text of their answers, each one whole
 abbrev pub answers_text : List Exchange → List ℕ
-answers_text exchanges = flat_map (λ e. text_of e.answer) exchanges
+answers_text exchanges = flat_map (λ e. answer_text e.answer) exchanges
 
 -- how many lines end in these bytes
 abbrev pub ended_lines : List ℕ → ℕ
@@ -65,34 +71,55 @@ KeepsUp bytes asked answered =
     (earlier : List ℕ) × (asked ≡ Some earlier)
     × (ended_lines bytes ≤ answered + ended_lines earlier)
 
+-- ---- what explains an answer
+
 -- what a read of a key is answered by the history at a number, where the key is within its limits
-abbrev pub read_at : History → ℕ → List ℕ → Answer
-read_at h number key = if is_key_length (length key) then found (value_at h number key) else Invalid
+abbrev pub read_at : (Option Stored → Answer) → History → ℕ → List ℕ → Answer
+read_at tell h number key = if is_key_length (length key) then tell (value_at h number key) else Invalid
+
+-- and a scan under some writes, where its bounds are
+abbrev pub rows_at : History → ℕ → Changes → (low high : List ℕ) → (limit : ℕ) → Way → Answer
+rows_at h number own low high limit way =
+    if nat_le (length low) max_key_bytes && nat_le (length high) max_key_bytes
+    then Rows (rows_told (rows_of (contents_at h number) (scan_of way low high limit own))) else Invalid
 
 -- this reads from the history, at this number: a view, or a transaction that hasn't written the key
-abbrev pub ReadsAt : Option Handle → List ℕ → ℕ → Type 0
+abbrev pub ReadsAt : Option Thing → List ℕ → ℕ → Type 0
 ReadsAt None key number = ⊥
-ReadsAt (Some (OpenView n)) key number = number ≡ n
-ReadsAt (Some (OpenTransaction n reads writes)) key number = (number ≡ n) × (get writes key ≡ None)
+ReadsAt (Some (AJob job made)) key number = ⊥
+ReadsAt (Some (APass pass batch)) key number = ⊥
+ReadsAt (Some (AView v b)) key number = number ≡ v.number
+ReadsAt (Some (ATransaction t b)) key number = (number ≡ t.number) × (find key_cmp key t.writes ≡ None)
 
--- What is read is explained by the history at the reader's own number. What the transaction of an accepted commit has read is
--- explained by that, and by the history at the commit's number less one.
+-- this scans it, under these writes
+abbrev pub ScansAt : Option Thing → Changes → ℕ → Type 0
+ScansAt None own number = ⊥
+ScansAt (Some (AJob job made)) own number = ⊥
+ScansAt (Some (APass pass batch)) own number = ⊥
+ScansAt (Some (AView v b)) own number = (number ≡ v.number) × (own ≡ [])
+ScansAt (Some (ATransaction t b)) own number = (number ≡ t.number) × (own ≡ t.writes)
+
+-- What is read is explained by the history at the reader's own number. What the transaction of an accepted commit has read and
+-- scanned is explained by that, and by the history at the commit's number less one.
 abbrev pub IsExplainedExchange : Line → Exchange → Type 0
 IsExplainedExchange (Begin name) e = Unit {0}
 IsExplainedExchange (View name) e = Unit {0}
 IsExplainedExchange (Get name key) e =
-    (number : ℕ) → ReadsAt (get e.before.handles name) key number → e.answer ≡ read_at e.before.history number key
+    (number : ℕ) → ReadsAt (thing_of e.before.store name) key number
+    → e.answer ≡ read_at answer_of (history_of e.before) number key
 IsExplainedExchange (GetTagged name key) e =
-    (number : ℕ) → ReadsAt (get e.before.handles name) key number
-    → e.answer ≡ with_tag (read_at e.before.history number key)
+    (number : ℕ) → ReadsAt (thing_of e.before.store name) key number
+    → e.answer ≡ read_at answer_with_tag (history_of e.before) number key
+IsExplainedExchange (Scan name low high limit way) e =
+    (number : ℕ) (own : Changes) → ScansAt (thing_of e.before.store name) own number
+    → e.answer ≡ rows_at (history_of e.before) number own low high limit way
 IsExplainedExchange (SetTagged name key value tag) e = Unit {0}
 IsExplainedExchange (Set name key value) e = Unit {0}
 IsExplainedExchange (Delete name key) e = Unit {0}
 IsExplainedExchange (Commit name) e =
-    (number : ℕ) (reads : List Read) (writes : Writes) (n : ℕ)
-    → get e.before.handles name ≡ Some (OpenTransaction number reads writes)
+    (t : Transaction) (b : Beginning) (n : ℕ) → thing_of e.before.store name ≡ Some (ATransaction t b)
     → e.answer ≡ Number n
-    → IsExplained e.after.history number reads × IsExplained e.after.history (n - 1) reads
+    → IsExplained (history_of e.after) t.number t.reads × IsExplained (history_of e.after) (n - 1) t.reads
 IsExplainedExchange (Drop name) e = Unit {0}
 
 -- so it is in each of these exchanges

@@ -1,11 +1,20 @@
 -- A line that wasn't answered.
 use Rattle.std.specs.Prelude.{Result, Ok, Err}
 use Rattle.vl_replay.specs.declared.fails.Halt.{Halt}
-use Rattle.vl_replay.specs.declared.fails.Halt.TheVariants.{NoMemory, Disk, Damaged}
+use Rattle.vl_replay.specs.declared.fails.Halt.TheVariants.{NoMemory, Disk, Read, Damaged}
 
 -- the disk failed
 abbrev pub HaltsByDisk : {T : Type 0} → Result T Halt → Type 0
 HaltsByDisk (Ok answer) = ⊥
 HaltsByDisk (Err NoMemory) = ⊥
 HaltsByDisk (Err (Disk name)) = Unit {0}
+HaltsByDisk (Err (Read name)) = ⊥
 HaltsByDisk (Err (Damaged name place)) = ⊥
+
+-- a read met damage, or its reader failed
+abbrev pub HaltsByRead : {T : Type 0} → Result T Halt → Type 0
+HaltsByRead (Ok answer) = ⊥
+HaltsByRead (Err NoMemory) = ⊥
+HaltsByRead (Err (Disk name)) = ⊥
+HaltsByRead (Err (Read name)) = Unit {0}
+HaltsByRead (Err (Damaged name place)) = Unit {0}

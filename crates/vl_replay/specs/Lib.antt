@@ -1,3 +1,4 @@
+pub mod Asking
 pub mod Between
 pub mod Contents
 pub mod Durable
@@ -6,16 +7,15 @@ pub mod Exchanges
 pub mod Halts
 pub mod Input
 pub mod laws
-pub mod Memtable
 pub mod Opened
 pub mod Opening
 pub mod Reading
 pub mod Reopens
 pub mod Replaying
-pub mod Represents
 pub mod Runs
 pub mod Sequential
 pub mod ShownRows
+pub mod Standing
 pub mod Start
 pub mod Steps
 pub mod Stopped
@@ -23,4 +23,3 @@ pub mod Stored
 pub mod Text
 pub mod Trial
 pub mod Trying
-pub mod Writing

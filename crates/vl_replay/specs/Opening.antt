@@ -1,7 +1,7 @@
 -- What an opening gives, where a store was opened and where not.
-use Rattle.std.specs.Prelude.{◌≡◌, Option, Some, None, Result, Ok, Err}
+use Rattle.std.specs.Prelude.{Result, Ok, Err}
 use Rattle.vl_disk.specs.Crash.{Image}
-use Rattle.vl_recover.specs.opening.Answers.{AnswersBy, Finds, used_up}
+use Rattle.vl_recover.specs.opening.Answers.{AnswersBy}
 use Rattle.vl_recover.specs.opening.Results.{recovery_by}
 use Rattle.vl_recover.specs.declared.fails.OpenFail.{OpenFail}
 use Rattle.vl_recover.specs.declared.fails.OpenError.{OpenError}
@@ -15,13 +15,8 @@ use Rattle.vl_replay.specs.declared.replayer.Replayer.{Replayer}
 -- the disk behind an opening: in the store, or handed back. The type of a store names all that its disk has.
 abbrev pub disk_behind : {D Held Reader Writer : Type 0} {watched : _} {held : _} {cloned : _} {read : _} {write : _}
     → Result (Replayer D Held Reader Writer watched held cloned read write) (OpenFail D) → D
-disk_behind (Ok replayer) = replayer.disk
+disk_behind (Ok replayer) = replayer.engine.disk
 disk_behind (Err fail) = fail.disk
-
--- why none was opened
-abbrev pub why_of : {R D : Type 0} → Result R (OpenFail D) → Option OpenError
-why_of (Ok replayer) = None
-why_of (Err fail) = Some fail.why
 
 -- an opening refused what stands on the disk
 abbrev pub why_refused : Refusal → OpenError
@@ -42,19 +37,3 @@ ending_unopened (why.Disk name) = DiskFault
 -- what reads give is refused so
 abbrev pub IsRefused : Image → Refusal → Type 0
 IsRefused read refusal = AnswersBy read (recovery_by (why_refused refusal))
-
--- an opening answers so by what reads give: a store that is there, with a number left for each file that is made, is
--- opened; a refusal has its cause; want of memory and faults may come instead
-abbrev pub AnswersOpening : Image → Option OpenError → Type 0
-AnswersOpening read None = (found : Finds read) × (used_up found ≡ None)
-AnswersOpening read (Some reason) = AnswersBy read (recovery_by reason)
-
--- the disk failed
-abbrev pub IsFault : Option OpenError → Type 0
-IsFault None = ⊥
-IsFault (Some why.NotAStore) = ⊥
-IsFault (Some (why.NewerFormat format)) = ⊥
-IsFault (Some (why.Damaged name place)) = ⊥
-IsFault (Some (why.Exhausted counter)) = ⊥
-IsFault (Some why.NoMemory) = ⊥
-IsFault (Some (why.Disk name)) = Unit {0}

@@ -9,9 +9,9 @@ use Rattle.vl_script.specs.declared.answer.Answer.{Answer}
 use Rattle.vl_script.specs.declared.line.Line.{Line}
 use Rattle.vl_replay.specs.Exchanges.{KeepsUp, ended_lines}
 use Rattle.vl_disk.specs.declared.name.Name.{Name}
-use Rattle.vl_replay.specs.Endings.{bad_line, damage_line, line_number}
+use Rattle.vl_replay.specs.Endings.{bad_line, damage_line, disk_fault_line, line_number}
 use Rattle.vl_replay.specs.declared.ending.Ending.{Ending}
-use Rattle.vl_replay.specs.declared.ending.Ending.TheVariants.{Complete, BadLine, Damaged}
+use Rattle.vl_replay.specs.declared.ending.Ending.TheVariants.{Complete, BadLine, ReaderFault, Damaged}
 
 -- a text is a line of the language, or none
 abbrev pub IsLine : List ℕ → Type 0
@@ -70,6 +70,9 @@ pub record ReadsInput (input : List ℕ) (old new : Streams) (ending : Ending) :
   -- of that damage.
   pub damaged : (name : Name) (place : ℕ) → ending ≡ Damaged name place
       → BeginsWell others × TakesAnswers old.held new.held (length answered) (damage_line name place)
+  -- And so it is where a line's read failed, with the line of a disk's fault.
+  pub unread : ending ≡ ReaderFault
+      → BeginsWell others × TakesAnswers old.held new.held (length answered) disk_fault_line
   -- each answer was put whole before the next line was read
   pub kept_up : KeepsUp input new.asked (length answered)
 
@@ -105,17 +108,18 @@ ReadsText text None = IsNoLine text
 abbrev pub TakesBadLine : (count : ℕ) → (held held' : Option (List ℕ)) → Type 0
 TakesBadLine count held held' = (before : ℕ) → count ≡ line_number before → Takes held held' (bad_line (before + 1))
 
--- A run took some last piece and ended incomplete: at a bad line only with `by` and with the line's number, and at damage only
--- with `met` and with its line.
+-- A run took some last piece and ended incomplete: at a bad line only with `by` and with the line's number, and at damage or a
+-- failed read only with `met` and with its line.
 pub record EndsBadly (by met : Type 0) (count : ℕ) (ending : Ending) (held held' : Option (List ℕ)) : Type 0 where
   pub some : TakesSome held held'
   pub incomplete : ending ≢ Complete
   pub bad : ending ≡ BadLine → by × TakesBadLine count held held'
   pub damaged : (name : Name) (place : ℕ) → ending ≡ Damaged name place
       → met × Takes held held' (damage_line name place)
+  pub unread : ending ≡ ReaderFault → met × Takes held held' disk_fault_line
 
 -- a line of the language was answered; or the run ended there, at a bad line only where the text is none of the language, and
--- at damage only where it is one
+-- at damage or a failed read only where it is one
 abbrev pub AnswersText : List ℕ → (count : ℕ) → Option Ending → (held held' : Option (List ℕ)) → Type 0
 AnswersText text count None held held' = IsLine text × ((answer : Answer) × Takes held held' (text_of answer))
 AnswersText text count (Some ending) held held' = EndsBadly (IsNoLine text) (IsLine text) count ending held held'

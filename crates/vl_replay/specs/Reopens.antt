@@ -5,6 +5,7 @@ use Rattle.vl_disk.specs.Crash.{Image}
 use Rattle.vl_disk.specs.DiskState.{DiskState}
 use Rattle.vl_disk.specs.Name.{file_number}
 use Rattle.vl_disk.specs.declared.name.Name.{Name}
+use Rattle.vl_engine.specs.Shown.{Shown}
 use Rattle.vl_mem.specs.declared.outcome.Outcome.{Outcome}
 use Rattle.vl_mem.specs.declared.outcome.Outcome.TheVariants.{Lost, Kept, Halved}
 use Rattle.vl_model.specs.History.{History}
@@ -12,7 +13,6 @@ use Rattle.vl_recover.specs.opening.Answers.{AreStrayNames, Finds, used_up}
 use Rattle.vl_replay.specs.Durable.{Holding}
 use Rattle.vl_replay.specs.Sequential.{State}
 use Rattle.vl_replay.specs.Stopped.{Commits, IsStoppedIn, append_failed, sync_failed}
-use Rattle.vl_replay.specs.Stored.{Shown}
 
 -- of the states before and after a commit that was stopped, the one whose commits the image shows: the one after where its
 -- append passed and what isn't durable is kept, and else the one before

@@ -1,19 +1,53 @@
 -- What the loop sees of a replayer: for which state it stands, its disk, and whether it takes lines.
-use Rattle.std.specs.Prelude.{◌≡◌, None}
-use Rattle.vl_replay.specs.Represents.{Represents}
-use Rattle.vl_replay.specs.Sequential.{State}
+use Rattle.std.specs.Prelude.{◌≡◌, ℕ, List, Option, None, Result, IfOk, IfErr}
+use Rattle.vl_disk.specs.Faults.{after_calls}
+use Rattle.vl_engine.specs.Represents as engine
+use Rattle.vl_engine.specs.declared.kept.Core.{Core}
+use Rattle.vl_layout.specs.Store.Things.{Step}
+use Rattle.vl_replay.specs.Sequential.{IsTold, State, history_of}
+use Rattle.vl_replay.specs.Standing.{Stand}
+use Rattle.vl_replay.specs.declared.fails.Halt.{Halt}
+use Rattle.vl_replay.specs.declared.fails.Halt.TheVariants.{NoMemory}
+use Rattle.vl_replay.specs.declared.replayer.open.Open.{Open}
+use Rattle.vl_script.specs.declared.answer.Answer.{Answer}
 use Rattle.vl_replay.specs.declared.replayer.Replayer.{Replayer}
+use Rattle.vl_replay.specs.laws.Laws.{IsSound}
 
--- It stands for this state. The type of a replayer names all that its disk has.
-abbrev pub StandsFor : {D Held Reader Writer : Type 0} {watched : _} {held : _} {cloned : _} {read : _} {write : _}
-    → Replayer D Held Reader Writer watched held cloned read write → State → Type 0
-StandsFor replayer s = Represents replayer.store s
+-- The engine stands for the state's layout and history, and its names for what they stand for there.
+pub record StandsIn {H R : Type 0} (bytes : H → Option (List ℕ)) (core : Core H) (opens : List (Open H R)) (s : State)
+    : Type 0 where
+  pub engine : engine.StandsFor bytes core (history_of s) s.store.layout
+  pub names : Stand bytes opens s.store.things (history_of s) s.store.layout
+  pub sound : IsSound s
+  -- it isn't halted, and its manifest says what the state's says
+  pub running : s.store.layout.halted ≡ None
+  pub manifest : core.back.state ≡ s.manifest
+  pub next_log : core.back.next_log ≡ s.store.layout.next_log
 
+-- The type of a replayer names all that its disk has.
 abbrev pub disk_of : {D Held Reader Writer : Type 0} {watched : _} {held : _} {cloned : _} {read : _} {write : _}
     → Replayer D Held Reader Writer watched held cloned read write → D
-disk_of replayer = replayer.disk
+disk_of replayer = replayer.engine.disk
+
+-- It stands for this state, of files that tell these bytes.
+abbrev pub StandsFor : {D Held Reader Writer : Type 0} {watched : _} {held : _} {cloned : _} {read : _} {write : _}
+    → (Held → Option (List ℕ)) → Replayer D Held Reader Writer watched held cloned read write → State → Type 0
+StandsFor bytes replayer s = StandsIn bytes replayer.engine.core replayer.opens.items s
 
 -- it takes lines: none was halted
 abbrev pub TakesLines : {D Held Reader Writer : Type 0} {watched : _} {held : _} {cloned : _} {read : _} {write : _}
     → Replayer D Held Reader Writer watched held cloned read write → Type 0
 TakesLines replayer = replayer.halted ≡ None
+
+-- ---- what a line leaves
+
+abbrev pub state_by : State → Step → State
+state_by s x = record s { store = x.state; calls = after_calls x.calls s.calls }
+
+-- a line whose step is this was carried out so: it is told the step's answer, and stands for the state that it leaves
+abbrev pub MakesStep : {H R : Type 0} → (H → Option (List ℕ)) → Core H → List (Open H R) → State → Step → Result Answer Halt → Type 0
+MakesStep bytes core opens s x result = IfOk result (λ answer. IsTold answer x.answer × StandsIn bytes core opens (state_by s x))
+
+-- it fails by want of memory alone
+abbrev pub OnlyNoMemory : {T : Type 0} → Result T Halt → Type 0
+OnlyNoMemory result = IfErr result (λ halt. halt ≡ NoMemory)

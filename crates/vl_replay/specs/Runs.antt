@@ -6,10 +6,10 @@ use Rattle.vl_disk.specs.Faults.{Rose}
 use Rattle.vl_io.specs.Sink.{Takes}
 use Rattle.vl_io.specs.declared.source.Source as source
 use Rattle.vl_io.specs.declared.sink.Sink as sink
-use Rattle.vl_script.specs.Script.{lines_of, text_of}
-use Rattle.vl_replay.specs.Sequential.{State}
+use Rattle.vl_script.specs.Script.{lines_of}
+use Rattle.vl_replay.specs.Sequential.{State, answer_text}
 use Rattle.vl_replay.specs.Exchanges.{Exchange, exchanges_from, last_state, answers_text, ended_lines, KeepsUp}
-use Rattle.vl_replay.specs.Endings.{Culprit, NoOne, TheLine, TheWords, TheDisk, TheFiles, TheBytes, Memory, TheSource, TheSink, LastPiece, NoPiece, BadLinePiece, Line, LineFront, AnswerFront, end_of, culprit_of, bad_line, last_line, Evidence}
+use Rattle.vl_replay.specs.Endings.{Culprit, NoOne, TheLine, TheWords, TheDisk, TheReader, TheFiles, TheBytes, Memory, TheSource, TheSink, LastPiece, NoPiece, BadLinePiece, Line, LineFront, AnswerFront, end_of, culprit_of, bad_line, last_line, Evidence}
 use Rattle.vl_replay.specs.declared.ending.Ending.{Ending}
 
 -- what is to be run: the lines of these bytes, from a state on, so many lines after the script's begin
@@ -50,9 +50,11 @@ Stops evidence script left m TheLine =
 -- the words were plain
 Stops evidence script left m TheWords = ⊥
 Stops evidence script left m TheDisk = evidence TheDisk
+-- all that the store has can be read
+Stops evidence script left m TheReader = ⊥
 -- the store was opened
 Stops evidence script left m TheFiles = ⊥
--- and all that it has can be read
+-- and nothing of it is damaged
 Stops evidence script left m (TheBytes name place) = ⊥
 Stops evidence script left m Memory = Unit {0}
 -- each line that had ended in the bytes that the source gave was answered
@@ -71,7 +73,7 @@ Puts evidence script left m culprit LineFront piece =
     (other : Ending) × (line : List ℕ) × (last_line (next_number script m) other ≡ Some line)
     × Stops evidence script left m (culprit_of other) × IsFront piece line
 Puts evidence script left m culprit AnswerFront piece =
-    (e : Exchange) × (slice_get (exchanges script) m ≡ Some e) × IsFront piece (text_of e.answer)
+    (e : Exchange) × (slice_get (exchanges script) m ≡ Some e) × IsFront piece (answer_text e.answer)
 
 -- How a run ended that answered m lines, and what it printed. A line counts as answered where its whole answer was put.
 pub record EndsSo (evidence : Culprit → Type 0) (script : Script) (left : Option (List ℕ)) (m : ℕ)

@@ -1,25 +1,33 @@
 -- The state in which a run begins: that of the store that its disk opens as.
 use Rattle.std.specs.Prelude.{◌≡◌, ◌≤◌, ◌+◌, ℕ, List, [], length, None, Some}
-use Rattle.std.specs.FinMap.{empty, get, len, len-empty}
-use Rattle.std.proofs.Common.{sym, ◌∙◌, ap, zero-le}
+use Rattle.std.specs.List.{AllByRecursion}
+use Rattle.std.proofs.Common.{subst, sym}
 use Rattle.vl_disk.specs.Crash.{Image}
 use Rattle.vl_disk.specs.DiskState.{DiskState}
 use Rattle.vl_disk.specs.Faults.{after_calls}
 use Rattle.vl_disk.specs.Started.{IsRead}
-use Rattle.vl_disk.specs.declared.name.Name.{Name}
+use Rattle.vl_disk.specs.declared.name.Name.{Name as FileName}
 use Rattle.vl_disk.specs.declared.watched.Watched.{Ghosts}
-use Rattle.vl_model.specs.Keys.{key_cmp}
-use Rattle.vl_recover.specs.crash.Alike.{IsLeft, OpensLike}
+use Rattle.vl_engine.specs.Opening.{IsDurable, recovered, state_then}
+use Rattle.vl_engine.specs.Shown.{Shown}
+use Rattle.vl_layout.specs.Start.{layout_at_start}
+use Rattle.vl_layout.specs.Store.Commits.{AreProper}
+use Rattle.vl_layout.specs.Store.Lines.{Name}
+use Rattle.vl_layout.specs.Store.Proper.{AreNamedOnce, HasRisingWrites, IsProper}
+use Rattle.vl_layout.specs.Store.Things.{Thing}
+use Rattle.vl_model.specs.History.{last_number}
+use Rattle.vl_model.specs.Limits.{max_room}
 use Rattle.vl_recover.specs.opening.Answers.{AreStrayNames, Finds, calls_to_open, used_up}
 use Rattle.vl_recover.specs.opening.Plans.{active_log, new_state}
 use Rattle.vl_recover.specs.crash.Starts.{MayOpen}
 use Rattle.vl_replay.specs.Durable.{DiskEnds, IsAsBefore, Tells}
 use Rattle.vl_replay.specs.Exchanges.{AreExplained, exchanges_from}
-use Rattle.vl_replay.specs.laws.Laws.{IsSound, exchanges_from-explained, none_in_empty, nothing_there}
+use Rattle.vl_replay.specs.laws.Explained.{none_sound}
+use Rattle.vl_replay.specs.laws.Laws.{StaysExplained, exchanges_from-explained}
 use Rattle.vl_replay.specs.Runs.{Course, EndsRun, Outside, script_of}
-use Rattle.vl_replay.specs.Sequential.{Handle, State}
+use Rattle.vl_replay.specs.Sequential.{State, history_of}
 use Rattle.vl_replay.specs.Stopped.{AreNumberedUpTo, GivesUpTo}
-use Rattle.vl_replay.specs.Stored.{IsStopped, IsStored, LogsShow, Shown}
+use Rattle.vl_replay.specs.Stored.{IsStopped, IsStored}
 use Rattle.vl_replay.specs.declared.ending.Ending.{Ending}
 
 -- An opening of a disk on which this is found makes a store of which no file passes this number.
@@ -42,26 +50,20 @@ pub record StartsIn {D : Type 0} (g : Ghosts D) (disk : D) (s : State) : Type 0 
   pub is_read : IsRead read state
   pub found : Finds read
   pub unused : used_up found ≡ None
-  -- the history is the opened one
-  pub first : s.history.first ≡ found.opening.number
-  pub commits : s.history.commits ≡ []
-  pub shows : LogsShow found.opening.logs s.history found.opening.number
-  -- the log that takes commits has none yet
-  pub log : s.log ≡ record { number = active_log found.greatest found.opening.state found.logs; length = 16 }
-  pub handles : s.handles ≡ empty
+  -- they show the history, which is gone on with from its last number,
+  pub shown : Shown read (history_of s) (last_number (history_of s))
+  pub proper : AreProper s.store.commits
+  -- over the layout with which an engine begins
+  pub layout : s.store.layout ≡ layout_at_start max_room (recovered found)
+  pub manifest : s.manifest ≡ state_then found
+  -- no name stands for anything yet
+  pub things : s.store.things ≡ []
   -- opening asks for so many changing calls
-  pub strays : List Name
+  pub strays : List FileName
   pub are_strays : AreStrayNames read found.opening.state.head strays
   pub calls : s.calls ≡ after_calls (calls_to_open found (length strays)) (g.calls disk)
   -- and `files` is a number, any such one, that no file of the store passes
   pub files : OpensUpTo s.files state found
-
--- Crashes are spoken of where all of the store is durable: whatever a crash leaves of the disk opens as what reads give. So
--- it is with a disk that was just started, and with one that a run left
--- without a fault.
-pub record IsDurable (disk : DiskState) : Type 0 where
-  pub may_open : MayOpen disk
-  pub as_read : (read image : Image) → IsRead read disk → IsLeft disk image → OpensLike image read
 
 -- A store may be opened on the disk again, where one might before.
 abbrev pub StaysOpenable : {D : Type 0} → Ghosts D → (old new : D) → Type 0
@@ -84,15 +86,19 @@ AnswersInput g old new ending = (start : State) (input : List ℕ)
 
 -- ---- what is read in such a run is explained
 
-pub explained_from : (s : State) (texts : List (List ℕ)) → s.handles ≡ empty → AreExplained (exchanges_from s texts)
-explained_from s texts none = exchanges_from-explained texts s sound
-  where
-    sound : IsSound s
-    sound = record {
-      one = rw (ap len none ∙ len-empty key_cmp Handle) zero-le;
-      current = λ name handle is. absurd (nothing_there handle (sym is ∙ ap (λ handles. get handles name) none ∙ none_in_empty name));
-    }
+-- nothing is live yet
+pub start_proper : (s : State) → AreProper s.store.commits → s.store.things ≡ [] → IsProper s.store
+start_proper s proper none = record {
+  commits = proper;
+  writes = subst (AllByRecursion (λ (t : Name × Thing). HasRisingWrites t.1)) (sym none) tt;
+  names = subst AreNamedOnce (sym none) tt;
+}
 
-pub all_explained : {D : Type 0} (g : Ghosts D) (disk : D) (s : State) (texts : List (List ℕ))
+pub explained_from : StaysExplained → (s : State) (texts : List (List ℕ)) → AreProper s.store.commits → s.store.things ≡ []
+    → AreExplained (exchanges_from s texts)
+explained_from stay s texts proper none =
+    exchanges_from-explained stay texts s (none_sound s.store (start_proper s proper none) none)
+
+pub all_explained : StaysExplained → {D : Type 0} (g : Ghosts D) (disk : D) (s : State) (texts : List (List ℕ))
     → StartsIn g disk s → AreExplained (exchanges_from s texts)
-all_explained g disk s texts starts = explained_from s texts starts.handles
+all_explained stay g disk s texts starts = explained_from stay s texts starts.proper starts.things

@@ -8,9 +8,9 @@ use Rattle.vl_disk.specs.declared.name.Name.{Name}
 use Rattle.vl_disk.specs.declared.watched.Watched.{Ghosts}
 use Rattle.vl_io.specs.declared.sink.Sink as sink
 use Rattle.vl_io.specs.Sink.{Takes}
-use Rattle.vl_script.specs.Script.{text_of, lines_of}
+use Rattle.vl_script.specs.Script.{lines_of}
 use Rattle.vl_replay.specs.Between.{Showing, Stopping}
-use Rattle.vl_replay.specs.Sequential.{State}
+use Rattle.vl_replay.specs.Sequential.{State, answer_text, history_of}
 use Rattle.vl_replay.specs.Input.{HasNoLineEnd}
 use Rattle.vl_replay.specs.Exchanges.{Exchange, exchange_at, KeepsUp}
 use Rattle.vl_replay.specs.Endings.{Culprit, Evidence, OnlyByDisk, last_line, line_number}
@@ -90,7 +90,7 @@ pub record EndsWithoutOpening {D K : Type 0} (g : Ghosts D) (k : sink.Ghosts K) 
 abbrev pub IsAnswered : State → List ℕ → (stands : State → Type 0) → Option (List ℕ) → Type 0
 IsAnswered s text stands (Some out) =
     (e : Exchange) × (exchange_at s text ≡ Some e) × stands e.after
-    × (out ≡ text_of e.answer)
+    × (out ≡ answer_text e.answer)
 IsAnswered s text stands None = exchange_at s text ≡ None
 
 -- this text is the next line of the script
@@ -118,7 +118,7 @@ abbrev pub PrintsStep : (failed : Type 0) → Script → List ℕ → (stands : 
     → (held held' : Option (List ℕ)) → Type 0
 PrintsStep failed script text stands None held held' =
     (e : Exchange) × (exchange_at script.start text ≡ Some e) × stands e.after
-    × Takes held held' (text_of e.answer)
+    × Takes held held' (answer_text e.answer)
 PrintsStep failed script text stands (Some ending) held held' =
     (left : Option (List ℕ)) → EndsBefore (OnlyByDisk failed) script left ending held held'
 
@@ -126,7 +126,7 @@ PrintsStep failed script text stands (Some ending) held held' =
 pub record MovesOn {D : Type 0} (g : Ghosts D) (holds : Holding) (shows : Showing)
     (old new : D) (before after : State) : Type 0 where
   pub held : HoldsState g holds after new
-  pub through : CrashesShow g shows old new before.history after.history
+  pub through : CrashesShow g shows old new (history_of before) (history_of after)
   -- no fault was counted
   pub steady : g.faults new ≡ g.faults old
 
@@ -170,7 +170,7 @@ pub record GoesOn {D : Type 0} (g : Ghosts D) (holds : Holding) (shows : Showing
   -- its exchange, of which the answer was printed;
   pub exchange : Exchange
   pub exchange_is : exchange_at script.start text ≡ Some exchange
-  pub taken : Takes old.held new.held (text_of exchange.answer)
+  pub taken : Takes old.held new.held (answer_text exchange.answer)
   -- the later lines are still to do;
   pub to_do : HasToDo (script_of exchange.after (script.before + 1) later) kept new
   -- and a disk that held the state before the line holds the one after it

@@ -1,22 +1,28 @@
 -- How far a commit came on a disk that then failed, and failed cleanly. And the numbers that a disk's files have.
 use Rattle.std.specs.Prelude.{◌≡◌, ◌≢◌, ◌≤◌, ℕ, ◌+◌, List, length, None}
 use Rattle.std.specs.FinMap.{get}
-use Rattle.vl_model.specs.Formats.{log_format}
 use Rattle.vl_disk.specs.DiskState.{DiskState, appended}
 use Rattle.vl_disk.specs.Name.{file_number}
 use Rattle.vl_disk.specs.declared.name.Name.{Name}
 use Rattle.vl_disk.specs.declared.name.Name.TheVariants.{Log}
+use Rattle.vl_engine.specs.Writing.{written}
 use Rattle.vl_frame.specs.Runs.{HasFrame}
+use Rattle.vl_layout.specs.Store.Commits.{Changes, with_changes}
 use Rattle.vl_manifest.specs.declared.state.ManifestState.{ManifestState}
-use Rattle.vl_model.specs.History.{with_commit}
-use Rattle.vl_model.specs.Keys.{Writes}
 use Rattle.vl_model.specs.declared.log_frame.LogFrame.{LogFrame}
 use Rattle.vl_seglog.specs.Frames.{frame_at, frames_grammar}
 use Rattle.vl_replay.specs.Between.{Holding}
 use Rattle.vl_replay.specs.Sequential.{State}
-use Rattle.vl_replay.specs.Writing.{written}
 
 -- ---- a commit that is being written
+
+-- the log that takes the state's commits
+abbrev pub log_of : State → Name
+log_of s = Log s.store.layout.active.number
+
+-- the bytes of a frame at its end
+abbrev pub frame_behind : State → LogFrame → List ℕ
+frame_behind s item = frame_at s.store.layout.active.format s.store.layout.active.number s.store.layout.active.length item
 
 -- a frame that makes one state the next, and the disk before it was written
 pub record Commits (holds : Holding) (before after : State) : Type 0 where
@@ -25,18 +31,18 @@ pub record Commits (holds : Holding) (before after : State) : Type 0 where
   pub held : holds before old
   -- the frame is that of one item, at the end of the log that takes commits,
   pub item : LogFrame
-  pub has : HasFrame (frames_grammar log_format) item
+  pub has : HasFrame (frames_grammar before.store.layout.active.format) item
   pub frame : List ℕ
-  pub frame_is : frame ≡ frame_at log_format before.log.number before.log.length item
+  pub frame_is : frame ≡ frame_behind before item
   -- and once it is written the disk holds the state after
-  pub done : holds after (written (Log before.log.number) frame old)
+  pub done : holds after (written (log_of before) frame old)
   -- that state has these writes more
-  pub writes : Writes
-  pub one_more : after.history ≡ with_commit before.history writes
+  pub writes : Changes
+  pub one_more : after.store.commits ≡ with_changes before.store.commits writes
 
 -- the disk whose log took so many bytes of the frame
 abbrev pub with_taken : {holds : Holding} {before after : State} → Commits holds before after → ℕ → DiskState
-with_taken {before} commits taken = appended (Log before.log.number) commits.frame taken commits.old
+with_taken {before} commits taken = appended (log_of before) commits.frame taken commits.old
 
 -- What a commit left of a disk that failed, and failed cleanly, behind so many of its two calls.
 pub data IsStoppedIn (holds : Holding) (before after : State) (passed : ℕ) (now : DiskState) : Type 0 where

@@ -1,64 +1,29 @@
--- What a disk holds of a state, and what an image shows of a history, for a store without tables.
-use Rattle.std.specs.Prelude.{◌≡◌, ℕ, List, [], ◌∷◌, ◌++◌, None, Ok}
-use Rattle.vl_model.specs.Formats.{log_format}
-use Rattle.vl_disk.specs.Crash.{Image}
-use Rattle.vl_disk.specs.DiskState.{DiskState, IsLawful}
-use Rattle.vl_layout.specs.Logs.{log_length, memtable, new_segment}
-use Rattle.vl_layout.specs.Shows.{AreUpTo, Shows}
+-- What a disk holds of a state, for a store without tables.
+use Rattle.std.specs.Prelude.{◌≡◌, List}
+use Rattle.vl_disk.specs.DiskState.{DiskState}
+use Rattle.vl_engine.specs.Held.{Base, Holds, IsBase}
+use Rattle.vl_engine.specs.Shown.{no_logs}
+use Rattle.vl_layout.specs.Tidy.{IsTidy}
 use Rattle.vl_layout.specs.declared.segment.Segment.{Segment}
-use Rattle.vl_manifest.specs.declared.state.ManifestState.{ManifestState}
-use Rattle.vl_model.specs.History.{History, last_number}
-use Rattle.vl_model.specs.Winners.{Logs}
-use Rattle.vl_model.specs.declared.entry.Entry.{Entry}
-use Rattle.vl_model.specs.declared.log_frame.LogFrame.{LogFrame}
-use Rattle.vl_recover.specs.crash.Held.{HoldsStore}
-use Rattle.vl_recover.specs.opening.Opening.{Opening, Opens}
-use Rattle.vl_recover.specs.crash.Held.{GoOn}
-use Rattle.vl_replay.specs.Sequential.{State}
 use Rattle.vl_replay.specs.Between.{Stopping}
+use Rattle.vl_replay.specs.Sequential.{State, history_of}
 use Rattle.vl_replay.specs.Stopped.{AreNumberedUpTo, GivesUpTo, IsStoppedIn}
 
--- the entries of logs that rise, end to end, the newest first
-abbrev pub logs_entries : List Segment → List Entry
-logs_entries [] = []
-logs_entries (s ∷ ss) = logs_entries ss ++ memtable s
+-- what the state's manifest says, and these logs before the active one
+abbrev pub base_of : State → List Segment → Base
+base_of s before = record { state = s.manifest; before = before }
 
--- where there are no tables no pointer is followed
-abbrev pub no_logs : Logs
-no_logs pointer key = None
-
--- The logs show the history at a number, and nothing behind it.
-pub record LogsShow (logs : List Segment) (h : History) (m : ℕ) : Type 0 where
-  pub shows : Shows no_logs (logs_entries logs) h (λ _. m) m
-  pub up_to : AreUpTo m (logs_entries logs)
-
--- The image opens at this number, and its logs show the history there.
-pub record Shown (image : Image) (h : History) (m : ℕ) : Type 0 where
-  pub opening : Opening
-  pub opens : Opens image (Ok opening)
-  pub number : opening.number ≡ m
-  pub logs : LogsShow opening.logs h m
-
--- the logs that take no more commits, and behind them the one with these frames that does
-abbrev pub logs_of : State → List Segment → List LogFrame → List Segment
-logs_of s frozen frames = frozen ++ new_segment log_format s.log.number frames ∷ []
-
--- The disk holds the state: a manifest and logs, all of them durable, of which the last takes commits; the commits in
--- them end with the history's last one, and they show the history there.
+-- The disk holds the state: its layout, all of it durable, whose entries show its history.
 pub record IsStored (s : State) (disk : DiskState) : Type 0 where
-  pub manifest : ManifestState
-  pub frozen : List Segment
-  pub frames : List LogFrame
-  pub holds : HoldsStore manifest (logs_of s frozen frames) disk
-  pub numbers : GoOn manifest.covered (logs_of s frozen frames) (last_number s.history)
-  pub shows : LogsShow (logs_of s frozen frames) s.history (last_number s.history)
-  pub length_is : s.log.length ≡ log_length log_format frames
-  -- it is lawful, as whatever a disk tells;
-  pub lawful : IsLawful disk
+  pub before : List Segment
+  pub is_base : IsBase (base_of s before) s.store.layout (history_of s)
+  pub holds : Holds (base_of s before) s.store.layout disk
+  pub tidy : IsTidy no_logs s.store.layout (history_of s)
+  pub next_table : s.manifest.next_table ≡ s.store.layout.next_table
   -- no file passes the number that the state has for that,
   pub numbered : AreNumberedUpTo s.files disk
   -- and the manifest gives at most the next one
-  pub next : GivesUpTo s.files manifest
+  pub next : GivesUpTo s.files s.manifest
 
 -- A line that was stopped was a commit.
 abbrev pub IsStopped : Stopping

@@ -5,15 +5,15 @@ use Rattle.vl_replay.specs.Text.{reopened_text}
 use Rattle.vl_io.specs.Sink.{Takes}
 use Rattle.vl_mem.specs.declared.outcome.Outcome.{Outcome}
 use Rattle.vl_model.specs.History.{contents_at, last_number}
-use Rattle.vl_script.specs.Script.{lines_of, text_of}
+use Rattle.vl_script.specs.Script.{lines_of}
 use Rattle.vl_replay.specs.Endings.{bad_line, last_line, no_memory_line, read_fault_line}
 use Rattle.vl_replay.specs.Exchanges.{Exchange, answers_text, exchanges_from, last_state}
 use Rattle.vl_replay.specs.Reopens.{state_left}
 use Rattle.vl_replay.specs.Runs.{IsFront}
-use Rattle.vl_replay.specs.Sequential.{State}
+use Rattle.vl_replay.specs.Sequential.{State, answer_text, history_of}
 use Rattle.vl_replay.specs.laws.StartLaws.{empty_store}
 use Rattle.vl_replay.specs.declared.ending.Ending.{Ending}
-use Rattle.vl_replay.specs.declared.ending.Ending.TheVariants.{Complete, BadLine, BadWords, DiskFault, Refused, Damaged, NoMemory, ReadFault, WriteFault, AnswerCut, Stopped}
+use Rattle.vl_replay.specs.declared.ending.Ending.TheVariants.{Complete, BadLine, BadWords, DiskFault, ReaderFault, Refused, Damaged, NoMemory, ReadFault, WriteFault, AnswerCut, Stopped}
 
 -- what is tried: the lines of some bytes, over an empty disk of which each changing call behind so many fails; and what a
 -- crash then does to what isn't durable
@@ -72,7 +72,7 @@ reopened_state t = state_behind_stop t.outcome t.stop (answered_state t) (stoppe
 
 -- the text that is printed of it: the number of its last commit, which is their count, and what it has there
 abbrev pub state_text : State → List ℕ
-state_text s = reopened_text (last_number s.history) (contents_at s.history (last_number s.history))
+state_text s = reopened_text (last_number (history_of s)) (contents_at (history_of s) (last_number (history_of s)))
 
 abbrev pub trial_text : Trial → List ℕ
 trial_text t = state_text (reopened_state t)
@@ -103,10 +103,10 @@ IsLastFront t count piece =
 -- some first bytes of the answer to the next line
 abbrev pub IsAnswerFront : Trial → (count : ℕ) → (piece : List ℕ) → Type 0
 IsAnswerFront t count piece =
-    (e : Exchange) × (slice_get (answered_lines t) count ≡ Some e) × IsFront piece (text_of e.answer)
+    (e : Exchange) × (slice_get (answered_lines t) count ≡ Some e) × IsFront piece (answer_text e.answer)
 
 -- What a trial that ended so printed. It comes to no other endings: a stop is no fault of the disk, what is opened behind it
--- isn't refused, and nothing is damaged.
+-- isn't refused, and all that was written can be read.
 abbrev pub EndsTrial : Trial → (held held' left : Option (List ℕ)) → Ending → Type 0
 EndsTrial t held held' left Complete =
     ReachesEnd t × (left ≡ Some []) × Takes held held' (answers_text (answered_lines t) ++ trial_text t)
@@ -114,6 +114,7 @@ EndsTrial t held held' left BadLine =
     ReachesBadLine t × Takes held held' (answers_text (exchanges_unstopped t) ++ bad_line (length (exchanges_unstopped t) + 1))
 EndsTrial t held held' left BadWords = ⊥
 EndsTrial t held held' left DiskFault = ⊥
+EndsTrial t held held' left ReaderFault = ⊥
 EndsTrial t held held' left (Refused refusal) = ⊥
 EndsTrial t held held' left (Damaged name place) = ⊥
 EndsTrial t held held' left NoMemory = (count : ℕ) × TakesFirst t held held' count no_memory_line

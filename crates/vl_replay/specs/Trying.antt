@@ -5,8 +5,10 @@ use Rattle.vl_io.specs.Sink.{Takes}
 use Rattle.vl_io.specs.declared.sink.Sink as sink
 use Rattle.vl_mem.specs.CrashImage.{crash_image}
 use Rattle.vl_mem.specs.FailsPast.{FailsPast}
+use Rattle.vl_mem.specs.Held.{held_bytes}
 use Rattle.vl_mem.specs.MemDisk.{faults_of, state_of}
 use Rattle.vl_mem.specs.contracts.mem_disk.MemDiskWatched.TheImpl as memory
+use Rattle.vl_mem.specs.declared.held.MemHeld.{MemHeld}
 use Rattle.vl_mem.specs.declared.mem_disk.MemDisk.{MemDisk}
 use Rattle.vl_mem.specs.declared.outcome.Outcome.{Outcome}
 use Rattle.vl_model.specs.History.{History, contents_at, last_number}
@@ -16,12 +18,16 @@ use Rattle.vl_replay.specs.Durable.{HoldsState}
 use Rattle.vl_replay.specs.Endings.{no_memory_line, read_fault_line}
 use Rattle.vl_replay.specs.Exchanges.{answers_text}
 use Rattle.vl_replay.specs.Reopens.{Reopens}
-use Rattle.vl_replay.specs.Sequential.{State}
+use Rattle.vl_replay.specs.Sequential.{State, history_of}
 use Rattle.vl_replay.specs.Steps.{Finishes}
 use Rattle.vl_replay.specs.Stored.{IsStored}
 use Rattle.vl_replay.specs.Trial.{EndsTrial, MeetsStop, ReachesEnd, Trial, answered_lines, begun, reopened_state}
 use Rattle.vl_replay.specs.declared.ending.Ending.{Ending}
-use Rattle.vl_replay.specs.declared.ending.Ending.TheVariants.{Complete, BadLine, BadWords, DiskFault, Refused, Damaged, NoMemory, ReadFault, WriteFault, AnswerCut, Stopped}
+use Rattle.vl_replay.specs.declared.ending.Ending.TheVariants.{Complete, BadLine, BadWords, DiskFault, ReaderFault, Refused, Damaged, NoMemory, ReadFault, WriteFault, AnswerCut, Stopped}
+
+-- the bytes of a file of a disk in memory, which it always tells
+abbrev pub all_told : MemHeld → Option (List ℕ)
+all_told held = Some (held_bytes held)
 
 -- A store was opened on an empty disk that stops.
 pub record IsOnTrial (stop : ℕ) (stands : State → Type 0) (disk : MemDisk) : Type 0 where
@@ -35,7 +41,7 @@ pub record IsOnTrial (stop : ℕ) (stands : State → Type 0) (disk : MemDisk) :
 -- whatever a crash does to the disk, what it leaves opens showing the last commit of this state
 abbrev pub LeavesToOpen : MemDisk → (Outcome → State) → Type 0
 LeavesToOpen disk shown = (outcome : Outcome)
-    → Reopens (crash_image outcome (state_of disk)) (shown outcome).history (last_number (shown outcome).history)
+    → Reopens (crash_image outcome (state_of disk)) (history_of (shown outcome)) (last_number (history_of (shown outcome)))
 
 -- none was opened: memory ran out, or the stop was met, and no commit is left
 abbrev pub StopsOpening : ℕ → OpenError → MemDisk → Type 0
@@ -63,6 +69,7 @@ ComesTo t held held' left disk Stopped =
 ComesTo t held held' left disk BadLine = (outcome : Outcome) → EndsTrial (t outcome) held held' left BadLine
 ComesTo t held held' left disk BadWords = ⊥
 ComesTo t held held' left disk DiskFault = ⊥
+ComesTo t held held' left disk ReaderFault = ⊥
 ComesTo t held held' left disk (Refused refusal) = ⊥
 ComesTo t held held' left disk (Damaged name place) = ⊥
 ComesTo t held held' left disk NoMemory = (outcome : Outcome) → EndsTrial (t outcome) held held' left NoMemory

@@ -1,21 +1,21 @@
 //! One line of a script: carried out, and answered.
-ghost use Rattle.std.specs.Prelude.{◌≡◌, ◌≢◌, ℕ, None, Some, Err, IfOk, OnOk};
+ghost use Rattle.std.specs.Prelude.{◌≡◌, ◌≢◌, None, Some, IfOk, OnOk};
 ghost use Rattle.std.specs.Option.{option_map};
 ghost use Rattle.vl_disk.specs.Faults.{Rose, HasCause};
 ghost use Rattle.vl_replay.specs.Sequential.{State};
-ghost use Rattle.vl_disk.specs.declared.name.Name.{Name};
 ghost use Rattle.vl_replay.specs.Replaying.{StandsFor, TakesLines, disk_of};
 ghost use Rattle.vl_replay.specs.Exchanges.{exchange_at, state_behind};
 ghost use Rattle.vl_replay.specs.Endings.{TheDisk, TheSink, TheSource, CountsFaultsOf, CutsAnswer, EndsAs, culprit_of, line_number};
 ghost use Rattle.vl_replay.specs.Runs.{Script};
 ghost use Rattle.vl_replay.specs.Durable.{HoldsState, CarriesOut};
-ghost use Rattle.vl_replay.specs.Stored.{IsStopped, IsStored, Shown};
+ghost use Rattle.vl_replay.specs.Stored.{IsStopped, IsStored};
+ghost use Rattle.vl_engine.specs.Shown.{Shown};
 ghost use Rattle.vl_replay.specs.Steps.{IsAnswered, IsNext, EndsAtBadLine, PrintsStep, DiskSteps};
-ghost use Rattle.vl_replay.specs.Halts.{HaltsByDisk};
+ghost use Rattle.vl_replay.specs.Halts.{HaltsByDisk, HaltsByRead};
 ghost use Rattle.vl_replay.specs.Reading.{AnswersText, EndsBadly, IsLine, ReadsText};
 ghost use Rattle.vl_replay.specs.declared.fails.Refusal.{Refusal};
 
-use crate::ending::{Ending, NO_MEMORY, OnFault, end_at_fault, finish};
+use crate::ending::{DISK_FAULT, Ending, NO_MEMORY, OnFault, end_at_fault, finish};
 use crate::fails::Halt;
 use crate::refusing::end_at_damage;
 use crate::replayer::Replayer;
@@ -32,15 +32,16 @@ fn execute_line<D: Disk>(
     text: &[u8],
 ) -> Result<Option<Vec<u8>>, Halt>
     requires { TakesLines replayer.old }
-    ensures answers { (s : State) → StandsFor replayer.old s
-        → IfOk result (λ out. IsAnswered s text.now (StandsFor replayer.new) (option_map (λ text. text.items) out)) }
-    ensures carries { (s : State) → StandsFor replayer.old s
+    ensures answers { (s : State) → StandsFor D.Held.bytes replayer.old s
+        → IfOk result (λ out. IsAnswered s text.now (StandsFor D.Held.bytes replayer.new) (option_map (λ text. text.items) out)) }
+    ensures carries { (s : State) → StandsFor D.Held.bytes replayer.old s
         → CarriesOut D.Watched IsStored Shown IsStopped (disk_of replayer.old) (disk_of replayer.new) s
         (state_behind s (exchange_at s text.now)) result }
     ensures cause { HasCause (D.faults (disk_of replayer.old)) (D.faults (disk_of replayer.new)) (HaltsByDisk result) }
-    ensures undamaged { (s : State) → StandsFor replayer.old s
-        → (name : Name) (place : ℕ) → result ≢ Err (Halt.Damaged name place) }
-    ensures met { (name : Name) (place : ℕ) → result ≡ Err (Halt.Damaged name place) → IsLine text.now }
+    // What a store has that tells its bytes can be read.
+    ensures readable { (s : State) → StandsFor D.Held.bytes replayer.old s
+        → HaltsByRead result → ⊥ }
+    ensures met { HaltsByRead result → IsLine text.now }
     ensures reads { IfOk result (λ out. ReadsText text.now (option_map (λ text. text.items) out)) }
     ensures goes_on { OnOk result (TakesLines replayer.new) }
 {
@@ -61,6 +62,7 @@ pub fn end_at_bad_line<K: Sink>(alloc: Global, answered: u64, sink: &mut K) -> E
     ensures not_the_source { culprit_of result ≢ TheSource }
     ensures not_the_files { (refusal : Refusal) → result ≢ Ending.Refused refusal }
     ensures not_the_words { result ≢ Ending.BadWords }
+    ensures readable { result ≢ Ending.ReaderFault }
     ensures whole { CutsAnswer result → ⊥ }
     ensures reads { EndsBadly (Unit {0}) ⊥ answered result (K.held sink.old) (K.held sink.new) }
 {
@@ -81,12 +83,12 @@ pub fn answer<K: Sink, D: Disk>(
     on_fault: OnFault,
 ) -> Option<Ending>
     requires { TakesLines replayer.old }
-    ensures printed { (script : Script) → StandsFor replayer.old script.start
+    ensures printed { (script : Script) → StandsFor D.Held.bytes replayer.old script.start
         → answered ≡ line_number script.before
         → IsNext script text.now
         → PrintsStep (Rose (D.faults (disk_of replayer.old)) (D.faults (disk_of replayer.new))) script text.now
-        (StandsFor replayer.new) result (K.held sink.old) (K.held sink.new) }
-    ensures moves { (s : State) → StandsFor replayer.old s
+        (StandsFor D.Held.bytes replayer.new) result (K.held sink.old) (K.held sink.new) }
+    ensures moves { (s : State) → StandsFor D.Held.bytes replayer.old s
         → HoldsState D.Watched IsStored s (disk_of replayer.old)
         → DiskSteps D.Watched IsStored Shown IsStopped (disk_of replayer.old) (disk_of replayer.new) s
         (state_behind s (exchange_at s text.now)) result }
@@ -95,6 +97,10 @@ pub fn answer<K: Sink, D: Disk>(
     ensures not_the_source { option_map culprit_of result ≢ Some TheSource }
     ensures not_the_files { (refusal : Refusal) → result ≢ Some (Ending.Refused refusal) }
     ensures not_the_words { result ≢ Some Ending.BadWords }
+    // What a store has that tells its bytes can be read, and it stands for a state then, wherever the run goes on.
+    ensures readable { (s : State) → StandsFor D.Held.bytes replayer.old s → result ≢ Some Ending.ReaderFault }
+    ensures stands { (s : State) → StandsFor D.Held.bytes replayer.old s → result ≡ None
+        → (t : State) × StandsFor D.Held.bytes replayer.new t }
     ensures reads { AnswersText text.now answered result (K.held sink.old) (K.held sink.new) }
     ensures as_meant { EndsAs on_fault result }
     ensures goes_on { result ≡ None → TakesLines replayer.new }
@@ -107,6 +113,7 @@ pub fn answer<K: Sink, D: Disk>(
         Ok(None) => Some(end_at_bad_line(alloc, answered, sink)),
         Err(Halt::NoMemory) => Some(finish(sink, NO_MEMORY, Ending::NoMemory)),
         Err(Halt::Damaged { name, place }) => Some(end_at_damage(alloc, sink, name, place)),
+        Err(Halt::Read { .. }) => Some(finish(sink, DISK_FAULT, Ending::ReaderFault)),
         Err(Halt::Disk { .. }) => Some(end_at_fault(sink, on_fault)),
     }
 }

@@ -1,11 +1,9 @@
 //! What is printed of a store that was opened.
 ghost use Rattle.std.specs.Prelude.{◌≡◌, IfOk};
 ghost use Rattle.vl_replay.specs.Text.{reopened_text};
-ghost use Rattle.vl_model.specs.History.{contents_at};
-ghost use Rattle.vl_seglog.specs.declared.active.ActiveLog.{ActiveLog};
+ghost use Rattle.vl_model.specs.History.{History, contents_at};
 ghost use Rattle.vl_replay.specs.Contents.{GiveEntries};
-ghost use Rattle.vl_replay.specs.Opened.{IsOpenedStore, entries_in};
-ghost use Rattle.vl_replay.specs.Sequential.{State};
+ghost use Rattle.vl_replay.specs.Opened.{HaveAt, entries_in};
 
 use crate::rows::rows_of;
 use crate::text::contents_text;
@@ -17,8 +15,8 @@ use vl_run::RunCursor;
 /// What is printed of a store that was opened with these logs, which rise, and whose last commit has this number: the number,
 /// and what stands there.
 pub fn opened_text(alloc: Global, number: u64, frozen: &[FrozenLog]) -> Result<Vec<u8>, AllocError>
-    ensures { (log : ActiveLog) (s : State) → IsOpenedStore number frozen.now log s
-        → IfOk result (λ text. text.items ≡ reopened_text number (contents_at s.history number)) }
+    ensures { (h : History) → HaveAt frozen.now h number
+        → IfOk result (λ text. text.items ≡ reopened_text number (contents_at h number)) }
 {
     let rows = rows_of(alloc, sources_of(alloc, frozen)?, number)?;
     contents_text(alloc, number, &rows)

@@ -24,6 +24,8 @@ pub enum Ending {
     BadWords,
     /// Status 3: the disk failed.
     DiskFault,
+    /// Status 3: a line's read of an open store's file failed. The disk itself counts no fault of it.
+    ReaderFault,
     /// Status 4: what stands on the disk isn't opened.
     Refused(Refusal),
     /// Status 4: a line's read met bytes of this file that aren't what should stand at this place.
@@ -60,7 +62,7 @@ impl Ending {
             Ending::Complete => 0,
             Ending::BadLine => 1,
             Ending::BadWords => 2,
-            Ending::DiskFault | Ending::Stopped => 3,
+            Ending::DiskFault | Ending::ReaderFault | Ending::Stopped => 3,
             Ending::Refused(_) | Ending::Damaged { .. } => 4,
             Ending::NoMemory => 5,
             Ending::ReadFault => 6,

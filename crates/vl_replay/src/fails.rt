@@ -28,6 +28,9 @@ pub enum Halt {
     /// The disk failed at this file.
     #[error("disk fault")]
     Disk { name: Name },
+    /// A read failed at this file.
+    #[error("disk fault")]
+    Read { name: Name },
     /// A read met bytes of this file that aren't what should stand at this place.
     #[error("damaged")]
     Damaged { name: Name, place: u64 },

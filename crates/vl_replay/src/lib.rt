@@ -15,7 +15,7 @@ mod trying;
 
 pub use ending::{Ended, Ending, NO_MEMORY, USAGE, finish};
 pub use fails::{Halt, Refusal};
-pub use replayer::{MAX_OPEN, Replayer, drops_free_names, reads_are_noted, writes_are_read_back};
+pub use replayer::Replayer;
 pub use running::replay;
 pub use trying::trial;
 pub use vl_recover::{OpenError, OpenFail};

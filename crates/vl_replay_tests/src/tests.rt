@@ -5,6 +5,7 @@ use std::alloc::Global;
 use std::test::Fail;
 use vl_cli::{Ended, run};
 use vl_disk::{Failed, Name};
+use vl_engine::{CommitFail, Done, Engine};
 use vl_io::{SliceSource, VecSink};
 use vl_mem::MemDisk;
 use vl_replay::Halt;
@@ -15,13 +16,20 @@ const RUNS: &str = "\
     replay .|||||0\n\
     replay .|||begin a;set a 61 01;commit a;view b;get b 61;|ok 0;ok;ok 1;ok 1;value 01;|0\n\
     replay .|||fetch a 61;|bad line 1;|1\n\
-    replay .|||begin a;begin b;|ok 0;toomany;|0\n\
+    replay .|||begin a;begin b;get a 61;set b 61 01;commit b;set a 62 01;commit a;|ok 0;ok 0;none;ok;ok 1;ok;conflict 61 1;|0\n\
+    replay .|||begin a;begin b;get a 61;set b 61 01;commit b;commit a;|ok 0;ok 0;none;ok;ok 1;nothing;|0\n\
+    replay .|||begin a;begin b;scan a 60 70 10;scan b 60 70 10;set a 61 01;set b 62 02;commit a;commit b;|ok 0;ok 0;rows 0;rows 0;ok;ok;ok 1;conflict 61 1;|0\n\
+    replay .|||begin t;set t 62 01;commit t;begin a;scan a 60 70 1;begin b;set b 68 02;commit b;set a 6a 03;commit a;|ok 0;ok;ok 1;ok 1;rows 1;62 01;ok 1;ok;ok 2;ok;ok 3;|0\n\
+    replay .|||begin t;set t 62 01;commit t;begin a;scan a 60 70 2;begin b;set b 68 02;commit b;set a 6a 03;commit a;|ok 0;ok;ok 1;ok 1;rows 1;62 01;ok 1;ok;ok 2;ok;conflict 68 2;|0\n\
+    replay .|||begin t;set t 61 01;set t 62 02;commit t;begin a;set a 63 03;del a 61;scan a - - 10;rscan a - - 1;|ok 0;ok;ok;ok 1;ok 1;ok;ok;rows 2;62 02;63 03;rows 1;63 03;|0\n\
+    replay .|||begin a;begin a;get b 61;view c;set c 61 01;|ok 0;taken a;unknown b;ok 0;readonly;|0\n\
+    replay .|||view c;scan c *4097* - 1;scan c 62 61 1;scan q - - 1;|ok 0;invalid;rows 0;unknown q;|0\n\
     replay .|||begin a;get a 61|ok 0;none;|0\n\
     replay .|||begin a;;get a 61;|ok 0;bad line 2;|1\n\
     replay .|||begin a;set a - 01;|ok 0;invalid;|0\n\
     replay .|||begin a;set a 61 01;get a 61;drop a;view b;get b 61;|ok 0;ok;value 01;ok;ok 0;none;|0\n\
     replay .|||begin a;set a 6A -;get a 6a;commit a;begin a;get a 6a;get a 6b;|ok 0;ok;value -;ok 1;ok 1;value -;none;|0\n\
-    replay .|||begin a;begin a;get b 61;view c;view a;|ok 0;taken a;unknown b;toomany;taken a;|0\n\
+    replay .|||begin a;begin a;get b 61;view c;view a;|ok 0;taken a;unknown b;ok 0;taken a;|0\n\
     replay .|||view c;set c 61 01;del c 61;commit c;set c - 01;del c -;|ok 0;readonly;readonly;readonly;readonly;readonly;|0\n\
     replay .|||get q 61;set q 61 01;del q 61;commit q;drop q;|unknown q;unknown q;unknown q;unknown q;unknown q;|0\n\
     replay .|||begin a;get a -;del a -;commit a;commit a;|ok 0;invalid;invalid;nothing;unknown a;|0\n\
@@ -76,7 +84,7 @@ const USAGE: &str =
 const NO_LINES: &str =
     " |begin|begin |begin  a| begin a|begin a |begin a b|begin A|begin a_b|begin 123456789abcdefgh|Begin a\
     |begi a|get a|get - -|get a 6|get a 6g|get a |get a 61 62|set a 61|set a 61 01 02|set a 61 01\r|setb a 61 01|setb a 61 01 256|setb a 61 01 07|setb a 61 01 +7|setb a 61 01 7 |getb a|getb a 61 7|del a\
-    |del a |del a 61 62|del a 6|delete a 61|drop|drop a b|drop A";
+    |del a |del a 61 62|del a 6|delete a 61|scan a - -|scan a - - 0|scan a - - 65536|scan a - - 01|rscan a - - 1 1|scan a 6 - 1|drop|drop a b|drop A";
 
 /// The text that stands for these bytes in a table.
 fn spelled(alloc: Global, text: &str) -> Result<Vec<u8>, Fail> {
@@ -125,7 +133,7 @@ fn ran(
     }
     let input = spelled(alloc, input)?;
     let mut source = SliceSource::new(&input, failing(alloc, reads)?);
-    let mut sink = VecSink::new(alloc, 4096, failing(alloc, puts)?)?;
+    let mut sink = VecSink::new(alloc, 16_384, failing(alloc, puts)?)?;
     let disk = MemDisk::new(alloc, Vec::new(alloc), Vec::new(alloc));
     let Ended { status, disk: _ } = run(alloc, all.as_slice(), &mut source, &mut sink, disk);
     Ok((sink.into_bytes(), status.to_string(alloc)?))
@@ -184,6 +192,68 @@ fn words_that_are_not_plain_get_the_usage_line(rt: HostRuntime) -> Result<(), Fa
         let (printed, status) = ran(rt.alloc(), words, "", "", "begin a;")?;
         assert!(rt; printed.as_slice() == usage.as_slice(), "{words}");
         assert!(rt; status.as_str() == "2", "{words}");
+    }
+    Ok(())
+}
+
+/// As many views as may be open, and one more.
+#[test]
+fn one_more_than_may_be_open_is_refused(rt: HostRuntime) -> Result<(), Fail> {
+    let alloc = rt.alloc();
+    let mut input = String::new(alloc);
+    let mut wanted = Vec::new(alloc);
+    for number in 0..1025 {
+        input.push_str(format!(in alloc; "view v{number};")?.as_str())?;
+        let answer = if number < 1024 { "ok 0;" } else { "toomany;" };
+        push_lines(&mut wanted, answer)?;
+    }
+    let (printed, status) = ran(alloc, "replay .", "", "", input.as_str())?;
+    assert!(rt; printed.as_slice() == wanted.as_slice());
+    assert!(rt; status.as_str() == "0");
+    Ok(())
+}
+
+/// As many keys as a transaction may write, one more, and one of them again.
+#[test]
+fn one_key_more_than_a_transaction_may_write_is_refused(rt: HostRuntime) -> Result<(), Fail> {
+    let alloc = rt.alloc();
+    let mut input = String::from_str(alloc, "begin a;")?;
+    let mut wanted = Vec::new(alloc);
+    push_lines(&mut wanted, "ok 0;")?;
+    for number in 10000..14097 {
+        input.push_str(format!(in alloc; "set a 0{number} 01;")?.as_str())?;
+        push_lines(&mut wanted, if number < 14096 { "ok;" } else { "toobig;" })?;
+    }
+    input.push_str("set a 010000 02;")?;
+    push_lines(&mut wanted, "ok;")?;
+    let (printed, status) = ran(alloc, "replay .", "", "", input.as_str())?;
+    assert!(rt; printed.as_slice() == wanted.as_slice());
+    assert!(rt; status.as_str() == "0");
+    Ok(())
+}
+
+/// Over a log with room for 100 bytes, of which the header takes 16 and each of these commits 35, the third finds none.
+#[test]
+fn a_commit_without_room_is_refused(rt: HostRuntime) -> Result<(), Fail> {
+    let alloc = rt.alloc();
+    let disk = MemDisk::new(alloc, Vec::new(alloc), Vec::new(alloc));
+    let Ok(mut engine) = Engine::open(alloc, disk, 100) else {
+        assert!(rt; false, "not opened");
+        return Ok(());
+    };
+    for number in 1..4 {
+        let Ok(mut txn) = engine.begin() else {
+            assert!(rt; false, "not begun");
+            return Ok(());
+        };
+        assert!(rt; txn.set(b"a", b"\x01").is_ok());
+        let answer = engine.commit(txn);
+        let wanted = if number < 3 {
+            matches!(answer, Ok(Done::At(given)) if given == number)
+        } else {
+            matches!(answer, Err(CommitFail::Full { length: 86, frame: 35, .. }))
+        };
+        assert!(rt; wanted, "commit {number}");
     }
     Ok(())
 }

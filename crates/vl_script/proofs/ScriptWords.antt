@@ -7,7 +7,7 @@ use Rattle.std.specs.List.{onto_first, position, position_or_len}
 use Rattle.std.proofs.lemmas.List.Splits.{slice_split_none, slice_split_first}
 use Rattle.std.proofs.lemmas.List.Sums.{fails_before_first}
 use Rattle.std.proofs.lemmas.Bool.Decides.{nat_tests}
-use Rattle.vl_script.specs.Script.{words_of, ident_alone, ident_and_key, set_of, set_tagged_of}
+use Rattle.vl_script.specs.Script.{words_of, ident_alone, ident_and_key, set_of, with_number}
 
 passed_end : (first end : ℕ) → cond (ltb first end) (Some first) None ≡ None → end ≤ first
 passed_end first end e = grind (arith, nat_tests)
@@ -61,7 +61,7 @@ module _ (rest : Option (Bor (List ℕ))) (more : is_some rest ≡ true) where
   pub set_of_more : (name key value : List ℕ) → set_of (name ∷ key ∷ value ∷ words_behind rest) ≡ None
   set_of_more name key value = rw (words_behind_begins rest more).2 refl
 
-  -- nor behind the four that setb wants
-  pub set_tagged_of_more : (name key value tag : List ℕ)
-      → set_tagged_of (name ∷ key ∷ value ∷ tag ∷ words_behind rest) ≡ None
-  set_tagged_of_more name key value tag = rw (words_behind_begins rest more).2 refl
+  -- nor behind the four that setb and the scans want
+  pub with_number_of_more : (most : ℕ) (name first second number : List ℕ)
+      → with_number most (name ∷ first ∷ second ∷ number ∷ words_behind rest) ≡ None
+  with_number_of_more most name first second number = rw (words_behind_begins rest more).2 refl

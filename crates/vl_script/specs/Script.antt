@@ -1,7 +1,7 @@
 -- The script language: which bytes are a line, and the text of an answer.
 use Rattle.std.specs.Prelude.{◌==◌, ◌&&◌, ◌||◌, ℕ, Bool, nat_le, if◌then◌else◌}
 use Rattle.std.specs.Prelude.{List, [], ◌∷◌, ◌++◌, length, codes, Option, Some, None, Result, Ok, Err}
-use Rattle.std.specs.List.{list_all, slice_split, onto_first}
+use Rattle.std.specs.List.{list_all, flat_map, slice_split, onto_first}
 use Rattle.std.specs.Option.{option_map}
 use Rattle.std.specs.Str.{bytes_eq}
 use Rattle.std.specs.Fmt.{decimal}
@@ -9,12 +9,15 @@ use Rattle.hex.specs.Hex.{decode_of, encode_lower}
 use Rattle.hex.specs.declared.error.FromHexError.{FromHexError}
 use Rattle.vl_model.specs.declared.counter.Counter.{Counter}
 use Rattle.vl_model.specs.declared.counter.Counter.TheVariants.{Commit as CommitNumber, Log, Table, Manifest, Version}
+use Rattle.vl_model.specs.declared.way.Way.{Way}
+use Rattle.vl_model.specs.declared.way.Way.TheVariants.{Up, Down}
+use Rattle.vl_model.specs.Keys.{Row}
 use Rattle.vl_script.specs.Numbers.{number_of}
 use Rattle.vl_script.specs.declared.line.Line.{Line}
-use Rattle.vl_script.specs.declared.line.Line.TheVariants.{Begin, View, Get, Set, SetTagged, GetTagged, Delete, Commit, Drop}
+use Rattle.vl_script.specs.declared.line.Line.TheVariants.{Begin, View, Get, Set, SetTagged, GetTagged, Scan, Delete, Commit, Drop}
 use Rattle.vl_script.specs.declared.answer.Answer.{Answer}
-use Rattle.vl_script.specs.declared.answer.Answer.TheVariants.{Done, Number, Found, FoundTagged, NoValue, Taken, Unknown}
-use Rattle.vl_script.specs.declared.answer.Answer.TheVariants.{ReadOnly, Invalid, TooBig, TooMany, Nothing, Full, Exhausted}
+use Rattle.vl_script.specs.declared.answer.Answer.TheVariants.{Done, Number, Found, FoundTagged, NoValue, Rows, Taken, Unknown}
+use Rattle.vl_script.specs.declared.answer.Answer.TheVariants.{ReadOnly, Invalid, TooBig, TooMany, Nothing, Conflict, Full, Exhausted}
 
 -- the longest line, in bytes without its end
 abbrev pub longest_line : ℕ
@@ -75,11 +78,19 @@ abbrev pub set_of : List (List ℕ) → Option Line
 set_of (name ∷ key ∷ value ∷ []) = option_map (λ w. Set w.0 w.1 w.2) (ident_and_two name key value)
 set_of words = None
 
+-- the same, and a number up to a limit
+abbrev pub with_number : (most : ℕ) → List (List ℕ) → Option (List ℕ × List ℕ × List ℕ × ℕ)
+with_number most (name ∷ first ∷ second ∷ number ∷ []) =
+    number_of most number >>= λ n. option_map (λ w. (w.0, w.1, w.2, n)) (ident_and_two name first second)
+with_number most words = None
+
 -- the words behind setb
 abbrev pub set_tagged_of : List (List ℕ) → Option Line
-set_tagged_of (name ∷ key ∷ value ∷ tag ∷ []) =
-    number_of 255 tag >>= λ u. option_map (λ w. SetTagged w.0 w.1 w.2 u) (ident_and_two name key value)
-set_tagged_of words = None
+set_tagged_of words = option_map (λ w. SetTagged w.0 w.1 w.2 w.3) (with_number 255 words)
+
+-- the words behind scan and rscan, which ask for one row at least
+abbrev pub scan_of : Way → List (List ℕ) → Option Line
+scan_of way words = with_number 65535 words >>= λ w. if w.3 == 0 then None else Some (Scan w.0 w.1 w.2 w.3 way)
 
 abbrev pub line_of_words : List (List ℕ) → Option Line
 line_of_words [] = None
@@ -90,10 +101,12 @@ line_of_words (command ∷ words) =
     else (if bytes_eq command (codes "set") then set_of words
     else (if bytes_eq command (codes "setb") then set_tagged_of words
     else (if bytes_eq command (codes "getb") then option_map (λ p. GetTagged p.0 p.1) (ident_and_key words)
+    else (if bytes_eq command (codes "scan") then scan_of Up words
+    else (if bytes_eq command (codes "rscan") then scan_of Down words
     else (if bytes_eq command (codes "del") then option_map (λ p. Delete p.0 p.1) (ident_and_key words)
     else (if bytes_eq command (codes "commit") then option_map Commit (ident_alone words)
     else (if bytes_eq command (codes "drop") then option_map Drop (ident_alone words)
-    else None))))))))
+    else None))))))))))
 
 -- the line that these bytes are, without the line's end
 abbrev pub line_of : List ℕ → Option Line
@@ -111,23 +124,33 @@ counter_text Table = codes "table"
 counter_text Manifest = codes "manifest"
 counter_text Version = codes "version"
 
--- an answer without its line's end
-abbrev pub answer_text : Answer → List ℕ
-answer_text Done = codes "ok"
-answer_text (Number number) = codes "ok " ++ decimal number
-answer_text (Found value) = codes "value " ++ bytes_text value.bytes
-answer_text (FoundTagged value) = codes "value " ++ bytes_text value.bytes ++ codes " byte " ++ decimal value.tag
-answer_text NoValue = codes "none"
-answer_text (Taken name) = codes "taken " ++ name
-answer_text (Unknown name) = codes "unknown " ++ name
-answer_text ReadOnly = codes "readonly"
-answer_text Invalid = codes "invalid"
-answer_text TooBig = codes "toobig"
-answer_text TooMany = codes "toomany"
-answer_text Nothing = codes "nothing"
-answer_text Full = codes "full"
-answer_text (Exhausted counter) = codes "exhausted " ++ counter_text counter
+-- each printed line ends with byte 10
+abbrev pub as_line : List ℕ → List ℕ
+as_line text = text ++ (10 ∷ [])
 
--- what is printed: each printed line ends with byte 10
+-- a key and its value, with a space between them
+abbrev pub row_text : Row → List ℕ
+row_text row = as_line (bytes_text row.0 ++ (32 ∷ []) ++ bytes_text row.1.bytes)
+
+-- how many rows there are, and a line for each
+abbrev pub rows_text : List Row → List ℕ
+rows_text rows = as_line (codes "rows " ++ decimal (length rows)) ++ flat_map row_text rows
+
+-- what is printed for an answer
 abbrev pub text_of : Answer → List ℕ
-text_of answer = answer_text answer ++ (10 ∷ [])
+text_of Done = as_line (codes "ok")
+text_of (Number number) = as_line (codes "ok " ++ decimal number)
+text_of (Found value) = as_line (codes "value " ++ bytes_text value.bytes)
+text_of (FoundTagged value) = as_line (codes "value " ++ bytes_text value.bytes ++ codes " byte " ++ decimal value.tag)
+text_of NoValue = as_line (codes "none")
+text_of (Rows rows) = rows_text rows.items
+text_of (Taken name) = as_line (codes "taken " ++ name)
+text_of (Unknown name) = as_line (codes "unknown " ++ name)
+text_of ReadOnly = as_line (codes "readonly")
+text_of Invalid = as_line (codes "invalid")
+text_of TooBig = as_line (codes "toobig")
+text_of TooMany = as_line (codes "toomany")
+text_of Nothing = as_line (codes "nothing")
+text_of (Conflict key number) = as_line (codes "conflict " ++ bytes_text key ++ (32 ∷ []) ++ decimal number)
+text_of Full = as_line (codes "full")
+text_of (Exhausted counter) = as_line (codes "exhausted " ++ counter_text counter)

@@ -1,5 +1,5 @@
 use crate::Ident;
-use vl_model::{Counter, Value};
+use vl_model::{Counter, Key, Value};
 
 /// The answer to a line, as docs/SCRIPT.md spells it.
 #[derive(Drop)]
@@ -14,6 +14,8 @@ pub enum Answer {
     FoundTagged { value: Value },
     /// `none`: the key has no value.
     NoValue,
+    /// `rows c`, and c lines `K V`: the rows of a scan.
+    Rows { rows: Vec<(Key, Value)> },
     /// `taken T`: the name is in use.
     Taken { name: Ident },
     /// `unknown T`: the name isn't in use.
@@ -28,6 +30,8 @@ pub enum Answer {
     TooMany,
     /// `nothing`: the transaction had no writes.
     Nothing,
+    /// `conflict K n`: the least key that the transaction read and a later commit named, and the last such commit.
+    Conflict { key: Key, number: u64 },
     /// `full`: the log has no room for the commit.
     Full,
     /// `exhausted W`: there is no next number of this kind.

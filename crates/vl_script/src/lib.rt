@@ -16,4 +16,4 @@ pub use limits::{MAX_IDENT_BYTES, MAX_LINE_BYTES};
 pub use line::{Ident, Line};
 pub use numbers::parse_number;
 pub use parse::parse_line;
-pub use print::{NUMBER_ROOM, print_answer, print_bad_line};
+pub use print::{NUMBER_ROOM, print_answer, print_bad_line, print_rows};

@@ -1,4 +1,4 @@
-use vl_model::Bytes;
+use vl_model::{Bytes, Way};
 
 /// A name that a script gives to a transaction or a view: 1 to 16 of `a` to `z` and `0` to `9`.
 pub type Ident = Bytes;
@@ -36,6 +36,15 @@ pub enum Line {
     GetTagged {
         name: Ident,
         key: Bytes,
+    },
+    /// `scan T LO HI N` and `rscan T LO HI N`: reads the first N rows whose keys are at or above LO and below HI, with their
+    /// keys rising or falling. No bytes are no end on their side.
+    Scan {
+        name: Ident,
+        low: Bytes,
+        high: Bytes,
+        limit: u16,
+        way: Way,
     },
     /// `del T K`: deletes a key in a transaction.
     Delete {

@@ -1,13 +1,13 @@
-ghost use Rattle.std.specs.Prelude.{◌≡◌, ◌∷◌, [], ◌&&◌, ◌<◌, length, nat_le, IfOk, MatchOption};
+ghost use Rattle.std.specs.Prelude.{◌≡◌, ◌∷◌, [], ◌&&◌, ◌<◌, ◌≤◌, length, nat_le, IfOk, IfSome, MatchOption};
 ghost use Rattle.std.specs.List.{list_all};
 ghost use Rattle.std.specs.Option.{option_map_or};
 ghost use Rattle.vl_script.specs.Script.{longest_ident, is_ident_byte, ident_of, bytes_of, words_of, line_of};
-ghost use Rattle.vl_script.specs.Script.{ident_alone, ident_and_key, ident_and_two, set_of, set_tagged_of};
+ghost use Rattle.vl_script.specs.Script.{ident_alone, ident_and_key, ident_and_two, with_number, set_of, set_tagged_of, scan_of};
 
 use crate::digits::decode;
 use crate::{Ident, Line, MAX_IDENT_BYTES, MAX_LINE_BYTES, find_byte, parse_number};
 use std::alloc::{AllocError, Global};
-use vl_model::Bytes;
+use vl_model::{Bytes, Way};
 
 /// The line that these bytes are, without the line's end; `None` where they are no line of the language.
 pub fn parse_line(alloc: Global, text: &[u8]) -> Result<Option<Line>, AllocError>
@@ -18,30 +18,27 @@ pub fn parse_line(alloc: Global, text: &[u8]) -> Result<Option<Line>, AllocError
     }
     let (command, rest) = next_word(text);
     if command == b"begin".as_slice() {
-        let name = parse_ident_alone(alloc, rest)?;
-        Ok(name.map(|name| Line::Begin { name }))
+        Ok(parse_ident_alone(alloc, rest)?.map(|name| Line::Begin { name }))
     } else if command == b"view".as_slice() {
-        let name = parse_ident_alone(alloc, rest)?;
-        Ok(name.map(|name| Line::View { name }))
+        Ok(parse_ident_alone(alloc, rest)?.map(|name| Line::View { name }))
     } else if command == b"get".as_slice() {
-        let words = parse_ident_and_key(alloc, rest)?;
-        Ok(words.map(|(name, key)| Line::Get { name, key }))
+        Ok(parse_ident_and_key(alloc, rest)?.map(|(name, key)| Line::Get { name, key }))
     } else if command == b"set".as_slice() {
         parse_set(alloc, rest)
     } else if command == b"setb".as_slice() {
         parse_set_tagged(alloc, rest)
     } else if command == b"getb".as_slice() {
-        let words = parse_ident_and_key(alloc, rest)?;
-        Ok(words.map(|(name, key)| Line::GetTagged { name, key }))
+        Ok(parse_ident_and_key(alloc, rest)?.map(|(name, key)| Line::GetTagged { name, key }))
+    } else if command == b"scan".as_slice() {
+        parse_scan(alloc, rest, Way::Up)
+    } else if command == b"rscan".as_slice() {
+        parse_scan(alloc, rest, Way::Down)
     } else if command == b"del".as_slice() {
-        let words = parse_ident_and_key(alloc, rest)?;
-        Ok(words.map(|(name, key)| Line::Delete { name, key }))
+        Ok(parse_ident_and_key(alloc, rest)?.map(|(name, key)| Line::Delete { name, key }))
     } else if command == b"commit".as_slice() {
-        let name = parse_ident_alone(alloc, rest)?;
-        Ok(name.map(|name| Line::Commit { name }))
+        Ok(parse_ident_alone(alloc, rest)?.map(|name| Line::Commit { name }))
     } else if command == b"drop".as_slice() {
-        let name = parse_ident_alone(alloc, rest)?;
-        Ok(name.map(|name| Line::Drop { name }))
+        Ok(parse_ident_alone(alloc, rest)?.map(|name| Line::Drop { name }))
     } else {
         Ok(None)
     }
@@ -105,26 +102,57 @@ fn parse_set(alloc: Global, rest: Option<&[u8]>) -> Result<Option<Line>, AllocEr
 }
 
 // Like `set`, with a tag behind the value.
-#[tactic(auto, using(crate::proofs::ScriptWords::set_tagged_of_more))]
 fn parse_set_tagged(alloc: Global, rest: Option<&[u8]>) -> Result<Option<Line>, AllocError>
     ensures { IfOk result (λ line. line ≡ set_tagged_of (option_map_or (λ rest. words_of rest.now) rest.entry [])) }
 {
-    let Some((name, key, value, Some(rest))) = three_words(rest) else {
-        return Ok(None);
-    };
-    let (tag, None) = next_word(rest) else {
-        return Ok(None);
-    };
-    let Some(tag) = parse_number(tag, 255) else {
-        return Ok(None);
-    };
-    let words = parse_ident_and_two(alloc, name, key, value)?;
-    Ok(words.map(|(name, key, value)| Line::SetTagged {
+    let words = parse_with_number(alloc, rest, 255)?;
+    Ok(words.map(|(name, key, value, tag)| Line::SetTagged {
         name,
         key,
         value,
         tag: tag as u8,
     }))
+}
+
+fn parse_scan(alloc: Global, rest: Option<&[u8]>, way: Way) -> Result<Option<Line>, AllocError>
+    ensures { IfOk result (λ line. line ≡ scan_of way (option_map_or (λ rest. words_of rest.now) rest.entry [])) }
+{
+    let Some((name, low, high, limit)) = parse_with_number(alloc, rest, 65_535)? else {
+        return Ok(None);
+    };
+    if limit == 0 {
+        return Ok(None);
+    }
+    Ok(Some(Line::Scan {
+        name,
+        low,
+        high,
+        limit: limit as u16,
+        way,
+    }))
+}
+
+// A name, two strings of bytes and a number that isn't over a limit.
+#[tactic(auto, using(crate::proofs::ScriptWords::with_number_of_more))]
+fn parse_with_number(
+    alloc: Global,
+    rest: Option<&[u8]>,
+    most: u32,
+) -> Result<Option<(Ident, Bytes, Bytes, u32)>, AllocError>
+    ensures words { IfOk result (λ words. words ≡ with_number most (option_map_or (λ rest. words_of rest.now) rest.entry [])) }
+    ensures within { IfOk result (λ words. IfSome words (λ w. w.3 ≤ most)) }
+{
+    let Some((name, first, second, Some(rest))) = three_words(rest) else {
+        return Ok(None);
+    };
+    let (number, None) = next_word(rest) else {
+        return Ok(None);
+    };
+    let Some(number) = parse_number(number, most) else {
+        return Ok(None);
+    };
+    let words = parse_ident_and_two(alloc, name, first, second)?;
+    Ok(words.map(|(name, first, second)| (name, first, second, number)))
 }
 
 // The first three words, and what is behind the space that ends the third.

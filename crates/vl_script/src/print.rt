@@ -1,13 +1,12 @@
 ghost use Rattle.std.specs.Prelude.{◌≡◌, ◌+◌, ◌≤◌, ◌++◌, ◌∷◌, ℕ, [], codes, length, vec_capacity};
 ghost use Rattle.std.specs.Prelude.{IsOk, IfOk, OnOk};
 ghost use Rattle.std.specs.Fmt.{decimal};
-ghost use Rattle.std.specs.String.{string_bytes};
-ghost use Rattle.vl_script.specs.Script.{bytes_text, counter_text, text_of};
-ghost use Rattle.vl_script.specs.declared.answer.Answer.TheVariants.{FoundTagged, Number};
+ghost use Rattle.vl_script.specs.Script.{bytes_text, counter_text, row_text, rows_text, text_of};
+ghost use Rattle.vl_script.specs.declared.answer.Answer.TheVariants.{Conflict, Found, FoundTagged, Number};
 
 use crate::Answer;
 use std::alloc::{AllocError, Global};
-use vl_model::{Bytes, Counter, Value};
+use vl_model::{Bytes, Counter, Key, Value};
 
 /// The room, in bytes, that the text of an answer with a number takes at most.
 pub const NUMBER_ROOM: usize = 24;
@@ -22,10 +21,9 @@ pub fn print_answer(alloc: Global, text: &mut Vec<u8>, answer: &Answer) -> Resul
     match answer {
         Answer::Done => print_line(text, b"ok", b""),
         Answer::Number { number } => print_number(text, b"ok ", *number),
-        Answer::Found { value } => {
-            print_line(text, b"value ", encode(alloc, &value.bytes)?.as_bytes())
-        },
+        Answer::Found { value } => print_value(alloc, text, value),
         Answer::FoundTagged { value } => print_tagged(alloc, text, value),
+        Answer::Rows { rows } => print_rows(alloc, text, rows),
         Answer::NoValue => print_line(text, b"none", b""),
         Answer::Taken { name } => print_line(text, b"taken ", name.as_slice()),
         Answer::Unknown { name } => print_line(text, b"unknown ", name.as_slice()),
@@ -34,11 +32,28 @@ pub fn print_answer(alloc: Global, text: &mut Vec<u8>, answer: &Answer) -> Resul
         Answer::TooBig => print_line(text, b"toobig", b""),
         Answer::TooMany => print_line(text, b"toomany", b""),
         Answer::Nothing => print_line(text, b"nothing", b""),
+        Answer::Conflict { key, number } => print_conflict(alloc, text, key, *number),
         Answer::Full => print_line(text, b"full", b""),
         Answer::Exhausted { counter } => {
             print_line(text, b"exhausted ", counter_name(*counter).as_bytes())
         }
     }
+}
+
+/// Appends how many rows there are, and a line for each, with its key and its value. Where memory is missing, some first bytes
+/// of it may have been appended.
+pub fn print_rows(
+    alloc: Global,
+    text: &mut Vec<u8>,
+    rows: &[(Key, Value)],
+) -> Result<(), AllocError>
+    ensures { OnOk result (text.new.items ≡ text.old.items ++ rows_text rows.now) }
+{
+    print_number(text, b"rows ", rows.len() as u64)?;
+    for (key, value) in rows {
+        print_row(alloc, text, key, value)?;
+    }
+    Ok(())
 }
 
 /// Appends what is printed for a bad line, the first line being line 1. Where memory is missing, some first bytes of it may
@@ -57,13 +72,45 @@ fn print_number(text: &mut Vec<u8>, front: &[u8], number: u64) -> Result<(), All
     print_line(text, front, digits.format(number).as_bytes())
 }
 
+fn print_value(alloc: Global, text: &mut Vec<u8>, value: &Value) -> Result<(), AllocError>
+    ensures { OnOk result (text.new.items ≡ text.old.items ++ text_of (Found value.now)) }
+{
+    text.extend_from_slice(b"value ")?;
+    push_bytes(alloc, text, &value.bytes)?;
+    text.push(b'\n')?;
+    Ok(())
+}
+
 // The value, and its tag.
 fn print_tagged(alloc: Global, text: &mut Vec<u8>, value: &Value) -> Result<(), AllocError>
     ensures { OnOk result (text.new.items ≡ text.old.items ++ text_of (FoundTagged value.now)) }
 {
     text.extend_from_slice(b"value ")?;
-    text.extend_from_slice(encode(alloc, &value.bytes)?.as_bytes())?;
+    push_bytes(alloc, text, &value.bytes)?;
     print_number(text, b" byte ", u64::from(value.tag))
+}
+
+fn print_row(alloc: Global, text: &mut Vec<u8>, key: &Key, value: &Value) -> Result<(), AllocError>
+    ensures { OnOk result (text.new.items ≡ text.old.items ++ row_text (key.now, value.now)) }
+{
+    push_bytes(alloc, text, key)?;
+    text.push(b' ')?;
+    push_bytes(alloc, text, &value.bytes)?;
+    text.push(b'\n')?;
+    Ok(())
+}
+
+fn print_conflict(
+    alloc: Global,
+    text: &mut Vec<u8>,
+    key: &Key,
+    number: u64,
+) -> Result<(), AllocError>
+    ensures { OnOk result (text.new.items ≡ text.old.items ++ text_of (Conflict key.now number)) }
+{
+    text.extend_from_slice(b"conflict ")?;
+    push_bytes(alloc, text, key)?;
+    print_number(text, b" ", number)
 }
 
 // Both parts, and the line's end.
@@ -77,14 +124,16 @@ fn print_line(text: &mut Vec<u8>, front: &[u8], back: &[u8]) -> Result<(), Alloc
     Ok(())
 }
 
-fn encode(alloc: Global, bytes: &Bytes) -> Result<String, AllocError>
-    ensures { IfOk result (λ text. string_bytes text ≡ bytes_text bytes.now) }
+fn push_bytes(alloc: Global, text: &mut Vec<u8>, bytes: &Bytes) -> Result<(), AllocError>
+    ensures { OnOk result (text.new.items ≡ text.old.items ++ bytes_text bytes.now) }
 {
     if bytes.is_empty() {
-        String::from_str(alloc, "-")
+        text.push(b'-')?;
     } else {
-        hex::encode(alloc, bytes.as_slice())
+        let digits = hex::encode(alloc, bytes.as_slice())?;
+        text.extend_from_slice(digits.as_bytes())?;
     }
+    Ok(())
 }
 
 fn counter_name(counter: Counter) -> &'static str

@@ -5,7 +5,7 @@ ghost use Rattle.vl_disk.specs.Calls.{ChangesNothing};
 ghost use Rattle.vl_disk.specs.Faults.{HasCause};
 ghost use Rattle.vl_disk.specs.declared.name.Name.{Name};
 ghost use Rattle.vl_disk.specs.declared.name.Name.TheVariants as names;
-ghost use Rattle.vl_engine.specs.Answers.{CommitFailed, LeavesDisk, commit_effects, commit_outcome, handed_back};
+ghost use Rattle.vl_engine.specs.Answers.{CommitFailed, IsWritable, LeavesDisk, commit_effects, commit_outcome, handed_back};
 ghost use Rattle.vl_engine.specs.Carries.{Carries, SameFiles};
 ghost use Rattle.vl_engine.specs.Represents.{Fronts, IsLive, Represents, StandsFor};
 ghost use Rattle.vl_engine.specs.Sees.{Sees, asked};
@@ -72,6 +72,11 @@ impl<D: Disk> Engine<D> {
         ensures cause { HasCause (D.faults self.old.disk) (D.faults self.new.disk) (CommitFailed result) }
         ensures named { (h : History) (l : Layout) (name : Name) → Fronts self.old.core h l
             → result ≡ Err (fails.Disk name) → name ≡ names.Log l.active.number }
+
+        // It fails only at a commit that is accepted.
+        ensures failed { (h : History) (l : Layout) (reads : List Read) → Fronts self.old.core h l
+            → IsLive l txn.ticket txn.number → AreNotesOf reads txn.reads.keys txn.reads.spans
+            → CommitFailed result → IsWritable l h (asked txn reads) }
 
         // A disk that fails cleanly was stopped within the append or the sync of the commit's frame.
         ensures stopped { (h : History) (l : Layout) → Fronts self.old.core h l → IsTrue D.fails_cleanly → CommitFailed result

@@ -7,7 +7,7 @@ ghost use Rattle.vl_disk.specs.Moments.{HoldsThroughout};
 ghost use Rattle.vl_disk.specs.Started.{IsRead};
 ghost use Rattle.vl_disk.specs.declared.name.Name.{Name};
 ghost use Rattle.vl_engine.specs.Carries.{CrashesShow, Tells};
-ghost use Rattle.vl_engine.specs.Opening.{AnswersOpening, IsAsBefore, IsDurable, IsFault, disk_behind, recovered, why_of};
+ghost use Rattle.vl_engine.specs.Opening.{AnswersOpening, IsAsBefore, IsBackAtStart, IsDurable, IsFault, disk_behind, recovered, why_of};
 ghost use Rattle.vl_engine.specs.Represents.{Represents, StandsFor};
 ghost use Rattle.vl_engine.specs.Shown.{Shown};
 ghost use Rattle.vl_layout.specs.Start.{layout_at_start};
@@ -41,6 +41,8 @@ impl<D: Disk> Engine<D> {
         ensures represents { (state : DiskState) (read : Image) (found : Finds read) (h : History) → D.told disk ≡ Some state
             → MayOpen state → IsRead read state → Shown read h (last_number h)
             → IfOk result (λ engine. Represents D.Held.bytes engine.core (D.told engine.disk) h (layout_at_start room (recovered found))) }
+        ensures back { (state : DiskState) (read : Image) (found : Finds read) → D.told disk ≡ Some state → IsRead read state
+            → IfOk result (λ engine. IsBackAtStart found room engine.core.back) }
 
         // What a crash leaves meanwhile shows what was opened; and opens as something that one could have left before.
         ensures through { (state : DiskState) (read : Image) (h : History) → D.told disk ≡ Some state → IsDurable state

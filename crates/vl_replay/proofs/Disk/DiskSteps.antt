@@ -10,7 +10,7 @@ use Rattle.vl_disk.specs.Moments.{waits, holds_weaker, holds_then}
 use Rattle.vl_recover.specs.crash.Starts.{MayOpen}
 use Rattle.vl_script.specs.declared.line.Line.{Line}
 use Rattle.vl_script.specs.Script.{line_of}
-use Rattle.vl_replay.specs.Sequential.{State, state_after}
+use Rattle.vl_replay.specs.Sequential.{State, state_after, history_of}
 use Rattle.vl_replay.specs.Exchanges.{Exchange, exchange_at, exchanged, state_behind, exchanges_from, and_later, last_state}
 use Rattle.vl_replay.specs.Between.{Showing, ShowsBetween, Stopping}
 use Rattle.vl_replay.specs.Endings.{CutsAnswer, IsBetweenLines, TheDisk, culprit_of}
@@ -19,7 +19,7 @@ use Rattle.vl_replay.specs.declared.ending.Ending.{Ending}
 use Rattle.vl_replay.specs.declared.ending.Ending.TheVariants.{NoMemory}
 use Rattle.vl_replay.proofs.Disk.Betweens.{extends_itself, extends_then, between_wider, between_exactly}
 use Rattle.vl_replay.proofs.Runs.Ends.{LeavesDisk}
-use Rattle.vl_replay.proofs.Store.Outcomes.{line_extends}
+use Rattle.vl_replay.proofs.Runs.Extending.{line_extends}
 
 -- ---- exchanges
 
@@ -31,16 +31,16 @@ pub exchange_after : (s : State) (o : Option Line) (e : Exchange) → option_map
 exchange_after s None e is = cc
 exchange_after s (Some line) e is = (line, exchange_leaves s line e is)
 
-pub exchange_extends : (s : State) (text : List ℕ) (e : Exchange) → exchange_at s text ≡ Some e → Extends s.history e.after.history
+pub exchange_extends : (s : State) (text : List ℕ) (e : Exchange) → exchange_at s text ≡ Some e → Extends (history_of s) (history_of e.after)
 exchange_extends s text e is =
     let line = exchange_after s (line_of text) e is in
-    subst (λ (after : State). Extends s.history after.history) (sym line.1) (line_extends s line.0)
+    subst (λ (after : State). Extends (history_of s) (history_of after)) (sym line.1) (line_extends s line.0)
 
-behind_extends : (s : State) (text : List ℕ) (o : Option Exchange) → exchange_at s text ≡ o → Extends s.history (state_behind s o).history
-behind_extends s text None is = extends_itself s.history
+behind_extends : (s : State) (text : List ℕ) (o : Option Exchange) → exchange_at s text ≡ o → Extends (history_of s) (history_of (state_behind s o))
+behind_extends s text None is = extends_itself (history_of s)
 behind_extends s text (Some e) is = exchange_extends s text e is
 
-pub text_extends : (s : State) (text : List ℕ) → Extends s.history (state_behind s (exchange_at s text)).history
+pub text_extends : (s : State) (text : List ℕ) → Extends (history_of s) (history_of (state_behind s (exchange_at s text)))
 text_extends s text = behind_extends s text (exchange_at s text) refl
 
 -- the state behind the first line
@@ -52,16 +52,16 @@ pub first_behind : (s : State) (text : List ℕ) (texts : List (List ℕ)) → l
 first_behind s text texts = one_behind s (λ e. exchanges_from e.after texts) (exchange_at s text)
 
 first_extends : (s : State) (text : List ℕ) (texts : List (List ℕ)) (m : ℕ) (o : Option Exchange) → exchange_at s text ≡ o
-    → ((after : State) → Extends after.history (last_state after (take m (exchanges_from after texts))).history)
-    → Extends s.history (last_state s (take (suc m) (and_later (λ e. exchanges_from e.after texts) o))).history
-first_extends s text texts m None is later = extends_itself s.history
-first_extends s text texts m (Some e) is later = extends_then s.history e.after.history (last_state e.after (take m (exchanges_from e.after texts))).history (exchange_extends s text e is) (later e.after)
+    → ((after : State) → Extends (history_of after) (history_of (last_state after (take m (exchanges_from after texts)))))
+    → Extends (history_of s) (history_of (last_state s (take (suc m) (and_later (λ e. exchanges_from e.after texts) o))))
+first_extends s text texts m None is later = extends_itself (history_of s)
+first_extends s text texts m (Some e) is later = extends_then (history_of s) (history_of e.after) (history_of (last_state e.after (take m (exchanges_from e.after texts)))) (exchange_extends s text e is) (later e.after)
 
 -- the exchanges of some lines leave no less than there was
-pub exchanges_extend : (texts : List (List ℕ)) (s : State) (m : ℕ) → Extends s.history (last_state s (take m (exchanges_from s texts))).history
-exchanges_extend [] s zero = extends_itself s.history
-exchanges_extend [] s (suc m) = extends_itself s.history
-exchanges_extend (text ∷ texts) s zero = extends_itself s.history
+pub exchanges_extend : (texts : List (List ℕ)) (s : State) (m : ℕ) → Extends (history_of s) (history_of (last_state s (take m (exchanges_from s texts))))
+exchanges_extend [] s zero = extends_itself (history_of s)
+exchanges_extend [] s (suc m) = extends_itself (history_of s)
+exchanges_extend (text ∷ texts) s zero = extends_itself (history_of s)
 exchanges_extend (text ∷ texts) s (suc m) = first_extends s text texts m (exchange_at s text) refl (λ after. exchanges_extend texts after m)
 
 -- ---- disks
@@ -87,14 +87,14 @@ module _ {D : Type 0} (g : Ghosts D) (watched : IsWatched g) (holds : Holding) (
       (leaves_weaker (ShowsBetween shows less more) (ShowsBetween shows least most) (between_wider shows stays least less more most lower upper))
 
   -- nothing was done
-  pub rests : (s : State) (disk : D) → HoldsState g holds s disk → CrashesShow g shows disk disk s.history s.history
+  pub rests : (s : State) (disk : D) → HoldsState g holds s disk → CrashesShow g shows disk disk (history_of s) (history_of s)
   rests s disk held =
       let (state, is, here) = held.there in
-      waits g (Leaves (ShowsBetween shows s.history s.history)) watched.only_now disk state is
-      (leaves_weaker (λ (image : Image). shows image s.history (last_number s.history)) (ShowsBetween shows s.history s.history) (between_exactly shows s.history) state (exactly.leaves s state here))
+      waits g (Leaves (ShowsBetween shows (history_of s) (history_of s))) watched.only_now disk state is
+      (leaves_weaker (λ (image : Image). shows image (history_of s) (last_number (history_of s))) (ShowsBetween shows (history_of s) (history_of s)) (between_exactly shows (history_of s)) state (exactly.leaves s state here))
 
-  pub rests_until : (s : State) (most : History) → Extends s.history most → (disk : D) → HoldsState g holds s disk → CrashesShow g shows disk disk s.history most
-  rests_until s most extends disk held = goes_wider disk disk s.history s.history s.history most (extends_itself s.history) extends (rests s disk held)
+  pub rests_until : (s : State) (most : History) → Extends (history_of s) most → (disk : D) → HoldsState g holds s disk → CrashesShow g shows disk disk (history_of s) most
+  rests_until s most extends disk held = goes_wider disk disk (history_of s) (history_of s) (history_of s) most (extends_itself (history_of s)) extends (rests s disk held)
 
   -- one after the other
   pub goes_then : (a b c : D) (least mid most : History) → Extends least mid → Extends mid most → CrashesShow g shows a b least mid → CrashesShow g shows b c mid most → CrashesShow g shows a c least most
@@ -119,7 +119,7 @@ module _ {D : Type 0} (g : Ghosts D) (watched : IsWatched g) (holds : Holding) (
   at_end old new least most goes (state, is, may) = (state, is, goes.each state (watched.counts_now new state (g.moment old) is goes.time.later))
 
   -- the run ended before a line was answered
-  pub ends_within : (old new : D) (ending : Ending) (least most : State) → CrashesShow g shows old new least.history most.history → Tells g new MayOpen
+  pub ends_within : (old new : D) (ending : Ending) (least most : State) → CrashesShow g shows old new (history_of least) (history_of most) → Tells g new MayOpen
       → ((Rose (g.faults old) (g.faults new) → ⊥) → HoldsCommits g holds least new ⊎ HoldsCommits g holds most new)
       → (ending ≡ NoMemory → HoldsCommits g holds least new) → (IsBetweenLines (culprit_of ending) → HoldsCounted g holds least new) → (CutsAnswer ending → HoldsCounted g holds most new)
       → (culprit_of ending ≡ TheDisk → IsTrue g.fails_cleanly → StopsWithin g stops least most old new)
@@ -127,7 +127,7 @@ module _ {D : Type 0} (g : Ghosts D) (watched : IsWatched g) (holds : Holding) (
   ends_within old new ending least most goes tells settled no_memory whole cut stopped = record {
     crash_during = goes;
     line_by_line = tt;
-    crash_after = at_end old new least.history most.history goes tells;
+    crash_after = at_end old new (history_of least) (history_of most) goes tells;
     without_fault = λ sound. inr (settled sound);
     no_memory = λ out. inr (no_memory out);
     between_lines = whole;
@@ -137,18 +137,18 @@ module _ {D : Type 0} (g : Ghosts D) (watched : IsWatched g) (holds : Holding) (
   }
 
   -- it still holds what it held
-  pub ends_unchanged : (old new : D) (ending : Ending) (least most : State) → CrashesShow g shows old new least.history most.history → Tells g new MayOpen → HoldsCounted g holds least new
+  pub ends_unchanged : (old new : D) (ending : Ending) (least most : State) → CrashesShow g shows old new (history_of least) (history_of most) → Tells g new MayOpen → HoldsCounted g holds least new
       → (CutsAnswer ending → HoldsCounted g holds most new) → (culprit_of ending ≡ TheDisk → ⊥) → DiskEnds g holds shows stops ⊥ ⊥ old new (record { ending = ending; first = least; answered = []; most = most })
   ends_unchanged old new ending least most goes tells held cut sound = ends_within old new ending least most goes tells (λ sound. inl (its_commits least new held)) (λ out. its_commits least new held) (λ whole. held) cut (λ fault. absurd (sound fault))
 
   -- the disk was left alone
-  pub ends_untouched : (s most : State) → Extends s.history most.history → (disk : D) (ending : Ending) → LeavesDisk ending → HoldsState g holds s disk
+  pub ends_untouched : (s most : State) → Extends (history_of s) (history_of most) → (disk : D) (ending : Ending) → LeavesDisk ending → HoldsState g holds s disk
       → DiskEnds g holds shows stops ⊥ ⊥ disk disk (record { ending = ending; first = s; answered = []; most = most })
   ends_untouched s most extends disk ending (none, sound) held =
-      ends_unchanged disk disk ending s most (rests_until s most.history extends disk held) (opens_again s disk held) (it_holds s disk held) (λ cuts. absurd (none cuts)) sound
+      ends_unchanged disk disk ending s most (rests_until s (history_of most) extends disk held) (opens_again s disk held) (it_holds s disk held) (λ cuts. absurd (none cuts)) sound
 
   -- the last line was answered
-  pub ends_answered : (old new : D) (ending : Ending) (before : State) (e : Exchange) → (culprit_of ending ≡ TheDisk → ⊥) → CrashesShow g shows old new before.history e.after.history → HoldsState g holds e.after new → g.faults new ≡ g.faults old
+  pub ends_answered : (old new : D) (ending : Ending) (before : State) (e : Exchange) → (culprit_of ending ≡ TheDisk → ⊥) → CrashesShow g shows old new (history_of before) (history_of e.after) → HoldsState g holds e.after new → g.faults new ≡ g.faults old
       → DiskEnds g holds shows stops ⊥ ⊥ old new (record { ending = ending; first = before; answered = e ∷ []; most = e.after })
   ends_answered old new ending before e sound goes held steady =
       let there = it_holds e.after new held in
@@ -156,7 +156,7 @@ module _ {D : Type 0} (g : Ghosts D) (watched : IsWatched g) (holds : Holding) (
       record {
         crash_during = goes;
         line_by_line = (new, record { before = goes; held = there; steady = steady; behind = rest }, tt);
-        crash_after = at_end new new e.after.history e.after.history rest (opens_again e.after new held);
+        crash_after = at_end new new (history_of e.after) (history_of e.after) rest (opens_again e.after new held);
         without_fault = λ sound. inr (inl (its_commits e.after new there));
         no_memory = λ out. inr (its_commits e.after new there);
         between_lines = λ whole. there;
@@ -182,9 +182,9 @@ module _ {D : Type 0} (g : Ghosts D) (watched : IsWatched g) (holds : Holding) (
   }
 
   -- a run that began earlier, and had answered some lines
-  pub ends_later : (unopened failed_to_open : Type 0) (first old new : D) (ending : Ending) (start before most : State) (answered whole : List Exchange) → Extends start.history before.history → Extends before.history most.history → g.faults old ≡ g.faults first
-      → CrashesShow g shows first old start.history before.history
-      → (CrashesShow g shows old new before.history most.history → GoesAlong g holds shows new most old before answered → GoesAlong g holds shows new most first start whole)
+  pub ends_later : (unopened failed_to_open : Type 0) (first old new : D) (ending : Ending) (start before most : State) (answered whole : List Exchange) → Extends (history_of start) (history_of before) → Extends (history_of before) (history_of most) → g.faults old ≡ g.faults first
+      → CrashesShow g shows first old (history_of start) (history_of before)
+      → (CrashesShow g shows old new (history_of before) (history_of most) → GoesAlong g holds shows new most old before answered → GoesAlong g holds shows new most first start whole)
       → last_state before answered ≡ last_state start whole
       → DiskEnds g holds shows stops ⊥ ⊥ old new (record { ending = ending; first = before; answered = answered; most = most })
       → DiskEnds g holds shows stops unopened failed_to_open first new (record { ending = ending; first = start; answered = whole; most = most })
@@ -195,9 +195,9 @@ module _ {D : Type 0} (g : Ghosts D) (watched : IsWatched g) (holds : Holding) (
       let counted : HoldsCounted g holds (last_state before answered) new → HoldsCounted g holds (last_state start whole) new =
       λ (held : HoldsCounted g holds (last_state before answered) new). subst (λ (s : State). HoldsCounted g holds s new) same held in
       record {
-        crash_during = goes_then first old new start.history before.history most.history lower upper so_far ends.crash_during;
+        crash_during = goes_then first old new (history_of start) (history_of before) (history_of most) lower upper so_far ends.crash_during;
         line_by_line = longer ends.crash_during ends.line_by_line;
-        crash_after = (ends.crash_after.0, ends.crash_after.1, subst (λ (s : State). Leaves (ShowsBetween shows s.history most.history) ends.crash_after.0) same ends.crash_after.2);
+        crash_after = (ends.crash_after.0, ends.crash_after.1, subst (λ (s : State). Leaves (ShowsBetween shows (history_of s) (history_of most)) ends.crash_after.0) same ends.crash_after.2);
         without_fault = λ sound. ⊎_elim
             (λ (never : ⊥). absurd never)
             (λ (there : HoldsCommits g holds (last_state before answered) new ⊎ HoldsCommits g holds most new). inr (⊎_elim

@@ -1,8 +1,7 @@
 -- Where memory ran out, no disk failed.
-use Rattle.std.proofs.Common.{◌≡◌, ℕ, Result, Ok, Err, sym, ◌∙◌, ap, subst}
+use Rattle.std.proofs.Common.{◌≡◌, Result, Ok, Err, sym, ◌∙◌, ap, subst}
 use Rattle.std.specs.Prelude.{IfErr, IsErrAnd}
-use Rattle.vl_disk.specs.declared.name.Name.{Name}
-use Rattle.vl_replay.specs.Halts.{HaltsByDisk}
+use Rattle.vl_replay.specs.Halts.{HaltsByDisk, HaltsByRead}
 use Rattle.vl_replay.specs.declared.fails.Halt.{Halt}
 use Rattle.vl_replay.specs.declared.fails.Halt.TheVariants as why
 
@@ -11,28 +10,32 @@ pub not_by_disk : {T : Type 0} (result : Result T Halt) → IfErr result (λ hal
 not_by_disk (Ok answer) out by = by
 not_by_disk (Err why.NoMemory) out by = by
 not_by_disk (Err (why.Disk name)) out by = cc
+not_by_disk (Err (why.Read name)) out by = by
 not_by_disk (Err (why.Damaged name place)) out by = by
 
 pub out_not_by_disk : {T : Type 0} (result : Result T Halt) → IsErrAnd result (λ halt. halt ≡ why.NoMemory) → HaltsByDisk result → ⊥
 out_not_by_disk (Ok answer) out by = by
 out_not_by_disk {T} (Err halt) out by = not_by_disk {T = T} (Err halt) out by
 
--- nor by damage
-pub out_undamaged : {T : Type 0} (result : Result T Halt) → IsErrAnd result (λ halt. halt ≡ why.NoMemory) → (name : Name) (place : ℕ) → result ≡ Err (why.Damaged name place) → ⊥
-out_undamaged (Ok answer) out name place is = cc
-out_undamaged (Err halt) out name place is = cc
+-- nor by a read
+pub out_readable : {T : Type 0} (result : Result T Halt) → IsErrAnd result (λ halt. halt ≡ why.NoMemory) → HaltsByRead result → ⊥
+out_readable (Ok answer) out by = by
+out_readable (Err why.NoMemory) out by = by
+out_readable (Err (why.Disk name)) out by = by
+out_readable (Err (why.Read name)) out by = cc
+out_readable (Err (why.Damaged name place)) out by = cc
 
 -- a halt that is handed on is the same
 pub by_disk_still : {T U : Type 0} (carried : Result U Halt) (result : Result T Halt) (halt : Halt) → carried ≡ Err halt → IsErrAnd result (λ other. other ≡ halt) → HaltsByDisk result → HaltsByDisk carried
 by_disk_still carried (Ok answer) halt was is by = absurd by
 by_disk_still {U = U} carried (Err why.NoMemory) halt was is by = absurd by
+by_disk_still {U = U} carried (Err (why.Read name)) halt was is by = absurd by
 by_disk_still {U = U} carried (Err (why.Damaged name place)) halt was is by = absurd by
 by_disk_still {U = U} carried (Err (why.Disk name)) halt was is by = subst (λ (r : Result U Halt). HaltsByDisk r) (ap Err is ∙ sym was) tt
 
-err_same : {T : Type 0} (a b : Halt) → ◌≡◌ {A = Result T Halt} (Err a) (Err b) → a ≡ b
-err_same a b e = cc
-
-pub damage_still : {T U : Type 0} (carried : Result U Halt) (result : Result T Halt) (halt : Halt) (name : Name) (place : ℕ) → carried ≡ Err halt → IsErrAnd result (λ other. other ≡ halt)
-    → result ≡ Err (why.Damaged name place) → carried ≡ Err (why.Damaged name place)
-damage_still carried (Ok answer) halt name place was same is = absurd (cc)
-damage_still {T = T} carried (Err other) halt name place was same is = was ∙ ap Err (sym same ∙ err_same {T = T} other (why.Damaged name place) is)
+pub by_read_still : {T U : Type 0} (carried : Result U Halt) (result : Result T Halt) (halt : Halt) → carried ≡ Err halt → IsErrAnd result (λ other. other ≡ halt) → HaltsByRead result → HaltsByRead carried
+by_read_still carried (Ok answer) halt was is by = absurd by
+by_read_still carried (Err why.NoMemory) halt was is by = absurd by
+by_read_still carried (Err (why.Disk name)) halt was is by = absurd by
+by_read_still {U = U} carried (Err (why.Read name)) halt was is by = subst (λ (r : Result U Halt). HaltsByRead r) (ap Err is ∙ sym was) tt
+by_read_still {U = U} carried (Err (why.Damaged name place)) halt was is by = subst (λ (r : Result U Halt). HaltsByRead r) (ap Err is ∙ sym was) tt

@@ -31,9 +31,9 @@ use Rattle.vl_recover.specs.opening.Walk.{StandingLog}
 use Rattle.vl_replay.specs.Opening.{IsRefused}
 use Rattle.vl_replay.specs.Reopens.{NamesUpTo, Reopens}
 use Rattle.vl_replay.specs.Start.{OpensUpTo, StartsIn}
-use Rattle.vl_replay.specs.laws.StartLaws.{past, reopened, starts_shown}
+use Rattle.vl_replay.specs.laws.StartLaws.{past, reopened_store, starts_shown}
 use Rattle.vl_replay.specs.Stopped.{AreNumberedUpTo}
-use Rattle.vl_replay.specs.Stored.{Shown}
+use Rattle.vl_engine.specs.Shown.{Shown}
 use Rattle.vl_replay.specs.declared.fails.Refusal.{Refusal}
 use Rattle.vl_replay.proofs.Openings.Recovering.{refused_not}
 
@@ -274,7 +274,7 @@ module _ {D : Type 0} (g : Ghosts D) (disk : D) (image : Image) (state : DiskSta
     (told : g.told disk ≡ Some state) (started : Started image state) (again : Reopens image h m) where
   -- A run over the disk that is started from it begins with what the history has at its number,
   pub reopens_starts : (files : ℕ) → OpensUpTo files state again.found
-      → StartsIn g disk (reopened again.found h m (after_calls (calls_to_open again.found (length again.strays)) (g.calls disk)) files)
+      → StartsIn g disk (reopened_store again.found h m (after_calls (calls_to_open again.found (length again.strays)) (g.calls disk)) files)
   reopens_starts files up_to = starts_shown g disk state image again.found again.strays h m files told (started_read image state started)
       again.unused again.are_strays again.shown up_to
 

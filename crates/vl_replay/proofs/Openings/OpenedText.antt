@@ -7,7 +7,7 @@ use Rattle.std.proofs.lemmas.List.{drop_more}
 use Rattle.vl_replay.specs.ShownRows.{WinnersHave}
 use Rattle.vl_memtable.specs.Contents.{Contents, GiveAll, all_of}
 use Rattle.vl_merge.specs.Merging.{IsAlong}
-use Rattle.vl_model.specs.History.{contents_at}
+use Rattle.vl_model.specs.History.{History, contents_at}
 use Rattle.vl_model.specs.laws.HistoryLaws.{get-contents_at}
 use Rattle.vl_model.specs.laws.WinnerLaws.{winner-append, winner-in_order}
 use Rattle.vl_model.specs.Winners.{newest_of, resolved_at, winner}
@@ -15,11 +15,9 @@ use Rattle.vl_model.specs.declared.entry.Entry.{Entry}
 use Rattle.vl_model.specs.declared.way.Way.TheVariants.{Up}
 use Rattle.vl_memtable.specs.declared.frozen_log.FrozenLog.{FrozenLog}
 use Rattle.vl_run.specs.Order.{along}
-use Rattle.vl_seglog.specs.declared.active.ActiveLog.{ActiveLog}
 use Rattle.vl_replay.specs.Contents.{GiveEntries}
-use Rattle.vl_replay.specs.Opened.{IsOpenedStore, entries_in}
-use Rattle.vl_replay.specs.Sequential.{State}
-use Rattle.vl_replay.specs.Stored.{no_logs}
+use Rattle.vl_replay.specs.Opened.{HaveAt, entries_in}
+use Rattle.vl_engine.specs.Shown.{no_logs}
 
 -- ---- source by source
 
@@ -66,10 +64,8 @@ give_next logs i log held sources left now within is same give joined so =
 -- ---- what stands there
 
 -- the winners at the last number have what the history has there
-pub winners_have : (number : ℕ) (frozen : List FrozenLog) (log : ActiveLog) (s : State) (left : List (List Entry)) → GiveEntries (entries_in frozen) left
-    → IsOpenedStore number frozen log s
-    → WinnersHave (contents_at s.history number) number (flat_map (λ (fs : List Entry). fs) left)
-winners_have number frozen log s left give opened key =
-    ap (resolved_at no_logs) (give.winners key number ∙ ap (λ es. winner es key number) opened.entries)
-    ∙ opened.shows.shows.values key number (omega arith) (omega arith)
-    ∙ sym (ap Some (get-contents_at s.history number key))
+pub winners_have : (number : ℕ) (frozen : List FrozenLog) (h : History) (left : List (List Entry)) → GiveEntries (entries_in frozen) left
+    → HaveAt frozen h number
+    → WinnersHave (contents_at h number) number (flat_map (λ (fs : List Entry). fs) left)
+winners_have number frozen h left give have key =
+    ap (resolved_at no_logs) (give.winners key number) ∙ have key ∙ sym (ap Some (get-contents_at h number key))

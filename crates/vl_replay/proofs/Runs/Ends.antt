@@ -2,7 +2,7 @@
 use Rattle.std.proofs.Common.{append_assoc, append-nil, ◌≡◌, ◌≢◌, ◌⊎◌, inl, inr, ⊎_elim, ◌+◌, ◌-◌, ◌^◌, ◌<◌, ℕ, suc, min, List, [], ◌∷◌, ◌++◌, length, take, drop, refl, ap, sym, ◌∙◌, Bool, true, false, arith, subst, zero-le, one-add, cond}
 use Rattle.std.proofs.lemmas.List.{take-append-drop}
 use Rattle.std.proofs.lemmas.Bool.{ne_eqb}
-use Rattle.std.specs.Prelude.{Option, Some, None, codes, ◌==◌, nat_le}
+use Rattle.std.specs.Prelude.{Option, Some, None, codes, unwrap_or, ◌==◌, nat_le}
 use Rattle.std.specs.List.{slice_get}
 use Rattle.std.specs.Option.{option_map}
 use Rattle.std.specs.Fmt.{decimal}
@@ -15,14 +15,14 @@ use Rattle.vl_script.specs.declared.line.Line.{Line as ScriptLine}
 use Rattle.vl_script.specs.declared.answer.Answer.{Answer}
 use Rattle.vl_script.specs.Script.{longest_line}
 use Rattle.vl_script.specs.Script.{text_of, lines_of, line_of}
-use Rattle.vl_replay.specs.Sequential.{State, answer_to, state_after}
+use Rattle.vl_replay.specs.Sequential.{State, answer_to, state_after, answer_text}
 use Rattle.vl_replay.specs.Input.{HasNoLineEnd}
 use Rattle.vl_replay.specs.Exchanges.{Exchange, exchange_at, exchanged, exchanges_from, and_later, answers_text, ended_lines, KeepsUp}
-use Rattle.vl_replay.specs.Endings.{Culprit, NoOne, TheLine, TheWords, TheDisk, TheFiles, TheBytes, Memory, TheSource, TheSink, LastPiece, NoPiece, BadLinePiece, Line, LineFront, AnswerFront, CountsFaultsOf, EndsAs, Evidence, CutsAnswer, culprit_of, end_of, ending_at, last_line, line_at, line_of_piece, line_number, bad_line}
+use Rattle.vl_replay.specs.Endings.{Culprit, NoOne, TheLine, TheWords, TheDisk, TheReader, TheFiles, TheBytes, Memory, TheSource, TheSink, LastPiece, NoPiece, BadLinePiece, Line, LineFront, AnswerFront, CountsFaultsOf, EndsAs, Evidence, CutsAnswer, culprit_of, end_of, ending_at, last_line, line_at, line_of_piece, line_number, bad_line}
 use Rattle.vl_replay.specs.Runs.{Script, exchanges, next_number, IsFront, Stops, Puts, EndsSo}
 use Rattle.vl_replay.specs.Steps.{EndsAtDamage, Finishes, FinishesBy, IsNext, EndsBefore}
 use Rattle.vl_replay.specs.declared.ending.Ending.{Ending}
-use Rattle.vl_replay.specs.declared.ending.Ending.TheVariants.{Complete, Damaged, DiskFault, NoMemory, WriteFault, AnswerCut, Stopped}
+use Rattle.vl_replay.specs.declared.ending.Ending.TheVariants.{Complete, Damaged, DiskFault, NoMemory, ReaderFault, WriteFault, AnswerCut, Stopped}
 use Rattle.vl_replay.specs.declared.ending.OnFault.{OnFault}
 use Rattle.vl_replay.specs.declared.ending.OnFault.TheVariants.{Report, Stop}
 use Rattle.vl_replay.specs.laws.Laws.{ended_lines-cons}
@@ -52,10 +52,9 @@ pub next_answered : (script : Script) (text : List ℕ) → (next : IsNext scrip
 next_answered script text (texts, lines) e is = ap (exchanges_from script.start) lines ∙ exchanges_from-answered script.start text texts e is
 
 -- the exchange that an answered line is
-pub exchange_at-answered : (s : State) (text : List ℕ) (line : ScriptLine) (answer : Answer) → line_of text ≡ Some line → answer ≡ answer_to s line
-    → exchange_at s text ≡ Some (record { before = s; line = line; answer = answer; after = state_after s line })
-exchange_at-answered s text line answer spelled answered =
-    ap (option_map (exchanged s)) spelled ∙ ap (λ (a : Answer). Some (record { before = s; line = line; answer = a; after = state_after s line })) (sym answered)
+pub exchange_at-answered : (s : State) (text : List ℕ) (line : ScriptLine) → line_of text ≡ Some line
+    → exchange_at s text ≡ Some (exchanged s line)
+exchange_at-answered s text line spelled = ap (option_map (exchanged s)) spelled
 
 chosen_false : {A : Type 0} (b : Bool) (x y : A) → b ≡ false → cond b x y ≡ y
 chosen_false true x y e = absurd (cc)
@@ -128,9 +127,9 @@ bad_line_text answered before number line e n text =
 
 -- the sink failed within an answer
 pub answer_cut : (cause : Culprit → Type 0) (script : Script) (text : List ℕ) (left : Option (List ℕ)) (e : Exchange) (held held' : Option (List ℕ)) →
-    IsNext script text → exchange_at script.start text ≡ Some e → TakesPrefix held held' (text_of e.answer) → EndsBefore cause script left AnswerCut held held'
+    IsNext script text → exchange_at script.start text ≡ Some e → TakesPrefix held held' (answer_text e.answer) → EndsBefore cause script left AnswerCut held held'
 answer_cut cause script text left e held held' next is part =
-    let piece = text_of e.answer in
+    let piece = answer_text e.answer in
     record {
       printed = take part.0 piece;
       taken = part.2;
@@ -195,6 +194,7 @@ module _ (cause cause' : Culprit → Type 0) (weaker : (culprit : Culprit) → c
   stops_weaker TheLine h = h
   stops_weaker TheWords h = h
   stops_weaker TheDisk h = weaker TheDisk h
+  stops_weaker TheReader h = h
   stops_weaker TheFiles h = h
   stops_weaker (TheBytes name place) h = h
   stops_weaker Memory h = h
@@ -221,6 +221,7 @@ evidence_weaker A B A' B' f g NoOne c = c
 evidence_weaker A B A' B' f g TheLine c = c
 evidence_weaker A B A' B' f g TheWords c = c
 evidence_weaker A B A' B' f g TheDisk c = g c
+evidence_weaker A B A' B' f g TheReader c = c
 evidence_weaker A B A' B' f g TheFiles c = c
 evidence_weaker A B A' B' f g (TheBytes name place) c = c
 evidence_weaker A B A' B' f g Memory c = c
@@ -256,6 +257,7 @@ module _ (whole rest : Script) (line : List ℕ) (e : Exchange) (parts : whole.b
     stops_later TheLine (at, less) = (ap suc at ∙ sym (ap length longer), let count = ap length lines in omega arith)
     stops_later TheWords h = h
     stops_later TheDisk h = h
+    stops_later TheReader h = h
     stops_later TheFiles h = h
     stops_later (TheBytes name place) h = h
     stops_later Memory h = h
@@ -280,26 +282,26 @@ module _ (whole rest : Script) (line : List ℕ) (e : Exchange) (parts : whole.b
     puts_later culprit AnswerFront piece (x, there, front) = (x, ap (λ (es : List Exchange). slice_get es (suc m)) longer ∙ there, front)
 
     -- a run goes on behind an answered line
-    pub goes_on : (ending : Ending) (printed : List ℕ) → EndsSo cause rest left m ending printed → EndsSo cause whole left (suc m) ending (text_of e.answer ++ printed)
+    pub goes_on : (ending : Ending) (printed : List ℕ) → EndsSo cause rest left m ending printed → EndsSo cause whole left (suc m) ending (answer_text e.answer ++ printed)
     goes_on ending printed ends = record {
       within = let count = ap length longer in let le = ends.within in omega arith;
       piece = ends.piece;
       puts = puts_later (culprit_of ending) (end_of ending).last ends.piece ends.puts;
-      printed_is = ap (λ (p : List ℕ). text_of e.answer ++ p) ends.printed_is
-          ∙ sym (append_assoc (text_of e.answer) (answers_text (take m (exchanges rest))) ends.piece)
+      printed_is = ap (λ (p : List ℕ). answer_text e.answer ++ p) ends.printed_is
+          ∙ sym (append_assoc (answer_text e.answer) (answers_text (take m (exchanges rest))) ends.piece)
           ∙ ap (λ (es : List Exchange). answers_text (take (suc m) es) ++ ends.piece) (sym longer);
     }
 
 -- the input's last line was answered
 pub last_answered : (cause : Culprit → Type 0) (script : Script) (text : List ℕ) (left : Option (List ℕ)) (e : Exchange) →
-    lines_of script.bytes ≡ text ∷ [] → exchange_at script.start text ≡ Some e → left ≡ Some [] → EndsSo cause script left 1 Complete (text_of e.answer)
+    lines_of script.bytes ≡ text ∷ [] → exchange_at script.start text ≡ Some e → left ≡ Some [] → EndsSo cause script left 1 Complete (answer_text e.answer)
 last_answered cause script text left e lines is told =
     let all : exchanges script ≡ e ∷ [] = next_answered script text ([], lines) e is in
     record {
       within = let count = ap length all in omega arith;
       piece = [];
       puts = ((sym (ap length all), sym (ap length lines), told), refl);
-      printed_is = sym (append-nil (text_of e.answer)) ∙ sym (append-nil (text_of e.answer ++ [])) ∙ ap (λ (es : List Exchange). answers_text (take 1 es) ++ []) (sym all);
+      printed_is = sym (append-nil (answer_text e.answer)) ∙ sym (append-nil (answer_text e.answer ++ [])) ∙ ap (λ (es : List Exchange). answers_text (take 1 es) ++ []) (sym all);
     }
 
 -- there is no further line
@@ -336,6 +338,11 @@ pub fault_stops : (cause : Culprit → Type 0) (script : Script) (left : Option 
     → Stops cause script left m (culprit_of (ending_at f))
 fault_stops cause script left m by Report = by
 fault_stops cause script left m by Stop = by
+
+-- where the last line was answered, the run didn't end at a read that failed
+pub last_readable : (ended : Option Ending) (result : Ending) → result ≡ unwrap_or ended Complete → ended ≢ Some ReaderFault → Some result ≢ Some ReaderFault
+last_readable None result is fine by = cc
+last_readable (Some ending) result is fine by = fine (ap Some (sym is) ∙ by)
 
 -- a run that ended by its disk did so as it was to
 pub ends_as : (f : OnFault) (ending : Ending) → (culprit_of ending ≢ TheDisk) ⊎ (ending ≡ ending_at f) → EndsAs f (Some ending)
@@ -410,6 +417,13 @@ damage_counts_sink g old new name place result ends = ⊎_elim
     (λ (met : FinishesBy g old new (Damaged name place) result). finish_counts g old new met.0 (Damaged name place) result (λ e. cc) met.2)
     (λ (short : FinishesBy g old new NoMemory result). finish_counts g old new short.0 NoMemory result (λ e. cc) short.2)
     ends
+
+-- where a run ends by no fault of the disk, it counts none
+pub otherwise_counts : {K : Type 0} (g : sink.Ghosts K) (old new : K) (line : List ℕ) (ending result : Ending) → culprit_of ending ≢ TheDisk
+    → Finishes g old new line ending result → (before now : ℕ) → now ≡ before → CountsFaultsOf TheDisk (Some result) before now
+otherwise_counts g old new line ending result apart finishes before now same =
+    subst (λ (n : ℕ). CountsFaultsOf TheDisk (Some result) before n) (sym same)
+    (counts_none TheDisk result before (or_cut g old new line ending result (λ (e : Ending). culprit_of e ≢ TheDisk) finishes apart (λ e. cc)))
 
 pub damage_counts : {K : Type 0} (g : sink.Ghosts K) (old new : K) (name : Name) (place : ℕ) (result : Ending) → EndsAtDamage g old new name place result
     → (before now : ℕ) → now ≡ before → CountsFaultsOf TheDisk (Some result) before now

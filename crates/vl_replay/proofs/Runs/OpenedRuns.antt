@@ -8,14 +8,15 @@ use Rattle.vl_recover.specs.declared.fails.OpenError.{OpenError}
 use Rattle.vl_recover.specs.declared.fails.OpenError.TheVariants as why
 use Rattle.vl_recover.specs.crash.Starts.{MayOpen}
 use Rattle.vl_script.specs.Script.{lines_of}
-use Rattle.vl_replay.specs.Sequential.{State}
+use Rattle.vl_replay.specs.Sequential.{State, history_of}
 use Rattle.vl_replay.specs.Exchanges.{Exchange, KeepsUp, last_state}
 use Rattle.vl_model.specs.History.{Extends}
 use Rattle.vl_replay.specs.Between.{Showing, Stopping}
 use Rattle.vl_replay.specs.Endings.{Culprit, TheDisk, TheSink, TheSource, CountsFaultsOf, Evidence, CutsAnswer, IsBetweenLines, culprit_of, last_line}
 use Rattle.vl_replay.specs.Runs.{Script, exchanges, next_number, Stops, Course, Outside, EvidenceOf, EndsRun}
 use Rattle.vl_replay.specs.Durable.{Holding, IsAsBefore, LeavesItsHistory, StaysShown, Tells, HoldsState, CrashesShow, GoesAlong, DiskEnds, DiskEndsFrom}
-use Rattle.vl_replay.specs.Opening.{IsFault, ending_unopened, why_refused}
+use Rattle.vl_replay.specs.Opening.{ending_unopened, why_refused}
+use Rattle.vl_engine.specs.Opening.{IsFault}
 use Rattle.vl_replay.specs.declared.fails.Refusal.{Refusal}
 use Rattle.vl_replay.specs.declared.fails.Refusal.TheVariants as refusals
 use Rattle.vl_replay.specs.Steps.{EndsBefore, FinishesBy}
@@ -88,12 +89,12 @@ module _ {D : Type 0} (g : Ghosts D) (watched : IsWatched g) (holds : Holding) (
 
   -- nothing was opened
   pub ends_refused : (ending : Ending) → AnswersNothing ending → EndsBefore (EvidenceOf g first end) script end.left ending first.held end.held → KeepsUp script.bytes end.asked 0
-      → (P → CrashesShow g shows first.disk end.disk script.start.history script.start.history) → (P → Tells g end.disk MayOpen)
+      → (P → CrashesShow g shows first.disk end.disk (history_of script.start) (history_of script.start)) → (P → Tells g end.disk MayOpen)
       → ((Rose (g.faults first.disk) (g.faults end.disk) → ⊥) → IsAsBefore g first.disk end.disk) → (ending ≡ NoMemory → IsAsBefore g first.disk end.disk)
       → EndsRun g SoFar script first end ending
   ends_refused ending (none, none_cut) before kept_up goes tells kept kept_out =
-      let h = script.start.history in
-      let most = (last_state script.start (take 1 (exchanges script))).history in
+      let h = (history_of script.start) in
+      let most = (history_of (last_state script.start (take 1 (exchanges script)))) in
       record {
         answered = 0;
         printed = before.printed;
@@ -117,7 +118,7 @@ module _ {D : Type 0} (g : Ghosts D) (watched : IsWatched g) (holds : Holding) (
 
   -- ---- the store was opened before the first line
 
-  along_opened : (mid new : D) (s most : State) (all : List Exchange) (m : ℕ) → Extends s.history (last_state s (take 1 all)).history → CrashesShow g shows first.disk mid s.history s.history → g.faults mid ≡ g.faults first.disk
+  along_opened : (mid new : D) (s most : State) (all : List Exchange) (m : ℕ) → Extends (history_of s) (history_of (last_state s (take 1 all))) → CrashesShow g shows first.disk mid (history_of s) (history_of s) → g.faults mid ≡ g.faults first.disk
       → GoesAlong g holds shows new most mid s (take m all) → GoesAlong g holds shows new most first.disk s (take m all)
   along_opened mid new s most [] zero extends goes steady along = tt
   along_opened mid new s most [] (suc m) extends goes steady along = tt
@@ -125,7 +126,7 @@ module _ {D : Type 0} (g : Ghosts D) (watched : IsWatched g) (holds : Holding) (
   along_opened mid new s most (e ∷ all) (suc m) extends goes steady (passed, line, later) = (
     passed,
     record {
-      before = goes_then g watched holds shows stops stays exactly first.disk mid passed s.history s.history e.after.history (extends_itself s.history) extends goes line.before;
+      before = goes_then g watched holds shows stops stays exactly first.disk mid passed (history_of s) (history_of s) (history_of e.after) (extends_itself (history_of s)) extends goes line.before;
       held = line.held;
       steady = line.steady ∙ steady;
       behind = line.behind;
@@ -134,7 +135,7 @@ module _ {D : Type 0} (g : Ghosts D) (watched : IsWatched g) (holds : Holding) (
   )
 
   pub ends_opened : (mid : Outside D) (ending : Ending) → mid.source_faults ≡ first.source_faults → mid.held ≡ first.held → g.faults mid.disk ≡ g.faults first.disk
-      → (P → HoldsState g holds script.start mid.disk) → (P → CrashesShow g shows first.disk mid.disk script.start.history script.start.history)
+      → (P → HoldsState g holds script.start mid.disk) → (P → CrashesShow g shows first.disk mid.disk (history_of script.start) (history_of script.start))
       → EndsRun g (DiskEndsFrom g holds shows stops mid.disk end.disk script.start) script mid end ending
       → EndsRun g SoFar script first end ending
   ends_opened mid ending same_faults same_held steady opened goes run =
@@ -154,7 +155,7 @@ module _ {D : Type 0} (g : Ghosts D) (watched : IsWatched g) (holds : Holding) (
         kept_up = run.kept_up;
         disk = λ p.
             ends_later g watched holds shows stops stays exactly (IsAsBefore g first.disk end.disk) (take m all ≡ []) first.disk mid.disk end.disk ending s s (last_state s (take (suc m) all)) (take m all) (take m all)
-            (extends_itself s.history) (extends (suc m)) steady (goes p) (λ _ along. along_opened mid.disk end.disk s (last_state s (take (suc m) all)) all m (extends 1) (goes p) steady along) refl
+            (extends_itself (history_of s)) (extends (suc m)) steady (goes p) (λ _ along. along_opened mid.disk end.disk s (last_state s (take (suc m) all)) all m (extends 1) (goes p) steady along) refl
             (run.disk (opened p));
       }
 

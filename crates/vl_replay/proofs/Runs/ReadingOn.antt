@@ -13,13 +13,13 @@ use Rattle.vl_script.specs.Script.{lines_of, text_of, longest_line}
 use Rattle.vl_script.specs.declared.answer.Answer.{Answer}
 use Rattle.vl_replay.specs.Exchanges.{KeepsUp, ended_lines}
 use Rattle.vl_disk.specs.declared.name.Name.{Name}
-use Rattle.vl_replay.specs.Endings.{bad_line, damage_line, line_number}
+use Rattle.vl_replay.specs.Endings.{bad_line, damage_line, disk_fault_line, line_number}
 use Rattle.vl_replay.specs.Input.{ReadsLine}
 use Rattle.vl_replay.specs.Opening.{ending_unopened}
 use Rattle.vl_replay.specs.Reading.{IsLine, IsNoLine, Streams, TakesAnswers, TakesSome, BeginsBadly, BeginsWell, ReadsInput, HasRead, ReadsOn, EndsBadly, AnswersText}
 use Rattle.vl_replay.specs.Steps.{EndsAtDamage, Finishes, FinishesBy}
 use Rattle.vl_replay.specs.declared.ending.Ending.{Ending}
-use Rattle.vl_replay.specs.declared.ending.Ending.TheVariants.{Complete, BadLine, Damaged, NoMemory, WriteFault}
+use Rattle.vl_replay.specs.declared.ending.Ending.TheVariants.{Complete, BadLine, Damaged, NoMemory, ReaderFault, WriteFault}
 use Rattle.vl_replay.specs.declared.input.lines.Next.TheVariants.{Line as WholeLine, LastLine, TooLong}
 use Rattle.vl_replay.proofs.Runs.Ends.{ended_lines-line, keeps_up_after, takes_both, takes_nothing, or_cut}
 use Rattle.vl_replay.proofs.Runs.Lines.{lines_of-ended, lines_of-unended}
@@ -27,9 +27,9 @@ use Rattle.vl_replay.proofs.Runs.OpenedRuns.{of_unopened}
 
 -- ---- endings
 
--- neither complete, nor at a bad line, nor at damage
+-- neither complete, nor at a bad line, nor at damage or a failed read
 abbrev pub IsOtherwise : Ending → Type 0
-IsOtherwise ending = (ending ≢ Complete) × (ending ≢ BadLine) × ((name : Name) (place : ℕ) → ending ≢ Damaged name place)
+IsOtherwise ending = (ending ≢ Complete) × (ending ≢ BadLine) × ((name : Name) (place : ℕ) → ending ≢ Damaged name place) × (ending ≢ ReaderFault)
 
 pub ends_otherwise : (by met : Type 0) (count : ℕ) (ending : Ending) (held held' : Option (List ℕ)) → TakesSome held held' → IsOtherwise ending → EndsBadly by met count ending held held'
 ends_otherwise by met count ending held held' taken other = record {
@@ -37,11 +37,12 @@ ends_otherwise by met count ending held held' taken other = record {
   incomplete = other.0;
   bad = λ bad. absurd (other.1 bad);
   damaged = λ name place is. absurd (other.2 name place is);
+  unread = λ is. absurd (other.3 is);
 }
 
 -- a last line that couldn't be put is none of them
 pub cut_otherwise : IsOtherwise WriteFault
-cut_otherwise = (λ e. cc, λ e. cc, λ name place e. cc)
+cut_otherwise = (λ e. cc, λ e. cc, λ name place e. cc, λ e. cc)
 
 pub finished_otherwise : {K : Type 0} (g : sink.Ghosts K) (old new : K) (line : List ℕ) (ending result : Ending) → IsOtherwise ending → Finishes g old new line ending result → IsOtherwise result
 finished_otherwise g old new line ending result other finishes = or_cut g old new line ending result IsOtherwise finishes other cut_otherwise
@@ -61,6 +62,9 @@ cut_is_not_bad e = cc
 complete_is_not_damage : (name : Name) (place : ℕ) → Complete ≢ Damaged name place
 complete_is_not_damage name place e = cc
 
+complete_is_read : Complete ≢ ReaderFault
+complete_is_read e = cc
+
 -- by the bad line
 pub finishes_badly : {K : Type 0} (g : sink.Ghosts K) (old new : K) (line : List ℕ) (result : Ending) (count : ℕ) → ((before : ℕ) → count ≡ line_number before → line ≡ bad_line (before + 1))
     → Finishes g old new line BadLine result → EndsBadly (Unit {0}) ⊥ count result (g.held old) (g.held new)
@@ -76,6 +80,7 @@ finishes_badly g old new line result count text finishes = record {
         finishes.how,
   );
   damaged = λ name place is. absurd (or_cut g old new line BadLine result (λ (e : Ending). e ≢ Damaged name place) finishes (λ e. cc) (λ e. cc) is);
+  unread = λ is. absurd (or_cut g old new line BadLine result (λ (e : Ending). e ≢ ReaderFault) finishes (λ e. cc) (λ e. cc) is);
 }
 
 -- by damage
@@ -88,7 +93,7 @@ some_line a b e = cc
 pub finishes_damaged : {K : Type 0} (g : sink.Ghosts K) (old new : K) (name : Name) (place : ℕ) (result : Ending) (by met : Type 0) (count : ℕ) → met
     → EndsAtDamage g old new name place result → EndsBadly by met count result (g.held old) (g.held new)
 finishes_damaged g old new name place result by met count reason ends = ⊎_elim at_damage
-    (λ (out : FinishesBy g old new NoMemory result). finishes_otherwise g old new out.0 NoMemory result by met count (λ e. cc, λ e. cc, λ n x e. cc) out.2)
+    (λ (out : FinishesBy g old new NoMemory result). finishes_otherwise g old new out.0 NoMemory result by met count (λ e. cc, λ e. cc, λ n x e. cc, λ e. cc) out.2)
     ends
   where
     cut_is_not_damage : (n : Name) (x : ℕ) → WriteFault ≢ Damaged n x
@@ -109,7 +114,30 @@ finishes_damaged g old new name place result by met count reason ends = ⊎_elim
             (λ (cut : (result ≡ WriteFault) × IsFront finishes.printed line × Rose (g.faults old) (g.faults new)). absurd (cut_is_not_damage n x (sym cut.0 ∙ is)))
             finishes.how,
       );
+      unread = λ is. absurd (or_cut g old new line (Damaged name place) result (λ (e : Ending). e ≢ ReaderFault) finishes (λ e. cc) (λ e. cc) is);
     }
+
+-- by a read that failed
+pub finishes_unread : {K : Type 0} (g : sink.Ghosts K) (old new : K) (result : Ending) (by met : Type 0) (count : ℕ) → met
+    → Finishes g old new disk_fault_line ReaderFault result → EndsBadly by met count result (g.held old) (g.held new)
+finishes_unread g old new result by met count reason finishes = record {
+  some = (finishes.printed, finishes.taken);
+  incomplete = or_cut g old new disk_fault_line ReaderFault result (λ (e : Ending). e ≢ Complete) finishes (λ e. cc) (λ e. cc);
+  bad = λ bad. absurd (or_cut g old new disk_fault_line ReaderFault result (λ (e : Ending). e ≢ BadLine) finishes (λ e. cc) (λ e. cc) bad);
+  damaged = λ name place is. absurd (or_cut g old new disk_fault_line ReaderFault result (λ (e : Ending). e ≢ Damaged name place) finishes (λ e. cc) (λ e. cc) is);
+  unread = λ is. (
+    reason,
+    ⊎_elim
+        (λ (whole : (result ≡ ReaderFault) × (finishes.printed ≡ disk_fault_line) × (g.faults new ≡ g.faults old)).
+        subst (λ (p : List ℕ). Takes (g.held old) (g.held new) p) whole.1 finishes.taken)
+        (λ (cut : (result ≡ WriteFault) × IsFront finishes.printed disk_fault_line × Rose (g.faults old) (g.faults new)).
+        absurd (cut_is_not_unread (sym cut.0 ∙ is)))
+        finishes.how,
+  );
+}
+  where
+    cut_is_not_unread : WriteFault ≢ ReaderFault
+    cut_is_not_unread e = cc
 
 -- a text that is none of the language has another reason as well
 pub ends_for : (by by' met met' : Type 0) (count : ℕ) (ending : Ending) (held held' : Option (List ℕ)) → (by → by') → (met → met') → EndsBadly by met count ending held held' → EndsBadly by' met' count ending held held'
@@ -118,6 +146,7 @@ ends_for by by' met met' count ending held held' reason meets ends = record {
   incomplete = ends.incomplete;
   bad = λ is. let it = ends.bad is in (reason it.0, it.1);
   damaged = λ name place is. let it = ends.damaged name place is in (meets it.0, it.1);
+  unread = λ is. let it = ends.unread is in (meets it.0, it.1);
 }
 
 chosen_false : {A : Type 0} (b : Bool) (x y : A) → b ≡ false → cond b x y ≡ y
@@ -164,6 +193,7 @@ reads_nothing input old new ending (piece, taken) other kept_up = record {
   complete = λ is. absurd (other.0 is);
   bad = λ is. absurd (other.1 is);
   damaged = λ name place is. absurd (other.2 name place is);
+  unread = λ is. absurd (other.3 is);
   kept_up = kept_up;
 }
 
@@ -172,7 +202,7 @@ pub unopened_reads_nothing : {K : Type 0} (g : sink.Ghosts K) (old new : K) (how
 unopened_reads_nothing g old new how result (line, own, finishes) input begin end seen kept_up =
     reads_nothing input begin end result (seen (finishes.printed, finishes.taken))
     (finished_otherwise g old new line (ending_unopened how) result (of_unopened IsOtherwise
-    (λ refusal. (λ e. cc, λ e. cc, λ name place e. cc)) (λ e. cc, λ e. cc, λ name place e. cc) (λ e. cc, λ e. cc, λ name place e. cc) how) finishes)
+    (λ refusal. (λ e. cc, λ e. cc, λ name place e. cc, λ e. cc)) (λ e. cc, λ e. cc, λ name place e. cc, λ e. cc) (λ e. cc, λ e. cc, λ name place e. cc, λ e. cc) how) finishes)
     kept_up
 
 all_and_one : (texts : List (List ℕ)) (text : List ℕ) → AllByRecursion IsLine texts → IsLine text → AllByRecursion IsLine (texts ++ (text ∷ []))
@@ -210,6 +240,10 @@ module _ (input : List ℕ) (begin old new : Streams) (buffer : List ℕ) (count
       met.0,
       (h.answers, h.as_many, takes_both begin.held old.held new.held (flat_map text_of h.answers) (damage_line name place) h.taken met.1),
     );
+    unread = λ is. let met = ends.unread is in (
+      met.0,
+      (h.answers, h.as_many, takes_both begin.held old.held new.held (flat_map text_of h.answers) disk_fault_line h.taken met.1),
+    );
     kept_up = still kept_up;
   }
 
@@ -224,6 +258,7 @@ module _ (input : List ℕ) (begin old new : Streams) (buffer : List ℕ) (count
     complete = λ is. (refl, told, all);
     bad = λ is. absurd (bad_is_not_complete (sym is));
     damaged = λ name place is. absurd (complete_is_not_damage name place is);
+    unread = λ is. absurd (complete_is_read is);
     kept_up = still kept_up;
   }
     where
@@ -292,6 +327,7 @@ module _ (input : List ℕ) (begin old new : Streams) (buffer : List ℕ) (count
           complete = λ is_complete. (refl, told, all);
           bad = λ is_bad. absurd (bad_is_not_complete (sym is_bad));
           damaged = λ name place is_damage. absurd (complete_is_not_damage name place is_damage);
+          unread = λ is_unread. absurd (complete_is_read is_unread);
           kept_up = still_more (still kept_up);
         })
       where

@@ -12,7 +12,8 @@ use Rattle.vl_recover.specs.laws.opening.OpeningLaws.{single_opening}
 use Rattle.vl_replay.specs.Endings.{refusal_line}
 use Rattle.vl_recover.specs.declared.fails.OpenError.{OpenError}
 use Rattle.vl_recover.specs.declared.fails.OpenError.TheVariants as why
-use Rattle.vl_replay.specs.Opening.{IsFault, IsRefused, AnswersOpening, why_refused}
+use Rattle.vl_replay.specs.Opening.{IsRefused, why_refused}
+use Rattle.vl_engine.specs.Opening.{IsFault, AnswersOpening}
 use Rattle.vl_replay.specs.Steps.{CameFirst, EndsFor, EndsUnopened, Finishes}
 use Rattle.vl_replay.specs.declared.ending.Ending.{Ending}
 use Rattle.vl_replay.specs.declared.ending.Ending.TheVariants.{Refused}

@@ -7,7 +7,7 @@ use Rattle.vl_io.specs.Sink.{Takes}
 use Rattle.vl_script.specs.Script.{text_of, lines_of}
 use Rattle.vl_replay.specs.Between.{Showing, Stopping}
 use Rattle.vl_replay.specs.Input.{ReadsLine}
-use Rattle.vl_replay.specs.Sequential.{State}
+use Rattle.vl_replay.specs.Sequential.{State, answer_text}
 use Rattle.vl_replay.specs.Exchanges.{Exchange, exchange_at, state_behind, exchanges_from, last_state, KeepsUp}
 use Rattle.vl_replay.specs.Endings.{Evidence, line_number}
 use Rattle.vl_replay.specs.Runs.{Script, exchanges, Outside, EvidenceOf, EndsRun}
@@ -125,7 +125,7 @@ module _ {D : Type 0} (g : Ghosts D) (watched : IsWatched g) (holds : Holding) (
         let all : exchanges script ≡ e ∷ [] = next_answered script line ([], lines) e is in
         subst (λ (x : Ending). EndsRun g (DiskEndsFrom g holds shows stops old.disk new.disk script.start) script old new x) (sym r) (record {
           answered = 1;
-          printed = text_of e.answer;
+          printed = answer_text e.answer;
           taken = taken;
           ends = last_answered (EvidenceOf g old new) script line new.left e lines is told;
           kept_up = keeps_up_more script.bytes new.asked 1 kept_up;

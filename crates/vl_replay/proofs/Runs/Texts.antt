@@ -9,13 +9,14 @@ use Rattle.vl_script.specs.declared.answer.Answer.{Answer}
 use Rattle.vl_script.specs.declared.answer.Answer.TheVariants.{Number}
 use Rattle.vl_script.specs.declared.line.Line.{Line}
 use Rattle.vl_script.specs.Script.{line_of}
-use Rattle.vl_replay.specs.Sequential.{State, answer_to, state_after}
+use Rattle.vl_replay.specs.Sequential.{State, answer_to, state_after, history_of, IsTold}
 use Rattle.vl_replay.specs.Exchanges.{exchange_at, exchanged, state_behind}
 use Rattle.vl_disk.specs.declared.name.Name.{Name}
-use Rattle.vl_replay.specs.Halts.{HaltsByDisk}
+use Rattle.vl_replay.specs.Halts.{HaltsByDisk, HaltsByRead}
 use Rattle.vl_replay.specs.Endings.{CutsAnswer, IsBetweenLines, TheDisk, culprit_of, ending_at}
 use Rattle.vl_replay.specs.Durable.{HoldsState, HoldsCommits, LeadsTo, DiskEnds}
-use Rattle.vl_replay.specs.Stored.{IsStopped, IsStored, Shown}
+use Rattle.vl_replay.specs.Stored.{IsStopped, IsStored}
+use Rattle.vl_engine.specs.Shown.{Shown}
 use Rattle.vl_replay.specs.Steps.{Finishes}
 use Rattle.vl_replay.specs.declared.fails.Halt.{Halt}
 use Rattle.vl_replay.specs.declared.fails.Halt.TheVariants as why
@@ -24,8 +25,8 @@ use Rattle.vl_replay.specs.declared.ending.Ending.TheVariants.{NoMemory, AnswerC
 use Rattle.vl_replay.specs.declared.ending.OnFault.{OnFault}
 use Rattle.vl_replay.proofs.Runs.Ends.{at_fault, or_cut}
 use Rattle.vl_replay.proofs.Disk.DiskSteps.{IsWatched, text_extends, rests_until, it_holds, its_commits, opens_again, ends_within, ends_unchanged}
-use Rattle.vl_replay.proofs.Disk.Logged.{shown_stays, stored_exactly}
-use Rattle.vl_replay.proofs.Store.Outcomes.{line_keeps}
+use Rattle.vl_replay.proofs.Disk.Shown.{shown_stays, stored_exactly}
+use Rattle.vl_replay.proofs.Runs.Extending.{line_keeps, told_number}
 
 -- ---- results
 
@@ -55,6 +56,12 @@ same_halt {T = T} r h e is same = sym (subst (λ (x : Result T Halt). IsErrAnd x
 pub halts : {T : Type 0} (r : Result T Halt) (name : Name) → r ≡ Err (why.Disk name) → HaltsByDisk r
 halts {T = T} r name is = subst (λ (x : Result T Halt). HaltsByDisk x) (sym is) tt
 
+pub by_damage : {T : Type 0} (r : Result T Halt) (name : Name) (place : ℕ) → r ≡ Err (why.Damaged name place) → HaltsByRead r
+by_damage {T = T} r name place is = subst (λ (x : Result T Halt). HaltsByRead x) (sym is) tt
+
+pub by_read : {T : Type 0} (r : Result T Halt) (name : Name) → r ≡ Err (why.Read name) → HaltsByRead r
+by_read {T = T} r name is = subst (λ (x : Result T Halt). HaltsByRead x) (sym is) tt
+
 -- ---- the state behind a text
 
 exchange_of : (s : State) (text : List ℕ) (line : Line) → line_of text ≡ Some line → exchange_at s text ≡ Some (exchanged s line)
@@ -76,7 +83,7 @@ module _ {D : Type 0} (g : Ghosts D) (watched : IsWatched g) (s : State) (text :
     answered = on_ok_at_err result _ err;
     no_commit = λ _. (s, refl, held.there);
     tells = opens_again g watched IsStored Shown IsStopped shown_stays stored_exactly s disk held;
-    through = rests_until g watched IsStored Shown IsStopped shown_stays stored_exactly s behind.history (text_extends s text) disk held;
+    through = rests_until g watched IsStored Shown IsStopped shown_stays stored_exactly s (history_of behind) (text_extends s text) disk held;
     stopped = λ by. absurd (sound by);
   }
 
@@ -86,7 +93,7 @@ module _ {D : Type 0} (g : Ghosts D) (watched : IsWatched g) (s : State) (text :
     answered = subst (λ (t : State). HoldsState g IsStored t disk) (sym (bad_behind s text bad)) held;
     no_commit = λ out. absurd (ok_not_out x out);
     tells = opens_again g watched IsStored Shown IsStopped shown_stays stored_exactly s disk held;
-    through = rests_until g watched IsStored Shown IsStopped shown_stays stored_exactly s behind.history (text_extends s text) disk held;
+    through = rests_until g watched IsStored Shown IsStopped shown_stays stored_exactly s (history_of behind) (text_extends s text) disk held;
     stopped = λ by. absurd by;
   }
 
@@ -104,8 +111,8 @@ module _ {D : Type 0} (g : Ghosts D) (watched : IsWatched g) (s : State) (text :
         })
 
     -- the answer to a line that makes no commit found no memory
-    pub kept_without_number : (line : Line) (answer : Answer) → answer ≡ answer_to s line → ((n : ℕ) → answer ≡ Number n → ⊥) → HoldsState g IsStored (state_after s line) new → HoldsCommits g IsStored s new
-    kept_without_number line answer is none held = let kept = line_keeps s line (λ n numbered. none n (is ∙ numbered)) in (state_after s line, kept.history, held.there)
+    pub kept_without_number : (line : Line) (answer : Answer) → IsTold answer (answer_to s line) → ((n : ℕ) → answer ≡ Number n → ⊥) → HoldsState g IsStored (state_after s line) new → HoldsCommits g IsStored s new
+    kept_without_number line answer is none held = (state_after s line, line_keeps s line (λ n numbered. none n (told_number answer (answer_to s line) n is numbered)), held.there)
 
     -- ---- how a run ends there
 
@@ -121,7 +128,7 @@ module _ {D : Type 0} (g : Ghosts D) (watched : IsWatched g) (s : State) (text :
     ends_bad result ending ok sound bad carries =
         let held = of_ok result _ ok carries.answered in
         ends_unchanged g watched IsStored Shown IsStopped shown_stays stored_exactly old new ending s behind carries.through carries.tells
-        (behind, ap (λ (t : State). t.history) (bad_behind s text bad), ap (λ (t : State). t.calls) (bad_behind s text bad), ap (λ (t : State). t.files) (bad_behind s text bad), held) (λ cuts. it_holds g watched IsStored Shown IsStopped shown_stays stored_exactly behind new held) sound
+        (behind, ap (λ (t : State). (history_of t)) (bad_behind s text bad), ap (λ (t : State). t.calls) (bad_behind s text bad), ap (λ (t : State). t.files) (bad_behind s text bad), held) (λ cuts. it_holds g watched IsStored Shown IsStopped shown_stays stored_exactly behind new held) sound
 
     -- memory ran out
     pub ends_out : {T K : Type 0} (k : sink.Ghosts K) (sink_old sink_new : K) (line : List ℕ) (result : Result T Halt) (ending : Ending) → result ≡ Err why.NoMemory → Finishes k sink_old sink_new line NoMemory ending

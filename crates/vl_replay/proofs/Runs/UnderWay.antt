@@ -5,7 +5,7 @@ use Rattle.vl_disk.specs.declared.watched.Watched.{Ghosts}
 use Rattle.vl_disk.specs.Faults.{Rose}
 use Rattle.vl_io.specs.Sink.{Takes}
 use Rattle.vl_script.specs.Script.{text_of, lines_of}
-use Rattle.vl_replay.specs.Sequential.{State}
+use Rattle.vl_replay.specs.Sequential.{State, history_of, answer_text}
 use Rattle.vl_replay.specs.Exchanges.{Exchange, KeepsUp, last_state}
 use Rattle.vl_model.specs.History.{Extends}
 use Rattle.vl_replay.specs.Between.{Showing, Stopping}
@@ -23,8 +23,8 @@ use Rattle.vl_replay.proofs.Disk.DiskSteps.{IsWatched, exchange_extends, exchang
 -- the lines of the rest goes along those of the whole.
 pub record Carried {D : Type 0} (g : Ghosts D) (holds : Holding) (shows : Showing) (first disk : D) (whole rest : Script) : Type 0 where
   pub held : HoldsState g holds rest.start disk
-  pub goes : CrashesShow g shows first disk whole.start.history rest.start.history
-  pub along : (new : D) (most : State) (m : ℕ) → Extends rest.start.history most.history → CrashesShow g shows disk new rest.start.history most.history
+  pub goes : CrashesShow g shows first disk (history_of whole.start) (history_of rest.start)
+  pub along : (new : D) (most : State) (m : ℕ) → Extends (history_of rest.start) (history_of most) → CrashesShow g shows disk new (history_of rest.start) (history_of most)
       → GoesAlong g holds shows new most disk rest.start (take m (exchanges rest))
       → GoesAlong g holds shows new most first whole.start (take (m + rest.before) (exchanges whole))
 
@@ -33,7 +33,7 @@ pub record UnderWay {D : Type 0} (g : Ghosts D) (holds : Holding) (shows : Showi
   pub rest : Script
   pub to_do : HasToDo rest keeps now
   pub so_far : List ℕ
-  pub extends : Extends whole.start.history rest.start.history
+  pub extends : Extends (history_of whole.start) (history_of rest.start)
   pub taken : Takes begin.held now.held so_far
   pub later : (t td : ℕ) (left : Option (List ℕ)) (m : ℕ) (ending : Ending) (printed : List ℕ)
       → EndsSo (Evidence (Rose begin.source_faults t) (Rose (g.faults begin.disk) td)) rest left m ending printed
@@ -62,7 +62,7 @@ module _ {D : Type 0} (g : Ghosts D) (watched : IsWatched g) (holds : Holding) (
           kept_up = keeps_up_at_first input begin.asked (since_asked input is);
         };
         so_far = [];
-        extends = extends_itself start.history;
+        extends = extends_itself (history_of start);
         taken = takes_nothing begin.held;
         later = λ t td left m ending printed run. subst (λ (n : ℕ). EndsSo (Evidence (Rose begin.source_faults t) (Rose (g.faults begin.disk) td)) whole left n ending printed) (none m) run;
         later_kept_up = λ asked m kept_up. subst (KeepsUp input asked) (none m) kept_up;
@@ -84,18 +84,18 @@ module _ {D : Type 0} (g : Ghosts D) (watched : IsWatched g) (holds : Holding) (
         let others = script_of e.after (rest.before + 1) s.later in
         let on : (m : ℕ) → suc m + rest.before ≡ m + (rest.before + 1) = λ m. omega arith in
         let all : exchanges rest ≡ e ∷ exchanges others = longer rest others s.text e s.bytes_are s.unended s.exchange_is refl refl in
-        let step : Extends rest.start.history e.after.history = exchange_extends rest.start s.text e s.exchange_is in
+        let step : Extends (history_of rest.start) (history_of e.after) = exchange_extends rest.start s.text e s.exchange_is in
         record {
           rest = others;
           to_do = s.to_do;
-          so_far = u.so_far ++ text_of e.answer;
-          extends = extends_then start.history rest.start.history e.after.history u.extends step;
-          taken = takes_both begin.held now.held next.held u.so_far (text_of e.answer) u.taken s.taken;
+          so_far = u.so_far ++ answer_text e.answer;
+          extends = extends_then (history_of start) (history_of rest.start) (history_of e.after) u.extends step;
+          taken = takes_both begin.held now.held next.held u.so_far (answer_text e.answer) u.taken s.taken;
           later = λ t td left m ending printed run.
               let evidence = Evidence (Rose begin.source_faults t) (Rose (g.faults begin.disk) td) in
-              subst (λ (n : ℕ). EndsSo evidence whole left n ending ((u.so_far ++ text_of e.answer) ++ printed)) (on m)
-              (subst (λ (p : List ℕ). EndsSo evidence whole left (suc m + rest.before) ending p) (sym (append_assoc u.so_far (text_of e.answer) printed))
-              (u.later t td left (suc m) ending (text_of e.answer ++ printed)
+              subst (λ (n : ℕ). EndsSo evidence whole left n ending ((u.so_far ++ answer_text e.answer) ++ printed)) (on m)
+              (subst (λ (p : List ℕ). EndsSo evidence whole left (suc m + rest.before) ending p) (sym (append_assoc u.so_far (answer_text e.answer) printed))
+              (u.later t td left (suc m) ending (answer_text e.answer ++ printed)
               (goes_on rest others s.text e s.bytes_are s.unended s.exchange_is refl refl evidence left m ending printed run)));
           later_kept_up = λ asked m kept. subst (KeepsUp input asked) (on m) (u.later_kept_up asked (suc m) (keeps_up_behind rest.bytes s.text s.later asked m s.bytes_are s.unended kept));
           later_state = λ m.
@@ -107,11 +107,11 @@ module _ {D : Type 0} (g : Ghosts D) (watched : IsWatched g) (holds : Holding) (
               let moves = s.moves c.held in
               record {
                 held = moves.held;
-                goes = goes_then g watched holds shows stops stays exactly begin.disk now.disk next.disk start.history rest.start.history e.after.history u.extends step c.goes moves.through;
+                goes = goes_then g watched holds shows stops stays exactly begin.disk now.disk next.disk (history_of start) (history_of rest.start) (history_of e.after) u.extends step c.goes moves.through;
                 along = λ new most k extends goes along.
                     subst (λ (j : ℕ). GoesAlong g holds shows new most begin.disk start (take j (exchanges whole))) (on k)
-                    (c.along new most (suc k) (extends_then rest.start.history e.after.history most.history step extends)
-                    (goes_then g watched holds shows stops stays exactly now.disk next.disk new rest.start.history e.after.history most.history step extends moves.through goes)
+                    (c.along new most (suc k) (extends_then (history_of rest.start) (history_of e.after) (history_of most) step extends)
+                    (goes_then g watched holds shows stops stays exactly now.disk next.disk new (history_of rest.start) (history_of e.after) (history_of most) step extends moves.through goes)
                     (subst (λ (es : List Exchange). GoesAlong g holds shows new most now.disk rest.start (take (suc k) es)) (sym all)
                     (next.disk, record { before = moves.through; held = it_holds g watched holds shows stops stays exactly e.after next.disk moves.held; steady = moves.steady; behind = goes }, along)));
               };

@@ -52,10 +52,10 @@ use Rattle.vl_recover.specs.laws.crash.Torn.{torn_manifest}
 use Rattle.vl_recover.specs.opening.Walk.{StandingLog}
 use Rattle.vl_seglog.specs.Frames.{frames_grammar, log_header}
 use Rattle.vl_replay.specs.Reopens.{NamesUpTo, Reopens}
-use Rattle.vl_replay.specs.laws.StartLaws.{finds_nothing, not_there, shows_nothing, started_durable}
+use Rattle.vl_replay.specs.laws.StartLaws.{finds_nothing, not_there, shown_nothing, started_durable}
 use Rattle.vl_replay.specs.Stopped.{AreNumberedUpTo}
 use Rattle.vl_replay.proofs.Openings.NumbersLeft.{names_left, numbers_left, reopens_by}
-use Rattle.vl_replay.proofs.Openings.Starting.{opening_shows}
+use Rattle.vl_engine.specs.laws.ShownLaws.{opening_shown}
 
 -- ---- frames stand where they are spelled
 
@@ -292,8 +292,8 @@ module _ (now : DiskState) (small : IsSmall now) (manifest : IsFirstManifest now
   -- and the image opens again, without commits
   small_reopens : Reopens image no_history 0
   small_reopens = reopens_by 1 image names no_history 0
-      (opening_shows empty_disk (started_durable empty empty_disk started_empty) empty is_read finds_nothing no_history shows_nothing
-      now as_of image left)
+      (opening_shown empty_disk now empty no_history 0
+      (λ image left. (started_durable empty empty_disk started_empty).as_read empty image is_read left) shown_nothing as_of image left)
       (λ found. let fresh = opens_fresh found.opening found.opens in
       numbers_left 1 (omega arith) image names found
       (subst (λ (s : ManifestState). s.head ≤ 2) fresh (omega arith)) (subst (λ (s : ManifestState). s.next_log ≤ 2) fresh (omega arith)))

@@ -29,13 +29,18 @@ use Rattle.vl_recover.specs.declared.fails.OpenError.TheVariants as why
 use Rattle.vl_recover.specs.declared.parts.Parts.{Parts}
 use Rattle.vl_replay.specs.Durable.{HoldsState, Tells}
 use Rattle.vl_replay.specs.Endings.{no_memory_line}
-use Rattle.vl_replay.specs.Opened.{IsOpenedStore}
-use Rattle.vl_replay.specs.Opening.{AnswersOpening, IsFault, IsRefused, disk_behind, ending_unopened, why_of}
+use Rattle.vl_replay.specs.Opened.{HaveAt}
+use Rattle.vl_replay.specs.Opening.{IsRefused, disk_behind, ending_unopened}
+use Rattle.vl_engine.specs.Opening.{AnswersOpening, IsFault, why_of}
+use Rattle.std.specs.Prelude.{Option as Maybe}
+use Rattle.vl_mem.specs.CrashImage.{crash_image}
+use Rattle.vl_model.specs.History.{last_number}
 use Rattle.vl_replay.specs.Reopens.{Reopens}
 use Rattle.vl_replay.specs.Replaying.{StandsFor, disk_of}
-use Rattle.vl_replay.specs.Sequential.{State}
-use Rattle.vl_replay.specs.Start.{IsDurable, OpensUpTo, StartsIn}
-use Rattle.vl_replay.specs.laws.StartLaws.{finds_nothing, gone_on_from, opens_up_to, reopened, started_durable, starts_empty}
+use Rattle.vl_replay.specs.Sequential.{State, history_of}
+use Rattle.vl_replay.specs.Start.{OpensUpTo, StartsIn}
+use Rattle.vl_engine.specs.Opening.{IsDurable}
+use Rattle.vl_replay.specs.laws.StartLaws.{finds_nothing, no_commits, opens_up_to, started_durable, starts_empty}
 use Rattle.vl_replay.specs.Steps.{EndsUnopened, Finishes, FinishesBy}
 use Rattle.vl_replay.specs.Stored.{IsStored}
 use Rattle.vl_replay.specs.Trial.{begun}
@@ -47,7 +52,7 @@ use Rattle.vl_replay.specs.declared.fails.Refusal.TheVariants as refusals
 use Rattle.vl_replay.specs.declared.replayer.Replayer.{Replayer}
 use Rattle.vl_replay.proofs.Openings.NumbersLeft.{reopens_not_refused, reopens_starts}
 use Rattle.vl_replay.proofs.Trials.OpeningStopped.{opening_reopens}
-use Rattle.vl_replay.proofs.Openings.Recovering.{opened_store}
+use Rattle.vl_replay.proofs.Openings.Recovering.{opened_have, opened_number}
 use Rattle.vl_replay.proofs.Runs.Refusals.{opened_not_refused}
 
 some_list : (a b : List ℕ) → Some a ≡ Some b → a ≡ b
@@ -77,12 +82,13 @@ module _ (stop : ℕ) (disk : MemDisk) (told : told_by disk ≡ Some empty_disk)
       (r : Result (Replayer MemDisk Held Reader Writer watched held cloned read write) (OpenFail MemDisk))
       → HasCause (faults_of disk) (faults_of (disk_behind r)) (IsFault (why_of r))
       → HoldsThroughout memory.ghosts disk (disk_behind r) (IsMeanwhile empty empty_disk)
-      → IfOk r (λ replayer. StandsFor replayer begun) → IfOk r (λ replayer. HoldsState memory.ghosts IsStored begun (disk_of replayer))
-      → IfOk r (λ replayer. IsOnTrial stop (StandsFor replayer) (disk_of replayer))
-  opened (Ok replayer) cause meanwhile stands holds =
+      → (bytes : Held → Maybe (List ℕ)) → IfOk r (λ replayer. StandsFor bytes replayer begun)
+      → IfOk r (λ replayer. HoldsState memory.ghosts IsStored begun (disk_of replayer))
+      → IfOk r (λ replayer. IsOnTrial stop (StandsFor bytes replayer) (disk_of replayer))
+  opened (Ok replayer) cause meanwhile bytes stands holds =
       let past_then = meanwhile.time.as_planned (Some stop) past in
-      let sound_then : faults_of replayer.disk ≡ 0 = cause.steady (λ by. by) ∙ sound in
-      let counts = counted_past replayer.disk (Some stop) past_then in
+      let sound_then : faults_of (disk_of replayer) ≡ 0 = cause.steady (λ by. by) ∙ sound in
+      let counts = counted_past (disk_of replayer) (Some stop) past_then in
       record {
         stands_for = stands;
         held = holds;
@@ -90,7 +96,7 @@ module _ (stop : ℕ) (disk : MemDisk) (told : told_by disk ≡ Some empty_disk)
         sound = sound_then;
         opened = omega (arith, counts.at_least, sound_then, holds.calls);
       }
-  opened (Err fail) cause meanwhile stands holds = tt
+  opened (Err fail) cause meanwhile bytes stands holds = tt
 
   pub stopped : {Held Reader Writer : Type 0} {watched : _} {held : _} {cloned : _} {read : _} {write : _}
       (r : Result (Replayer MemDisk Held Reader Writer watched held cloned read write) (OpenFail MemDisk))
@@ -115,8 +121,9 @@ module _ (stop : ℕ) (disk : MemDisk) (told : told_by disk ≡ Some empty_disk)
           let exactly = (counted_past fail.disk (Some stop) (meanwhile.time.as_planned (Some stop) past)).exactly (omega (arith, few)) in
           let rose = by.rose tt in (
             omega (arith, exactly, few, rose, sound),
-            λ o. opening_reopens empty bare_read (state_of fail.disk)
-                (meanwhile.each (state_of fail.disk) (counts_present fail.disk.events.items (state_of fail.disk) (length disk.events.items) refl meanwhile.time.later)) o,
+            λ o. subst (λ (h : History). Reopens (crash_image o (state_of fail.disk)) h (last_number h)) (sym no_commits)
+                (opening_reopens empty bare_read (state_of fail.disk)
+                (meanwhile.each (state_of fail.disk) (counts_present fail.disk.events.items (state_of fail.disk) (length disk.events.items) refl meanwhile.time.later)) o),
           )
 
 -- ---- the opening of what a crash leaves
@@ -138,30 +145,18 @@ is_fault_too (why.Exhausted counter) by = absurd by
 is_fault_too why.NoMemory by = absurd by
 is_fault_too (why.Disk name) by = tt
 
--- the history goes on with what it has at the number
-contents_again : (h : History) (m : ℕ) → contents_at (gone_on_from h m) m ≡ contents_at h m
-contents_again h m = contents_at-standing_at m (contents_at h m)
-
 module _ (image : Image) (h : History) (m : ℕ) (disk : MemDisk) (started : Started image (state_of disk)) (again : Reopens image h m) where
   pub lawful_up : (files : ℕ) × OpensUpTo files (state_of disk) again.found
   lawful_up = opens_up_to (state_of disk) again.found (told_lawful disk.events.items disk.kept.sound (state_of disk) refl)
 
-  abbrev pub s : State
-  s = reopened again.found h m (after_calls (calls_to_open again.found (length again.strays)) (memory.ghosts.calls disk)) lawful_up.0
-
-  pub again_starts : StartsIn memory.ghosts disk s
-  again_starts = reopens_starts memory.ghosts disk image (state_of disk) h m refl started again lawful_up.0 lawful_up.1
-
   -- its number and contents are printed
-  pub text_is : (parts : Parts MemDisk) (other : Finds again_starts.read) → opened_of parts ≡ opened_from other → parts.active.length ≡ 16
-      → (text : List ℕ) → ((t : State) → IsOpenedStore parts.number parts.frozen.items parts.active t → text ≡ reopened_text parts.number (contents_at t.history parts.number))
+  pub text_is : (parts : Parts MemDisk) (other : Finds image) → opened_of parts ≡ opened_from other
+      → (text : List ℕ) → ((k : History) → HaveAt parts.frozen.items k parts.number → text ≡ reopened_text parts.number (contents_at k parts.number))
       → text ≡ reopened_text m (contents_at h m)
-  text_is parts other opened short text said =
-      let store = opened_store memory.ghosts disk s again_starts parts other opened short in
-      let number : parts.number ≡ m = sym store.first in
-      said s store
-      ∙ ap (λ (n : ℕ). reopened_text n (contents_at (gone_on_from h m) n)) number
-      ∙ ap (reopened_text m) (contents_again h m)
+  text_is parts other opened text said =
+      let number = opened_number image again.found parts other opened h m again.shown in
+      said h (subst (HaveAt parts.frozen.items h) (sym number) (opened_have image again.found parts other opened h m again.shown))
+      ∙ ap (λ (n : ℕ). reopened_text n (contents_at h n)) number
 
   -- where it isn't opened, memory ran out
   pub only_memory : (reason : OpenError) → ((state : DiskState) (read : Image) → told_by disk ≡ Some state → IsRead read state → AnswersBy read (recovery_by reason))

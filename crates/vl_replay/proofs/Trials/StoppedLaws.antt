@@ -41,11 +41,13 @@ use Rattle.vl_seglog.specs.Frames.{frame_at, frames_end, frames_grammar, log_byt
 use Rattle.vl_seglog.specs.LogReading.{IsLogFormat}
 use Rattle.vl_seglog.specs.laws.LogReadingLaws.{SaysFrames, reads_with_tail}
 use Rattle.vl_replay.specs.Reopens.{NamesUpTo, Reopens, commits_of, state_left}
-use Rattle.vl_replay.specs.Sequential.{State}
+use Rattle.vl_replay.specs.Sequential.{State, history_of}
 use Rattle.vl_replay.specs.Stopped.{AreNumberedUpTo, Commits, GivesUpTo, append_failed, sync_failed, with_taken}
-use Rattle.vl_replay.specs.Stored.{IsStopped, IsStored, Shown, logs_of}
-use Rattle.vl_replay.specs.Writing.{written}
-use Rattle.vl_replay.proofs.Disk.Logged.{shown_by}
+use Rattle.vl_replay.specs.Stored.{IsStopped, IsStored, base_of}
+use Rattle.vl_engine.specs.Held.{logs_from}
+use Rattle.vl_engine.specs.laws.HeldLaws.{held_shown}
+use Rattle.vl_engine.specs.Shown.{Shown}
+use Rattle.vl_engine.specs.Writing.{written}
 use Rattle.vl_replay.proofs.Openings.NumbersLeft.{names_left, numbered_changed, numbers_left, reopens_by}
 
 -- ---- a log that ends with a part of a frame
@@ -212,19 +214,32 @@ kept_left name disk = read_left (crash_image Kept disk) (synced name disk) (reco
 -- the image opens as the store that the disk holds of the state
 abbrev pub OpensAsHeld : (s : State) (disk : DiskState) → IsStored s disk → Image → Type 0
 OpensAsHeld s disk stored image =
-    Opens image (Ok (opening_held stored.manifest (logs_of s stored.frozen stored.frames) (last_number s.history)))
+    Opens image (Ok (opening_held s.manifest (logs_from (base_of s stored.before) s.store.layout) (last_number (history_of s))))
 
 -- then it shows the state's history
 pub held_shows : (s : State) (disk : DiskState) (stored : IsStored s disk) (image : Image) → OpensAsHeld s disk stored image
-    → Shown image s.history (last_number s.history)
+    → Shown image (history_of s) (last_number (history_of s))
 held_shows s disk stored image opens =
-    shown_by image stored.manifest (logs_of s stored.frozen stored.frames) s.history (last_number s.history) opens stored.shows
+    let left = crash_left Kept disk stored.holds.lawful in
+    let shown = held_shown (base_of s stored.before) s.store.layout (history_of s) stored.is_base stored.tidy disk stored.holds (crash_image Kept disk) left in
+    let same : shown.opening ≡ opening_held s.manifest (logs_from (base_of s stored.before) s.store.layout) (last_number (history_of s)) =
+    ok_same {E = Refusal} shown.opening _ (single_opening (crash_image Kept disk) (Ok shown.opening) _ shown.opens
+    (held_opens s.manifest (logs_from (base_of s stored.before) s.store.layout) (last_number (history_of s)) disk stored.holds.store stored.is_base.goes (crash_image Kept disk) left)) in
+    record {
+      opening = shown.opening;
+      opens = subst (λ (o : Opening). Opens image (Ok o)) (sym same) opens;
+      number = shown.number;
+      logs = shown.logs;
+      some = shown.some;
+      since = shown.since;
+      last = shown.last;
+    }
 
 -- Whatever a crash leaves of the disk opens so.
 pub stored_opens : (s : State) (disk : DiskState) (stored : IsStored s disk) (image : Image) → MayLeave disk image
     → OpensAsHeld s disk stored image
 stored_opens s disk stored image may =
-    held_opens stored.manifest (logs_of s stored.frozen stored.frames) (last_number s.history) disk stored.holds stored.numbers image may
+    held_opens s.manifest (logs_from (base_of s stored.before) s.store.layout) (last_number (history_of s)) disk stored.holds.store stored.is_base.goes image may
 
 module _ (before after : State) (commits : Commits IsStored before after) where
   abbrev old : DiskState
@@ -234,31 +249,34 @@ module _ (before after : State) (commits : Commits IsStored before after) where
   stored = commits.held
 
   abbrev number : ℕ
-  number = before.log.number
+  number = before.store.layout.active.number
 
-  same_frame : frame_behind log_format number stored.frames commits.item ≡ commits.frame
-  same_frame = ap (λ (place : ℕ). frame_at log_format number place commits.item) (sym stored.length_is) ∙ sym commits.frame_is
+  abbrev active : Segment
+  active = before.store.layout.active
+
+  same_frame : frame_behind active.format number active.frames commits.item ≡ commits.frame
+  same_frame = ap (λ (place : ℕ). frame_at active.format number place commits.item) (sym stored.tidy.true_logs.0) ∙ sym commits.frame_is
 
   -- Where its append failed, the image opens as the store before,
   append_failed_opens : (outcome : Outcome) → OpensAsHeld before old stored (crash_image outcome (with_taken commits 0))
   append_failed_opens outcome = subst
       (λ (frame : List ℕ). OpensAsHeld before old stored (crash_image outcome (appended (Log number) frame 0 old))) same_frame
-      (none_opens stored.manifest stored.frozen (new_segment log_format number stored.frames) commits.item old stored.holds commits.has
-      stored.lawful (last_number before.history) stored.numbers outcome)
+      (none_opens before.manifest stored.before (before.store.layout.active) commits.item old stored.holds.store commits.has
+      stored.holds.lawful (last_number (history_of before)) stored.is_base.goes outcome)
 
   -- and where its sync failed too, if what wasn't durable was lost,
   sync_failed_lost : OpensAsHeld before old stored (crash_image Lost (with_taken commits (length commits.frame)))
   sync_failed_lost = subst
       (λ (frame : List ℕ). OpensAsHeld before old stored (crash_image Lost (appended (Log number) frame (length frame) old))) same_frame
-      (lost_opens stored.manifest stored.frozen (new_segment log_format number stored.frames) commits.item old stored.holds commits.has
-      stored.lawful (last_number before.history) stored.numbers)
+      (lost_opens before.manifest stored.before (before.store.layout.active) commits.item old stored.holds.store commits.has
+      stored.holds.lawful (last_number (history_of before)) stored.is_base.goes)
 
   -- or half of it.
   sync_failed_halved : OpensAsHeld before old stored (crash_image Halved (with_taken commits (length commits.frame)))
   sync_failed_halved = subst
       (λ (frame : List ℕ). OpensAsHeld before old stored (crash_image Halved (appended (Log number) frame (length frame) old))) same_frame
-      (half_opens stored.manifest stored.frozen (new_segment log_format number stored.frames) commits.item old stored.holds commits.has
-      stored.lawful (last_number before.history) stored.numbers)
+      (half_opens before.manifest stored.before (before.store.layout.active) commits.item old stored.holds.store commits.has
+      stored.holds.lawful (last_number (history_of before)) stored.is_base.goes)
 
   -- If all of it was kept, it opens as the store after.
   sync_failed_kept : OpensAsHeld after (written (Log number) commits.frame old) commits.done
@@ -269,56 +287,56 @@ module _ (before after : State) (commits : Commits IsStored before after) where
 -- ---- numbers that are left
 
 module _ (n : ℕ) (fits : n + 2 ≤ max_file_number) (s : State) (disk : DiskState) (stored : IsStored s disk)
-    (numbered : AreNumberedUpTo n disk) (gives : GivesUpTo n stored.manifest) where
+    (numbered : AreNumberedUpTo n disk) (gives : GivesUpTo n s.manifest) where
   -- An image that opens as what a disk holds of a state, whose files have small numbers, opens again.
   pub held_reopens : (image : Image) → OpensAsHeld s disk stored image → NamesUpTo n image
-      → Reopens image s.history (last_number s.history)
+      → Reopens image (history_of s) (last_number (history_of s))
   held_reopens image opens names =
-      reopens_by n image names s.history (last_number s.history) (held_shows s disk stored image opens) (λ found.
-      let last = last_held stored.manifest.head stored.frozen (new_segment log_format s.log.number stored.frames) disk stored.holds.logs_are in
-      let within : s.log.number ≤ n = numbered.standing (Log s.log.number) (λ none. some_none _ (sym last.stands ∙ none)) in
-      let same : found.opening ≡ opening_held stored.manifest (logs_of s stored.frozen stored.frames) (last_number s.history) =
+      reopens_by n image names (history_of s) (last_number (history_of s)) (held_shows s disk stored image opens) (λ found.
+      let last = last_held s.manifest.head stored.before (s.store.layout.active) disk stored.holds.store.logs_are in
+      let within : s.store.layout.active.number ≤ n = numbered.standing (Log s.store.layout.active.number) (λ none. some_none _ (sym last.stands ∙ none)) in
+      let same : found.opening ≡ opening_held s.manifest (logs_from (base_of s stored.before) s.store.layout) (last_number (history_of s)) =
       ok_same {E = Refusal} found.opening _ (single_opening image (Ok found.opening) _ found.opens opens) in
-      let state : found.opening.state ≡ stored.manifest = ap (λ (o : Opening). o.state) same in
+      let state : found.opening.state ≡ s.manifest = ap (λ (o : Opening). o.state) same in
       numbers_left n fits image names found
       (subst (λ (x : ManifestState). x.head ≤ n + 1) (sym state) (let from = last.from in omega (arith, from, within)))
       (subst (λ (x : ManifestState). x.next_log ≤ n + 1) (sym state) gives))
 
   -- So does the image of a disk that holds a state.
-  pub stored_reopens : (outcome : Outcome) → Reopens (crash_image outcome disk) s.history (last_number s.history)
+  pub stored_reopens : (outcome : Outcome) → Reopens (crash_image outcome disk) (history_of s) (last_number (history_of s))
   stored_reopens outcome =
-      let may = crash_left outcome disk stored.lawful in
+      let may = crash_left outcome disk stored.holds.lawful in
       held_reopens (crash_image outcome disk) (stored_opens s disk stored (crash_image outcome disk) may)
       (names_left n disk (crash_image outcome disk) may numbered)
 
 -- And so does the image of a disk on which a commit was stopped.
 module _ (before after : State) (commits : Commits IsStored before after) (n : ℕ) (fits : n + 2 ≤ max_file_number)
-    (numbered : AreNumberedUpTo n commits.old) (gives : GivesUpTo n commits.held.manifest) where
+    (numbered : AreNumberedUpTo n commits.old) (gives : GivesUpTo n before.manifest) where
   -- its names are among those of the disk before
   names_torn : (taken : ℕ) (outcome : Outcome) → NamesUpTo n (crash_image outcome (with_taken commits taken))
   names_torn taken outcome = names_left n (with_taken commits taken) (crash_image outcome (with_taken commits taken))
-      (crash_left outcome (with_taken commits taken) (appended_lawful commits.old commits.held.lawful (Log before.log.number) commits.frame taken))
-      (numbered_changed n (Log before.log.number) (lengthened commits.frame taken) commits.old numbered)
+      (crash_left outcome (with_taken commits taken) (appended_lawful commits.old commits.held.holds.lawful (Log before.store.layout.active.number) commits.frame taken))
+      (numbered_changed n (Log before.store.layout.active.number) (lengthened commits.frame taken) commits.old numbered)
 
   -- where the append failed,
   append_failed_reopens : (outcome : Outcome)
-      → Reopens (crash_image outcome (with_taken commits 0)) before.history (last_number before.history)
+      → Reopens (crash_image outcome (with_taken commits 0)) (history_of before) (last_number (history_of before))
   append_failed_reopens outcome = held_reopens n fits before commits.old commits.held numbered gives
       (crash_image outcome (with_taken commits 0)) (append_failed_opens before after commits outcome) (names_torn 0 outcome)
 
   -- and where the sync failed
   sync_failed_reopens : (k : ℕ) → k + 2 ≤ max_file_number
-      → AreNumberedUpTo k (written (Log before.log.number) commits.frame commits.old) → GivesUpTo k commits.done.manifest
+      → AreNumberedUpTo k (written (Log before.store.layout.active.number) commits.frame commits.old) → GivesUpTo k after.manifest
       → (outcome : Outcome) → let s = state_left outcome true before after in
-      Reopens (crash_image outcome (with_taken commits (length commits.frame))) s.history (last_number s.history)
+      Reopens (crash_image outcome (with_taken commits (length commits.frame))) (history_of s) (last_number (history_of s))
   sync_failed_reopens k fits_after numbered_after gives_after Lost = held_reopens n fits before commits.old commits.held numbered gives
       (crash_image Lost (with_taken commits (length commits.frame))) (sync_failed_lost before after commits)
       (names_torn (length commits.frame) Lost)
   sync_failed_reopens k fits_after numbered_after gives_after Kept =
-      let durable = written (Log before.log.number) commits.frame commits.old in
+      let durable = written (Log before.store.layout.active.number) commits.frame commits.old in
       let image = crash_image Kept (with_taken commits (length commits.frame)) in
       held_reopens k fits_after after durable commits.done numbered_after gives_after image (sync_failed_kept before after commits)
-      (names_left k durable image (kept_left (Log before.log.number) (with_taken commits (length commits.frame))) numbered_after)
+      (names_left k durable image (kept_left (Log before.store.layout.active.number) (with_taken commits (length commits.frame))) numbered_after)
   sync_failed_reopens k fits_after numbered_after gives_after Halved = held_reopens n fits before commits.old commits.held numbered gives
       (crash_image Halved (with_taken commits (length commits.frame))) (sync_failed_halved before after commits)
       (names_torn (length commits.frame) Halved)
@@ -327,14 +345,14 @@ module _ (before after : State) (commits : Commits IsStored before after) (n : �
 -- is kept.
 pub stopped_reopens : (before after : State) (passed : ℕ) (now : DiskState) (stopped : IsStopped before after passed now)
     (outcome : Outcome) (n k : ℕ) → n + 2 ≤ max_file_number → k + 2 ≤ max_file_number
-    → AreNumberedUpTo n (commits_of stopped).old → GivesUpTo n (commits_of stopped).held.manifest
-    → AreNumberedUpTo k (written (Log before.log.number) (commits_of stopped).frame (commits_of stopped).old)
-    → GivesUpTo k (commits_of stopped).done.manifest → let s = state_left outcome (nat_le 1 passed) before after in
-    Reopens (crash_image outcome now) s.history (last_number s.history)
+    → AreNumberedUpTo n (commits_of stopped).old → GivesUpTo n before.manifest
+    → AreNumberedUpTo k (written (Log before.store.layout.active.number) (commits_of stopped).frame (commits_of stopped).old)
+    → GivesUpTo k after.manifest → let s = state_left outcome (nat_le 1 passed) before after in
+    Reopens (crash_image outcome now) (history_of s) (last_number (history_of s))
 stopped_reopens before after passed now (append_failed commits none is) outcome n k fits fits_after numbered gives numbered_after gives_after =
-    subst (λ (m : ℕ). let s = state_left outcome (nat_le 1 m) before after in Reopens (crash_image outcome now) s.history (last_number s.history)) (sym none)
-    (subst (λ (s : State). Reopens (crash_image outcome now) s.history (last_number s.history)) (of outcome)
-    (subst (λ (d : DiskState). Reopens (crash_image outcome d) before.history (last_number before.history)) (sym is)
+    subst (λ (m : ℕ). let s = state_left outcome (nat_le 1 m) before after in Reopens (crash_image outcome now) (history_of s) (last_number (history_of s))) (sym none)
+    (subst (λ (s : State). Reopens (crash_image outcome now) (history_of s) (last_number (history_of s))) (of outcome)
+    (subst (λ (d : DiskState). Reopens (crash_image outcome d) (history_of before) (last_number (history_of before))) (sym is)
     (append_failed_reopens before after commits n fits numbered gives outcome)))
   where
     of : (o : Outcome) → before ≡ state_left o false before after
@@ -342,6 +360,6 @@ stopped_reopens before after passed now (append_failed commits none is) outcome 
     of Kept = refl
     of Halved = refl
 stopped_reopens before after passed now (sync_failed commits one is) outcome n k fits fits_after numbered gives numbered_after gives_after =
-    subst (λ (m : ℕ). let s = state_left outcome (nat_le 1 m) before after in Reopens (crash_image outcome now) s.history (last_number s.history)) (sym one)
-    (subst (λ (d : DiskState). let s = state_left outcome true before after in Reopens (crash_image outcome d) s.history (last_number s.history)) (sym is)
+    subst (λ (m : ℕ). let s = state_left outcome (nat_le 1 m) before after in Reopens (crash_image outcome now) (history_of s) (last_number (history_of s))) (sym one)
+    (subst (λ (d : DiskState). let s = state_left outcome true before after in Reopens (crash_image outcome d) (history_of s) (last_number (history_of s))) (sym is)
     (sync_failed_reopens before after commits n fits numbered gives k fits_after numbered_after gives_after outcome))

@@ -13,17 +13,18 @@ use Rattle.vl_model.specs.History.{last_number}
 use Rattle.vl_recover.specs.opening.Results.{HasFailed, recovery_by}
 use Rattle.vl_recover.specs.declared.fails.OpenError.{OpenError}
 use Rattle.vl_recover.specs.declared.fails.OpenError.TheVariants as why
-use Rattle.vl_replay.specs.Endings.{Culprit, CountsFaultsOf, TheDisk, culprit_of, no_memory_line, read_fault_line}
+use Rattle.vl_replay.specs.Endings.{Culprit, CountsFaultsOf, culprit_of, status_of, no_memory_line, read_fault_line}
 use Rattle.vl_replay.specs.Exchanges.{Exchange, answers_text, last_state}
 use Rattle.vl_replay.specs.Reopens.{Reopens}
-use Rattle.vl_replay.specs.Sequential.{State}
-use Rattle.vl_replay.specs.Opening.{IsFault, ending_unopened}
+use Rattle.vl_replay.specs.Sequential.{State, history_of}
+use Rattle.vl_replay.specs.Opening.{ending_unopened}
+use Rattle.vl_engine.specs.Opening.{IsFault}
 use Rattle.vl_replay.specs.Runs.{IsFront}
 use Rattle.vl_replay.specs.Steps.{EndsUnopened, Finishes}
 use Rattle.vl_replay.specs.Trial.{EndsTrial, IsLastFront, ReachesEnd, TakesFirst, Trial, exchanges_unstopped, answered_lines, answered_state, at_stop, before_stop, begun, reopened_state, state_behind_stop, trial_text}
 use Rattle.vl_replay.specs.Trying.{ComesTo, LeavesToOpen, ReopensAs, StopsOpening, trial_of}
 use Rattle.vl_replay.specs.declared.ending.Ending.{Ending}
-use Rattle.vl_replay.specs.declared.ending.Ending.TheVariants.{Complete, BadLine, BadWords, DiskFault, Refused, Damaged, NoMemory, ReadFault, WriteFault, AnswerCut, Stopped}
+use Rattle.vl_replay.specs.declared.ending.Ending.TheVariants.{Complete, BadLine, BadWords, DiskFault, ReaderFault, Refused, Damaged, NoMemory, ReadFault, WriteFault, AnswerCut, Stopped}
 use Rattle.vl_replay.proofs.Runs.Ends.{or_cut, takes_both, takes_nothing}
 use Rattle.vl_replay.proofs.Trials.TrialLines.{chosen_false, is_past}
 use Rattle.vl_replay.proofs.Runs.Refusals.{fault_for}
@@ -76,7 +77,7 @@ module _ (t : Trial) (held mid : Option (List ℕ)) (taken : Takes held mid (ans
 
     -- the contents were printed
     pub ends_reopened : (result : Ending) → ReachesEnd t → left ≡ Some []
-        → ReopensAs k (reopened_state t).history (last_number (reopened_state t).history) old new result → EndsTrial t held (k.held new) left result
+        → ReopensAs k (history_of (reopened_state t)) (last_number (history_of (reopened_state t))) old new result → EndsTrial t held (k.held new) left result
     ends_reopened result reaches all reopens = ⊎_elim printed (ends_memory result) reopens
       where
         printed : Finishes k old new (trial_text t) Complete result → EndsTrial t held (k.held new) left result
@@ -94,14 +95,14 @@ module _ (t : Trial) (held mid : Option (List ℕ)) (taken : Takes held mid (ans
 
 -- ---- a store that wasn't opened
 
--- the disk is to blame only where it failed
+-- its status is that of a fault only where the disk failed
 pub not_by_disk : {K : Type 0} (k : sink.Ghosts K) (old new : K) (reason : OpenError) (result : Ending) → EndsUnopened k old new reason result
-    → (HasFailed (recovery_by reason) → ⊥) → culprit_of result ≢ TheDisk
+    → (HasFailed (recovery_by reason) → ⊥) → status_of result ≢ 3
 not_by_disk k old new reason result (how, for, (line, line_is, finishes)) sound =
-    or_cut k old new line (ending_unopened how) result (λ (e : Ending). culprit_of e ≢ TheDisk) finishes
+    or_cut k old new line (ending_unopened how) result (λ (e : Ending). status_of e ≢ 3) finishes
     (λ by. sound (is_fault_too reason (fault_for reason how for (of how by)))) (λ e. cc)
   where
-    of : (how : OpenError) → culprit_of (ending_unopened how) ≡ TheDisk → IsFault (Some how)
+    of : (how : OpenError) → status_of (ending_unopened how) ≡ 3 → IsFault (Some how)
     of why.NotAStore e = cc
     of (why.NewerFormat format) e = cc
     of (why.Damaged name place) e = cc
@@ -125,7 +126,7 @@ stopped_opening stop input disk held left below leaves rest told = (
   (rest, told),
   record {
     taken = λ o. subst (λ (es : List Exchange). Takes held held (answers_text es)) (sym (none_answered o)) (takes_nothing held);
-    leaves = λ o. subst (λ (s : State). Reopens (crash_image o (state_of disk)) s.history (last_number s.history)) (sym (nothing_left o)) (leaves o);
+    leaves = λ o. subst (λ (s : State). Reopens (crash_image o (state_of disk)) (history_of s) (last_number (history_of s))) (sym (nothing_left o)) (leaves o);
   },
 )
   where
@@ -177,6 +178,7 @@ ends_so t held held' left disk Complete comes whole silent o = absurd (whole ref
 ends_so t held held' left disk BadLine comes whole silent o = comes o
 ends_so t held held' left disk BadWords comes whole silent o = absurd comes
 ends_so t held held' left disk DiskFault comes whole silent o = absurd comes
+ends_so t held held' left disk ReaderFault comes whole silent o = absurd comes
 ends_so t held held' left disk (Refused refusal) comes whole silent o = absurd comes
 ends_so t held held' left disk (Damaged name place) comes whole silent o = absurd comes
 ends_so t held held' left disk NoMemory comes whole silent o = comes o
@@ -185,19 +187,20 @@ ends_so t held held' left disk WriteFault comes whole silent o = comes o
 ends_so t held held' left disk AnswerCut comes whole silent o = comes o
 ends_so t held held' left disk Stopped comes whole silent o = absurd (silent refl)
 
--- by no fault of the disk that is to be reported
-pub not_the_disk : (ending : Ending) → ending ≢ DiskFault → ending ≢ Stopped → culprit_of ending ≢ TheDisk
-not_the_disk Complete fault silent e = cc
-not_the_disk BadLine fault silent e = cc
-not_the_disk BadWords fault silent e = cc
-not_the_disk DiskFault fault silent e = fault refl
-not_the_disk (Refused refusal) fault silent e = cc
-not_the_disk (Damaged name place) fault silent e = cc
-not_the_disk NoMemory fault silent e = cc
-not_the_disk ReadFault fault silent e = cc
-not_the_disk WriteFault fault silent e = cc
-not_the_disk AnswerCut fault silent e = cc
-not_the_disk Stopped fault silent e = silent refl
+-- by no fault of the disk or of a read that is to be reported
+pub no_fault : (ending : Ending) → ending ≢ DiskFault → ending ≢ ReaderFault → ending ≢ Stopped → status_of ending ≢ 3
+no_fault Complete fault unread silent e = cc
+no_fault BadLine fault unread silent e = cc
+no_fault BadWords fault unread silent e = cc
+no_fault DiskFault fault unread silent e = fault refl
+no_fault ReaderFault fault unread silent e = unread refl
+no_fault (Refused refusal) fault unread silent e = cc
+no_fault (Damaged name place) fault unread silent e = cc
+no_fault NoMemory fault unread silent e = cc
+no_fault ReadFault fault unread silent e = cc
+no_fault WriteFault fault unread silent e = cc
+no_fault AnswerCut fault unread silent e = cc
+no_fault Stopped fault unread silent e = silent refl
 
 -- ---- what is counted, over two stages
 

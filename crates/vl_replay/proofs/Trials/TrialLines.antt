@@ -4,20 +4,11 @@ use Rattle.std.specs.Prelude.{Option, nat_le, ◌==◌}
 use Rattle.std.specs.FinMap.{get, len}
 use Rattle.std.specs.List.{AllByRecursion, slice_get}
 use Rattle.std.proofs.lemmas.Bool.Decides.{nat_tests}
-use Rattle.vl_model.specs.Keys.{tagged, untagged}
-use Rattle.vl_model.specs.History.{last_number}
-use Rattle.vl_model.specs.Limits.{max_commit_number, max_room}
-use Rattle.vl_model.specs.declared.counter.Counter.TheVariants.{Commit as CommitNumber}
 use Rattle.vl_script.specs.Script.{line_of}
-use Rattle.vl_script.specs.declared.answer.Answer.TheVariants.{Number, Nothing, Full, Exhausted}
-use Rattle.vl_script.specs.declared.line.Line.{Line}
-use Rattle.vl_script.specs.declared.line.Line.TheVariants.{Begin, View, Get, Set, SetTagged, GetTagged, Delete as DeleteLine, Commit as CommitLine, Drop}
-use Rattle.vl_model.specs.declared.change.Change.TheVariants.{Set as Put, Delete}
 use Rattle.vl_replay.specs.Exchanges.{Exchange, and_later, exchange_at, exchanges_from, last_state}
-use Rattle.vl_replay.specs.Sequential.{Handle, OpenTransaction, OpenView, Outcome, State, after_commit, bytes_in_log, committed, state_after, without_handle}
+use Rattle.vl_replay.specs.Sequential.{State}
 use Rattle.vl_replay.specs.Trial.{at_stop, before_stop}
 use Rattle.vl_replay.proofs.Disk.DiskSteps.{exchange_after}
-use Rattle.vl_replay.proofs.Store.Outcomes.{either, kept_dropped, kept_opened, kept_read, kept_written}
 
 none_some : {X : Type 0} (x : X) → None ≡ Some x → ⊥
 none_some x e = cc
@@ -120,36 +111,10 @@ none_next (x ∷ es) (suc m) is = ap (λ (xs : List Exchange). x ∷ xs) (none_n
 
 -- ---- no line changes the bound of the files' numbers
 
-abbrev KeepsFiles : State → Outcome → Type 0
-KeepsFiles s o = o.1.files ≡ s.files
-
-committed_files : (s : State) (name : List ℕ) (handle : Option Handle) → KeepsFiles s (committed s name handle)
-committed_files s name None = refl
-committed_files s name (Some (OpenView number)) = refl
-committed_files s name (Some (OpenTransaction number reads writes)) =
-    let fits = nat_le (s.log.length + bytes_in_log writes) max_room in
-    let done : Outcome = (Number (last_number s.history + 1), after_commit s name writes) in
-    let has_number : Outcome = cond fits done (Full, s) in
-    let some : Outcome = cond (nat_le max_commit_number (last_number s.history)) (Exhausted CommitNumber, s) has_number in
-    either (KeepsFiles s) (len writes == 0) (Nothing, without_handle s name) some refl
-    (either (KeepsFiles s) (nat_le max_commit_number (last_number s.history)) (Exhausted CommitNumber, s) has_number refl
-    (either (KeepsFiles s) fits done (Full, s) refl refl))
-
-line_files : (s : State) (line : Line) → (state_after s line).files ≡ s.files
-line_files s (Begin name) = (kept_opened s name (OpenTransaction (last_number s.history) [] _)).files
-line_files s (View name) = (kept_opened s name (OpenView (last_number s.history))).files
-line_files s (Get name key) = (kept_read s name key (get s.handles name)).files
-line_files s (Set name key value) = (kept_written s name key (Put (untagged value)) (get s.handles name)).files
-line_files s (GetTagged name key) = (kept_read s name key (get s.handles name)).files
-line_files s (SetTagged name key value tag) = (kept_written s name key (Put (tagged value tag)) (get s.handles name)).files
-line_files s (DeleteLine name key) = (kept_written s name key Delete (get s.handles name)).files
-line_files s (CommitLine name) = committed_files s name (get s.handles name)
-line_files s (Drop name) = (kept_dropped s name (get s.handles name)).files
-
 exchange_files : (s : State) (text : List ℕ) (e : Exchange) → exchange_at s text ≡ Some e → e.after.files ≡ s.files
 exchange_files s text e is =
     let line = exchange_after s (line_of text) e is in
-    ap (λ (t : State). t.files) line.1 ∙ line_files s line.0
+    ap (λ (t : State). t.files) line.1
 
 first_files : (s : State) (text : List ℕ) (texts : List (List ℕ)) (m : ℕ) (o : Option Exchange) → exchange_at s text ≡ o
     → ((after : State) → (last_state after (take m (exchanges_from after texts))).files ≡ after.files)

@@ -21,12 +21,13 @@ use Rattle.vl_replay.specs.Endings.{CountsFaultsOf, EndsAs, TheDisk, bad_line, l
 use Rattle.vl_replay.specs.Exchanges.{Exchange, answers_text, last_state}
 use Rattle.vl_replay.specs.Reopens.{Reopens, commits_of, state_left}
 use Rattle.vl_replay.specs.Runs.{EndsRun, Outside, Script, course, exchanges, script_of}
-use Rattle.vl_replay.specs.Sequential.{State}
-use Rattle.vl_replay.specs.Stored.{IsStopped, IsStored, Shown}
+use Rattle.vl_replay.specs.Sequential.{State, history_of}
+use Rattle.vl_replay.specs.Stored.{IsStopped, IsStored}
+use Rattle.vl_engine.specs.Shown.{Shown}
 use Rattle.vl_replay.specs.Trial.{MeetsStop, TakesFirst, Trial, answered_lines, at_stop, before_stop, begun, reopened_state, state_behind_stop, stopped_line}
 use Rattle.vl_replay.specs.Trying.{ComesTo, IsOnTrial, trial_of}
 use Rattle.vl_replay.specs.declared.ending.Ending.{Ending}
-use Rattle.vl_replay.specs.declared.ending.Ending.TheVariants.{Complete, BadLine, BadWords, DiskFault, Refused, Damaged, NoMemory, ReadFault, WriteFault, AnswerCut, Stopped}
+use Rattle.vl_replay.specs.declared.ending.Ending.TheVariants.{Complete, BadLine, BadWords, DiskFault, ReaderFault, Refused, Damaged, NoMemory, ReadFault, WriteFault, AnswerCut, Stopped}
 use Rattle.vl_replay.specs.declared.ending.OnFault.TheVariants.{Stop}
 use Rattle.vl_replay.proofs.Trials.StoppedLaws.{stopped_reopens, stored_reopens}
 use Rattle.vl_replay.proofs.Trials.TrialLines.{Passes, all_next, before_all, before_front, before_get, before_met, chosen_true, is_within, last_files, last_next, last_within, none_next}
@@ -49,13 +50,13 @@ some_left a b = grind (arith, nat_tests)
 
 -- what a crash leaves of a disk that holds the commits of a state opens showing the last of them
 pub holds_reopens : (s : State) (disk : MemDisk) → HoldsCounted memory.ghosts IsStored s disk → s.files + 2 ≤ max_file_number
-    → (outcome : Outcome) → Reopens (crash_image outcome (state_of disk)) s.history (last_number s.history)
+    → (outcome : Outcome) → Reopens (crash_image outcome (state_of disk)) (history_of s) (last_number (history_of s))
 holds_reopens s disk (u, history, calls, files, held) fits outcome =
     let (state, told, stored) = held.there in
     let here : state_of disk ≡ state = some_state (state_of disk) state told in
     let again = stored_reopens u.files (omega (arith, files, fits)) u state stored stored.numbered stored.next outcome in
     subst (λ (h : History). Reopens (crash_image outcome (state_of disk)) h (last_number h)) history
-    (subst (λ (d : DiskState). Reopens (crash_image outcome d) u.history (last_number u.history)) (sym here) again)
+    (subst (λ (d : DiskState). Reopens (crash_image outcome d) (history_of u) (last_number (history_of u))) (sym here) again)
 
 module _ (stop : ℕ) where
   -- behind each answered line of a run without a fault no more calls were made than pass
@@ -212,15 +213,15 @@ module _ (stop : ℕ) (small : stop < 2 ^ 64 - 3) (input : List ℕ) (stands : S
           ∙ ap (λ (s : State). state_left o (nat_le (last.calls + 1) stop) last s) (sym line.2)
           ∙ ap (λ (b : Bool). state_left o b last most) passed_is
 
-      stop_reopens : (o : Outcome) → Reopens (crash_image o (state_of new.disk)) (reopened_state (t o)).history (last_number (reopened_state (t o)).history)
+      stop_reopens : (o : Outcome) → Reopens (crash_image o (state_of new.disk)) (history_of (reopened_state (t o))) (last_number (history_of (reopened_state (t o))))
       stop_reopens o =
           let commits = commits_of stops.stopped in
           let here : state_of new.disk ≡ stops.now = some_state (state_of new.disk) stops.now stops.told in
           let again = stopped_reopens last most stops.passed stops.now stops.stopped o last.files most.files last_fits most_fits
           commits.held.numbered commits.held.next commits.done.numbered commits.done.next in
-          subst (λ (s : State). Reopens (crash_image o (state_of new.disk)) s.history (last_number s.history)) (sym (stop_state o))
-          (subst (λ (d : DiskState). Reopens (crash_image o d) (state_left o (nat_le 1 stops.passed) last most).history
-          (last_number (state_left o (nat_le 1 stops.passed) last most).history)) (sym here) again)
+          subst (λ (s : State). Reopens (crash_image o (state_of new.disk)) (history_of s) (last_number (history_of s))) (sym (stop_state o))
+          (subst (λ (d : DiskState). Reopens (crash_image o d) (history_of (state_left o (nat_le 1 stops.passed) last most))
+          (last_number (history_of (state_left o (nat_le 1 stops.passed) last most)))) (sym here) again)
 
   -- ---- by its ending
 
@@ -232,7 +233,7 @@ module _ (stop : ℕ) (small : stop < 2 ^ 64 - 3) (input : List ℕ) (stands : S
         left,
         record {
           taken = λ o. takes_all Complete run o (every Complete run whole ∙ sym (all_answered Complete run whole o)) none;
-          leaves = λ o. subst (λ (s : State). Reopens (crash_image o (state_of new.disk)) s.history (last_number s.history))
+          leaves = λ o. subst (λ (s : State). Reopens (crash_image o (state_of new.disk)) (history_of s) (last_number (history_of s)))
               (sym (end_state Complete run whole o))
               (holds_reopens (last Complete run) new.disk ((ends Complete run).between_lines tt) (last_fits Complete run) o);
         },
@@ -251,6 +252,7 @@ module _ (stop : ℕ) (small : stop < 2 ^ 64 - 3) (input : List ℕ) (stands : S
     where
       not_so : ◌≡◌ {A = Option Ending} (Some DiskFault) (Some Stopped) → ⊥
       not_so e = cc
+  comes ReaderFault run as_meant counts rest told = absurd run.ends.puts.0
   comes (Refused refusal) run as_meant counts rest told = absurd run.ends.puts.0
   comes (Damaged name place) run as_meant counts rest told = absurd run.ends.puts.0
   comes NoMemory run as_meant counts rest told = λ o. (run.answered, takes_first NoMemory run o no_memory_line run.ends.puts.1)

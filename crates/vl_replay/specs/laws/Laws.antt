@@ -1,231 +1,137 @@
--- Laws of runs: what is read is explained by the history, and no answer is owed before anything is read.
-use Rattle.std.proofs.Common.{◌≡◌, ◌+◌, ◌-◌, ◌<◌, ◌≤◌, ◌⊎◌, inl, inr, ℕ, List, [], ◌∷◌, ◌++◌, length, refl, ap, sym, ◌∙◌, cond, Bool, true, false, not, arith, subst, zero-le}
-use Rattle.std.proofs.lemmas.Bool.Decides.{nat_tests}
-use Rattle.std.proofs.lemmas.List.{take-append-le}
+-- Laws of runs: what a line leaves, and that what is read is explained by the history; and no answer is owed before anything is
+-- read.
+use Rattle.std.proofs.Common.{◌≡◌, ◌+◌, ◌≤◌, ◌⊎◌, inl, inr, ℕ, List, [], ◌∷◌, ◌++◌, refl, sym, ◌∙◌, cond, arith, subst}
 use Rattle.std.proofs.lemmas.List.Sums.{sum_by-cons}
-use Rattle.std.specs.Prelude.{Option, Some, None, ◌==◌, nat_le}
+use Rattle.std.specs.Prelude.{Option, Some, None, ◌==◌}
+use Rattle.std.specs.List.{AllByRecursion}
 use Rattle.std.specs.Option.{option_map}
-use Rattle.std.specs.FinMap.{FinMap, get, insert, remove, len, empty, contains_key, get-insert, get-remove, len-insert, len-remove, len-empty, empty_of_len, get-empty}
-use Rattle.std.specs.Cmp.Lexicographic.{nat_list_cmp_total}
-use Rattle.std.specs.Ordering.{eq_by_cmp}
-use Rattle.vl_model.specs.Keys.{Writes, key_cmp, is_key_length, tagged, untagged}
-use Rattle.vl_model.specs.History.{History, last_number, with_commit, value_at, commits_up_to}
-use Rattle.vl_model.specs.Reads.{Read, KeyRead, RangeRead, IsExplained, IsExplainedRead}
-use Rattle.vl_model.specs.declared.change.Change.{Change}
-use Rattle.vl_model.specs.declared.change.Change.TheVariants.{Set as Put, Delete}
-use Rattle.vl_replay.specs.Sequential.{Handle, OpenTransaction, OpenView, State, Outcome, with_handle, without_handle, opened, found, read, read_in_transaction, with_tag, is_lawful_write, written, committed, dropped, after_commit, bytes_in_log, fits_transaction, state_after}
+use Rattle.vl_layout.specs.Rulings.Commit.{Transaction}
+use Rattle.vl_layout.specs.AtAnswer.{Beginning}
+use Rattle.vl_layout.specs.Store.Commits.{Commits, history_in}
+use Rattle.vl_layout.specs.Store.Lines.{Name, Number}
+use Rattle.vl_layout.specs.Store.Reading.{a_transaction, a_view, answer_of, answer_with_tag}
+use Rattle.vl_layout.specs.Store.Things.{Thing, ATransaction, thing_of}
+use Rattle.vl_layout.specs.laws.StoreLaws.{step_proper}
+use Rattle.vl_model.specs.Conflicts.{first_conflict}
+use Rattle.vl_model.specs.History.{History, last_number}
+use Rattle.vl_model.specs.Keys.{tagged, untagged}
+use Rattle.vl_model.specs.Reads.{IsExplained, Read}
+use Rattle.vl_model.specs.declared.change.Change.TheVariants.{Set as Put, Delete as Deleted}
+use Rattle.vl_replay.specs.Exchanges.{exchanged, exchanges_from, and_later, IsExplainedExchange, AreExplained, ended_lines, KeepsUp}
+use Rattle.vl_replay.specs.Sequential.{State, asked, history_of, state_after, step_to}
+use Rattle.vl_replay.specs.laws.Explained.{IsSound as IsSoundStore, IsSoundThing, Stays, commit_explained, commit_stays, drop_stays, get_explained, get_stays, later_things, only_readers, scan_explained, scan_stays, transaction_stays, view_stays, write_stays}
+use Rattle.vl_replay.specs.laws.Growing.{Adds, Keeps, begin_keeps, commit_or, drop_keeps, get_keeps, scan_keeps, write_keeps}
 use Rattle.vl_script.specs.Script.{line_of}
-use Rattle.vl_replay.specs.Exchanges.{exchanged, exchanges_from, and_later, read_at, ReadsAt, IsExplainedExchange, AreExplained, ended_lines, KeepsUp}
 use Rattle.vl_script.specs.declared.line.Line.{Line}
-use Rattle.vl_script.specs.declared.line.Line.TheVariants.{Begin, View, Get, Set, SetTagged, GetTagged, Delete as DeleteLine, Commit, Drop}
-use Rattle.vl_script.specs.declared.answer.Answer.{Answer}
-use Rattle.vl_script.specs.declared.answer.Answer.TheVariants.{Number, Done, Invalid, TooBig, Full, Exhausted}
-use Rattle.vl_model.specs.declared.counter.Counter.TheVariants.{Commit as CommitNumber}
-use Rattle.vl_model.specs.Limits.{max_commit_number, max_room}
+use Rattle.vl_script.specs.declared.line.Line.TheVariants.{Begin, View, Get, Set, SetTagged, GetTagged, Scan, Delete, Commit, Drop}
 
--- ---- what is read is explained: while one of them is open at a time, it was opened at the last commit, so that nothing
--- that it has read was changed since
+-- ---- what a line leaves
 
--- one of two outcomes, by a test
-pick : (P : Outcome → Type 0) (b : Bool) (x y : Outcome) → (b ≡ true → P x) → (b ≡ false → P y) → P (cond b x y)
-pick P true x y f g = f refl
-pick P false x y f g = g refl
+-- no name stands for a job or a pass, no name for two things, and what was read is explained at the reader's number
+abbrev pub IsSound : State → Type 0
+IsSound s = IsSoundStore s.store
 
--- what was opened at the last commit, and what it has read since
-abbrev pub IsCurrent : History → Handle → Type 0
-IsCurrent h (OpenTransaction number reads writes) = IsExplained h number reads × (number ≡ last_number h)
-IsCurrent h (OpenView number) = number ≡ last_number h
+-- the line made a transaction the next commit
+abbrev pub Committing : State → Line → Type 0
+Committing s line = (t : Transaction) × (b : Beginning) × (name : Name) × (line ≡ Commit name)
+    × (thing_of s.store name ≡ Some (ATransaction t b)) × Adds s.store (step_to s line) t
 
-pub record IsSound (s : State) : Type 0 where
-  pub one : len s.handles ≤ 1
-  pub current : (name : List ℕ) (handle : Handle) → get s.handles name ≡ Some handle → IsCurrent s.history handle
+-- a line keeps the commits, and the layout but for what lives; or it makes a transaction the next commit
+pub keeps_or : (s : State) (line : Line) → IsSound s → Keeps s.store (step_to s line) ⊎ Committing s line
+keeps_or s (Begin name) sound = inl (begin_keeps s.store name a_transaction (thing_of s.store name))
+keeps_or s (View name) sound = inl (begin_keeps s.store name a_view (thing_of s.store name))
+keeps_or s (Get name key) sound = inl (get_keeps s.store name answer_of key (thing_of s.store name))
+keeps_or s (GetTagged name key) sound = inl (get_keeps s.store name answer_with_tag key (thing_of s.store name))
+keeps_or s (Scan name low high limit way) sound = inl (scan_keeps s.store way name low high limit (thing_of s.store name))
+keeps_or s (Set name key value) sound = inl (write_keeps s.store name key (Put (untagged value)) (thing_of s.store name))
+keeps_or s (SetTagged name key value tag) sound = inl (write_keeps s.store name key (Put (tagged value tag)) (thing_of s.store name))
+keeps_or s (Delete name key) sound = inl (write_keeps s.store name key Deleted (thing_of s.store name))
+keeps_or s (Drop name) sound = inl (drop_keeps s.store name (thing_of s.store name) (only_readers s.store sound name))
+keeps_or s (Commit name) sound = elim (commit_or s.store name (thing_of s.store name)) [
+  | inl keeps ↦ inl keeps.0
+  | inr (t, b, is, adds) ↦ inr (t, b, name, refl, is, adds)
+]
 
-pub none_in_empty : (name : List ℕ) → get (empty {K = List ℕ} {X = Handle} {R = key_cmp}) name ≡ None
-none_in_empty name = get-empty key_cmp name
+-- ---- what is read is explained
 
-pub nothing_there : (handle : Handle) → Some handle ≡ None → ⊥
-nothing_there handle e = cc
+-- what a transaction read without a conflict is explained at the last number too, as vl_model's law has it
+abbrev pub StaysExplained : Type 0
+StaysExplained =
+    (h : History) (n : ℕ) (reads : List Read) → h.first ≤ n → first_conflict h n reads ≡ None → IsExplained h n reads
+    → IsExplained h (last_number h) reads
 
-inserted : (b : Bool) (x y : Handle) (o : Option Handle) → cond b (Some x) o ≡ Some y → (x ≡ y) ⊎ (o ≡ Some y)
-inserted true x y o e = inl (cc)
-inserted false x y o e = inr e
+abbrev AllSound : History → List (Name × Thing) → Type 0
+AllSound h ts = AllByRecursion (λ (t : Name × Thing). IsSoundThing h t.1) ts
 
-removed : (b : Bool) (y : Handle) (o : Option Handle) → cond b None o ≡ Some y → o ≡ Some y
-removed true y o e = absurd (cc)
-removed false y o e = e
-
-with_handle-sound : (s : State) (name : List ℕ) (handle : Handle) → IsSound s → IsCurrent s.history handle → len (insert s.handles name handle) ≤ 1 → IsSound (with_handle s name handle)
-with_handle-sound s name handle sound now one = record {
-  one = one;
-  current = λ other x is. elim (inserted (eq_by_cmp key_cmp other name) handle x (get s.handles other) (sym (get-insert nat_list_cmp_total s.handles name handle other) ∙ is)) [
-    | inl same ↦ subst (IsCurrent s.history) same now
-    | inr there ↦ sound.current other x there
-  ];
+kept_sound : (s : State) (line : Line) → IsSound s → (step_to s line).state.commits ≡ s.store.commits
+    → AllSound (history_of s) (step_to s line).state.things → IsSound (state_after s line)
+kept_sound s line sound commits things = record {
+  proper = step_proper s.store sound.proper (asked line);
+  things = subst (λ (p : Commits). AllSound (history_in p) (step_to s line).state.things) (sym commits) things;
 }
 
-fewer : (b : Bool) (n : ℕ) → n ≤ 1 → cond b (n - 1) n ≤ 1
-fewer true n le = omega arith
-fewer false n le = le
+stays_sound : (s : State) (line : Line) (sound : IsSound s) → Stays s.store sound (step_to s line) → IsSound (state_after s line)
+stays_sound s line sound stays = kept_sound s line sound stays.commits stays.things
 
-without_handle-sound : (s : State) (name : List ℕ) → IsSound s → IsSound (without_handle s name)
-without_handle-sound s name sound = record {
-  one = rw (len-remove nat_list_cmp_total s.handles name) (fewer (contains_key s.handles name) (len s.handles) sound.one);
-  current = λ other x is. sound.current other x (removed (eq_by_cmp key_cmp other name) x (get s.handles other) (sym (get-remove nat_list_cmp_total s.handles name other) ∙ is));
+commit_sound : (s : State) (name : Name) → IsSound s → Keeps s.store (step_to s (Commit name)) ⊎ Committing s (Commit name)
+    → IsSound (state_after s (Commit name))
+commit_sound s name sound (inl keeps) = kept_sound s (Commit name) sound keeps.commits (commit_stays s.store sound name (thing_of s.store name))
+commit_sound s name sound (inr (t, b, other, same, is, adds)) = record {
+  proper = step_proper s.store sound.proper (asked (Commit name));
+  things = subst (λ (p : Commits). AllSound (history_in p) (step_to s (Commit name)).state.things) (sym adds.commits)
+      (later_things s.store sound t (step_to s (Commit name)).state.things (commit_stays s.store sound name (thing_of s.store name)));
 }
-
--- putting a handle in the place of another leaves as many
-same_len : (s : State) (name : List ℕ) (old new : Handle) → IsSound s → get s.handles name ≡ Some old → len (insert s.handles name new) ≤ 1
-same_len s name old new sound is = rw (len-insert nat_list_cmp_total s.handles name new, is) sound.one
-
--- nothing is open, so there is room for one
-opened-sound : (s : State) (name : List ℕ) (handle : Handle) → IsSound s → IsCurrent s.history handle → IsSound (opened s name handle).1
-opened-sound s name handle sound now =
-    pick (λ r. IsSound r.1) (contains_key s.handles name) _ _ (λ taken. sound) (λ free.
-    pick (λ r. IsSound r.1) (nat_le 1 (len s.handles)) _ _ (λ full. sound) (λ room.
-    with_handle-sound s name handle sound now (rw (len-insert nat_list_cmp_total s.handles name handle, free) (let few : len s.handles < 1 = grind (arith, nat_tests) in omega arith))))
-
-explained-append : (h : History) (n : ℕ) (reads : List Read) (x : Read) → IsExplained h n reads → IsExplainedRead h n x → IsExplained h n (reads ++ (x ∷ []))
-explained-append h n [] x p q = (q, tt)
-explained-append h n (r ∷ reads) x p q = (p.0, explained-append h n reads x p.1 q)
-
-read_in_transaction-sound : (s : State) (name key : List ℕ) (number : ℕ) (reads : List Read) (writes : Writes) (change : Option Change) → IsSound s → get s.handles name ≡ Some (OpenTransaction number reads writes) →
-    IsSound (read_in_transaction s name key number reads writes change).1
-read_in_transaction-sound s name key number reads writes (Some change) sound is = sound
-read_in_transaction-sound s name key number reads writes None sound is =
-    let now = sound.current name (OpenTransaction number reads writes) is in
-    let next : Handle = OpenTransaction number (reads ++ (KeyRead key (value_at s.history number key) ∷ [])) writes in
-    with_handle-sound s name next sound (explained-append s.history number reads (KeyRead key (value_at s.history number key)) now.0 refl, now.1) (same_len s name (OpenTransaction number reads writes) next sound is)
-
-read-sound : (s : State) (name key : List ℕ) (o : Option Handle) → IsSound s → get s.handles name ≡ o → IsSound (read s name key o).1
-read-sound s name key None sound is = sound
-read-sound s name key (Some (OpenView number)) sound is =
-    pick (λ r. IsSound r.1) (is_key_length (length key)) _ _ (λ ok. sound) (λ bad. sound)
-read-sound s name key (Some (OpenTransaction number reads writes)) sound is =
-    pick (λ r. IsSound r.1) (is_key_length (length key)) _ _ (λ ok. read_in_transaction-sound s name key number reads writes (get writes key) sound is) (λ bad. sound)
-
-written-sound : (s : State) (name key : List ℕ) (change : Change) (o : Option Handle) → IsSound s → get s.handles name ≡ o → IsSound (written s name key change o).1
-written-sound s name key change None sound is = sound
-written-sound s name key change (Some (OpenView number)) sound is = sound
-written-sound s name key change (Some (OpenTransaction number reads writes)) sound is =
-    let now = sound.current name (OpenTransaction number reads writes) is in
-    pick (λ r. IsSound r.1) (not (is_lawful_write key change)) _ _ (λ bad. sound) (λ ok.
-    let new : Writes = insert writes key change in
-    let next : Handle = OpenTransaction number reads new in
-    pick (λ r. IsSound r.1) (fits_transaction new) (Done, with_handle s name next) (TooBig, s) (λ fits. with_handle-sound s name next sound now (same_len s name (OpenTransaction number reads writes) next sound is)) (λ big. sound))
-
--- the outcome of a commit that is made
-abbrev accepted : State → List ℕ → Writes → Outcome
-accepted s name writes = (Number (last_number s.history + 1), after_commit s name writes)
-
--- whether the log has room for it
-abbrev has_room : State → Writes → Bool
-has_room s writes = nat_le (s.log.length + bytes_in_log writes) max_room
-
--- nothing is left open behind a commit
-alone : (s : State) (name : List ℕ) (handle : Handle) → IsSound s → get s.handles name ≡ Some handle → remove s.handles name ≡ empty
-alone s name handle sound is =
-    empty_of_len (remove s.handles name) (rw (len-remove nat_list_cmp_total s.handles name, is) (let le = sound.one in omega arith))
-
-accepted-sound : (s : State) (name : List ℕ) (number : ℕ) (reads : List Read) (writes : Writes) → IsSound s → get s.handles name ≡ Some (OpenTransaction number reads writes) → IsSound (after_commit s name writes)
-accepted-sound s name number reads writes sound is =
-    let none = alone s name (OpenTransaction number reads writes) sound is in
-    record {
-      one = rw (none, len-empty key_cmp Handle) zero-le;
-      current = λ other x there. absurd (nothing_there x (sym there ∙ ap (λ (m : FinMap key_cmp Handle). get m other) none ∙ none_in_empty other));
-    }
-
-committed-sound : (s : State) (name : List ℕ) (o : Option Handle) → IsSound s → get s.handles name ≡ o → IsSound (committed s name o).1
-committed-sound s name None sound is = sound
-committed-sound s name (Some (OpenView number)) sound is = sound
-committed-sound s name (Some (OpenTransaction number reads writes)) sound is =
-    pick (λ r. IsSound r.1) (len writes == 0) _ _ (λ nothing. without_handle-sound s name sound) (λ some.
-    pick (λ r. IsSound r.1) (nat_le max_commit_number (last_number s.history)) (Exhausted CommitNumber, s) (cond (has_room s writes) (accepted s name writes) (Full, s)) (λ exhausted. sound) (λ left.
-    pick (λ r. IsSound r.1) (has_room s writes) (accepted s name writes) (Full, s) (λ room. accepted-sound s name number reads writes sound is) (λ full. sound)))
-
-dropped-sound : (s : State) (name : List ℕ) (o : Option Handle) → IsSound s → IsSound (dropped s name o).1
-dropped-sound s name None sound = sound
-dropped-sound s name (Some handle) sound = without_handle-sound s name sound
 
 pub state_after-sound : (s : State) (line : Line) → IsSound s → IsSound (state_after s line)
-state_after-sound s (Begin name) sound = opened-sound s name (OpenTransaction (last_number s.history) [] empty) sound (tt, refl)
-state_after-sound s (View name) sound = opened-sound s name (OpenView (last_number s.history)) sound refl
-state_after-sound s (Get name key) sound = read-sound s name key (get s.handles name) sound refl
-state_after-sound s (Set name key value) sound = written-sound s name key (Put (untagged value)) (get s.handles name) sound refl
-state_after-sound s (GetTagged name key) sound = read-sound s name key (get s.handles name) sound refl
+state_after-sound s (Begin name) sound = stays_sound s (Begin name) sound (transaction_stays s.store sound name)
+state_after-sound s (View name) sound = stays_sound s (View name) sound (view_stays s.store sound name)
+state_after-sound s (Get name key) sound = stays_sound s (Get name key) sound (get_stays s.store sound name answer_of key (thing_of s.store name) refl)
+state_after-sound s (GetTagged name key) sound =
+    stays_sound s (GetTagged name key) sound (get_stays s.store sound name answer_with_tag key (thing_of s.store name) refl)
+state_after-sound s (Scan name low high limit way) sound =
+    stays_sound s (Scan name low high limit way) sound (scan_stays s.store sound way name low high limit (thing_of s.store name) refl)
+state_after-sound s (Set name key value) sound =
+    stays_sound s (Set name key value) sound (write_stays s.store sound name key (Put (untagged value)) (thing_of s.store name) refl)
 state_after-sound s (SetTagged name key value tag) sound =
-    written-sound s name key (Put (tagged value tag)) (get s.handles name) sound refl
-state_after-sound s (DeleteLine name key) sound = written-sound s name key Delete (get s.handles name) sound refl
-state_after-sound s (Commit name) sound = committed-sound s name (get s.handles name) sound refl
-state_after-sound s (Drop name) sound = dropped-sound s name (get s.handles name) sound
+    stays_sound s (SetTagged name key value tag) sound (write_stays s.store sound name key (Put (tagged value tag)) (thing_of s.store name) refl)
+state_after-sound s (Delete name key) sound =
+    stays_sound s (Delete name key) sound (write_stays s.store sound name key Deleted (thing_of s.store name) refl)
+state_after-sound s (Drop name) sound = stays_sound s (Drop name) sound (drop_stays s.store sound name (thing_of s.store name) refl)
+state_after-sound s (Commit name) sound = commit_sound s name sound (keeps_or s (Commit name) sound)
 
--- a commit leaves what stood at the numbers before it
-earlier_commits : (h : History) (writes : Writes) (n : ℕ) → n ≤ last_number h → commits_up_to (with_commit h writes) n ≡ commits_up_to h n
-earlier_commits h writes n le = let fits : n - h.first ≤ length h.commits = omega arith in rw take-append-le refl
+-- a commit that is answered by a number adds what its transaction wrote
+adds_of : (s : State) (name : Name) (t : Transaction) (b : Beginning) (n : ℕ) → thing_of s.store name ≡ Some (ATransaction t b)
+    → (step_to s (Commit name)).answer ≡ Number n → Adds s.store (step_to s (Commit name)) t
+adds_of s name t b n is answered = elim (commit_or s.store name (thing_of s.store name)) [
+  | inl (keeps, none) ↦ absurd (none n answered)
+  | inr (u, c, there, adds) ↦ subst (Adds s.store (step_to s (Commit name))) (same u c (sym there ∙ is)) adds
+]
+  where
+    same : (u : Transaction) (c : Beginning) → Some (ATransaction u c) ≡ Some (ATransaction t b) → u ≡ t
+    same u c e = cc
 
-same_read : (h : History) (writes : Writes) (n : ℕ) (x : Read) → n ≤ last_number h → IsExplainedRead h n x → IsExplainedRead (with_commit h writes) n x
-same_read h writes n (KeyRead key answer) le e = rw (earlier_commits h writes n le) e
-same_read h writes n (RangeRead scan) le e = rw (earlier_commits h writes n le) e
+exchange_explained : StaysExplained → (s : State) (line : Line) → IsSound s → IsExplainedExchange line (exchanged s line)
+exchange_explained stay s (Begin name) sound = tt
+exchange_explained stay s (View name) sound = tt
+exchange_explained stay s (Get name key) sound = λ number by. get_explained s.store sound name answer_of key number (thing_of s.store name) by
+exchange_explained stay s (GetTagged name key) sound = λ number by. get_explained s.store sound name answer_with_tag key number (thing_of s.store name) by
+exchange_explained stay s (Scan name low high limit way) sound =
+    λ number own by. scan_explained s.store sound way name low high limit number own (thing_of s.store name) refl by
+exchange_explained stay s (SetTagged name key value tag) sound = tt
+exchange_explained stay s (Set name key value) sound = tt
+exchange_explained stay s (Delete name key) sound = tt
+exchange_explained stay s (Drop name) sound = tt
+exchange_explained stay s (Commit name) sound = λ t b n is e. commit_explained s.store sound stay name t b n (thing_of s.store name) is is (adds_of s name t b n is e) e
 
-same_reads : (h : History) (writes : Writes) (n : ℕ) (reads : List Read) → n ≤ last_number h → IsExplained h n reads → IsExplained (with_commit h writes) n reads
-same_reads h writes n [] le p = tt
-same_reads h writes n (x ∷ reads) le p = (same_read h writes n x le p.0, same_reads h writes n reads le p.1)
+exchanges_behind : StaysExplained → (s : State) (texts : List (List ℕ)) (o : Option Line) → IsSound s
+    → ((s' : State) → IsSound s' → AreExplained (exchanges_from s' texts))
+    → AreExplained (and_later (λ e. exchanges_from e.after texts) (option_map (exchanged s) o))
+exchanges_behind stay s texts None sound ih = tt
+exchanges_behind stay s texts (Some line) sound ih = (exchange_explained stay s line sound, ih (state_after s line) (state_after-sound s line sound))
 
--- a view's answer is that at its number,
-abbrev answer_in : Outcome → Answer
-answer_in r = r.0
-
-answer_by : (s : State) (b : Bool) (x y : Answer) → answer_in (cond b (x, s) (y, s)) ≡ cond b x y
-answer_by s true x y = refl
-answer_by s false x y = refl
-
--- and so is that of a transaction which hasn't written the key
-noted_read : (s : State) (name key : List ℕ) (n : ℕ) (reads : List Read) (writes : Writes) (b : Bool) (o : Option Change) → o ≡ None
-    → (cond b (read_in_transaction s name key n reads writes o) (Invalid, s)).0 ≡ cond b (found (value_at s.history n key)) Invalid
-noted_read s name key n reads writes true None none = refl
-noted_read s name key n reads writes false None none = refl
-noted_read s name key n reads writes b (Some change) none = absurd (cc)
-
-reads_at : (s : State) (name key : List ℕ) (number : ℕ) (o : Option Handle) → ReadsAt o key number → (read s name key o).0 ≡ read_at s.history number key
-reads_at s name key number None by = absurd by
-reads_at s name key number (Some (OpenView n)) by =
-    answer_by s (is_key_length (length key)) (found (value_at s.history n key)) Invalid ∙ ap (λ (m : ℕ). read_at s.history m key) (sym by)
-reads_at s name key number (Some (OpenTransaction n reads writes)) (by, none) =
-    noted_read s name key n reads writes (is_key_length (length key)) (get writes key) none ∙ ap (λ (m : ℕ). read_at s.history m key) (sym by)
-
-numbered : (m n : ℕ) → Number m ≡ Number n → m ≡ n
-numbered m n e = cc
-
--- the reads of a commit are explained at its transaction's number, and at its own less one
-commit_explained : (s : State) (name : List ℕ) (number : ℕ) (reads : List Read) (writes : Writes) (n : ℕ) (o : Option Handle) → IsSound s → get s.handles name ≡ Some (OpenTransaction number reads writes) → o ≡ Some (OpenTransaction number reads writes) →
-    (committed s name o).0 ≡ Number n → IsExplained (committed s name o).1.history number reads × IsExplained (committed s name o).1.history (n - 1) reads
-commit_explained s name number reads writes n o sound is same =
-    let now = sound.current name (OpenTransaction number reads writes) is in
-    subst (λ (o : Option Handle). (committed s name o).0 ≡ Number n → IsExplained (committed s name o).1.history number reads × IsExplained (committed s name o).1.history (n - 1) reads) (sym same)
-    (pick (λ r. r.0 ≡ Number n → IsExplained r.1.history number reads × IsExplained r.1.history (n - 1) reads) (len writes == 0) _ _ (λ nothing e. absurd (cc)) (λ some.
-    pick (λ r. r.0 ≡ Number n → IsExplained r.1.history number reads × IsExplained r.1.history (n - 1) reads) (nat_le max_commit_number (last_number s.history)) (Exhausted CommitNumber, s) (cond (has_room s writes) (accepted s name writes) (Full, s)) (λ exhausted e. absurd (cc)) (λ left.
-    pick (λ r. r.0 ≡ Number n → IsExplained r.1.history number reads × IsExplained r.1.history (n - 1) reads) (has_room s writes) (accepted s name writes) (Full, s) (λ room e.
-    let at : n - 1 ≡ number = let m = numbered (last_number s.history + 1) n e in let c = now.1 in omega arith in
-    let explained = same_reads s.history writes number reads (let c = now.1 in omega arith) now.0 in
-    (explained, rw at explained)) (λ full e. absurd (cc)))))
-
-exchange_explained : (s : State) (line : Line) → IsSound s → IsExplainedExchange line (exchanged s line)
-exchange_explained s (Begin name) sound = tt
-exchange_explained s (View name) sound = tt
-exchange_explained s (Get name key) sound = λ number by. reads_at s name key number (get s.handles name) by
-exchange_explained s (GetTagged name key) sound = λ number by. ap with_tag (reads_at s name key number (get s.handles name) by)
-exchange_explained s (SetTagged name key value tag) sound = tt
-exchange_explained s (Set name key value) sound = tt
-exchange_explained s (DeleteLine name key) sound = tt
-exchange_explained s (Drop name) sound = tt
-exchange_explained s (Commit name) sound = λ number reads writes n is e. commit_explained s name number reads writes n (get s.handles name) sound is is e
-
-exchanges_behind : (s : State) (texts : List (List ℕ)) (o : Option Line) → IsSound s → ((s' : State) → IsSound s' → AreExplained (exchanges_from s' texts)) → AreExplained (and_later (λ e. exchanges_from e.after texts) (option_map (exchanged s) o))
-exchanges_behind s texts None sound ih = tt
-exchanges_behind s texts (Some line) sound ih = (exchange_explained s line sound, ih (state_after s line) (state_after-sound s line sound))
-
-pub exchanges_from-explained : (texts : List (List ℕ)) (s : State) → IsSound s → AreExplained (exchanges_from s texts)
-exchanges_from-explained [] s sound = tt
-exchanges_from-explained (text ∷ texts) s sound = exchanges_behind s texts (line_of text) sound (exchanges_from-explained texts)
+pub exchanges_from-explained : StaysExplained → (texts : List (List ℕ)) (s : State) → IsSound s → AreExplained (exchanges_from s texts)
+exchanges_from-explained stay [] s sound = tt
+exchanges_from-explained stay (text ∷ texts) s sound = exchanges_behind stay s texts (line_of text) sound (exchanges_from-explained stay texts)
 
 -- ---- no answer is owed at first
 

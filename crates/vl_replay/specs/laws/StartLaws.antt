@@ -1,7 +1,9 @@
 -- In which states runs begin: over an empty disk, and behind another run. And of which disks all of the store is durable.
-use Rattle.std.specs.Prelude.{◌≡◌, ◌≢◌, ◌<◌, ◌≤◌, ◌+◌, ◌^◌, ℕ, List, [], length, Option, None, Some, Ok, Contains, IsSome, refl, true, false}
-use Rattle.std.specs.FinMap.{empty, get, get-empty}
+use Rattle.std.specs.Prelude.{◌≡◌, ◌≢◌, ◌<◌, ◌≤◌, ◌+◌, ◌^◌, ℕ, List, [], ◌∷◌, length, map, Option, None, Some, Ok, Contains, IsSome, T, refl, true, false}
+use Rattle.std.specs.FinMap.{FinMap, empty, empty_of_len, entries, len-entries, entries-from_sorted, entries_sorted, from_sorted, get, get-empty, is_sorted, same_entries_map}
+use Rattle.std.specs.List.{AllByRecursion}
 use Rattle.std.specs.Option.{option_map}
+use Rattle.std.specs.Ordering.{nat_cmp}
 use Rattle.std.proofs.Common.{sym, ◌∙◌, ap, subst, arith}
 use Rattle.vl_disk.specs.Crash.{Image}
 use Rattle.vl_disk.specs.DiskState.{DiskState, File, IsLawful}
@@ -11,22 +13,28 @@ use Rattle.vl_disk.specs.Started.{IsRead, Started, read_left, started_left}
 use Rattle.vl_disk.specs.declared.name.Name.{Name}
 use Rattle.vl_disk.specs.declared.name.Name.TheVariants.{Log, Manifest, Table}
 use Rattle.vl_disk.specs.declared.watched.Watched.{Ghosts}
-use Rattle.vl_layout.specs.declared.segment.Segment.{Segment}
+use Rattle.vl_engine.specs.Opening.{IsDurable, recovered, state_then}
+use Rattle.vl_engine.specs.Reopened.{reopened}
+use Rattle.vl_engine.specs.Shown.{Shown}
+use Rattle.vl_engine.specs.laws.HeldLaws.{held_durable, held_opens_again}
+use Rattle.vl_engine.specs.laws.ReopenedShown.{none_show, shown_reopened}
+use Rattle.vl_layout.specs.Start.{fresh_layout, layout_at_start}
+use Rattle.vl_layout.specs.Store.Commits.{AreProper, Changes, Commits, history_in}
+use Rattle.vl_layout.specs.Store.Dispatch.{new_store}
 use Rattle.vl_manifest.specs.States.{fresh_state}
-use Rattle.vl_model.specs.History.{History, contents_at, last_number, no_history, standing_at, value_at}
-use Rattle.vl_model.specs.laws.HistoryLaws.{get-contents_at, value_at-first, past_value-empty, past_value-standing_at}
+use Rattle.vl_model.specs.History.{History, Past, last_number, no_history}
+use Rattle.vl_model.specs.Keys.{Writes, key_cmp}
+use Rattle.vl_model.specs.Limits.{max_room}
+use Rattle.vl_recover.specs.laws.crash.AlikeLaws.{like_same}
 use Rattle.vl_recover.specs.crash.Alike.{OpensLike}
-use Rattle.vl_recover.specs.laws.crash.AlikeLaws.{like_same, shows_same}
 use Rattle.vl_recover.specs.opening.Answers.{AreStrayNames, Finds, calls_to_open, used_up}
-use Rattle.vl_recover.specs.laws.opening.HeldLaws.{held_may_open, held_opens, held_reads, started_may_open}
-use Rattle.vl_recover.specs.opening.Opening.{Bare, Opening, Opens, Refusal}
-use Rattle.vl_recover.specs.laws.opening.OpeningLaws.{single_opening}
+use Rattle.vl_recover.specs.laws.opening.HeldLaws.{started_may_open}
+use Rattle.vl_recover.specs.opening.Opening.{Bare}
 use Rattle.vl_recover.specs.opening.Plans.{active_log, new_state}
-use Rattle.vl_recover.specs.laws.repairing.StageLaws.{ok_same}
-use Rattle.vl_replay.specs.Sequential.{State}
-use Rattle.vl_replay.specs.Start.{IsDurable, OpensUpTo, StartsIn}
+use Rattle.vl_replay.specs.Sequential.{State, history_of}
+use Rattle.vl_replay.specs.Start.{OpensUpTo, StartsIn}
 use Rattle.vl_replay.specs.Stopped.{AreNumberedUpTo}
-use Rattle.vl_replay.specs.Stored.{IsStored, LogsShow, Shown, logs_of}
+use Rattle.vl_replay.specs.Stored.{IsStored, base_of}
 
 -- ---- an empty disk
 
@@ -34,9 +42,8 @@ use Rattle.vl_replay.specs.Stored.{IsStored, LogsShow, Shown, logs_of}
 -- number 1
 abbrev pub empty_store : ℕ → State
 empty_store calls = record {
-  history = no_history;
-  log = record { number = 1; length = 16 };
-  handles = empty;
+  store = new_store max_room;
+  manifest = new_state (record { log = 0; table = 0; manifest = 0 }) fresh_state;
   calls = calls;
   files = 1;
 }
@@ -100,15 +107,20 @@ no_strays head = record {
     none_among : (name : Name) → Contains [] name → ⊥
     none_among name (i, less, is) = behind i less
 
-pub shows_nothing : LogsShow [] no_history 0
-shows_nothing = record {
-  shows = record {
-    values = λ key number from to. ap Some (sym (value_at-first no_history number key to ∙ past_value-empty number key));
-    meaning = λ _ _. None;
-    resolves = tt;
-    gone_once = λ key version gone. omega arith;
-  };
-  up_to = tt;
+-- the plain lists of no commits are those of a new store
+pub no_commits : history_in (new_store max_room).commits ≡ no_history
+no_commits = ap (λ (base : Past). record { first = 0; base = base; commits = [] })
+    (empty_of_len (from_sorted []) (len-entries (from_sorted []) ∙ ap length (entries-from_sorted nat_cmp [] tt)))
+
+pub shown_nothing : Shown empty no_history 0
+shown_nothing = record {
+  opening = finds_nothing.opening;
+  opens = finds_nothing.opens;
+  number = refl;
+  logs = none_show;
+  some = omega arith;
+  since = omega arith;
+  last = omega arith;
 }
 
 -- A run over a disk on which nothing stands begins in it, after six changing calls. What was removed there may have greater
@@ -123,11 +135,11 @@ starts_bare g disk state files told bare some numbered = record {
   is_read = record { each = λ name. nothing name ∙ sym (ap (option_map (λ (file : File). file.bytes)) (bare name)) };
   found = finds_nothing;
   unused = refl;
-  first = refl;
-  commits = refl;
-  shows = shows_nothing;
-  log = refl;
-  handles = refl;
+  shown = subst (λ (h : History). Shown empty h (last_number h)) (sym no_commits) shown_nothing;
+  proper = record { numbers = tt; base = tt; commits = tt };
+  layout = refl;
+  manifest = refl;
+  things = refl;
   strays = [];
   are_strays = no_strays 1;
   calls = refl;
@@ -145,31 +157,56 @@ starts_empty g disk state told bare none = starts_bare g disk state 1 told bare 
 
 -- ---- a disk that shows a history
 
--- a history that is gone on with from one of its numbers
-abbrev pub gone_on_from : History → ℕ → History
-gone_on_from h m = record { first = m; base = standing_at m (contents_at h m); commits = [] }
+-- a history as plain lists
+abbrev pub plain : History → Commits
+plain h = record {
+  first = h.first;
+  base = map (λ (c : ℕ × Writes). (c.0, entries c.1)) (entries h.base);
+  commits = map (λ (writes : Writes). entries writes) h.commits;
+}
 
-shows_again : (logs : List Segment) (h : History) (m : ℕ) → LogsShow logs h m → LogsShow logs (gone_on_from h m) m
-shows_again logs h m shown = record {
-  shows = record {
-    values = λ key number from to.
-        let same : number ≡ m = omega (arith, from, to) in
-        shown.shows.values key number from to
-        ∙ ap Some (ap (λ (n : ℕ). value_at h n key) same ∙ sym (get-contents_at h m key)
-        ∙ sym (value_at-first (gone_on_from h m) number key to ∙ past_value-standing_at m number (contents_at h m) key (omega arith)));
-    meaning = shown.shows.meaning;
-    resolves = shown.shows.resolves;
-    gone_once = shown.shows.gone_once;
-  };
-  up_to = shown.up_to;
+same_writes : (writes : Writes) → from_sorted (entries writes) ≡ writes
+same_writes writes = same_entries_map (from_sorted (entries writes)) writes (entries-from_sorted key_cmp (entries writes) (entries_sorted writes))
+
+same_commits : (cs : List Writes) → map from_sorted (map (λ (writes : Writes). entries writes) cs) ≡ cs
+same_commits [] = refl
+same_commits (c ∷ cs) = ap (λ (x : Writes). x ∷ map from_sorted (map (λ (writes : Writes). entries writes) cs)) (same_writes c) ∙ ap (λ (xs : List Writes). c ∷ xs) (same_commits cs)
+
+same_base : (cs : List (ℕ × Writes))
+    → map (λ (c : ℕ × Changes). (c.0, from_sorted {R = key_cmp} c.1)) (map (λ (c : ℕ × Writes). (c.0, entries c.1)) cs) ≡ cs
+same_base [] = refl
+same_base (c ∷ cs) =
+    ap (λ (x : Writes). (c.0, x) ∷ map (λ (c : ℕ × Changes). (c.0, from_sorted {R = key_cmp} c.1)) (map (λ (c : ℕ × Writes). (c.0, entries c.1)) cs)) (same_writes c.1)
+    ∙ ap (λ (xs : List (ℕ × Writes)). c ∷ xs) (same_base cs)
+
+-- they are that history, and rise
+pub plain_is : (h : History) → history_in (plain h) ≡ h
+plain_is h =
+    ap (λ (base : List (ℕ × Writes)). record { first = h.first; base = from_sorted base; commits = map from_sorted (map (λ (writes : Writes). entries writes) h.commits) }) (same_base (entries h.base))
+    ∙ ap (λ (base : _). record { first = h.first; base = base; commits = map from_sorted (map (λ (writes : Writes). entries writes) h.commits) })
+    (same_entries_map (from_sorted (entries h.base)) h.base (entries-from_sorted _ (entries h.base) (entries_sorted h.base)))
+    ∙ ap (λ (cs : List Writes). record { first = h.first; base = h.base; commits = cs }) (same_commits h.commits)
+
+rising_base : (cs : List (ℕ × Writes)) → AllByRecursion (λ (c : ℕ × Changes). T (is_sorted key_cmp c.1)) (map (λ (c : ℕ × Writes). (c.0, entries c.1)) cs)
+rising_base [] = tt
+rising_base (c ∷ cs) = (entries_sorted c.1, rising_base cs)
+
+rising_commits : (cs : List Writes) → AllByRecursion (λ (c : Changes). T (is_sorted key_cmp c)) (map (λ (writes : Writes). entries writes) cs)
+rising_commits [] = tt
+rising_commits (c ∷ cs) = (entries_sorted c, rising_commits cs)
+
+pub plain_proper : (h : History) → AreProper (plain h)
+plain_proper h = record {
+  numbers = subst (λ (cs : List (ℕ × Writes)). T (is_sorted nat_cmp cs)) (sym (same_base (entries h.base))) (entries_sorted h.base);
+  base = rising_base (entries h.base);
+  commits = rising_commits h.commits;
 }
 
 -- the store that is opened then
-abbrev pub reopened : {read : Image} → Finds read → History → ℕ → (calls files : ℕ) → State
-reopened found h m calls files = record {
-  history = gone_on_from h m;
-  log = record { number = active_log found.greatest found.opening.state found.logs; length = 16 };
-  handles = empty;
+abbrev pub reopened_store : {read : Image} → Finds read → History → ℕ → (calls files : ℕ) → State
+reopened_store found h m calls files = record {
+  store = record { commits = plain (reopened h m); layout = layout_at_start max_room (recovered found); things = [] };
+  manifest = state_then found;
   calls = calls;
   files = files;
 }
@@ -201,29 +238,29 @@ opens_up_to disk found lawful =
 pub starts_shown : {D : Type 0} (g : Ghosts D) (disk : D) (state : DiskState) (read : Image) (found : Finds read)
     (strays : List Name) (h : History) (m files : ℕ) → g.told disk ≡ Some state → IsRead read state → used_up found ≡ None
     → AreStrayNames read found.opening.state.head strays → Shown read h m → OpensUpTo files state found
-    → StartsIn g disk (reopened found h m (after_calls (calls_to_open found (length strays)) (g.calls disk)) files)
-starts_shown g disk state read found strays h m files told is_read left are_strays shown up_to =
-    let same : shown.opening ≡ found.opening = ok_same {E = Refusal} shown.opening found.opening
-    (single_opening read (Ok shown.opening) (Ok found.opening) shown.opens found.opens) in
-    let number : m ≡ found.opening.number = sym shown.number ∙ ap (λ (o : Opening). o.number) same in
-    record {
-      state = state;
-      told = told;
-      read = read;
-      is_read = is_read;
-      found = found;
-      unused = left;
-      first = number;
-      commits = refl;
-      shows = subst (λ (n : ℕ). LogsShow found.opening.logs (gone_on_from h m) n) number
-          (subst (λ (o : Opening). LogsShow o.logs (gone_on_from h m) m) same (shows_again shown.opening.logs h m shown.logs));
-      log = refl;
-      handles = refl;
-      strays = strays;
-      are_strays = are_strays;
-      calls = refl;
-      files = up_to;
-    }
+    → StartsIn g disk (reopened_store found h m (after_calls (calls_to_open found (length strays)) (g.calls disk)) files)
+starts_shown g disk state read found strays h m files told is_read left are_strays shown up_to = record {
+  state = state;
+  told = told;
+  read = read;
+  is_read = is_read;
+  found = found;
+  unused = left;
+  shown = let same = plain_is (reopened h m) in
+      subst (λ (k : History). Shown read k (last_number k)) (sym same)
+      (subst (Shown read (reopened h m)) (sym (reopened_last h m)) (shown_reopened read h m shown));
+  proper = plain_proper (reopened h m);
+  layout = refl;
+  manifest = refl;
+  things = refl;
+  strays = strays;
+  are_strays = are_strays;
+  calls = refl;
+  files = up_to;
+}
+  where
+    reopened_last : (h : History) (m : ℕ) → last_number (reopened h m) ≡ m
+    reopened_last h m = omega arith
 
 -- ---- durable stores
 
@@ -239,17 +276,7 @@ started_durable image disk started = record {
 
 -- and on one that holds a state, as a run without a fault leaves it.
 pub stored_durable : (s : State) (disk : DiskState) → IsStored s disk → IsDurable disk
-stored_durable s disk stored =
-    let logs : List Segment = logs_of s stored.frozen stored.frames in
-    let m = last_number s.history in
-    record {
-      may_open = held_may_open stored.manifest logs disk stored.lawful stored.holds;
-      as_read = λ read left is_read is_left o opens.
-          let held = held_reads stored.manifest logs m disk stored.holds stored.numbers read is_read in
-          let same = ok_same {E = Refusal} _ o (single_opening read _ (Ok o) held opens) in (
-            o,
-            subst (λ (x : Opening). Opens left (Ok x)) same
-                (held_opens stored.manifest logs m disk stored.holds stored.numbers left is_left.left),
-            shows_same o,
-          );
-    }
+stored_durable s disk stored = record {
+  may_open = held_opens_again (base_of s stored.before) s.store.layout disk stored.holds;
+  as_read = held_durable (base_of s stored.before) s.store.layout (history_of s) disk stored.is_base stored.holds;
+}

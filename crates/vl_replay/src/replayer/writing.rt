@@ -1,42 +1,73 @@
-//! Writing a frame.
-ghost use Rattle.std.specs.Prelude.{◌≡◌, ◌+◌, ◌-◌, ◌^◌, min, length, Some, IsErr, IsTrue, OnErr, OnOk};
-ghost use Rattle.std.specs.Option.{ForSome};
-ghost use Rattle.vl_disk.specs.declared.name.Name.TheVariants as names;
-ghost use Rattle.vl_disk.specs.Disk.{IsChangedBy, Stands};
-ghost use Rattle.vl_disk.specs.DiskState.{DiskState};
-ghost use Rattle.vl_disk.specs.Faults.{HasCause, after_calls};
-ghost use Rattle.vl_disk.specs.Moments.{Elapses};
-ghost use Rattle.vl_disk.specs.Spare.{CanAppend};
-ghost use Rattle.vl_seglog.specs.Staging.{IsStagedFor};
-ghost use Rattle.vl_replay.specs.Writing.{StopsWriting, WhileWriting, written};
+//! Writes through a name.
+ghost use Rattle.std.specs.Prelude.{◌≡◌, List};
+ghost use Rattle.vl_engine.specs.Reading.{OnlyWrites};
+ghost use Rattle.vl_engine.specs.Sees.{Sees};
+ghost use Rattle.vl_layout.specs.Store.Reading.{write_by};
+ghost use Rattle.vl_layout.specs.Store.Things.{thing_of};
+ghost use Rattle.vl_model.specs.History.{History};
+ghost use Rattle.vl_model.specs.Reads.{Read};
+ghost use Rattle.vl_replay.specs.Replaying.{MakesStep, OnlyNoMemory, StandsFor};
+ghost use Rattle.vl_replay.specs.Sequential.{State};
+ghost use Rattle.vl_replay.specs.Standing.{change_of, told_write};
+ghost use Rattle.vl_txn.specs.Refusals.{IsWritten};
 
-use vl_disk::{Disk, Failed};
-use vl_seglog::{ActiveLog, Staged};
+use crate::fails::Halt;
+use crate::replayer::Replayer;
+use crate::replayer::open::{Thing, place};
+use vl_disk::{Disk, HeldFile, Reader};
+use vl_engine::{SetFail, Txn};
+use vl_model::Bytes;
+use vl_script::{Answer, Ident};
 
-/// Appends a staged frame to its log by one call, and makes it durable by another. If it fails, the log is not to be
-/// appended to any more: it has taken some first bytes of the frame, or on a disk that fails cleanly all or none.
-pub fn append_durably<D: Disk>(
-    log: &mut ActiveLog,
-    disk: &mut D,
-    staged: &Staged,
-) -> Result<(), Failed>
-    requires staged_for { IsStagedFor log.old staged.now }
-    requires stands { ForSome (D.told disk.old) (Stands (names.Log log.old.number)) }
-    requires room { CanAppend (length staged.now.frame.items) (D.spare disk.old (names.Log log.old.number)) }
-    ensures written { OnOk result (IsChangedBy (written (names.Log log.old.number) staged.now.frame.items)
-        (D.told disk.old) (D.told disk.new)) }
-    ensures calls { OnOk result (D.calls disk.new ≡ after_calls 2 (D.calls disk.old)) }
-    ensures time { Elapses D.Watched disk.old disk.new (WhileWriting (names.Log log.old.number) staged.now.frame.items) }
-    ensures tells { (state : DiskState) → D.told disk.old ≡ Some state
-        → (now : DiskState) × (D.told disk.new ≡ Some now) }
-    ensures stands { ForSome (D.told disk.new) (Stands (names.Log log.new.number)) }
-    ensures number { log.new.number ≡ log.old.number }
-    ensures longer { OnOk result
-        (log.new.length ≡ min (log.old.length + length staged.now.frame.items) (2 ^ 64 - 1)) }
-    ensures cause { HasCause (D.faults disk.old) (D.faults disk.new) (IsErr result) }
-    ensures stopped { IsTrue D.fails_cleanly
-        → OnErr result (StopsWriting D.Watched (names.Log log.old.number) staged.now.frame.items disk.old disk.new) }
+impl<D: Disk> Replayer<D> {
+    /// Writes a value with its tag, or deletes the key where there is none.
+    pub(super) fn write(
+        &mut self,
+        name: Ident,
+        key: Bytes,
+        value: Option<(Bytes, u8)>,
+    ) -> Result<Answer, Halt>
+        ensures makes { (s : State) → StandsFor D.Held.bytes self.old s
+            → MakesStep D.Held.bytes self.new.engine.core self.new.opens.items s
+            (write_by s.store name key (change_of value) (thing_of s.store name)) result }
+        ensures fails { OnlyNoMemory result }
+        ensures engine { self.new.engine ≡ self.old.engine }
+        ensures halted { self.new.halted ≡ self.old.halted }
+    {
+        let Some(at) = place(&self.opens, name.as_slice()) else {
+            return Ok(Answer::Unknown { name });
+        };
+        match &mut self.opens[at].thing {
+            Thing::View(_) => Ok(Answer::ReadOnly),
+            Thing::Transaction(txn) => told(change(txn, &key, value)),
+        }
+    }
+}
+
+// Writes a value with its tag in a transaction, or that there is none.
+fn change<H: HeldFile, R: Reader<Held = H> + Drop>(
+    txn: &mut Txn<H, R>,
+    key: &Bytes,
+    value: Option<(Bytes, u8)>,
+) -> Result<(), SetFail>
+    ensures written { IsWritten txn.old.writes key.now (change_of value) txn.new.writes result }
+    ensures keeps { OnlyWrites txn.old txn.new }
+    ensures sees { (h : History) (reads : List Read) → Sees H.bytes txn.old h reads → Sees H.bytes txn.new h reads }
 {
-    log.append(disk, staged)?;
-    log.sync(disk)
+    match value {
+        Some((bytes, tag)) => txn.set_tagged(key.as_slice(), bytes.as_slice(), tag),
+        None => txn.delete(key.as_slice()),
+    }
+}
+
+// How a write is answered.
+fn told(written: Result<(), SetFail>) -> Result<Answer, Halt>
+    ensures { result ≡ told_write written }
+{
+    match written {
+        Ok(()) => Ok(Answer::Done),
+        Err(SetFail::EmptyKey | SetFail::KeyTooLong | SetFail::ValueTooLong) => Ok(Answer::Invalid),
+        Err(SetFail::TooBig) => Ok(Answer::TooBig),
+        Err(SetFail::NoMemory) => Err(Halt::NoMemory),
+    }
 }

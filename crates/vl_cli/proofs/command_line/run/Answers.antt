@@ -1,18 +1,24 @@
 use Rattle.std.proofs.Common.{◌≡◌, ◌≢◌, ◌<◌, ◌≤◌, ⊎_elim, inl, inr, ℕ, List, Option, None, Some, refl, sym, ap, subst, ◌∙◌, arith}
 use Rattle.vl_mem.specs.declared.outcome.Outcome.{Outcome}
+use Rattle.vl_layout.specs.Store.Commits.{AreProper}
 use Rattle.vl_replay.specs.Trial.{EndsTrial, begun}
 use Rattle.vl_replay.specs.Trying.{trial_of}
 use Rattle.vl_cli.specs.declared.command_line.words.Command.{Command}
 use Rattle.vl_cli.specs.declared.command_line.words.Command.TheVariants.{Replay, Trial}
 use Rattle.vl_script.specs.Script.{lines_of}
-use Rattle.vl_replay.specs.Endings.{TheDisk, TheSource, TheSink, status_of, usage_line}
+use Rattle.vl_replay.specs.Endings.{TheSource, TheSink, status_of, usage_line}
+use Rattle.vl_disk.specs.Faults.{Rose}
 use Rattle.vl_disk.specs.declared.name.Name.{Name}
 use Rattle.vl_replay.specs.Reading.{ReadsInput, streams}
 use Rattle.vl_replay.specs.Start.{all_explained, explained_from}
-use Rattle.vl_replay.specs.declared.ending.Ending.TheVariants.{Damaged, Refused}
+use Rattle.vl_replay.specs.declared.ending.Ending.TheVariants.{Damaged, ReaderFault, Refused}
 use Rattle.vl_replay.specs.declared.fails.Refusal.{Refusal}
-use Rattle.vl_cli.proofs.Words.{disk_status, source_status, sink_status, is_refused, is_bad_words, rose_by, steady_by, refused_status, refused_rose, refused_steady}
+use Rattle.vl_cli.proofs.Words.{disk_steady, rose_or_unread, source_status, sink_status, is_refused, is_bad_words, rose_by, steady_by, refused_status, refused_rose, refused_steady}
 use Rattle.vl_cli.proofs.command_line.run.Goals as goal
+
+-- the store on an empty disk has no commits
+empty_proper : AreProper begun.store.commits
+empty_proper = record { numbers = tt; base = tt; commits = tt }
 
 -- what the words ask for
 asks : {o p : Option Command} {command : Command} → o ≡ p → o ≡ Some command → p ≡ Some command
@@ -55,10 +61,10 @@ pub returns-in-Some-Replay-clause-answers : goal.returns-in-Some-Replay-clause-a
 returns-in-Some-Replay-clause-answers g c plain = (c.replay-ending.result.ending, c.status-status.ensures, c.replay-ending.ensures.reported, c.replay-ending.ensures.runs)
 
 pub returns-in-Some-Replay-clause-explained : goal.returns-in-Some-Replay-clause-explained
-returns-in-Some-Replay-clause-explained g c s input starts = all_explained g.D.Watched c.args.disk s (lines_of input) starts
+returns-in-Some-Replay-clause-explained g c s input starts = all_explained c.reads_without_conflict_stay_explained.ensures g.D.Watched c.args.disk s (lines_of input) starts
 
 pub returns-in-Some-Replay-clause-explained_in_trial : goal.returns-in-Some-Replay-clause-explained_in_trial
-returns-in-Some-Replay-clause-explained_in_trial g c input = explained_from begun (lines_of input) refl
+returns-in-Some-Replay-clause-explained_in_trial g c input = explained_from c.reads_without_conflict_stay_explained.ensures begun (lines_of input) empty_proper refl
 
 pub returns-in-Some-Replay-clause-no_usage_line : goal.returns-in-Some-Replay-clause-no_usage_line
 returns-in-Some-Replay-clause-no_usage_line g c command plain two = c.replay-ending.ensures.not_the_words (is_bad_words c.replay-ending.result.ending (sym c.status-status.ensures ∙ two))
@@ -67,11 +73,18 @@ pub returns-in-Some-Replay-clause-not_plain : goal.returns-in-Some-Replay-clause
 returns-in-Some-Replay-clause-not_plain g c other = absurd (is_asked Replay c.command_in.ensures (c.in-Some-Replay.is ∙ ap Some c.in-Some-Replay.field-0-is) other)
 
 pub returns-in-Some-Replay-clause-disk_fault : goal.returns-in-Some-Replay-clause-disk_fault
-returns-in-Some-Replay-clause-disk_fault g c is = rose_by TheDisk 3 disk_status c.replay-ending.result.ending _ _ c.replay-ending.ensures.disk_faults (sym c.status-status.ensures ∙ is)
+returns-in-Some-Replay-clause-disk_fault g c is =
+    let ending = c.replay-ending.result.ending in
+    let old = streams g.S.Source g.K.Sink c.args.source.now c.args.sink.now in
+    let new = streams g.S.Source g.K.Sink c.replay-ending.new.source c.replay-ending.new.sink in
+    ⊎_elim
+    (λ (rose : Rose (g.D.Watched.faults c.args.disk) (g.D.Watched.faults c.replay-ending.result.disk)). inl rose)
+    (λ (unread : ending ≡ ReaderFault). inr (λ input told. subst (ReadsInput input old new) unread (c.replay-ending.ensures.input input told)))
+    (rose_or_unread ending _ _ c.replay-ending.ensures.disk_faults (sym c.status-status.ensures ∙ is))
 
 pub returns-in-Some-Replay-clause-no_disk_fault : goal.returns-in-Some-Replay-clause-no_disk_fault
 returns-in-Some-Replay-clause-no_disk_fault g c other whole =
-    steady_by TheDisk 3 disk_status c.replay-ending.result.ending _ _ c.replay-ending.ensures.disk_faults (λ e. other (c.status-status.ensures ∙ e)) (λ e. whole (c.status-status.ensures ∙ e))
+    disk_steady c.replay-ending.result.ending _ _ c.replay-ending.ensures.disk_faults (λ e. other (c.status-status.ensures ∙ e)) (λ e. whole (c.status-status.ensures ∙ e))
 
 pub returns-in-Some-Replay-clause-refused : goal.returns-in-Some-Replay-clause-refused
 returns-in-Some-Replay-clause-refused g c plain is =
@@ -131,10 +144,10 @@ pub returns-in-None-clause-answers : goal.returns-in-None-clause-answers
 returns-in-None-clause-answers g c plain = absurd (none_asked Replay c.command_in.ensures c.in-None.is plain)
 
 pub returns-in-None-clause-explained : goal.returns-in-None-clause-explained
-returns-in-None-clause-explained g c s input starts = all_explained g.D.Watched c.args.disk s (lines_of input) starts
+returns-in-None-clause-explained g c s input starts = all_explained c.reads_without_conflict_stay_explained.ensures g.D.Watched c.args.disk s (lines_of input) starts
 
 pub returns-in-None-clause-explained_in_trial : goal.returns-in-None-clause-explained_in_trial
-returns-in-None-clause-explained_in_trial g c input = explained_from begun (lines_of input) refl
+returns-in-None-clause-explained_in_trial g c input = explained_from c.reads_without_conflict_stay_explained.ensures begun (lines_of input) empty_proper refl
 
 pub returns-in-None-clause-no_usage_line : goal.returns-in-None-clause-no_usage_line
 returns-in-None-clause-no_usage_line g c command plain = absurd (none_asked command c.command_in.ensures c.in-None.is plain)
@@ -191,10 +204,10 @@ returns-in-Some-Trial-clause-tries g c stop outcome input asked told =
     )
 
 pub returns-in-Some-Trial-clause-explained : goal.returns-in-Some-Trial-clause-explained
-returns-in-Some-Trial-clause-explained g c s input starts = all_explained g.D.Watched c.args.disk s (lines_of input) starts
+returns-in-Some-Trial-clause-explained g c s input starts = all_explained c.reads_without_conflict_stay_explained.ensures g.D.Watched c.args.disk s (lines_of input) starts
 
 pub returns-in-Some-Trial-clause-explained_in_trial : goal.returns-in-Some-Trial-clause-explained_in_trial
-returns-in-Some-Trial-clause-explained_in_trial g c input = explained_from begun (lines_of input) refl
+returns-in-Some-Trial-clause-explained_in_trial g c input = explained_from c.reads_without_conflict_stay_explained.ensures begun (lines_of input) empty_proper refl
 
 pub returns-in-Some-Trial-clause-no_usage_line : goal.returns-in-Some-Trial-clause-no_usage_line
 returns-in-Some-Trial-clause-no_usage_line g c command plain two = c.trial.ensures.not_the_words (is_bad_words c.trial.result (sym c.status-status-in-Some-Trial.ensures ∙ two))
@@ -206,10 +219,10 @@ pub returns-in-Some-Trial-clause-untouched : goal.returns-in-Some-Trial-clause-u
 returns-in-Some-Trial-clause-untouched g c stop outcome asked = refl
 
 pub returns-in-Some-Trial-clause-no_fault_in_trial : goal.returns-in-Some-Trial-clause-no_fault_in_trial
-returns-in-Some-Trial-clause-no_fault_in_trial g c stop outcome asked is = c.trial.ensures.no_disk_fault ((disk_status c.trial.result).0 (sym c.status-status-in-Some-Trial.ensures ∙ is))
+returns-in-Some-Trial-clause-no_fault_in_trial g c stop outcome asked is = c.trial.ensures.no_disk_fault (sym c.status-status-in-Some-Trial.ensures ∙ is)
 
 pub returns-in-Some-Trial-clause-disk_fault : goal.returns-in-Some-Trial-clause-disk_fault
-returns-in-Some-Trial-clause-disk_fault g c is = absurd (c.trial.ensures.no_disk_fault ((disk_status c.trial.result).0 (sym c.status-status-in-Some-Trial.ensures ∙ is)))
+returns-in-Some-Trial-clause-disk_fault g c is = absurd (c.trial.ensures.no_disk_fault (sym c.status-status-in-Some-Trial.ensures ∙ is))
 
 pub returns-in-Some-Trial-clause-no_disk_fault : goal.returns-in-Some-Trial-clause-no_disk_fault
 returns-in-Some-Trial-clause-no_disk_fault g c other whole = refl

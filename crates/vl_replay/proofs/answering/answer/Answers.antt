@@ -1,5 +1,5 @@
-use Rattle.std.proofs.Common.{◌≢◌, inl, ◌∙◌, ap, Err, ℕ, List, refl, subst, sym}
-use Rattle.std.specs.Prelude.{Some}
+use Rattle.std.proofs.Common.{◌≡◌, ◌≢◌, inl, ◌∙◌, ap, Err, ℕ, List, refl, subst, sym}
+use Rattle.std.specs.Prelude.{None, Some}
 use Rattle.std.specs.Prelude.{is_ok}
 use Rattle.vl_io.specs.Sink.{Takes, TakesPrefix}
 use Rattle.vl_disk.specs.Faults.{Rose}
@@ -8,10 +8,10 @@ use Rattle.vl_replay.specs.Endings.{OnlyByDisk, TheSink, TheSource, culprit_of, 
 use Rattle.vl_replay.specs.Halts.{HaltsByDisk}
 use Rattle.vl_replay.specs.Replaying.{disk_of}
 use Rattle.vl_replay.specs.declared.ending.Ending.{Ending}
-use Rattle.vl_replay.specs.declared.ending.Ending.TheVariants.{AnswerCut, BadWords, NoMemory, Refused}
-use Rattle.vl_replay.proofs.Runs.Ends.{answer_cut, finished, finish_counts, before_weaker, at_damage, at_fault, damage_counts, damage_counts_sink, ends_as, fault_as, fault_counts, fault_line, fault_stops, or_cut, otherwise_as}
-use Rattle.vl_replay.proofs.Runs.Texts.{halts, of_ok, ends_cut, ends_bad, ends_out, ends_fault}
-use Rattle.vl_replay.proofs.Runs.ReadingOn.{IsOtherwise, ends_for, ends_otherwise, finishes_damaged, finishes_otherwise}
+use Rattle.vl_replay.specs.declared.ending.Ending.TheVariants.{AnswerCut, BadWords, NoMemory, ReaderFault, Refused}
+use Rattle.vl_replay.proofs.Runs.Ends.{answer_cut, finished, finish_counts, before_weaker, at_damage, at_fault, damage_counts, damage_counts_sink, ends_as, fault_as, fault_counts, fault_line, fault_stops, or_cut, otherwise_as, otherwise_counts}
+use Rattle.vl_replay.proofs.Runs.Texts.{by_damage, by_read, halts, of_ok, ends_cut, ends_bad, ends_out, ends_fault}
+use Rattle.vl_replay.proofs.Runs.ReadingOn.{IsOtherwise, ends_for, ends_otherwise, finishes_damaged, finishes_otherwise, finishes_unread}
 use Rattle.vl_replay.proofs.answering.answer.Goals as goal
 
 pub returns-in-Ok-clause-printed : goal.returns-in-Ok-clause-printed
@@ -76,7 +76,7 @@ returns-in-Ok-clause-reads g c =
     (is, (answer, subst (λ (l : List ℕ). Takes (g.K.Sink.held c.args.sink.now) (g.K.Sink.held c.put.new.self) l) ((rw c.in-Ok-Some.field-0-is at c.deref.ensures.value) ∙ out_is) c.in-Ok.ensures.taken))
 
 pub returns-in-Ok-Some-clause-reads : goal.returns-in-Ok-Some-clause-reads
-returns-in-Ok-Some-clause-reads g c = ends_otherwise _ _ c.args.answered AnswerCut _ _ (_, c.in-Err.ensures.part.2) (λ e. cc, λ e. cc, λ name place e. cc)
+returns-in-Ok-Some-clause-reads g c = ends_otherwise _ _ c.args.answered AnswerCut _ _ (_, c.in-Err.ensures.part.2) (λ e. cc, λ e. cc, λ name place e. cc, λ e. cc)
 
 pub returns-in-Ok-None-clause-reads : goal.returns-in-Ok-None-clause-reads
 returns-in-Ok-None-clause-reads g c =
@@ -85,12 +85,12 @@ returns-in-Ok-None-clause-reads g c =
 
 pub returns-in-Err-NoMemory-clause-reads : goal.returns-in-Err-NoMemory-clause-reads
 returns-in-Err-NoMemory-clause-reads g c =
-    finishes_otherwise g.K.Sink c.args.sink.now c.finish.new.sink no_memory_line NoMemory c.finish.result _ _ c.args.answered (λ e. cc, λ e. cc, λ name place e. cc) c.finish.ensures
+    finishes_otherwise g.K.Sink c.args.sink.now c.finish.new.sink no_memory_line NoMemory c.finish.result _ _ c.args.answered (λ e. cc, λ e. cc, λ name place e. cc, λ e. cc) c.finish.ensures
 
 pub returns-clause-reads : goal.returns-clause-reads
 returns-clause-reads g c =
     finishes_otherwise g.K.Sink c.args.sink.now c.end_at_fault.new.sink (line_at c.args.on_fault) (ending_at c.args.on_fault) c.end_at_fault.result _ _ c.args.answered
-    (at_fault IsOtherwise (λ e. cc, λ e. cc, λ name place e. cc) (λ e. cc, λ e. cc, λ name place e. cc) c.args.on_fault) c.end_at_fault.ensures
+    (at_fault IsOtherwise (λ e. cc, λ e. cc, λ name place e. cc, λ e. cc) (λ e. cc, λ e. cc, λ name place e. cc, λ e. cc) c.args.on_fault) c.end_at_fault.ensures
 
 -- ---- how it ends where the disk fails
 
@@ -133,11 +133,11 @@ returns-in-Ok-clause-as_meant g c by = absurd (cc)
 
 pub returns-in-Err-Damaged-clause-printed : goal.returns-in-Err-Damaged-clause-printed
 returns-in-Err-Damaged-clause-printed g c script stands count next =
-    absurd (c.execute_line.ensures.undamaged script.start stands c.in-Err-Damaged.name c.in-Err-Damaged.place (c.in-Err-Damaged.is ∙ ap Err c.in-Err-Damaged.field-0-is))
+    absurd (c.execute_line.ensures.readable script.start stands (by_damage c.execute_line.result _ _ (c.in-Err-Damaged.is ∙ ap Err c.in-Err-Damaged.field-0-is)))
 
 pub returns-in-Err-Damaged-clause-moves : goal.returns-in-Err-Damaged-clause-moves
 returns-in-Err-Damaged-clause-moves g c s stands held =
-    absurd (c.execute_line.ensures.undamaged s stands c.in-Err-Damaged.name c.in-Err-Damaged.place (c.in-Err-Damaged.is ∙ ap Err c.in-Err-Damaged.field-0-is))
+    absurd (c.execute_line.ensures.readable s stands (by_damage c.execute_line.result _ _ (c.in-Err-Damaged.is ∙ ap Err c.in-Err-Damaged.field-0-is)))
 
 pub returns-in-Err-Damaged-clause-sink_faults : goal.returns-in-Err-Damaged-clause-sink_faults
 returns-in-Err-Damaged-clause-sink_faults g c = damage_counts_sink g.K.Sink _ _ _ _ c.end_at_damage.result c.end_at_damage.ensures
@@ -162,8 +162,97 @@ returns-in-Err-Damaged-clause-not_the_words g c =
 pub returns-in-Err-Damaged-clause-reads : goal.returns-in-Err-Damaged-clause-reads
 returns-in-Err-Damaged-clause-reads g c =
     finishes_damaged g.K.Sink _ _ _ _ c.end_at_damage.result _ _ c.args.answered
-    (c.execute_line.ensures.met c.in-Err-Damaged.name c.in-Err-Damaged.place (c.in-Err-Damaged.is ∙ ap Err c.in-Err-Damaged.field-0-is)) c.end_at_damage.ensures
+    (c.execute_line.ensures.met (by_damage c.execute_line.result _ _ (c.in-Err-Damaged.is ∙ ap Err c.in-Err-Damaged.field-0-is))) c.end_at_damage.ensures
 
 pub returns-in-Err-Damaged-clause-as_meant : goal.returns-in-Err-Damaged-clause-as_meant
 returns-in-Err-Damaged-clause-as_meant g c =
     ends_as c.args.on_fault c.end_at_damage.result (inl (at_damage g.K.Sink _ _ _ _ c.end_at_damage.result (λ (e : Ending). culprit_of e ≢ TheDisk) c.end_at_damage.ensures (λ e. cc) (λ e. cc) (λ e. cc)))
+
+-- ---- how it ends where a read failed
+
+pub returns-in-Err-Read-clause-printed : goal.returns-in-Err-Read-clause-printed
+returns-in-Err-Read-clause-printed g c script stands count next =
+    absurd (c.execute_line.ensures.readable script.start stands (by_read c.execute_line.result _ (c.in-Err-Read.is ∙ ap Err c.in-Err-Read.field-0-is)))
+
+pub returns-in-Err-Read-clause-moves : goal.returns-in-Err-Read-clause-moves
+returns-in-Err-Read-clause-moves g c s stands held =
+    absurd (c.execute_line.ensures.readable s stands (by_read c.execute_line.result _ (c.in-Err-Read.is ∙ ap Err c.in-Err-Read.field-0-is)))
+
+pub returns-in-Err-Read-clause-sink_faults : goal.returns-in-Err-Read-clause-sink_faults
+returns-in-Err-Read-clause-sink_faults g c = finish_counts g.K.Sink _ _ _ ReaderFault c.finish-in-Err-Read.result (λ e. cc) c.finish-in-Err-Read.ensures
+
+pub returns-in-Err-Read-clause-disk_faults : goal.returns-in-Err-Read-clause-disk_faults
+returns-in-Err-Read-clause-disk_faults g c =
+    otherwise_counts g.K.Sink _ _ _ ReaderFault c.finish-in-Err-Read.result (λ e. cc) c.finish-in-Err-Read.ensures _ _
+    (c.execute_line.ensures.cause.steady (subst (λ r. HaltsByDisk r → ⊥) (sym (c.in-Err-Read.is ∙ ap Err c.in-Err-Read.field-0-is)) (λ by. by)))
+
+pub returns-in-Err-Read-clause-reads : goal.returns-in-Err-Read-clause-reads
+returns-in-Err-Read-clause-reads g c =
+    finishes_unread g.K.Sink _ _ c.finish-in-Err-Read.result _ _ c.args.answered
+    (c.execute_line.ensures.met (by_read c.execute_line.result _ (c.in-Err-Read.is ∙ ap Err c.in-Err-Read.field-0-is))) c.finish-in-Err-Read.ensures
+
+pub returns-in-Err-Read-clause-as_meant : goal.returns-in-Err-Read-clause-as_meant
+returns-in-Err-Read-clause-as_meant g c = otherwise_as g.K.Sink _ _ _ ReaderFault c.finish-in-Err-Read.result c.args.on_fault (λ e. cc) c.finish-in-Err-Read.ensures
+
+pub returns-in-Err-Read-clause-readable : goal.returns-in-Err-Read-clause-readable
+returns-in-Err-Read-clause-readable g c s stands =
+    absurd (c.execute_line.ensures.readable s stands (by_read c.execute_line.result _ (c.in-Err-Read.is ∙ ap Err c.in-Err-Read.field-0-is)))
+
+-- ---- no read of a told store fails, and the run goes on over one
+
+some_ending : (a b : Ending) → Some a ≡ Some b → a ≡ b
+some_ending a b e = cc
+
+some_none : (a : Ending) → Some a ≡ None → ⊥
+some_none a e = cc
+
+pub returns-in-Ok-clause-stands : goal.returns-in-Ok-clause-stands
+returns-in-Ok-clause-stands g c s stands on =
+    let made = rw c.in-Ok-Some.field-0-is at (c.in-Ok-Some.ensures.answers s stands) in
+    (made.0.after, made.2)
+
+pub returns-in-Err-NoMemory-clause-readable : goal.returns-in-Err-NoMemory-clause-readable
+returns-in-Err-NoMemory-clause-readable g c s stands =
+    or_cut g.K.Sink _ _ _ NoMemory c.finish.result (λ (e : Ending). Some e ≢ Some ReaderFault) c.finish.ensures (λ e. cc) (λ e. cc)
+
+pub returns-in-Err-Damaged-clause-readable : goal.returns-in-Err-Damaged-clause-readable
+returns-in-Err-Damaged-clause-readable g c s stands =
+    at_damage g.K.Sink _ _ _ _ c.end_at_damage.result (λ (e : Ending). Some e ≢ Some ReaderFault) c.end_at_damage.ensures (λ e. cc) (λ e. cc) (λ e. cc)
+
+pub returns-clause-readable : goal.returns-clause-readable
+returns-clause-readable g c s stands =
+    or_cut g.K.Sink _ _ _ (ending_at c.args.on_fault) c.end_at_fault.result (λ (e : Ending). Some e ≢ Some ReaderFault) c.end_at_fault.ensures
+    (at_fault (λ (e : Ending). Some e ≢ Some ReaderFault) (λ e. cc) (λ e. cc) c.args.on_fault) (λ e. cc)
+
+pub returns-in-Ok-None-clause-readable : goal.returns-in-Ok-None-clause-readable
+returns-in-Ok-None-clause-readable g c s stands by = c.end_at_bad_line.ensures.readable (some_ending _ _ by)
+
+pub returns-in-Ok-Some-clause-stands : goal.returns-in-Ok-Some-clause-stands
+returns-in-Ok-Some-clause-stands g c s stands on = absurd (some_none _ on)
+
+pub returns-in-Ok-None-clause-stands : goal.returns-in-Ok-None-clause-stands
+returns-in-Ok-None-clause-stands g c s stands on = absurd (some_none _ on)
+
+pub returns-in-Err-NoMemory-clause-stands : goal.returns-in-Err-NoMemory-clause-stands
+returns-in-Err-NoMemory-clause-stands g c s stands on = absurd (some_none _ on)
+
+pub returns-in-Err-Damaged-clause-stands : goal.returns-in-Err-Damaged-clause-stands
+returns-in-Err-Damaged-clause-stands g c s stands on = absurd (some_none _ on)
+
+pub returns-in-Err-Read-clause-stands : goal.returns-in-Err-Read-clause-stands
+returns-in-Err-Read-clause-stands g c s stands on = absurd (some_none _ on)
+
+pub returns-clause-stands : goal.returns-clause-stands
+returns-clause-stands g c s stands on = absurd (some_none _ on)
+
+pub returns-in-Err-Read-clause-not_the_source : goal.returns-in-Err-Read-clause-not_the_source
+returns-in-Err-Read-clause-not_the_source g c =
+    or_cut g.K.Sink _ _ _ ReaderFault c.finish-in-Err-Read.result (λ (e : Ending). Some (culprit_of e) ≢ Some TheSource) c.finish-in-Err-Read.ensures (λ e. cc) (λ e. cc)
+
+pub returns-in-Err-Read-clause-not_the_files : goal.returns-in-Err-Read-clause-not_the_files
+returns-in-Err-Read-clause-not_the_files g c refusal =
+    or_cut g.K.Sink _ _ _ ReaderFault c.finish-in-Err-Read.result (λ (e : Ending). Some e ≢ Some (Refused refusal)) c.finish-in-Err-Read.ensures (λ e. cc) (λ e. cc)
+
+pub returns-in-Err-Read-clause-not_the_words : goal.returns-in-Err-Read-clause-not_the_words
+returns-in-Err-Read-clause-not_the_words g c =
+    or_cut g.K.Sink _ _ _ ReaderFault c.finish-in-Err-Read.result (λ (e : Ending). Some e ≢ Some BadWords) c.finish-in-Err-Read.ensures (λ e. cc) (λ e. cc)

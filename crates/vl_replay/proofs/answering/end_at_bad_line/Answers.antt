@@ -1,10 +1,11 @@
-use Rattle.std.proofs.Common.{◌≡◌, ◌+◌, ◌++◌, arith, ◌∷◌, [], ◌∙◌, ℕ, List, refl, ap, subst}
+use Rattle.std.proofs.Common.{◌≡◌, ◌≢◌, ◌+◌, ◌++◌, arith, ◌∷◌, [], ◌∙◌, ℕ, List, refl, ap, subst}
 use Rattle.std.specs.Prelude.{codes}
 use Rattle.std.specs.Fmt.{decimal}
 use Rattle.vl_replay.specs.Endings.{Evidence, bad_line, no_memory_line}
 use Rattle.vl_replay.specs.Steps.{Finishes}
-use Rattle.vl_replay.specs.declared.ending.Ending.TheVariants.{BadLine, NoMemory}
-use Rattle.vl_replay.proofs.Runs.Ends.{finished, finish_counts, line_leaves_disk, bad_line_stops, bad_line_text}
+use Rattle.vl_replay.specs.declared.ending.Ending.{Ending}
+use Rattle.vl_replay.specs.declared.ending.Ending.TheVariants.{BadLine, NoMemory, ReaderFault}
+use Rattle.vl_replay.proofs.Runs.Ends.{finished, finish_counts, line_leaves_disk, or_cut, bad_line_stops, bad_line_text}
 use Rattle.vl_replay.proofs.Runs.ReadingOn.{finishes_badly, finishes_otherwise}
 use Rattle.vl_replay.proofs.answering.end_at_bad_line.Goals as goal
 
@@ -45,4 +46,10 @@ returns-in-Ok-clause-reads g c =
 
 pub returns-clause-reads : goal.returns-clause-reads
 returns-clause-reads g c =
-    finishes_otherwise g.K.Sink c.args.sink.now c.finish-in-Err.new.sink no_memory_line NoMemory c.finish-in-Err.result (Unit {0}) ⊥ c.args.answered (λ e. cc, λ e. cc, λ name place e. cc) c.finish-in-Err.ensures
+    finishes_otherwise g.K.Sink c.args.sink.now c.finish-in-Err.new.sink no_memory_line NoMemory c.finish-in-Err.result (Unit {0}) ⊥ c.args.answered (λ e. cc, λ e. cc, λ name place e. cc, λ e. cc) c.finish-in-Err.ensures
+
+pub returns-in-Ok-clause-readable : goal.returns-in-Ok-clause-readable
+returns-in-Ok-clause-readable g c = or_cut g.K.Sink _ _ _ BadLine c.finish.result (λ (e : Ending). e ≢ ReaderFault) c.finish.ensures (λ e. cc) (λ e. cc)
+
+pub returns-clause-readable : goal.returns-clause-readable
+returns-clause-readable g c = or_cut g.K.Sink _ _ _ NoMemory c.finish-in-Err.result (λ (e : Ending). e ≢ ReaderFault) c.finish-in-Err.ensures (λ e. cc) (λ e. cc)

@@ -4,21 +4,27 @@ use Rattle.std.specs.Option.{option_map}
 use Rattle.vl_script.specs.Script.{text_of}
 use Rattle.vl_replay.specs.Exchanges.{exchanged}
 use Rattle.vl_replay.specs.Replaying.{disk_of}
-use Rattle.vl_replay.specs.Sequential.{state_after}
+use Rattle.vl_replay.specs.Sequential.{answer_to}
 use Rattle.vl_replay.specs.declared.fails.Halt.TheVariants as why
+use Rattle.vl_replay.proofs.Runs.Asking.{line_asks}
 use Rattle.vl_replay.proofs.Runs.Ends.{exchange_at-answered}
-use Rattle.vl_replay.proofs.Disk.Halting.{by_disk_still, damage_still, out_not_by_disk, out_undamaged}
+use Rattle.vl_replay.proofs.Disk.Halting.{by_disk_still, by_read_still, out_not_by_disk, out_readable}
+use Rattle.vl_replay.proofs.Runs.Extending.{is_told_text}
 use Rattle.vl_replay.proofs.Runs.Texts.{carries_nothing, carries_bad, carries_line, kept_without_number, of_ok, ok_not_err, ok_not_out, same_halt}
 use Rattle.vl_replay.proofs.answering.execute_line.Goals as goal
+
+pub line-requires : goal.line-requires
+line-requires g c = line_asks c.args.text.now c.in-Some.line (sym c.in_ok-line.ensures ∙ c.in-Some.is)
 
 pub returns-clause-answers : goal.returns-clause-answers
 returns-clause-answers g c s stands =
     let line = c.in-Some.line in
     let answer = c.in_ok-answer.answer in (
-      record { before = s; line = line; answer = answer; after = state_after s line },
-      exchange_at-answered s c.args.text.now line answer (sym c.in_ok-line.ensures ∙ c.in-Some.is) (c.in_ok-answer.ensures.answer s stands),
+      exchanged s line,
+      exchange_at-answered s c.args.text.now line (sym c.in_ok-line.ensures ∙ c.in-Some.is),
       c.in_ok-answer.ensures.after s stands,
-      c.in_ok-print_answer.ensures.text ∙ ap (λ (l : List ℕ). l ++ text_of answer) c.in_ok-out.ensures.items,
+      c.in_ok-print_answer.ensures.text ∙ ap (λ (l : List ℕ). l ++ text_of answer) c.in_ok-out.ensures.items
+          ∙ is_told_text answer (answer_to s line) (c.in_ok-answer.ensures.answer s stands),
     )
 
 pub returns-in_err-line-clause-carries : goal.returns-in_err-line-clause-carries
@@ -72,30 +78,42 @@ returns-clause-reads g c =
       (answer, c.in_ok-print_answer.ensures.text ∙ ap (λ (l : List ℕ). l ++ text_of answer) c.in_ok-out.ensures.items),
     )
 
--- ---- damage
+-- ---- what can't be read
 
-pub returns-in_err-line-clause-undamaged : goal.returns-in_err-line-clause-undamaged
-returns-in_err-line-clause-undamaged g c s stands = out_undamaged c.from_residual.result c.from_residual.ensures.1
+pub returns-in_err-line-clause-readable : goal.returns-in_err-line-clause-readable
+returns-in_err-line-clause-readable g c s stands = out_readable c.from_residual.result c.from_residual.ensures.1
 
-pub returns-in_err-out-clause-undamaged : goal.returns-in_err-out-clause-undamaged
-returns-in_err-out-clause-undamaged g c s stands = out_undamaged c.from_residual-in_err-out.result c.from_residual-in_err-out.ensures.1
+pub returns-in_err-out-clause-readable : goal.returns-in_err-out-clause-readable
+returns-in_err-out-clause-readable g c s stands = out_readable c.from_residual-in_err-out.result c.from_residual-in_err-out.ensures.1
 
-pub returns-in_err-answer-clause-undamaged : goal.returns-in_err-answer-clause-undamaged
-returns-in_err-answer-clause-undamaged g c s stands name place is =
-    c.line.ensures.undamaged c.requires s stands name place
-    (damage_still c.line.result c.from_residual-in_err-answer.result _ name place c.in_err-answer.was c.from_residual-in_err-answer.ensures.1 is)
+pub returns-in_err-answer-clause-readable : goal.returns-in_err-answer-clause-readable
+returns-in_err-answer-clause-readable g c s stands by =
+    c.line.ensures.sound c.requires s stands
+    (by_read_still c.line.result c.from_residual-in_err-answer.result _ c.in_err-answer.was c.from_residual-in_err-answer.ensures.1 by)
 
-pub returns-in_err-print_answer-clause-undamaged : goal.returns-in_err-print_answer-clause-undamaged
-returns-in_err-print_answer-clause-undamaged g c s stands = out_undamaged c.from_residual-in_err-print_answer.result c.from_residual-in_err-print_answer.ensures.1
+pub returns-in_err-print_answer-clause-readable : goal.returns-in_err-print_answer-clause-readable
+returns-in_err-print_answer-clause-readable g c s stands = out_readable c.from_residual-in_err-print_answer.result c.from_residual-in_err-print_answer.ensures.1
 
 pub returns-in_err-line-clause-met : goal.returns-in_err-line-clause-met
-returns-in_err-line-clause-met g c name place is = absurd (out_undamaged c.from_residual.result c.from_residual.ensures.1 name place is)
+returns-in_err-line-clause-met g c by = absurd (out_readable c.from_residual.result c.from_residual.ensures.1 by)
 
 pub returns-in_err-out-clause-met : goal.returns-in_err-out-clause-met
-returns-in_err-out-clause-met g c name place is = (c.in-Some.line, sym c.in_ok-line.ensures ∙ c.in-Some.is)
+returns-in_err-out-clause-met g c by = (c.in-Some.line, sym c.in_ok-line.ensures ∙ c.in-Some.is)
 
 pub returns-in_err-answer-clause-met : goal.returns-in_err-answer-clause-met
-returns-in_err-answer-clause-met g c name place is = (c.in-Some.line, sym c.in_ok-line.ensures ∙ c.in-Some.is)
+returns-in_err-answer-clause-met g c by = (c.in-Some.line, sym c.in_ok-line.ensures ∙ c.in-Some.is)
 
 pub returns-in_err-print_answer-clause-met : goal.returns-in_err-print_answer-clause-met
-returns-in_err-print_answer-clause-met g c name place is = (c.in-Some.line, sym c.in_ok-line.ensures ∙ c.in-Some.is)
+returns-in_err-print_answer-clause-met g c by = (c.in-Some.line, sym c.in_ok-line.ensures ∙ c.in-Some.is)
+
+pub returns-in_default-clause-readable : goal.returns-in_default-clause-readable
+returns-in_default-clause-readable g c s stands by = by
+
+pub returns-clause-readable : goal.returns-clause-readable
+returns-clause-readable g c s stands by = by
+
+pub returns-in_default-clause-met : goal.returns-in_default-clause-met
+returns-in_default-clause-met g c by = absurd by
+
+pub returns-clause-met : goal.returns-clause-met
+returns-clause-met g c by = absurd by

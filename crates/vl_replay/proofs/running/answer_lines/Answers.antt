@@ -1,16 +1,18 @@
-use Rattle.std.proofs.Common.{◌∙◌, ℕ, List, refl, arith, subst, sym}
+use Rattle.std.proofs.Common.{◌≢◌, ◌∙◌, ℕ, List, refl, ap, arith, subst, sym}
 use Rattle.std.specs.Prelude.{Some}
 use Rattle.vl_replay.specs.Endings.{EndsAs, Evidence, no_memory_line}
+use Rattle.vl_replay.specs.declared.ending.Ending.{Ending}
 use Rattle.vl_replay.specs.declared.ending.OnFault.{OnFault}
 use Rattle.vl_replay.specs.laws.Laws.{keeps_up_at_first}
 use Rattle.vl_replay.specs.Reading.{HasRead, streams}
 use Rattle.vl_replay.specs.Replaying.{StandsFor, disk_of}
 use Rattle.vl_replay.specs.Runs.{script_of, outside}
 use Rattle.vl_replay.specs.Steps.{kept}
-use Rattle.vl_replay.specs.Stored.{IsStopped, IsStored, Shown}
-use Rattle.vl_replay.specs.declared.ending.Ending.TheVariants.{NoMemory}
-use Rattle.vl_replay.proofs.Runs.Ends.{finished, line_leaves_disk, otherwise_as}
-use Rattle.vl_replay.proofs.Disk.Logged.{shown_stays, stored_exactly}
+use Rattle.vl_replay.specs.Stored.{IsStopped, IsStored}
+use Rattle.vl_engine.specs.Shown.{Shown}
+use Rattle.vl_replay.specs.declared.ending.Ending.TheVariants.{NoMemory, ReaderFault}
+use Rattle.vl_replay.proofs.Runs.Ends.{finish_counts, finished, line_leaves_disk, or_cut, otherwise_as, otherwise_counts}
+use Rattle.vl_replay.proofs.Disk.Shown.{shown_stays, stored_exactly}
 use Rattle.vl_replay.proofs.Runs.ReadingOn.{finished_otherwise, read_nothing, reads_nothing}
 use Rattle.vl_replay.proofs.Runs.Stepping.{step_apart}
 use Rattle.vl_replay.proofs.Runs.UnderWay.{UnderWay, begun, further, over}
@@ -29,12 +31,13 @@ pub lines-init : goal.lines-init
 lines-init g c = record {
   under_way = λ s input stands told.
       let begin = outside g.S.Source g.K.Sink c.args.source.now c.args.sink.now (disk_of c.args.replayer) in
-      subst (λ (b : List ℕ). UnderWay g.D.Watched IsStored Shown (script_of s 0 input) begin begin (kept (StandsFor c.args.replayer) b 0)) (sym c.in-Ok.ensures)
-      (begun g.D.Watched (record { only_now = g.met.D.Disk.only_now; counts_now = g.met.D.Disk.counts_now }) IsStored Shown IsStopped shown_stays stored_exactly s input begin (StandsFor c.args.replayer) stands told (g.met.S.Source.since_asked c.args.source.now));
+      subst (λ (b : List ℕ). UnderWay g.D.Watched IsStored Shown (script_of s 0 input) begin begin (kept (StandsFor g.D.Held.HeldFile.bytes c.args.replayer) b 0)) (sym c.in-Ok.ensures)
+      (begun g.D.Watched (record { only_now = g.met.D.Disk.only_now; counts_now = g.met.D.Disk.counts_now }) IsStored Shown IsStopped shown_stays stored_exactly s input begin (StandsFor g.D.Held.HeldFile.bytes c.args.replayer) stands told (g.met.S.Source.since_asked c.args.source.now));
   has_read = λ input told.
       let begin = streams g.S.Source g.K.Sink c.args.source.now c.args.sink.now in
       subst (λ (b : List ℕ). HasRead input begin begin b 0) (sym c.in-Ok.ensures)
       (read_nothing input begin told (keeps_up_at_first input begin.asked (g.met.S.Source.since_asked c.args.source.now input told)));
+  stands = λ s stands. (s, stands);
   source_steady = refl;
   sink_steady = refl;
   disk_steady = refl;
@@ -48,9 +51,10 @@ lines-preserved g c = record {
       let u = c.lines.invariant.under_way s input stands told in
       further g.D.Watched (record { only_now = g.met.D.Disk.only_now; counts_now = g.met.D.Disk.counts_now }) IsStored Shown IsStopped shown_stays stored_exactly s input
       (outside g.S.Source g.K.Sink c.args.source.now c.args.sink.now (disk_of c.args.replayer)) (outside g.S.Source g.K.Sink c.lines.source c.lines.sink (disk_of c.lines.progress.replayer)) (outside g.S.Source g.K.Sink c.step.new.source c.step.new.sink (disk_of c.step.new.self.replayer))
-      (kept (StandsFor c.lines.progress.replayer) c.lines.progress.buffer c.lines.progress.answered) (kept (StandsFor c.step.new.self.replayer) c.step.new.self.buffer c.step.new.self.answered) u
+      (kept (StandsFor g.D.Held.HeldFile.bytes c.lines.progress.replayer) c.lines.progress.buffer c.lines.progress.answered) (kept (StandsFor g.D.Held.HeldFile.bytes c.step.new.self.replayer) c.step.new.self.buffer c.step.new.self.answered) u
       (c.in_default-step.ensures.runs u.rest u.to_do);
   has_read = λ input told. c.in_default-step.ensures.reads input (streams g.S.Source g.K.Sink c.args.source.now c.args.sink.now) (c.lines.invariant.has_read input told);
+  stands = λ s stands. let now = c.lines.invariant.stands s stands in c.in_default-step.ensures.stands now.0 now.1 refl;
   source_steady = c.in_default-step.ensures.source_faults.steady (λ e. cc) (λ e. cc) ∙ c.lines.invariant.source_steady;
   sink_steady = c.in_default-step.ensures.sink_faults.steady (λ e. cc) (λ e. cc) ∙ c.lines.invariant.sink_steady;
   disk_steady = c.in_default-step.ensures.disk_faults.steady (λ e. cc) (λ e. cc) ∙ c.lines.invariant.disk_steady;
@@ -65,17 +69,32 @@ returns-in-Some-clause-runs g c s input stands told =
     let same_disk = c.lines.invariant.disk_steady in
     rw c.close-in-Some.ensures (over g.D.Watched (record { only_now = g.met.D.Disk.only_now; counts_now = g.met.D.Disk.counts_now }) IsStored Shown IsStopped shown_stays stored_exactly s input
     (outside g.S.Source g.K.Sink c.args.source.now c.args.sink.now (disk_of c.args.replayer)) (outside g.S.Source g.K.Sink c.lines.source c.lines.sink (disk_of c.lines.progress.replayer)) (outside g.S.Source g.K.Sink c.step.new.source c.step.new.sink (disk_of c.step.new.self.replayer))
-    (kept (StandsFor c.lines.progress.replayer) c.lines.progress.buffer c.lines.progress.answered) (kept (StandsFor c.step.new.self.replayer) c.step.new.self.buffer c.step.new.self.answered) u
+    (kept (StandsFor g.D.Held.HeldFile.bytes c.lines.progress.replayer) c.lines.progress.buffer c.lines.progress.answered) (kept (StandsFor g.D.Held.HeldFile.bytes c.step.new.self.replayer) c.step.new.self.buffer c.step.new.self.answered) u
     c.in-Some.ending (omega arith) same_disk (c.in-Some.ensures.runs u.rest u.to_do))
 
 pub returns-in_default-clause-input : goal.returns-in_default-clause-input
 returns-in_default-clause-input g c input told =
-    let other = finished_otherwise g.K.Sink c.args.sink.now c.finish.new.sink no_memory_line NoMemory c.finish.result (λ e. cc, λ e. cc, λ name place e. cc) c.finish.ensures in
+    let other = finished_otherwise g.K.Sink c.args.sink.now c.finish.new.sink no_memory_line NoMemory c.finish.result (λ e. cc, λ e. cc, λ name place e. cc, λ e. cc) c.finish.ensures in
     reads_nothing input (streams g.S.Source g.K.Sink c.args.source.now c.args.sink.now) (streams g.S.Source g.K.Sink c.args.source.now c.finish.new.sink) c.finish.result (c.finish.ensures.printed, c.finish.ensures.taken) other
     (keeps_up_at_first input (g.S.Source.asked c.args.source.now) (g.met.S.Source.since_asked c.args.source.now input told))
 
 pub returns-in-Some-clause-input : goal.returns-in-Some-clause-input
 returns-in-Some-clause-input g c input told = c.in-Some.ensures.reads input (streams g.S.Source g.K.Sink c.args.source.now c.args.sink.now) (c.lines.invariant.has_read input told)
+
+-- ---- the faults that are counted, and the measure
+
+pub returns-in_default-clause-sink_faults : goal.returns-in_default-clause-sink_faults
+returns-in_default-clause-sink_faults g c = finish_counts g.K.Sink _ _ _ NoMemory c.finish.result (λ e. cc) c.finish.ensures
+
+pub returns-in_default-clause-disk_faults : goal.returns-in_default-clause-disk_faults
+returns-in_default-clause-disk_faults g c =
+    otherwise_counts g.K.Sink _ _ _ NoMemory c.finish.result (λ e. cc) c.finish.ensures _ _ (ap g.D.Watched.faults c.close.ensures)
+
+pub returns-in-Some-clause-not_the_files : goal.returns-in-Some-clause-not_the_files
+returns-in-Some-clause-not_the_files g c refusal is = c.in-Some.ensures.not_the_files refusal (ap Some is)
+
+pub lines-smaller : goal.lines-smaller
+lines-smaller g c = c.in_default-step.ensures.shorter refl
 
 -- ---- how it ends where the disk fails
 
@@ -84,6 +103,14 @@ returns-in_default-clause-as_meant g c = otherwise_as g.K.Sink _ _ _ NoMemory c.
 
 pub returns-in-Some-clause-as_meant : goal.returns-in-Some-clause-as_meant
 returns-in-Some-clause-as_meant g c = subst (λ (f : OnFault). EndsAs f (Some c.in-Some.ending)) c.lines.invariant.mode c.in-Some.ensures.as_meant
+
+-- ---- no read fails
+
+pub returns-in_default-clause-readable : goal.returns-in_default-clause-readable
+returns-in_default-clause-readable g c s stands = or_cut g.K.Sink _ _ _ NoMemory c.finish.result (λ (e : Ending). e ≢ ReaderFault) c.finish.ensures (λ e. cc) (λ e. cc)
+
+pub returns-in-Some-clause-readable : goal.returns-in-Some-clause-readable
+returns-in-Some-clause-readable g c s stands is = let now = c.lines.invariant.stands s stands in c.in-Some.ensures.readable now.0 now.1 (ap Some is)
 
 -- ---- what is told of the source stays told
 

@@ -8,14 +8,15 @@ use Rattle.vl_replay.specs.Endings.{culprit_of}
 use Rattle.vl_replay.specs.declared.ending.Ending.{Ending}
 use Rattle.vl_replay.specs.declared.ending.Ending.TheVariants.{DiskFault, Stopped}
 use Rattle.vl_replay.specs.laws.Laws.{keeps_up_at_first}
-use Rattle.vl_replay.specs.Opening.{IsFault}
+use Rattle.vl_engine.specs.Opening.{IsFault}
 use Rattle.vl_replay.specs.Reading.{streams}
 use Rattle.vl_replay.specs.Replaying.{disk_of}
 use Rattle.vl_replay.specs.Runs.{script_of, outside}
-use Rattle.vl_replay.specs.Start.{IsDurable}
-use Rattle.vl_replay.specs.Stored.{IsStopped, IsStored, Shown}
+use Rattle.vl_engine.specs.Opening.{IsDurable}
+use Rattle.vl_replay.specs.Stored.{IsStopped, IsStored}
+use Rattle.vl_engine.specs.Shown.{Shown}
 use Rattle.std.specs.Prelude.{Some, true, false}
-use Rattle.vl_replay.proofs.Disk.Logged.{shown_stays, stored_exactly}
+use Rattle.vl_replay.proofs.Disk.Shown.{shown_stays, stored_exactly}
 use Rattle.vl_replay.proofs.Runs.OpenedRuns.{ends_opened, ends_refused, refused, refused_nothing, refused_as, refused_line, not_for_words, not_silent, out_of_memory, counts_sink, counts_source, counts_disk}
 use Rattle.vl_replay.proofs.Runs.ReadingOn.{unopened_reads_nothing}
 use Rattle.vl_replay.proofs.Runs.Refusals.{fault_for, fault_of, first_for, no_fault, opened_not_refused, refused_for, refused_or_first}

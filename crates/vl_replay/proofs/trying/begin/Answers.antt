@@ -2,6 +2,7 @@ use Rattle.std.proofs.Common.{◌∙◌}
 use Rattle.std.specs.FinMap.{empty}
 use Rattle.vl_disk.specs.DiskState.{empty_disk}
 use Rattle.vl_replay.specs.Trial.{begun}
+use Rattle.vl_replay.specs.Trying.{all_told}
 use Rattle.vl_replay.proofs.Trials.Reopening.{bare_read, counts_small, durable, made_to_stop, opened, starts, stopped}
 use Rattle.vl_replay.proofs.trying.begin.Goals as goal
 
@@ -12,7 +13,7 @@ returns-clause-opened c =
     let told = c.stop_after.ensures.keeps.told ∙ c.new-disk.ensures.told in
     let begins = starts c.args.stop c.stop_after.new.self told made.0 made.1 in
     let opens = c.new-3.ensures in
-    opened c.args.stop c.stop_after.new.self told made.0 made.1 c.new-3.result opens.cause (opens.meanwhile empty_disk empty told bare_read)
+    opened c.args.stop c.stop_after.new.self told made.0 made.1 c.new-3.result opens.cause (opens.meanwhile empty_disk empty told bare_read) all_told
     (opens.store begun begins)
     (opens.holds begun begins (let (state, is, all) = durable c.args.stop c.stop_after.new.self told made.0 made.1 in (state, is, all.may_open)))
 

@@ -1,23 +1,23 @@
 use Rattle.std.proofs.Common.{inl, inr, subst, sym, ◌∙◌, List, ℕ, refl}
 use Rattle.vl_memtable.specs.declared.frozen_log.FrozenLog.{FrozenLog}
-use Rattle.vl_replay.specs.Opened.{IsOpenedStore}
+use Rattle.vl_replay.specs.Opened.{HaveAt}
 use Rattle.vl_mem.specs.MemDisk.{state_of}
 use Rattle.vl_mem.specs.CrashImage.{crash_image}
+use Rattle.vl_disk.specs.Started.{started_read}
 use Rattle.vl_replay.specs.declared.ending.Ending.TheVariants.{Complete}
 use Rattle.vl_replay.specs.Steps.{Finishes}
 use Rattle.vl_recover.specs.laws.opening.ReadImage.{read_image}
-use Rattle.vl_replay.proofs.Trials.Reopening.{again_starts, memory_line, never_failed, only_memory, text_is}
+use Rattle.vl_replay.proofs.Trials.Reopening.{memory_line, never_failed, only_memory, text_is}
 use Rattle.vl_replay.proofs.Trials.TrialEnds.{not_by_disk}
 use Rattle.vl_replay.proofs.trying.reopen.Goals as goal
 
 pub returns-in-Ok-opened_text-clause-reopens : goal.returns-in-Ok-opened_text-clause-reopens
 returns-in-Ok-opened_text-clause-reopens g c h m again =
     let image = crash_image c.args.outcome (state_of c.args.disk) in
-    let begins = again_starts image h m c.in-Ok.disk c.in-Ok.ensures.started again in
-    let (other, unused, opened) = c.in-Ok-recover.ensures.answer begins.state begins.read begins.told begins.is_read in
-    let is = text_is image h m c.in-Ok.disk c.in-Ok.ensures.started again c.in-Ok-recover.parts other opened c.in-Ok-recover.ensures.active
-    _ (λ t store. c.deref-in-Ok-opened_text.ensures.value ∙ c.in-Ok-opened_text.ensures c.in-Ok-recover.parts.active t
-    (subst (λ (frozen : List FrozenLog). IsOpenedStore c.in-Ok-recover.parts.number frozen c.in-Ok-recover.parts.active t) (sym c.deref.ensures.value) store)) in
+    let (other, unused, opened) = c.in-Ok-recover.ensures.answer (state_of c.in-Ok.disk) image refl (started_read image (state_of c.in-Ok.disk) c.in-Ok.ensures.started) in
+    let is = text_is image h m c.in-Ok.disk c.in-Ok.ensures.started again c.in-Ok-recover.parts other opened
+    _ (λ k have. c.deref-in-Ok-opened_text.ensures.value ∙ c.in-Ok-opened_text.ensures k
+    (subst (λ (frozen : List FrozenLog). HaveAt frozen k c.in-Ok-recover.parts.number) (sym c.deref.ensures.value) have)) in
     inl (subst (λ (line : List ℕ). Finishes g.K.Sink c.args.sink.now c.finish-in-Ok-opened_text.new.sink line Complete c.finish-in-Ok-opened_text.result) is c.finish-in-Ok-opened_text.ensures)
 
 pub returns-clause-reopens : goal.returns-clause-reopens

@@ -1,10 +1,13 @@
-use Rattle.std.proofs.Common.{◌≡◌, arith, true, false, sym, ◌∙◌}
+use Rattle.std.proofs.Common.{◌≡◌, ◌≢◌, arith, true, false, sym, ◌∙◌}
 use Rattle.vl_replay.specs.Replaying.{StandsFor, disk_of}
 use Rattle.vl_replay.specs.Runs.{outside}
 use Rattle.vl_replay.specs.Trial.{begun}
-use Rattle.vl_replay.specs.Trying.{trial_of}
+use Rattle.vl_replay.specs.Trying.{all_told, trial_of}
+use Rattle.vl_replay.specs.declared.ending.Ending.{Ending}
+use Rattle.vl_replay.specs.declared.ending.Ending.TheVariants.{ReaderFault}
+use Rattle.vl_replay.proofs.Runs.OpenedRuns.{of_unopened}
 use Rattle.vl_replay.proofs.Trials.Reopening.{memory_line}
-use Rattle.vl_replay.proofs.Trials.TrialEnds.{comes_nowhere, stopped_opening, stops_by_fault, stops_by_memory}
+use Rattle.vl_replay.proofs.Trials.TrialEnds.{comes_nowhere, of_ended, stopped_opening, stops_by_fault, stops_by_memory}
 use Rattle.vl_replay.proofs.Trials.TrialRun.{comes}
 use Rattle.vl_replay.proofs.trying.run_to_stop.Goals as goal
 
@@ -14,7 +17,7 @@ not_both e = cc
 pub returns-in-Ok-clause-comes : goal.returns-in-Ok-clause-comes
 returns-in-Ok-clause-comes g c input told =
     let still = c.answer_lines.ensures.still_told input told in
-    comes c.args.stop (omega (arith, c.ranges.stop.fits)) input (StandsFor c.in-Ok.replayer)
+    comes c.args.stop (omega (arith, c.ranges.stop.fits)) input (StandsFor all_told c.in-Ok.replayer)
     (outside g.S.Source g.K.Sink c.args.source.now c.args.sink.now (disk_of c.in-Ok.replayer))
     (outside g.S.Source g.K.Sink c.answer_lines.new.source c.answer_lines.new.sink c.answer_lines.result.disk)
     c.in-Ok.ensures.opened c.answer_lines.result.ending (c.answer_lines.ensures.runs begun input c.in-Ok.ensures.opened.stands_for told)
@@ -31,3 +34,16 @@ returns-else-is_fault-clause-comes g c input told =
     (memory_line g.K.Sink c.args.sink.now c.end_unopened-ending.new.sink c.in-Err.field-0.why c.end_unopened-ending.result c.end_unopened-ending.ensures
     (stops_by_memory c.args.stop c.in-Err.field-0.disk c.in-Err.field-0.why (λ by. not_both (sym (c.is_fault.ensures.1 by) ∙ c.if-is_fault.false)) c.in-Err.ensures.stopped))
     (trial_of c.args.stop input) _ c.in-Err.field-0.disk
+
+-- ---- no read of the store fails
+
+pub returns-in-Ok-clause-no_read_fault : goal.returns-in-Ok-clause-no_read_fault
+returns-in-Ok-clause-no_read_fault g c = c.answer_lines.ensures.readable begun c.in-Ok.ensures.opened.stands_for
+
+pub returns-then-is_fault-clause-no_read_fault : goal.returns-then-is_fault-clause-no_read_fault
+returns-then-is_fault-clause-no_read_fault g c e = cc
+
+pub returns-else-is_fault-clause-no_read_fault : goal.returns-else-is_fault-clause-no_read_fault
+returns-else-is_fault-clause-no_read_fault g c =
+    of_ended g.K.Sink c.args.sink.now c.end_unopened-ending.new.sink c.in-Err.field-0.why c.end_unopened-ending.result (λ (e : Ending). e ≢ ReaderFault)
+    c.end_unopened-ending.ensures (λ how. of_unopened (λ (e : Ending). e ≢ ReaderFault) (λ refusal e. cc) (λ e. cc) (λ e. cc) how) (λ e. cc)

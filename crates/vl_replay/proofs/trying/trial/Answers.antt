@@ -1,4 +1,5 @@
 use Rattle.std.proofs.Common.{◌≡◌, ⊎_elim, inl, [], Some, refl, sym, subst, ◌∙◌, true, false}
+use Rattle.vl_replay.specs.Sequential.{history_of}
 use Rattle.vl_replay.specs.Endings.{read_fault_line}
 use Rattle.vl_replay.specs.Steps.{Finishes}
 use Rattle.vl_replay.specs.Trial.{reopened_state}
@@ -6,7 +7,7 @@ use Rattle.vl_replay.specs.Trying.{ComesTo, ReopensAs, trial_of}
 use Rattle.vl_model.specs.History.{last_number}
 use Rattle.vl_replay.specs.declared.ending.Ending.{Ending}
 use Rattle.vl_replay.specs.declared.ending.Ending.TheVariants.{ReadFault}
-use Rattle.vl_replay.proofs.Trials.TrialEnds.{ends_reopened, ends_so, ends_source}
+use Rattle.vl_replay.proofs.Trials.TrialEnds.{ends_reopened, ends_so, ends_source, no_fault}
 use Rattle.vl_replay.proofs.trying.trial.Goals as goal
 
 not_both : true ≡ false → ⊥
@@ -30,11 +31,11 @@ returns-then-has_stopped-clause-ends g c input told =
     let t = trial_of c.args.stop input c.args.outcome in
     let s = reopened_state t in
     ⊎_elim
-    (λ (all : (g.S.Source.left c.pass_and_reopen.new.source ≡ Some []) × ReopensAs g.K.Sink s.history (last_number s.history) ran.new.sink c.pass_and_reopen.new.sink c.pass_and_reopen.result).
+    (λ (all : (g.S.Source.left c.pass_and_reopen.new.source ≡ Some []) × ReopensAs g.K.Sink (history_of s) (last_number (history_of s)) ran.new.sink c.pass_and_reopen.new.sink c.pass_and_reopen.result).
     ends_reopened t _ _ (tried.taken c.args.outcome) g.K.Sink ran.new.sink c.pass_and_reopen.new.sink refl _ c.pass_and_reopen.result (inl (meets c.args.outcome)) all.0 all.1)
     (λ (failed : Finishes g.K.Sink ran.new.sink c.pass_and_reopen.new.sink read_fault_line ReadFault c.pass_and_reopen.result).
     ends_source t _ _ (tried.taken c.args.outcome) g.K.Sink ran.new.sink c.pass_and_reopen.new.sink refl _ c.pass_and_reopen.result failed)
-    (c.pass_and_reopen.ensures.reopens rest s.history (last_number s.history) left (tried.leaves c.args.outcome))
+    (c.pass_and_reopen.ensures.reopens rest (history_of s) (last_number (history_of s)) left (tried.leaves c.args.outcome))
 
 pub returns-clause-ends : goal.returns-clause-ends
 returns-clause-ends g c input told =
@@ -42,3 +43,17 @@ returns-clause-ends g c input told =
     ends_so (trial_of c.args.stop input) _ _ _ ran.result.disk ran.result.ending (ran.ensures.comes input told)
     (λ whole. not_both (sym (c.is_complete.ensures.1 whole) ∙ c.if-is_complete.false))
     (λ silent. not_both (sym (c.has_stopped.ensures.1 silent) ∙ c.if-has_stopped.false)) c.args.outcome
+
+-- ---- no fault is reported
+
+pub returns-then-is_complete-clause-no_disk_fault : goal.returns-then-is_complete-clause-no_disk_fault
+returns-then-is_complete-clause-no_disk_fault g c = c.reopen.ensures.no_disk_fault
+
+pub returns-then-has_stopped-clause-no_disk_fault : goal.returns-then-has_stopped-clause-no_disk_fault
+returns-then-has_stopped-clause-no_disk_fault g c = c.pass_and_reopen.ensures.no_disk_fault
+
+pub returns-clause-no_disk_fault : goal.returns-clause-no_disk_fault
+returns-clause-no_disk_fault g c =
+    let ran = c.run_to_stop-ending in
+    no_fault ran.result.ending ran.ensures.no_disk_fault ran.ensures.no_read_fault
+    (λ silent. not_both (sym (c.has_stopped.ensures.1 silent) ∙ c.if-has_stopped.false))

@@ -1,7 +1,7 @@
 use Rattle.std.proofs.Common.{refl, sym, ◌∙◌}
 use Rattle.std.specs.Prelude.{[]}
 use Rattle.vl_engine.proofs.Committing.{carries_unwritten, decides_leaving}
-use Rattle.vl_engine.proofs.Ruled.{carries_by, carries_refused_by, decides_by, files_by, no_conflict_by, ruling_so, stands_by, stops_by, unwritten_here}
+use Rattle.vl_engine.proofs.Ruled.{carries_by, carries_refused_by, decides_by, failed_by, files_by, no_conflict_by, ruling_so, stands_by, stops_by, unwritten_here}
 use Rattle.vl_engine.proofs.Untouched.{alone}
 use Rattle.vl_engine.proofs.engine.Engine.commit.Goals as goal
 use Rattle.vl_engine.specs.Represents.{Fronts, StandsFor, file_of}
@@ -169,6 +169,15 @@ returns-in-Write-clause-explained g c h l reads number is lives sees said =
     (ruling_so c.args.self.now.core h l is c.args.txn.ticket c.args.txn.number reads c.args.txn.writes decisions.Write lives
     (λ floor remembers below. sym c.in-Write.is ∙ c.in-Ok.ensures.decided h floor reads remembers below sees.notes)))
     sees.explained
+
+pub returns-in-Write-clause-failed : goal.returns-in-Write-clause-failed
+returns-in-Write-clause-failed g c h l reads is lives notes stopped =
+    failed_by g.D.Watched (record { only_now = g.met.D.Disk.only_now; counts_now = g.met.D.Disk.counts_now })
+    g.D.Held.HeldFile.bytes c.args.self.now.disk c.write.new.self.disk c.args.self.now.core c.write.new.self.core h l
+    c.args.txn.ticket c.args.txn.number reads c.args.txn.writes c.write.ensures.steps
+    (ruling_so c.args.self.now.core h l is c.args.txn.ticket c.args.txn.number reads c.args.txn.writes decisions.Write lives
+    (λ floor remembers below. sym c.in-Write.is ∙ c.in-Ok.ensures.decided h floor reads remembers below notes))
+    c.write.result c.write.ensures.as_written is stopped
 
 pub returns-in-Write-clause-stopped : goal.returns-in-Write-clause-stopped
 returns-in-Write-clause-stopped g c h l is clean failed =

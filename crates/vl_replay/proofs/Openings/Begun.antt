@@ -1,0 +1,70 @@
+-- What a replayer stands for that was just opened, and what its disk holds, by what the engine's opening gave.
+use Rattle.std.proofs.Common.{◌≡◌, ℕ, List, [], refl, ap, sym, ◌∙◌, subst}
+use Rattle.std.specs.Prelude.{Option, length}
+use Rattle.vl_disk.specs.Faults.{after_calls}
+use Rattle.vl_disk.specs.declared.watched.Watched.{Ghosts}
+use Rattle.vl_engine.specs.Opening.{IsBackAtStart, recovered}
+use Rattle.vl_engine.specs.Represents as engine
+use Rattle.vl_engine.specs.declared.kept.Core.{Core}
+use Rattle.vl_layout.specs.Start.{layout_at_start}
+use Rattle.vl_layout.specs.Store.Lines.{Done, Name}
+use Rattle.vl_layout.specs.Store.Things as store
+use Rattle.vl_layout.specs.Store.Things.{only}
+use Rattle.vl_layout.specs.declared.layout.Layout.{Layout}
+use Rattle.vl_model.specs.History.{History}
+use Rattle.vl_model.specs.Limits.{max_room}
+use Rattle.vl_recover.specs.crash.Meanwhile.{IsRepaired}
+use Rattle.vl_recover.specs.opening.Answers.{calls_to_open}
+use Rattle.vl_replay.specs.Durable.{HoldsState}
+use Rattle.vl_replay.specs.Replaying.{StandsIn}
+use Rattle.vl_replay.specs.Sequential.{State, history_of}
+use Rattle.vl_replay.specs.Standing.{Stand}
+use Rattle.vl_replay.specs.Start.{StartsIn, start_proper}
+use Rattle.vl_replay.specs.Stored.{IsStored}
+use Rattle.vl_replay.specs.declared.replayer.open.Open.{Open}
+use Rattle.vl_replay.specs.laws.Explained.{none_sound}
+use Rattle.vl_replay.proofs.Disk.Committed.{stored_as}
+use Rattle.vl_replay.proofs.Openings.Recovering.{opened_next, opened_numbered}
+
+-- where no name stands for anything none does here
+none_stand : {H R : Type 0} (bytes : H → Option (List ℕ)) (h : History) (l : Layout) → Stand {R = R} bytes [] [] h l
+none_stand bytes h l = record { each = λ name. tt; once = tt; apart = λ name other x y is. absurd cc }
+
+module _ {D H : Type 0} (g : Ghosts D) (bytes : H → Option (List ℕ)) (disk : D) (s : State) (starts : StartsIn g disk s)
+    (core : Core H) (back : IsBackAtStart starts.found max_room core.back) where
+  abbrev its : Layout
+  its = layout_at_start max_room (recovered starts.found)
+
+  -- It stands for the state in which a run begins.
+  pub opened_stands : {R : Type 0} (opens : List (Open H R)) → opens ≡ [] → engine.StandsFor bytes core (history_of s) its
+      → StandsIn bytes core opens s
+  opened_stands {R} opens none stands = record {
+    engine = subst (λ (l : Layout). engine.StandsFor bytes core (history_of s) l) (sym starts.layout) stands;
+    names = subst (λ (os : List (Open H R)). Stand bytes os s.store.things (history_of s) s.store.layout) (sym none)
+        (subst (λ (ts : List (Name × store.Thing)). Stand {R = R} bytes [] ts (history_of s) s.store.layout) (sym starts.things)
+        (none_stand bytes (history_of s) s.store.layout));
+    sound = none_sound s.store (start_proper s starts.proper starts.things) starts.things;
+    running = ap (λ (l : Layout). l.halted) starts.layout;
+    manifest = back.state ∙ sym starts.manifest;
+    next_log = back.next_log ∙ sym (ap (λ (l : Layout). l.next_log) starts.layout);
+  }
+
+  -- The disk behind it holds that state.
+  pub opened_holds : (now : D) → engine.Represents bytes core (g.told now) (history_of s) its
+      → IsRepaired starts.read starts.state (g.told now)
+      → g.calls now ≡ after_calls (calls_to_open starts.found (length starts.strays)) (g.calls disk) → HoldsState g IsStored s now
+  opened_holds now represents repaired calls =
+      let held = represents.held refl in
+      record {
+        calls = calls ∙ sym starts.calls;
+        there = (
+          held.state,
+          held.told_is,
+          stored_as s (only Done s.store) held.state held.base (history_of s) its
+              (sym held.back_is.state ∙ back.state ∙ sym starts.manifest) starts.layout refl
+              held.is_base held.holds represents.stands.tidy held.back_is.next_table
+              (opened_numbered g disk s starts held.state
+              (subst (IsRepaired starts.read starts.state) held.told_is repaired))
+              (opened_next g disk s starts),
+        );
+      }

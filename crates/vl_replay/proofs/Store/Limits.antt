@@ -1,7 +1,0 @@
--- The constants of the code are the numbers of the definitions.
-use Rattle.std.specs.Prelude.{◌≡◌, refl}
-use Rattle.vl_replay.specs.Sequential.{most_open}
-use Rattle.vl_replay.specs.declared.replayer.limits.TheConstants.{MAX_OPEN}
-
-pub most_open_is : MAX_OPEN ≡ most_open
-most_open_is = refl

@@ -1,0 +1,169 @@
+-- What a line leaves of the commits and of the layout: it keeps them, but for what lives, or a commit adds one.
+use Rattle.std.proofs.Common.{◌≡◌, ◌⊎◌, inl, inr, ℕ, ◌+◌, ◌==◌, Bool, true, false, ◌&&◌, not, List, [], ◌∷◌, ◌++◌, map, length, refl, ap}
+use Rattle.std.specs.Prelude.{Option, Some, None, nat_le, if◌then◌else◌}
+use Rattle.std.specs.FinMap.{find, from_sorted, put}
+use Rattle.vl_model.specs.Conflicts.{Named}
+use Rattle.vl_model.specs.Formats.{log_format}
+use Rattle.vl_model.specs.Frames.{frame_length}
+use Rattle.vl_model.specs.History.{History, last_number, with_commit}
+use Rattle.vl_model.specs.Keys.{Stored, Writes, key_cmp, is_key_length, is_value_length, value_bytes}
+use Rattle.vl_model.specs.Limits.{max_commit_number, max_key_bytes, max_live}
+use Rattle.vl_model.specs.declared.change.Change.{Change}
+use Rattle.vl_model.specs.declared.counter.Counter.TheVariants.{Commit as CommitNumber}
+use Rattle.vl_model.specs.declared.way.Way.{Way}
+use Rattle.vl_layout.specs.AtAnswer.{Beginning, beginning_of}
+use Rattle.vl_layout.specs.Ruling.{Ruling, ended, leaving, logged}
+use Rattle.vl_layout.specs.Rulings.Begin as begin
+use Rattle.vl_layout.specs.Rulings.Begin.{BeginAnswer, begin_ruling, begun}
+use Rattle.vl_layout.specs.Rulings.Commit as commit
+use Rattle.vl_layout.specs.Rulings.Commit.{CommitAnswer, Transaction, commit_checked, commit_ended, commit_frame, commit_running, commit_unless, committed}
+use Rattle.vl_layout.specs.Store.Commits.{Changes, Commits, conflict_in, history_in, with_changes}
+use Rattle.vl_layout.specs.Store.Dispatch.{drop_by}
+use Rattle.vl_layout.specs.Store.Lines.{Answer, Name, Number}
+use Rattle.vl_layout.specs.Store.Reading.{begin_as, begun_by, commit_by, committed_by, get_by, get_own, is_small_enough, scan_by, write_by}
+use Rattle.vl_layout.specs.Store.Things.{Thing, ATransaction, AView, AJob, APass, State, Step}
+use Rattle.vl_layout.specs.Tickets.{free_ticket, tickets_of}
+use Rattle.vl_layout.specs.declared.file_name.FileName.{FileName}
+use Rattle.vl_layout.specs.declared.layout.Layout.{Layout}
+
+-- one more commit
+map-more : (cs : List Changes) (c : Changes) → map from_sorted (cs ++ c ∷ []) ≡ map from_sorted cs ++ from_sorted {R = key_cmp} c ∷ []
+map-more [] c = refl
+map-more (d ∷ cs) c = ap (λ (xs : List Writes). from_sorted d ∷ xs) (map-more cs c)
+
+pub history_more : (p : Commits) (c : Changes) → history_in (with_changes p c) ≡ with_commit (history_in p) (from_sorted c)
+history_more p c = ap (λ (cs : List Writes). record (history_in p) { commits = cs }) (map-more p.commits c)
+
+-- a transaction or a view
+abbrev pub IsReader : Thing → Type 0
+IsReader (ATransaction t b) = Unit {0}
+IsReader (AView v b) = Unit {0}
+IsReader (AJob job made) = ⊥
+IsReader (APass pass batch) = ⊥
+
+module _ (s : State) where
+  abbrev h : History
+  h = history_in s.commits
+
+  abbrev l : Layout
+  l = s.layout
+
+  -- the commits stay, and the layout but for what lives
+  pub record Keeps (x : Step) : Type 0 where
+    pub commits : x.state.commits ≡ s.commits
+    pub layout : x.state.layout ≡ record s.layout { live = x.state.layout.live }
+    pub calls : x.calls ≡ 0
+
+  -- this transaction became the next commit
+  pub record Adds (x : Step) (t : Transaction) : Type 0 where
+    pub answer : x.answer ≡ Number (last_number (history_in s.commits) + 1)
+    pub commits : x.state.commits ≡ with_changes s.commits t.writes
+    pub layout : x.state.layout ≡ logged (commit_frame (history_in s.commits) t.writes) (ended t.ticket s.layout)
+    pub calls : x.calls ≡ 2
+    -- nothing that it read was overwritten
+    pub none : conflict_in s.commits t.number t.reads ≡ None
+
+  kept_alike : (x : Step) → x.state.commits ≡ s.commits → x.state.layout ≡ record s.layout { live = x.state.layout.live } → x.calls ≡ 0 → Keeps x
+  kept_alike x commits layout calls = record { commits = commits; layout = layout; calls = calls }
+
+  either : (b : Bool) (x y : Step) → Keeps x → Keeps y → Keeps (if b then x else y)
+  either true x y p q = p
+  either false x y p q = q
+
+  -- ---- begins
+
+  begun_keeps : (name : Name) (thing : ℕ → ℕ → Thing) (b : Bool) (ticket : ℕ)
+      → let r : Ruling BeginAnswer = if b then leaving begin.TooMany h l else leaving (begin.Begun ticket (last_number h)) h (begun l ticket (last_number h)) in Keeps (begun_by s name thing r r.answer)
+  begun_keeps name thing true ticket = kept_alike _ refl refl refl
+  begun_keeps name thing false ticket = kept_alike _ refl refl refl
+
+  pub begin_keeps : (name : Name) (thing : Beginning → ℕ → ℕ → Thing) (o : Option Thing) → Keeps (begin_as s name thing o)
+  begin_keeps name thing (Some other) = kept_alike _ refl refl refl
+  begin_keeps name thing None =
+      begun_keeps name (thing (beginning_of (begin_ruling l h).layout h)) (nat_le max_live (length l.live)) (free_ticket (tickets_of l.live))
+
+  -- ---- reads and writes
+
+  own_keeps : (name : Name) (tell : Option Stored → Answer) (t : Transaction) (b : Beginning) (key : List ℕ) (o : Option Change) → Keeps (get_own s name tell t b key o)
+  own_keeps name tell t b key (Some change) = kept_alike _ refl refl refl
+  own_keeps name tell t b key None = kept_alike _ refl refl refl
+
+  pub get_keeps : (name : Name) (tell : Option Stored → Answer) (key : List ℕ) (o : Option Thing) → Keeps (get_by s name tell key o)
+  get_keeps name tell key None = kept_alike _ refl refl refl
+  get_keeps name tell key (Some (AJob job made)) = kept_alike _ refl refl refl
+  get_keeps name tell key (Some (APass pass batch)) = kept_alike _ refl refl refl
+  get_keeps name tell key (Some (AView v b)) = either (is_key_length (length key)) _ _ (kept_alike _ refl refl refl) (kept_alike _ refl refl refl)
+  get_keeps name tell key (Some (ATransaction t b)) =
+      either (is_key_length (length key)) _ _ (own_keeps name tell t b key (find key_cmp key t.writes)) (kept_alike _ refl refl refl)
+
+  pub scan_keeps : (way : Way) (name : Name) (low high : List ℕ) (limit : ℕ) (o : Option Thing) → Keeps (scan_by s way name low high limit o)
+  scan_keeps way name low high limit None = kept_alike _ refl refl refl
+  scan_keeps way name low high limit (Some (AJob job made)) = kept_alike _ refl refl refl
+  scan_keeps way name low high limit (Some (APass pass batch)) = kept_alike _ refl refl refl
+  scan_keeps way name low high limit (Some (AView v b)) =
+      either (nat_le (length low) max_key_bytes && nat_le (length high) max_key_bytes) _ _ (kept_alike _ refl refl refl) (kept_alike _ refl refl refl)
+  scan_keeps way name low high limit (Some (ATransaction t b)) =
+      either (nat_le (length low) max_key_bytes && nat_le (length high) max_key_bytes) _ _ (kept_alike _ refl refl refl) (kept_alike _ refl refl refl)
+
+  pub write_keeps : (name : Name) (key : List ℕ) (change : Change) (o : Option Thing) → Keeps (write_by s name key change o)
+  write_keeps name key change None = kept_alike _ refl refl refl
+  write_keeps name key change (Some (AJob job made)) = kept_alike _ refl refl refl
+  write_keeps name key change (Some (APass pass batch)) = kept_alike _ refl refl refl
+  write_keeps name key change (Some (AView v b)) = kept_alike _ refl refl refl
+  write_keeps name key change (Some (ATransaction t b)) =
+      either (not (is_key_length (length key) && is_value_length log_format (length (value_bytes change)))) _ _ (kept_alike _ refl refl refl)
+      (either (is_small_enough (put key_cmp key change t.writes)) _ _ (kept_alike _ refl refl refl) (kept_alike _ refl refl refl))
+
+  -- ---- ends
+
+  -- a script has no jobs or passes
+  pub drop_keeps : (name : Name) (o : Option Thing) → ((x : Thing) → o ≡ Some x → IsReader x) → Keeps (drop_by s name o)
+  drop_keeps name None only = kept_alike _ refl refl refl
+  drop_keeps name (Some (ATransaction t b)) only = kept_alike _ refl refl refl
+  drop_keeps name (Some (AView v b)) only = kept_alike _ refl refl refl
+  drop_keeps name (Some (AJob job made)) only = absurd (only (AJob job made) refl)
+  drop_keeps name (Some (APass pass batch)) only = absurd (only (APass pass batch) refl)
+
+  -- it is answered no number
+  abbrev pub IsNoNumber : Step → Type 0
+  IsNoNumber x = (n : ℕ) → x.answer ≡ Number n → ⊥
+
+  abbrev KeepsOr : Transaction → Step → Type 0
+  KeepsOr t x = (Keeps x × IsNoNumber x) ⊎ Adds x t
+
+  module _ (name : Name) (t : Transaction) where
+    abbrev by : Ruling CommitAnswer → Step
+    by r = committed_by s name t r r.answer
+
+    fits_or : (b : Bool) → conflict_in s.commits t.number t.reads ≡ None → KeepsOr t (by (if b then committed l h t else leaving (commit.Full l.active.length (frame_length l.active.format (commit_frame h t.writes))) h l))
+    fits_or true none = inr (record { answer = refl; commits = refl; layout = refl; calls = refl; none = none })
+    fits_or false none = inl (kept_alike _ refl refl refl, λ n e. cc)
+
+    checked_or : (o : Option Named) → conflict_in s.commits t.number t.reads ≡ o → KeepsOr t (by (commit_checked l h t o))
+    checked_or (Some named) is = inl (kept_alike _ refl refl refl, λ n e. cc)
+    checked_or None is = fits_or (nat_le (l.active.length + frame_length l.active.format (commit_frame h t.writes)) l.room) is
+
+    numbered_or : (b : Bool) (o : Option Named) → conflict_in s.commits t.number t.reads ≡ o → KeepsOr t (by (if b then leaving (commit.Exhausted CommitNumber) h l else commit_checked l h t o))
+    numbered_or true o is = inl (kept_alike _ refl refl refl, λ n e. cc)
+    numbered_or false o is = checked_or o is
+
+    running_or : (b : Bool) (o : Option Named) → conflict_in s.commits t.number t.reads ≡ o
+        → KeepsOr t (by (if b then commit_ended commit.Nothing l h t else (if nat_le max_commit_number (last_number h) then leaving (commit.Exhausted CommitNumber) h l else commit_checked l h t o)))
+    running_or true o is = inl (kept_alike _ refl refl refl, λ n e. cc)
+    running_or false o is = numbered_or (nat_le max_commit_number (last_number h)) o is
+
+    unless_or : (halted : Option FileName) (o : Option Named) → conflict_in s.commits t.number t.reads ≡ o → KeepsOr t (by (commit_unless halted l h t o))
+    unless_or (Some file) o is = inl (kept_alike _ refl refl refl, λ n e. cc)
+    unless_or None o is = running_or (length t.writes == 0) o is
+
+  -- a commit keeps them, or adds the writes of what its name stands for
+  pub commit_or : (name : Name) (o : Option Thing)
+      → (Keeps (commit_by s name o) × IsNoNumber (commit_by s name o)) ⊎ ((t : Transaction) × (b : Beginning) × (o ≡ Some (ATransaction t b)) × Adds (commit_by s name o) t)
+  commit_or name None = inl (kept_alike _ refl refl refl, λ n e. cc)
+  commit_or name (Some (AJob job made)) = inl (kept_alike _ refl refl refl, λ n e. cc)
+  commit_or name (Some (APass pass batch)) = inl (kept_alike _ refl refl refl, λ n e. cc)
+  commit_or name (Some (AView v b)) = inl (kept_alike _ refl refl refl, λ n e. cc)
+  commit_or name (Some (ATransaction t b)) = elim (unless_or name t l.halted (conflict_in s.commits t.number t.reads) refl) [
+    | inl keeps ↦ inl keeps
+    | inr adds ↦ inr (t, b, refl, adds)
+  ]

@@ -1,0 +1,61 @@
+//! Begins of transactions and views.
+ghost use Rattle.std.specs.Prelude.{◌≡◌};
+ghost use Rattle.vl_layout.specs.Store.Reading.{a_transaction, a_view, begin_as};
+ghost use Rattle.vl_layout.specs.Store.Things.{thing_of};
+ghost use Rattle.vl_replay.specs.Replaying.{MakesStep, OnlyNoMemory, StandsFor};
+ghost use Rattle.vl_replay.specs.Sequential.{State};
+
+use crate::fails::Halt;
+use crate::replayer::Replayer;
+use crate::replayer::open::{Thing, is_taken, put};
+use vl_disk::Disk;
+use vl_engine::BeginFail;
+use vl_script::{Answer, Ident};
+
+impl<D: Disk> Replayer<D> {
+    /// Begins a transaction of this name.
+    pub(super) fn begin(&mut self, name: Ident) -> Result<Answer, Halt>
+        ensures makes { (s : State) → StandsFor D.Held.bytes self.old s
+            → MakesStep D.Held.bytes self.new.engine.core self.new.opens.items s
+            (begin_as s.store name a_transaction (thing_of s.store name)) result }
+        ensures fails { OnlyNoMemory result }
+        ensures disk { self.new.engine.disk ≡ self.old.engine.disk }
+        ensures halted { self.new.halted ≡ self.old.halted }
+    {
+        if is_taken(&self.opens, name.as_slice()) {
+            return Ok(Answer::Taken { name });
+        }
+        match self.engine.begin() {
+            Ok(txn) => {
+                let number = txn.number();
+                put(&mut self.opens, name, Thing::Transaction(txn))?;
+                Ok(Answer::Number { number })
+            }
+            Err(BeginFail::TooMany) => Ok(Answer::TooMany),
+            Err(BeginFail::NoMemory) => Err(Halt::NoMemory),
+        }
+    }
+
+    /// Begins a view of this name.
+    pub(super) fn view(&mut self, name: Ident) -> Result<Answer, Halt>
+        ensures makes { (s : State) → StandsFor D.Held.bytes self.old s
+            → MakesStep D.Held.bytes self.new.engine.core self.new.opens.items s
+            (begin_as s.store name a_view (thing_of s.store name)) result }
+        ensures fails { OnlyNoMemory result }
+        ensures disk { self.new.engine.disk ≡ self.old.engine.disk }
+        ensures halted { self.new.halted ≡ self.old.halted }
+    {
+        if is_taken(&self.opens, name.as_slice()) {
+            return Ok(Answer::Taken { name });
+        }
+        match self.engine.view() {
+            Ok(view) => {
+                let number = view.number();
+                put(&mut self.opens, name, Thing::View(view))?;
+                Ok(Answer::Number { number })
+            }
+            Err(BeginFail::TooMany) => Ok(Answer::TooMany),
+            Err(BeginFail::NoMemory) => Err(Halt::NoMemory),
+        }
+    }
+}

@@ -1,0 +1,79 @@
+//! Opening the store on a disk.
+ghost use Rattle.std.specs.Prelude.{◌≡◌, ◌≤◌, ◌^◌, ◌-◌, IfErr, IfOk, IsErr, Some};
+ghost use Rattle.vl_disk.specs.Crash.{Image};
+ghost use Rattle.vl_disk.specs.DiskState.{DiskState};
+ghost use Rattle.vl_disk.specs.Faults.{HasCause};
+ghost use Rattle.vl_disk.specs.Moments.{HoldsThroughout};
+ghost use Rattle.vl_disk.specs.Started.{IsRead};
+ghost use Rattle.vl_engine.specs.Opening.{AnswersOpening, IsDurable, IsFault, why_of};
+ghost use Rattle.vl_engine.specs.Shown.{Shown};
+ghost use Rattle.vl_recover.specs.crash.Meanwhile.{FaultsAt, IsMeanwhile};
+ghost use Rattle.vl_recover.specs.crash.Starts.{MayOpen};
+ghost use Rattle.vl_recover.specs.opening.Results.{recovery_by};
+ghost use Rattle.vl_replay.specs.Durable.{CrashesShow, HoldsState, IsAsBefore, StillTells, Tells};
+ghost use Rattle.vl_replay.specs.Opening.{IsRefused, disk_behind};
+ghost use Rattle.vl_replay.specs.Replaying.{StandsFor, TakesLines, disk_of};
+ghost use Rattle.vl_replay.specs.Sequential.{State, history_of};
+ghost use Rattle.vl_replay.specs.Start.{StartsIn};
+ghost use Rattle.vl_replay.specs.Stored.{IsStored};
+ghost use Rattle.vl_replay.specs.declared.fails.Refusal.{Refusal};
+
+use crate::replayer::Replayer;
+use std::alloc::Global;
+use vl_disk::Disk;
+use vl_engine::{Engine, OpenFail};
+use vl_model::MAX_ROOM;
+
+impl<D: Disk> Replayer<D> {
+    /// Opens the store on a disk, or makes one where nothing stands. Each log may have 1,073,741,824 bytes.
+    pub fn new(alloc: Global, disk: D) -> Result<Self, OpenFail<D>>
+        // It stands for the store that the disk opens as, and the disk holds it.
+        ensures store { (s : State) → StartsIn D.Watched disk s
+            → IfOk result (λ replayer. StandsFor D.Held.bytes replayer s) }
+        ensures goes_on { IfOk result TakesLines }
+        ensures holds { (s : State) → StartsIn D.Watched disk s → Tells D.Watched disk MayOpen
+            → IfOk result (λ replayer. HoldsState D.Watched IsStored s (disk_of replayer)) }
+
+        // What a crash leaves meanwhile shows what was opened.
+        ensures through { (s : State) → StartsIn D.Watched disk s → Tells D.Watched disk IsDurable
+            → CrashesShow D.Watched Shown disk (disk_behind result) (history_of s) (history_of s) }
+        ensures tells { (state : DiskState) → D.told disk ≡ Some state
+            → StillTells D.Watched (disk_behind result) }
+
+        // It answers what reads give, unless memory runs out or the disk fails. Where that is a refusal nothing is changed,
+        // whatever is answered; and nothing where memory ran out.
+        ensures answer { (state : DiskState) (read : Image) → D.told disk ≡ Some state → IsRead read state
+            → AnswersOpening read (why_of result) }
+        ensures refused { (state : DiskState) (read : Image) (refusal : Refusal) → D.told disk ≡ Some state
+            → IsRead read state → IsRefused read refusal
+            → IsErr result × IsAsBefore D.Watched disk (disk_behind result) }
+        ensures left_alone { (IsFault (why_of result) → ⊥) → IsErr result
+            → IsAsBefore D.Watched disk (disk_behind result) }
+        ensures cause { HasCause (D.faults disk) (D.faults (disk_behind result)) (IsFault (why_of result)) }
+
+        // A fault is named by the file at which it came.
+        ensures at { (state : DiskState) (read : Image) → D.told disk ≡ Some state → IsRead read state
+            → IfErr result (λ fail. FaultsAt read state (D.calls disk) (D.calls (disk_behind result)) (recovery_by fail.why)) }
+
+        // And a store may be opened on the disk again, whatever is answered.
+        ensures again { (state now : DiskState) → D.told disk ≡ Some state → MayOpen state
+            → D.told (disk_behind result) ≡ Some now → MayOpen now }
+
+        // Meanwhile the disk is as it was, or is being repaired by a plan of what reads gave.
+        ensures meanwhile { (state : DiskState) (read : Image) → D.told disk ≡ Some state → IsRead read state
+            → HoldsThroughout D.Watched disk (disk_behind result) (IsMeanwhile read state) }
+
+        // Whatever is answered, it asked for no more changing calls than the opened store counts.
+        ensures at_most { (s : State) → StartsIn D.Watched disk s → D.calls disk ≤ 2 ^ 64 - 1
+            → D.calls (disk_behind result) ≤ s.calls }
+    {
+        match Engine::open(alloc, disk, MAX_ROOM) {
+            Ok(engine) => Ok(Replayer {
+                engine,
+                opens: Vec::new(alloc),
+                halted: None,
+            }),
+            Err(fail) => Err(fail),
+        }
+    }
+}

@@ -1,0 +1,98 @@
+//! Reads through a name.
+ghost use Rattle.std.specs.Prelude.{◌≡◌, ◌≤◌};
+ghost use Rattle.vl_layout.specs.Store.Reading.{get_by, scan_by};
+ghost use Rattle.vl_layout.specs.Store.Things.{thing_of};
+ghost use Rattle.vl_replay.specs.Halts.{HaltsByDisk};
+ghost use Rattle.vl_replay.specs.Replaying.{MakesStep, OnlyNoMemory, StandsFor};
+ghost use Rattle.vl_replay.specs.Sequential.{State};
+ghost use Rattle.vl_replay.specs.Standing.{tell_of, told_by, told_value};
+ghost use Rattle.vl_script.specs.declared.answer.Answer.TheVariants.{Rows as TheRows};
+
+use crate::fails::Halt;
+use crate::replayer::Replayer;
+use crate::replayer::open::{Thing, place};
+use vl_disk::Disk;
+use vl_engine::{ReadFail, Rows};
+use vl_model::{Bytes, Value, Way};
+use vl_script::{Answer, Ident};
+
+impl<D: Disk> Replayer<D> {
+    /// Reads a key, and tells its value with its tag or without.
+    pub(super) fn read(&mut self, name: Ident, key: Bytes, with_tag: bool) -> Result<Answer, Halt>
+        ensures makes { (s : State) → StandsFor D.Held.bytes self.old s
+            → MakesStep D.Held.bytes self.new.engine.core self.new.opens.items s
+            (get_by s.store name (tell_of with_tag) key (thing_of s.store name)) result }
+        ensures sound { (s : State) → StandsFor D.Held.bytes self.old s → OnlyNoMemory result }
+        ensures not_the_disk { HaltsByDisk result → ⊥ }
+        ensures engine { self.new.engine ≡ self.old.engine }
+        ensures halted { self.new.halted ≡ self.old.halted }
+    {
+        let Some(at) = place(&self.opens, name.as_slice()) else {
+            return Ok(Answer::Unknown { name });
+        };
+        match &mut self.opens[at].thing {
+            Thing::View(view) => told(view.get(key.as_slice()), with_tag),
+            Thing::Transaction(txn) => told(txn.get(key.as_slice()), with_tag),
+        }
+    }
+
+    /// Reads the first rows of an interval, as the way goes.
+    pub(super) fn scan(
+        &mut self,
+        name: Ident,
+        low: Bytes,
+        high: Bytes,
+        limit: u16,
+        way: Way,
+    ) -> Result<Answer, Halt>
+        requires { 1 ≤ limit }
+        ensures makes { (s : State) → StandsFor D.Held.bytes self.old s
+            → MakesStep D.Held.bytes self.new.engine.core self.new.opens.items s
+            (scan_by s.store way name low high limit (thing_of s.store name)) result }
+        ensures sound { (s : State) → StandsFor D.Held.bytes self.old s → OnlyNoMemory result }
+        ensures not_the_disk { HaltsByDisk result → ⊥ }
+        ensures engine { self.new.engine ≡ self.old.engine }
+        ensures halted { self.new.halted ≡ self.old.halted }
+    {
+        let Some(at) = place(&self.opens, name.as_slice()) else {
+            return Ok(Answer::Unknown { name });
+        };
+        match &mut self.opens[at].thing {
+            Thing::View(view) => told_rows(view.scan(low.as_slice(), high.as_slice(), limit, way)),
+            Thing::Transaction(txn) => {
+                told_rows(txn.scan(low.as_slice(), high.as_slice(), limit, way))
+            }
+        }
+    }
+}
+
+// How a read of a key is answered.
+fn told(read: Result<Option<Value>, ReadFail>, with_tag: bool) -> Result<Answer, Halt>
+    ensures { result ≡ told_by (told_value with_tag) read }
+{
+    match read {
+        Ok(None) => Ok(Answer::NoValue),
+        Ok(Some(value)) => Ok(if with_tag {
+            Answer::FoundTagged { value }
+        } else {
+            Answer::Found { value }
+        }),
+        Err(ReadFail::EmptyKey | ReadFail::KeyTooLong) => Ok(Answer::Invalid),
+        Err(ReadFail::NoMemory) => Err(Halt::NoMemory),
+        Err(ReadFail::Disk { name }) => Err(Halt::Read { name }),
+        Err(ReadFail::Damaged { name, place }) => Err(Halt::Damaged { name, place }),
+    }
+}
+
+// How a scan is answered.
+fn told_rows(read: Result<Rows, ReadFail>) -> Result<Answer, Halt>
+    ensures { result ≡ told_by (λ rows. TheRows rows) read }
+{
+    match read {
+        Ok(rows) => Ok(Answer::Rows { rows }),
+        Err(ReadFail::EmptyKey | ReadFail::KeyTooLong) => Ok(Answer::Invalid),
+        Err(ReadFail::NoMemory) => Err(Halt::NoMemory),
+        Err(ReadFail::Disk { name }) => Err(Halt::Read { name }),
+        Err(ReadFail::Damaged { name, place }) => Err(Halt::Damaged { name, place }),
+    }
+}
