@@ -1,7 +1,7 @@
 -- What an opening gives, where a store was opened and where not.
-use Rattle.std.specs.Prelude.{◌≡◌, Option, Some, None, Result, Ok, Err}
+use Rattle.std.specs.Prelude.{Result, Ok, Err}
 use Rattle.vl_disk.specs.Crash.{Image}
-use Rattle.vl_recover.specs.opening.Answers.{AnswersBy, Finds, used_up}
+use Rattle.vl_recover.specs.opening.Answers.{AnswersBy}
 use Rattle.vl_recover.specs.opening.Results.{recovery_by}
 use Rattle.vl_recover.specs.declared.fails.OpenFail.{OpenFail}
 use Rattle.vl_recover.specs.declared.fails.OpenError.{OpenError}

@@ -1,6 +1,6 @@
 -- How far a commit came on a disk that then failed, and failed cleanly. And the numbers that a disk's files have.
 use Rattle.std.specs.Prelude.{◌≡◌, ◌≢◌, ◌≤◌, ℕ, ◌+◌, List, length, None}
-use Rattle.std.specs.FinMap.{from_sorted, get}
+use Rattle.std.specs.FinMap.{get}
 use Rattle.vl_disk.specs.DiskState.{DiskState, appended}
 use Rattle.vl_disk.specs.Name.{file_number}
 use Rattle.vl_disk.specs.declared.name.Name.{Name}

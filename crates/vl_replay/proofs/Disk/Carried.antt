@@ -1,6 +1,6 @@
 -- What a line that isn't a commit does to the disk: nothing, and it holds the state behind the line.
-use Rattle.std.proofs.Common.{◌≡◌, ℕ, List, [], refl, ap, sym, ◌∙◌, subst}
-use Rattle.std.specs.Prelude.{Ok, Err, Option, Result, IfOk, OnOk}
+use Rattle.std.proofs.Common.{◌≡◌, ℕ, List, refl, ap, sym, ◌∙◌, subst}
+use Rattle.std.specs.Prelude.{Ok, Err, Option, Result, OnOk}
 use Rattle.vl_disk.specs.DiskState.{DiskState}
 use Rattle.vl_disk.specs.Faults.{after_calls}
 use Rattle.vl_disk.specs.declared.watched.Watched.{Ghosts}
@@ -14,8 +14,8 @@ use Rattle.vl_layout.specs.declared.layout.Layout.{Layout}
 use Rattle.vl_layout.specs.declared.live.Live.{Live}
 use Rattle.vl_model.specs.History.{History}
 use Rattle.vl_replay.specs.Durable.{CarriesOut, HoldsState, LeadsTo}
-use Rattle.vl_replay.specs.Replaying.{MakesStep, OnlyNoMemory, StandsIn, state_by}
-use Rattle.vl_replay.specs.Sequential.{IsTold, State, history_of}
+use Rattle.vl_replay.specs.Replaying.{MakesStep, OnlyNoMemory, state_by}
+use Rattle.vl_replay.specs.Sequential.{State, history_of}
 use Rattle.vl_replay.specs.Stored.{IsStopped, IsStored, base_of}
 use Rattle.vl_replay.specs.declared.fails.Halt.{Halt}
 use Rattle.vl_replay.specs.declared.replayer.open.Open.{Open}

@@ -1,7 +1,7 @@
 -- What a commit does to a disk that holds the state before it, by what the engine carried out.
-use Rattle.std.proofs.Common.{◌≡◌, ℕ, ◌+◌, List, [], length, refl, ap, sym, ◌∙◌, subst, arith}
+use Rattle.std.proofs.Common.{◌≡◌, ℕ, ◌+◌, List, length, refl, ap, sym, ◌∙◌, subst, arith}
 use Rattle.std.specs.Prelude.{Option, None, Some, Ok, Err, Result, OnOk, IsErrAnd, IsTrue, T}
-use Rattle.std.specs.FinMap.{entries, entries_sorted, from_sorted, get, is_sorted}
+use Rattle.std.specs.FinMap.{entries, entries_sorted, is_sorted}
 use Rattle.std.specs.Option.{option_map}
 use Rattle.vl_disk.specs.DiskState.{DiskState, appended}
 use Rattle.vl_disk.specs.Faults.{after_calls}
@@ -20,11 +20,11 @@ use Rattle.vl_engine.specs.declared.txn.Txn.{Txn}
 use Rattle.vl_engine.specs.laws.CommitLaws.{commit_base, commit_holds}
 use Rattle.vl_frame.specs.Runs.{HasFrame}
 use Rattle.vl_layout.specs.AtAnswer.{Beginning}
-use Rattle.vl_layout.specs.Decides.{Answered, Effects, Failed, NoMemory as OutOfMemory, Outcome, as_before}
+use Rattle.vl_layout.specs.Decides.{Answered, Effects, NoMemory as OutOfMemory, Outcome, as_before}
 use Rattle.vl_layout.specs.Ruling.{Ruling}
 use Rattle.vl_layout.specs.Rulings.Commit as commit
 use Rattle.vl_layout.specs.Rulings.Commit.{CommitAnswer, Transaction as ATxn, commit_frame, commit_lost, commit_ruling, commit_unless, committed}
-use Rattle.vl_layout.specs.Store.Commits.{Commits as AllCommits, history_in, with_changes}
+use Rattle.vl_layout.specs.Store.Commits.{history_in}
 use Rattle.vl_layout.specs.Store.Lines.{Done, Name}
 use Rattle.vl_layout.specs.Store.Reading.{commit_by, committed_by}
 use Rattle.vl_layout.specs.Store.Lines as store_lines
@@ -36,7 +36,7 @@ use Rattle.vl_layout.specs.laws.CommitsLaws.{conflict_in-is}
 use Rattle.vl_layout_laws.specs.laws.TidyRulings.{commit_tidy}
 use Rattle.vl_manifest.specs.declared.state.ManifestState.{ManifestState}
 use Rattle.vl_model.specs.Formats.{log_format}
-use Rattle.vl_model.specs.History.{History, last_number, with_commit}
+use Rattle.vl_model.specs.History.{History, last_number}
 use Rattle.vl_model.specs.Keys.{key_cmp}
 use Rattle.vl_model.specs.declared.change.Change.{Change}
 use Rattle.vl_model.specs.declared.counter.Counter.{Counter}

@@ -1,7 +1,6 @@
 -- Where memory ran out, no disk failed.
-use Rattle.std.proofs.Common.{◌≡◌, ℕ, Result, Ok, Err, sym, ◌∙◌, ap, subst}
+use Rattle.std.proofs.Common.{◌≡◌, Result, Ok, Err, sym, ◌∙◌, ap, subst}
 use Rattle.std.specs.Prelude.{IfErr, IsErrAnd}
-use Rattle.vl_disk.specs.declared.name.Name.{Name}
 use Rattle.vl_replay.specs.Halts.{HaltsByDisk, HaltsByRead}
 use Rattle.vl_replay.specs.declared.fails.Halt.{Halt}
 use Rattle.vl_replay.specs.declared.fails.Halt.TheVariants as why

@@ -1,12 +1,9 @@
 -- What a disk that holds a state leaves.
-use Rattle.std.proofs.Common.{◌≤◌, ℕ}
-use Rattle.vl_disk.specs.Crash.{Image}
-use Rattle.vl_disk.specs.DiskState.{DiskState}
 use Rattle.vl_engine.specs.Shown.{Shown}
 use Rattle.vl_engine.specs.laws.HeldLaws.{held_opens_again, held_shown}
 use Rattle.vl_engine.specs.laws.ShownLaws.{shown_later}
 use Rattle.vl_replay.specs.Durable.{LeavesItsHistory, StaysShown}
-use Rattle.vl_replay.specs.Sequential.{State, history_of}
+use Rattle.vl_replay.specs.Sequential.{history_of}
 use Rattle.vl_replay.specs.Stored.{IsStored, base_of}
 
 pub stored_exactly : LeavesItsHistory IsStored Shown

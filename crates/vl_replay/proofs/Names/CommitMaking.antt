@@ -1,6 +1,6 @@
 -- What a commit through a name makes.
 use Rattle.std.proofs.Common.{◌≡◌, ℕ, ◌==◌, ◌+◌, Bool, true, false, cond, List, [], ◌∷◌, ◌++◌, length, refl, ap, sym, ◌∙◌, subst}
-use Rattle.std.specs.Prelude.{Option, None, Some, Ok, Err, Result, nat_le}
+use Rattle.std.specs.Prelude.{Option, None, Some, Ok, Err, nat_le}
 use Rattle.std.specs.FinMap.{from_sorted}
 use Rattle.vl_disk.specs.declared.name.Name.{Name as FileNamed}
 use Rattle.vl_engine.specs.Answers.{CommitFailed, commit_outcome, handed_back}
@@ -16,12 +16,11 @@ use Rattle.vl_layout.specs.Decides.{Answered, Decides, Effects, Otherwise, Outco
 use Rattle.vl_layout.specs.Ruling.{Ruling, ended, leaving, logged}
 use Rattle.vl_layout.specs.Rulings.Commit as commit
 use Rattle.vl_layout.specs.Rulings.Commit.{CommitAnswer, Transaction as ATxn, commit_checked, commit_ended, commit_frame, commit_lost, commit_ruling, commit_running, commit_unless, committed}
-use Rattle.vl_layout.specs.Store.Commits.{conflict_in, history_in, with_changes}
+use Rattle.vl_layout.specs.Store.Commits.{history_in, with_changes}
 use Rattle.vl_layout.specs.Store.Lines as store_lines
 use Rattle.vl_layout.specs.Store.Lines.{Name}
-use Rattle.vl_layout.specs.Store.Reading.{commit_by, committed_by, ruled}
-use Rattle.vl_layout.specs.Store.Things as store
-use Rattle.vl_layout.specs.Store.Things.{ATransaction, Step, thing_of, without_name, without_thing}
+use Rattle.vl_layout.specs.Store.Reading.{commit_by, committed_by}
+use Rattle.vl_layout.specs.Store.Things.{ATransaction, Step, thing_of, without_name}
 use Rattle.vl_layout.specs.declared.file_name.FileName.{FileName}
 use Rattle.vl_layout.specs.declared.layout.Layout.{Layout}
 use Rattle.vl_layout.specs.laws.CommitsLaws.{conflict_in-is}
@@ -33,7 +32,7 @@ use Rattle.vl_model.specs.declared.counter.Counter.{Counter}
 use Rattle.vl_model.specs.declared.counter.Counter.TheVariants.{Commit as CommitNumber}
 use Rattle.vl_replay.specs.Replaying.{MakesStep, StandsIn, state_by}
 use Rattle.vl_replay.specs.Sequential.{IsTold, State, history_of}
-use Rattle.vl_replay.specs.Standing.{IsTaken, IsTransaction, Stand, ticket_of}
+use Rattle.vl_replay.specs.Standing.{IsTaken, IsTransaction, Stand}
 use Rattle.vl_replay.specs.declared.replayer.open.Open.{Open}
 use Rattle.vl_replay.specs.declared.replayer.open.Thing.TheVariants.{Transaction}
 use Rattle.vl_replay.specs.laws.Growing.{history_more}
@@ -44,7 +43,7 @@ use Rattle.vl_script.specs.declared.line.Line.TheVariants as lines
 use Rattle.vl_replay.proofs.Disk.Betweens.{extends_one}
 use Rattle.vl_replay.proofs.Names.BeginMaking.{ended_stands, stands_as}
 use Rattle.vl_replay.proofs.Names.Ending.{ends_so}
-use Rattle.vl_replay.proofs.Names.Making.{itself, txn_back}
+use Rattle.vl_replay.proofs.Names.Making.{txn_back}
 
 -- ---- a ruling by its answer
 

@@ -1,7 +1,6 @@
 -- What a replayer stands for that was just opened, and what its disk holds, by what the engine's opening gave.
 use Rattle.std.proofs.Common.{◌≡◌, ℕ, List, [], refl, ap, sym, ◌∙◌, subst}
-use Rattle.std.specs.Prelude.{Option, None, Some, length}
-use Rattle.vl_disk.specs.DiskState.{DiskState}
+use Rattle.std.specs.Prelude.{Option, length}
 use Rattle.vl_disk.specs.Faults.{after_calls}
 use Rattle.vl_disk.specs.declared.watched.Watched.{Ghosts}
 use Rattle.vl_engine.specs.Opening.{IsBackAtStart, recovered}
@@ -12,11 +11,11 @@ use Rattle.vl_layout.specs.Store.Lines.{Done, Name}
 use Rattle.vl_layout.specs.Store.Things as store
 use Rattle.vl_layout.specs.Store.Things.{only}
 use Rattle.vl_layout.specs.declared.layout.Layout.{Layout}
-use Rattle.vl_model.specs.History.{History, last_number}
+use Rattle.vl_model.specs.History.{History}
 use Rattle.vl_model.specs.Limits.{max_room}
 use Rattle.vl_recover.specs.crash.Meanwhile.{IsRepaired}
-use Rattle.vl_recover.specs.opening.Answers.{Finds, calls_to_open}
-use Rattle.vl_replay.specs.Durable.{HoldsState, Tells}
+use Rattle.vl_recover.specs.opening.Answers.{calls_to_open}
+use Rattle.vl_replay.specs.Durable.{HoldsState}
 use Rattle.vl_replay.specs.Replaying.{StandsIn}
 use Rattle.vl_replay.specs.Sequential.{State, history_of}
 use Rattle.vl_replay.specs.Standing.{Stand}

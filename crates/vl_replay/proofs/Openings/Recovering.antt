@@ -1,39 +1,32 @@
 -- A store that `recover` opened: what is kept of it, and what the disk holds.
-use Rattle.std.proofs.Common.{◌≡◌, ℕ, List, [], ◌∷◌, ◌++◌, length, refl, ap, sym, ◌∙◌, subst, inl, inr, arith}
+use Rattle.std.proofs.Common.{◌≡◌, ℕ, List, [], ◌∷◌, ◌++◌, refl, ap, sym, ◌∙◌, subst, inl, inr, arith}
 use Rattle.std.specs.Prelude.{◌+◌, ◌≤◌, Option, Some, None, Ok, map}
-use Rattle.vl_model.specs.Formats.{log_format}
 use Rattle.vl_disk.specs.Crash.{Image}
-use Rattle.vl_disk.specs.DiskState.{DiskState, IsLawful}
+use Rattle.vl_disk.specs.DiskState.{DiskState}
 use Rattle.vl_disk.specs.declared.name.Name.{Name}
 use Rattle.vl_disk.specs.declared.watched.Watched.{Ghosts}
-use Rattle.vl_layout.specs.Logs.{memtable, new_segment}
-use Rattle.vl_layout.specs.Shows.{AreUpTo, Shows}
+use Rattle.vl_layout.specs.Logs.{memtable}
 use Rattle.vl_layout.specs.declared.segment.Segment.{Segment}
-use Rattle.vl_manifest.specs.declared.state.ManifestState.{ManifestState}
 use Rattle.vl_model.specs.History.{History}
 use Rattle.vl_model.specs.Versions.{versions}
 use Rattle.vl_model.specs.Winners.{resolved_at, winner}
 use Rattle.vl_model.specs.laws.NumberLaws.{low-floor}
 use Rattle.vl_model.specs.declared.entry.Entry.{Entry}
-use Rattle.vl_model.specs.declared.log_frame.LogFrame.{LogFrame}
-use Rattle.vl_recover.specs.opening.Answers.{Finds, HeldLog, IsNotOpened, Opened, and_made, as_segments, held_log, last_format, logs_then, opened_from}
-use Rattle.vl_recover.specs.crash.Held.{HoldsStore}
-use Rattle.vl_recover.specs.crash.Held.{GoOn}
+use Rattle.vl_recover.specs.opening.Answers.{Finds, HeldLog, IsNotOpened, Opened, held_log, opened_from}
 use Rattle.vl_recover.specs.crash.Meanwhile.{IsRepaired}
 use Rattle.vl_recover.specs.repairing.Repairing.{Plan, repaired, plan_from, plan_of}
 use Rattle.vl_recover.specs.laws.opening.OneFinding.{same_greatest, same_logs, same_opening}
 use Rattle.vl_recover.specs.opening.Opening.{Opening, Refusal as Refused}
 use Rattle.vl_recover.specs.laws.opening.OpeningLaws.{single_opening}
 use Rattle.vl_recover.specs.laws.repairing.StageLaws.{ok_same}
-use Rattle.vl_recover.specs.opening.Plans.{Greatest, active_log, active_of, last_number as last_log, log_behind, log_made, new_state}
-use Rattle.vl_recover.specs.laws.repairing.RecoveredLaws.{found_goes_on, found_shows}
+use Rattle.vl_recover.specs.opening.Plans.{Greatest, active_log, active_of, log_made, new_state}
 use Rattle.vl_recover.specs.opening.Results.{frozen_log, opened_of}
-use Rattle.vl_recover.specs.opening.Walk.{StandingLog, format_of}
+use Rattle.vl_recover.specs.opening.Walk.{StandingLog}
 use Rattle.vl_memtable.specs.declared.frozen_log.FrozenLog.{FrozenLog}
 use Rattle.vl_recover.specs.declared.parts.Parts.{Parts}
 use Rattle.vl_replay.specs.Opened.{HaveAt, entries_in}
 use Rattle.vl_replay.specs.Opening.{IsRefused}
-use Rattle.vl_replay.specs.Sequential.{State, history_of}
+use Rattle.vl_replay.specs.Sequential.{State}
 use Rattle.vl_replay.specs.Start.{StartsIn}
 use Rattle.vl_replay.specs.Stopped.{AreNumberedUpTo, GivesUpTo}
 use Rattle.vl_engine.specs.Shown.{Shown, logs_entries, no_logs}

@@ -1,5 +1,5 @@
 -- How many changing calls an opening makes.
-use Rattle.std.proofs.Common.{◌≡◌, ℕ, zero, suc, ap, sym, ◌∙◌, subst, arith}
+use Rattle.std.proofs.Common.{◌≡◌, ℕ, zero, suc, ap, sym, subst, arith}
 use Rattle.std.specs.Prelude.{◌+◌, ◌-◌, ◌^◌, ◌≤◌}
 use Rattle.vl_disk.specs.Faults.{after_calls}
 use Rattle.vl_recover.specs.repairing.Steps.{MakesSome}

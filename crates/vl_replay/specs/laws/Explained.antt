@@ -7,9 +7,9 @@ use Rattle.std.specs.Ordering.{eq_by_cmp}
 use Rattle.vl_model.specs.Conflicts.{first_conflict}
 use Rattle.vl_model.specs.Formats.{log_format}
 use Rattle.vl_model.specs.History.{Extends, History, contents_at, last_number, value_at, with_commit}
-use Rattle.vl_model.specs.Keys.{Row, Stored, Writes, key_cmp, is_key_length, is_value_length, value_bytes}
+use Rattle.vl_model.specs.Keys.{Row, Stored, key_cmp, is_key_length, is_value_length, value_bytes}
 use Rattle.vl_model.specs.Limits.{max_key_bytes, max_live}
-use Rattle.vl_model.specs.Reads.{KeyRead, RangeRead, Read, Scan, IsExplained, IsExplainedRead, rows_of, scanned}
+use Rattle.vl_model.specs.Reads.{KeyRead, RangeRead, Read, IsExplained, IsExplainedRead, rows_of, scanned}
 use Rattle.vl_model.specs.declared.change.Change.{Change}
 use Rattle.vl_model.specs.declared.way.Way.{Way}
 use Rattle.vl_model.specs.laws.ExplainedLaws.{explained-extends}
@@ -19,7 +19,7 @@ use Rattle.vl_layout.specs.Rulings.Begin as begin
 use Rattle.vl_layout.specs.Rulings.Begin.{BeginAnswer, begin_ruling, begun}
 use Rattle.vl_layout.specs.Rulings.Commit as commit
 use Rattle.vl_layout.specs.Rulings.Commit.{CommitAnswer, Transaction}
-use Rattle.vl_layout.specs.Store.Commits.{AreProper, Changes, conflict_in, history_in, rows_in, value_in, with_changes}
+use Rattle.vl_layout.specs.Store.Commits.{AreProper, Changes, history_in, value_in, with_changes}
 use Rattle.vl_layout.specs.Store.Dispatch.{drop_by}
 use Rattle.vl_layout.specs.Store.Lines.{Answer, Invalid, Name, Number, Rows}
 use Rattle.vl_layout.specs.Store.Proper.{HasRisingWrites, IsProper}
@@ -28,7 +28,7 @@ use Rattle.vl_layout.specs.Store.Things.{Thing, ATransaction, AView, AJob, APass
 use Rattle.vl_layout.specs.Tickets.{free_ticket, tickets_of}
 use Rattle.vl_layout.specs.laws.CommitsLaws.{conflict_in-is, rows_in-are, value_in-is}
 use Rattle.vl_replay.specs.Exchanges.{ReadsAt, ScansAt}
-use Rattle.vl_replay.specs.laws.Growing.{Adds, IsReader, Keeps, commit_or, history_more}
+use Rattle.vl_replay.specs.laws.Growing.{Adds, IsReader, history_more}
 
 -- ---- what is read, by the history
 
@@ -188,8 +188,12 @@ module _ (s : State) (sound : IsSound s) where
       let rows = scanned_rows s way low high limit t.writes t.number in
       let read : Read = RangeRead (record (scan_of way low high limit t.writes) { rows = rows }) in
       let x : Thing = ATransaction (record t { reads = t.reads ++ read ∷ [] }) b in
-      let is_sound : IsSoundThing h' x = (explained-more h' t.number t.reads read explained
-      (rows_are s sound.proper.commits way low high limit t.writes t.number rising), from, known) in
+      let is_sound : IsSoundThing h' x = (
+        explained-more h' t.number t.reads read explained
+            (rows_are s sound.proper.commits way low high limit t.writes t.number rising),
+        from,
+        known,
+      ) in
       either (nat_le (length low) max_key_bytes && nat_le (length high) max_key_bytes) _ _
       (stays _ refl (with_named name x is_sound))
       (same_things _ refl refl)

@@ -1,11 +1,11 @@
 -- What a line leaves of the commits and of the layout: it keeps them, but for what lives, or a commit adds one.
-use Rattle.std.proofs.Common.{◌≡◌, ◌⊎◌, inl, inr, ℕ, ◌+◌, ◌-◌, ◌==◌, Bool, true, false, cond, ◌&&◌, not, List, [], ◌∷◌, ◌++◌, map, length, refl, ap, sym, ◌∙◌}
+use Rattle.std.proofs.Common.{◌≡◌, ◌⊎◌, inl, inr, ℕ, ◌+◌, ◌==◌, Bool, true, false, ◌&&◌, not, List, [], ◌∷◌, ◌++◌, map, length, refl, ap}
 use Rattle.std.specs.Prelude.{Option, Some, None, nat_le, if◌then◌else◌}
 use Rattle.std.specs.FinMap.{find, from_sorted, put}
 use Rattle.vl_model.specs.Conflicts.{Named}
 use Rattle.vl_model.specs.Formats.{log_format}
 use Rattle.vl_model.specs.Frames.{frame_length}
-use Rattle.vl_model.specs.History.{Extends, History, last_number, with_commit}
+use Rattle.vl_model.specs.History.{History, last_number, with_commit}
 use Rattle.vl_model.specs.Keys.{Stored, Writes, key_cmp, is_key_length, is_value_length, value_bytes}
 use Rattle.vl_model.specs.Limits.{max_commit_number, max_key_bytes, max_live}
 use Rattle.vl_model.specs.declared.change.Change.{Change}
@@ -20,8 +20,8 @@ use Rattle.vl_layout.specs.Rulings.Commit.{CommitAnswer, Transaction, commit_che
 use Rattle.vl_layout.specs.Store.Commits.{Changes, Commits, conflict_in, history_in, with_changes}
 use Rattle.vl_layout.specs.Store.Dispatch.{drop_by}
 use Rattle.vl_layout.specs.Store.Lines.{Answer, Name, Number}
-use Rattle.vl_layout.specs.Store.Reading.{begin_as, begun_by, commit_by, committed_by, get_by, get_own, is_small_enough, ruled, scan_by, write_by}
-use Rattle.vl_layout.specs.Store.Things.{Thing, ATransaction, AView, AJob, APass, State, Step, thing_of}
+use Rattle.vl_layout.specs.Store.Reading.{begin_as, begun_by, commit_by, committed_by, get_by, get_own, is_small_enough, scan_by, write_by}
+use Rattle.vl_layout.specs.Store.Things.{Thing, ATransaction, AView, AJob, APass, State, Step}
 use Rattle.vl_layout.specs.Tickets.{free_ticket, tickets_of}
 use Rattle.vl_layout.specs.declared.file_name.FileName.{FileName}
 use Rattle.vl_layout.specs.declared.layout.Layout.{Layout}

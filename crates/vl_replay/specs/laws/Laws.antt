@@ -1,27 +1,26 @@
 -- Laws of runs: what a line leaves, and that what is read is explained by the history; and no answer is owed before anything is
 -- read.
-use Rattle.std.proofs.Common.{◌≡◌, ◌+◌, ◌≤◌, ◌⊎◌, ⊎_elim, inl, inr, ℕ, List, [], ◌∷◌, ◌++◌, refl, ap, sym, ◌∙◌, cond, arith, subst}
+use Rattle.std.proofs.Common.{◌≡◌, ◌+◌, ◌≤◌, ◌⊎◌, inl, inr, ℕ, List, [], ◌∷◌, ◌++◌, refl, sym, ◌∙◌, cond, arith, subst}
 use Rattle.std.proofs.lemmas.List.Sums.{sum_by-cons}
 use Rattle.std.specs.Prelude.{Option, Some, None, ◌==◌}
 use Rattle.std.specs.List.{AllByRecursion}
 use Rattle.std.specs.Option.{option_map}
 use Rattle.vl_layout.specs.Rulings.Commit.{Transaction}
 use Rattle.vl_layout.specs.AtAnswer.{Beginning}
-use Rattle.vl_layout.specs.Store.Commits.{Changes, Commits, history_in, with_changes}
+use Rattle.vl_layout.specs.Store.Commits.{Commits, history_in}
 use Rattle.vl_layout.specs.Store.Lines.{Name, Number}
 use Rattle.vl_layout.specs.Store.Reading.{a_transaction, a_view, answer_of, answer_with_tag}
-use Rattle.vl_layout.specs.Store.Things as things
-use Rattle.vl_layout.specs.Store.Things.{Step, Thing, ATransaction, thing_of, thing_in}
+use Rattle.vl_layout.specs.Store.Things.{Thing, ATransaction, thing_of}
 use Rattle.vl_layout.specs.laws.StoreLaws.{step_proper}
 use Rattle.vl_model.specs.Conflicts.{first_conflict}
-use Rattle.vl_model.specs.History.{History, Extends, last_number}
+use Rattle.vl_model.specs.History.{History, last_number}
 use Rattle.vl_model.specs.Keys.{tagged, untagged}
 use Rattle.vl_model.specs.Reads.{IsExplained, Read}
 use Rattle.vl_model.specs.declared.change.Change.TheVariants.{Set as Put, Delete as Deleted}
 use Rattle.vl_replay.specs.Exchanges.{exchanged, exchanges_from, and_later, IsExplainedExchange, AreExplained, ended_lines, KeepsUp}
 use Rattle.vl_replay.specs.Sequential.{State, asked, history_of, state_after, step_to}
 use Rattle.vl_replay.specs.laws.Explained.{IsSound as IsSoundStore, IsSoundThing, Stays, commit_explained, commit_stays, drop_stays, get_explained, get_stays, later_things, only_readers, scan_explained, scan_stays, transaction_stays, view_stays, write_stays}
-use Rattle.vl_replay.specs.laws.Growing.{Adds, Keeps, begin_keeps, commit_or, drop_keeps, get_keeps, history_more, scan_keeps, write_keeps}
+use Rattle.vl_replay.specs.laws.Growing.{Adds, Keeps, begin_keeps, commit_or, drop_keeps, get_keeps, scan_keeps, write_keeps}
 use Rattle.vl_script.specs.Script.{line_of}
 use Rattle.vl_script.specs.declared.line.Line.{Line}
 use Rattle.vl_script.specs.declared.line.Line.TheVariants.{Begin, View, Get, Set, SetTagged, GetTagged, Scan, Delete, Commit, Drop}

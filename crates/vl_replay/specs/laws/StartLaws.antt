@@ -248,7 +248,7 @@ starts_shown g disk state read found strays h m files told is_read left are_stra
   unused = left;
   shown = let same = plain_is (reopened h m) in
       subst (λ (k : History). Shown read k (last_number k)) (sym same)
-          (subst (Shown read (reopened h m)) (sym (reopened_last h m)) (shown_reopened read h m shown));
+      (subst (Shown read (reopened h m)) (sym (reopened_last h m)) (shown_reopened read h m shown));
   proper = plain_proper (reopened h m);
   layout = refl;
   manifest = refl;
