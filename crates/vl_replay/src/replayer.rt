@@ -1,4 +1,4 @@
-//! A store over a disk, which answers a script's lines.
+//! A script's lines answered, one after the other, over the engine.
 
 mod beginning;
 mod committing;
@@ -14,11 +14,12 @@ use open::Open;
 use vl_disk::Disk;
 use vl_engine::Engine;
 
-/// A store over a disk.
+/// A store on a disk, which answers a script's lines.
 #[derive(Drop)]
 pub struct Replayer<D: Disk> {
     engine: Engine<D>,
-    /// The names in use.
+    /// The names in use. No name stands here twice.
     opens: Vec<Open<D::Held, D::Reader>>,
+    /// Why a line was given no answer, after which none is.
     halted: Option<Halt>,
 }

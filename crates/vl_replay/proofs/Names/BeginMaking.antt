@@ -1,9 +1,8 @@
 -- What begins and ends make, which change what lives.
 use Rattle.std.proofs.Common.{◌≡◌, ℕ, Bool, true, false, cond, List, [], ◌∷◌, ◌++◌, length, refl, ap, sym, ◌∙◌, subst}
-use Rattle.std.specs.Prelude.{Option, None, Some, Ok, Err, Result, nat_le}
+use Rattle.std.specs.Prelude.{Option, None, Some, Ok, nat_le}
 use Rattle.std.specs.Option.{is_some}
 use Rattle.vl_engine.specs.Represents as engine
-use Rattle.vl_engine.specs.Represents.{IsLive}
 use Rattle.vl_engine.specs.Sees.{IsNew, Sees, SeesAlone, asked_view}
 use Rattle.vl_engine.specs.declared.kept.Back.{Back}
 use Rattle.vl_engine.specs.declared.kept.Core.{Core}
@@ -21,10 +20,9 @@ use Rattle.vl_layout.specs.Store.Lines as store_lines
 use Rattle.vl_layout.specs.Store.Lines.{Name}
 use Rattle.vl_layout.specs.Store.Reading.{a_transaction, a_view, begin_as, begun_by}
 use Rattle.vl_layout.specs.Store.Things as store
-use Rattle.vl_layout.specs.Store.Things.{ATransaction, AView, Step, named, only, thing_of, without_name, without_thing}
+use Rattle.vl_layout.specs.Store.Things.{ATransaction, AView, Step, named, only, thing_of, without_thing}
 use Rattle.vl_layout.specs.Tickets.{free_ticket, tickets_of}
 use Rattle.vl_layout.specs.declared.layout.Layout.{Layout}
-use Rattle.vl_manifest.specs.declared.state.ManifestState.{ManifestState}
 use Rattle.vl_model.specs.History.{History, last_number}
 use Rattle.vl_model.specs.Limits.{max_live}
 use Rattle.vl_replay.specs.Replaying.{MakesStep, StandsIn, state_by}
@@ -90,10 +88,10 @@ module _ {H R : Type 0} (bytes : H → Option (List ℕ)) (before after : Core H
     abbrev by_ruling : Bool → Step
     by_ruling full = begun_by s.store name (thing (beginning_of (by_room full).layout h)) (by_room full) (by_room full).answer
 
-
     not_there : open_in os name ≡ None → thing_of s.store name ≡ None
     not_there free = no_thing H R bytes h l (thing_of s.store name)
         (subst (λ (o : Option (Thing H R)). Corresponds bytes h l o (thing_of s.store name)) free (stands.names.each name))
+
     abbrev full : Bool
     full = nat_le max_live (length l.live)
 
@@ -102,7 +100,7 @@ module _ {H R : Type 0} (bytes : H → Option (List ℕ)) (before after : Core H
 
     pub begin_makes : (free : open_in os name ≡ None) (new : Thing H R) (own number : ℕ)
         → ((b : Beginning) → own ≡ ticket → number ≡ last_number h
-            → Stand bytes (os ++ record { name = name; thing = new } ∷ []) (named name (thing b ticket (last_number h)) s.store.things) h (begun l ticket (last_number h)))
+        → Stand bytes (os ++ record { name = name; thing = new } ∷ []) (named name (thing b ticket (last_number h)) s.store.things) h (begun l ticket (last_number h)))
         → Decides (engine.StandsFor bytes after) h l (begin_ruling l h) (as_before l l) (Answered (Begun own number)) no_effects
         → MakesStep bytes after (os ++ record { name = name; thing = new } ∷ []) s (begin_as s.store name thing (thing_of s.store name)) (Ok (answers.Number number))
     begin_makes free new own number names decides =
@@ -168,19 +166,23 @@ module _ {H R : Type 0} (bytes : H → Option (List ℕ)) (before after : Core H
     view_ends view taken on =
         let (b, there, sees, live) = its bytes before os s stands left name view taken in
         let same : dropping ≡ drop_by s.store name (Some (AView (asked_view view) b)) = ap (drop_by s.store name) there in
-        subst (λ (y : Step). MakesStep bytes after left s y (Ok answers.Done)) (sym same)
-        (refl, ended_stands (View view) taken (AView (asked_view view) b) there on store_lines.Done
-        (subst (λ (y : Step). IsSound (state_by s y)) same (state_after-sound s (lines.Drop name) stands.sound)))
+        subst (λ (y : Step). MakesStep bytes after left s y (Ok answers.Done)) (sym same) (
+          refl,
+          ended_stands (View view) taken (AView (asked_view view) b) there on store_lines.Done
+              (subst (λ (y : Step). IsSound (state_by s y)) same (state_after-sound s (lines.Drop name) stands.sound)),
+        )
 
     pub transaction_ends : (txn : Txn H R) → IsTaken os left name (Some (Transaction txn)) → engine.StandsFor bytes after h (ended txn.ticket l)
         → MakesStep bytes after left s dropping (Ok answers.Done)
     transaction_ends txn taken on =
         let (t, b, there, is) = itself bytes before os s stands left name txn taken in
         let same : dropping ≡ drop_by s.store name (Some (ATransaction t b)) = ap (drop_by s.store name) there in
-        subst (λ (y : Step). MakesStep bytes after left s y (Ok answers.Done)) (sym same)
-        (refl, ended_stands (Transaction txn) taken (ATransaction t b) there
-        (subst (λ (u : ATxn). engine.StandsFor bytes after h (ended u.ticket l)) is.same on) store_lines.Done
-        (subst (λ (y : Step). IsSound (state_by s y)) same (state_after-sound s (lines.Drop name) stands.sound)))
+        subst (λ (y : Step). MakesStep bytes after left s y (Ok answers.Done)) (sym same) (
+          refl,
+          ended_stands (Transaction txn) taken (ATransaction t b) there
+              (subst (λ (u : ATxn). engine.StandsFor bytes after h (ended u.ticket l)) is.same on) store_lines.Done
+              (subst (λ (y : Step). IsSound (state_by s y)) same (state_after-sound s (lines.Drop name) stands.sound)),
+        )
 
 -- ---- a name that is in use
 

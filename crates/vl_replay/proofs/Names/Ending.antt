@@ -1,9 +1,9 @@
 -- What begins and what ends, and what a commit leaves of the others.
-use Rattle.std.proofs.Common.{◌≡◌, ℕ, ◌≤◌, ◌+◌, Bool, true, false, cond, List, [], ◌∷◌, ◌++◌, length, refl, ap, sym, ◌∙◌, subst, arith}
-use Rattle.std.specs.Prelude.{Option, None, Some, nat_le}
+use Rattle.std.proofs.Common.{◌≡◌, ℕ, ◌+◌, List, [], ◌∷◌, ◌++◌, length, refl, ap, sym, ◌∙◌, subst, arith}
+use Rattle.std.specs.Prelude.{Option, None, Some}
 use Rattle.std.specs.FinMap.{empty, entries, len-empty, len-entries}
 use Rattle.vl_engine.specs.Represents.{IsLive}
-use Rattle.vl_engine.specs.Sees.{IsNew, Sees, SeesAlone, ShowsAt, asked, asked_view}
+use Rattle.vl_engine.specs.Sees.{IsNew, Sees, SeesAlone, ShowsAt}
 use Rattle.vl_engine.specs.declared.txn.Txn.{Txn}
 use Rattle.vl_engine.specs.declared.view.View.{View as EngineView}
 use Rattle.vl_engine.specs.laws.LiveLaws.{begun_lives, begun_was_free, lives_begun, lives_ended}
@@ -27,7 +27,7 @@ use Rattle.vl_layout.specs.Tickets.{free_ticket, tickets_of}
 use Rattle.vl_layout.specs.declared.layout.Layout.{Layout}
 use Rattle.vl_model.specs.History.{Extends, History, last_number}
 use Rattle.vl_model.specs.laws.ExplainedLaws.{explained-extends}
-use Rattle.vl_replay.specs.Standing.{Corresponds, IsTaken, IsTransaction, Stand, open_in, ticket_of}
+use Rattle.vl_replay.specs.Standing.{Corresponds, IsTaken, Stand, open_in, ticket_of}
 use Rattle.vl_replay.specs.declared.replayer.open.Open.{Open}
 use Rattle.vl_replay.specs.declared.replayer.open.Thing.{Thing}
 use Rattle.vl_replay.specs.declared.replayer.open.Thing.TheVariants.{Transaction, View}

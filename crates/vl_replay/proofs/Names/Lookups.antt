@@ -1,7 +1,7 @@
 -- Looking names up, where one is put, or taken out.
 use Rattle.std.proofs.Common.{◌≡◌, ◌+◌, ◌<◌, ℕ, zero, suc, Bool, true, false, true≢false, cond, not, List, [], ◌∷◌, ◌++◌, ◌≤◌, drop, get_or, length, refl, ap, sym, ◌∙◌, subst, arith}
 use Rattle.std.specs.Prelude.{Option, None, Some}
-use Rattle.std.specs.List.{filter, remove, slice_index_or}
+use Rattle.std.specs.List.{remove, slice_index_or}
 use Rattle.std.specs.Option.{is_some, option_map}
 use Rattle.std.specs.Ordering.{eq_by_cmp}
 use Rattle.std.specs.Str.{bytes_eq}

@@ -1,19 +1,16 @@
 -- What a line's call makes, by what it found the name to stand for: the answers and states of the sequential store.
-use Rattle.std.proofs.Common.{◌≡◌, ℕ, ◌==◌, Bool, true, false, cond, ◌&&◌, not, List, [], ◌∷◌, ◌++◌, length, refl, ap, sym, ◌∙◌, subst}
-use Rattle.std.specs.Prelude.{Option, None, Some, Ok, Err, Result, IfOk, OnOk, nat_le}
+use Rattle.std.proofs.Common.{◌≡◌, ℕ, List, [], ◌∷◌, ◌++◌, refl, ap, sym, ◌∙◌, subst}
+use Rattle.std.specs.Prelude.{Option, None, Some, Ok, Err, Result, IfOk, OnOk}
 use Rattle.std.specs.Bool.{⊤}
-use Rattle.vl_engine.specs.Reading.{IsRefusedBy, IsSound as IsSoundRead, NotesNothing, OnlyNotes, OnlyReads, OnlyWrites}
+use Rattle.vl_engine.specs.Reading.{NotesNothing, OnlyReads, OnlyWrites}
 use Rattle.vl_engine.specs.Represents.{IsLive}
 use Rattle.vl_engine.specs.Sees.{Sees, SeesAlone, asked, asked_view}
-use Rattle.vl_engine.specs.declared.fails.ReadFail.{ReadFail}
-use Rattle.vl_engine.specs.declared.fails.ReadFail.TheVariants as unread
 use Rattle.vl_engine.specs.declared.kept.Core.{Core}
 use Rattle.vl_engine.specs.declared.txn.Txn.{Txn}
 use Rattle.vl_engine.specs.declared.view.View.{View as EngineView}
 use Rattle.vl_layout.specs.AtAnswer.{Beginning}
 use Rattle.vl_layout.specs.Rulings.Commit.{Transaction as ATxn}
 use Rattle.vl_layout.specs.Rulings.View.{View as LayoutView}
-use Rattle.vl_layout.specs.Store.Commits.{history_in}
 use Rattle.vl_layout.specs.Store.Lines as store_lines
 use Rattle.vl_layout.specs.Store.Lines.{Name}
 use Rattle.vl_layout.specs.Store.Reading.{write_by}
@@ -26,9 +23,9 @@ use Rattle.vl_model.specs.declared.change.Change.{Change}
 use Rattle.vl_model.specs.declared.change.Change.TheVariants.{Delete as Deletes, Set as Sets}
 use Rattle.vl_txn.specs.Refusals.{IsWritten}
 use Rattle.vl_txn.specs.declared.set_fail.SetFail.{SetFail}
-use Rattle.vl_replay.specs.Replaying.{MakesStep, OnlyNoMemory, StandsIn, state_by}
-use Rattle.vl_replay.specs.Sequential.{IsTold, State, as_told, history_of, without_lengths}
-use Rattle.vl_replay.specs.Standing.{Corresponds, IsTaken, IsTransaction, Stand, open_in, told_by, told_write}
+use Rattle.vl_replay.specs.Replaying.{MakesStep, StandsIn, state_by}
+use Rattle.vl_replay.specs.Sequential.{IsTold, State, history_of}
+use Rattle.vl_replay.specs.Standing.{Corresponds, IsTaken, IsTransaction, Stand, told_write}
 use Rattle.vl_replay.specs.declared.fails.Halt.{Halt}
 use Rattle.vl_replay.specs.declared.replayer.open.Open.{Open}
 use Rattle.vl_replay.specs.declared.replayer.open.Thing.{Thing}
@@ -38,7 +35,7 @@ use Rattle.vl_script.specs.declared.answer.Answer.{Answer}
 use Rattle.vl_script.specs.declared.answer.Answer.TheVariants as answers
 use Rattle.vl_script.specs.declared.line.Line.TheVariants as lines
 use Rattle.vl_replay.proofs.Names.Lookups.{thing_gone, thing_left}
-use Rattle.vl_replay.proofs.Names.Quiet.{IsQuiet, quiet_stands, write_quiet}
+use Rattle.vl_replay.proofs.Names.Quiet.{quiet_stands, write_quiet}
 use Rattle.vl_replay.proofs.Names.Reading.{its_transaction, its_view, named_again, no_thing, put_back, stand_alike}
 use Rattle.vl_replay.proofs.Names.Standings.{same_or_not, stands_without}
 use Rattle.vl_replay.proofs.Names.Writing.{writes_so}

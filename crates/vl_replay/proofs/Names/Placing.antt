@@ -93,7 +93,7 @@ module _ {H R : Type 0} where
       let out = taken name os once in
       ⊎_elim
       (λ (same : other ≡ name). subst (λ (q : Name). open_in (without_open name os ++ o ∷ []) q ≡ open_in new q) (sym same)
-        (open_put (without_open name os) o out.none ∙ sym changed.found))
+      (open_put (without_open name os) o out.none ∙ sym changed.found))
       (λ (apart : other ≡ name → ⊥). open_beside (without_open name os) o other apart ∙ out.others other apart ∙ sym (changed.others other apart))
       (same_or_not other name)
 
@@ -108,14 +108,17 @@ module _ {H R : Type 0} where
     }
 
     pub makes_as : (core : Core H) (s : State) (x : Step) (result : Result Answer Halt) → MakesStep bytes core os s x result → MakesStep bytes core new s x result
-    makes_as core s x (Ok answer) (is, stands) = (is, record {
-      engine = stands.engine;
-      names = stand_as x.state.things _ _ stands.names;
-      sound = stands.sound;
-      running = stands.running;
-      manifest = stands.manifest;
-      next_log = stands.next_log;
-    })
+    makes_as core s x (Ok answer) (is, stands) = (
+      is,
+      record {
+        engine = stands.engine;
+        names = stand_as x.state.things _ _ stands.names;
+        sound = stands.sound;
+        running = stands.running;
+        manifest = stands.manifest;
+        next_log = stands.next_log;
+      },
+    )
     makes_as core s x (Err halt) makes = tt
 
 -- ---- in the words of the functions that look a name up, and change what stands there

@@ -1,47 +1,43 @@
 -- What reads and scans through a name make.
 use Rattle.std.proofs.Common.{◌≡◌, ℕ, ◌==◌, Bool, true, false, cond, ◌&&◌, not, List, [], ◌∷◌, ◌++◌, length, refl, ap, sym, ◌∙◌, subst}
 use Rattle.std.specs.Prelude.{Option, None, Some, Ok, Err, Result, IfOk, OnOk, OnErr, nat_le}
-use Rattle.std.specs.FinMap.{empty, entries, entries_sorted}
-use Rattle.vl_engine.specs.Reading.{IsRefusedBy, IsSound as IsSoundRead, NotesNothing, OnlyNotes, OnlyReads, either, refused_bounds, rows_under, value_under}
+use Rattle.std.specs.FinMap.{empty}
+use Rattle.vl_engine.specs.Reading.{IsRefusedBy, IsSound as IsSoundRead, NotesNothing, OnlyNotes, OnlyReads, either, value_under}
 use Rattle.vl_engine.specs.Sees.{Sees, SeesAlone}
 use Rattle.vl_engine.specs.declared.fails.ReadFail.{ReadFail}
 use Rattle.vl_engine.specs.declared.fails.ReadFail.TheVariants as unread
 use Rattle.vl_engine.specs.declared.kept.Core.{Core}
 use Rattle.vl_engine.specs.declared.txn.Txn.{Txn}
 use Rattle.vl_engine.specs.declared.view.View.{View as EngineView}
-use Rattle.vl_layout.specs.Store.Commits.{Changes, value_in}
+use Rattle.vl_layout.specs.Store.Commits.{value_in}
 use Rattle.vl_layout.specs.Store.Lines as store_lines
 use Rattle.vl_layout.specs.Store.Lines.{Name}
-use Rattle.vl_layout.specs.Store.Reading.{get_by, rows_told, scan_by, scanned_rows}
+use Rattle.vl_layout.specs.Store.Reading.{get_by}
 use Rattle.vl_layout.specs.Store.Things.{Step, only, thing_of}
 use Rattle.vl_layout.specs.laws.CommitsLaws.{value_in-is}
-use Rattle.vl_model.specs.History.{History, contents_at, value_at}
-use Rattle.vl_model.specs.Keys.{Row, Stored, Writes, is_key_length, key_cmp}
+use Rattle.vl_model.specs.History.{History, value_at}
+use Rattle.vl_model.specs.Keys.{Stored, is_key_length}
 use Rattle.vl_model.specs.Limits.{max_key_bytes}
-use Rattle.vl_model.specs.Reads.{Read, rows_of}
-use Rattle.vl_model.specs.declared.change.Change.{Change}
-use Rattle.vl_model.specs.declared.way.Way.{Way}
+use Rattle.vl_model.specs.Reads.{Read}
 use Rattle.vl_txn.specs.Reads as noting
-use Rattle.vl_txn.specs.Refusals.{refused_bound, refused_key}
+use Rattle.vl_txn.specs.Refusals.{refused_key}
 use Rattle.vl_txn.specs.declared.key_fail.KeyFail.{KeyFail}
 use Rattle.vl_txn.specs.declared.key_fail.KeyFail.TheVariants.{EmptyKey, KeyTooLong}
 use Rattle.vl_replay.specs.Replaying.{MakesStep, OnlyNoMemory, StandsIn, state_by}
-use Rattle.vl_replay.specs.Sequential.{IsTold, State, as_told, history_of, without_lengths}
-use Rattle.vl_replay.specs.Standing.{IsTaken, Stand, tell_of, told_by, told_value}
+use Rattle.vl_replay.specs.Sequential.{State, as_told, history_of, without_lengths}
+use Rattle.vl_replay.specs.Standing.{IsTaken, tell_of, told_by, told_value}
 use Rattle.vl_replay.specs.Halts.{HaltsByDisk}
 use Rattle.vl_replay.specs.declared.fails.Halt.{Halt}
 use Rattle.vl_replay.specs.declared.replayer.open.Open.{Open}
 use Rattle.vl_replay.specs.declared.replayer.open.Thing.TheVariants.{Transaction, View}
-use Rattle.vl_replay.specs.laws.Explained.{rows_are}
 use Rattle.vl_replay.specs.laws.Laws.{IsSound, state_after-sound}
 use Rattle.vl_script.specs.declared.answer.Answer.{Answer}
 use Rattle.vl_script.specs.declared.answer.Answer.TheVariants as answers
 use Rattle.vl_script.specs.declared.line.Line.TheVariants as lines
-use Rattle.vl_replay.proofs.Names.Lookups.{on_false, on_true}
+use Rattle.vl_replay.proofs.Names.Lookups.{on_false}
 use Rattle.vl_replay.proofs.Names.Making.{itself, its, only_makes, txn_back, view_back}
-use Rattle.vl_replay.proofs.Names.Quiet.{get_quiet, quiet_stands, scan_quiet}
+use Rattle.vl_replay.proofs.Names.Quiet.{get_quiet, quiet_stands}
 use Rattle.vl_replay.proofs.Names.Reading.{reads_so}
-use Rattle.vl_replay.proofs.Names.Scanning.{same_writes, scan_answer, scan_names}
 use Rattle.vl_replay.proofs.Names.Writing.{some_byte}
 
 -- ---- limits
@@ -179,12 +175,12 @@ module _ {H R : Type 0} (bytes : H → Option (List ℕ)) (core : Core H) (os : 
             → MakesStep bytes core behind_it s (reading with_tag key) (told_by (told_value with_tag) result)
         of (Ok found) refused kept value sees =
             let (t, b, there, is) = itself bytes core os s stands left name txn taken in
-            let so = reads_so bytes s.store stands.sound.proper.commits os left stands.names name txn new taken key (key_fits key refused) keeps (tell_of with_tag) t b there is (sees h t.reads is.sees) in
-            (told_is with_tag found ∙ ap without_lengths (ap (tell_of with_tag) (value h t.reads is.sees) ∙ sym so.answer),
-              quiet_stands bytes core os behind_it s (reading with_tag key) (get_quiet s.store name (tell_of with_tag) key (thing_of s.store name)) stands so.names (read_sound with_tag key))
+            let so = reads_so bytes s.store stands.sound.proper.commits os left stands.names name txn new taken key (key_fits key refused) keeps (tell_of with_tag) t b there is (sees h t.reads is.sees) in (
+              told_is with_tag found ∙ ap without_lengths (ap (tell_of with_tag) (value h t.reads is.sees) ∙ sym so.answer),
+              quiet_stands bytes core os behind_it s (reading with_tag key) (get_quiet s.store name (tell_of with_tag) key (thing_of s.store name)) stands so.names (read_sound with_tag key),
+            )
         of (Err unread.EmptyKey) refused kept value sees = invalid EmptyKey refused kept
         of (Err unread.KeyTooLong) refused kept value sees = invalid KeyTooLong refused kept
         of (Err unread.NoMemory) refused kept value sees = tt
         of (Err (unread.Disk file)) refused kept value sees = tt
         of (Err (unread.Damaged file place)) refused kept value sees = tt
-

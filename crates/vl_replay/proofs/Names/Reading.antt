@@ -1,9 +1,9 @@
 -- What is read through a name: it is answered as the store has it, and the name stands for the same then, with the read noted.
-use Rattle.std.proofs.Common.{◌≡◌, ℕ, ◌==◌, Bool, true, false, cond, List, [], ◌∷◌, ◌++◌, length, refl, ap, sym, ◌∙◌, subst}
-use Rattle.std.specs.Prelude.{Option, None, Some, nat_le, if◌then◌else◌}
+use Rattle.std.proofs.Common.{◌≡◌, ℕ, true, List, [], ◌∷◌, ◌++◌, length, refl, ap, sym, ◌∙◌, subst}
+use Rattle.std.specs.Prelude.{Option, None, Some}
 use Rattle.std.specs.FinMap.{entries, find, get, get-entries}
 use Rattle.std.specs.Option.{is_some}
-use Rattle.vl_engine.specs.Reading.{OnlyNotes, OnlyReads, OnlyWrites, value_under}
+use Rattle.vl_engine.specs.Reading.{OnlyNotes, value_under}
 use Rattle.vl_engine.specs.Represents.{IsLive}
 use Rattle.vl_engine.specs.Sees.{Sees, SeesAlone, asked, asked_view}
 use Rattle.vl_engine.specs.declared.txn.Txn.{Txn}
@@ -19,7 +19,7 @@ use Rattle.vl_layout.specs.laws.CommitsLaws.{value_in-is}
 use Rattle.vl_layout.specs.Store.Commits.{AreProper}
 use Rattle.vl_layout.specs.declared.layout.Layout.{Layout}
 use Rattle.vl_model.specs.History.{History, value_at, value_left}
-use Rattle.vl_model.specs.Keys.{Stored, Writes, is_key_length, key_cmp}
+use Rattle.vl_model.specs.Keys.{Stored, is_key_length, key_cmp}
 use Rattle.vl_model.specs.Reads.{KeyRead, Read}
 use Rattle.vl_model.specs.declared.change.Change.{Change}
 use Rattle.vl_txn.specs.Reads.{with_get}
@@ -27,7 +27,7 @@ use Rattle.vl_replay.specs.Standing.{Corresponds, IsTaken, IsTransaction, Stand,
 use Rattle.vl_replay.specs.declared.replayer.open.Open.{Open}
 use Rattle.vl_replay.specs.declared.replayer.open.Thing.{Thing}
 use Rattle.vl_replay.specs.declared.replayer.open.Thing.TheVariants.{Transaction, View}
-use Rattle.vl_replay.proofs.Names.Lookups.{named_so, on_false, on_true, thing_beside, thing_put}
+use Rattle.vl_replay.proofs.Names.Lookups.{on_false, on_true, thing_beside, thing_put}
 use Rattle.vl_replay.proofs.Names.Standings.{same_or_not, stands_with}
 use Rattle.std.proofs.Common.{⊎_elim}
 

@@ -1,5 +1,5 @@
 -- What scans through a name make.
-use Rattle.std.proofs.Common.{◌≡◌, ℕ, Bool, true, false, cond, ◌&&◌, List, [], ◌∷◌, ◌++◌, length, refl, ap, sym, ◌∙◌, subst}
+use Rattle.std.proofs.Common.{◌≡◌, ℕ, Bool, true, false, cond, ◌&&◌, List, [], ◌∷◌, ◌++◌, length, refl, ap, sym, ◌∙◌}
 use Rattle.std.specs.Prelude.{Option, None, Some, Ok, Err, Result, IfOk, OnErr, nat_le}
 use Rattle.std.specs.FinMap.{empty, from_sorted}
 use Rattle.vl_engine.specs.Reading.{IsRefusedBy, NotesNothing, OnlyNotes, OnlyReads, refused_bounds, rows_under}
@@ -22,13 +22,13 @@ use Rattle.vl_model.specs.declared.way.Way.{Way}
 use Rattle.vl_txn.specs.Reads as noting
 use Rattle.vl_txn.specs.declared.key_fail.KeyFail.{KeyFail}
 use Rattle.vl_txn.specs.declared.key_fail.KeyFail.TheVariants.{EmptyKey, KeyTooLong}
-use Rattle.vl_replay.specs.Replaying.{MakesStep, StandsIn, state_by}
+use Rattle.vl_replay.specs.Replaying.{MakesStep, StandsIn}
 use Rattle.vl_replay.specs.Sequential.{IsTold, State, history_of, without_lengths}
 use Rattle.vl_replay.specs.Standing.{IsTaken, told_by}
 use Rattle.vl_replay.specs.declared.replayer.open.Open.{Open}
 use Rattle.vl_replay.specs.declared.replayer.open.Thing.TheVariants.{Transaction, View}
 use Rattle.vl_replay.specs.laws.Explained.{rows_are}
-use Rattle.vl_replay.specs.laws.Laws.{IsSound, state_after-sound}
+use Rattle.vl_replay.specs.laws.Laws.{state_after-sound}
 use Rattle.vl_script.specs.declared.answer.Answer.{Answer}
 use Rattle.vl_script.specs.declared.answer.Answer.TheVariants as answers
 use Rattle.vl_script.specs.declared.line.Line.TheVariants as lines
@@ -100,7 +100,7 @@ module _ {H R : Type 0} (bytes : H → Option (List ℕ)) (core : Core H) (os : 
         → (result : Result V ReadFail) → IsRefusedBy (refused_bounds low high) result → OnErr result (NotesNothing txn new)
         → ((k : History) (reads : List Read) → Sees bytes txn k reads → IfOk result (λ rows. items rows ≡ rows_under txn.writes k txn.number low high limit way))
         → ((k : History) (reads : List Read) → Sees bytes txn k reads
-            → IfOk result (λ rows. Sees bytes new k (noting.with_scan reads (noting.scan_of low high limit way (items rows) txn.writes))))
+        → IfOk result (λ rows. Sees bytes new k (noting.with_scan reads (noting.scan_of low high limit way (items rows) txn.writes))))
         → MakesStep bytes core (left ++ record { name = name; thing = Transaction new } ∷ []) s scanning (told_by tell result)
     txn_scan_makes txn new taken keeps result refused kept rows_are_so sees = of result refused kept rows_are_so sees
       where
@@ -115,17 +115,18 @@ module _ {H R : Type 0} (bytes : H → Option (List ℕ)) (core : Core H) (os : 
         of : (result : Result V ReadFail) → IsRefusedBy (refused_bounds low high) result → OnErr result (NotesNothing txn new)
             → ((k : History) (reads : List Read) → Sees bytes txn k reads → IfOk result (λ rows. items rows ≡ rows_under txn.writes k txn.number low high limit way))
             → ((k : History) (reads : List Read) → Sees bytes txn k reads
-                → IfOk result (λ rows. Sees bytes new k (noting.with_scan reads (noting.scan_of low high limit way (items rows) txn.writes))))
+            → IfOk result (λ rows. Sees bytes new k (noting.with_scan reads (noting.scan_of low high limit way (items rows) txn.writes))))
             → MakesStep bytes core (left ++ record { name = name; thing = Transaction new } ∷ []) s scanning (told_by tell result)
         of (Ok rows) refused kept rows_are_so sees =
             let (t, b, there, is) = itself bytes core os s stands left name txn taken in
             let answer = scan_answer bytes s.store stands.sound.proper.commits os left stands.names name txn new taken way low high limit (fit refused) keeps t b there is (items rows)
-                (rows_are_so h t.reads is.sees) (sees h t.reads is.sees) in
+            (rows_are_so h t.reads is.sees) (sees h t.reads is.sees) in
             let names = scan_names bytes s.store stands.sound.proper.commits os left stands.names name txn new taken way low high limit (fit refused) keeps t b there is (items rows)
-                (rows_are_so h t.reads is.sees) (sees h t.reads is.sees) in
-            (as_rows rows ∙ sym (ap without_lengths answer),
+            (rows_are_so h t.reads is.sees) (sees h t.reads is.sees) in (
+              as_rows rows ∙ sym (ap without_lengths answer),
               quiet_stands bytes core os (left ++ record { name = name; thing = Transaction new } ∷ []) s scanning (scan_quiet s.store way name low high limit (thing_of s.store name)) stands names
-              (state_after-sound s (lines.Scan name low high limit way) stands.sound))
+                  (state_after-sound s (lines.Scan name low high limit way) stands.sound),
+            )
         of (Err unread.EmptyKey) refused kept rows_are_so sees = invalid EmptyKey refused kept
         of (Err unread.KeyTooLong) refused kept rows_are_so sees = invalid KeyTooLong refused kept
         of (Err unread.NoMemory) refused kept rows_are_so sees = tt

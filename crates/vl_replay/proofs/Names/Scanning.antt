@@ -1,19 +1,19 @@
 -- What is scanned through a name.
-use Rattle.std.proofs.Common.{◌≡◌, ℕ, Bool, true, false, cond, ◌&&◌, List, [], ◌∷◌, ◌++◌, length, refl, ap, sym, ◌∙◌, subst}
-use Rattle.std.specs.Prelude.{Option, None, Some, nat_le}
+use Rattle.std.proofs.Common.{◌≡◌, ℕ, true, ◌&&◌, List, [], ◌∷◌, ◌++◌, length, refl, ap, sym, ◌∙◌, subst}
+use Rattle.std.specs.Prelude.{Option, Some, nat_le}
 use Rattle.std.specs.FinMap.{entries, entries-from_sorted, entries_sorted, from_sorted, same_entries_map}
-use Rattle.vl_engine.specs.Reading.{OnlyNotes, OnlyReads, rows_under}
+use Rattle.vl_engine.specs.Reading.{OnlyNotes, rows_under}
 use Rattle.vl_engine.specs.Represents.{IsLive}
-use Rattle.vl_engine.specs.Sees.{Sees, SeesAlone, asked, asked_view}
+use Rattle.vl_engine.specs.Sees.{Sees, asked}
 use Rattle.vl_engine.specs.declared.txn.Txn.{Txn}
 use Rattle.vl_layout.specs.AtAnswer.{Beginning}
 use Rattle.vl_layout.specs.Rulings.Commit.{Transaction as ATxn}
-use Rattle.vl_layout.specs.Store.Commits.{AreProper, Changes, history_in}
-use Rattle.vl_layout.specs.Store.Lines.{Answer, Invalid, Name, Rows}
+use Rattle.vl_layout.specs.Store.Commits.{AreProper, history_in}
+use Rattle.vl_layout.specs.Store.Lines.{Invalid, Name, Rows}
 use Rattle.vl_layout.specs.Store.Reading.{noted_scan, rows_told, scan_by, scan_of, scanned_rows}
 use Rattle.vl_layout.specs.Store.Things as store
-use Rattle.vl_layout.specs.Store.Things.{ATransaction, Step, named, only, thing_in}
-use Rattle.vl_model.specs.History.{History, contents_at}
+use Rattle.vl_layout.specs.Store.Things.{ATransaction, Step, only, thing_in}
+use Rattle.vl_model.specs.History.{contents_at}
 use Rattle.vl_model.specs.Keys.{Row, Writes, key_cmp}
 use Rattle.vl_model.specs.Limits.{max_key_bytes}
 use Rattle.vl_model.specs.Reads.{RangeRead, Read, Scan, rows_of}

@@ -8,7 +8,7 @@ use Rattle.vl_layout.specs.Store.Things.{named, thing_in, without_name}
 use Rattle.vl_layout.specs.declared.layout.Layout.{Layout}
 use Rattle.vl_model.specs.History.{History}
 use Rattle.vl_model.specs.Keys.{key_cmp}
-use Rattle.vl_replay.specs.Standing.{AreOnce, Corresponds, IsTaken, Stand, open_in, ticket_of}
+use Rattle.vl_replay.specs.Standing.{Corresponds, IsTaken, Stand, open_in, ticket_of}
 use Rattle.vl_replay.specs.declared.replayer.open.Open.{Open}
 use Rattle.vl_replay.specs.declared.replayer.open.Thing.{Thing}
 use Rattle.vl_replay.proofs.Names.Lookups.{named_so, once_put, own_name, open_beside, open_put, thing_beside, thing_gone, thing_left, thing_put}
@@ -28,7 +28,7 @@ module _ {H R : Type 0} (bytes : H → Option (List ℕ)) (ts : List (Name × st
     (os left : List (Open H R)) (stand : Stand bytes os ts h l) (name : Name) (thing : Option (Thing H R)) (taken : IsTaken os left name thing)
     -- what another name stands for stands there over the new history and layout
     (still : (other : Name) → (other ≡ name → ⊥) → (x : Option (Thing H R)) (y : Option store.Thing)
-      → thing_in ts other ≡ y → Corresponds bytes h l x y → Corresponds bytes k m x y) where
+    → thing_in ts other ≡ y → Corresponds bytes h l x y → Corresponds bytes k m x y) where
   -- so it does behind the step
   others : (other : Name) → (other ≡ name → ⊥) → Corresponds bytes k m (open_in left other) (thing_in ts other)
   others other apart =
@@ -73,13 +73,13 @@ module _ {H R : Type 0} (bytes : H → Option (List ℕ)) (ts : List (Name × st
     once = once_put left o taken.once taken.none;
     apart = λ a b y z at_a at_b same. ⊎_elim
         (λ (is_a : a ≡ name). ⊎_elim
-          (λ (is_b : b ≡ name). is_a ∙ sym is_b)
-          (λ (not_b : b ≡ name → ⊥). absurd (free b z not_b (beside b z not_b at_b) (ap ticket_of (own a y is_a at_a) ∙ same)))
-          (same_or_not b name))
+        (λ (is_b : b ≡ name). is_a ∙ sym is_b)
+        (λ (not_b : b ≡ name → ⊥). absurd (free b z not_b (beside b z not_b at_b) (ap ticket_of (own a y is_a at_a) ∙ same)))
+        (same_or_not b name))
         (λ (not_a : a ≡ name → ⊥). ⊎_elim
-          (λ (is_b : b ≡ name). absurd (free a y not_a (beside a y not_a at_a) (ap ticket_of (own b z is_b at_b) ∙ sym same)))
-          (λ (not_b : b ≡ name → ⊥). stand.apart a b y z (beside a y not_a at_a) (beside b z not_b at_b) same)
-          (same_or_not b name))
+        (λ (is_b : b ≡ name). absurd (free a y not_a (beside a y not_a at_a) (ap ticket_of (own b z is_b at_b) ∙ sym same)))
+        (λ (not_b : b ≡ name → ⊥). stand.apart a b y z (beside a y not_a at_a) (beside b z not_b at_b) same)
+        (same_or_not b name))
         (same_or_not a name);
   }
     where

@@ -18,8 +18,7 @@ use Rattle.vl_layout.specs.Store.Reading.{is_small_enough, write_by}
 use Rattle.vl_layout.specs.Store.Things as store
 use Rattle.vl_layout.specs.Store.Things.{ATransaction, Step, named, only, thing_in, with_thing}
 use Rattle.vl_model.specs.Formats.{log_format}
-use Rattle.vl_model.specs.History.{History}
-use Rattle.vl_model.specs.Keys.{Writes, is_key_length, is_value_length, key_cmp, value_bytes}
+use Rattle.vl_model.specs.Keys.{Writes, is_value_length, key_cmp, value_bytes}
 use Rattle.vl_model.specs.Limits.{max_key_bytes, max_transaction_bytes, max_transaction_keys}
 use Rattle.vl_model.specs.declared.change.Change.{Change}
 use Rattle.vl_txn.specs.Refusals.{IsWritten, fits_transaction, refused_write}

@@ -72,9 +72,11 @@ fn told(read: Result<Option<Value>, ReadFail>, with_tag: bool) -> Result<Answer,
 {
     match read {
         Ok(None) => Ok(Answer::NoValue),
-        Ok(Some(value)) => Ok(
-            if with_tag { Answer::FoundTagged { value } } else { Answer::Found { value } },
-        ),
+        Ok(Some(value)) => Ok(if with_tag {
+            Answer::FoundTagged { value }
+        } else {
+            Answer::Found { value }
+        }),
         Err(ReadFail::EmptyKey | ReadFail::KeyTooLong) => Ok(Answer::Invalid),
         Err(ReadFail::NoMemory) => Err(Halt::NoMemory),
         Err(ReadFail::Disk { name }) => Err(Halt::Read { name }),

@@ -1,5 +1,5 @@
 -- Each line's call makes the line's step.
-use Rattle.std.proofs.Common.{◌≡◌, ap, sym, subst}
+use Rattle.std.proofs.Common.{ap, sym, subst}
 use Rattle.std.specs.Prelude.{Ok}
 use Rattle.vl_engine.specs.Shown.{Shown}
 use Rattle.vl_layout.specs.Store.Reading.{a_transaction, a_view, answer_of, answer_with_tag}

@@ -1,5 +1,5 @@
 -- The name's thing is read in its place.
-use Rattle.std.proofs.Common.{◌≡◌, ◌∙◌, ℕ, List, refl, ap, sym, arith}
+use Rattle.std.proofs.Common.{◌∙◌, ℕ, List, refl, ap, sym, arith}
 use Rattle.vl_layout.specs.Store.Reading.{get_by}
 use Rattle.vl_layout.specs.Store.Things.{thing_of}
 use Rattle.vl_replay.specs.Sequential.{history_of}
@@ -30,7 +30,7 @@ returns-in-View-clause-makes g c s stands =
     let core = c.args.self.now.engine.core in
     let os = c.args.self.now.opens.items in
     let taken = out_of_place bytes core os s stands c.deref.result.now c.deref.ensures.value c.as_slice.result.now c.args.name c.as_slice.ensures
-        c.in-Some.at (sym c.place.ensures ∙ c.in-Some.is) c.index_mut.result.now c.index_mut.ensures.value _ c.in-View.is in
+    c.in-Some.at (sym c.place.ensures ∙ c.in-Some.is) c.index_mut.result.now c.index_mut.ensures.value _ c.in-View.is in
     in_place bytes core os s stands c.deref.result.now c.deref.ensures.value c.as_slice.result.now c.args.name c.as_slice.ensures
     c.in-Some.at (sym c.place.ensures ∙ c.in-Some.is) c.index_mut.result.now c.index_mut.ensures.value (View c.get.new.self)
     (get_by s.store c.args.name (tell_of c.args.with_tag) c.as_slice-in-View.result.now (thing_of s.store c.args.name))
@@ -45,7 +45,7 @@ returns-in-View-clause-sound g c s stands =
     let core = c.args.self.now.engine.core in
     let os = c.args.self.now.opens.items in
     let taken = out_of_place bytes core os s stands c.deref.result.now c.deref.ensures.value c.as_slice.result.now c.args.name c.as_slice.ensures
-        c.in-Some.at (sym c.place.ensures ∙ c.in-Some.is) c.index_mut.result.now c.index_mut.ensures.value _ c.in-View.is in
+    c.in-Some.at (sym c.place.ensures ∙ c.in-Some.is) c.index_mut.result.now c.index_mut.ensures.value _ c.in-View.is in
     let (b, there, sees, live) = its bytes core os s stands (without_open c.args.name os) c.args.name c.in-View.view taken in
     call_sound (told_value c.args.with_tag) c.get.result c.told.result c.told.ensures (c.get.ensures.sound (history_of s) sees)
 
@@ -55,7 +55,7 @@ returns-clause-makes g c s stands =
     let core = c.args.self.now.engine.core in
     let os = c.args.self.now.opens.items in
     let taken = out_of_place bytes core os s stands c.deref.result.now c.deref.ensures.value c.as_slice.result.now c.args.name c.as_slice.ensures
-        c.in-Some.at (sym c.place.ensures ∙ c.in-Some.is) c.index_mut.result.now c.index_mut.ensures.value _ c.in-Transaction.is in
+    c.in-Some.at (sym c.place.ensures ∙ c.in-Some.is) c.index_mut.result.now c.index_mut.ensures.value _ c.in-Transaction.is in
     in_place bytes core os s stands c.deref.result.now c.deref.ensures.value c.as_slice.result.now c.args.name c.as_slice.ensures
     c.in-Some.at (sym c.place.ensures ∙ c.in-Some.is) c.index_mut.result.now c.index_mut.ensures.value (Transaction c.get-in-Transaction.new.self)
     (get_by s.store c.args.name (tell_of c.args.with_tag) c.as_slice-in-Transaction.result.now (thing_of s.store c.args.name))
@@ -71,6 +71,6 @@ returns-clause-sound g c s stands =
     let core = c.args.self.now.engine.core in
     let os = c.args.self.now.opens.items in
     let taken = out_of_place bytes core os s stands c.deref.result.now c.deref.ensures.value c.as_slice.result.now c.args.name c.as_slice.ensures
-        c.in-Some.at (sym c.place.ensures ∙ c.in-Some.is) c.index_mut.result.now c.index_mut.ensures.value _ c.in-Transaction.is in
+    c.in-Some.at (sym c.place.ensures ∙ c.in-Some.is) c.index_mut.result.now c.index_mut.ensures.value _ c.in-Transaction.is in
     let (t, b, there, is) = itself bytes core os s stands (without_open c.args.name os) c.args.name c.in-Transaction.txn taken in
     call_sound (told_value c.args.with_tag) c.get-in-Transaction.result c.told-in-Transaction.result c.told-in-Transaction.ensures (c.get-in-Transaction.ensures.sound (history_of s) t.reads is.sees)

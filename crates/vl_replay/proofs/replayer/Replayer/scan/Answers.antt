@@ -1,5 +1,5 @@
 -- The name's thing is scanned in its place.
-use Rattle.std.proofs.Common.{◌≡◌, ◌∙◌, ℕ, List, refl, ap, sym, arith}
+use Rattle.std.proofs.Common.{◌∙◌, ℕ, List, refl, ap, sym, arith}
 use Rattle.vl_layout.specs.Store.Reading.{scan_by}
 use Rattle.vl_layout.specs.Store.Things.{Step, thing_of}
 use Rattle.vl_replay.specs.Sequential.{history_of}
@@ -31,7 +31,7 @@ returns-in-View-clause-makes g c s stands =
     let core = c.args.self.now.engine.core in
     let os = c.args.self.now.opens.items in
     let taken = out_of_place bytes core os s stands c.deref.result.now c.deref.ensures.value c.as_slice.result.now c.args.name c.as_slice.ensures
-        c.in-Some.at (sym c.place.ensures ∙ c.in-Some.is) c.index_mut.result.now c.index_mut.ensures.value _ c.in-View.is in
+    c.in-Some.at (sym c.place.ensures ∙ c.in-Some.is) c.index_mut.result.now c.index_mut.ensures.value _ c.in-View.is in
     let step : List ℕ → List ℕ → Step = λ low high. scan_by s.store c.args.way c.args.name low high c.args.limit (thing_of s.store c.args.name) in
     in_place bytes core os s stands c.deref.result.now c.deref.ensures.value c.as_slice.result.now c.args.name c.as_slice.ensures
     c.in-Some.at (sym c.place.ensures ∙ c.in-Some.is) c.index_mut.result.now c.index_mut.ensures.value (View c.scan.new.self)
@@ -47,7 +47,7 @@ returns-in-View-clause-sound g c s stands =
     let core = c.args.self.now.engine.core in
     let os = c.args.self.now.opens.items in
     let taken = out_of_place bytes core os s stands c.deref.result.now c.deref.ensures.value c.as_slice.result.now c.args.name c.as_slice.ensures
-        c.in-Some.at (sym c.place.ensures ∙ c.in-Some.is) c.index_mut.result.now c.index_mut.ensures.value _ c.in-View.is in
+    c.in-Some.at (sym c.place.ensures ∙ c.in-Some.is) c.index_mut.result.now c.index_mut.ensures.value _ c.in-View.is in
     let (b, there, sees, live) = its bytes core os s stands (without_open c.args.name os) c.args.name c.in-View.view taken in
     call_sound (λ rows. answers.Rows rows) c.scan.result c.told_rows.result c.told_rows.ensures (c.scan.ensures.sound (history_of s) sees)
 
@@ -57,7 +57,7 @@ returns-clause-makes g c s stands =
     let core = c.args.self.now.engine.core in
     let os = c.args.self.now.opens.items in
     let taken = out_of_place bytes core os s stands c.deref.result.now c.deref.ensures.value c.as_slice.result.now c.args.name c.as_slice.ensures
-        c.in-Some.at (sym c.place.ensures ∙ c.in-Some.is) c.index_mut.result.now c.index_mut.ensures.value _ c.in-Transaction.is in
+    c.in-Some.at (sym c.place.ensures ∙ c.in-Some.is) c.index_mut.result.now c.index_mut.ensures.value _ c.in-Transaction.is in
     let step : List ℕ → List ℕ → Step = λ low high. scan_by s.store c.args.way c.args.name low high c.args.limit (thing_of s.store c.args.name) in
     in_place bytes core os s stands c.deref.result.now c.deref.ensures.value c.as_slice.result.now c.args.name c.as_slice.ensures
     c.in-Some.at (sym c.place.ensures ∙ c.in-Some.is) c.index_mut.result.now c.index_mut.ensures.value (Transaction c.scan-in-Transaction.new.self)
@@ -73,6 +73,6 @@ returns-clause-sound g c s stands =
     let core = c.args.self.now.engine.core in
     let os = c.args.self.now.opens.items in
     let taken = out_of_place bytes core os s stands c.deref.result.now c.deref.ensures.value c.as_slice.result.now c.args.name c.as_slice.ensures
-        c.in-Some.at (sym c.place.ensures ∙ c.in-Some.is) c.index_mut.result.now c.index_mut.ensures.value _ c.in-Transaction.is in
+    c.in-Some.at (sym c.place.ensures ∙ c.in-Some.is) c.index_mut.result.now c.index_mut.ensures.value _ c.in-Transaction.is in
     let (t, b, there, is) = itself bytes core os s stands (without_open c.args.name os) c.args.name c.in-Transaction.txn taken in
     call_sound (λ rows. answers.Rows rows) c.scan-in-Transaction.result c.told_rows-in-Transaction.result c.told_rows-in-Transaction.ensures (c.scan-in-Transaction.ensures.sound (history_of s) t.reads is.sees)

@@ -1,11 +1,9 @@
 -- Where the name is free, what begins stands for it.
-use Rattle.std.proofs.Common.{◌≡◌, ◌∙◌, refl, ap, sym}
-use Rattle.std.specs.Prelude.{None, Ok, false, true}
-use Rattle.std.specs.Option.{is_some}
+use Rattle.std.proofs.Common.{refl, ap}
+use Rattle.std.specs.Prelude.{Ok, false, true}
 use Rattle.vl_layout.specs.Store.Reading.{a_view, begin_as}
 use Rattle.vl_layout.specs.Store.Things.{thing_of}
 use Rattle.vl_replay.specs.Sequential.{history_of}
-use Rattle.vl_replay.specs.Standing.{open_in}
 use Rattle.vl_replay.specs.laws.Laws.{state_after-sound}
 use Rattle.vl_replay.proofs.Names.BeginMaking.{free_of, taken_makes, taken_of, too_many_makes, view_makes}
 use Rattle.vl_replay.proofs.Names.Returning.{returns_so}

@@ -1,5 +1,5 @@
 -- The name's transaction is written in its place.
-use Rattle.std.proofs.Common.{◌≡◌, ◌∙◌, refl, sym, arith}
+use Rattle.std.proofs.Common.{◌∙◌, refl, sym, arith}
 use Rattle.std.specs.Prelude.{Ok}
 use Rattle.vl_layout.specs.Store.Reading.{write_by}
 use Rattle.vl_layout.specs.Store.Things.{thing_of}
@@ -30,7 +30,7 @@ returns-clause-makes g c s stands =
     let core = c.args.self.now.engine.core in
     let os = c.args.self.now.opens.items in
     let taken = out_of_place bytes core os s stands c.deref.result.now c.deref.ensures.value c.as_slice.result.now c.args.name c.as_slice.ensures
-        c.in-Some.at (sym c.place.ensures ∙ c.in-Some.is) c.index_mut.result.now c.index_mut.ensures.value _ c.in-Transaction.is in
+    c.in-Some.at (sym c.place.ensures ∙ c.in-Some.is) c.index_mut.result.now c.index_mut.ensures.value _ c.in-Transaction.is in
     in_place bytes core os s stands c.deref.result.now c.deref.ensures.value c.as_slice.result.now c.args.name c.as_slice.ensures
     c.in-Some.at (sym c.place.ensures ∙ c.in-Some.is) c.index_mut.result.now c.index_mut.ensures.value (Transaction c.change.new.txn)
     (write_by s.store c.args.name c.args.key (change_of c.args.value) (thing_of s.store c.args.name)) _ _ c.told.result refl c.told.ensures
@@ -43,7 +43,7 @@ returns-in-View-clause-makes g c s stands =
     let core = c.args.self.now.engine.core in
     let os = c.args.self.now.opens.items in
     let taken = out_of_place bytes core os s stands c.deref.result.now c.deref.ensures.value c.as_slice.result.now c.args.name c.as_slice.ensures
-        c.in-Some.at (sym c.place.ensures ∙ c.in-Some.is) c.index_mut.result.now c.index_mut.ensures.value _ c.in-View.is in
+    c.in-Some.at (sym c.place.ensures ∙ c.in-Some.is) c.index_mut.result.now c.index_mut.ensures.value _ c.in-View.is in
     still_in_place bytes core os s stands c.deref.result.now c.deref.ensures.value c.as_slice.result.now c.args.name c.as_slice.ensures
     c.in-Some.at (sym c.place.ensures ∙ c.in-Some.is) c.index_mut.result.now c.index_mut.ensures.value _ c.in-View.is
     (write_by s.store c.args.name c.args.key (change_of c.args.value) (thing_of s.store c.args.name)) (Ok answers.ReadOnly)
