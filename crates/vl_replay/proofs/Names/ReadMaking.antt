@@ -1,7 +1,6 @@
 -- What reads and scans through a name make.
 use Rattle.std.proofs.Common.{◌≡◌, ℕ, ◌==◌, Bool, true, false, cond, ◌&&◌, not, List, [], ◌∷◌, ◌++◌, length, refl, ap, sym, ◌∙◌, subst}
 use Rattle.std.specs.Prelude.{Option, None, Some, Ok, Err, Result, IfOk, OnOk, OnErr, nat_le}
-use Rattle.std.specs.FinMap.{empty}
 use Rattle.vl_engine.specs.Reading.{IsRefusedBy, IsSound as IsSoundRead, NotesNothing, OnlyNotes, OnlyReads, either, value_under}
 use Rattle.vl_engine.specs.Sees.{Sees, SeesAlone}
 use Rattle.vl_engine.specs.declared.fails.ReadFail.{ReadFail}

@@ -1,7 +1,7 @@
 -- What is read through a name: it is answered as the store has it, and the name stands for the same then, with the read noted.
 use Rattle.std.proofs.Common.{◌≡◌, ℕ, true, List, [], ◌∷◌, ◌++◌, length, refl, ap, sym, ◌∙◌, subst}
 use Rattle.std.specs.Prelude.{Option, None, Some}
-use Rattle.std.specs.FinMap.{entries, find, get, get-entries}
+use Rattle.std.specs.FinMap.{find, get, get-entries}
 use Rattle.std.specs.Option.{is_some}
 use Rattle.vl_engine.specs.Reading.{OnlyNotes, value_under}
 use Rattle.vl_engine.specs.Represents.{IsLive}

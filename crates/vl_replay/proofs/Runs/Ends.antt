@@ -12,10 +12,9 @@ use Rattle.vl_disk.specs.declared.name.Name.{Name}
 use Rattle.vl_io.specs.declared.sink.Sink as sink
 use Rattle.vl_io.specs.Sink.{Takes, TakesPrefix}
 use Rattle.vl_script.specs.declared.line.Line.{Line as ScriptLine}
-use Rattle.vl_script.specs.declared.answer.Answer.{Answer}
 use Rattle.vl_script.specs.Script.{longest_line}
-use Rattle.vl_script.specs.Script.{text_of, lines_of, line_of}
-use Rattle.vl_replay.specs.Sequential.{State, answer_to, state_after, answer_text}
+use Rattle.vl_script.specs.Script.{lines_of, line_of}
+use Rattle.vl_replay.specs.Sequential.{State, answer_text}
 use Rattle.vl_replay.specs.Input.{HasNoLineEnd}
 use Rattle.vl_replay.specs.Exchanges.{Exchange, exchange_at, exchanged, exchanges_from, and_later, answers_text, ended_lines, KeepsUp}
 use Rattle.vl_replay.specs.Endings.{Culprit, NoOne, TheLine, TheWords, TheDisk, TheReader, TheFiles, TheBytes, Memory, TheSource, TheSink, LastPiece, NoPiece, BadLinePiece, Line, LineFront, AnswerFront, CountsFaultsOf, EndsAs, Evidence, CutsAnswer, culprit_of, end_of, ending_at, last_line, line_at, line_of_piece, line_number, bad_line}

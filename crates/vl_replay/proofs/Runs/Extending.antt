@@ -1,5 +1,5 @@
 -- Which commits a line leaves, and how its answer is told.
-use Rattle.std.proofs.Common.{◌≡◌, ◌⊎◌, ⊎_elim, inl, inr, ℕ, List, [], ◌∷◌, ◌++◌, map, length, suc, refl, ap, sym, ◌∙◌, subst, cond}
+use Rattle.std.proofs.Common.{◌≡◌, ◌⊎◌, inl, inr, ℕ, List, [], ◌∷◌, ◌++◌, map, length, suc, refl, ap, sym, ◌∙◌, subst}
 use Rattle.std.specs.Prelude.{Option, None, Some, codes}
 use Rattle.std.specs.FinMap.{from_sorted}
 use Rattle.std.specs.List.{flat_map}
@@ -14,7 +14,7 @@ use Rattle.vl_model.specs.History.{Extends, History, with_commit}
 use Rattle.vl_model.specs.Keys.{Row, tagged, untagged}
 use Rattle.vl_model.specs.declared.change.Change.TheVariants.{Set as Put, Delete as Deleted}
 use Rattle.vl_replay.specs.Sequential.{IsTold, State, answer_text, answer_to, as_told, history_of, state_after, step_to, told_row, without_lengths}
-use Rattle.vl_replay.specs.laws.Growing.{Adds, begin_keeps, commit_or, get_keeps, history_more, scan_keeps, write_keeps}
+use Rattle.vl_replay.specs.laws.Growing.{begin_keeps, commit_or, get_keeps, history_more, scan_keeps, write_keeps}
 use Rattle.vl_script.specs.Script.{as_line, row_text, rows_text, text_of}
 use Rattle.std.specs.Fmt.{decimal}
 use Rattle.vl_script.specs.declared.answer.Answer.{Answer}

@@ -14,7 +14,7 @@ use Rattle.vl_replay.proofs.Runs.Texts.{carries_nothing, carries_bad, carries_li
 use Rattle.vl_replay.proofs.answering.execute_line.Goals as goal
 
 pub line-requires : goal.line-requires
-line-requires g c = line_asks c.args.text.now c.in-Some.line (sym c.in_ok-line.ensures ∙ c.in-Some.is)
+line-requires g c = record { rows = line_asks c.args.text.now c.in-Some.line (sym c.in_ok-line.ensures ∙ c.in-Some.is) }
 
 pub returns-clause-answers : goal.returns-clause-answers
 returns-clause-answers g c s stands =

@@ -21,161 +21,217 @@ use Rattle.vl_replay.proofs.replayer.Replayer.carry_out.Goals as goal
 
 pub returns-in-Begin-clause-makes : goal.returns-in-Begin-clause-makes
 returns-in-Begin-clause-makes g c s stands =
-    subst (λ (line : Line). MakesStep g.D.Held.HeldFile.bytes c.begin.new.self.engine.core c.begin.new.self.opens.items s (step_to s line) c.begin.result)
+    subst (λ (line : Line). MakesStep g.D.Held.HeldFile.bytes c.begin.new.self.engine.core
+    c.begin.new.self.opens.items s (step_to s line) c.begin.result)
     (sym c.in-Begin.is) (c.begin.ensures.makes s stands)
 
 pub returns-in-Begin-clause-sound : goal.returns-in-Begin-clause-sound
 returns-in-Begin-clause-sound g c s stands = not_by_read c.begin.result c.begin.ensures.fails
 
 pub returns-in-Begin-clause-cause : goal.returns-in-Begin-clause-cause
-returns-in-Begin-clause-cause g c = no_cause _ _ _ (ap (λ disk. g.D.Watched.faults disk) c.begin.ensures.disk) (not_by_disk c.begin.result c.begin.ensures.fails)
+returns-in-Begin-clause-cause g c = no_cause _ _ _ (ap (λ disk. g.D.Watched.faults disk) c.begin.ensures.disk)
+    (not_by_disk c.begin.result c.begin.ensures.fails)
 
 pub returns-in-Begin-clause-carries : goal.returns-in-Begin-clause-carries
 returns-in-Begin-clause-carries g c s stands =
-    subst (λ (line : Line). CarriesOut g.D.Watched IsStored Shown IsStopped c.args.self.now.engine.disk c.begin.new.self.engine.disk s (state_after s line) c.begin.result) (sym c.in-Begin.is)
-    (quiet_carries g.D.Watched (record { only_now = g.met.D.Disk.only_now; counts_now = g.met.D.Disk.counts_now }) g.D.Held.HeldFile.bytes
-    c.begin.new.self.engine.core c.begin.new.self.opens.items s (step_to s (lines.Begin c.in-Begin.name)) (begin_keeps s.store c.in-Begin.name a_transaction (thing_of s.store c.in-Begin.name)) c.begin.result
-    (c.begin.ensures.makes s stands) c.begin.ensures.fails c.args.self.now.engine.disk c.begin.new.self.engine.disk c.begin.ensures.disk)
+    subst (λ (line : Line). CarriesOut g.D.Watched IsStored Shown IsStopped c.args.self.now.engine.disk
+    c.begin.new.self.engine.disk s (state_after s line) c.begin.result) (sym c.in-Begin.is)
+    (quiet_carries g.D.Watched (record { only_now = g.met.D.Disk.only_now; counts_now = g.met.D.Disk.counts_now })
+    g.D.Held.HeldFile.bytes
+    c.begin.new.self.engine.core c.begin.new.self.opens.items s (step_to s (lines.Begin c.in-Begin.name))
+    (begin_keeps s.store c.in-Begin.name a_transaction (thing_of s.store c.in-Begin.name)) c.begin.result
+    (c.begin.ensures.makes s stands) c.begin.ensures.fails c.args.self.now.engine.disk c.begin.new.self.engine.disk
+    c.begin.ensures.disk)
 
 pub returns-in-View-clause-makes : goal.returns-in-View-clause-makes
 returns-in-View-clause-makes g c s stands =
-    subst (λ (line : Line). MakesStep g.D.Held.HeldFile.bytes c.view.new.self.engine.core c.view.new.self.opens.items s (step_to s line) c.view.result)
+    subst (λ (line : Line). MakesStep g.D.Held.HeldFile.bytes c.view.new.self.engine.core c.view.new.self.opens.items
+    s (step_to s line) c.view.result)
     (sym c.in-View.is) (c.view.ensures.makes s stands)
 
 pub returns-in-View-clause-sound : goal.returns-in-View-clause-sound
 returns-in-View-clause-sound g c s stands = not_by_read c.view.result c.view.ensures.fails
 
 pub returns-in-View-clause-cause : goal.returns-in-View-clause-cause
-returns-in-View-clause-cause g c = no_cause _ _ _ (ap (λ disk. g.D.Watched.faults disk) c.view.ensures.disk) (not_by_disk c.view.result c.view.ensures.fails)
+returns-in-View-clause-cause g c = no_cause _ _ _ (ap (λ disk. g.D.Watched.faults disk) c.view.ensures.disk)
+    (not_by_disk c.view.result c.view.ensures.fails)
 
 pub returns-in-View-clause-carries : goal.returns-in-View-clause-carries
 returns-in-View-clause-carries g c s stands =
-    subst (λ (line : Line). CarriesOut g.D.Watched IsStored Shown IsStopped c.args.self.now.engine.disk c.view.new.self.engine.disk s (state_after s line) c.view.result) (sym c.in-View.is)
-    (quiet_carries g.D.Watched (record { only_now = g.met.D.Disk.only_now; counts_now = g.met.D.Disk.counts_now }) g.D.Held.HeldFile.bytes
-    c.view.new.self.engine.core c.view.new.self.opens.items s (step_to s (lines.View c.in-View.name)) (begin_keeps s.store c.in-View.name a_view (thing_of s.store c.in-View.name)) c.view.result
+    subst (λ (line : Line). CarriesOut g.D.Watched IsStored Shown IsStopped c.args.self.now.engine.disk
+    c.view.new.self.engine.disk s (state_after s line) c.view.result) (sym c.in-View.is)
+    (quiet_carries g.D.Watched (record { only_now = g.met.D.Disk.only_now; counts_now = g.met.D.Disk.counts_now })
+    g.D.Held.HeldFile.bytes
+    c.view.new.self.engine.core c.view.new.self.opens.items s (step_to s (lines.View c.in-View.name)) (begin_keeps
+    s.store c.in-View.name a_view (thing_of s.store c.in-View.name)) c.view.result
     (c.view.ensures.makes s stands) c.view.ensures.fails c.args.self.now.engine.disk c.view.new.self.engine.disk c.view.ensures.disk)
 
 pub returns-in-Get-clause-makes : goal.returns-in-Get-clause-makes
 returns-in-Get-clause-makes g c s stands =
-    subst (λ (line : Line). MakesStep g.D.Held.HeldFile.bytes c.read.new.self.engine.core c.read.new.self.opens.items s (step_to s line) c.read.result)
+    subst (λ (line : Line). MakesStep g.D.Held.HeldFile.bytes c.read.new.self.engine.core c.read.new.self.opens.items
+    s (step_to s line) c.read.result)
     (sym c.in-Get.is) (c.read.ensures.makes s stands)
 
 pub returns-in-Get-clause-sound : goal.returns-in-Get-clause-sound
 returns-in-Get-clause-sound g c s stands = not_by_read c.read.result (c.read.ensures.sound s stands)
 
 pub returns-in-Get-clause-cause : goal.returns-in-Get-clause-cause
-returns-in-Get-clause-cause g c = no_cause _ _ _ (ap (λ disk. g.D.Watched.faults disk) (ap (λ e. e.disk) c.read.ensures.engine)) c.read.ensures.not_the_disk
+returns-in-Get-clause-cause g c = no_cause _ _ _ (ap (λ disk. g.D.Watched.faults disk) (ap (λ e. e.disk)
+    c.read.ensures.engine)) c.read.ensures.not_the_disk
 
 pub returns-in-Get-clause-carries : goal.returns-in-Get-clause-carries
 returns-in-Get-clause-carries g c s stands =
-    subst (λ (line : Line). CarriesOut g.D.Watched IsStored Shown IsStopped c.args.self.now.engine.disk c.read.new.self.engine.disk s (state_after s line) c.read.result) (sym c.in-Get.is)
-    (quiet_carries g.D.Watched (record { only_now = g.met.D.Disk.only_now; counts_now = g.met.D.Disk.counts_now }) g.D.Held.HeldFile.bytes
-    c.read.new.self.engine.core c.read.new.self.opens.items s (step_to s (lines.Get c.in-Get.name c.in-Get.key)) (get_keeps s.store c.in-Get.name answer_of c.in-Get.key (thing_of s.store c.in-Get.name)) c.read.result
-    (c.read.ensures.makes s stands) (c.read.ensures.sound s stands) c.args.self.now.engine.disk c.read.new.self.engine.disk (ap (λ e. e.disk) c.read.ensures.engine))
+    subst (λ (line : Line). CarriesOut g.D.Watched IsStored Shown IsStopped c.args.self.now.engine.disk
+    c.read.new.self.engine.disk s (state_after s line) c.read.result) (sym c.in-Get.is)
+    (quiet_carries g.D.Watched (record { only_now = g.met.D.Disk.only_now; counts_now = g.met.D.Disk.counts_now })
+    g.D.Held.HeldFile.bytes
+    c.read.new.self.engine.core c.read.new.self.opens.items s (step_to s (lines.Get c.in-Get.name c.in-Get.key))
+    (get_keeps s.store c.in-Get.name answer_of c.in-Get.key (thing_of s.store c.in-Get.name)) c.read.result
+    (c.read.ensures.makes s stands) (c.read.ensures.sound s stands) c.args.self.now.engine.disk
+    c.read.new.self.engine.disk (ap (λ e. e.disk) c.read.ensures.engine))
 
 pub returns-in-GetTagged-clause-makes : goal.returns-in-GetTagged-clause-makes
 returns-in-GetTagged-clause-makes g c s stands =
-    subst (λ (line : Line). MakesStep g.D.Held.HeldFile.bytes c.read-in-GetTagged.new.self.engine.core c.read-in-GetTagged.new.self.opens.items s (step_to s line) c.read-in-GetTagged.result)
+    subst (λ (line : Line). MakesStep g.D.Held.HeldFile.bytes c.read-in-GetTagged.new.self.engine.core
+    c.read-in-GetTagged.new.self.opens.items s (step_to s line) c.read-in-GetTagged.result)
     (sym c.in-GetTagged.is) (c.read-in-GetTagged.ensures.makes s stands)
 
 pub returns-in-GetTagged-clause-sound : goal.returns-in-GetTagged-clause-sound
 returns-in-GetTagged-clause-sound g c s stands = not_by_read c.read-in-GetTagged.result (c.read-in-GetTagged.ensures.sound s stands)
 
 pub returns-in-GetTagged-clause-cause : goal.returns-in-GetTagged-clause-cause
-returns-in-GetTagged-clause-cause g c = no_cause _ _ _ (ap (λ disk. g.D.Watched.faults disk) (ap (λ e. e.disk) c.read-in-GetTagged.ensures.engine)) c.read-in-GetTagged.ensures.not_the_disk
+returns-in-GetTagged-clause-cause g c = no_cause _ _ _ (ap (λ disk. g.D.Watched.faults disk) (ap (λ e. e.disk)
+    c.read-in-GetTagged.ensures.engine)) c.read-in-GetTagged.ensures.not_the_disk
 
 pub returns-in-GetTagged-clause-carries : goal.returns-in-GetTagged-clause-carries
 returns-in-GetTagged-clause-carries g c s stands =
-    subst (λ (line : Line). CarriesOut g.D.Watched IsStored Shown IsStopped c.args.self.now.engine.disk c.read-in-GetTagged.new.self.engine.disk s (state_after s line) c.read-in-GetTagged.result) (sym c.in-GetTagged.is)
-    (quiet_carries g.D.Watched (record { only_now = g.met.D.Disk.only_now; counts_now = g.met.D.Disk.counts_now }) g.D.Held.HeldFile.bytes
-    c.read-in-GetTagged.new.self.engine.core c.read-in-GetTagged.new.self.opens.items s (step_to s (lines.GetTagged c.in-GetTagged.name c.in-GetTagged.key)) (get_keeps s.store c.in-GetTagged.name answer_with_tag c.in-GetTagged.key (thing_of s.store c.in-GetTagged.name)) c.read-in-GetTagged.result
-    (c.read-in-GetTagged.ensures.makes s stands) (c.read-in-GetTagged.ensures.sound s stands) c.args.self.now.engine.disk c.read-in-GetTagged.new.self.engine.disk (ap (λ e. e.disk) c.read-in-GetTagged.ensures.engine))
+    subst (λ (line : Line). CarriesOut g.D.Watched IsStored Shown IsStopped c.args.self.now.engine.disk
+    c.read-in-GetTagged.new.self.engine.disk s (state_after s line) c.read-in-GetTagged.result) (sym c.in-GetTagged.is)
+    (quiet_carries g.D.Watched (record { only_now = g.met.D.Disk.only_now; counts_now = g.met.D.Disk.counts_now })
+    g.D.Held.HeldFile.bytes
+    c.read-in-GetTagged.new.self.engine.core c.read-in-GetTagged.new.self.opens.items s (step_to s (lines.GetTagged
+    c.in-GetTagged.name c.in-GetTagged.key)) (get_keeps s.store c.in-GetTagged.name answer_with_tag
+    c.in-GetTagged.key (thing_of s.store c.in-GetTagged.name)) c.read-in-GetTagged.result
+    (c.read-in-GetTagged.ensures.makes s stands) (c.read-in-GetTagged.ensures.sound s stands)
+    c.args.self.now.engine.disk c.read-in-GetTagged.new.self.engine.disk (ap (λ e. e.disk) c.read-in-GetTagged.ensures.engine))
 
 pub returns-in-Set-clause-makes : goal.returns-in-Set-clause-makes
 returns-in-Set-clause-makes g c s stands =
-    subst (λ (line : Line). MakesStep g.D.Held.HeldFile.bytes c.write.new.self.engine.core c.write.new.self.opens.items s (step_to s line) c.write.result)
+    subst (λ (line : Line). MakesStep g.D.Held.HeldFile.bytes c.write.new.self.engine.core
+    c.write.new.self.opens.items s (step_to s line) c.write.result)
     (sym c.in-Set.is) (c.write.ensures.makes s stands)
 
 pub returns-in-Set-clause-sound : goal.returns-in-Set-clause-sound
 returns-in-Set-clause-sound g c s stands = not_by_read c.write.result c.write.ensures.fails
 
 pub returns-in-Set-clause-cause : goal.returns-in-Set-clause-cause
-returns-in-Set-clause-cause g c = no_cause _ _ _ (ap (λ disk. g.D.Watched.faults disk) (ap (λ e. e.disk) c.write.ensures.engine)) (not_by_disk c.write.result c.write.ensures.fails)
+returns-in-Set-clause-cause g c = no_cause _ _ _ (ap (λ disk. g.D.Watched.faults disk) (ap (λ e. e.disk)
+    c.write.ensures.engine)) (not_by_disk c.write.result c.write.ensures.fails)
 
 pub returns-in-Set-clause-carries : goal.returns-in-Set-clause-carries
 returns-in-Set-clause-carries g c s stands =
-    subst (λ (line : Line). CarriesOut g.D.Watched IsStored Shown IsStopped c.args.self.now.engine.disk c.write.new.self.engine.disk s (state_after s line) c.write.result) (sym c.in-Set.is)
-    (quiet_carries g.D.Watched (record { only_now = g.met.D.Disk.only_now; counts_now = g.met.D.Disk.counts_now }) g.D.Held.HeldFile.bytes
-    c.write.new.self.engine.core c.write.new.self.opens.items s (step_to s (lines.Set c.in-Set.name c.in-Set.key c.in-Set.value)) (write_keeps s.store c.in-Set.name c.in-Set.key (changes.Set (untagged c.in-Set.value)) (thing_of s.store c.in-Set.name)) c.write.result
-    (c.write.ensures.makes s stands) c.write.ensures.fails c.args.self.now.engine.disk c.write.new.self.engine.disk (ap (λ e. e.disk) c.write.ensures.engine))
+    subst (λ (line : Line). CarriesOut g.D.Watched IsStored Shown IsStopped c.args.self.now.engine.disk
+    c.write.new.self.engine.disk s (state_after s line) c.write.result) (sym c.in-Set.is)
+    (quiet_carries g.D.Watched (record { only_now = g.met.D.Disk.only_now; counts_now = g.met.D.Disk.counts_now })
+    g.D.Held.HeldFile.bytes
+    c.write.new.self.engine.core c.write.new.self.opens.items s (step_to s (lines.Set c.in-Set.name c.in-Set.key
+    c.in-Set.value)) (write_keeps s.store c.in-Set.name c.in-Set.key (changes.Set (untagged c.in-Set.value))
+    (thing_of s.store c.in-Set.name)) c.write.result
+    (c.write.ensures.makes s stands) c.write.ensures.fails c.args.self.now.engine.disk c.write.new.self.engine.disk
+    (ap (λ e. e.disk) c.write.ensures.engine))
 
 pub returns-in-SetTagged-clause-makes : goal.returns-in-SetTagged-clause-makes
 returns-in-SetTagged-clause-makes g c s stands =
-    subst (λ (line : Line). MakesStep g.D.Held.HeldFile.bytes c.write-in-SetTagged.new.self.engine.core c.write-in-SetTagged.new.self.opens.items s (step_to s line) c.write-in-SetTagged.result)
+    subst (λ (line : Line). MakesStep g.D.Held.HeldFile.bytes c.write-in-SetTagged.new.self.engine.core
+    c.write-in-SetTagged.new.self.opens.items s (step_to s line) c.write-in-SetTagged.result)
     (sym c.in-SetTagged.is) (c.write-in-SetTagged.ensures.makes s stands)
 
 pub returns-in-SetTagged-clause-sound : goal.returns-in-SetTagged-clause-sound
 returns-in-SetTagged-clause-sound g c s stands = not_by_read c.write-in-SetTagged.result c.write-in-SetTagged.ensures.fails
 
 pub returns-in-SetTagged-clause-cause : goal.returns-in-SetTagged-clause-cause
-returns-in-SetTagged-clause-cause g c = no_cause _ _ _ (ap (λ disk. g.D.Watched.faults disk) (ap (λ e. e.disk) c.write-in-SetTagged.ensures.engine)) (not_by_disk c.write-in-SetTagged.result c.write-in-SetTagged.ensures.fails)
+returns-in-SetTagged-clause-cause g c = no_cause _ _ _ (ap (λ disk. g.D.Watched.faults disk) (ap (λ e. e.disk)
+    c.write-in-SetTagged.ensures.engine)) (not_by_disk c.write-in-SetTagged.result c.write-in-SetTagged.ensures.fails)
 
 pub returns-in-SetTagged-clause-carries : goal.returns-in-SetTagged-clause-carries
 returns-in-SetTagged-clause-carries g c s stands =
-    subst (λ (line : Line). CarriesOut g.D.Watched IsStored Shown IsStopped c.args.self.now.engine.disk c.write-in-SetTagged.new.self.engine.disk s (state_after s line) c.write-in-SetTagged.result) (sym c.in-SetTagged.is)
-    (quiet_carries g.D.Watched (record { only_now = g.met.D.Disk.only_now; counts_now = g.met.D.Disk.counts_now }) g.D.Held.HeldFile.bytes
-    c.write-in-SetTagged.new.self.engine.core c.write-in-SetTagged.new.self.opens.items s (step_to s (lines.SetTagged c.in-SetTagged.name c.in-SetTagged.key c.in-SetTagged.value c.in-SetTagged.tag)) (write_keeps s.store c.in-SetTagged.name c.in-SetTagged.key (changes.Set (tagged c.in-SetTagged.value c.in-SetTagged.tag)) (thing_of s.store c.in-SetTagged.name)) c.write-in-SetTagged.result
-    (c.write-in-SetTagged.ensures.makes s stands) c.write-in-SetTagged.ensures.fails c.args.self.now.engine.disk c.write-in-SetTagged.new.self.engine.disk (ap (λ e. e.disk) c.write-in-SetTagged.ensures.engine))
+    subst (λ (line : Line). CarriesOut g.D.Watched IsStored Shown IsStopped c.args.self.now.engine.disk
+    c.write-in-SetTagged.new.self.engine.disk s (state_after s line) c.write-in-SetTagged.result) (sym c.in-SetTagged.is)
+    (quiet_carries g.D.Watched (record { only_now = g.met.D.Disk.only_now; counts_now = g.met.D.Disk.counts_now })
+    g.D.Held.HeldFile.bytes
+    c.write-in-SetTagged.new.self.engine.core c.write-in-SetTagged.new.self.opens.items s (step_to s (lines.SetTagged
+    c.in-SetTagged.name c.in-SetTagged.key c.in-SetTagged.value c.in-SetTagged.tag)) (write_keeps s.store
+    c.in-SetTagged.name c.in-SetTagged.key (changes.Set (tagged c.in-SetTagged.value c.in-SetTagged.tag)) (thing_of
+    s.store c.in-SetTagged.name)) c.write-in-SetTagged.result
+    (c.write-in-SetTagged.ensures.makes s stands) c.write-in-SetTagged.ensures.fails c.args.self.now.engine.disk
+    c.write-in-SetTagged.new.self.engine.disk (ap (λ e. e.disk) c.write-in-SetTagged.ensures.engine))
 
 pub returns-in-Delete-clause-makes : goal.returns-in-Delete-clause-makes
 returns-in-Delete-clause-makes g c s stands =
-    subst (λ (line : Line). MakesStep g.D.Held.HeldFile.bytes c.write-in-Delete.new.self.engine.core c.write-in-Delete.new.self.opens.items s (step_to s line) c.write-in-Delete.result)
+    subst (λ (line : Line). MakesStep g.D.Held.HeldFile.bytes c.write-in-Delete.new.self.engine.core
+    c.write-in-Delete.new.self.opens.items s (step_to s line) c.write-in-Delete.result)
     (sym c.in-Delete.is) (c.write-in-Delete.ensures.makes s stands)
 
 pub returns-in-Delete-clause-sound : goal.returns-in-Delete-clause-sound
 returns-in-Delete-clause-sound g c s stands = not_by_read c.write-in-Delete.result c.write-in-Delete.ensures.fails
 
 pub returns-in-Delete-clause-cause : goal.returns-in-Delete-clause-cause
-returns-in-Delete-clause-cause g c = no_cause _ _ _ (ap (λ disk. g.D.Watched.faults disk) (ap (λ e. e.disk) c.write-in-Delete.ensures.engine)) (not_by_disk c.write-in-Delete.result c.write-in-Delete.ensures.fails)
+returns-in-Delete-clause-cause g c = no_cause _ _ _ (ap (λ disk. g.D.Watched.faults disk) (ap (λ e. e.disk)
+    c.write-in-Delete.ensures.engine)) (not_by_disk c.write-in-Delete.result c.write-in-Delete.ensures.fails)
 
 pub returns-in-Delete-clause-carries : goal.returns-in-Delete-clause-carries
 returns-in-Delete-clause-carries g c s stands =
-    subst (λ (line : Line). CarriesOut g.D.Watched IsStored Shown IsStopped c.args.self.now.engine.disk c.write-in-Delete.new.self.engine.disk s (state_after s line) c.write-in-Delete.result) (sym c.in-Delete.is)
-    (quiet_carries g.D.Watched (record { only_now = g.met.D.Disk.only_now; counts_now = g.met.D.Disk.counts_now }) g.D.Held.HeldFile.bytes
-    c.write-in-Delete.new.self.engine.core c.write-in-Delete.new.self.opens.items s (step_to s (lines.Delete c.in-Delete.name c.in-Delete.key)) (write_keeps s.store c.in-Delete.name c.in-Delete.key changes.Delete (thing_of s.store c.in-Delete.name)) c.write-in-Delete.result
-    (c.write-in-Delete.ensures.makes s stands) c.write-in-Delete.ensures.fails c.args.self.now.engine.disk c.write-in-Delete.new.self.engine.disk (ap (λ e. e.disk) c.write-in-Delete.ensures.engine))
+    subst (λ (line : Line). CarriesOut g.D.Watched IsStored Shown IsStopped c.args.self.now.engine.disk
+    c.write-in-Delete.new.self.engine.disk s (state_after s line) c.write-in-Delete.result) (sym c.in-Delete.is)
+    (quiet_carries g.D.Watched (record { only_now = g.met.D.Disk.only_now; counts_now = g.met.D.Disk.counts_now })
+    g.D.Held.HeldFile.bytes
+    c.write-in-Delete.new.self.engine.core c.write-in-Delete.new.self.opens.items s (step_to s (lines.Delete
+    c.in-Delete.name c.in-Delete.key)) (write_keeps s.store c.in-Delete.name c.in-Delete.key changes.Delete (thing_of
+    s.store c.in-Delete.name)) c.write-in-Delete.result
+    (c.write-in-Delete.ensures.makes s stands) c.write-in-Delete.ensures.fails c.args.self.now.engine.disk
+    c.write-in-Delete.new.self.engine.disk (ap (λ e. e.disk) c.write-in-Delete.ensures.engine))
 
 pub returns-in-Scan-clause-makes : goal.returns-in-Scan-clause-makes
 returns-in-Scan-clause-makes g c s stands =
-    subst (λ (line : Line). MakesStep g.D.Held.HeldFile.bytes c.scan.new.self.engine.core c.scan.new.self.opens.items s (step_to s line) c.scan.result)
+    subst (λ (line : Line). MakesStep g.D.Held.HeldFile.bytes c.scan.new.self.engine.core c.scan.new.self.opens.items
+    s (step_to s line) c.scan.result)
     (sym c.in-Scan.is) (c.scan.ensures.makes s stands)
 
 pub returns-in-Scan-clause-sound : goal.returns-in-Scan-clause-sound
 returns-in-Scan-clause-sound g c s stands = not_by_read c.scan.result (c.scan.ensures.sound s stands)
 
 pub returns-in-Scan-clause-cause : goal.returns-in-Scan-clause-cause
-returns-in-Scan-clause-cause g c = no_cause _ _ _ (ap (λ disk. g.D.Watched.faults disk) (ap (λ e. e.disk) c.scan.ensures.engine)) c.scan.ensures.not_the_disk
+returns-in-Scan-clause-cause g c = no_cause _ _ _ (ap (λ disk. g.D.Watched.faults disk) (ap (λ e. e.disk)
+    c.scan.ensures.engine)) c.scan.ensures.not_the_disk
 
 pub returns-in-Scan-clause-carries : goal.returns-in-Scan-clause-carries
 returns-in-Scan-clause-carries g c s stands =
-    subst (λ (line : Line). CarriesOut g.D.Watched IsStored Shown IsStopped c.args.self.now.engine.disk c.scan.new.self.engine.disk s (state_after s line) c.scan.result) (sym c.in-Scan.is)
-    (quiet_carries g.D.Watched (record { only_now = g.met.D.Disk.only_now; counts_now = g.met.D.Disk.counts_now }) g.D.Held.HeldFile.bytes
-    c.scan.new.self.engine.core c.scan.new.self.opens.items s (step_to s (lines.Scan c.in-Scan.name c.in-Scan.low c.in-Scan.high c.in-Scan.limit c.in-Scan.way)) (scan_keeps s.store c.in-Scan.way c.in-Scan.name c.in-Scan.low c.in-Scan.high c.in-Scan.limit (thing_of s.store c.in-Scan.name)) c.scan.result
-    (c.scan.ensures.makes s stands) (c.scan.ensures.sound s stands) c.args.self.now.engine.disk c.scan.new.self.engine.disk (ap (λ e. e.disk) c.scan.ensures.engine))
+    subst (λ (line : Line). CarriesOut g.D.Watched IsStored Shown IsStopped c.args.self.now.engine.disk
+    c.scan.new.self.engine.disk s (state_after s line) c.scan.result) (sym c.in-Scan.is)
+    (quiet_carries g.D.Watched (record { only_now = g.met.D.Disk.only_now; counts_now = g.met.D.Disk.counts_now })
+    g.D.Held.HeldFile.bytes
+    c.scan.new.self.engine.core c.scan.new.self.opens.items s (step_to s (lines.Scan c.in-Scan.name c.in-Scan.low
+    c.in-Scan.high c.in-Scan.limit c.in-Scan.way)) (scan_keeps s.store c.in-Scan.way c.in-Scan.name c.in-Scan.low
+    c.in-Scan.high c.in-Scan.limit (thing_of s.store c.in-Scan.name)) c.scan.result
+    (c.scan.ensures.makes s stands) (c.scan.ensures.sound s stands) c.args.self.now.engine.disk
+    c.scan.new.self.engine.disk (ap (λ e. e.disk) c.scan.ensures.engine))
 
 pub returns-in-Commit-clause-makes : goal.returns-in-Commit-clause-makes
 returns-in-Commit-clause-makes g c s stands =
-    subst (λ (line : Line). MakesStep g.D.Held.HeldFile.bytes c.commit.new.self.engine.core c.commit.new.self.opens.items s (step_to s line) c.commit.result)
+    subst (λ (line : Line). MakesStep g.D.Held.HeldFile.bytes c.commit.new.self.engine.core
+    c.commit.new.self.opens.items s (step_to s line) c.commit.result)
     (sym c.in-Commit.is) (c.commit.ensures.makes s stands)
 
 pub returns-in-Commit-clause-carries : goal.returns-in-Commit-clause-carries
 returns-in-Commit-clause-carries g c s stands =
-    subst (λ (line : Line). CarriesOut g.D.Watched IsStored Shown IsStopped c.args.self.now.engine.disk c.commit.new.self.engine.disk s (state_after s line) c.commit.result)
+    subst (λ (line : Line). CarriesOut g.D.Watched IsStored Shown IsStopped c.args.self.now.engine.disk
+    c.commit.new.self.engine.disk s (state_after s line) c.commit.result)
     (sym c.in-Commit.is) (c.commit.ensures.carries s stands)
 
 pub returns-in-Drop-clause-makes : goal.returns-in-Drop-clause-makes
 returns-in-Drop-clause-makes g c s stands =
-    subst (λ (line : Line). MakesStep g.D.Held.HeldFile.bytes c.end.new.self.engine.core c.end.new.self.opens.items s (step_to s line) (Ok c.end.result))
+    subst (λ (line : Line). MakesStep g.D.Held.HeldFile.bytes c.end.new.self.engine.core c.end.new.self.opens.items s
+    (step_to s line) (Ok c.end.result))
     (sym c.in-Drop.is) (c.end.ensures.makes s stands)
 
 pub returns-in-Drop-clause-cause : goal.returns-in-Drop-clause-cause
@@ -183,10 +239,13 @@ returns-in-Drop-clause-cause g c = no_cause _ _ _ (ap (λ disk. g.D.Watched.faul
 
 pub returns-in-Drop-clause-carries : goal.returns-in-Drop-clause-carries
 returns-in-Drop-clause-carries g c s stands =
-    subst (λ (line : Line). CarriesOut g.D.Watched IsStored Shown IsStopped c.args.self.now.engine.disk c.end.new.self.engine.disk s (state_after s line) (Ok c.end.result)) (sym c.in-Drop.is)
-    (quiet_carries g.D.Watched (record { only_now = g.met.D.Disk.only_now; counts_now = g.met.D.Disk.counts_now }) g.D.Held.HeldFile.bytes
+    subst (λ (line : Line). CarriesOut g.D.Watched IsStored Shown IsStopped c.args.self.now.engine.disk
+    c.end.new.self.engine.disk s (state_after s line) (Ok c.end.result)) (sym c.in-Drop.is)
+    (quiet_carries g.D.Watched (record { only_now = g.met.D.Disk.only_now; counts_now = g.met.D.Disk.counts_now })
+    g.D.Held.HeldFile.bytes
     c.end.new.self.engine.core c.end.new.self.opens.items s (step_to s (lines.Drop c.in-Drop.name))
-    (drop_keeps s.store c.in-Drop.name (thing_of s.store c.in-Drop.name) (only_readers s.store stands.sound c.in-Drop.name)) (Ok c.end.result)
+    (drop_keeps s.store c.in-Drop.name (thing_of s.store c.in-Drop.name) (only_readers s.store stands.sound
+    c.in-Drop.name)) (Ok c.end.result)
     (c.end.ensures.makes s stands) tt c.args.self.now.engine.disk c.end.new.self.engine.disk c.end.ensures.disk)
 
 pub returns-in-Begin-clause-named : goal.returns-in-Begin-clause-named
@@ -199,16 +258,19 @@ pub returns-in-Get-clause-named : goal.returns-in-Get-clause-named
 returns-in-Get-clause-named g c s file stands is = not_at c.read.result c.read.ensures.not_the_disk file is
 
 pub returns-in-GetTagged-clause-named : goal.returns-in-GetTagged-clause-named
-returns-in-GetTagged-clause-named g c s file stands is = not_at c.read-in-GetTagged.result c.read-in-GetTagged.ensures.not_the_disk file is
+returns-in-GetTagged-clause-named g c s file stands is = not_at c.read-in-GetTagged.result
+    c.read-in-GetTagged.ensures.not_the_disk file is
 
 pub returns-in-Set-clause-named : goal.returns-in-Set-clause-named
 returns-in-Set-clause-named g c s file stands is = not_at c.write.result (not_by_disk c.write.result c.write.ensures.fails) file is
 
 pub returns-in-SetTagged-clause-named : goal.returns-in-SetTagged-clause-named
-returns-in-SetTagged-clause-named g c s file stands is = not_at c.write-in-SetTagged.result (not_by_disk c.write-in-SetTagged.result c.write-in-SetTagged.ensures.fails) file is
+returns-in-SetTagged-clause-named g c s file stands is = not_at c.write-in-SetTagged.result (not_by_disk
+    c.write-in-SetTagged.result c.write-in-SetTagged.ensures.fails) file is
 
 pub returns-in-Delete-clause-named : goal.returns-in-Delete-clause-named
-returns-in-Delete-clause-named g c s file stands is = not_at c.write-in-Delete.result (not_by_disk c.write-in-Delete.result c.write-in-Delete.ensures.fails) file is
+returns-in-Delete-clause-named g c s file stands is = not_at c.write-in-Delete.result (not_by_disk
+    c.write-in-Delete.result c.write-in-Delete.ensures.fails) file is
 
 pub returns-in-Scan-clause-named : goal.returns-in-Scan-clause-named
 returns-in-Scan-clause-named g c s file stands is = not_at c.scan.result c.scan.ensures.not_the_disk file is

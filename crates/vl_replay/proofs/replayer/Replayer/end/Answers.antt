@@ -17,7 +17,8 @@ returns-in-Some-View-clause-makes g c s stands =
     let core = c.args.self.now.engine.core in
     let os = c.args.self.now.opens.items in
     let left = c.take_out.new.opens.items in
-    let taken = taken_out bytes core os left s stands c.as_slice.result.now c.args.name c.as_slice.ensures _ _ c.in-Some-View.field-0-is c.in-Some-View.ensures in
+    let taken = taken_out bytes core os left s stands c.as_slice.result.now c.args.name c.as_slice.ensures _ _
+    c.in-Some-View.field-0-is c.in-Some-View.ensures in
     view_ends bytes core c.release.new.self.core os s stands c.release.ensures.back left c.args.name c.in-Some-View.view taken
     (c.release.ensures.stands (history_of s) s.store.layout stands.engine)
 
@@ -27,6 +28,8 @@ returns-clause-makes g c s stands =
     let core = c.args.self.now.engine.core in
     let os = c.args.self.now.opens.items in
     let left = c.take_out.new.opens.items in
-    let taken = taken_out bytes core os left s stands c.as_slice.result.now c.args.name c.as_slice.ensures _ _ c.in-Some-Transaction.field-0-is c.in-Some-Transaction.ensures in
-    transaction_ends bytes core c.forget.new.self.core os s stands c.forget.ensures.back left c.args.name c.in-Some-Transaction.txn taken
+    let taken = taken_out bytes core os left s stands c.as_slice.result.now c.args.name c.as_slice.ensures _ _
+    c.in-Some-Transaction.field-0-is c.in-Some-Transaction.ensures in
+    transaction_ends bytes core c.forget.new.self.core os s stands c.forget.ensures.back left c.args.name
+    c.in-Some-Transaction.txn taken
     (c.forget.ensures.stands (history_of s) s.store.layout stands.engine)

@@ -1,6 +1,6 @@
 -- Where the name is free, what begins stands for it.
 use Rattle.std.proofs.Common.{refl, ap}
-use Rattle.std.specs.Prelude.{Ok, false, true}
+use Rattle.std.specs.Prelude.{Ok}
 use Rattle.vl_layout.specs.Store.Reading.{a_view, begin_as}
 use Rattle.vl_layout.specs.Store.Things.{thing_of}
 use Rattle.vl_replay.specs.Sequential.{history_of}
@@ -14,23 +14,30 @@ use Rattle.vl_script.specs.declared.line.Line.TheVariants as lines
 pub returns-then-is_taken-clause-makes : goal.returns-then-is_taken-clause-makes
 returns-then-is_taken-clause-makes g c s stands =
     taken_makes g.D.Held.HeldFile.bytes c.args.self.now.engine.core c.args.self.now.opens.items s stands c.args.name a_view
-    (taken_of c.args.self.now.opens.items c.deref.result.now c.deref.ensures.value c.as_slice.result.now c.args.name c.as_slice.ensures c.is_taken.result c.is_taken.ensures c.if-is_taken.true)
+    (taken_of c.args.self.now.opens.items c.deref.result.now c.deref.ensures.value c.as_slice.result.now c.args.name
+    c.as_slice.ensures c.is_taken.result c.is_taken.ensures c.if-is_taken.true)
 
 pub returns-in-Ok-clause-makes : goal.returns-in-Ok-clause-makes
 returns-in-Ok-clause-makes g c s stands =
     let bytes = g.D.Held.HeldFile.bytes in
     let core = c.args.self.now.engine.core in
     let os = c.args.self.now.opens.items in
-    let free = free_of os c.deref.result.now c.deref.ensures.value c.as_slice.result.now c.args.name c.as_slice.ensures c.is_taken.result c.is_taken.ensures c.if-is_taken.false in
+    let free = free_of os c.deref.result.now c.deref.ensures.value c.as_slice.result.now c.args.name
+    c.as_slice.ensures c.is_taken.result c.is_taken.ensures c.if-is_taken.false in
     returns_so bytes c.view.new.self.core _ c.put.new.opens.items s
-    (begin_as s.store c.args.name a_view (thing_of s.store c.args.name)) (begin_as s.store c.args.name a_view (thing_of s.store c.args.name)) _ _
+    (begin_as s.store c.args.name a_view (thing_of s.store c.args.name)) (begin_as s.store c.args.name a_view
+    (thing_of s.store c.args.name)) _ _
     c.in_ok-put-in-Ok.ensures refl (ap (λ n. Ok (answers.Number n)) c.number-number.ensures)
-    (view_makes bytes core c.view.new.self.core os s stands c.view.ensures.back c.args.name free c.in-Ok.view (c.in-Ok.ensures.sees (history_of s) s.store.layout stands.engine)
+    (view_makes bytes core c.view.new.self.core os s stands c.view.ensures.back c.args.name free c.in-Ok.view
+    (c.in-Ok.ensures.sees (history_of s) s.store.layout stands.engine)
     (c.in-Ok.ensures.stands (history_of s) s.store.layout stands.engine))
 
 pub returns-in-Err-TooMany-clause-makes : goal.returns-in-Err-TooMany-clause-makes
 returns-in-Err-TooMany-clause-makes g c s stands =
     let os = c.args.self.now.opens.items in
-    let free = free_of os c.deref.result.now c.deref.ensures.value c.as_slice.result.now c.args.name c.as_slice.ensures c.is_taken.result c.is_taken.ensures c.if-is_taken.false in
-    too_many_makes g.D.Held.HeldFile.bytes c.args.self.now.engine.core c.view.new.self.core os s stands c.view.ensures.back c.args.name a_view
-    (state_after-sound s (lines.View c.args.name) stands.sound) free (rw c.in-Err-TooMany.field-0-is at (c.in-Err-TooMany.ensures.stands (history_of s) s.store.layout stands.engine))
+    let free = free_of os c.deref.result.now c.deref.ensures.value c.as_slice.result.now c.args.name
+    c.as_slice.ensures c.is_taken.result c.is_taken.ensures c.if-is_taken.false in
+    too_many_makes g.D.Held.HeldFile.bytes c.args.self.now.engine.core c.view.new.self.core os s stands
+    c.view.ensures.back c.args.name a_view
+    (state_after-sound s (lines.View c.args.name) stands.sound) free (rw c.in-Err-TooMany.field-0-is at
+    (c.in-Err-TooMany.ensures.stands (history_of s) s.store.layout stands.engine))

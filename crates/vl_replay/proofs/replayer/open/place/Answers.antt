@@ -1,5 +1,5 @@
-use Rattle.std.proofs.Common.{◌∙◌, sym, arith}
-use Rattle.vl_replay.proofs.Names.Lookups.{place_begins, place_ends, place_found, place_goes_on}
+use Rattle.std.proofs.Common.{◌∙◌, sym}
+use Rattle.vl_replay.proofs.Names.Lookups.{place_found, place_goes_on}
 use Rattle.vl_replay.proofs.replayer.open.place.Goals as goal
 
 pub opens-preserved : goal.opens-preserved

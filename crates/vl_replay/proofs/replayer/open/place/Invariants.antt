@@ -1,4 +1,4 @@
-use Rattle.std.proofs.Common.{◌-◌, ◌≤◌, length}
+use Rattle.std.proofs.Common.{◌-◌, length}
 use Rattle.vl_replay.proofs.Names.Lookups.{PlaceFrom}
 use Rattle.vl_replay.proofs.replayer.open.place.Given as goal
 

@@ -6,7 +6,8 @@ use Rattle.vl_replay.proofs.replayer.open.take_out.Goals as goal
 pub returns-in-None : goal.returns-in-None
 returns-in-None g c once =
     taken_none c.args.name.now c.args.opens.now.items once
-    (place_none c.args.name.now c.args.opens.now.items (ap (place_of c.args.name.now) (sym c.deref.ensures.value) ∙ sym c.place.ensures ∙ c.in-None.is))
+    (place_none c.args.name.now c.args.opens.now.items (ap (place_of c.args.name.now) (sym
+    c.deref.ensures.value) ∙ sym c.place.ensures ∙ c.in-None.is))
 
 pub remove-requires : goal.remove-requires
 remove-requires g c =
