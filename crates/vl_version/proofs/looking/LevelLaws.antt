@@ -16,7 +16,7 @@ use Rattle.vl_table.specs.declared.table.Table.{Table}
 use Rattle.vl_table.specs.laws.KeyRanges.{HasNone, above_turned, all_above, all_map, below_turned, none_above, of_last, up_to_below}
 use Rattle.vl_table.specs.laws.RangeLaws.{first_is, in_order, last_is, none_behind}
 use Rattle.vl_table.specs.OfTables.{AreOf}
-use Rattle.vl_levels.specs.LevelTables.{AreApart, ends_before, footer_of}
+use Rattle.vl_version.specs.levels.LevelTables.{AreApart, ends_before, footer_of}
 
 greater : (r : Ordering) → is_gt r ≡ true → r ≡ Greater
 greater Less is = absurd cc
@@ -36,7 +36,7 @@ module _ {H : Type 0} (bytes_of : H → Option (List ℕ)) where
       )
 
   -- so are those of all later ones
-  later_above : (t : Table H) (ts : List (Table H)) (ess : List (List Entry)) → AreApart (t ∷ ts) → AreOf bytes_of ts ess
+  pub later_above : (t : Table H) (ts : List (Table H)) (ess : List (List Entry)) → AreApart (t ∷ ts) → AreOf bytes_of ts ess
       → AllByRecursion (λ e. key_cmp (footer_of t).last e.key ≡ Less) (joined ess)
   later_above t [] [] apart are = tt
   later_above t [] (es ∷ ess) apart are = absurd are
@@ -59,7 +59,7 @@ module _ {H : Type 0} (bytes_of : H → Option (List ℕ)) where
             (λ v less. nat_list_cmp_total.trans (footer_of t).last (footer_of u).last (footer_of v).last next.1 less) us (later_ends u us ess apart.1 are.1),
       )
 
-  apart_rest : (t : Table H) (ts : List (Table H)) → AreApart (t ∷ ts) → AreApart ts
+  pub apart_rest : (t : Table H) (ts : List (Table H)) → AreApart (t ∷ ts) → AreApart ts
   apart_rest t [] apart = tt
   apart_rest t (u ∷ us) apart = apart.1
 

@@ -10,9 +10,9 @@ use Rattle.vl_model.specs.declared.entry.Entry.{Entry}
 use Rattle.vl_run.specs.laws.Exact.{exact-append}
 use Rattle.vl_block.specs.Bytes.{greatest_version}
 use Rattle.vl_table.specs.laws.KeyRanges.{HasNone, exact-none, winner-none}
-use Rattle.vl_levels.specs.declared.look.Look.{Look}
-use Rattle.vl_levels.specs.declared.look.Look.TheVariants.{UpTo, Exactly}
-use Rattle.vl_levels.specs.Looks.{better, is_wanted, sought}
+use Rattle.vl_version.specs.declared.levels.look.Look.{Look}
+use Rattle.vl_version.specs.declared.levels.look.Look.TheVariants.{UpTo, Exactly}
+use Rattle.vl_version.specs.levels.Looks.{better, is_wanted, sought}
 
 pub sought-append : (look : Look) (key : List ℕ) (es fs : List Entry)
     → sought look key (es ++ fs) ≡ better look (sought look key es) (sought look key fs)

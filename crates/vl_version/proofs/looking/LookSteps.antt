@@ -21,13 +21,13 @@ use Rattle.vl_table.specs.declared.fault.TableFault.{TableFault}
 use Rattle.vl_table.specs.declared.fault.TableFault.TheVariants.{NoMemory, Disk, Damaged}
 use Rattle.vl_table.specs.declared.table.Table.{Table}
 use Rattle.vl_table.specs.OfTables.{AreOf}
-use Rattle.vl_levels.specs.LevelTables.{AreApart, ends_before}
-use Rattle.vl_levels.specs.LookedUp.{LookedUp, IsAsked, IsDamagedAt, IsFaultOf, LooksOn, NamesAsked}
-use Rattle.vl_levels.specs.Looks.{better, is_wanted, sought}
-use Rattle.vl_levels.specs.declared.look.Look.{Look}
-use Rattle.vl_levels.proofs.LevelLaws.{level_cut, level-parted}
-use Rattle.vl_levels.proofs.LookLaws.{better-assoc, better-none, none-better, sought-append, sought-middle, sought-none, unwanted}
-use Rattle.vl_levels.proofs.Parts.{split_at}
+use Rattle.vl_version.specs.levels.LevelTables.{AreApart, ends_before}
+use Rattle.vl_version.specs.levels.LookedUp.{LookedUp, IsAsked, IsDamagedAt, IsFaultOf, LooksOn, NamesAsked}
+use Rattle.vl_version.specs.levels.Looks.{better, is_wanted, sought}
+use Rattle.vl_version.specs.declared.levels.look.Look.{Look}
+use Rattle.vl_version.proofs.looking.LevelLaws.{level_cut, level-parted}
+use Rattle.vl_version.proofs.looking.LookLaws.{better-assoc, better-none, none-better, sought-append, sought-middle, sought-none, unwanted}
+use Rattle.vl_version.proofs.looking.Parts.{split_at}
 
 no_failure : (now : ℕ) → HasCause now now ⊥
 no_failure now = record { later = omega arith; rose = λ failed. absurd failed; steady = λ steady. refl }
@@ -55,7 +55,7 @@ module _ {H : Type 0} (bytes_of : H → Option (List ℕ)) where
     pub are : AreOf bytes_of ts front
     pub are_behind : AreOf bytes_of us back
 
-  both_of : (ts us : List (Table H)) (ess : List (List Entry)) → AreOf bytes_of (ts ++ us) ess → AreBoth ts us ess
+  pub both_of : (ts us : List (Table H)) (ess : List (List Entry)) → AreOf bytes_of (ts ++ us) ess → AreBoth ts us ess
   both_of [] us ess are = record { front = []; back = ess; whole = refl; are = tt; are_behind = are }
   both_of (t ∷ ts) us [] are = absurd are
   both_of (t ∷ ts) us (es ∷ ess) are =

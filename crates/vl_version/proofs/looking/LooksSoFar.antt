@@ -10,10 +10,10 @@ use Rattle.vl_table.specs.KeptBlocks.{AreKept}
 use Rattle.vl_table.specs.declared.block_reader.BlockReader.{BlockReader}
 use Rattle.vl_table.specs.declared.fault.TableFault.{TableFault}
 use Rattle.vl_table.specs.declared.table.Table.{Table}
-use Rattle.vl_levels.specs.LookedUp.{LooksInAll, LooksOn, LooksThrough}
-use Rattle.vl_levels.specs.declared.look.Look.{Look}
-use Rattle.vl_levels.proofs.LookSteps.{fails_on, goes_on}
-use Rattle.vl_levels.proofs.Through.{in_all-append, in_all-front, through-append}
+use Rattle.vl_version.specs.levels.LookedUp.{LooksInAll, LooksOn, LooksThrough}
+use Rattle.vl_version.specs.declared.levels.look.Look.{Look}
+use Rattle.vl_version.proofs.looking.LookSteps.{fails_on, goes_on}
+use Rattle.vl_version.proofs.looking.Through.{in_all-append, in_all-front, through-append}
 
 -- in these tables was looked, and this counts so far
 pub record SoFar {H R : Type 0} (bytes_of : H → Option (List ℕ)) (files : Files) (ts : List (Table H)) (Lawful Laid : Type 0) (look : Look) (key : List ℕ)

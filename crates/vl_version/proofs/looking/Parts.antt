@@ -6,7 +6,7 @@ use Rattle.std.proofs.Math.Seq.{drop-cons}
 use Rattle.std.proofs.lemmas.Grind.{take_at_read}
 use Rattle.std.proofs.lemmas.List.{take-append-drop}
 use Rattle.vl_table.specs.declared.table.Table.{Table}
-use Rattle.vl_levels.specs.LevelTables.{all_tables}
+use Rattle.vl_version.specs.levels.LevelTables.{all_tables}
 
 module _ {X : Type 0} where
   -- an element with those before and behind it

@@ -6,8 +6,8 @@ use Rattle.vl_table.specs.KeptBlocks.{AreFiles, AreKept, ReadsOf}
 use Rattle.vl_table.specs.Tables.{number_of}
 use Rattle.vl_table.specs.declared.block_reader.BlockReader.{BlockReader}
 use Rattle.vl_table.specs.declared.table.Table.{Table}
-use Rattle.vl_levels.specs.LevelTables.{all_tables}
-use Rattle.vl_levels.proofs.Parts.{all-back, all-front, all-middle, all_get, tables-split}
+use Rattle.vl_version.specs.levels.LevelTables.{all_tables}
+use Rattle.vl_version.proofs.looking.Parts.{all-back, all-front, all-middle, all_get, tables-split}
 
 module _ {H R : Type 0} (bytes_of : H → Option (List ℕ)) (files : Files) (b : BlockReader R) where
   abbrev IsFile : Table H → Type 0

@@ -22,12 +22,12 @@ use Rattle.vl_table.specs.declared.fault.TableFault.{TableFault}
 use Rattle.vl_table.specs.declared.fault.TableFault.TheVariants.{NoMemory, Disk, Damaged}
 use Rattle.vl_table.specs.declared.table.Table.{Table}
 use Rattle.vl_table.specs.laws.KeyRanges.{above_turned, all_map, below_turned, below_up_to, up_to_below}
-use Rattle.vl_levels.specs.LevelTables.{AreApart, AreRanged, ends_before, footer_of}
-use Rattle.vl_levels.specs.LookedUp.{IsDamagedAt, LooksAt, LooksInAll, LooksThrough, StopsAt}
-use Rattle.vl_levels.specs.Looks.{better, is_asked, is_wanted, makes, place_version}
-use Rattle.vl_levels.specs.declared.look.Look.{Look}
-use Rattle.vl_levels.proofs.LookLaws.{none-better}
-use Rattle.vl_levels.proofs.Parts.{split_at}
+use Rattle.vl_version.specs.levels.LevelTables.{AreApart, AreRanged, ends_before, footer_of}
+use Rattle.vl_version.specs.levels.LookedUp.{IsDamagedAt, LooksAt, LooksInAll, LooksThrough, StopsAt}
+use Rattle.vl_version.specs.levels.Looks.{better, is_asked, is_wanted, makes, place_version}
+use Rattle.vl_version.specs.declared.levels.look.Look.{Look}
+use Rattle.vl_version.proofs.looking.LookLaws.{none-better}
+use Rattle.vl_version.proofs.looking.Parts.{split_at}
 
 greater : (r : Ordering) → is_gt r ≡ true → r ≡ Greater
 greater Less is = absurd cc

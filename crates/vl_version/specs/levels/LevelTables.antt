@@ -1,12 +1,11 @@
 -- In which order the tables of a level are.
-use Rattle.std.specs.Prelude.{◌≡◌, ℕ, Bool, false, List, [], ◌∷◌, ◌++◌, Option}
+use Rattle.std.specs.Prelude.{◌≡◌, ℕ, Bool, false, List, [], ◌∷◌, ◌++◌}
 use Rattle.std.specs.List.{AllByRecursion}
 use Rattle.std.specs.Ordering.{is_gt}
 use Rattle.std.specs.declared.cmp.Ordering.TheVariants.{Less}
 use Rattle.vl_model.specs.Keys.{key_cmp}
-use Rattle.vl_model.specs.declared.entry.Entry.{Entry}
 use Rattle.vl_block.specs.declared.footer.Footer.{Footer}
-use Rattle.vl_table.specs.Tables.{IsOf, shape_of}
+use Rattle.vl_table.specs.Tables.{shape_of}
 use Rattle.vl_table.specs.declared.table.Table.{Table}
 
 module _ {H : Type 0} where

@@ -1,8 +1,8 @@
 -- The tables of all levels.
 use Rattle.std.specs.Prelude.{List, ◌++◌}
 use Rattle.vl_table.specs.declared.table.Table.{Table}
-use Rattle.vl_levels.specs.LevelTables.{AreAllApart, AreAllRanged, all_tables}
-use Rattle.vl_levels.specs.declared.levels.Levels.{Levels}
+use Rattle.vl_version.specs.levels.LevelTables.{AreAllApart, AreAllRanged, all_tables}
+use Rattle.vl_version.specs.declared.levels.Levels.{Levels}
 
 module _ {H : Type 0} where
   -- the tables from the newest source to the oldest: those of level 0, and those of the levels below it

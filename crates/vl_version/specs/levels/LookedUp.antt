@@ -17,8 +17,8 @@ use Rattle.vl_table.specs.declared.fault.TableFault.{TableFault}
 use Rattle.vl_table.specs.declared.fault.TableFault.TheVariants.{NoMemory, Disk, Damaged}
 use Rattle.vl_table.specs.declared.table.Table.{Table}
 use Rattle.vl_table.specs.OfTables.{AreOf}
-use Rattle.vl_levels.specs.Looks.{better, is_asked, makes, place_version, sought}
-use Rattle.vl_levels.specs.declared.look.Look.{Look}
+use Rattle.vl_version.specs.levels.Looks.{better, is_asked, makes, place_version, sought}
+use Rattle.vl_version.specs.declared.levels.look.Look.{Look}
 
 module _ {H : Type 0} (bytes_of : H → Option (List ℕ)) where
   -- ---- faults

@@ -5,8 +5,8 @@ use Rattle.vl_model.specs.declared.entry.Entry.{Entry}
 use Rattle.vl_run.specs.Lookups.{if_exact, if_of_key, or_else}
 use Rattle.vl_block.specs.declared.shape.TableShape.{TableShape}
 use Rattle.vl_table.specs.MayHold.{may_hold}
-use Rattle.vl_levels.specs.declared.look.Look.{Look}
-use Rattle.vl_levels.specs.declared.look.Look.TheVariants.{UpTo, Exactly}
+use Rattle.vl_version.specs.declared.levels.look.Look.{Look}
+use Rattle.vl_version.specs.declared.levels.look.Look.TheVariants.{UpTo, Exactly}
 
 -- the entry of a key that is looked for among entries
 abbrev pub sought : Look → List ℕ → List Entry → Option Entry

@@ -3,7 +3,7 @@
 ghost use Rattle.std.specs.Prelude.{◌≡◌, ◌≤◌, List, length};
 ghost use Rattle.std.specs.List.{prefix_len};
 ghost use Rattle.vl_run.specs.Lookups.{IsParted};
-ghost use Rattle.vl_levels.specs.LevelTables.{ends_before};
+ghost use Rattle.vl_version.specs.levels.LevelTables.{ends_before};
 
 use std::marker::Model;
 use vl_disk::HeldFile;

@@ -4,19 +4,20 @@ ghost use Rattle.std.specs.Prelude.{◌≡◌, ◌∷◌, [], ℕ, true, false, 
 ghost use Rattle.std.specs.Option.{option_map};
 ghost use Rattle.vl_model.specs.declared.entry.Entry.{Entry};
 ghost use Rattle.vl_block.specs.Founds.{found_of};
-ghost use Rattle.vl_table.specs.Answers.{Answers, NeedsNoMemory};
+ghost use Rattle.vl_disk.specs.Faults.{HasCause};
+ghost use Rattle.vl_table.specs.Answers.{Answers, Failed, NeedsNoMemory};
 ghost use Rattle.vl_table.specs.Kept.{Files};
 ghost use Rattle.vl_table.specs.KeptBlocks.{AreKept, ReadsOf};
 ghost use Rattle.vl_table.specs.MayHold.{may_hold};
 ghost use Rattle.vl_table.specs.Meets.{LooksIn};
 ghost use Rattle.vl_table.specs.Seeks.{IsBadBlock};
 ghost use Rattle.vl_table.specs.Tables.{IsOf, number_of, shape_of};
-ghost use Rattle.vl_levels.specs.LevelTables.{AreApart, AreRanged};
-ghost use Rattle.vl_levels.specs.LookedUp.{LooksInAll, LooksOn};
-ghost use Rattle.vl_levels.specs.Looks.{is_asked, makes, place_version, sought};
+ghost use Rattle.vl_version.specs.levels.LevelTables.{AreApart, AreRanged};
+ghost use Rattle.vl_version.specs.levels.LookedUp.{LooksInAll, LooksOn};
+ghost use Rattle.vl_version.specs.levels.Looks.{is_asked, makes, place_version, sought};
 
-use crate::level::ending_before;
-use crate::look::{Look, better, is_wanted};
+use super::level::ending_before;
+use super::look::{Look, better, is_wanted};
 use vl_block::Found;
 use vl_disk::{HeldFile, Reader};
 use vl_table::{BlockReader, Table, TableFault};
@@ -37,6 +38,7 @@ fn ask<H: HeldFile, R: Reader<Held = H>>(
         → may_hold key.now (shape_of table.now) ≡ true
         → LooksIn H.bytes (makes look key.now) table.now key.now (place_version look) result }
     ensures unread { may_hold key.now (shape_of table.now) ≡ false → (result ≡ Ok None) × (reader.new ≡ reader.old) }
+    ensures cause { HasCause (R.faults reader.old.reader) (R.faults reader.new.reader) (Failed result) }
     ensures no_memory { NeedsNoMemory result }
 {
     match look {
@@ -63,6 +65,7 @@ pub fn look_in<H: HeldFile, R: Reader<Held = H>>(
     // A table that isn't to be asked isn't read.
     ensures unread { is_asked look key.now (option_map (found_of key.now) best) (shape_of table.now) ≡ false
         → (result ≡ Ok best) × (reader.new ≡ reader.old) }
+    ensures cause { HasCause (R.faults reader.old.reader) (R.faults reader.new.reader) (Failed result) }
     ensures no_memory { NeedsNoMemory result }
 {
     if !is_wanted(look, &best, table.shape().footer.greatest) {
@@ -86,6 +89,7 @@ pub fn look_in_level<H: HeldFile, R: Reader<Held = H>>(
         (R.faults reader.old.reader) (R.faults reader.new.reader) result }
     ensures looks { (files : Files) → ReadsOf H.bytes files reader.old tables.now → AreApart tables.now → AreRanged tables.now
         → LooksInAll H.bytes look key.now (option_map (found_of key.now) best) tables.now result }
+    ensures cause { HasCause (R.faults reader.old.reader) (R.faults reader.new.reader) (Failed result) }
     ensures no_memory { NeedsNoMemory result }
 {
     let at = ending_before(tables, key);

@@ -1,8 +1,8 @@
 use Rattle.std.proofs.Common.{rules}
 use Rattle.std.proofs.lemmas.List.Sorted.{IsPartitionPoint-from_clause}
 use Rattle.vl_run.specs.laws.Places.{parted_at, point-prefix}
-use Rattle.vl_levels.specs.LevelTables.{ends_before}
-use Rattle.vl_levels.proofs.level.ending_before.Goals as goal
+use Rattle.vl_version.specs.levels.LevelTables.{ends_before}
+use Rattle.vl_version.proofs.levels.level.ending_before.Goals as goal
 
 pub returns-clause-first : goal.returns-clause-first
 returns-clause-first g c = λ parted.

@@ -10,9 +10,9 @@ use Rattle.vl_table.specs.Seeks.{IsBadBlock}
 use Rattle.vl_table.specs.Tables.{IsOf, number_of, shape_of}
 use Rattle.vl_table.specs.declared.fault.TableFault.{TableFault}
 use Rattle.vl_table.specs.declared.table.Table.{Table}
-use Rattle.vl_levels.specs.Looks.{makes, place_version, sought}
-use Rattle.vl_levels.specs.declared.look.Look.{Look}
-use Rattle.vl_levels.proofs.lookup.ask.Goals as goal
+use Rattle.vl_version.specs.levels.Looks.{makes, place_version, sought}
+use Rattle.vl_version.specs.declared.levels.look.Look.{Look}
+use Rattle.vl_version.proofs.levels.lookup.ask.Goals as goal
 
 abbrev Answered : {H : Type 0} → (H → Option (List ℕ)) → Table H → List ℕ → (before now : ℕ) → Result (Option Found) TableFault → Look → Type 0
 Answered bytes_of t key before now r look =

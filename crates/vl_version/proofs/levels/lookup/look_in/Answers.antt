@@ -8,12 +8,12 @@ use Rattle.vl_block.specs.declared.shape.TableShape.{TableShape}
 use Rattle.vl_table.specs.Tables.{shape_of}
 use Rattle.vl_table.specs.declared.fault.TableFault.{TableFault}
 use Rattle.vl_table.specs.declared.table.Table.{Table}
-use Rattle.vl_levels.specs.LookedUp.{LooksInAll, LooksOn}
-use Rattle.vl_levels.specs.Looks.{is_wanted}
-use Rattle.vl_levels.specs.declared.look.Look.{Look}
-use Rattle.vl_levels.proofs.LookSteps.{asks, asks_in_vain, skips}
-use Rattle.vl_levels.proofs.Through.{looks_in, stops_here, through_one, unheld}
-use Rattle.vl_levels.proofs.lookup.look_in.Goals as goal
+use Rattle.vl_version.specs.levels.LookedUp.{LooksInAll, LooksOn}
+use Rattle.vl_version.specs.levels.Looks.{is_wanted}
+use Rattle.vl_version.specs.declared.levels.look.Look.{Look}
+use Rattle.vl_version.proofs.looking.LookSteps.{asks, asks_in_vain, skips}
+use Rattle.vl_version.proofs.looking.Through.{looks_in, stops_here, through_one, unheld}
+use Rattle.vl_version.proofs.levels.lookup.look_in.Goals as goal
 
 wants : {H : Type 0} (look : Look) (key : List ℕ) (best : Option Found) (t : Table H) (s : TableShape) (is b : Bool) → s ≡ shape_of t
     → is ≡ is_wanted look (option_map (found_of key) best) s.footer.greatest → is ≡ b → is_wanted look (option_map (found_of key) best) (shape_of t).footer.greatest ≡ b

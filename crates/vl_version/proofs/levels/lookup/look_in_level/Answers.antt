@@ -1,10 +1,10 @@
 use Rattle.std.specs.Option.{option_map}
 use Rattle.std.proofs.Common.{◌<◌, arith, length, refl}
 use Rattle.vl_block.specs.Founds.{found_of}
-use Rattle.vl_levels.proofs.LookSteps.{level_asks, level_past}
-use Rattle.vl_levels.proofs.ReadsOfSome.{read_at}
-use Rattle.vl_levels.proofs.Through.{laid-parted, level_reached, reaches}
-use Rattle.vl_levels.proofs.lookup.look_in_level.Goals as goal
+use Rattle.vl_version.proofs.looking.LookSteps.{level_asks, level_past}
+use Rattle.vl_version.proofs.looking.ReadsOfSome.{read_at}
+use Rattle.vl_version.proofs.looking.Through.{laid-parted, level_reached, reaches}
+use Rattle.vl_version.proofs.levels.lookup.look_in_level.Goals as goal
 
 pub returns-then-at-tables-clause-answers : goal.returns-then-at-tables-clause-answers
 returns-then-at-tables-clause-answers g c = λ files reads.

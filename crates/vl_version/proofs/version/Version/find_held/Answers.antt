@@ -4,7 +4,7 @@ use Rattle.vl_model.specs.Winners.{newest_of, winner}
 use Rattle.vl_model.specs.laws.WinnerLaws.{winner-append}
 use Rattle.vl_version.specs.Sources.{held_entries}
 use Rattle.vl_version.specs.declared.behind.Behind.{Behind}
-use Rattle.vl_version.proofs.version.Version.find.Goals as goal
+use Rattle.vl_version.proofs.version.Version.find_held.Goals as goal
 
 pub returns : goal.returns
 returns g c =
