@@ -124,6 +124,7 @@ sees_now bytes core h l is version same number last =
       logs = layout_logs l;
       has = is.sources_are;
       shows = shows_last (layout_logs l) l h is.tidy.shows;
+      without_tables = is.without_tables;
       alone = is.alone;
       readable = omega arith;
       known = omega arith;

@@ -50,7 +50,7 @@ use Rattle.vl_model.specs.laws.HistoryLaws.{with_commit-extends}
 use Rattle.vl_oracle.specs.LiveTickets.{LiveTickets, floor_of}
 use Rattle.vl_seglog.specs.Frames.{frame_at, frames_grammar}
 use Rattle.vl_seglog.specs.declared.active.ActiveLog.{ActiveLog}
-use Rattle.vl_version.specs.Sources.{HasEntries}
+use Rattle.vl_version.specs.Sources.{HasEntries, tables_in}
 use Rattle.vl_version.specs.declared.version.Version.{Version}
 
 -- ---- decisions, whatever stands then
@@ -136,6 +136,7 @@ module _ {H : Type 0} (bytes : H → Option (List ℕ)) (before after : Core H) 
         active_is = ap (λ (v : Version H). v.active.entries) version ∙ is.active_is;
         tidy = is.tidy;
         bare = is.bare;
+        without_tables = ap tables_in version ∙ is.without_tables;
         alone = alone;
       }
 

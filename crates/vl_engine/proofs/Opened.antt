@@ -42,7 +42,7 @@ use Rattle.vl_recover.specs.opening.Plans.{Greatest, active_log, new_state}
 use Rattle.vl_recover.specs.opening.Results.{frozen_log, opened_of}
 use Rattle.vl_recover.specs.opening.Walk.{StandingLog}
 use Rattle.vl_seglog.specs.declared.active.ActiveLog.{ActiveLog}
-use Rattle.vl_version.specs.Sources.{held_entries, in_memory}
+use Rattle.vl_version.specs.Sources.{held_entries, in_memory, tables_in}
 
 -- ---- what was found
 
@@ -91,6 +91,7 @@ pub record IsMadeOf {D H : Type 0} (parts : Parts D) (room : ℕ) (core : Core H
   pub version_number : core.back.version_number ≡ 0
   pub active : core.version.active.entries ≡ []
   pub frozen : core.version.behind.frozen.items ≡ reverse parts.frozen.items
+  pub without_tables : tables_in core.version ≡ []
   pub alone : core.version.behind.logs.items ≡ []
 
 -- the number of a log that stands leaves room for the next one
@@ -169,10 +170,11 @@ module _ {D H : Type 0} (parts : Parts D) (room : ℕ) (core : Core H) (made : I
     pub opened_stands : StandsFor bytes core h its_layout
     opened_stands = record {
       fronts = opened_fronts;
-      sources_are = has_entries bytes core.version made.alone (sources its_layout) sources_then;
+      sources_are = has_entries bytes core.version made.alone made.without_tables (sources its_layout) sources_then;
       active_is = made.active;
       tidy = opened_tidy found h shown room;
       bare = refl;
+      without_tables = made.without_tables;
       alone = made.alone;
     }
 

@@ -17,10 +17,15 @@ use Rattle.vl_model.specs.Reads.{IsExplained, IsExplainedRead, KeyRead, RangeRea
 use Rattle.vl_model.specs.declared.change.Change.{Change}
 use Rattle.vl_model.specs.declared.way.Way.{Way}
 use Rattle.vl_txn.specs.Reads.{NotesGet, NotesScan, scan_of, with_get, with_scan}
+use Rattle.vl_table.specs.KeptBlocks.{ReadsOf}
+use Rattle.vl_table.specs.declared.block_reader.BlockReader.{BlockReader}
 use Rattle.vl_version.specs.Answers.{IsAnswer}
 use Rattle.vl_version.specs.Faults.{Failed}
 use Rattle.vl_version.specs.declared.fault.ReadFault.{ReadFault as VersionFault}
 use Rattle.vl_version.specs.declared.fault.ReadFault.TheVariants as faults
+use Rattle.vl_version.specs.declared.version.Version.{Version}
+use Rattle.vl_version.specs.Sources.{tables_in}
+use Rattle.vl_version.specs.laws.NoTables.{no_files, reads_of_none}
 
 -- ---- faults
 
@@ -47,6 +52,13 @@ pub handed_on : (T U : Type 0) (why : ReadFail) → IsSound {T = T} (Err why) �
 handed_on T U why sound (Ok answer) failed = absurd failed
 handed_on T U why sound (Err e) failed =
     subst (λ (f : ReadFail). IsSound {T = U} (Err f)) (sym failed) (sound_still T U why sound)
+
+-- ---- without tables
+
+-- any reader reads of a version that has none
+pub reads_untabled : {H R : Type 0} (bytes : H → Option (List ℕ)) (version : Version H) (reader : BlockReader R)
+    → tables_in version ≡ [] → ReadsOf bytes no_files reader (tables_in version)
+reads_untabled bytes version reader none = subst (ReadsOf bytes no_files reader) (sym none) (reads_of_none bytes reader)
 
 -- ---- own writes
 

@@ -1,5 +1,5 @@
 -- What an engine stands for in memory, behind a begin, an end, a commit and a halt.
-use Rattle.std.specs.Prelude.{◌≡◌, ℕ, ◌+◌, false, nat_le, List, ◌++◌, length, Option, Some, T}
+use Rattle.std.specs.Prelude.{◌≡◌, ℕ, ◌+◌, false, nat_le, List, [], ◌++◌, length, Option, Some, T}
 use Rattle.std.specs.FinMap.{from_sorted, is_sorted}
 use Rattle.std.specs.Option.{option_map}
 use Rattle.std.proofs.Common.{sym, ap, subst, ◌∙◌}
@@ -11,7 +11,7 @@ use Rattle.vl_engine.specs.declared.kept.Back.{Back}
 use Rattle.vl_engine.specs.declared.kept.Core.{Core}
 use Rattle.vl_engine.specs.laws.FrontLaws.{front_begun, front_committed, front_ended, front_known}
 use Rattle.vl_engine.specs.laws.RulingLaws.{DecidesAs, IsAccepted}
-use Rattle.vl_engine.specs.laws.VersionLaws.{active_committed, has_entries, next_entries, sources_committed}
+use Rattle.vl_engine.specs.laws.VersionLaws.{active_committed, entries_held, has_entries, next_entries, sources_committed}
 use Rattle.vl_front.specs.Front.{Knows, SameLog}
 use Rattle.vl_layout.specs.Ruling.{Ruling, ended, halted_at}
 use Rattle.vl_layout.specs.Rulings.Begin.{begun}
@@ -29,7 +29,8 @@ use Rattle.vl_model.specs.Limits.{max_live}
 use Rattle.vl_oracle.specs.LiveTickets as oracle
 use Rattle.vl_oracle.specs.LiveTickets.{LiveTickets}
 use Rattle.vl_seglog.specs.declared.active.ActiveLog.{ActiveLog}
-use Rattle.vl_version.specs.Sources.{HasEntries}
+use Rattle.vl_version.specs.Sources.{HasEntries, tables_in}
+use Rattle.vl_version.specs.levels.LevelsLooked.{tables_of}
 use Rattle.vl_version.specs.declared.version.Version.{Version}
 
 -- ---- what decides
@@ -141,6 +142,7 @@ module _ {H : Type 0} (bytes : H → Option (List ℕ)) (core after : Core H) (h
       active_is = ap (λ (v : Version H). v.active.entries) same ∙ is.active_is;
       tidy = tidy_begun no_logs l h is.tidy (free_ticket (tickets_of l.live));
       bare = is.bare;
+      without_tables = ap tables_in same ∙ is.without_tables;
       alone = ap (λ (v : Version H). v.behind.logs.items) same ∙ is.alone;
     }
 
@@ -151,6 +153,7 @@ module _ {H : Type 0} (bytes : H → Option (List ℕ)) (core after : Core H) (h
       active_is = ap (λ (v : Version H). v.active.entries) same ∙ is.active_is;
       tidy = tidy_ended no_logs l h is.tidy ticket;
       bare = is.bare;
+      without_tables = ap tables_in same ∙ is.without_tables;
       alone = ap (λ (v : Version H). v.behind.logs.items) same ∙ is.alone;
     }
 
@@ -162,6 +165,7 @@ module _ {H : Type 0} (bytes : H → Option (List ℕ)) (core after : Core H) (h
       active_is = ap (λ (v : Version H). v.active.entries) same ∙ is.active_is;
       tidy = tidy_halted (file_of name) no_logs l h is.tidy;
       bare = is.bare;
+      without_tables = ap tables_in same ∙ is.without_tables;
       alone = ap (λ (v : Version H). v.behind.logs.items) same ∙ is.alone;
     }
 
@@ -176,12 +180,15 @@ module _ {H : Type 0} (bytes : H → Option (List ℕ)) (core after : Core H) (h
         → StandsFor bytes after (with_commit h (from_sorted t.writes)) (committed l h t).layout
     stands_committed fronts behind more =
         let alone = ap (λ b. b.logs.items) behind ∙ is.alone in
+        let untabled : tables_in after.version ≡ [] = ap (λ b. tables_of b.levels) behind ∙ is.without_tables in
         record {
           fronts = fronts;
-          sources_are = has_entries bytes after.version alone (sources (committed l h t).layout)
-              (sources_committed core.version after.version l h t is.active_is is.tidy.true_logs.0 more behind is.sources_are.entries);
+          sources_are = has_entries bytes after.version alone untabled (sources (committed l h t).layout)
+              (sources_committed core.version after.version l h t is.active_is is.tidy.true_logs.0 more behind
+              (entries_held bytes core.version (sources l) no_logs is.without_tables is.sources_are));
           active_is = active_committed core.version after.version l h t is.active_is is.tidy.true_logs.0 more;
           tidy = tidy_then;
           bare = is.bare;
+          without_tables = untabled;
           alone = alone;
         }

@@ -25,7 +25,7 @@ use Rattle.vl_model.specs.History.{History, last_number}
 use Rattle.vl_model.specs.Limits.{max_room}
 use Rattle.vl_model.specs.Winners.{Logs}
 use Rattle.vl_oracle.specs.LiveTickets.{LiveTickets}
-use Rattle.vl_version.specs.Sources.{HasEntries}
+use Rattle.vl_version.specs.Sources.{HasEntries, tables_in}
 
 -- a file's name as the layout has it
 abbrev pub file_of : Name → FileName
@@ -69,6 +69,7 @@ pub record StandsFor {H : Type 0} (bytes : H → Option (List ℕ)) (core : Core
   pub tidy : IsTidy (layout_logs l) l h
   -- there are no tables, so no log that pointers lead into
   pub bare : tables l ≡ []
+  pub without_tables : tables_in core.version ≡ []
   pub alone : core.version.behind.logs.items ≡ []
 
 -- ---- with the disk

@@ -5,6 +5,7 @@ mod writing;
 
 pub(crate) use reading::tagged_value;
 use std::alloc::Global;
+use vl_table::BlockReader;
 use vl_txn::{Reads, Writes};
 use vl_version::Version;
 
@@ -18,7 +19,8 @@ pub struct Txn<H, R> {
     /// Of the last commit that it sees.
     pub(crate) number: u64,
     pub(crate) version: Version<H>,
-    pub(crate) reader: R,
+    /// With the blocks that it keeps.
+    pub(crate) reader: BlockReader<R>,
     pub(crate) reads: Reads,
     pub(crate) writes: Writes,
 }

@@ -3,6 +3,7 @@
 mod reading;
 
 use std::alloc::Global;
+use vl_table::BlockReader;
 use vl_version::Version;
 
 /// A view that an engine began. It reads what was committed before it began, and is given back to that engine while it lives.
@@ -14,5 +15,6 @@ pub struct View<H, R> {
     /// Of the last commit that it sees.
     pub(crate) number: u64,
     pub(crate) version: Version<H>,
-    pub(crate) reader: R,
+    /// With the blocks that it keeps.
+    pub(crate) reader: BlockReader<R>,
 }

@@ -3,7 +3,8 @@
 ghost use Rattle.std.specs.Prelude.{◌≡◌, ◌<◌, ◌-◌, ◌∷◌, [], ℕ, List, Ok, None, OnOk, OnErr, IfOk, true, length, get_or};
 ghost use Rattle.vl_model.specs.declared.entry.Entry.{Entry};
 ghost use Rattle.vl_block.specs.declared.index.BlockPlace.{BlockPlace};
-ghost use Rattle.vl_table.specs.Answers.{Answers, NeedsNoMemory};
+ghost use Rattle.vl_disk.specs.Faults.{HasCause};
+ghost use Rattle.vl_table.specs.Answers.{Answers, Failed, NeedsNoMemory};
 ghost use Rattle.vl_table.specs.Kept.{Files, HasBlock, IsMissing, NoBlock, has_block, id_of};
 ghost use Rattle.vl_table.specs.Scans.{Lists};
 ghost use Rattle.vl_table.specs.Tables.{number_of, shape_of};
@@ -74,6 +75,7 @@ impl<R: Reader> BlockReader<R> {
             → Answers (R.faults self.old.reader) (R.faults self.new.reader) (number_of table.now) (H.bytes table.now.held)
             (λ bytes done. (es : List Entry) × HasBlock self.new.front (id_of (shape_of table.now) p) bytes es)
             (NoBlock (shape_of table.now).format (number_of table.now) p) result }
+        ensures cause { HasCause (R.faults self.old.reader) (R.faults self.new.reader) (Failed result) }
         ensures no_memory { NeedsNoMemory result }
 
         // Where it answers, the block is at the front; after a fault that slot is empty.
@@ -100,6 +102,7 @@ impl<R: Reader> BlockReader<R> {
         ensures answers { (files : Files) → AreKept files self.old → files id.number ≡ H.bytes held.now
             → Answers (R.faults self.old.reader) (R.faults self.new.reader) id.number (H.bytes held.now)
             (λ bytes done. (es : List Entry) × HasBlock self.new.front id bytes es) (IsMissing id) result }
+        ensures cause { HasCause (R.faults self.old.reader) (R.faults self.new.reader) (Failed result) }
         ensures no_memory { NeedsNoMemory result }
         ensures has { OnOk result (has_block id self.new.front ≡ true) }
         ensures empty { OnErr result (self.new.front.block ≡ None) }

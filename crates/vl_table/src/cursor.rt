@@ -4,7 +4,6 @@ ghost use Rattle.std.specs.Prelude.{◌≤◌, length};
 ghost use Rattle.std.specs.List.{slice_get};
 ghost use Rattle.vl_table.specs.CursorParts.{index_in};
 
-use crate::block_reader::BlockReader;
 use crate::fault::TableFault;
 use crate::open_block::OpenBlock;
 use crate::slot::BlockId;
@@ -48,26 +47,26 @@ impl<H: HeldFile, R: Reader<Held = H> + Drop> Cursor for TableCursor<H, R> {
 
     type Fault = TableFault;
 
-    type Reader = BlockReader<R>;
+    type Reader = R;
 
     ghost left = { λ c. cursor_left H.bytes c };
 
     ghost budget = { λ c. cursor_budget c };
 
-    ghost faults = { λ b. R.faults b.reader };
+    ghost faults = { λ reader. R.faults reader };
 
     ghost is_read_fault = { λ fault. is_disk_fault fault };
 
     ghost may_fail = { λ c fault. MayFailOn H.bytes c.tables.items fault };
 
-    fn next(&mut self, reader: &mut BlockReader<R>) -> Result<Option<Entry>, TableFault>
+    fn next(&mut self, reader: &mut R) -> Result<Option<Entry>, TableFault>
         // What each cursor promises.
         ensures given { IfOk result (λ next. Gives (cursor_left H.bytes self.old) (cursor_left H.bytes self.new) next) }
         ensures kept { OnErr result (Keeps (cursor_left H.bytes self.old) (cursor_left H.bytes self.new)) }
         ensures spends { MatchResult result (Spends (cursor_budget self.old) (cursor_budget self.new))
             (λ _. cursor_budget self.new ≤ cursor_budget self.old) }
-        ensures cause { MatchResult result (λ _. R.faults reader.new.reader ≡ R.faults reader.old.reader)
-            (λ fault. IsCounted (is_disk_fault fault) (R.faults reader.old.reader) (R.faults reader.new.reader)) }
+        ensures cause { MatchResult result (λ _. R.faults reader.new ≡ R.faults reader.old)
+            (λ fault. IsCounted (is_disk_fault fault) (R.faults reader.old) (R.faults reader.new)) }
         ensures may_fail { IfErr result (λ fault. MayFailOn H.bytes self.old.tables.items fault) }
         ensures keeps { (fault : TableFault) → MayFailOn H.bytes self.new.tables.items fault
             → MayFailOn H.bytes self.old.tables.items fault }
@@ -76,16 +75,12 @@ impl<H: HeldFile, R: Reader<Held = H> + Drop> Cursor for TableCursor<H, R> {
         ensures read { HasRead H.bytes self.old self.new }
         ensures stopped { IfErr result (λ fault. StopsBefore H.bytes (unread self.new) fault) }
         ensures goes { GoesOn self.old self.new }
-
-        // The blocks that the reader keeps stay.
-        ensures front { reader.new.front ≡ reader.old.front }
-        ensures others { reader.new.others ≡ reader.old.others }
     {
         'steps: loop {
             if let Some(entry) = self.give()? {
                 return Ok(Some(entry));
             }
-            if !self.read(&mut reader.reader)? {
+            if !self.read(reader)? {
                 return Ok(None);
             }
         }

@@ -56,7 +56,8 @@ pub fn is_in_span(span: &Span, key: &[u8]) -> bool
     is_from(span, key) && is_up_to(span, key)
 }
 
-fn is_from(span: &Span, key: &[u8]) -> bool
+/// Whether it isn't below the interval.
+pub fn is_from(span: &Span, key: &[u8]) -> bool
     ensures { result ≡ reads.is_from span.now.lo key.now }
 {
     match &span.lo {
@@ -65,7 +66,8 @@ fn is_from(span: &Span, key: &[u8]) -> bool
     }
 }
 
-fn is_up_to(span: &Span, key: &[u8]) -> bool
+/// Whether it isn't above the interval.
+pub fn is_up_to(span: &Span, key: &[u8]) -> bool
     ensures { result ≡ reads.is_up_to span.now.hi span.now.closed key.now }
 {
     match &span.hi {

@@ -11,10 +11,11 @@ ghost use Rattle.vl_block.specs.Cutting.{blocks};
 ghost use Rattle.vl_block.specs.Founds.{found_of};
 ghost use Rattle.vl_block.specs.Shapes.{IsShapeOf};
 ghost use Rattle.vl_block.specs.declared.index.BlockPlace.{BlockPlace};
-ghost use Rattle.vl_table.specs.Answers.{Answers, NeedsNoMemory};
+ghost use Rattle.vl_disk.specs.Faults.{HasCause};
+ghost use Rattle.vl_table.specs.Answers.{Answers, Failed, NeedsNoMemory};
 ghost use Rattle.vl_table.specs.Kept.{Files};
 ghost use Rattle.vl_table.specs.KeptBlocks.{AreKept, ReadsOf};
-ghost use Rattle.vl_table.specs.MayHold.{may_hold};
+ghost use Rattle.vl_table.specs.MayHold.{may_hold, meets};
 ghost use Rattle.vl_table.specs.Meets.{LooksIn};
 ghost use Rattle.vl_table.specs.Opening.{IsDamaged, IsRead, said_by};
 ghost use Rattle.vl_table.specs.Seeks.{IsBadBlock};
@@ -24,11 +25,13 @@ use crate::TableFault;
 use crate::block_reader::BlockReader;
 use crate::entries::Scan;
 use crate::opening::read_shape;
+use crate::span_blocks::{is_from, is_up_to};
 use std::alloc::{AllocError, Global};
 use std::sync::Arc;
 use vl_block::{BlockPlace, Found, TableShape};
 use vl_disk::{HeldFile, Reader};
 use vl_filter::passes;
+use vl_model::Span;
 
 /// A table in a held file.
 #[derive(Drop)]
@@ -105,6 +108,14 @@ impl<H: HeldFile> Table<H> {
             && passes(&shape.filter, key)
     }
 
+    /// Whether it may have keys of an interval: false where its last key is below that, or its first one above.
+    pub fn meets(&self, span: &Span) -> bool
+        ensures { result ≡ meets span.now (shape_of self.now) }
+    {
+        let footer = &self.shape().footer;
+        is_from(span, footer.last.as_slice()) && is_up_to(span, footer.first.as_slice())
+    }
+
     /// Of the entries of a key with a version of at most a number the one of the greatest version.
     ///
     /// Where it may not have the key nothing is read. Else it looks into the first block whose last key isn't below the key,
@@ -129,6 +140,7 @@ impl<H: HeldFile> Table<H> {
 
         // Nothing is looked at of a table that may not have the key.
         ensures unread { may_hold key.now (shape_of self.now) ≡ false → (result ≡ Ok None) × (reader.new ≡ reader.old) }
+        ensures cause { HasCause (R.faults reader.old.reader) (R.faults reader.new.reader) (Failed result) }
         ensures no_memory { NeedsNoMemory result }
     {
         if !self.may_hold(key) {
@@ -154,6 +166,7 @@ impl<H: HeldFile> Table<H> {
             → may_hold key.now (shape_of self.now) ≡ true
             → LooksIn H.bytes (if_exact key.now version) self.now key.now version result }
         ensures unread { may_hold key.now (shape_of self.now) ≡ false → (result ≡ Ok None) × (reader.new ≡ reader.old) }
+        ensures cause { HasCause (R.faults reader.old.reader) (R.faults reader.new.reader) (Failed result) }
         ensures no_memory { NeedsNoMemory result }
     {
         if !self.may_hold(key) {
@@ -178,6 +191,7 @@ impl<H: HeldFile> Table<H> {
             (IsBadBlock (shape_of self.now)) result }
         ensures looks { (files : Files) → ReadsOf H.bytes files reader.old (self.now ∷ [])
             → LooksIn H.bytes (if_of_key key.now) self.now key.now version result }
+        ensures cause { HasCause (R.faults reader.old.reader) (R.faults reader.new.reader) (Failed result) }
         ensures no_memory { NeedsNoMemory result }
     {
         let places = self.shape().blocks.as_slice();

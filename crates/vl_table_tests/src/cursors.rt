@@ -1,12 +1,12 @@
 //! Tables, gone over both ways and in an interval.
 
-use crate::disk::{blocks, open, versions_of, whole};
+use crate::disk::{failing, open, versions_of, whole};
 use crate::tables::FILTERED;
 use std::alloc::Global;
 use std::test::Fail;
 use vl_mem::{MemHeld, MemReader};
 use vl_model::{Bytes, Cursor, Span, Way};
-use vl_table::{BlockReader, Table, TableCursor, TableFault};
+use vl_table::{Table, TableCursor, TableFault};
 
 // A table of the keys a and b, and behind it one of three versions of c.
 fn tables(alloc: Global) -> Result<Vec<Table<MemHeld>>, Fail> {
@@ -17,12 +17,7 @@ fn tables(alloc: Global) -> Result<Vec<Table<MemHeld>>, Fail> {
 }
 
 // The versions that a cursor gives, one behind the other.
-fn versions(
-    alloc: Global,
-    reader: &mut BlockReader<MemReader>,
-    span: Span,
-    way: Way,
-) -> Result<Vec<u64>, Fail> {
+fn versions(alloc: Global, reader: &mut MemReader, span: Span, way: Way) -> Result<Vec<u64>, Fail> {
     let mut cursor = TableCursor::new(alloc, tables(alloc)?, span, way)?;
     let mut versions = Vec::new(alloc);
     for _ in 0..9 {
@@ -36,7 +31,7 @@ fn versions(
 #[test]
 fn tables_are_gone_over_both_ways(rt: HostRuntime) -> Result<(), Fail> {
     let alloc = rt.alloc();
-    let mut reader = blocks(alloc, &[])?;
+    let mut reader = failing(alloc, &[])?;
     let up = versions(alloc, &mut reader, whole(), Way::Up)?;
     assert_eq!(rt; up.as_slice(), [1, 1, 9, 5, 2].as_slice());
     let down = versions(alloc, &mut reader, whole(), Way::Down)?;
@@ -48,7 +43,7 @@ fn tables_are_gone_over_both_ways(rt: HostRuntime) -> Result<(), Fail> {
 #[test]
 fn an_interval_is_gone_over(rt: HostRuntime) -> Result<(), Fail> {
     let alloc = rt.alloc();
-    let mut reader = blocks(alloc, &[2])?;
+    let mut reader = failing(alloc, &[2])?;
     let from_c = Span {
         lo: Some(Bytes::copy_of(alloc, b"c")?),
         hi: None,
@@ -63,7 +58,7 @@ fn an_interval_is_gone_over(rt: HostRuntime) -> Result<(), Fail> {
 #[test]
 fn a_table_above_an_interval_is_not_read(rt: HostRuntime) -> Result<(), Fail> {
     let alloc = rt.alloc();
-    let mut reader = blocks(alloc, &[2])?;
+    let mut reader = failing(alloc, &[2])?;
     let up_to_b = Span {
         lo: None,
         hi: Some(Bytes::copy_of(alloc, b"b")?),
@@ -82,7 +77,7 @@ fn a_bad_block_is_named(rt: HostRuntime) -> Result<(), Fail> {
     bytes[40] ^= 1;
     let mut tables = Vec::new(alloc);
     tables.push(open(alloc, 1, &bytes)?)?;
-    let mut reader = blocks(alloc, &[])?;
+    let mut reader = failing(alloc, &[])?;
     let mut cursor = TableCursor::new(alloc, tables, whole(), Way::Up)?;
     for _ in 0..2 {
         let next = cursor.next(&mut reader);

@@ -3,8 +3,8 @@
 use crate::disk::{blocks, versions_of};
 use std::alloc::Global;
 use std::test::Fail;
-use vl_levels::{Level, Levels};
 use vl_mem::MemHeld;
+use vl_version::{Level, Levels};
 
 // Level 0 has the key b at version 3 in its newest table and at version 4 in the other; level 1 has c at 5, and e at 6.
 fn levels(alloc: Global) -> Result<Levels<MemHeld>, Fail> {
@@ -27,7 +27,7 @@ fn version_of(
     number: u64,
 ) -> Result<u64, Fail> {
     let mut reader = blocks(alloc, &[])?;
-    match levels.find(&mut reader, key, number)? {
+    match levels.find(&mut reader, key, number, None)? {
         Some(found) => Ok(found.version),
         None => Ok(0),
     }
@@ -56,7 +56,7 @@ fn older_tables_are_not_read(rt: HostRuntime) -> Result<(), Fail> {
     newest.push(versions_of(alloc, 2, b"b", &[3])?)?;
     let levels = Levels::new(newest, Vec::new(alloc));
     let mut reader = blocks(alloc, &[2])?;
-    let found = levels.find(&mut reader, b"b", 9)?.ok_or("none")?;
+    let found = levels.find(&mut reader, b"b", 9, None)?.ok_or("none")?;
     assert_eq!(rt; found.version, 4);
     assert!(rt; levels.exact(&mut reader, b"b", 4)?.is_some());
     assert!(rt; levels.exact(&mut reader, b"b", 5)?.is_none());

@@ -1,6 +1,6 @@
 //! A run in memory and a table in one merge, with one reader.
 
-use crate::disk::{blocks, gone, open, whole};
+use crate::disk::{failing, gone, open, whole};
 use crate::source::Source;
 use crate::tables::TABLE;
 use std::alloc::Global;
@@ -22,7 +22,7 @@ fn one_reader_serves_memory_and_a_table(rt: HostRuntime) -> Result<(), Fail> {
     let alloc = rt.alloc();
     let mut tables = Vec::new(alloc);
     tables.push(open(alloc, 1, &TABLE)?)?;
-    let mut reader = blocks(alloc, &[])?;
+    let mut reader = failing(alloc, &[])?;
     let run = short_run(alloc, b"b", 2)?;
     let mut sources = Vec::new(alloc);
     sources.push(Source::Memory(run.cursor(Way::Up)?))?;

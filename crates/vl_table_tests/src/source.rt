@@ -6,7 +6,7 @@ ghost use Rattle.vl_table_tests.specs.Sources.{SourceMayFail, source_budget, sou
 use vl_disk::{HeldFile, Reader};
 use vl_model::{Cursor, Entry};
 use vl_run::RunCursor;
-use vl_table::{BlockReader, TableCursor, TableFault};
+use vl_table::{TableCursor, TableFault};
 
 /// A source of a merge.
 #[derive(Drop)]
@@ -18,19 +18,19 @@ pub enum Source<H, R> {
 impl<H: HeldFile, R: Reader<Held = H> + Drop> Cursor for Source<H, R> {
     type Fault = TableFault;
 
-    type Reader = BlockReader<R>;
+    type Reader = R;
 
     ghost left = { λ s. source_left H.bytes s };
 
     ghost budget = { λ s. source_budget s };
 
-    ghost faults = { λ r. R.faults r.reader };
+    ghost faults = { λ reader. R.faults reader };
 
     ghost is_read_fault = { λ fault. is_disk_fault fault };
 
     ghost may_fail = { λ s fault. SourceMayFail H.bytes s fault };
 
-    fn next(&mut self, reader: &mut BlockReader<R>) -> Result<Option<Entry>, TableFault> {
+    fn next(&mut self, reader: &mut R) -> Result<Option<Entry>, TableFault> {
         match self {
             Source::Memory(run) => Ok(run.next(&mut ())?),
             Source::Table(table) => table.next(reader),

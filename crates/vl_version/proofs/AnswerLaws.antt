@@ -1,12 +1,11 @@
 -- What a scan answers of all sources, from what is visible of them.
-use Rattle.std.proofs.Common.{◌≡◌, ℕ, Bool, true, false, cond, List, [], ◌∷◌, ◌++◌, map, take, refl, ap, sym, ◌∙◌, subst}
+use Rattle.std.proofs.Common.{◌≡◌, ℕ, Bool, true, false, cond, List, [], ◌∷◌, ◌++◌, take, refl, ap, sym, ◌∙◌, subst}
 use Rattle.std.proofs.Common.{Option, Some, None, Vec, Global}
 use Rattle.std.specs.Prelude.{◌⊎◌, Ok, Err, Result}
 use Rattle.std.proofs.Common.{inl, inr}
 use Rattle.std.specs.FinMap.{entries, entries_sorted, find, get-entries}
 use Rattle.std.specs.List.{AllByRecursion}
 use Rattle.vl_disk.specs.declared.name.Name.{Name}
-use Rattle.vl_merge.specs.MergeOf.{OneMayFail}
 use Rattle.vl_merge.specs.Merging.{IsAlong}
 use Rattle.vl_merge.specs.Visible.{shown}
 use Rattle.vl_model.specs.Entries.{is_gone}
@@ -24,9 +23,7 @@ use Rattle.vl_version.specs.Rows.{AreRowsOf, IsKept, OneAstray}
 use Rattle.vl_version.specs.Scans.{AreScanned, MayHave, SomeAstray}
 use Rattle.vl_version.specs.declared.fault.ReadFault.{ReadFault}
 use Rattle.vl_version.specs.declared.fault.ReadFault.TheVariants.{NoMemory, Disk, Damaged}
-use Rattle.vl_version.specs.Gives.{is_disk_fault, left_in}
 use Rattle.vl_version.specs.Sources.{HasEntries, LeadsIn, stored_in}
-use Rattle.vl_version.specs.declared.source.Source.{Source}
 use Rattle.vl_version.specs.declared.version.Version.{Version}
 use Rattle.vl_version.specs.declared.wanted.Wanted.{Wanted}
 use Rattle.vl_version.proofs.OwnLaws.{entry_of, newest_of-own, winner-own}
@@ -146,22 +143,3 @@ module _ {H : Type 0} (bytes_of : H → Option (List ℕ)) (version : Version H)
       by : (w : Option Entry) → winner es key number ≡ w → resolved_at (stored_in bytes_of version.behind.logs.items) w ≡ resolved_at logs w
       by None is = refl
       by (Some e) is = winner-has key number (LeadsIn bytes_of version logs) es e has.leads is
-
--- what sources have left is told
-pub told_lefts : {R : Type 0} → (sources : List (Source R)) → map (λ (c : Source R). Some (left_in c)) sources
-    ≡ map Some (map left_in sources)
-told_lefts [] = refl
-told_lefts (c ∷ sources) = ap (λ l. Some (left_in c) ∷ l) (told_lefts sources)
-
--- a source in memory answers no damage
-pub none_damaged : {R : Type 0} → (sources : List (Source R)) (name : Name) (place : ℕ)
-    → OneMayFail (λ (c : Source R) (fault : ReadFault). fault ≡ NoMemory) sources (Damaged name place) → ⊥
-none_damaged [] name place one = one
-none_damaged (c ∷ sources) name place (inl is) = cc
-none_damaged (c ∷ sources) name place (inr later) = none_damaged sources name place later
-
-pub none_fails : {R : Type 0} → (sources : List (Source R)) (fault : ReadFault)
-    → OneMayFail (λ (c : Source R) (fault : ReadFault). fault ≡ NoMemory) sources fault → is_disk_fault fault ≡ false
-none_fails [] fault one = absurd one
-none_fails (c ∷ sources) fault (inl is) = ap is_disk_fault is
-none_fails (c ∷ sources) fault (inr later) = none_fails sources fault later

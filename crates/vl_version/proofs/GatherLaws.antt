@@ -1,6 +1,6 @@
--- Cursors are put together source by source.
-use Rattle.std.proofs.Common.{◌≡◌, ℕ, ◌+◌, ◌<◌, Bool, true, false, cond, List, [], ◌∷◌, ◌++◌, length, map, take, get_or}
-use Rattle.std.proofs.Common.{reverse, refl, ap, sym, ◌∙◌, subst, append-nil, append_assoc}
+-- What cursors have left, cut to an interval, has the winners of their sources.
+use Rattle.std.proofs.Common.{◌≡◌, ℕ, Bool, true, false, cond, List, [], ◌∷◌, ◌++◌, map}
+use Rattle.std.proofs.Common.{reverse, refl, ap, sym, ◌∙◌, subst, append-nil}
 use Rattle.std.specs.Prelude.{Option, None, IsTrue}
 use Rattle.std.specs.FinMap.{is_sorted}
 use Rattle.std.specs.Ordering.{is_gt}
@@ -8,7 +8,6 @@ use Rattle.std.proofs.lemmas.List.{reverse-append}
 use Rattle.std.specs.List.{AllByRecursion, filter, flat_map}
 use Rattle.std.proofs.lemmas.Grind.{flat_map-append}
 use Rattle.vl_memtable.specs.Contents.{Contents, GiveWithin, all_of}
-use Rattle.vl_memtable.specs.declared.frozen_log.FrozenLog.{FrozenLog}
 use Rattle.vl_merge.specs.Merging.{IsAlong, IsFirst}
 use Rattle.vl_model.specs.Entries.{entry_cmp}
 use Rattle.vl_model.specs.Keys.{key_cmp}
@@ -24,12 +23,10 @@ use Rattle.vl_run.specs.Order.{IsInOrder, along, within}
 use Rattle.vl_run.specs.laws.OrderLaws.{IsBefore, IsRising, rising}
 use Rattle.vl_version.specs.Gathered.{GiveWinners, span_of}
 use Rattle.vl_version.specs.Own.{own_entries, own_entry}
-use Rattle.vl_version.specs.Sources.{held_entries}
 use Rattle.vl_version.proofs.CutLaws.{Write, true_T}
-use Rattle.vl_version.proofs.FrozenLaws.{entries-push, take_next}
 use Rattle.vl_version.proofs.OwnLaws.{rising-own}
 use Rattle.vl_version.proofs.ScanLaws.{in_span_of}
-use Rattle.vl_version.proofs.Winning.{rising-within, winner-cut}
+use Rattle.vl_version.proofs.Winning.{rising-within, winner-cut, winner-within}
 
 all_both : (P : List Entry → Type 0) (xs ys : List (List Entry)) → AllByRecursion P xs → AllByRecursion P ys → AllByRecursion P (xs ++ ys)
 all_both P [] ys here there = there
@@ -133,73 +130,25 @@ own-within low high number (w ∷ ws) =
     by true later = ap (λ l. own_entry number w ∷ l) later
     by false later = later
 
+-- a cursor over entries in order, cut to the interval
+pub give_cut : (span : Span) (way : Way) (es : List Entry) → IsRising es → GiveWinners span way es (along way (within span es) ∷ [])
+give_cut span way es rises = record {
+  along = (along-rising way (within span es) (rising-within [] 0 span es rises), tt);
+  winners = λ key n. ap (λ l. winner l key n) (append-nil (along way (within span es))) ∙ winner-cut key n span way es rises;
+}
+
+-- none where none of the entries is in it
+pub give_nothing : (span : Span) (way : Way) (es : List Entry) → within span es ≡ [] → GiveWinners span way es []
+give_nothing span way es none = record {
+  along = tt;
+  winners = λ key n. ap (λ l. winner l key n) (sym none) ∙ winner-within key n span es;
+}
+
 -- the cursor of own writes
 pub give_own : (low high : List ℕ) (way : Way) (number : ℕ) (ws : List Write) → IsTrue (is_sorted key_cmp ws)
     → GiveWinners (span_of low high) way (own_entries number ws)
     (along way (own_entries number (filter (λ (write : Write). is_within low high write.0) ws)) ∷ [])
-give_own low high way number ws sorted = record {
-  along = (
-    subst (λ l. IsAlong way (along way l)) (sym (own-within low high number ws))
-        (along-rising way (within (span_of low high) (own_entries number ws))
-        (rising-within [] 0 (span_of low high) (own_entries number ws) rises)),
-    tt,
-  );
-  winners = λ key n.
-      ap (λ l. winner l key n) (append-nil
-      (along way (own_entries number (filter (λ (write : Write). is_within low high write.0) ws)))
-      ∙ ap (along way) (own-within low high number ws))
-      ∙ winner-cut key n (span_of low high) way (own_entries number ws) rises;
-}
-  where
-    rises : IsRising (own_entries number ws)
-    rises = rising-own number ws (true_T (is_sorted key_cmp ws) sorted)
-
--- ---- all sources of a version
-
--- a memtable's cursors behind others
-pub give_next : (span : Span) (way : Way) (es : List Entry) (held : Contents) (left cursors now : List (List Entry))
-    → GiveWithin span way held cursors → now ≡ left ++ cursors → GiveWinners span way es left
-    → GiveWinners span way (es ++ held.entries) now
-give_next span way es held left cursors now give joined so =
-    subst (GiveWinners span way (es ++ held.entries)) (sym joined)
-    (give_both span way es held.entries left cursors so (give_memtable span way held cursors give))
-
--- the entries behind which the next memtable's stand
-pub entries_next : (own active : List Entry) (all : List FrozenLog) (i : ℕ) (held : FrozenLog) → i < length all → held ≡ get_or all i held
-    → (own ++ (active ++ held_entries (take i all))) ++ held.memtable.entries ≡ own ++ (active ++ held_entries (take (i + 1) all))
-entries_next own active all i held within is =
-    append_assoc own (active ++ held_entries (take i all)) held.memtable.entries
-    ∙ ap (λ l. own ++ l) (append_assoc active (held_entries (take i all)) held.memtable.entries)
-    ∙ sym (ap (λ l. own ++ (active ++ l)) (ap held_entries (take_next all i held within is) ∙ entries-push (take i all) held))
-
-module _ (low high : List ℕ) (way : Way) (own active : List Entry) (span : Span) (spans : span ≡ span_of low high)
-    (left now : List (List Entry)) where
-  pub gather_first : GiveWinners (span_of low high) way own left
-      → ((es : List Entry) → GiveWinners span way es left → GiveWinners span way (es ++ active) now)
-      → GiveWinners (span_of low high) way (own ++ (active ++ [])) now
-  gather_first so adds =
-      subst (λ (l : List Entry). GiveWinners (span_of low high) way (own ++ l) now) (sym (append-nil active))
-      (subst (λ (s : Span). GiveWinners s way (own ++ active) now) spans
-      (adds own (subst (λ (s : Span). GiveWinners s way own left) (sym spans) so)))
-
-  pub gather_next : (all : List FrozenLog) (i : ℕ) (held : FrozenLog) → i < length all → held ≡ get_or all i held
-      → GiveWinners (span_of low high) way (own ++ (active ++ held_entries (take i all))) left
-      → ((es : List Entry) → GiveWinners span way es left → GiveWinners span way (es ++ held.memtable.entries) now)
-      → GiveWinners (span_of low high) way (own ++ (active ++ held_entries (take (i + 1) all))) now
-  gather_next all i held within is so adds =
-      subst (λ (l : List Entry). GiveWinners (span_of low high) way l now) (entries_next own active all i held within is)
-      (subst (λ (s : Span). GiveWinners s way ((own ++ (active ++ held_entries (take i all))) ++ held.memtable.entries) now) spans
-      (adds (own ++ (active ++ held_entries (take i all)))
-      (subst (λ (s : Span). GiveWinners s way (own ++ (active ++ held_entries (take i all))) left) (sym spans)
-      so)))
-
--- the one source of own writes
-pub gather_own : (low high : List ℕ) (way : Way) (number : ℕ) (ws writes : List Write) → writes ≡ ws → IsTrue (is_sorted key_cmp writes)
-    → (left held : List Entry) → left ≡ held → held
-    ≡ along way (own_entries number (filter (λ (write : Write). is_within low high write.0) writes))
-    → (lefts : List (List Entry)) → lefts ≡ left ∷ [] → GiveWinners (span_of low high) way (own_entries number ws) lefts
-gather_own low high way number ws writes same sorted left held left_is held_is lefts is =
-    subst (GiveWinners (span_of low high) way (own_entries number ws)) (sym (is ∙ ap (λ l. l ∷ []) (left_is ∙ held_is)))
-    (subst (λ (w : List Write). GiveWinners (span_of low high) way (own_entries number w)
-    (along way (own_entries number (filter (λ (write : Write). is_within low high write.0) writes)) ∷ [])) same
-    (give_own low high way number writes sorted))
+give_own low high way number ws sorted =
+    subst (λ (l : List Entry). GiveWinners (span_of low high) way (own_entries number ws) (along way l ∷ []))
+    (sym (own-within low high number ws))
+    (give_cut (span_of low high) way (own_entries number ws) (rising-own number ws (true_T (is_sorted key_cmp ws) sorted)))

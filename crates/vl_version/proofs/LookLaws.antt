@@ -1,63 +1,86 @@
--- What a winner leads to in the version's logs is what it leads to.
-use Rattle.std.proofs.Common.{◌≡◌, ℕ, List, Option, Some, None, ap, sym, subst, ◌∙◌}
-use Rattle.std.specs.Prelude.{Result, Ok, Err}
+-- What a winner leads to in the version's logs is what it leads to, and what a look-up over memory and tables answers.
+use Rattle.std.proofs.Common.{◌≡◌, ℕ, List, Option, ap, sym, subst, ◌∙◌}
+use Rattle.std.specs.Prelude.{Result, Ok, Err, option_and_then}
+use Rattle.std.specs.Option.{option_map}
+use Rattle.vl_block.specs.Cutting.{joined}
+use Rattle.vl_block.specs.Founds.{found_of}
+use Rattle.vl_block.specs.declared.found.Found.{Found}
+use Rattle.vl_disk.specs.declared.name.Name.{Name}
 use Rattle.vl_model.specs.Keys.{Stored}
-use Rattle.vl_model.specs.Winners.{Logs, resolved, winner}
+use Rattle.vl_model.specs.Winners.{Logs, newest_of, resolved_at, winner}
 use Rattle.vl_model.specs.declared.entry.Entry.{Entry}
 use Rattle.vl_seglog.specs.Sealed.{IsHere, IsSmall}
 use Rattle.vl_seglog.specs.declared.sealed.SealedLog.{SealedLog}
-use Rattle.vl_version.specs.Answers.{Fills, Gives, IsFound, value_of}
-use Rattle.vl_version.specs.Sources.{AreTold, HasEntries, LeadsIn, in_memory, stored_in}
+use Rattle.vl_table.specs.Answers.{IsAnswer as table_answer}
+use Rattle.vl_table.specs.declared.fault.TableFault.{TableFault}
+use Rattle.vl_table.specs.declared.fault.TableFault.TheVariants as table
+use Rattle.vl_version.specs.Answers.{Fills, Gives, IsAnswer, IsFound, value_of}
+use Rattle.vl_version.specs.Faults.{table_read_fault}
+use Rattle.vl_version.specs.Sources.{AreTold, HasEntries, stored_in, tables_in}
 use Rattle.vl_version.specs.declared.fault.ReadFault.{ReadFault}
 use Rattle.vl_version.specs.declared.fault.ReadFault.TheVariants.{NoMemory, Disk, Damaged}
-use Rattle.vl_version.specs.declared.found.Found.{Found}
+use Rattle.vl_version.specs.declared.found.Found as filled
 use Rattle.vl_version.specs.declared.found.Found.TheVariants as found
+use Rattle.vl_version.specs.declared.levels.look.Look.TheVariants.{UpTo}
 use Rattle.vl_version.specs.declared.version.Version.{Version}
-use Rattle.vl_version.proofs.Winning.{winner-has}
+use Rattle.vl_version.specs.levels.LevelsLooked.{AreInOrder}
+use Rattle.vl_version.specs.levels.LookedUp.{LooksOn}
+use Rattle.vl_version.proofs.AnswerLaws.{same_led}
 
-module _ (held logs : Logs) (e : Entry) (leads : resolved held e.key e.body ≡ resolved logs e.key e.body) where
-  gives_as : (result : Result (Option Stored) ReadFault) → Gives held (Some e) result → Gives logs (Some e) result
+module _ (held logs : Logs) (w : Option Entry) (leads : resolved_at held w ≡ resolved_at logs w) where
+  gives_as : (result : Result (Option Stored) ReadFault) → Gives held w result → Gives logs w result
   gives_as (Ok value) is = sym leads ∙ is
   gives_as (Err NoMemory) is = tt
   gives_as (Err (Disk name)) is = tt
   gives_as (Err (Damaged name place)) is = (sym leads ∙ is.0, is.1)
 
-  same_value : value_of held (Some e) ≡ value_of logs (Some e)
-  same_value = ap (λ led. elim led as (λ _. Option Stored) [ Some value ↦ value | None ↦ None ]) leads
+  same_value : value_of held w ≡ value_of logs w
+  same_value = ap (λ (led : Option (Option Stored)). option_and_then (λ (value : Option Stored). value) led) leads
 
-  found_as : (old new : List ℕ) (f : Found) → IsFound held (Some e) old new f → IsFound logs (Some e) old new f
+  found_as : (old new : List ℕ) (f : filled.Found) → IsFound held w old new f → IsFound logs w old new f
   found_as old new found.None is = (sym leads ∙ is.0, is.1)
   found_as old new (found.Here len) is = subst (λ value. IsHere value old new len) same_value is
   found_as old new (found.Small len) is = subst (λ value. IsSmall value old new len) same_value is
 
-  fills_as : (old new : List ℕ) (result : Result Found ReadFault) → Fills held (Some e) old new result → Fills logs (Some e) old new result
+  fills_as : (old new : List ℕ) (result : Result filled.Found ReadFault) → Fills held w old new result → Fills logs w old new result
   fills_as old new (Ok f) is = found_as old new f is
   fills_as old new (Err NoMemory) is = tt
   fills_as old new (Err (Disk name)) is = tt
   fills_as old new (Err (Damaged name place)) is = (sym leads ∙ is.0, is.1)
 
 module _ {H : Type 0} (bytes_of : H → Option (List ℕ)) (version : Version H) (es : List Entry) (logs : Logs)
-    (has : HasEntries bytes_of version es logs)
-    (key : List ℕ) (number : ℕ) (e : Entry) (found : Some e ≡ winner (in_memory version) key number)
-    (held : List (SealedLog H)) (are : held ≡ version.behind.logs.items) where
-  wins : winner es key number ≡ Some e
-  wins = ap (λ l. winner l key number) has.entries ∙ sym found
+    (has : HasEntries bytes_of version es logs) (key : List ℕ) (number : ℕ) where
+  module _ (w : Option Entry) (wins : w ≡ winner es key number) (held : List (SealedLog H)) (are : held ≡ version.behind.logs.items) where
+    told : AreTold bytes_of held
+    told = subst (AreTold bytes_of) (sym are) has.told
 
-  leads : resolved (stored_in bytes_of held) e.key e.body ≡ resolved logs e.key e.body
-  leads = ap (λ l. resolved (stored_in bytes_of l) e.key e.body) are
-      ∙ winner-has key number (LeadsIn bytes_of version logs) es e has.leads wins
+    leads : resolved_at (stored_in bytes_of held) (winner es key number) ≡ resolved_at logs (winner es key number)
+    leads = ap (λ l. resolved_at (stored_in bytes_of l) (winner es key number)) are ∙ same_led bytes_of version es logs has number key
 
-  told : AreTold bytes_of held
-  told = subst (AreTold bytes_of) (sym are) has.told
+    -- what is answered of what counts
+    pub given_of : (result : Result (Option Stored) ReadFault) → (AreTold bytes_of held → Gives (stored_in bytes_of held) w result)
+        → Gives logs (winner es key number) result
+    given_of result answers = gives_as (stored_in bytes_of held) logs (winner es key number) leads result
+        (subst (λ (v : Option Entry). Gives (stored_in bytes_of held) v result) wins (answers told))
 
-  -- what is answered of the entry that was found
-  pub given_of : (result : Result (Option Stored) ReadFault) → (AreTold bytes_of held → Gives (stored_in bytes_of held) (Some e) result)
-      → Gives logs (winner es key number) result
-  given_of result answers = subst (λ w. Gives logs w result) (sym wins)
-      (gives_as (stored_in bytes_of held) logs e leads result (answers told))
+    pub filled_of : (old new : List ℕ) (result : Result filled.Found ReadFault)
+        → (AreTold bytes_of held → Fills (stored_in bytes_of held) w old new result)
+        → Fills logs (winner es key number) old new result
+    filled_of old new result answers = fills_as (stored_in bytes_of held) logs (winner es key number) leads old new result
+        (subst (λ (v : Option Entry). Fills (stored_in bytes_of held) v old new result) wins (answers told))
 
-  pub filled_of : (old new : List ℕ) (result : Result Found ReadFault)
-      → (AreTold bytes_of held → Fills (stored_in bytes_of held) (Some e) old new result)
-      → Fills logs (winner es key number) old new result
-  filled_of old new result answers =
-      subst (λ w. Fills logs w old new result) (sym wins) (fills_as (stored_in bytes_of held) logs e leads old new result (answers told))
+  -- a fault of true tables isn't damage
+  pub fault_answers : {T : Type 0} (good : T → Type 0) (bad : Name → ℕ → Type 0) (why : TableFault) (best : Option Entry)
+      (before now : ℕ) (result : Result T ReadFault) → result ≡ Err (table_read_fault why)
+      → LooksOn bytes_of (tables_in version) (AreInOrder version.behind.levels) (UpTo number) key best before now (Err why)
+      → IsAnswer good bad result
+  fault_answers {T} good bad why best before now result is on =
+      subst (IsAnswer good bad) (sym is)
+      (by (λ found. option_map (found_of key) found ≡ newest_of best (winner (joined has.tabled) key number)) why
+      (on.answer has.in_order has.tabled has.tables))
+    where
+      by : (found : Option Found → Type 0) (e : TableFault) → table_answer found (λ place. ⊥) (Err e)
+          → IsAnswer {T = T} good bad (Err (table_read_fault e))
+      by found table.NoMemory sound = tt
+      by found (table.Disk name) sound = tt
+      by found (table.Damaged name place) sound = absurd sound

@@ -1,27 +1,37 @@
--- What a source gives.
-use Rattle.std.specs.Prelude.{ℕ, Bool, true, false, List, length}
+-- What a source gives, and how it may fail.
+use Rattle.std.specs.Prelude.{◌≡◌, ℕ, Bool, true, false, List, length, Option, Some}
 use Rattle.vl_model.specs.declared.entry.Entry.{Entry}
+use Rattle.vl_table.specs.CursorLeft.{cursor_budget, cursor_left}
+use Rattle.vl_table.specs.CursorParts.{MayFailOn}
+use Rattle.vl_table.specs.declared.fault.TableFault.{TableFault}
+use Rattle.vl_version.specs.Faults.{table_read_fault}
 use Rattle.vl_version.specs.Own.{own_left}
 use Rattle.vl_version.specs.declared.fault.ReadFault.{ReadFault}
 use Rattle.vl_version.specs.declared.fault.ReadFault.TheVariants.{NoMemory, Disk, Damaged}
-use Rattle.vl_version.specs.declared.source.Kind.{Kind}
-use Rattle.vl_version.specs.declared.source.Kind.TheVariants.{Own, Held}
 use Rattle.vl_version.specs.declared.source.Source.{Source}
-
--- the entries that are left of it, as its way goes
-abbrev pub kind_left : Kind → List Entry
-kind_left (Own cursor) = own_left cursor
-kind_left (Held cursor) = cursor
-
-abbrev pub kind_budget : Kind → ℕ
-kind_budget (Own cursor) = length cursor.writes.now
-kind_budget (Held cursor) = length cursor
-
-abbrev pub left_in : {R : Type 0} → Source R → List Entry
-left_in source = kind_left source.kind
+use Rattle.vl_version.specs.declared.source.Source.TheVariants.{Own, Held, Tables}
 
 -- whether reading failed
 abbrev pub is_disk_fault : ReadFault → Bool
 is_disk_fault NoMemory = false
 is_disk_fault (Disk name) = true
 is_disk_fault (Damaged name place) = false
+
+module _ {H R : Type 0} where
+  -- the entries that are left of it, as its way goes, where they are told
+  abbrev pub left_in : (H → Option (List ℕ)) → Source H R → Option (List Entry)
+  left_in bytes_of (Own cursor) = Some (own_left cursor)
+  left_in bytes_of (Held cursor) = Some cursor
+  left_in bytes_of (Tables cursor) = cursor_left bytes_of cursor
+
+  abbrev pub source_budget : Source H R → ℕ
+  source_budget (Own cursor) = length cursor.writes.now
+  source_budget (Held cursor) = length cursor
+  source_budget (Tables cursor) = cursor_budget cursor
+
+  -- memory runs out, or a table fails
+  abbrev pub SourceMayFail : (H → Option (List ℕ)) → Source H R → ReadFault → Type 0
+  SourceMayFail bytes_of (Own cursor) fault = fault ≡ NoMemory
+  SourceMayFail bytes_of (Held cursor) fault = fault ≡ NoMemory
+  SourceMayFail bytes_of (Tables cursor) fault =
+      (why : TableFault) × MayFailOn bytes_of cursor.tables.items why × (fault ≡ table_read_fault why)

@@ -2,6 +2,10 @@ pub mod Answers
 pub mod Faults
 pub mod Gathered
 pub mod Gives
+pub mod laws
+pub mod levels
+pub mod Newest
+pub mod Over
 pub mod Own
 pub mod Place
 pub mod Rows

@@ -1,3 +1,4 @@
+use crate::levels::Levels;
 use std::alloc::{AllocError, Global};
 use std::marker::Model;
 use std::mem;
@@ -10,6 +11,8 @@ use vl_seglog::SealedLog;
 pub struct Behind<H> {
     /// The logs whose memtables wait for their flush, the newest first.
     pub frozen: Vec<FrozenLog>,
+    /// The tables of all levels.
+    pub levels: Levels<H>,
     /// The logs that pointers lead into, their numbers rising.
     pub logs: Vec<SealedLog<H>>,
 }
@@ -56,6 +59,7 @@ impl<H: Drop> SharedBehind<H> {
         let alloc = *self.as_ref().frozen.allocator();
         let none = Place::Own(Behind {
             frozen: Vec::new(alloc),
+            levels: Levels::none(alloc),
             logs: Vec::new(alloc),
         });
         self.place = mem::replace(&mut self.place, none).into_shared(alloc);

@@ -1,11 +1,12 @@
 ghost use Rattle.std.specs.Prelude.{◌≡◌};
-ghost use Rattle.vl_version.specs.Faults.{as_read_fault};
+ghost use Rattle.vl_version.specs.Faults.{as_read_fault, table_read_fault};
 ghost use Rattle.vl_version.specs.declared.fault.ReadFault.TheVariants as why;
 
 use std::alloc::AllocError;
 use thiserror::Error;
 use vl_disk::Name;
 use vl_seglog::LogFault;
+use vl_table::TableFault;
 
 /// Why nothing was read.
 #[derive(Clone, Copy, Debug, PartialEq, Eq, Error)]
@@ -43,6 +44,21 @@ impl From<LogFault> for ReadFault {
             LogFault::NoMemory => ReadFault::NoMemory,
             LogFault::Disk { name } => ReadFault::Disk { name },
             LogFault::Damaged { name, place } => ReadFault::Damaged { name, place },
+        }
+    }
+}
+
+impl From<TableFault> for ReadFault {
+    ghost use Rattle.std.specs.Prelude.{◌≡◌};
+    ghost use Rattle.vl_version.specs.Faults.{table_read_fault};
+
+    ghost from_gives = { λ fault e. e ≡ table_read_fault fault };
+
+    fn from(fault: TableFault) -> Self {
+        match fault {
+            TableFault::NoMemory => ReadFault::NoMemory,
+            TableFault::Disk { name } => ReadFault::Disk { name },
+            TableFault::Damaged { name, place } => ReadFault::Damaged { name, place },
         }
     }
 }

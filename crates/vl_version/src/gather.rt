@@ -1,82 +1,111 @@
 //! The sources of a scan, cut to its interval.
 
-ghost use Rattle.std.specs.Prelude.{◌≡◌, ◌++◌, List, map, length, IfOk, OnOk};
+ghost use Rattle.std.specs.Prelude.{◌≡◌, ◌++◌, [], List, map, IfOk, OnOk};
 ghost use Rattle.std.specs.FinMap.{entries};
+ghost use Rattle.vl_block.specs.Cutting.{joined};
 ghost use Rattle.vl_model.specs.Reads.{bound};
 ghost use Rattle.vl_model.specs.declared.entry.Entry.{Entry};
-ghost use Rattle.vl_version.specs.Gathered.{GiveWinners, span_of};
-ghost use Rattle.vl_version.specs.Gives.{left_in};
+ghost use Rattle.vl_table.specs.OfTables.{AreOf};
+ghost use Rattle.vl_version.specs.Gathered.{Adds, IsQuiet, TellWinners, span_of};
 ghost use Rattle.vl_version.specs.Own.{own_entries};
 ghost use Rattle.vl_version.specs.Sources.{held_entries};
+ghost use Rattle.vl_version.specs.declared.source.Source.TheVariants as source;
+ghost use Rattle.vl_version.specs.levels.LevelsLooked.{AreInOrder, tables_of};
 
+mod tables;
+
+use crate::Behind;
 use crate::own::OwnCursor;
 use crate::source::Source;
 use crate::wanted::Wanted;
 use std::alloc::{AllocError, Global};
+use tables::add_levels;
+use vl_disk::{HeldFile, Reader};
 use vl_memtable::{FrozenLog, Memtable};
 use vl_model::{Key, Span, Way};
 use vl_run::RunCursor;
 use vl_txn::Writes;
 
-/// Cursors over the own writes and the memtables, the newest source first, of which the own writes come before all.
-pub fn sources_within<'a, R: Drop>(
+/// Cursors over the own writes, the memtables and the tables, the newest source first, of which the own writes come before
+/// all.
+pub fn sources_within<'a, H: HeldFile, R: Reader<Held = H> + Drop>(
     alloc: Global,
     own: &'a Writes,
     active: &Memtable,
-    frozen: &[FrozenLog],
+    behind: &Behind<H>,
     wanted: Wanted<'_>,
     number: u64,
-) -> Result<Vec<Source<'a, R>>, AllocError>
-    ensures { IfOk result (λ sources. GiveWinners (span_of wanted.entry.low.now wanted.entry.high.now) wanted.entry.way
-        (own_entries number (entries own.now) ++ (active.now.entries ++ held_entries frozen.now))
-        (map left_in sources.items)) }
+) -> Result<Vec<Source<'a, H, R>>, AllocError>
+    ensures winners { IfOk result (λ sources. (tabled : List (List Entry))
+        → AreOf H.bytes (tables_of behind.now.levels) tabled → AreInOrder behind.now.levels
+        → TellWinners H.bytes (span_of wanted.entry.low.now wanted.entry.high.now) wanted.entry.way
+        (own_entries number (entries own.now) ++ ((active.now.entries ++ held_entries behind.now.frozen.items) ++ joined tabled))
+        sources.items) }
+    ensures quiet { IfOk result (λ sources. tables_of behind.now.levels ≡ [] → IsQuiet H.bytes sources.items) }
 {
     let span = span_of(alloc, wanted.low, wanted.high)?;
     let mut sources = own_source(alloc, own, wanted, number)?;
     add_memtable(&mut sources, active, &span, wanted.way)?;
-    for log in frozen {
-        add_memtable(&mut sources, log.memtable.memtable(), &span, wanted.way)?;
-    }
+    add_frozen(&mut sources, &behind.frozen, &span, wanted.way)?;
+    add_levels(alloc, &mut sources, &behind.levels, &span, wanted.way)?;
     Ok(sources)
 }
 
 // The one source of the own writes.
-fn own_source<'a, R: Drop>(
+fn own_source<'a, H: HeldFile, R: Drop>(
     alloc: Global,
     own: &'a Writes,
     wanted: Wanted<'_>,
     number: u64,
-) -> Result<Vec<Source<'a, R>>, AllocError>
-    ensures { IfOk result (λ sources. GiveWinners (span_of wanted.entry.low.now wanted.entry.high.now) wanted.entry.way
-        (own_entries number (entries own.now)) (map left_in sources.items)) }
+) -> Result<Vec<Source<'a, H, R>>, AllocError>
+    ensures winners { IfOk result (λ sources.
+        TellWinners H.bytes (span_of wanted.entry.low.now wanted.entry.high.now) wanted.entry.way
+        (own_entries number (entries own.now)) sources.items) }
+    ensures quiet { IfOk result (λ sources. IsQuiet H.bytes sources.items) }
 {
     let writes = OwnCursor::within(own.as_slice(), wanted.low, wanted.high, wanted.way, number);
     let mut sources = Vec::new(alloc);
-    sources.push(Source::own(writes))?;
+    sources.push(Source::Own(writes))?;
     Ok(sources)
 }
 
 // A memtable's runs behind the sources that there are.
-fn add_memtable<'a, R: Drop>(
-    sources: &mut Vec<Source<'a, R>>,
+fn add_memtable<'a, H: HeldFile, R: Drop>(
+    sources: &mut Vec<Source<'a, H, R>>,
     memtable: &Memtable,
     span: &Span,
     way: Way,
 ) -> Result<(), AllocError>
-    ensures { OnOk result ((es : List Entry) → GiveWinners span.now way es (map left_in sources.old.items)
-        → GiveWinners span.now way (es ++ memtable.now.entries) (map left_in sources.new.items)) }
+    ensures winners { OnOk result (Adds H.bytes span.now way memtable.now.entries sources.old.items sources.new.items) }
+    ensures quiet { OnOk result (IsQuiet H.bytes sources.old.items → IsQuiet H.bytes sources.new.items) }
 {
     add_runs(sources, memtable.cursors_within(span, way)?)
 }
 
-fn add_runs<'a, R: Drop>(
-    sources: &mut Vec<Source<'a, R>>,
+fn add_runs<'a, H: Drop, R: Drop>(
+    sources: &mut Vec<Source<'a, H, R>>,
     runs: Vec<RunCursor>,
 ) -> Result<(), AllocError>
-    ensures { OnOk result (map left_in sources.new.items ≡ map left_in sources.old.items ++ runs.items) }
+    ensures { OnOk result (sources.new.items ≡ sources.old.items ++ map (λ run. source.Held run) runs.items) }
 {
     for run in runs {
-        sources.push(Source::held(run))?;
+        sources.push(Source::Held(run))?;
+    }
+    Ok(())
+}
+
+// Those of frozen logs, the newest first.
+fn add_frozen<'a, H: HeldFile, R: Drop>(
+    sources: &mut Vec<Source<'a, H, R>>,
+    frozen: &[FrozenLog],
+    span: &Span,
+    way: Way,
+) -> Result<(), AllocError>
+    ensures winners { OnOk result (Adds H.bytes span.now way (held_entries frozen.now) sources.old.items sources.new.items) }
+    ensures quiet { OnOk result (IsQuiet H.bytes sources.old.items → IsQuiet H.bytes sources.new.items) }
+{
+    for log in frozen {
+        add_memtable(sources, log.memtable.memtable(), span, way)?;
     }
     Ok(())
 }

@@ -1,14 +1,17 @@
 //! What one version of a store's sources is, and what is read of it.
 //!
-//! A version has a memtable that takes commits, and behind it the memtables that wait for their flush, and the sealed logs
-//! into which pointers lead. What is behind the memtable that takes commits changes with a rotation, a flush or an install
-//! alone. So all versions between two of these share it: `share` takes a step for each run of the one memtable, of which
-//! there are a logarithm of its entries, and one for all that is behind it.
+//! A version has a memtable that takes commits, and behind it the memtables that wait for their flush, the tables of all
+//! levels, and the sealed logs into which pointers lead. What is behind the memtable that takes commits changes with a
+//! rotation, a flush or an install alone. So all versions between two of these share it: `share` takes a step for each run of
+//! the one memtable, of which there are a logarithm of its entries, and one for all that is behind it.
 //!
 //! A look-up asks each source, since an older version of a key may stand in a newer source: it costs the look-ups in all
-//! memtables, and where a pointer is followed a search among the logs by halving and two reads. A value in memory is shared.
+//! memtables, and then those in the tables that may have something above what was found there. Where a pointer is followed
+//! it costs a search among the logs by halving and two reads. A value in memory is shared.
+//!
 //! The rows of a scan are merged from all sources and the caller's own writes: a row costs a logarithm of the number of
-//! sources comparisons of keys, and nothing is read behind the last row but one entry of each source.
+//! sources comparisons of keys, and nothing is read behind the last row but one entry of each source. A table whose range
+//! lies outside the interval is no source; each other one of level 0 is, and each deeper level.
 #![tactic(auto)]
 
 mod behind;
@@ -16,6 +19,8 @@ mod fault;
 mod found;
 mod frozen;
 mod gather;
+mod levels;
+mod newest;
 mod own;
 mod resolving;
 mod rows;
@@ -26,5 +31,6 @@ mod wanted;
 pub use behind::Behind;
 pub use fault::ReadFault;
 pub use found::Found;
+pub use levels::{Level, Levels};
 pub use version::Version;
 pub use wanted::Wanted;

@@ -4,17 +4,62 @@ ghost use Rattle.std.specs.Prelude.{◌≡◌, ◌<◌, [], length, IfSome, IsSo
 ghost use Rattle.std.specs.Option.{option_copied};
 ghost use Rattle.vl_disk.specs.Faults.{HasCause};
 ghost use Rattle.vl_disk.specs.declared.name.Name.TheVariants as names;
+ghost use Rattle.vl_block.specs.Founds.{found_of};
+ghost use Rattle.vl_model.specs.Keys.{Stored};
 ghost use Rattle.vl_version.specs.Answers.{Fills, Gives, IsFound};
 ghost use Rattle.vl_version.specs.Faults.{Failed};
+ghost use Rattle.vl_version.specs.Newest.{newest_entry};
 ghost use Rattle.vl_version.specs.Sources.{AreRising, AreTold, log_in, stored_in};
 ghost use Rattle.vl_version.specs.Values.{FillsFar, GivesFar, IsPut};
 ghost use Rattle.vl_version.specs.declared.fault.ReadFault.TheVariants as why;
 
+use crate::newest::Newest;
 use crate::{Found, ReadFault};
 use std::alloc::Global;
+use vl_block::{Found as TableFound, FoundBody};
 use vl_disk::{HeldFile, Name, Reader};
 use vl_model::{Body, Entry, Pointer, Value};
 use vl_seglog::{Filled, SealedLog};
+
+/// The value to which what counts of a key leads; none where that is a deletion, or nothing.
+pub fn resolve_newest<H: HeldFile, R: Reader<Held = H>>(
+    alloc: Global,
+    reader: &mut R,
+    logs: &[SealedLog<H>],
+    key: &[u8],
+    newest: Newest<'_>,
+) -> Result<Option<Value>, ReadFault>
+    ensures cause { HasCause (R.faults reader.old) (R.faults reader.new) (Failed result) }
+    ensures alone { logs.now ≡ [] → Failed result → ⊥ }
+    ensures answers { AreTold H.bytes logs.now → Gives (stored_in H.bytes logs.now) (newest_entry key.now newest.entry) result }
+{
+    match newest {
+        Newest::None => Ok(None),
+        Newest::Held(entry) => resolve(alloc, reader, logs, entry),
+        Newest::Tabled(found) => resolve_found(alloc, reader, logs, key, &found),
+    }
+}
+
+/// The same without memory: the value is read to the front of the caller's bytes, where it fits.
+pub fn resolve_newest_into<H: HeldFile, R: Reader<Held = H>>(
+    reader: &mut R,
+    logs: &[SealedLog<H>],
+    key: &[u8],
+    newest: Newest<'_>,
+    out: &mut [u8],
+) -> Result<Found, ReadFault>
+    ensures cause { HasCause (R.faults reader.old) (R.faults reader.new) (Failed result) }
+    ensures alone { logs.now ≡ [] → Failed result → ⊥ }
+    ensures answers { AreTold H.bytes logs.now
+        → Fills (stored_in H.bytes logs.now) (newest_entry key.now newest.entry) out.old out.new result }
+    ensures no_memory { IsErrOf result why.NoMemory → ⊥ }
+{
+    match newest {
+        Newest::None => Ok(Found::None),
+        Newest::Held(entry) => resolve_into(reader, logs, entry, out),
+        Newest::Tabled(found) => resolve_found_into(reader, logs, key, &found, out),
+    }
+}
 
 /// The value to which an entry leads; none where it is a deletion's. A value in memory is shared, and not copied.
 pub fn resolve<H: HeldFile, R: Reader<Held = H>>(
@@ -38,8 +83,8 @@ pub fn resolve<H: HeldFile, R: Reader<Held = H>>(
     }
 }
 
-/// The same without memory: the value is read to the front of the caller's bytes, where it fits.
-pub fn resolve_into<H: HeldFile, R: Reader<Held = H>>(
+// The same without memory.
+fn resolve_into<H: HeldFile, R: Reader<Held = H>>(
     reader: &mut R,
     logs: &[SealedLog<H>],
     entry: &Entry,
@@ -52,18 +97,64 @@ pub fn resolve_into<H: HeldFile, R: Reader<Held = H>>(
     ensures no_memory { IsErrOf result why.NoMemory → ⊥ }
 {
     match &entry.body {
-        Body::Inline(value) => Ok(put(value, out)),
-        Body::Logged(value, _) => Ok(put(value, out)),
+        Body::Inline(value) => Ok(put(value.as_slice(), out)),
+        Body::Logged(value, _) => Ok(put(value.as_slice(), out)),
         Body::Gone => Ok(Found::None),
         Body::Far(pointer) => read_far_into(reader, logs, *pointer, entry.key.as_slice(), out),
     }
 }
 
-// Copies a value to the front of these bytes, where it fits.
-fn put(value: &Value, out: &mut [u8]) -> Found
-    ensures { IsPut value.now out.old out.new result }
+// The value to which what a table has of a key leads. A value that stands beside its key is copied.
+fn resolve_found<H: HeldFile, R: Reader<Held = H>>(
+    alloc: Global,
+    reader: &mut R,
+    logs: &[SealedLog<H>],
+    key: &[u8],
+    found: &TableFound,
+) -> Result<Option<Value>, ReadFault>
+    ensures cause { HasCause (R.faults reader.old) (R.faults reader.new) (Failed result) }
+    ensures alone { logs.now ≡ [] → Failed result → ⊥ }
+    ensures answers { AreTold H.bytes logs.now
+        → Gives (stored_in H.bytes logs.now) (Some (found_of key.now found.now)) result }
 {
-    let bytes = value.as_slice();
+    match &found.body {
+        FoundBody::Inline(value) => {
+            let copy = Value::copy_of(alloc, value.as_slice(), value.tag())?;
+            Ok(Some(copy))
+        }
+        FoundBody::Gone => Ok(None),
+        FoundBody::Far(pointer) => {
+            let value = read_far(alloc, reader, logs, *pointer, key)?;
+            Ok(Some(value))
+        }
+    }
+}
+
+// The same without memory.
+fn resolve_found_into<H: HeldFile, R: Reader<Held = H>>(
+    reader: &mut R,
+    logs: &[SealedLog<H>],
+    key: &[u8],
+    found: &TableFound,
+    out: &mut [u8],
+) -> Result<Found, ReadFault>
+    ensures cause { HasCause (R.faults reader.old) (R.faults reader.new) (Failed result) }
+    ensures alone { logs.now ≡ [] → Failed result → ⊥ }
+    ensures answers { AreTold H.bytes logs.now
+        → Fills (stored_in H.bytes logs.now) (Some (found_of key.now found.now)) out.old out.new result }
+    ensures no_memory { IsErrOf result why.NoMemory → ⊥ }
+{
+    match &found.body {
+        FoundBody::Inline(value) => Ok(put(value.as_slice(), out)),
+        FoundBody::Gone => Ok(Found::None),
+        FoundBody::Far(pointer) => read_far_into(reader, logs, *pointer, key, out),
+    }
+}
+
+// Copies a value's bytes to the front of these, where they fit.
+fn put(bytes: &[u8], out: &mut [u8]) -> Found
+    ensures { (value : Stored) → value.bytes ≡ bytes.now → IsPut value out.old out.new result }
+{
     if bytes.len() > out.len() {
         return Found::Small(bytes.len());
     }

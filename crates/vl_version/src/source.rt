@@ -2,72 +2,42 @@
 
 use crate::ReadFault;
 use crate::own::OwnCursor;
-use std::marker::PhantomData;
-use vl_disk::Reader;
+use vl_disk::{HeldFile, Reader};
 use vl_model::{Cursor, Entry};
 use vl_run::RunCursor;
+use vl_table::TableCursor;
 
-/// The entries of one source. It is read with any reader of the version's files.
+/// The entries of one source: the caller's own writes, a run in memory, or tables. It is read with any reader of the version's
+/// files.
 #[derive(Drop)]
-pub struct Source<'a, R> {
-    kind: Kind<'a>,
-    read_with: PhantomData<R>,
-}
-
-/// The caller's own writes, or a run in memory.
-#[derive(Drop)]
-pub enum Kind<'a> {
+pub enum Source<'a, H, R> {
     Own(OwnCursor<'a>),
     Held(RunCursor),
+    Tables(TableCursor<H, R>),
 }
 
-impl<'a, R: Reader + Drop> Cursor for Source<'a, R> {
-    ghost use Rattle.std.specs.Prelude.{◌≡◌, Some};
-    ghost use Rattle.vl_version.specs.Gives.{is_disk_fault, kind_budget, left_in};
-    ghost use Rattle.vl_version.specs.declared.fault.ReadFault.TheVariants as why;
+impl<'a, H: HeldFile, R: Reader<Held = H> + Drop> Cursor for Source<'a, H, R> {
+    ghost use Rattle.vl_version.specs.Gives.{SourceMayFail, is_disk_fault, left_in, source_budget};
 
     type Fault = ReadFault;
 
     type Reader = R;
 
-    ghost left = { λ source. Some (left_in source) };
+    ghost left = { λ source. left_in H.bytes source };
 
-    ghost budget = { λ source. kind_budget source.kind };
+    ghost budget = { λ source. source_budget source };
 
     ghost faults = { λ reader. R.faults reader };
 
     ghost is_read_fault = { λ fault. is_disk_fault fault };
 
-    ghost may_fail = { λ _ fault. fault ≡ why.NoMemory };
+    ghost may_fail = { λ source fault. SourceMayFail H.bytes source fault };
 
-    fn next(&mut self, _: &mut R) -> Result<Option<Entry>, ReadFault> {
-        match &mut self.kind {
-            Kind::Own(own) => Ok(own.next(&mut ())?),
-            Kind::Held(run) => Ok(run.next(&mut ())?),
-        }
-    }
-}
-
-impl<'a, R> Source<'a, R> {
-    ghost use Rattle.std.specs.Prelude.{◌≡◌};
-    ghost use Rattle.vl_version.specs.Gives.{left_in};
-    ghost use Rattle.vl_version.specs.Own.{own_left};
-
-    pub fn own(cursor: OwnCursor<'a>) -> Self
-        ensures { left_in result ≡ own_left cursor.entry }
-    {
-        Source {
-            kind: Kind::Own(cursor),
-            read_with: PhantomData,
-        }
-    }
-
-    pub fn held(cursor: RunCursor) -> Self
-        ensures { left_in result ≡ cursor }
-    {
-        Source {
-            kind: Kind::Held(cursor),
-            read_with: PhantomData,
+    fn next(&mut self, reader: &mut R) -> Result<Option<Entry>, ReadFault> {
+        match self {
+            Source::Own(own) => Ok(own.next(&mut ())?),
+            Source::Held(run) => Ok(run.next(&mut ())?),
+            Source::Tables(tables) => Ok(tables.next(reader)?),
         }
     }
 }

@@ -1,4 +1,4 @@
-ghost use Rattle.std.specs.Prelude.{◌≡◌, ◌++◌, ◌<◌, [], List, length, reverse, IfOk, IsErrOf, None};
+ghost use Rattle.std.specs.Prelude.{◌≡◌, ◌++◌, ◌<◌, [], List, length, reverse, IfOk, IsErrOf};
 ghost use Rattle.vl_disk.specs.Faults.{HasCause};
 ghost use Rattle.vl_memtable.specs.Contents.{IsNewTo};
 ghost use Rattle.vl_memtable.specs.Lengths.{lengths_with};
@@ -7,17 +7,22 @@ ghost use Rattle.std.specs.Option.{option_copied};
 ghost use Rattle.vl_model.specs.Winners.{Logs, winner};
 ghost use Rattle.vl_model.specs.declared.entry.Entry.{Entry};
 ghost use Rattle.vl_version.specs.Answers.{Fills, Gives, IsAnswer};
+ghost use Rattle.vl_table.specs.Kept.{Files};
+ghost use Rattle.vl_table.specs.KeptBlocks.{AreKept, ReadsOf};
 ghost use Rattle.vl_version.specs.Faults.{Failed};
+ghost use Rattle.vl_version.specs.Over.{LooksOver};
 ghost use Rattle.vl_version.specs.Scans.{AreScanned, SomeAstray};
-ghost use Rattle.vl_version.specs.Sources.{HasEntries, in_memory};
+ghost use Rattle.vl_version.specs.Sources.{AreTold, HasEntries, in_memory, stored_in, tables_in};
 ghost use Rattle.vl_version.specs.declared.fault.ReadFault.TheVariants as why;
+ghost use Rattle.vl_version.specs.levels.LevelsLooked.{AreLaidOut};
 
 use crate::behind::{Behind, SharedBehind};
 use crate::frozen::find_frozen;
 use crate::gather::sources_within;
-use crate::resolving::{resolve, resolve_into};
+use crate::newest::{newer_of, stand_in};
+use crate::resolving::{resolve_newest, resolve_newest_into};
 use crate::rows::take_rows;
-use crate::{Found, ReadFault, Wanted};
+use crate::{Found, Levels, ReadFault, Wanted};
 use std::alloc::{AllocError, Global};
 use vl_disk::{HeldFile, Reader};
 use vl_memtable::{FrozenLog, Memtable};
@@ -25,6 +30,7 @@ use vl_merge::{Merge, Visible, merge_of_told_sources, visible_entries_are_the_wi
 use vl_model::{Entry, Key, Value, newest_ref};
 use vl_run::Run;
 use vl_seglog::SealedLog;
+use vl_table::BlockReader;
 use vl_txn::Writes;
 
 /// The sources of a store at one moment. It is shared by all who read there, and only its memtable takes commits.
@@ -36,16 +42,23 @@ pub struct Version<H> {
 
 impl<H: HeldFile> Version<H> {
     /// The version of a store that was opened: with an empty memtable that takes commits, over the memtables of these logs,
-    /// the oldest first, and with these sealed logs, their numbers rising.
-    pub fn new(alloc: Global, frozen: Vec<FrozenLog>, logs: Vec<SealedLog<H>>) -> Self
+    /// the oldest first, and the tables of these levels, and with these sealed logs, their numbers rising.
+    pub fn new(
+        alloc: Global,
+        frozen: Vec<FrozenLog>,
+        levels: Levels<H>,
+        logs: Vec<SealedLog<H>>,
+    ) -> Self
         ensures active { result.active ≡ record { entries = []; lengths = [] } }
         ensures frozen { result.behind.frozen.items ≡ reverse frozen.items }
+        ensures levels { result.behind.levels ≡ levels }
         ensures logs { result.behind.logs.items ≡ logs.items }
     {
         let mut newest_first = frozen;
         newest_first.reverse();
         let behind = Behind {
             frozen: newest_first,
+            levels,
             logs,
         };
         Version {
@@ -83,72 +96,93 @@ impl<H: HeldFile> Version<H> {
         self.active = active;
     }
 
-    /// The value of a key at a number: that of its greatest version that is at most the number. Where there is no sealed
-    /// log, no file is read.
+    /// The value of a key at a number: that of its greatest version that is at most the number. Where there are no tables and
+    /// no sealed logs, no file is read.
     pub fn get<R: Reader<Held = H>>(
         &self,
         alloc: Global,
-        reader: &mut R,
+        reader: &mut BlockReader<R>,
         key: &[u8],
         number: u64,
     ) -> Result<Option<Value>, ReadFault>
-        ensures cause { HasCause (R.faults reader.old) (R.faults reader.new) (Failed result) }
-        ensures alone { self.now.behind.logs.items ≡ [] → Failed result → ⊥ }
-        ensures answers { (es : List Entry) (logs : Logs) → HasEntries H.bytes self.now es logs
-            → Gives logs (winner es key.now number) result }
+        ensures cause { HasCause (R.faults reader.old.reader) (R.faults reader.new.reader) (Failed result) }
+        ensures alone { self.now.behind.logs.items ≡ [] → tables_in self.now ≡ [] → Failed result → ⊥ }
+        ensures kept { (files : Files) → ReadsOf H.bytes files reader.old (tables_in self.now) → AreKept files reader.new }
+        ensures answers { (files : Files) (es : List Entry) (logs : Logs) → ReadsOf H.bytes files reader.old (tables_in self.now)
+            → HasEntries H.bytes self.now es logs → Gives logs (winner es key.now number) result }
+
+        // Where tables are laid out no answer hides a block that had to be read and doesn't stand, also if they aren't true.
+        ensures looks { (files : Files) → ReadsOf H.bytes files reader.old (tables_in self.now) → AreLaidOut self.now.behind.levels
+            → AreTold H.bytes self.now.behind.logs.items
+            → LooksOver H.bytes self.now key.now number (Gives (stored_in H.bytes self.now.behind.logs.items)) result }
     {
-        match self.find(key, number) {
-            Some(entry) => resolve(alloc, reader, &self.behind.as_ref().logs, entry),
-            None => Ok(None),
-        }
+        let behind = self.behind.as_ref();
+        let held = self.find_held(key, number);
+        let found = behind.levels.find(reader, key, number, stand_in(held))?;
+        let counts = newer_of(held, found);
+        resolve_newest(alloc, &mut reader.reader, &behind.logs, key, counts)
     }
 
     /// The same without memory: the value is read to the front of the caller's bytes, where it fits. After a fault these
     /// may be anything.
     pub fn get_into<R: Reader<Held = H>>(
         &self,
-        reader: &mut R,
+        reader: &mut BlockReader<R>,
         key: &[u8],
         number: u64,
         out: &mut [u8],
     ) -> Result<Found, ReadFault>
-        ensures cause { HasCause (R.faults reader.old) (R.faults reader.new) (Failed result) }
-        ensures alone { self.now.behind.logs.items ≡ [] → Failed result → ⊥ }
-        ensures answers { (es : List Entry) (logs : Logs) → HasEntries H.bytes self.now es logs
-            → Fills logs (winner es key.now number) out.old out.new result }
+        ensures cause { HasCause (R.faults reader.old.reader) (R.faults reader.new.reader) (Failed result) }
+        ensures alone { self.now.behind.logs.items ≡ [] → tables_in self.now ≡ [] → Failed result → ⊥ }
+        ensures kept { (files : Files) → ReadsOf H.bytes files reader.old (tables_in self.now) → AreKept files reader.new }
+        ensures answers { (files : Files) (es : List Entry) (logs : Logs) → ReadsOf H.bytes files reader.old (tables_in self.now)
+            → HasEntries H.bytes self.now es logs → Fills logs (winner es key.now number) out.old out.new result }
+        ensures looks { (files : Files) → ReadsOf H.bytes files reader.old (tables_in self.now) → AreLaidOut self.now.behind.levels
+            → AreTold H.bytes self.now.behind.logs.items
+            → LooksOver H.bytes self.now key.now number
+            (λ winner. Fills (stored_in H.bytes self.now.behind.logs.items) winner out.old out.new) result }
         ensures no_memory { IsErrOf result why.NoMemory → ⊥ }
     {
-        match self.find(key, number) {
-            Some(entry) => resolve_into(reader, &self.behind.as_ref().logs, entry, out),
-            None => Ok(Found::None),
-        }
+        let behind = self.behind.as_ref();
+        let held = self.find_held(key, number);
+        let found = behind.levels.find(reader, key, number, stand_in(held))?;
+        let counts = newer_of(held, found);
+        resolve_newest_into(&mut reader.reader, &behind.logs, key, counts, out)
     }
 
     /// The rows that are wanted of what stands at a number under these own writes. Behind the last of them each source is
-    /// read no further than its next entry, and the entries of one key more.
+    /// read no further than its next entry, and the entries of one key more. Each block of a table is read once at most, and
+    /// those that the reader keeps stay.
     pub fn rows<R: Reader<Held = H> + Drop>(
         &self,
         alloc: Global,
-        reader: &mut R,
+        reader: &mut BlockReader<R>,
         own: &Writes,
         wanted: Wanted<'_>,
         number: u64,
     ) -> Result<Vec<(Key, Value)>, ReadFault>
-        ensures cause { HasCause (R.faults reader.old) (R.faults reader.new) (Failed result) }
-        ensures alone { self.now.behind.logs.items ≡ [] → Failed result → ⊥ }
+        ensures cause { HasCause (R.faults reader.old.reader) (R.faults reader.new.reader) (Failed result) }
+        ensures alone { self.now.behind.logs.items ≡ [] → tables_in self.now ≡ [] → Failed result → ⊥ }
+        ensures kept { reader.new ≡ record reader.old { reader = reader.new.reader } }
         ensures answers { (es : List Entry) (logs : Logs) → HasEntries H.bytes self.now es logs
             → IsAnswer (λ rows. AreScanned logs es number wanted.entry own.now rows.items) (SomeAstray logs es number) result }
     {
         merge_of_told_sources();
         visible_entries_are_the_winners();
         let behind = self.behind.as_ref();
-        let sources = sources_within(alloc, own, &self.active, &behind.frozen, wanted, number)?;
+        let sources = sources_within(alloc, own, &self.active, behind, wanted, number)?;
         let mut visible = Visible::new(Merge::new(sources, wanted.way)?, number);
-        take_rows(alloc, reader, &behind.logs, &mut visible, wanted.limit)
+        take_rows(
+            alloc,
+            &mut reader.reader,
+            &behind.logs,
+            &mut visible,
+            wanted.limit,
+        )
     }
 
     // Of the entries in memory of a key with a version of at most a number the one of the greatest version.
-    fn find(&self, key: &[u8], number: u64) -> Option<&Entry>
+    fn find_held(&self, key: &[u8], number: u64) -> Option<&Entry>
         ensures { option_copied result ≡ winner (in_memory self.now) key.now number }
     {
         newest_ref(

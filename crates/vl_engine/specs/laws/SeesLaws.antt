@@ -59,6 +59,7 @@ version_later bytes version least most number extends shows =
       logs = shows.logs;
       has = shows.has;
       shows = shows_at_later shows.logs shows.entries_of least most number extends known shows.shows;
+      without_tables = shows.without_tables;
       alone = shows.alone;
       readable = omega (arith, readable, first);
       known = omega (arith, known, later);

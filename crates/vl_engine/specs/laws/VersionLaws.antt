@@ -20,16 +20,38 @@ use Rattle.vl_layout.specs.declared.layout.Layout.{Layout}
 use Rattle.vl_layout.specs.declared.segment.Segment.{Segment}
 use Rattle.vl_model.specs.Entries.{in_order}
 use Rattle.vl_model.specs.History.{History}
-use Rattle.vl_model.specs.Winners.{resolved}
+use Rattle.vl_block.specs.Cutting.{joined}
+use Rattle.vl_model.specs.Winners.{Logs, resolved}
 use Rattle.vl_model.specs.declared.entry.Body.TheVariants.{Inline, Gone, Far, Logged}
 use Rattle.vl_model.specs.declared.entry.Body.{Body}
 use Rattle.vl_model.specs.declared.entry.Entry.{Entry}
 use Rattle.vl_recover.specs.opening.Answers.{Finds}
 use Rattle.vl_seglog.specs.declared.sealed.SealedLog.{SealedLog}
-use Rattle.vl_version.specs.Sources.{AreTold, HasEntries, LeadsIn, held_entries, in_memory, stored_in}
+use Rattle.vl_table.specs.OfTables.{AreOf}
+use Rattle.vl_table.specs.declared.table.Table.{Table}
+use Rattle.vl_version.specs.Sources.{AreTold, HasEntries, LeadsIn, held_entries, in_memory, stored_in, tables_in}
+use Rattle.vl_version.specs.declared.levels.Levels.{Levels}
+use Rattle.vl_version.specs.levels.LevelTables.{AreAllApart, AreApart, all_tables}
+use Rattle.vl_version.specs.levels.LevelsLooked.{AreInOrder, tables_of}
 use Rattle.vl_version.specs.declared.version.Version.{Version}
 
--- ---- where no log is sealed
+-- ---- where no log is sealed, and there are no tables
+
+-- where there are no tables, those of each level are in order
+pub levels_of_none : {H : Type 0} (levels : Levels H) → tables_of levels ≡ [] → AreInOrder levels
+levels_of_none {H} levels none = by levels.deeper.items (back levels.newest.items (all_tables levels.deeper.items) none)
+  where
+    back : (ts us : List (Table H)) → ts ++ us ≡ [] → us ≡ []
+    back [] us is = is
+    back (t ∷ ts) us is = absurd cc
+
+    front : (ts us : List (Table H)) → ts ++ us ≡ [] → ts ≡ []
+    front [] us is = refl
+    front (t ∷ ts) us is = absurd cc
+
+    by : (ls : List (List (Table H))) → all_tables ls ≡ [] → AreAllApart ls
+    by [] is = tt
+    by (ts ∷ ls) is = (subst AreApart (sym (front ts (all_tables ls) is)) tt, by ls (back ts (all_tables ls) is))
 
 module _ {H : Type 0} (bytes : H → Option (List ℕ)) (version : Version H) (none : version.behind.logs.items ≡ []) where
   leads_nowhere : (key : List ℕ) (body : Body)
@@ -45,12 +67,26 @@ module _ {H : Type 0} (bytes : H → Option (List ℕ)) (version : Version H) (n
   all_nowhere (e ∷ es) = (leads_nowhere e.key e.body, all_nowhere es)
 
   -- The entries in memory are all that there are.
-  pub has_entries : (es : List Entry) → es ≡ in_memory version → HasEntries bytes version es no_logs
-  has_entries es are = record {
-    entries = are;
+  pub has_entries : tables_in version ≡ [] → (es : List Entry) → es ≡ in_memory version → HasEntries bytes version es no_logs
+  has_entries untabled es are = record {
+    tabled = [];
+    tables = subst (λ (ts : List (Table H)). AreOf bytes ts []) (sym untabled) tt;
+    in_order = levels_of_none version.behind.levels untabled;
+    entries = are ∙ sym (append-nil (in_memory version));
     told = subst (AreTold bytes) (sym none) (record { told = tt; rising = tt });
     leads = all_nowhere es;
   }
+
+-- and what a version holds is in memory
+pub entries_held : {H : Type 0} (bytes : H → Option (List ℕ)) (version : Version H) (es : List Entry) (logs : Logs)
+    → tables_in version ≡ [] → HasEntries bytes version es logs → es ≡ in_memory version
+entries_held {H} bytes version es logs none has =
+    has.entries ∙ ap (λ (l : List Entry). in_memory version ++ l)
+    (by has.tabled (subst (λ (ts : List (Table H)). AreOf bytes ts has.tabled) none has.tables)) ∙ append-nil (in_memory version)
+  where
+    by : (ess : List (List Entry)) → AreOf bytes [] ess → joined ess ≡ []
+    by [] are = refl
+    by (es ∷ ess) are = absurd are
 
 -- ---- at the start
 

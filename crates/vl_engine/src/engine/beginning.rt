@@ -10,6 +10,7 @@ ghost use Rattle.vl_model.specs.History.{History};
 
 use crate::{BeginFail, Engine, Txn, View};
 use vl_disk::Disk;
+use vl_table::{BlockReader, KEPT_BLOCKS};
 use vl_txn::{Reads, Writes};
 
 impl<D: Disk> Engine<D> {
@@ -68,6 +69,7 @@ impl<D: Disk> Engine<D> {
         let Ok(reader) = self.disk.reader(self.alloc) else {
             return Err(BeginFail::NoMemory);
         };
+        let reader = BlockReader::new(self.alloc, reader, KEPT_BLOCKS)?;
         let version = self.core.version.share()?;
         match self.core.front.begin() {
             Ok(ticket) => Ok(View {

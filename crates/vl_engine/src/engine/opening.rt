@@ -26,7 +26,7 @@ use std::alloc::Global;
 use vl_disk::Disk;
 use vl_front::Front;
 use vl_recover::{Parts, recover};
-use vl_version::Version;
+use vl_version::{Levels, Version};
 
 impl<D: Disk> Engine<D> {
     /// Opens the store on a disk, or makes one where nothing stands. Each log may have so many bytes.
@@ -104,7 +104,7 @@ impl<D: Disk> Engine<D> {
             alloc,
             disk,
             core: Core {
-                version: Version::new(alloc, frozen, Vec::new(alloc)),
+                version: Version::new(alloc, frozen, Levels::none(alloc), Vec::new(alloc)),
                 front: Front::new(alloc, number, active, room),
                 back: Back {
                     manifest,

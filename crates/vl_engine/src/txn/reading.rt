@@ -39,7 +39,7 @@ impl<H: HeldFile, R: Reader<Held = H> + Drop> Txn<H, R> {
         ensures kept { OnErr result (NotesNothing self.old self.new) }
 
         // A fault is the reader's. What is seen is never damaged, and while there are no tables nothing of it is read.
-        ensures cause { HasCause (R.faults self.old.reader) (R.faults self.new.reader) (ReadFailed result) }
+        ensures cause { HasCause (R.faults self.old.reader.reader) (R.faults self.new.reader.reader) (ReadFailed result) }
         ensures sound { (h : History) (reads : List Read) → Sees H.bytes self.old h reads → IsSound result }
     {
         check_key(key)?;
@@ -59,7 +59,7 @@ impl<H: HeldFile, R: Reader<Held = H> + Drop> Txn<H, R> {
         ensures keeps { OnlyNotes self.old self.new }
         ensures refused { IsRefusedBy (refused_key key.now) result }
         ensures kept { OnErr result (NotesNothing self.old self.new) }
-        ensures cause { HasCause (R.faults self.old.reader) (R.faults self.new.reader) (ReadFailed result) }
+        ensures cause { HasCause (R.faults self.old.reader.reader) (R.faults self.new.reader.reader) (ReadFailed result) }
         ensures sound { (h : History) (reads : List Read) → Sees H.bytes self.old h reads → IsSound result }
     {
         Ok(self.get(key)?.map(tagged_value))
@@ -79,7 +79,7 @@ impl<H: HeldFile, R: Reader<Held = H> + Drop> Txn<H, R> {
         ensures keeps { OnlyNotes self.old self.new }
         ensures refused { IsRefusedBy (refused_bounds low.now high.now) result }
         ensures kept { OnErr result (NotesNothing self.old self.new) }
-        ensures cause { HasCause (R.faults self.old.reader) (R.faults self.new.reader) (ReadFailed result) }
+        ensures cause { HasCause (R.faults self.old.reader.reader) (R.faults self.new.reader.reader) (ReadFailed result) }
         ensures sound { (h : History) (reads : List Read) → Sees H.bytes self.old h reads → IsSound result }
     {
         check_bound(low)?;
@@ -112,7 +112,7 @@ impl<H: HeldFile, R: Reader<Held = H> + Drop> Txn<H, R> {
         ensures keeps { OnlyNotes self.old self.new }
         ensures allowed { IsRefusedBy None result }
         ensures kept { OnErr result (NotesNothing self.old self.new) }
-        ensures cause { HasCause (R.faults self.old.reader) (R.faults self.new.reader) (ReadFailed result) }
+        ensures cause { HasCause (R.faults self.old.reader.reader) (R.faults self.new.reader.reader) (ReadFailed result) }
         ensures sound { (h : History) (reads : List Read) → Sees H.bytes self.old h reads → IsSound result }
     {
         let value = self

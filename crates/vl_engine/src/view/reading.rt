@@ -27,7 +27,7 @@ impl<H: HeldFile, R: Reader<Held = H> + Drop> View<H, R> {
             → IfOk result (λ value. value ≡ value_at h self.old.number key.now) }
         ensures keeps { OnlyReads self.old self.new }
         ensures refused { IsRefusedBy (refused_key key.now) result }
-        ensures cause { HasCause (R.faults self.old.reader) (R.faults self.new.reader) (ReadFailed result) }
+        ensures cause { HasCause (R.faults self.old.reader.reader) (R.faults self.new.reader.reader) (ReadFailed result) }
         ensures sound { (h : History) → SeesAlone H.bytes self.old h → IsSound result }
     {
         check_key(key)?;
@@ -43,7 +43,7 @@ impl<H: HeldFile, R: Reader<Held = H> + Drop> View<H, R> {
             → IfOk result (λ value. value ≡ with_its_tag (value_at h self.old.number key.now)) }
         ensures keeps { OnlyReads self.old self.new }
         ensures refused { IsRefusedBy (refused_key key.now) result }
-        ensures cause { HasCause (R.faults self.old.reader) (R.faults self.new.reader) (ReadFailed result) }
+        ensures cause { HasCause (R.faults self.old.reader.reader) (R.faults self.new.reader.reader) (ReadFailed result) }
         ensures sound { (h : History) → SeesAlone H.bytes self.old h → IsSound result }
     {
         Ok(self.get(key)?.map(tagged_value))
@@ -57,7 +57,7 @@ impl<H: HeldFile, R: Reader<Held = H> + Drop> View<H, R> {
         ensures keeps { OnlyReads self.old self.new }
         ensures refused { IsRefusedInto (refused_key key.now) result }
         ensures kept { IsErr result → (refused_key key.now ≡ None → ⊥) → out.new ≡ out.old }
-        ensures cause { HasCause (R.faults self.old.reader) (R.faults self.new.reader) (ReadIntoFailed result) }
+        ensures cause { HasCause (R.faults self.old.reader.reader) (R.faults self.new.reader.reader) (ReadIntoFailed result) }
         ensures sound { (h : History) → SeesAlone H.bytes self.old h → IsSoundInto result }
     {
         check_key(key)?;
@@ -79,7 +79,7 @@ impl<H: HeldFile, R: Reader<Held = H> + Drop> View<H, R> {
             → IfOk result (λ rows. rows.items ≡ rows_under empty h self.old.number low.now high.now limit way) }
         ensures keeps { OnlyReads self.old self.new }
         ensures refused { IsRefusedBy (refused_bounds low.now high.now) result }
-        ensures cause { HasCause (R.faults self.old.reader) (R.faults self.new.reader) (ReadFailed result) }
+        ensures cause { HasCause (R.faults self.old.reader.reader) (R.faults self.new.reader.reader) (ReadFailed result) }
         ensures sound { (h : History) → SeesAlone H.bytes self.old h → IsSound result }
     {
         check_bound(low)?;

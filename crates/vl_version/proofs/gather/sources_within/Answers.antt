@@ -1,28 +1,33 @@
-use Rattle.std.proofs.Common.{◌++◌, subst, List, map}
+use Rattle.std.proofs.Common.{◌++◌, sym, subst, List}
 use Rattle.std.specs.FinMap.{entries}
-use Rattle.vl_memtable.specs.Contents.{Contents}
-use Rattle.vl_model.specs.declared.entry.Entry.{Entry}
-use Rattle.vl_version.specs.Gathered.{GiveWinners}
-use Rattle.vl_version.specs.Gives.{left_in}
+use Rattle.vl_block.specs.Cutting.{joined}
+use Rattle.vl_memtable.specs.declared.frozen_log.FrozenLog.{FrozenLog}
+use Rattle.vl_model.specs.declared.span.Span.{Span}
+use Rattle.vl_version.specs.Gathered.{Adds, IsQuiet}
 use Rattle.vl_version.specs.Own.{own_entries}
-use Rattle.vl_version.proofs.GatherLaws.{gather_first, gather_next}
+use Rattle.vl_version.specs.Sources.{held_entries}
+use Rattle.vl_version.proofs.Telling.{adds_then}
 use Rattle.vl_version.proofs.gather.sources_within.Goals as goal
 
-pub loop-log-init : goal.loop-log-init
-loop-log-init g c =
-    gather_first c.args.wanted.low.now c.args.wanted.high.now c.args.wanted.way
-    (own_entries c.args.number (entries c.args.own.now)) c.args.active.now.entries
-    c.in_ok-span.span c.in_ok-span.ensures (map left_in c.in_ok-sources.sources.items) (map left_in c.add_memtable.new.sources.items)
-    c.in_ok-sources.ensures c.in_ok-add_memtable.ensures
-
-pub loop-log-preserved : goal.loop-log-preserved
-loop-log-preserved g c =
+pub returns-clause-winners : goal.returns-clause-winners
+returns-clause-winners g c tabled are in_order =
+    let bytes = g.H.HeldFile.bytes in
     let way = c.args.wanted.way in
-    let log = c.log-item.result in
-    gather_next c.args.wanted.low.now c.args.wanted.high.now way (own_entries c.args.number (entries c.args.own.now))
-    c.args.active.now.entries
-    c.in_ok-span.span c.in_ok-span.ensures (map left_in c.loop-log.sources.items) (map left_in c.add_memtable-in-loop-log.new.sources.items)
-    c.args.frozen.now c.loop-log.log-index log c.loop-log-test.true c.log-item.is c.loop-log.invariant
-    (subst (λ (m : Contents). (es : List Entry) → GiveWinners c.in_ok-span.span way es (map left_in c.loop-log.sources.items)
-    → GiveWinners c.in_ok-span.span way (es ++ m.entries) (map left_in c.add_memtable-in-loop-log.new.sources.items)) c.memtable.ensures
-    c.in_ok-add_memtable-2.ensures)
+    let span = c.in_ok-span.span in
+    let held = held_entries c.args.behind.now.frozen.items in
+    let first = c.in_ok-sources.sources.items in
+    let then_active = c.add_memtable.new.sources.items in
+    let then_frozen = c.add_frozen.new.sources.items in
+    let all = c.add_levels.new.sources.items in
+    let frozen = subst (λ (l : List FrozenLog). Adds bytes span way (held_entries l) then_active then_frozen) c.deref.ensures.value
+    c.in_ok-add_frozen.ensures.winners in
+    subst (λ (s : Span). Adds bytes s way ((c.args.active.now.entries ++ held) ++ joined tabled) first all) c.in_ok-span.ensures
+    (adds_then bytes span way (c.args.active.now.entries ++ held) (joined tabled) first then_frozen all
+    (adds_then bytes span way c.args.active.now.entries held first then_active then_frozen c.in_ok-add_memtable.ensures.winners frozen)
+    (c.in_ok-add_levels.ensures.winners tabled are in_order))
+    (own_entries c.args.number (entries c.args.own.now)) c.in_ok-sources.ensures.winners
+
+pub returns-clause-quiet : goal.returns-clause-quiet
+returns-clause-quiet g c none =
+    subst (IsQuiet g.H.HeldFile.bytes) (sym (c.in_ok-add_levels.ensures.quiet none))
+    (c.in_ok-add_frozen.ensures.quiet (c.in_ok-add_memtable.ensures.quiet c.in_ok-sources.ensures.quiet))

@@ -3,6 +3,7 @@ use Rattle.std.specs.Prelude.{max}
 use Rattle.vl_engine.proofs.Opened.{opened_back, opened_represents, opened_stands, opening_through}
 use Rattle.vl_engine.proofs.engine.Engine.open.Goals as goal
 use Rattle.vl_memtable.specs.Contents.{Contents}
+use Rattle.vl_version.specs.levels.LevelsLooked.{tables_of}
 
 pub returns-in-Err-clause-through : goal.returns-in-Err-clause-through
 returns-in-Err-clause-through g c state read h told durable is_read shown =
@@ -30,6 +31,7 @@ returns-clause-stands g c state read found h told is_read shown =
       version_number = refl;
       active = ap (λ (held : Contents). held.entries) c.new-2.ensures.active;
       frozen = c.new-2.ensures.frozen;
+      without_tables = ap tables_of c.new-2.ensures.levels ∙ c.none.ensures;
       alone = c.new-2.ensures.logs ∙ c.new.ensures.items;
     }) read found other opened g.D.Held.HeldFile.bytes c.in-Ok.ensures.active c.requires h shown
 
@@ -81,6 +83,7 @@ returns-clause-represents g c state read found h told may is_read shown =
       version_number = refl;
       active = ap (λ (held : Contents). held.entries) c.new-2.ensures.active;
       frozen = c.new-2.ensures.frozen;
+      without_tables = ap tables_of c.new-2.ensures.levels ∙ c.none.ensures;
       alone = c.new-2.ensures.logs ∙ c.new.ensures.items;
     }) read found other opened g.D.Held.HeldFile.bytes c.in-Ok.ensures.active c.requires h shown _ now told_now
     (c.in-Ok.ensures.held state now read found told may is_read told_now)

@@ -2,7 +2,8 @@ use Rattle.std.proofs.Common.{◌≡◌, Option, Some}
 use Rattle.vl_model.specs.Keys.{Stored}
 use Rattle.vl_model.specs.Winners.{resolved_at, winner}
 use Rattle.vl_version.specs.Answers.{IsAstray}
-use Rattle.vl_engine.proofs.Seeing.{fault_sound}
+use Rattle.vl_version.specs.laws.NoTables.{no_files}
+use Rattle.vl_engine.proofs.Seeing.{fault_sound, reads_untabled}
 use Rattle.vl_engine.specs.laws.ReadLaws.{none_astray}
 use Rattle.vl_engine.proofs.view.View.get.Goals as goal
 
@@ -10,5 +11,7 @@ pub returns-in_err-get-clause-sound : goal.returns-in_err-get-clause-sound
 returns-in_err-get-clause-sound g c h v =
     fault_sound (λ (value : Option Stored). resolved_at v.logs (winner v.entries_of c.args.key.now c.args.self.now.number) ≡ Some value)
     (IsAstray v.logs (winner v.entries_of c.args.key.now c.args.self.now.number)) (λ name place astray. none_astray v.logs v.entries_of h c.args.self.now.number v.shows c.args.key.now astray.0)
-    c.in_err-get.field-0.0 (c.in_err-get.ensures.alone v.alone) (c.in_err-get.ensures.answers v.entries_of v.logs v.has)
+    c.in_err-get.field-0.0 (c.in_err-get.ensures.alone v.alone v.without_tables)
+    (c.in_err-get.ensures.answers no_files v.entries_of v.logs
+    (reads_untabled g.H.HeldFile.bytes c.args.self.now.version c.args.self.now.reader v.without_tables) v.has)
     c.from_residual-in_err-get.result c.from_residual-in_err-get.ensures.1

@@ -51,6 +51,4 @@ steps-preserved g c =
       read = reads_one bytes fn e f (goes_on fn d e before.goes stays.goes)
           (reads_on bytes fn d e before.goes before.read (λ rises. unread_stays d e stays)) there;
       goes = goes_on fn d f before.goes (goes_on d e f stays.goes goes);
-      front = before.front;
-      others = before.others;
     }

@@ -7,11 +7,9 @@ abbrev pub invariant-steps : goal.invariant-steps
 invariant-steps g l = record {
   left : Keeps (cursor_left g.H.HeldFile.bytes l.fn.self) (cursor_left g.H.HeldFile.bytes l.self);
   budget : cursor_budget l.self ≤ cursor_budget l.fn.self;
-  steady : g.R.Reader.faults l.reader.reader ≡ g.R.Reader.faults l.initial.reader.reader;
+  steady : g.R.Reader.faults l.reader ≡ g.R.Reader.faults l.initial.reader;
   read : HasRead g.H.HeldFile.bytes l.fn.self l.self;
   goes : GoesOn l.fn.self l.self;
-  front : l.reader.front ≡ l.initial.reader.front;
-  others : l.reader.others ≡ l.initial.reader.others;
 }
 
 abbrev pub decreases-steps : goal.decreases-steps

@@ -1,10 +1,128 @@
-use Rattle.std.proofs.Common.{ap, ◌∙◌}
+use Rattle.std.proofs.Common.{ap, sym, subst, ◌∙◌, List, Option}
+use Rattle.std.specs.Prelude.{Err, Ok}
+use Rattle.std.specs.Option.{option_map}
+use Rattle.std.proofs.lemmas.Result.{err_from_is_err_and}
+use Rattle.vl_block.specs.Founds.{found_of}
+use Rattle.vl_block.specs.declared.found.Found.{Found as TableFound}
+use Rattle.vl_disk.specs.Faults.{HasCause}
+use Rattle.vl_model.specs.Winners.{newest_of, winner}
+use Rattle.vl_model.specs.declared.entry.Entry.{Entry}
+use Rattle.vl_seglog.specs.declared.sealed.SealedLog.{SealedLog}
+use Rattle.vl_version.specs.Answers.{Fills, IsAstray, IsFound}
+use Rattle.vl_version.specs.Faults.{Failed}
+use Rattle.vl_version.specs.Newest.{newest_entry, stand_in}
+use Rattle.vl_version.specs.Sources.{AreTold, stored_in}
 use Rattle.vl_version.specs.declared.behind.Behind.{Behind}
-use Rattle.vl_version.proofs.LookLaws.{filled_of}
+use Rattle.vl_version.specs.declared.found.Found.{Found}
+use Rattle.vl_version.specs.declared.levels.look.Look.TheVariants.{UpTo}
+use Rattle.vl_version.specs.levels.LevelsLooked.{tables_of}
+use Rattle.vl_version.proofs.FaultLaws.{handed_cause, handed_failure}
+use Rattle.vl_version.proofs.LookLaws.{fault_answers, filled_of}
+use Rattle.vl_version.proofs.NewestLaws.{newest_wins}
+use Rattle.vl_version.proofs.OverLaws.{laid_behind, no_fault, on_version, over_fault, over_found, reads_behind}
 use Rattle.vl_version.proofs.version.Version.get_into.Goals as goal
 
-pub returns-in-Some-clause-answers : goal.returns-in-Some-clause-answers
-returns-in-Some-clause-answers g c es logs has =
-    let held = c.deref.ensures.value ∙ ap (λ (b : Behind g.row.H.Denot). b.logs.items) c.as_ref.ensures in
-    filled_of g.H.HeldFile.bytes c.args.self.now es logs has c.args.key.now c.args.number c.in-Some.entry.now c.in-Some.ensures
-    c.deref.result.now held c.args.out.now c.resolve_into.new.out c.resolve_into.result c.resolve_into.ensures.answers
+pub returns-clause-answers : goal.returns-clause-answers
+returns-clause-answers g c files es logs reads has =
+    let bytes = g.H.HeldFile.bytes in
+    let self = c.args.self.now in
+    let key = c.args.key.now in
+    let number = c.args.number in
+    let b = c.as_ref-behind.result.now in
+    let behind = c.as_ref-behind.ensures in
+    let stands = c.stand_in.ensures ∙ ap stand_in c.find_held-held.ensures in
+    let on = on_version bytes self key number b behind c.stand_in.result stands _ _ (Ok c.in_ok-found.found)
+    (c.in_ok-found.ensures.answers files (reads_behind bytes self key number b behind c.stand_in.result stands files c.args.reader.now reads)) in
+    let wins = c.newer_of-counts.ensures key
+    ∙ ap (λ (w : Option Entry). newest_of w (option_map (found_of key) c.in_ok-found.found)) c.find_held-held.ensures
+    ∙ newest_wins bytes self es logs has key number c.in_ok-found.found _ _ on in
+    let held = c.deref.ensures.value ∙ ap (λ (d : Behind g.row.H.Denot). d.logs.items) behind in
+    filled_of bytes self es logs has key number (newest_entry key c.newer_of-counts.result) wins c.deref.result.now held c.args.out.now c.resolve_newest_into.new.out
+    c.resolve_newest_into.result c.resolve_newest_into.ensures.answers
+
+pub returns-in_err-found-clause-answers : goal.returns-in_err-found-clause-answers
+returns-in_err-found-clause-answers g c files es logs reads has =
+    let bytes = g.H.HeldFile.bytes in
+    let self = c.args.self.now in
+    let key = c.args.key.now in
+    let number = c.args.number in
+    let b = c.as_ref-behind.result.now in
+    let behind = c.as_ref-behind.ensures in
+    let stands = c.stand_in.ensures ∙ ap stand_in c.find_held-held.ensures in
+    let p = err_from_is_err_and c.from_residual.result c.from_residual.ensures.1 in
+    fault_answers bytes self es logs has key number (IsFound logs (winner es key number) c.args.out.now c.args.out.now)
+    (IsAstray logs (winner es key number)) c.in_err-found.field-0.0 _ _ _ c.from_residual.result (p.1 ∙ ap Err p.2)
+    (on_version bytes self key number b behind c.stand_in.result stands _ _ (Err c.in_err-found.field-0.0)
+    (c.in_err-found.ensures.answers files (reads_behind bytes self key number b behind c.stand_in.result stands files c.args.reader.now reads)))
+
+pub returns-clause-looks : goal.returns-clause-looks
+returns-clause-looks g c files reads laid told =
+    let bytes = g.H.HeldFile.bytes in
+    let self = c.args.self.now in
+    let key = c.args.key.now in
+    let number = c.args.number in
+    let b = c.as_ref-behind.result.now in
+    let behind = c.as_ref-behind.ensures in
+    let stands = c.stand_in.ensures ∙ ap stand_in c.find_held-held.ensures in
+    let held = c.deref.ensures.value ∙ ap (λ (d : Behind g.row.H.Denot). d.logs.items) behind in
+    let now = reads_behind bytes self key number b behind c.stand_in.result stands files c.args.reader.now reads in
+    let laid_then = laid_behind bytes self key number b behind c.stand_in.result stands laid in
+    over_found bytes self key number b behind c.stand_in.result stands (λ (w : Option Entry). Fills (stored_in bytes self.behind.logs.items) w c.args.out.now c.resolve_newest_into.new.out)
+    c.resolve_newest_into.result c.in_ok-found.found (newest_entry key c.newer_of-counts.result)
+    (c.in_ok-found.ensures.looks files now laid_then)
+    (c.newer_of-counts.ensures key
+    ∙ ap (λ (w : Option Entry). newest_of w (option_map (found_of key) c.in_ok-found.found)) c.find_held-held.ensures)
+    (subst (λ (l : List (SealedLog g.row.H.Denot)). Fills (stored_in bytes l) (newest_entry key c.newer_of-counts.result) c.args.out.now c.resolve_newest_into.new.out c.resolve_newest_into.result) held
+    (c.resolve_newest_into.ensures.answers (subst (AreTold bytes) (sym held) told)))
+
+pub returns-in_err-found-clause-looks : goal.returns-in_err-found-clause-looks
+returns-in_err-found-clause-looks g c files reads laid told =
+    let bytes = g.H.HeldFile.bytes in
+    let self = c.args.self.now in
+    let key = c.args.key.now in
+    let number = c.args.number in
+    let b = c.as_ref-behind.result.now in
+    let behind = c.as_ref-behind.ensures in
+    let stands = c.stand_in.ensures ∙ ap stand_in c.find_held-held.ensures in
+    let now = reads_behind bytes self key number b behind c.stand_in.result stands files c.args.reader.now reads in
+    let laid_then = laid_behind bytes self key number b behind c.stand_in.result stands laid in
+    let p = err_from_is_err_and c.from_residual.result c.from_residual.ensures.1 in
+    over_fault bytes self key number b behind c.stand_in.result stands (λ (w : Option Entry). Fills (stored_in bytes self.behind.logs.items) w c.args.out.now c.args.out.now)
+    c.from_residual.result c.in_err-found.field-0.0 (c.in_err-found.ensures.looks files now laid_then) (p.1 ∙ ap Err p.2)
+
+pub returns-clause-alone : goal.returns-clause-alone
+returns-clause-alone g c none untabled =
+    c.resolve_newest_into.ensures.alone (c.deref.ensures.value ∙ ap (λ (d : Behind g.row.H.Denot). d.logs.items) c.as_ref-behind.ensures ∙ none)
+
+pub returns-in_err-found-clause-alone : goal.returns-in_err-found-clause-alone
+returns-in_err-found-clause-alone g c none untabled failed =
+    let b = c.as_ref-behind.result.now in
+    let p = err_from_is_err_and c.from_residual.result c.from_residual.ensures.1 in
+    no_fault g.H.HeldFile.bytes b.levels (UpTo c.args.number) c.args.key.now _ _ _ c.args.reader.now (Err c.in_err-found.field-0.0)
+    (ap (λ (d : Behind g.row.H.Denot). tables_of d.levels) c.as_ref-behind.ensures ∙ untabled) c.in_err-found.ensures.answers
+    (handed_failure Found (Option TableFound) c.in_err-found.field-0.0 c.from_residual.result (p.1 ∙ ap Err p.2) failed)
+
+pub returns-clause-kept : goal.returns-clause-kept
+returns-clause-kept g c files reads =
+    let self = c.args.self.now in
+    let b = c.as_ref-behind.result.now in
+    let kept = c.find.ensures.kept files
+    (reads_behind g.H.HeldFile.bytes self c.args.key.now c.args.number b c.as_ref-behind.ensures c.stand_in.result
+    (c.stand_in.ensures ∙ ap stand_in c.find_held-held.ensures) files c.args.reader.now reads) in
+    record { front = kept.front; others = kept.others }
+
+pub returns-in_err-found-clause-kept : goal.returns-in_err-found-clause-kept
+returns-in_err-found-clause-kept g c files reads =
+    c.find.ensures.kept files
+    (reads_behind g.H.HeldFile.bytes c.args.self.now c.args.key.now c.args.number c.as_ref-behind.result.now c.as_ref-behind.ensures
+    c.stand_in.result (c.stand_in.ensures ∙ ap stand_in c.find_held-held.ensures) files c.args.reader.now reads)
+
+pub returns-clause-cause : goal.returns-clause-cause
+returns-clause-cause g c =
+    subst (λ n. HasCause n (g.R.Reader.faults c.resolve_newest_into.new.reader) (Failed c.resolve_newest_into.result))
+    (c.in_ok-found.ensures.cause.steady (λ none. none)) c.resolve_newest_into.ensures.cause
+
+pub returns-in_err-found-clause-cause : goal.returns-in_err-found-clause-cause
+returns-in_err-found-clause-cause g c =
+    let p = err_from_is_err_and c.from_residual.result c.from_residual.ensures.1 in
+    handed_cause Found (Option TableFound) _ _ c.in_err-found.field-0.0 c.from_residual.result (p.1 ∙ ap Err p.2) c.in_err-found.ensures.cause

@@ -1,20 +1,21 @@
-use Rattle.std.proofs.Common.{◌≡◌, ◌++◌, ap, sym, subst, ◌∙◌, List, ℕ, map}
+use Rattle.std.proofs.Common.{◌≡◌, ◌++◌, ap, sym, subst, ◌∙◌, List, ℕ}
 use Rattle.std.specs.FinMap.{entries}
 use Rattle.std.specs.List.{flat_map}
 use Rattle.std.specs.Option.{option_map}
-use Rattle.vl_memtable.specs.declared.frozen_log.FrozenLog.{FrozenLog}
+use Rattle.vl_block.specs.Cutting.{joined}
 use Rattle.vl_merge.specs.MergeOf.{merge_of}
 use Rattle.vl_merge.specs.Merging.{merged}
 use Rattle.vl_merge.specs.Visible.{visible}
 use Rattle.vl_model.specs.Winners.{resolved_at, winner}
 use Rattle.vl_model.specs.declared.entry.Entry.{Entry}
 use Rattle.vl_seglog.specs.declared.sealed.SealedLog.{SealedLog}
-use Rattle.vl_version.specs.Gathered.{GiveWinners, span_of}
-use Rattle.vl_version.specs.Gives.{left_in}
+use Rattle.vl_table.specs.OfTables.{AreOf}
+use Rattle.vl_version.specs.Gathered.{TellWinners, span_of}
 use Rattle.vl_version.specs.Own.{own_entries}
 use Rattle.vl_version.specs.Sources.{AreTold, held_entries, stored_in}
 use Rattle.vl_version.specs.declared.behind.Behind.{Behind}
-use Rattle.vl_version.proofs.AnswerLaws.{all_kept, none_damaged, none_fails, same_led, scan_answers, told_lefts}
+use Rattle.vl_version.specs.levels.LevelsLooked.{AreInOrder, tables_of}
+use Rattle.vl_version.proofs.AnswerLaws.{all_kept, same_led, scan_answers}
 use Rattle.vl_version.proofs.version.Version.rows.Goals as goal
 
 pub returns-clause-answers : goal.returns-clause-answers
@@ -25,16 +26,19 @@ returns-clause-answers g c es logs has =
     let wanted = c.args.wanted in
     let way = wanted.way in
     let own = own_entries number (entries c.args.own.now) in
-    let lefts : List (List Entry) = map left_in c.in_ok-sources.sources.items in
-    let all : List Entry = flat_map (λ (l : List Entry). l) lefts in
+    let sources = c.in_ok-sources.sources.items in
+    let behind : c.as_ref-behind.result.now ≡ self.behind = c.as_ref-behind.ensures in
+    let kept : c.deref.result.now ≡ self.behind.logs.items = c.deref.ensures.value
+    ∙ ap (λ (b : Behind g.row.H.Denot). b.logs.items) behind in
+    let tells : TellWinners bytes (span_of wanted.low.now wanted.high.now) way (own ++ es) sources =
+    subst (λ (l : List Entry). TellWinners bytes (span_of wanted.low.now wanted.high.now) way (own ++ l) sources)
+    (ap (λ (b : Behind g.row.H.Denot). (self.active.entries ++ held_entries b.frozen.items) ++ joined has.tabled) behind ∙ sym has.entries)
+    (c.in_ok-sources.ensures.winners has.tabled
+    (subst (λ (b : Behind g.row.H.Denot). AreOf bytes (tables_of b.levels) has.tabled) (sym behind) has.tables)
+    (subst (λ (b : Behind g.row.H.Denot). AreInOrder b.levels) (sym behind) has.in_order)) in
+    let give = tells.give in
+    let all : List Entry = flat_map (λ (l : List Entry). l) tells.left in
     let seen : List Entry = visible number (merged way all) in
-    let frozen : c.deref.result.now ≡ self.behind.frozen.items = c.deref.ensures.value
-    ∙ ap (λ (b : Behind g.row.H.Denot). b.frozen.items) c.as_ref-behind.ensures in
-    let kept : c.deref-2.result.now ≡ self.behind.logs.items = c.deref-2.ensures.value
-    ∙ ap (λ (b : Behind g.row.H.Denot). b.logs.items) c.as_ref-behind.ensures in
-    let give : GiveWinners (span_of wanted.low.now wanted.high.now) way (own ++ es) lefts =
-    subst (λ (l : List Entry). GiveWinners (span_of wanted.low.now wanted.high.now) way (own ++ l) lefts)
-    (ap (λ (l : List FrozenLog). self.active.entries ++ held_entries l) frozen ∙ sym has.entries) c.in_ok-sources.ensures in
     let led = λ (key : List ℕ). ap
     (λ (l : List (SealedLog g.row.H.Denot)). resolved_at (stored_in bytes l) (winner es key number)) kept
     ∙ same_led bytes self es logs has number key in
@@ -42,19 +46,18 @@ returns-clause-answers g c es logs has =
     let winners = λ (key : List ℕ). c.visible_entries_are_the_winners.ensures.winners way all key number in
     let left = c.new-visible.ensures.left
     ∙ ap (option_map (visible number))
-    (c.in_ok-new.ensures.left ∙ ap (merge_of way) (told_lefts c.in_ok-sources.sources.items)
-    ∙ c.merge_of_told_sources.ensures way lefts give.along) in
-    scan_answers (stored_in bytes c.deref-2.result.now) logs es number c.args.own.now wanted all seen led
+    (c.in_ok-new.ensures.left ∙ ap (merge_of way) tells.told ∙ c.merge_of_told_sources.ensures way tells.left give.along) in
+    scan_answers (stored_in bytes c.deref.result.now) logs es number c.args.own.now wanted all seen led
     (λ key. give.winners key number) along winners _
-    (λ name place bad. none_damaged c.in_ok-sources.sources.items name place
-    (c.in_ok-new.ensures.may_fail _ (c.new-visible.ensures.may_fail _ bad)))
+    (λ name place bad. tells.sound name place (c.in_ok-new.ensures.may_fail _ (c.new-visible.ensures.may_fail _ bad)))
     c.take_rows.result
     (c.take_rows.ensures.answers (subst (AreTold bytes) (sym kept) has.told) seen left
-    (all_kept (stored_in bytes c.deref-2.result.now) logs es number c.args.own.now wanted all seen led
+    (all_kept (stored_in bytes c.deref.result.now) logs es number c.args.own.now wanted all seen led
     (λ key. give.winners key number) along winners))
 
 pub returns-clause-alone : goal.returns-clause-alone
-returns-clause-alone g c none =
-    c.take_rows.ensures.alone (c.deref-2.ensures.value ∙ ap (λ (b : Behind g.row.H.Denot). b.logs.items) c.as_ref-behind.ensures ∙ none)
-    (λ fault may. none_fails c.in_ok-sources.sources.items fault
+returns-clause-alone g c none untabled =
+    let behind = c.as_ref-behind.ensures in
+    c.take_rows.ensures.alone (c.deref.ensures.value ∙ ap (λ (b : Behind g.row.H.Denot). b.logs.items) behind ∙ none)
+    (λ fault may. c.in_ok-sources.ensures.quiet (ap (λ (b : Behind g.row.H.Denot). tables_of b.levels) behind ∙ untabled) fault
     (c.in_ok-new.ensures.may_fail fault (c.new-visible.ensures.may_fail fault may)))

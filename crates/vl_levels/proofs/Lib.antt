@@ -1,7 +1,0 @@
-mod LevelLaws
-mod LookLaws
-mod LookSteps
-mod LooksSoFar
-mod Parts
-mod ReadsOfSome
-mod Through

@@ -1,4 +1,0 @@
-pub mod LevelsLooked
-pub mod LevelTables
-pub mod LookedUp
-pub mod Looks

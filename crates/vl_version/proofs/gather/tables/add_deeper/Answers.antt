@@ -1,0 +1,36 @@
+use Rattle.std.proofs.Common.{◌≡◌, refl, sym, subst, ◌∙◌, List, get_or, take}
+use Rattle.std.proofs.lemmas.List.{take_all}
+use Rattle.vl_table.specs.OfTables.{AreOf}
+use Rattle.vl_table.specs.declared.table.Table.{Table}
+use Rattle.vl_version.specs.levels.LevelTables.{AreApart, all_tables}
+use Rattle.vl_version.proofs.TableSources.{adds_next, adds_no_tables, no_level}
+use Rattle.vl_version.proofs.looking.Parts.{all_get, tables-next}
+use Rattle.vl_version.proofs.gather.tables.add_deeper.Goals as goal
+
+pub loop-level-init : goal.loop-level-init
+loop-level-init g c = record {
+  adds = λ apart. adds_no_tables g.H.HeldFile.bytes c.args.span.now c.args.way c.args.sources.now.items;
+  quiet = λ none. refl;
+}
+
+pub loop-level-preserved : goal.loop-level-preserved
+loop-level-preserved g c =
+    let bytes = g.H.HeldFile.bytes in
+    let ls = c.args.levels.now in
+    let i = c.loop-level.level-index in
+    let level = c.as_slice.result.now in
+    let is = subst (λ (l : List (Table g.row.H.Denot)). l ≡ get_or ls i l) (sym c.as_slice.ensures) c.level-item.is in
+    record {
+      adds = λ apart tabled are. adds_next bytes c.args.span.now c.args.way (all_tables (take i ls)) level c.args.sources.now.items
+          c.loop-level.sources.items c.add_tables.new.sources.items (c.loop-level.invariant.adds apart)
+          (λ more are_more. c.in_ok-add_tables.ensures.winners more are_more
+          (subst AreApart (sym is) (all_get AreApart ls i level apart c.loop-level-test.true))) tabled
+          (subst (λ (l : List (Table g.row.H.Denot)). AreOf bytes l tabled) (tables-next ls i level c.loop-level-test.true is) are);
+      quiet = λ none. c.in_ok-add_tables.ensures.quiet (no_level bytes ls i level c.loop-level-test.true is none) ∙ c.loop-level.invariant.quiet none;
+    }
+
+pub returns-clause-winners : goal.returns-clause-winners
+returns-clause-winners g c tabled are apart =
+    c.loop-level.invariant.adds apart tabled
+    (subst (λ (l : List (List (Table g.row.H.Denot))). AreOf g.H.HeldFile.bytes (all_tables l) tabled)
+    (sym (take_all c.loop-level.level-index c.args.levels.now c.loop-level-test.false)) are)

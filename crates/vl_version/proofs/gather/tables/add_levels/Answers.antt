@@ -1,0 +1,32 @@
+use Rattle.std.proofs.Common.{ap, sym, subst, ◌∙◌, List}
+use Rattle.std.proofs.lemmas.Result.{on_ok_weaker}
+use Rattle.vl_table.specs.OfTables.{AreOf}
+use Rattle.vl_table.specs.declared.table.Table.{Table}
+use Rattle.vl_version.specs.levels.LevelTables.{AreAllApart, all_tables}
+use Rattle.vl_version.proofs.TableSources.{adds_next, no_back, no_front}
+use Rattle.vl_version.proofs.gather.tables.add_levels.Goals as goal
+
+pub returns-clause-winners : goal.returns-clause-winners
+returns-clause-winners g c =
+    on_ok_weaker c.add_deeper.result
+    (λ adds tabled are in_order.
+    let bytes = g.H.HeldFile.bytes in
+    let levels = c.args.levels.now in
+    adds_next bytes c.args.span.now c.args.way levels.newest.items (all_tables levels.deeper.items) c.args.sources.now.items
+    c.add_newest.new.sources.items c.add_deeper.new.sources.items
+    (λ front are_front. c.in_ok-add_newest.ensures.winners front
+    (subst (λ (l : List (Table g.row.H.Denot)). AreOf bytes l front) (sym c.newest.ensures) are_front))
+    (λ back are_back. adds back
+    (subst (λ (l : List (List (Table g.row.H.Denot))). AreOf bytes (all_tables l) back) (sym c.deeper.ensures) are_back)
+    (subst AreAllApart (sym c.deeper.ensures) in_order)) tabled are)
+    c.add_deeper.ensures.winners
+
+pub returns-clause-quiet : goal.returns-clause-quiet
+returns-clause-quiet g c =
+    on_ok_weaker c.add_deeper.result
+    (λ quiet none.
+    let bytes = g.H.HeldFile.bytes in
+    let levels = c.args.levels.now in
+    quiet (ap all_tables c.deeper.ensures ∙ no_back bytes levels.newest.items (all_tables levels.deeper.items) none)
+    ∙ c.in_ok-add_newest.ensures.quiet (c.newest.ensures ∙ no_front bytes levels.newest.items (all_tables levels.deeper.items) none))
+    c.add_deeper.ensures.quiet

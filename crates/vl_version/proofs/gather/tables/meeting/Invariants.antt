@@ -1,0 +1,9 @@
+use Rattle.std.proofs.Common.{◌≡◌, []}
+use Rattle.vl_version.proofs.TableSources.{HaveFirst}
+use Rattle.vl_version.proofs.gather.tables.meeting.Given as goal
+
+abbrev pub invariant-loop-table : goal.invariant-loop-table
+invariant-loop-table g l = record {
+  have : HaveFirst g.H.HeldFile.bytes l.span l.tables l.table-index l.met.items;
+  none : l.tables ≡ [] → l.met.items ≡ [];
+}

@@ -1,0 +1,144 @@
+//! The tables of a scan: those whose ranges meet its interval.
+
+ghost use Rattle.std.specs.Prelude.{◌≡◌, ◌++◌, [], List, IfOk, OnOk};
+ghost use Rattle.vl_block.specs.Cutting.{joined};
+ghost use Rattle.vl_model.specs.declared.entry.Entry.{Entry};
+ghost use Rattle.vl_table.specs.OfTables.{AreOf};
+ghost use Rattle.vl_table.specs.Tables.{IsOf};
+ghost use Rattle.vl_version.specs.Gathered.{Adds, HaveWithin};
+ghost use Rattle.vl_version.specs.levels.LevelTables.{AreAllApart, AreApart, all_tables};
+ghost use Rattle.vl_version.specs.levels.LevelsLooked.{AreInOrder, tables_of};
+
+use crate::levels::{Level, Levels};
+use crate::source::Source;
+use std::alloc::{AllocError, Global};
+use std::slice;
+use vl_disk::{HeldFile, Reader};
+use vl_model::{Key, Span, Way};
+use vl_table::{Table, TableCursor};
+
+/// Cursors over the tables of all levels behind the sources that there are: one for each table of level 0, and one for each
+/// deeper level.
+pub fn add_levels<'a, H: HeldFile, R: Reader<Held = H> + Drop>(
+    alloc: Global,
+    sources: &mut Vec<Source<'a, H, R>>,
+    levels: &Levels<H>,
+    span: &Span,
+    way: Way,
+) -> Result<(), AllocError>
+    ensures winners { OnOk result ((tabled : List (List Entry)) → AreOf H.bytes (tables_of levels.now) tabled
+        → AreInOrder levels.now → Adds H.bytes span.now way (joined tabled) sources.old.items sources.new.items) }
+    ensures quiet { OnOk result (tables_of levels.now ≡ [] → sources.new.items ≡ sources.old.items) }
+{
+    add_newest(alloc, sources, levels.newest(), span, way)?;
+    add_deeper(alloc, sources, levels.deeper(), span, way)
+}
+
+// One for each of these tables.
+fn add_newest<'a, H: HeldFile, R: Reader<Held = H> + Drop>(
+    alloc: Global,
+    sources: &mut Vec<Source<'a, H, R>>,
+    tables: &[Table<H>],
+    span: &Span,
+    way: Way,
+) -> Result<(), AllocError>
+    ensures winners { OnOk result ((tabled : List (List Entry)) → AreOf H.bytes tables.now tabled
+        → Adds H.bytes span.now way (joined tabled) sources.old.items sources.new.items) }
+    ensures quiet { OnOk result (tables.now ≡ [] → sources.new.items ≡ sources.old.items) }
+{
+    for table in tables {
+        add_tables(alloc, sources, slice::from_ref(table), span, way)?;
+    }
+    Ok(())
+}
+
+// One for each of these levels.
+fn add_deeper<'a, H: HeldFile, R: Reader<Held = H> + Drop>(
+    alloc: Global,
+    sources: &mut Vec<Source<'a, H, R>>,
+    levels: &[Level<H>],
+    span: &Span,
+    way: Way,
+) -> Result<(), AllocError>
+    ensures winners { OnOk result ((tabled : List (List Entry)) → AreOf H.bytes (all_tables levels.now) tabled
+        → AreAllApart levels.now → Adds H.bytes span.now way (joined tabled) sources.old.items sources.new.items) }
+    ensures quiet { OnOk result (all_tables levels.now ≡ [] → sources.new.items ≡ sources.old.items) }
+{
+    for level in levels {
+        add_tables(alloc, sources, level.as_slice(), span, way)?;
+    }
+    Ok(())
+}
+
+// One over those of these tables whose ranges meet the interval, if there are any.
+fn add_tables<'a, H: HeldFile, R: Reader<Held = H> + Drop>(
+    alloc: Global,
+    sources: &mut Vec<Source<'a, H, R>>,
+    tables: &[Table<H>],
+    span: &Span,
+    way: Way,
+) -> Result<(), AllocError>
+    ensures winners { OnOk result ((tabled : List (List Entry)) → AreOf H.bytes tables.now tabled → AreApart tables.now
+        → Adds H.bytes span.now way (joined tabled) sources.old.items sources.new.items) }
+    ensures quiet { OnOk result (tables.now ≡ [] → sources.new.items ≡ sources.old.items) }
+{
+    let met = meeting(alloc, tables, span)?;
+    if met.is_empty() {
+        return Ok(());
+    }
+    let cursor = TableCursor::new(alloc, met, share_span(span)?, way)?;
+    sources.push(Source::Tables(cursor))?;
+    Ok(())
+}
+
+// Those of these tables whose ranges meet the interval, shared.
+fn meeting<H: HeldFile>(
+    alloc: Global,
+    tables: &[Table<H>],
+    span: &Span,
+) -> Result<Vec<Table<H>>, AllocError>
+    ensures have { IfOk result (λ met. (tabled : List (List Entry)) → AreOf H.bytes tables.now tabled
+        → HaveWithin H.bytes span.now (joined tabled) met.items) }
+    ensures none { IfOk result (λ met. tables.now ≡ [] → met.items ≡ []) }
+{
+    let mut met = Vec::new(alloc);
+    for table in tables {
+        add_if_met(&mut met, table, span)?;
+    }
+    Ok(met)
+}
+
+// A table behind others that meet the interval, if it does so itself.
+fn add_if_met<H: HeldFile>(
+    met: &mut Vec<Table<H>>,
+    table: &Table<H>,
+    span: &Span,
+) -> Result<(), AllocError>
+    ensures { OnOk result ((es fs : List Entry) → HaveWithin H.bytes span.now es met.old.items → IsOf H.bytes table.now fs
+        → HaveWithin H.bytes span.now (es ++ fs) met.new.items) }
+{
+    if !table.meets(span) {
+        return Ok(());
+    }
+    met.push(table.share()?)?;
+    Ok(())
+}
+
+fn share_span(span: &Span) -> Result<Span, AllocError>
+    ensures { IfOk result (λ shared. shared ≡ span.now) }
+{
+    Ok(Span {
+        lo: share_bound(&span.lo)?,
+        hi: share_bound(&span.hi)?,
+        closed: span.closed,
+    })
+}
+
+fn share_bound(bound: &Option<Key>) -> Result<Option<Key>, AllocError>
+    ensures { IfOk result (λ shared. shared ≡ bound.now) }
+{
+    match bound {
+        Some(key) => Ok(Some(key.share()?)),
+        None => Ok(None),
+    }
+}
