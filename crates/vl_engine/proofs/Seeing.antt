@@ -1,28 +1,36 @@
 -- What reads leave of what a transaction sees.
-use Rattle.std.specs.Prelude.{IsErrAnd, ◌≡◌, ℕ, List, [], ◌∷◌, ◌++◌, is_some, if◌then◌else◌, Option, None, Some, Result, Ok, Err}
+use Rattle.std.specs.Prelude.{IsErrAnd, ◌≡◌, ℕ, List, [], ◌∷◌, ◌++◌, is_some, if◌then◌else◌, option_and_then, Option, None, Some, Result, Ok, Err}
 use Rattle.std.specs.FinMap.{get}
 use Rattle.std.specs.Option.{option_map}
 use Rattle.std.proofs.Common.{ap, refl, sym, subst, ◌∙◌}
 use Rattle.vl_disk.specs.declared.name.Name.{Name}
-use Rattle.vl_engine.specs.Reading.{IsSound, value_under, written_value}
+use Rattle.vl_engine.specs.Reading.{IsFound, IsSound, value_under, written_value}
 use Rattle.vl_engine.specs.Refusing.{as_failed_read}
 use Rattle.vl_engine.specs.Sees.{Sees, ShowsAt}
 use Rattle.vl_engine.specs.declared.fails.ReadFail.{ReadFail}
 use Rattle.vl_engine.specs.declared.fails.ReadFail.TheVariants as fails
 use Rattle.vl_engine.specs.declared.txn.Txn.{Txn}
+use Rattle.vl_engine.specs.laws.ReadLaws.{value_led, winner_leads}
+use Rattle.vl_layout.specs.Shows.{Shows}
 use Rattle.vl_model.specs.History.{History, contents_at, value_at, value_left}
 use Rattle.vl_model.specs.Keys.{Row, Stored, Writes}
 use Rattle.vl_model.specs.Notes.{AreNotesOf}
 use Rattle.vl_model.specs.Reads.{IsExplained, IsExplainedRead, KeyRead, RangeRead, Read, rows_of}
+use Rattle.vl_model.specs.Winners.{Logs, winner}
 use Rattle.vl_model.specs.declared.change.Change.{Change}
+use Rattle.vl_model.specs.declared.entry.Entry.{Entry}
 use Rattle.vl_model.specs.declared.way.Way.{Way}
 use Rattle.vl_txn.specs.Reads.{NotesGet, NotesScan, scan_of, with_get, with_scan}
+use Rattle.vl_seglog.specs.Sealed.{IsHere, IsSmall}
 use Rattle.vl_table.specs.KeptBlocks.{ReadsOf}
 use Rattle.vl_table.specs.declared.block_reader.BlockReader.{BlockReader}
-use Rattle.vl_version.specs.Answers.{IsAnswer}
+use Rattle.vl_version.specs.Answers.{IsAnswer, value_of}
+use Rattle.vl_version.specs.Answers as held
 use Rattle.vl_version.specs.Faults.{Failed}
 use Rattle.vl_version.specs.declared.fault.ReadFault.{ReadFault as VersionFault}
 use Rattle.vl_version.specs.declared.fault.ReadFault.TheVariants as faults
+use Rattle.vl_version.specs.declared.found.Found.{Found}
+use Rattle.vl_version.specs.declared.found.Found.TheVariants as found
 use Rattle.vl_version.specs.declared.version.Version.{Version}
 use Rattle.vl_version.specs.Sources.{tables_in}
 use Rattle.vl_version.specs.laws.NoTables.{no_files, reads_of_none}
@@ -59,6 +67,18 @@ handed_on T U why sound (Err e) failed =
 pub reads_untabled : {H R : Type 0} (bytes : H → Option (List ℕ)) (version : Version H) (reader : BlockReader R)
     → tables_in version ≡ [] → ReadsOf bytes no_files reader (tables_in version)
 reads_untabled bytes version reader none = subst (ReadsOf bytes no_files reader) (sym none) (reads_of_none bytes reader)
+
+-- ---- what is read into the caller's bytes
+
+module _ (logs : Logs) (es : List Entry) (h : History) (number : ℕ) (shows : Shows logs es h (λ key. number) number) (key : List ℕ) where
+  its_value : value_of logs (winner es key number) ≡ value_at h number key
+  its_value = ap (λ (led : Option (Option Stored)). option_and_then (λ (v : Option Stored). v) led) (winner_leads logs es h number shows key)
+
+  pub found_led : (old new : List ℕ) (f : Found) → held.IsFound logs (winner es key number) old new f
+      → IsFound (value_at h number key) old new f
+  found_led old new found.None is = (sym (value_led logs es h number shows key None is.0), is.1)
+  found_led old new (found.Here len) is = subst (λ (v : Option Stored). IsHere v old new len) its_value is
+  found_led old new (found.Small len) is = subst (λ (v : Option Stored). IsSmall v old new len) its_value is
 
 -- ---- own writes
 

@@ -15,6 +15,8 @@ mod source;
 #[cfg(test)]
 mod tables;
 #[cfg(test)]
+mod version;
+#[cfg(test)]
 mod warm;
 
 pub use source::Source;

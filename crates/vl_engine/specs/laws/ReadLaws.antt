@@ -15,7 +15,15 @@ module _ (logs : Logs) (es : List Entry) (h : History) (number : ℕ) (shows : S
   pub winner_leads : (key : List ℕ) → resolved_at logs (winner es key number) ≡ Some (value_at h number key)
   winner_leads key = shows.values key number (omega arith) (omega arith)
 
-  -- so that none leads nowhere,
+  -- so that what it leads to is that,
+  pub value_led : (key : List ℕ) (value : Option Stored) → resolved_at logs (winner es key number) ≡ Some value
+      → value ≡ value_at h number key
+  value_led key value led = same value (value_at h number key) (sym led ∙ winner_leads key)
+    where
+      same : (v w : Option Stored) → Some v ≡ Some w → v ≡ w
+      same v w is = cc
+
+  -- and none leads nowhere,
   pub none_astray : (key : List ℕ) → resolved_at logs (winner es key number) ≡ None → ⊥
   none_astray key nowhere = apart (value_at h number key) (sym (winner_leads key) ∙ nowhere)
     where

@@ -4,12 +4,19 @@ use Rattle.vl_model.specs.Winners.{resolved_at, winner}
 use Rattle.vl_version.specs.Answers.{IsAstray}
 use Rattle.vl_version.specs.laws.NoTables.{no_files}
 use Rattle.vl_engine.proofs.Seeing.{fault_sound, reads_untabled, sees_get}
-use Rattle.vl_engine.specs.laws.ReadLaws.{none_astray}
+use Rattle.vl_engine.specs.laws.ReadLaws.{none_astray, value_led}
 use Rattle.vl_engine.proofs.txn.Txn.look_up.Goals as goal
 
 pub returns-clause-sees : goal.returns-clause-sees
 returns-clause-sees g c h reads sees =
     sees_get g.H.HeldFile.bytes c.args.self.now _ h reads sees c.args.key.now refl refl c.requires c.in_ok-note_get.ensures.noted
+
+pub returns-clause-value : goal.returns-clause-value
+returns-clause-value g c h reads sees =
+    let v = sees.version in
+    value_led v.logs v.entries_of h c.args.self.now.number v.shows c.args.key.now c.in_ok-value.value
+    (c.in_ok-value.ensures.answers no_files v.entries_of v.logs
+    (reads_untabled g.H.HeldFile.bytes c.args.self.now.version c.args.self.now.reader v.without_tables) v.has)
 
 pub returns-in_err-value-clause-sound : goal.returns-in_err-value-clause-sound
 returns-in_err-value-clause-sound g c h reads sees =

@@ -4,8 +4,14 @@ use Rattle.vl_model.specs.Winners.{resolved_at, winner}
 use Rattle.vl_version.specs.Answers.{IsAstray}
 use Rattle.vl_version.specs.laws.NoTables.{no_files}
 use Rattle.vl_engine.proofs.Seeing.{fault_sound, reads_untabled}
-use Rattle.vl_engine.specs.laws.ReadLaws.{none_astray}
+use Rattle.vl_engine.specs.laws.ReadLaws.{none_astray, value_led}
 use Rattle.vl_engine.proofs.view.View.get.Goals as goal
+
+pub returns-clause-value : goal.returns-clause-value
+returns-clause-value g c h v =
+    value_led v.logs v.entries_of h c.args.self.now.number v.shows c.args.key.now c.in_ok-get.field-0
+    (c.in_ok-get.ensures.answers no_files v.entries_of v.logs
+    (reads_untabled g.H.HeldFile.bytes c.args.self.now.version c.args.self.now.reader v.without_tables) v.has)
 
 pub returns-in_err-get-clause-sound : goal.returns-in_err-get-clause-sound
 returns-in_err-get-clause-sound g c h v =
