@@ -10,7 +10,7 @@ ghost use Rattle.vl_model.specs.History.{History};
 
 use crate::{BeginFail, Engine, Txn, View};
 use vl_disk::Disk;
-use vl_table::{BlockReader, KEPT_BLOCKS};
+use vl_table::BlockReader;
 use vl_txn::{Reads, Writes};
 
 impl<D: Disk> Engine<D> {
@@ -69,7 +69,8 @@ impl<D: Disk> Engine<D> {
         let Ok(reader) = self.disk.reader(self.alloc) else {
             return Err(BeginFail::NoMemory);
         };
-        let reader = BlockReader::new(self.alloc, reader, KEPT_BLOCKS)?;
+        // While no version has tables there is no block to keep: the least room is enough.
+        let reader = BlockReader::new(self.alloc, reader, 1)?;
         let version = self.core.version.share()?;
         match self.core.front.begin() {
             Ok(ticket) => Ok(View {
