@@ -251,7 +251,14 @@ fn a_commit_without_room_is_refused(rt: HostRuntime) -> Result<(), Fail> {
         let wanted = if number < 3 {
             matches!(answer, Ok(Done::At(given)) if given == number)
         } else {
-            matches!(answer, Err(CommitFail::Full { length: 86, frame: 35, .. }))
+            matches!(
+                answer,
+                Err(CommitFail::Full {
+                    length: 86,
+                    frame: 35,
+                    ..
+                })
+            )
         };
         assert!(rt; wanted, "commit {number}");
     }
