@@ -47,6 +47,12 @@ fault_sound {U = U} good bad fine faults.NoMemory alone is (Err e) failed =
 fault_sound good bad fine (faults.Disk name) alone is (Err e) failed = absurd (alone tt)
 fault_sound good bad fine (faults.Damaged name place) alone is (Err e) failed = absurd (fine name place is)
 
+-- and no damage.
+pub undamaged : {T : Type 0} (good : T → Type 0) (bad : Name → ℕ → Type 0) → ((name : Name) (place : ℕ) → bad name place → ⊥)
+    → (fault : VersionFault) → IsAnswer good bad (Err fault) → (name : Name) (place : ℕ) → fault ≡ faults.Damaged name place → ⊥
+undamaged {T} good bad fine fault is name place at =
+    fine name place (subst (λ (f : VersionFault). IsAnswer {T = T} good bad (Err f)) at is)
+
 -- a failure that is handed on is as sound
 sound_still : (T U : Type 0) (why : ReadFail) → IsSound {T = T} (Err why) → IsSound {T = U} (Err why)
 sound_still T U fails.EmptyKey sound = sound

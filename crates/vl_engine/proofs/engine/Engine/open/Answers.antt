@@ -57,6 +57,7 @@ returns-clause-back g c state read found told is_read =
       version_number = refl;
       active = ap (λ (held : Contents). held.entries) c.new-2.ensures.active;
       frozen = c.new-2.ensures.frozen;
+      without_tables = ap tables_of c.new-2.ensures.levels ∙ c.none.ensures;
       alone = c.new-2.ensures.logs ∙ c.new.ensures.items;
     }) read found other opened now (g.met.D.Disk.lawful c.in-Ok.parts.disk now told_now) (c.in-Ok.ensures.stands now told_now)
     c.in-Ok.ensures.manifest
