@@ -69,6 +69,7 @@ shows_later bytes version h k number more shows =
       logs = shows.logs;
       has = shows.has;
       shows = shows_at_later shows.logs shows.entries_of h k number more shows.known shows.shows;
+      without_tables = shows.without_tables;
       alone = shows.alone;
       readable = omega (arith, first, shows.readable);
       known = omega (arith, longer, shows.known);

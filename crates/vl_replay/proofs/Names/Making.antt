@@ -61,13 +61,13 @@ module _ {H R : Type 0} (bytes : H → Option (List ℕ)) (h : History) (l : Lay
     subst (λ (x : EngineView H R). IsLive l x.ticket x.number) (sym keeps) live,
   )
 
-  same_sees : (old : Txn H R) (reader : R) (reads : List Read) → Sees bytes old h reads → Sees bytes (record old { reader = reader }) h reads
-  same_sees old reader reads sees = record { version = sees.version; notes = sees.notes; explained = sees.explained }
+  same_sees : (old new : Txn H R) (reads : List Read) → Sees bytes old h reads → Sees bytes (record old { reader = new.reader }) h reads
+  same_sees old new reads sees = record { version = sees.version; notes = sees.notes; explained = sees.explained }
 
   pub txn_only : (old new : Txn H R) (t : ATxn) → NotesNothing old new → IsTransaction bytes old t h l → IsTransaction bytes new t h l
   txn_only old new t keeps is = record {
     same = ap (λ (x : Txn H R). asked x t.reads) keeps ∙ is.same;
-    sees = subst (λ (x : Txn H R). Sees bytes x h t.reads) (sym keeps) (same_sees old new.reader t.reads is.sees);
+    sees = subst (λ (x : Txn H R). Sees bytes x h t.reads) (sym keeps) (same_sees old new t.reads is.sees);
     live = subst (λ (x : Txn H R). IsLive l x.ticket x.number) (sym keeps) is.live;
   }
 
