@@ -1,0 +1,4 @@
+mod Files
+mod Holding
+mod Named
+mod Switching
