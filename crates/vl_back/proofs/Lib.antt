@@ -1,3 +1,5 @@
+mod Adding
+mod Coming
 mod Files
 mod Holding
 mod Named

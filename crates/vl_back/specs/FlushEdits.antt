@@ -10,7 +10,8 @@ abbrev pub head_of : ℕ → List Waiting → ℕ
 head_of active [] = active
 head_of active (w ∷ ws) = w.number
 
--- The table is put in front of level 0, the log that waits for longest is in tables, and the next numbers are these.
+-- The table is put in front of level 0, the log that waits for longest is in tables, and the next
+-- numbers are these.
 abbrev pub switch_of : ℕ → List Waiting → Back → List Edit
 switch_of active [] b = []
 switch_of active (w ∷ ws) b =
