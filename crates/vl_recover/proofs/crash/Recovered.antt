@@ -35,7 +35,7 @@ use Rattle.vl_recover.proofs.repairs.RepairingLaws.{plan_calls}
 use Rattle.vl_recover.proofs.crash.RepairingMayOpen.{repairing_may_open}
 use Rattle.vl_recover.specs.laws.repairing.RepairingOpens.{repaired_holds, repairing_opens}
 use Rattle.vl_recover.specs.laws.crash.OneName as one
-use Rattle.vl_recover.specs.opening.Opening.{Opening}
+use Rattle.vl_recover.specs.opening.Opening.{FoundTable, Opening}
 use Rattle.vl_recover.specs.repairing.PlanViews.{plan_view}
 use Rattle.vl_recover.specs.opening.Plans.{new_state}
 use Rattle.vl_recover.specs.laws.opening.ReadImage.{read_image}
@@ -52,19 +52,22 @@ some_same : (a b : DiskState) → Some a ≡ Some b → a ≡ b
 some_same a b e = cc
 
 -- what is opened is what reads give
-pub opened_same : (read : Image) (prepared : Prepared) (is : IsPrepared read prepared) → opened_by prepared ≡ opened_from is.finds
-opened_same read prepared is =
-    ap (λ (n : ℕ). of n prepared.state prepared.plan.manifest (map frozen_log prepared.frozen.items) prepared.active) is.number
-    ∙ ap (λ (s : ManifestState). of is.finds.opening.number s prepared.plan.manifest (map frozen_log prepared.frozen.items) prepared.active) is.state
-    ∙ ap (λ (m : ℕ). of is.finds.opening.number new m (map frozen_log prepared.frozen.items) prepared.active) (ap (λ (p : Plan). p.manifest) is.plan.is)
-    ∙ ap (λ (logs : List HeldLog). of is.finds.opening.number new (is.finds.greatest.manifest + 1) logs prepared.active) is.frozen
-    ∙ ap (λ (a : ℕ). of is.finds.opening.number new (is.finds.greatest.manifest + 1) (map held_log is.finds.opening.logs) a) is.active
+pub opened_same : (read : Image) (prepared : Prepared) (levels : List (List FoundTable)) (is : IsPrepared read prepared)
+    → levels ≡ is.finds.opening.levels → opened_by prepared levels ≡ opened_from is.finds
+opened_same read prepared levels is same =
+    ap (λ (n : ℕ). of n prepared.state prepared.plan.manifest levels (map frozen_log prepared.frozen.items) prepared.active) is.number
+    ∙ ap (λ (s : ManifestState). of is.finds.opening.number s prepared.plan.manifest levels (map frozen_log prepared.frozen.items) prepared.active) is.state
+    ∙ ap (λ (m : ℕ). of is.finds.opening.number new m levels (map frozen_log prepared.frozen.items) prepared.active) (ap (λ (p : Plan). p.manifest) is.plan.is)
+    ∙ ap (λ (l : List (List FoundTable)). of is.finds.opening.number new (is.finds.greatest.manifest + 1) l (map frozen_log prepared.frozen.items) prepared.active) same
+    ∙ ap (λ (logs : List HeldLog). of is.finds.opening.number new (is.finds.greatest.manifest + 1) is.finds.opening.levels logs prepared.active) is.frozen
+    ∙ ap (λ (a : ℕ). of is.finds.opening.number new (is.finds.greatest.manifest + 1) is.finds.opening.levels (map held_log is.finds.opening.logs) a) is.active
   where
     new : ManifestState
     new = new_state is.finds.greatest is.finds.opening.state
 
-    of : ℕ → ManifestState → ℕ → List HeldLog → ℕ → Opened
-    of number state manifest frozen active = record { number = number; state = state; manifest = manifest; frozen = frozen; active = active }
+    of : ℕ → ManifestState → ℕ → List (List FoundTable) → List HeldLog → ℕ → Opened
+    of number state manifest levels frozen active =
+        record { number = number; state = state; manifest = manifest; levels = levels; frozen = frozen; active = active }
 
 -- the new manifest's frame isn't too long
 abbrev pub HasFrameOf : Prepared → Type 0

@@ -15,7 +15,7 @@ use Rattle.vl_manifest.specs.Current.{StandsReadable}
 use Rattle.vl_manifest.specs.Grammar.{edits_grammar}
 use Rattle.vl_manifest.specs.Manifest.{IsReadable}
 use Rattle.vl_manifest.specs.States.{as_read}
-use Rattle.vl_recover.specs.laws.crash.MadeLaws.{SaysAsRead}
+use Rattle.vl_manifest.specs.laws.MadeLaws.{SaysAsRead}
 use Rattle.vl_manifest.specs.laws.TableLaws.{bare_told}
 use Rattle.vl_model.specs.Formats.{manifest_format}
 use Rattle.vl_manifest.specs.laws.ManifestLaws.{says_readable}

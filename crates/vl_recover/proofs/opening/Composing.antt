@@ -1,6 +1,6 @@
 -- What was found, put together.
 use Rattle.std.proofs.Common.{◌≡◌, ◌⊎◌, ℕ, ◌<◌, Bool, true, false, List, [], ◌∷◌, inl, inr, refl, sym, ap, ◌∙◌, subst, arith, ⊎_elim}
-use Rattle.std.specs.Prelude.{◌≢◌, ◌==◌, ◌||◌, not, nat_lt, AllPairs, Contains, IfSome, IsSome, filter, if◌then◌else◌, Option, None, Some, Result, Ok, Err}
+use Rattle.std.specs.Prelude.{◌≢◌, ◌==◌, ◌||◌, not, nat_lt, AllPairs, Contains, IfSome, IsErr, IsErrAnd, IsSome, filter, if◌then◌else◌, Option, None, Some, Result, Ok, Err}
 use Rattle.std.proofs.lemmas.Bool.{and_from, and_parts}
 use Rattle.std.specs.FinMap.{get}
 use Rattle.std.proofs.lemmas.Bool.Decides.{nat_tests}
@@ -14,12 +14,11 @@ use Rattle.vl_disk.specs.declared.name.Name.{Name}
 use Rattle.vl_disk.specs.declared.name.Name.TheVariants.{Log, Table, Manifest}
 use Rattle.vl_manifest.specs.declared.state.ManifestState.{ManifestState}
 use Rattle.vl_recover.specs.opening.Answers.{AnswersBy, AreStrayNames, IsStrayName}
-use Rattle.vl_recover.specs.opening.Finding.{IsFound, IsUpTo, greatest_of}
+use Rattle.vl_recover.specs.opening.Finding.{FindsSo, IsFound, IsUpTo, Leads, greatest_of}
 use Rattle.vl_recover.specs.opening.LogsSoFar.{AreLogsFound, walk_of}
 use Rattle.vl_recover.specs.opening.Named.{AreGreatestIn, IsGreatestIn, is_named, is_stray}
 use Rattle.vl_recover.specs.opening.Opening.{Current, Damaged, FoundTable, IsAmong, IsNamed, LogsFrom, NamedLevels, NamedLogs, NewerFormat, NotAStore, Opening, Opens, Refusal, led_into, opening_of}
 use Rattle.vl_recover.specs.opening.Leading.{AnswersStage}
-use Rattle.vl_recover.specs.opening.OpenedTables.{all_found}
 use Rattle.vl_recover.specs.opening.Results.{recovery_by}
 use Rattle.vl_recover.specs.declared.fails.OpenError.{OpenError}
 use Rattle.vl_recover.specs.declared.fails.OpenError.TheVariants as why
@@ -28,8 +27,10 @@ use Rattle.vl_recover.specs.opening.Plans.{AreGreatest, Greatest, IsGreatest}
 use Rattle.vl_recover.specs.opening.Walk.{LogDamage, filled}
 use Rattle.vl_recover.specs.declared.found.Findings.{Findings}
 use Rattle.vl_recover.specs.declared.found.GreatestNumbers.{GreatestNumbers}
+use Rattle.vl_recover.specs.declared.found.HeldFiles.{HeldFiles}
 use Rattle.vl_recover.specs.declared.found.LastLog.{LastLog}
 use Rattle.vl_recover.specs.declared.found.LogsFound.{LogsFound}
+use Rattle.vl_recover.proofs.opening.Handing.{of_stage}
 use Rattle.vl_recover.proofs.opening.Looking.{given}
 use Rattle.vl_recover.proofs.opening.Naming.{Contains-cases, Contains-first, Contains-later, nothing_in}
 use Rattle.vl_recover.proofs.opening.ReadingLogs.{listed, not_named}
@@ -174,16 +175,6 @@ refused_by image stage onto (why.Exhausted counter) is = absurd is
 refused_by image stage onto why.NoMemory is = tt
 refused_by image stage onto (why.Disk name) is = tt
 
--- the refusal of a stage that gives something else
-of_stage : {A B : Type 0} (first : Result A Refusal → Type 0) (second : Result B Refusal → Type 0)
-    → ((why : Refusal) → first (Err why) → second (Err why)) → (e : OpenError) → AnswersStage first (Err e) → AnswersStage second (Err e)
-of_stage first second onto why.NotAStore is = onto NotAStore is
-of_stage first second onto (why.NewerFormat format) is = onto (NewerFormat format) is
-of_stage first second onto (why.Damaged name place) is = onto (Damaged name place) is
-of_stage first second onto (why.Exhausted counter) is = absurd is
-of_stage first second onto why.NoMemory is = tt
-of_stage first second onto (why.Disk name) is = tt
-
 pub manifest_refuses : (image : Image) (e : OpenError) → AnswersStage (Current image) (Err e) → AnswersBy image (recovery_by e)
 manifest_refuses image e is = refused_by image (Opens image) (λ why o. o) e
     (of_stage (Current image) (Opens image) (λ why refused. inl refused) e is)
@@ -201,49 +192,56 @@ led_refuse image state levels current named e is = refused_by image (Opens image
 
 -- ---- the stages together
 
-module _ (image : Image) (state : ManifestState) (levels : List (List FoundTable)) (led : List ℕ) (current : Current image (Ok state))
-    (named_levels : NamedLevels false image state.levels (Ok levels)) (led_logs : NamedLogs image led (Ok tt)) (led_is : led ≡ led_into levels)
+module _ (image : Image) (state : ManifestState) (levels : List (List FoundTable)) (led : List ℕ) (leads : Leads image state levels led)
     (logs : LogsFound) (read : AreLogsFound image state.head state.covered logs) where
   opens_so : (r : Result ℕ LogDamage) → walk_of logs.number ≡ r → (o : Result Opening Refusal) → o ≡ opening_of state levels read.logs r
       → LogsFrom image state levels o
   opens_so r is o opening = (read.logs, read.standing, opening ∙ ap (opening_of state levels read.logs) (sym is ∙ read.are_read.number))
 
   behind_led : NamedLogs image (led_into levels) (Ok tt)
-  behind_led = subst (λ (l : List ℕ). NamedLogs image l (Ok tt)) led_is led_logs
+  behind_led = subst (λ (l : List ℕ). NamedLogs image l (Ok tt)) leads.led_is leads.logs
 
   -- they are damaged
   pub logs_refuse : (damage : LogDamage) → walk_of logs.number ≡ Err damage → Opens image (Err (Damaged (Log damage.log) damage.place))
   logs_refuse damage is =
-      inr (state, current, inr (levels, named_levels, inr (tt, behind_led, opens_so (Err damage) is (Err (Damaged (Log damage.log) damage.place)) refl)))
+      inr (state, leads.current, inr (levels, leads.tables, inr (tt, behind_led, opens_so (Err damage) is (Err (Damaged (Log damage.log) damage.place)) refl)))
 
-  pub is_found : {H : Type 0} (disk : DiskState) (names : List Name) (found : Findings H) → IsRead image disk → Lists names disk
+  pub is_found : (disk : DiskState) (names : List Name) (found : Findings) → IsRead image disk → Lists names disk
       → AreGreatestIn names (greatest_of found.greatest) → logs.number ≡ Ok found.number
-      → found.state ≡ state → all_found found.levels ≡ levels → found.frozen ≡ logs.frozen → found.last ≡ logs.last
+      → found.state ≡ state → found.frozen ≡ logs.frozen → found.last ≡ logs.last
       → found.strays.items ≡ filter (is_stray state led) names
-      → IsFound image found
-  is_found disk names found is lists are number same_state same_levels same_frozen same_last same_strays =
+      → (is : IsFound image found) × (levels ≡ is.finds.opening.levels)
+  is_found disk names found is lists are number same_state same_frozen same_last same_strays =
       let named = listed image disk names is lists in
       let given_all = given image disk names is lists in
       let o : Opening = record { state = state; levels = levels; logs = filled read.logs; number = found.number } in
-      record {
-        finds = record {
-          opening = o;
-          opens = (state, current, (levels, named_levels, (tt, behind_led, opens_so (Ok found.number) (ap walk_of number) (Ok o) refl)));
-          greatest = greatest_of found.greatest;
-          are_greatest = are_greatest image names named given_all (greatest_of found.greatest) are;
-          logs = read.logs;
-          standing = read.standing;
-        };
-        state = same_state;
-        levels = same_levels;
-        number = refl;
-        frozen = rw same_frozen read.are_read.frozen;
-        greatest = refl;
-        last = same_last ∙ read.are_read.last;
-        strays = subst (AreStrayNames image o) (sym same_strays) (are_strays image names named given_all lists.once o led led_is);
-      }
+      (
+        record {
+          finds = record {
+            opening = o;
+            opens = (state, leads.current, (levels, leads.tables, (tt, behind_led, opens_so (Ok found.number) (ap walk_of number) (Ok o) refl)));
+            greatest = greatest_of found.greatest;
+            are_greatest = are_greatest image names named given_all (greatest_of found.greatest) are;
+            logs = read.logs;
+            standing = read.standing;
+          };
+          state = same_state;
+          number = refl;
+          frozen = rw same_frozen read.are_read.frozen;
+          greatest = refl;
+          last = same_last ∙ read.are_read.last;
+          strays = subst (AreStrayNames image o) (sym same_strays) (are_strays image names named given_all lists.once o led leads.led_is);
+        },
+        refl,
+      )
 
 pub numbered_last : (names : List Name) (greatest : GreatestNumbers) → AreGreatestIn names (greatest_of greatest) → (last : Option LastLog)
     → IfSome last (λ q. Contains names (Log q.number)) → IsUpTo greatest.log last
 numbered_last names greatest are None named = tt
 numbered_last names greatest are (Some q) named = are.log.above q.number named
+
+-- a refusal of a stage is the answer
+pub found_handed : {H : Type 0} (image : Image) (result : Result (Findings × HeldFiles H) OpenError) (e : OpenError) → IsErr result → IsErrAnd result (λ f. f ≡ e)
+    → AnswersBy image (recovery_by e) → FindsSo image result
+found_handed image (Ok found) e failed same is = absurd (differ failed)
+found_handed image (Err f) e failed same is = subst (λ (x : OpenError). AnswersBy image (recovery_by x)) (sym same) is

@@ -6,4 +6,3 @@ pub mod OneName
 pub mod Torn
 pub mod TornFrames
 pub mod Headers
-pub mod MadeLaws

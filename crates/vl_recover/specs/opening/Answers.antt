@@ -11,7 +11,7 @@ use Rattle.vl_model.specs.declared.counter.Counter.{Counter}
 use Rattle.vl_model.specs.declared.entry.Entry.{Entry}
 use Rattle.vl_model.specs.declared.log_frame.LogFrame.{LogFrame}
 use Rattle.vl_manifest.specs.declared.state.ManifestState.{ManifestState}
-use Rattle.vl_recover.specs.opening.Opening.{IsAmong, IsNamed, Opening, Opens, Refusal, StandingLogs, led_into}
+use Rattle.vl_recover.specs.opening.Opening.{FoundTable, IsAmong, IsNamed, Opening, Opens, Refusal, StandingLogs, led_into}
 use Rattle.vl_recover.specs.opening.Plans.{AreGreatest, Greatest, active_log, calls_of_opening, exhausted, log_made, new_state}
 use Rattle.vl_recover.specs.opening.Walk.{StandingLog, format_of}
 
@@ -31,6 +31,8 @@ pub record Opened : Type 0 where
   -- what the new manifest says, and its number
   pub state : ManifestState
   pub manifest : ℕ
+  -- the tables of each level that it names
+  pub levels : List (List FoundTable)
   -- the logs with frames, rising, and the number of the one without, which takes commits
   pub frozen : List HeldLog
   pub active : ℕ
@@ -53,6 +55,7 @@ opened_from found = record {
   number = found.opening.number;
   state = new_state found.greatest found.opening.state;
   manifest = found.greatest.manifest + 1;
+  levels = found.opening.levels;
   frozen = map held_log found.opening.logs;
   active = active_log found.greatest found.opening.state found.logs;
 }

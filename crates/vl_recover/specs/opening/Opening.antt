@@ -1,7 +1,7 @@
 -- What an image opens as, stage by stage. docs/FORMATS.md tells it.
-use Rattle.std.specs.Prelude.{◌≡◌, ◌⊎◌, ◌≤◌, ◌<◌, ℕ, ◌+◌, Bool, true, false, List, [], ◌∷◌, length, Option, None, Some, Result, Ok, Err, IsSome}
+use Rattle.std.specs.Prelude.{◌≡◌, ◌⊎◌, ◌≤◌, ◌<◌, ℕ, ◌+◌, ◌==◌, nat_lt, if◌then◌else◌, Bool, true, false, List, [], ◌∷◌, length, Option, None, Some, Result, Ok, Err, IsSome}
 use Rattle.std.specs.FinMap.{get}
-use Rattle.std.specs.Ordering.{is_lt, nat_cmp}
+use Rattle.std.specs.Ordering.{is_lt}
 use Rattle.vl_block.specs.declared.points.Point.{Point}
 use Rattle.vl_disk.specs.Crash.{Image}
 use Rattle.vl_disk.specs.declared.name.Name.{Name}
@@ -11,7 +11,6 @@ use Rattle.vl_manifest.specs.Current.{IsCurrent, IsNewest, NoneCurrent, StandsNe
 use Rattle.vl_manifest.specs.Manifest.{ManifestSays}
 use Rattle.vl_manifest.specs.States.{fresh_state}
 use Rattle.vl_manifest.specs.declared.state.ManifestState.{ManifestState}
-use Rattle.vl_model.specs.Entries.{by_order}
 use Rattle.vl_model.specs.Keys.{key_cmp}
 use Rattle.vl_seglog.specs.LogReading.{HasHeader, IsLogFormat, ReadsLog}
 use Rattle.vl_table.specs.Begun.{said_place}
@@ -138,20 +137,25 @@ NamedLevels deeper image (ns ∷ levels) r =
 -- a number put at its place among rising ones, once
 abbrev pub put_number : ℕ → List ℕ → List ℕ
 put_number n [] = n ∷ []
-put_number n (m ∷ ms) = by_order (nat_cmp n m) (n ∷ m ∷ ms) (m ∷ ms) (m ∷ put_number n ms)
+put_number n (m ∷ ms) =
+    if nat_lt n m then n ∷ m ∷ ms else (if n == m then m ∷ ms else m ∷ put_number n ms)
 
+-- the segments of these points put among them
 abbrev pub put_points : List Point → List ℕ → List ℕ
 put_points [] ns = ns
-put_points (p ∷ ps) ns = put_number p.segment (put_points ps ns)
+put_points (p ∷ ps) ns = put_points ps (put_number p.segment ns)
 
 abbrev pub led_by : List FoundTable → List ℕ → List ℕ
 led_by [] ns = ns
-led_by (t ∷ ts) ns = put_points t.said.foot.points (led_by ts ns)
+led_by (t ∷ ts) ns = led_by ts (put_points t.said.foot.points ns)
 
--- the logs that footers of these tables lead into, rising
+abbrev pub led_through : List (List FoundTable) → List ℕ → List ℕ
+led_through [] ns = ns
+led_through (ts ∷ levels) ns = led_through levels (led_by ts ns)
+
+-- The logs that footers of these tables lead into, rising.
 abbrev pub led_into : List (List FoundTable) → List ℕ
-led_into [] = []
-led_into (ts ∷ levels) = led_by ts (led_into levels)
+led_into levels = led_through levels []
 
 -- it is one of these numbers
 abbrev pub IsAmong : List ℕ → ℕ → Type 0

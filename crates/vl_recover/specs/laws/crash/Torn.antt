@@ -14,7 +14,7 @@ use Rattle.vl_frame.specs.Runs.{HasFrame, StandsAt, StandsNone, item_frame}
 use Rattle.vl_frame.specs.declared.kinds.FileKind.TheVariants as files
 use Rattle.vl_manifest.specs.Grammar.{edits_grammar}
 use Rattle.vl_manifest.specs.Manifest.{IsReadable, manifest_bytes, manifest_header}
-use Rattle.vl_recover.specs.laws.crash.MadeLaws.{SaysAsRead, made_or_not}
+use Rattle.vl_manifest.specs.laws.MadeLaws.{SaysAsRead, made_or_not}
 use Rattle.vl_manifest.specs.laws.StateLaws.{IsInRange}
 use Rattle.vl_manifest.specs.States.{whole_edits}
 use Rattle.vl_manifest.specs.declared.edit.Edit.{Edit}

@@ -17,7 +17,7 @@ use Rattle.vl_disk.specs.declared.name.Name.TheVariants.{Log, Manifest, Table}
 use Rattle.vl_manifest.specs.Current.{IsCurrent, StandsReadable}
 use Rattle.vl_manifest.specs.Manifest.{IsReadable, manifest_bytes}
 use Rattle.vl_manifest.specs.States.{as_read, fresh_state, whole_edits}
-use Rattle.vl_recover.specs.laws.crash.MadeLaws.{SaysAsRead}
+use Rattle.vl_manifest.specs.laws.MadeLaws.{SaysAsRead}
 use Rattle.vl_manifest.specs.laws.ManifestLaws.{says_readable, whole_manifest}
 use Rattle.vl_manifest.specs.declared.state.ManifestState.{ManifestState}
 use Rattle.vl_model.specs.Formats.{manifest_format}
