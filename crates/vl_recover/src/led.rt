@@ -12,6 +12,7 @@ ghost use Rattle.vl_recover.specs.opening.Leading.{AnswersStage};
 ghost use Rattle.vl_recover.specs.opening.Opening as opening;
 
 use crate::OpenError;
+use crate::names::has;
 use crate::one_log::front_length;
 use crate::reading::{read_part, size_of};
 use std::alloc::{AllocError, Global};
@@ -110,7 +111,7 @@ fn test_log<D: Disk>(
     ensures no_change { ChangesNothing D.Watched disk.old disk.new (IsFault result) }
 {
     let name = Name::Log(number);
-    if !names.contains(&name) {
+    if !has(names, name) {
         return Err(OpenError::Damaged { name, place: 0 });
     }
     let length = size_of(disk, name)?;

@@ -1,5 +1,5 @@
 // What the names of the files that stand tell.
-ghost use Rattle.std.specs.Prelude.{◌≡◌, IsPermutation, filter};
+ghost use Rattle.std.specs.Prelude.{◌≡◌, ◌↔◌, Contains, IsPermutation, IsTrue, filter};
 ghost use Rattle.vl_recover.specs.opening.Finding.{greatest_of};
 ghost use Rattle.vl_recover.specs.opening.Named as named;
 
@@ -55,6 +55,24 @@ pub fn in_order(names: Vec<Name>) -> Vec<Name>
     let mut sorted = names;
     sorted.sort_unstable();
     sorted
+}
+
+/// Whether a file of this name stands.
+pub fn has(names: &[Name], name: Name) -> bool
+    ensures { IsTrue result ↔ Contains names.now name }
+{
+    for other in names {
+        if is_same(*other, name) {
+            return true;
+        }
+    }
+    false
+}
+
+fn is_same(a: Name, b: Name) -> bool
+    ensures { IsTrue result ↔ (a ≡ b) }
+{
+    a == b
 }
 
 /// The number of a log that isn't below the least.

@@ -10,6 +10,7 @@ ghost use Rattle.vl_recover.specs.opening.Finding.{FailsAtDisk, IsFaultOf, IsRea
 ghost use Rattle.vl_recover.specs.opening.OpenedTables.{IsTableFound};
 
 use crate::OpenError;
+use crate::names::has;
 use crate::reading::hold;
 use std::alloc::Global;
 use vl_disk::{Disk, Name};
@@ -32,7 +33,7 @@ pub fn open_table<D: Disk>(
     ensures no_change { ChangesNothing D.Watched disk.old disk.new (FailsAtDisk (D.Reader.faults reader.new) result) }
 {
     let name = Name::Table(number);
-    if !names.contains(&name) {
+    if !has(names, name) {
         return Err(OpenError::Damaged { name, place: 0 });
     }
     let held = hold(disk, name)?;

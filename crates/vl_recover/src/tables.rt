@@ -7,7 +7,7 @@ ghost use Rattle.vl_disk.specs.Disk.{Lists};
 ghost use Rattle.vl_disk.specs.DiskState.{DiskState};
 ghost use Rattle.vl_disk.specs.Started.{IsRead};
 ghost use Rattle.vl_recover.specs.opening.Finding.{FailsAtDisk, IsFaultOf, IsReadTable};
-ghost use Rattle.vl_recover.specs.opening.Opening.{IsAbove, NamedLevel, NamedLevels, first_key};
+ghost use Rattle.vl_recover.specs.opening.Opening.{IsAbove, NamedLevel, NamedLevels, first_key, last_key};
 ghost use Rattle.vl_recover.specs.opening.FoundTables.{all_found, found_level, found_list, found_table};
 ghost use Rattle.vl_recover.specs.opening.OpenedTables.{AnswersAs, IsNext, last_before};
 
@@ -101,11 +101,17 @@ fn is_behind<H: HeldFile>(opened: &[Table<H>], is_deeper: bool, table: &Table<H>
     if !is_deeper {
         return true;
     }
-    match opened.last() {
-        None => true,
-        Some(last) => {
-            let before = last.shape().footer.last.as_slice();
-            before.cmp(table.shape().footer.first.as_slice()).is_lt()
-        }
+    if opened.is_empty() {
+        return true;
     }
+    is_after(&opened[opened.len() - 1], table)
+}
+
+// Whether a table begins behind the last key of the one before it.
+fn is_after<H: HeldFile>(before: &Table<H>, table: &Table<H>) -> bool
+    ensures { IsTrue result ↔ IsAbove (Some (last_key (found_table before.now))) (first_key (found_table table.now)) }
+{
+    let last = before.shape().footer.last.as_slice();
+    let first = table.shape().footer.first.as_slice();
+    last.cmp(first).is_lt()
 }

@@ -6,7 +6,7 @@ use Rattle.vl_disk.specs.Calls.{ChangesNothing}
 use Rattle.vl_disk.specs.Crash.{Image, Unchanged}
 use Rattle.vl_disk.specs.Disk.{Stands}
 use Rattle.vl_disk.specs.DiskState.{DiskState, IsLawful}
-use Rattle.vl_disk.specs.Faults.{after_calls}
+use Rattle.vl_disk.specs.Faults.{HasCause, Rose, after_calls}
 use Rattle.vl_disk.specs.Moments.{HoldsThroughout, goes_by, waits}
 use Rattle.vl_disk.specs.Started.{IsRead}
 use Rattle.vl_disk.specs.declared.name.Name.{Name}
@@ -39,7 +39,7 @@ use Rattle.vl_recover.specs.opening.Opening.{FoundTable, Opening}
 use Rattle.vl_recover.specs.repairing.PlanViews.{plan_view}
 use Rattle.vl_recover.specs.opening.Plans.{new_state}
 use Rattle.vl_recover.specs.laws.opening.ReadImage.{read_image}
-use Rattle.vl_recover.specs.opening.Results.{HasFailed, FailsWithoutFault, recovery_by, frozen_log}
+use Rattle.vl_recover.specs.opening.Results.{HasFailed, FailsWithoutFault, IsDiskFault, recovery_by, frozen_log}
 use Rattle.vl_recover.specs.crash.Starts.{MayOpen}
 use Rattle.vl_recover.specs.repairing.Steps.{IsFailAt, MakesSome, Repairs}
 use Rattle.vl_recover.specs.declared.fails.OpenError.{OpenError}
@@ -78,11 +78,9 @@ has_frame : (read : Image) (prepared : Prepared) (is : IsPrepared read prepared)
 has_frame read prepared is has = subst (λ (s : ManifestState). HasFrame (edits_grammar manifest_format) (whole_edits s)) is.state has
 
 -- it is so where the manifest was made, and where the disk failed
-pub frame_made : (prepared : Prepared) (edits : List Edit) (log : ManifestLog) (result : Result ManifestLog IoFail) → edits ≡ whole_edits prepared.state
-    → result ≡ Ok log → HasItsFrame edits result → HasFrameOf prepared
-frame_made prepared edits log result same is has =
-    subst (λ (es : List Edit). HasFrame (edits_grammar manifest_format) es) same
-    (subst (λ (r : Result ManifestLog IoFail). HasItsFrame edits r) is has)
+pub frame_is : (prepared : Prepared) (edits : List Edit) → edits ≡ whole_edits prepared.state
+    → HasFrame (edits_grammar manifest_format) edits → HasFrameOf prepared
+frame_is prepared edits same has = subst (λ (es : List Edit). HasFrame (edits_grammar manifest_format) es) same has
 
 pub frame_failed : (prepared : Prepared) (edits : List Edit) (name : Name) (result : Result ManifestLog IoFail) → edits ≡ whole_edits prepared.state
     → result ≡ Err (Disk name) → HasItsFrame edits result → HasFrameOf prepared
@@ -107,6 +105,21 @@ refused_fine (Refused why) refused failed = failed
 refused_fine (UsedUp counter) refused failed = failed
 refused_fine NoMemory refused failed = failed
 refused_fine (Faulted name) refused failed = refused
+
+pub refused_disk : (read_faults : ℕ) (recovery_of : Recovery) → FailsWithoutFault recovery_of → IsDiskFault read_faults recovery_of → ⊥
+refused_disk n (Recovered opened) refused failed = refused
+refused_disk n (Refused why) refused failed = failed
+refused_disk n (UsedUp counter) refused failed = failed
+refused_disk n NoMemory refused failed = failed
+refused_disk n (Faulted name) refused failed = refused
+
+-- a fault of the disk was counted where the reader had counted none
+pub fault_counted : (before mid now read_faults : ℕ) → mid ≡ before → read_faults ≡ 0 → HasCause mid now (Unit {0}) → HasCause before now (read_faults ≡ 0)
+fault_counted before mid now read_faults same none cause = record {
+  later = (let later = cause.later in omega (arith, later, same));
+  rose = λ _. subst (λ (n : ℕ). Rose n now) same (cause.rose tt);
+  steady = λ not. absurd (not none);
+}
 
 -- where the disk failed while it was read
 pub read_faults : (read : Image) (told : Option DiskState) (state : DiskState) (before now : ℕ) → told ≡ Some state → now ≡ before

@@ -1,7 +1,7 @@
 -- Tables are opened one behind the other: what is said of the rest, behind those that were opened, is said of all.
-use Rattle.std.specs.Prelude.{◌≡◌, ℕ, Bool, false, List, [], ◌∷◌, ◌++◌, map, Option, None, Some, Result, Ok, Err, Vec, refl}
+use Rattle.std.specs.Prelude.{◌≡◌, ◌≤◌, ◌-◌, ℕ, Bool, true, false, length, get_or, List, [], ◌∷◌, ◌++◌, map, Option, None, Some, Result, Ok, Err, Vec, refl}
 use Rattle.std.specs.FinMap.{get}
-use Rattle.std.proofs.Common.{sym, ap, subst, ◌∙◌, inl, inr, append_assoc, append-nil, ⊎_elim}
+use Rattle.std.proofs.Common.{sym, ap, subst, ◌∙◌, inl, inr, append_assoc, append-nil, arith, ⊎_elim}
 use Rattle.vl_disk.specs.Crash.{Image}
 use Rattle.vl_disk.specs.declared.name.Name.TheVariants.{Table}
 use Rattle.vl_disk.specs.declared.name.Name.{Name}
@@ -13,7 +13,7 @@ use Rattle.vl_table.specs.declared.table.Table.{Table as OpenTable}
 use Rattle.vl_recover.specs.opening.FoundTables.{found_level, found_list, found_table}
 use Rattle.vl_recover.specs.opening.Leading.{AnswersStage}
 use Rattle.vl_recover.specs.opening.OpenedTables.{IsNext, IsTableFound, last_before}
-use Rattle.vl_recover.specs.opening.Opening.{Damaged, FoundTable, IsAbove, IsBadTable, NamedLevel, NamedLevels, NamedLog, NamedLogs, NamedTable, Refusal, StandsTable, first_key, key_before, not_above}
+use Rattle.vl_recover.specs.opening.Opening.{Damaged, FoundTable, IsAbove, IsBadTable, NamedLevel, NamedLevels, NamedLog, NamedLogs, NamedTable, Refusal, StandsTable, first_key, key_before, last_key, not_above}
 
 -- what a stage gives, behind what was there already
 abbrev pub in_front : {A : Type 0} → List A → Result (List A) Refusal → Result (List A) Refusal
@@ -24,6 +24,12 @@ last_of : (deeper : Bool) (ts : List FoundTable) (t : FoundTable) → last_befor
 last_of deeper [] t = refl
 last_of deeper (u ∷ []) t = refl
 last_of deeper (u ∷ v ∷ vs) t = last_of deeper (v ∷ vs) t
+
+-- in level 0 no key counts
+pub none_before : (ts : List FoundTable) → last_before false ts ≡ None
+none_before [] = refl
+none_before (t ∷ []) = refl
+none_before (t ∷ u ∷ us) = none_before (u ∷ us)
 
 module _ (image : Image) (deeper : Bool) where
   -- so much of a level was opened
@@ -170,3 +176,10 @@ found_more ts more t is = sym (map-append found_table ts (t ∷ [])) ∙ ap foun
 pub levels_more : {H : Type 0} (ls more : List (Vec (OpenTable H) Global)) (l : Vec (OpenTable H) Global) → more ≡ ls ++ l ∷ []
     → map found_level ls ++ found_level l ∷ [] ≡ map found_level more
 levels_more ls more l is = sym (map-append found_level ls (l ∷ [])) ∙ ap (map found_level) (sym is)
+
+-- in a deeper level the last key of the last one
+pub last_at : {H : Type 0} (ts : List (OpenTable H)) (d : OpenTable H) → 1 ≤ length ts
+    → last_before true (found_list ts) ≡ Some (last_key (found_table (get_or ts (length ts - 1) d)))
+last_at [] d some = absurd (omega (arith, some))
+last_at (t ∷ []) d some = refl
+last_at (t ∷ u ∷ us) d some = last_at (u ∷ us) d (omega arith)
