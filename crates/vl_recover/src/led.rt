@@ -72,11 +72,12 @@ fn place_of(led: &[u32], number: u32) -> usize
         ≡ take result led.now ++ opening.put_number number (drop result led.now) }
     ensures stops { result < length led.now → number ≤ get_or led.now result 0 }
 {
-    let mut place = 0;
-    while place < led.len() && led[place] < number {
-        place += 1;
+    for place in 0..led.len() {
+        if number <= led[place] {
+            return place;
+        }
     }
-    place
+    led.len()
 }
 
 /// Tests that each of these logs stands and begins with its header.

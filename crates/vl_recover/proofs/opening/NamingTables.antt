@@ -73,7 +73,7 @@ module _ (image : Image) (deeper : Bool) where
 
   -- or isn't opened
   pub table_refused : {H : Type 0} (all : List ℕ) (opened : List FoundTable) (n : ℕ) (rest : List ℕ) → AreOpened all opened (n ∷ rest)
-      → (e : OpenError) → IsTableFound {H} image n (Err e) → AnswersStage (NamedLevel deeper image None all) (Err e)
+      → (e : OpenError) → IsTableFound {H = H} image n (Err e) → AnswersStage (NamedLevel deeper image None all) (Err e)
   table_refused all opened n rest so why.NotAStore is = absurd is
   table_refused all opened n rest so (why.NewerFormat format) is = absurd is
   table_refused all opened n rest so (why.Damaged name place) is =
@@ -85,7 +85,7 @@ module _ (image : Image) (deeper : Bool) where
 
   -- or isn't behind the one before it
   pub next_refused : {T : Type 0} (all : List ℕ) (opened : List FoundTable) (n : ℕ) (rest : List ℕ) (t : FoundTable) → AreOpened all opened (n ∷ rest)
-      → StandsTable image n t → (e : OpenError) → IsNext {T} (last_before deeper opened) t (Err e)
+      → StandsTable image n t → (e : OpenError) → IsNext {T = T} (last_before deeper opened) t (Err e)
       → AnswersStage (NamedLevel deeper image None all) (Err e)
   next_refused all opened n rest t so stands why.NotAStore is = absurd is
   next_refused all opened n rest t so stands (why.NewerFormat format) is = absurd is

@@ -26,7 +26,7 @@ false_true e = cc
 module _ {H : Type 0} (image : Image) (number : ℕ) where
   -- it isn't named
   pub table_missing : (names : List Name) → ((name : Name) → IsSome (get image name) → Contains names name)
-      → (Contains names (table_file number) → ⊥) → IsTableFound {H} image number (Err (why.Damaged (table_file number) 0))
+      → (Contains names (table_file number) → ⊥) → IsTableFound {H = H} image number (Err (why.Damaged (table_file number) 0))
   table_missing names named none = (λ before. missing (not_named image names named (table_file number) none) refl, refl)
 
   -- the disk failed, or memory ran out
@@ -44,15 +44,15 @@ module _ {H : Type 0} (image : Image) (number : ℕ) where
     pub table_reads : (t : Table H) → number_of t ≡ number → IsRead number bytes (said_by (shape_of t)) → StandsTable image number (found_table t)
     table_reads t numbered reads = record { numbered = numbered; bytes = bytes; stands = stands; reads = reads }
 
-    pub table_fails : (fault : TableFault) → IsNamed {Table H} number (Err fault)
-        → IsAnswer {Table H} (λ t. IsRead number bytes (said_by (shape_of t))) (IsDamaged number bytes) (Err fault)
-        → IsTableFound {H} image number (Err (open_error fault))
+    pub table_fails : (fault : TableFault) → IsNamed {T = Table H} number (Err fault)
+        → IsAnswer {T = Table H} (λ t. IsRead number bytes (said_by (shape_of t))) (IsDamaged number bytes) (Err fault)
+        → IsTableFound {H = H} image number (Err (open_error fault))
     table_fails faults.NoMemory named is = tt
     table_fails (faults.Disk name) named is = tt
     table_fails (faults.Damaged name place) named is = (λ before. damaged bytes stands is, named)
 
 -- a fault of the reader is counted by it, and not by the disk
-pub reader_failed : {A B : Type 0} (now : ℕ) (fault : TableFault) → (Failed {A} (Err fault) → now ≡ 0 → ⊥) → FailsAtDisk {B} now (Err (open_error fault)) → ⊥
+pub reader_failed : {A B : Type 0} (now : ℕ) (fault : TableFault) → (Failed {T = A} (Err fault) → now ≡ 0 → ⊥) → FailsAtDisk {A = B} now (Err (open_error fault)) → ⊥
 reader_failed now faults.NoMemory counted fails = fails
 reader_failed now (faults.Disk name) counted fails = counted tt fails
 reader_failed now (faults.Damaged name place) counted fails = fails

@@ -11,7 +11,7 @@ use Rattle.vl_recover.proofs.tables.open_level.Given as goal
 abbrev pub invariant-loop-number : goal.invariant-loop-number
 invariant-loop-number g l = record {
   still : ChangesNothing g.D.Watched l.fn.disk l.disk ⊥;
-  fresh : g.D.Disk.Reader.faults l.reader ≡ 0;
+  fresh : g.D.Reader.Reader.faults l.reader ≡ 0;
   so_far : (state : DiskState) (read : Image) → g.D.Watched.told l.fn.disk ≡ Some state → IsRead read state
       → AreOpened read l.is_deeper l.tables (found_level l.opened) (drop l.number-index l.tables);
 }

@@ -22,7 +22,7 @@ loop-list-init g c = record {
 
 pub loop-list-preserved : goal.loop-list-preserved
 loop-list-preserved g c =
-    let levels = c.loop-list.list-items in
+    let levels = c.as_slice-list-items.result.now in
     let i = c.loop-list.list-index in
     let so = c.loop-list.invariant in
     record {
@@ -41,12 +41,12 @@ pub returns-clause-answer : goal.returns-clause-answer
 returns-clause-answer g c = λ state read told is.
     levels_opened read c.args.levels.now (all_found c.loop-list.opened) c.loop-list.is_deeper
     (subst (AreLevelsOpened read c.args.levels.now (all_found c.loop-list.opened) c.loop-list.is_deeper)
-    (drop_all c.loop-list.list-index c.loop-list.list-items c.loop-list-test.false)
+    (drop_all c.loop-list.list-index c.as_slice-list-items.result.now c.loop-list-test.false)
     (c.loop-list.invariant.so_far state read told is))
 
 pub returns-in_err-tables-clause-answer : goal.returns-in_err-tables-clause-answer
 returns-in_err-tables-clause-answer g c = λ state read told is.
-    let levels = c.loop-list.list-items in
+    let levels = c.as_slice-list-items.result.now in
     let i = c.loop-list.list-index in
     let so = c.loop-list.invariant in
     as_handed all_found (NamedLevels false read c.args.levels.now) c.from_residual.result c.in_err-tables.field-0.0

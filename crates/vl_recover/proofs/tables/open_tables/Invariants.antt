@@ -11,7 +11,7 @@ use Rattle.vl_recover.proofs.tables.open_tables.Given as goal
 abbrev pub invariant-loop-list : goal.invariant-loop-list
 invariant-loop-list g l = record {
   still : ChangesNothing g.D.Watched l.fn.disk l.disk ⊥;
-  fresh : g.D.Disk.Reader.faults l.reader ≡ 0;
+  fresh : g.D.Reader.Reader.faults l.reader ≡ 0;
   so_far : (state : DiskState) (read : Image) → g.D.Watched.told l.fn.disk ≡ Some state → IsRead read state
       → AreLevelsOpened read l.levels (all_found l.opened) l.is_deeper (drop l.list-index l.list-items);
 }
