@@ -13,7 +13,12 @@ use Rattle.vl_disk.specs.declared.name.Name.{Name}
 use Rattle.vl_disk.specs.declared.name.Name.TheVariants.{Log}
 use Rattle.vl_disk.specs.declared.watched.Watched.{Ghosts}
 use Rattle.vl_layout.specs.declared.segment.Segment.{Segment}
+use Rattle.vl_frame.specs.Runs.{HasFrame}
+use Rattle.vl_manifest.specs.Grammar.{edits_grammar}
+use Rattle.vl_manifest.specs.Making.{HasItsFrame}
 use Rattle.vl_manifest.specs.Manifest.{manifest_bytes}
+use Rattle.vl_manifest.specs.declared.edit.Edit.{Edit}
+use Rattle.vl_model.specs.Formats.{manifest_format}
 use Rattle.vl_manifest.specs.States.{whole_edits}
 use Rattle.vl_manifest.specs.declared.fails.IoFail.{IoFail}
 use Rattle.vl_manifest.specs.declared.fails.IoFail.TheVariants.{Disk}
@@ -23,7 +28,7 @@ use Rattle.vl_recover.specs.crash.Alike.{OpensAsOf}
 use Rattle.vl_recover.specs.opening.Answers.{Recovery, Faulted, NoMemory, Recovered, Refused, UsedUp, AreStrayNames, Finds, HeldLog, Opened, calls_to_open, held_log, logs_then, opened_from}
 use Rattle.vl_recover.specs.repairing.Deciding.{IsPrepared, opened_by}
 use Rattle.vl_recover.specs.opening.Finding.{IsFaultAt, IsReadName}
-use Rattle.vl_recover.specs.crash.Held.{HoldsStore}
+use Rattle.vl_recover.specs.crash.Held.{HoldsStore, view_of}
 use Rattle.vl_recover.specs.crash.Meanwhile.{FaultsAt, IsAsLong, IsFaultName, IsMeanwhile, IsRepaired, Repairing, as_before, at_repaired, at_repairing, at_read}
 use Rattle.vl_recover.specs.repairing.Repairing.{Plan, WhileRepairing, calls_of_plan, repaired}
 use Rattle.vl_recover.proofs.repairs.RepairingLaws.{plan_calls}
@@ -61,9 +66,36 @@ opened_same read prepared is =
     of : ℕ → ManifestState → ℕ → List HeldLog → ℕ → Opened
     of number state manifest frozen active = record { number = number; state = state; manifest = manifest; frozen = frozen; active = active }
 
+-- the new manifest's frame isn't too long
+abbrev pub HasFrameOf : Prepared → Type 0
+HasFrameOf prepared = HasFrame (edits_grammar manifest_format) (whole_edits prepared.state)
+
+has_frame : (read : Image) (prepared : Prepared) (is : IsPrepared read prepared) → HasFrameOf prepared
+    → HasFrame (edits_grammar manifest_format) (whole_edits (new_state is.finds.greatest is.finds.opening.state))
+has_frame read prepared is has = subst (λ (s : ManifestState). HasFrame (edits_grammar manifest_format) (whole_edits s)) is.state has
+
+-- it is so where the manifest was made, and where the disk failed
+pub frame_made : (prepared : Prepared) (edits : List Edit) (log : ManifestLog) (result : Result ManifestLog IoFail) → edits ≡ whole_edits prepared.state
+    → result ≡ Ok log → HasItsFrame edits result → HasFrameOf prepared
+frame_made prepared edits log result same is has =
+    subst (λ (es : List Edit). HasFrame (edits_grammar manifest_format) es) same
+    (subst (λ (r : Result ManifestLog IoFail). HasItsFrame edits r) is has)
+
+pub frame_failed : (prepared : Prepared) (edits : List Edit) (name : Name) (result : Result ManifestLog IoFail) → edits ≡ whole_edits prepared.state
+    → result ≡ Err (Disk name) → HasItsFrame edits result → HasFrameOf prepared
+frame_failed prepared edits name result same is has =
+    subst (λ (es : List Edit). HasFrame (edits_grammar manifest_format) es) same
+    (subst (λ (r : Result ManifestLog IoFail). HasItsFrame edits r) is has)
+
 -- the repairing that was prepared
-abbrev pub repairing_of : (read : Image) (prepared : Prepared) → IsPrepared read prepared → Repairing read
-repairing_of read prepared is = record { found = is.finds; unused = is.unused; plan = plan_view prepared.plan; is = is.plan }
+abbrev pub repairing_of : (read : Image) (prepared : Prepared) → IsPrepared read prepared → HasFrameOf prepared → Repairing read
+repairing_of read prepared is has = record {
+  found = is.finds;
+  unused = is.unused;
+  has = has_frame read prepared is has;
+  plan = plan_view prepared.plan;
+  is = is.plan;
+}
 
 -- a refusal is no failure
 pub refused_fine : (recovery_of : Recovery) → FailsWithoutFault recovery_of → HasFailed recovery_of → ⊥
@@ -84,11 +116,11 @@ read_faults read told state before now is same why.NoMemory at = tt
 read_faults read told state before now is same (why.Disk name) at = at_read (subst (λ (t : Option DiskState). IsReadName t name) is at) same
 
 -- and while it was repaired
-pub repaired_faults : (read : Image) (state : DiskState) (before begun now : ℕ) → begun ≡ before → (prepared : Prepared) → IsPrepared read prepared
+pub repaired_faults : (read : Image) (state : DiskState) (before begun now : ℕ) → begun ≡ before → (prepared : Prepared) → IsPrepared read prepared → HasFrameOf prepared
     → (result : Result ManifestLog IoFail) (name : Name) → result ≡ Err (Disk name)
     → IfErr result (IsFailAt (plan_view prepared.plan) begun now) → IsFaultName read state before now name
-repaired_faults read state before begun now same prepared is result name failed at =
-    at_repaired (repairing_of read prepared is)
+repaired_faults read state before begun now same prepared is has result name failed at =
+    at_repaired (repairing_of read prepared is has)
     (subst (λ (n : ℕ). IsFailAt (plan_view prepared.plan) n now (Disk name)) same
     (subst (λ (r : Result ManifestLog IoFail). IfErr r (IsFailAt (plan_view prepared.plan) begun now)) failed at))
 
@@ -124,18 +156,24 @@ module _ {D : Type 0} (g : Ghosts D) (only_now : (disk : D) (state other : DiskS
     so_throughout : (P : DiskState → Type 0) → P state → ((now : DiskState) → WhileRepairing plan state now → P now) → HoldsThroughout g old new P
     so_throughout P here meanwhile = goes_by g P old mid new state (WhileRepairing plan) (no_change.told ∙ told) (still_so P here) repairs.time meanwhile
 
-    pub repaired_meanwhile : (read : Image) → IsPrepared read prepared → HoldsThroughout g old new (IsMeanwhile read state)
-    repaired_meanwhile read is = so_throughout (IsMeanwhile read state) (as_before refl)
-        (λ now during. at_repairing (repairing_of read prepared is) during)
+    pub repaired_meanwhile : HasFrameOf prepared → (read : Image) → IsPrepared read prepared → HoldsThroughout g old new (IsMeanwhile read state)
+    repaired_meanwhile has read is = so_throughout (IsMeanwhile read state) (as_before refl)
+        (λ now during. at_repairing (repairing_of read prepared is has) during)
 
-    module _ (lawful : (disk : D) (s : DiskState) → g.told disk ≡ Some s → IsLawful s) (may : MayOpen state)
+    module _ (has : HasFrameOf prepared) (lawful : (disk : D) (s : DiskState) → g.told disk ≡ Some s → IsLawful s) (may : MayOpen state)
         (ready : (read : Image) → IsRead read state → IsPrepared read prepared) where
       pub repaired_through : HoldsThroughout g old new (OpensAsOf state)
       repaired_through =
           let (read, is_read) = read_image state in
           let is = ready read is_read in
           so_throughout (OpensAsOf state) (one.as_before state)
-          (λ now during. repairing_opens state now is.finds plan (lawful old state told) may is_read is.unused is.plan during)
+          (λ now during. repairing_opens state now is.finds plan (record {
+            lawful = lawful old state told;
+            may = may;
+            is_read = is_read;
+            left = is.unused;
+            has = has_frame read prepared is has;
+          }) is.plan during)
 
       -- a store may be opened on it again
       pub repaired_again : ((disk : D) (s : DiskState) (t : ℕ) → g.told disk ≡ Some s → t ≤ g.moment disk → g.states_since disk t s)
@@ -143,38 +181,50 @@ module _ {D : Type 0} (g : Ghosts D) (only_now : (disk : D) (state other : DiskS
       repaired_again counts_now now ends =
           let (read, is_read) = read_image state in
           let is = ready read is_read in
-          let all = repaired_meanwhile read is in
+          let all = repaired_meanwhile has read is in
           by (all.each now (counts_now new now (g.moment old) ends all.time.later)) read is_read
         where
           by : {read : Image} → IsMeanwhile read state now → (r : Image) → IsRead read state → MayOpen now
           by (as_before same) r is_read = subst MayOpen (sym same) may
           by (at_repairing m during) r is_read =
-              repairing_may_open state now m.found m.plan (lawful old state told) may is_read m.unused m.is (lawful new now ends) during
+              repairing_may_open state now m.found m.plan
+              (record { lawful = lawful old state told; may = may; is_read = is_read; left = m.unused; has = m.has }) m.is (lawful new now ends) during
 
   -- to the end
   module _ (new : D) (prepared : Prepared) (x : ManifestLog) (repairs : Repairs g (plan_view prepared.plan) mid new (Ok x))
-      (read : Image) (is_read : IsRead read state) (is : IsPrepared read prepared) (found : Finds read) where
+      (read : Image) (is_read : IsRead read state) (is : IsPrepared read prepared) (has : HasFrameOf prepared) (found : Finds read) where
     abbrev done : Plan
     done = plan_view prepared.plan
 
-    pub store_held : IsLawful state → MayOpen state → (now : DiskState) → g.told new ≡ Some now → (given : ManifestState) → given ≡ prepared.state → HoldsStore given (logs_then found) now
+    pub store_held : IsLawful state → MayOpen state → (now : DiskState) → g.told new ≡ Some now → (given : ManifestState) → given ≡ prepared.state
+        → HoldsStore given (view_of found) (logs_then found) now
     store_held lawful may now ends given same =
         let now_is : repaired done state ≡ now = some_same (repaired done state) now (sym (repairs.done ∙ ap (option_map (repaired done)) (no_change.told ∙ told)) ∙ ends) in
-        subst (λ (s : ManifestState). HoldsStore s (logs_then found) now) (sym (same ∙ is.state))
-        (subst (λ (logs : List Segment). HoldsStore (new_state is.finds.greatest is.finds.opening.state) logs now) (same_logs_then read is.finds found)
-        (subst (λ (d : DiskState). HoldsStore (new_state is.finds.greatest is.finds.opening.state) (logs_then is.finds) d) now_is
-        (repaired_holds state is.finds done lawful may is_read is.unused is.plan)))
+        subst (λ (s : ManifestState). HoldsStore s (view_of found) (logs_then found) now) (sym (same ∙ is.state))
+        (subst (λ (o : Opening). HoldsStore new (record { image = read; levels = o.levels }) (logs_then found) now) (same_opening read is.finds found)
+        (subst (λ (logs : List Segment). HoldsStore new (view_of is.finds) logs now) (same_logs_then read is.finds found)
+        (subst (λ (d : DiskState). HoldsStore new (view_of is.finds) (logs_then is.finds) d) now_is
+        (repaired_holds state is.finds done (record {
+          lawful = lawful;
+          may = may;
+          is_read = is_read;
+          left = is.unused;
+          has = has_frame read prepared is has;
+        }) is.plan))))
+      where
+        new : ManifestState
+        new = new_state is.finds.greatest is.finds.opening.state
 
     pub disk_repaired : IsRepaired read state (g.told new)
     disk_repaired = record {
-      repairing = repairing_of read prepared is;
+      repairing = repairing_of read prepared is has;
       told = repairs.done ∙ ap (option_map (repaired done)) (no_change.told ∙ told);
     }
 
-    pub calls_counted : (strays : List Name) → AreStrayNames read found.opening.state.head strays → g.calls new ≡ after_calls (calls_to_open found (length strays)) (g.calls old)
+    pub calls_counted : (strays : List Name) → AreStrayNames read found.opening strays → g.calls new ≡ after_calls (calls_to_open found (length strays)) (g.calls old)
     calls_counted strays are =
-        let many : length done.strays ≡ length strays = as_many read found.opening.state.head done.strays strays
-        (subst (λ (o : Opening). AreStrayNames read o.state.head done.strays) (same_opening read is.finds found) is.plan.strays) are in
+        let many : length done.strays ≡ length strays = as_many read found.opening done.strays strays
+        (subst (λ (o : Opening). AreStrayNames read o done.strays) (same_opening read is.finds found) is.plan.strays) are in
         repairs.calls
         ∙ ap (λ (n : ℕ). after_calls n (g.calls mid)) (plan_calls is.finds done is.plan ∙ ap (calls_to_open is.finds) many ∙ same_calls read is.finds found (length strays))
         ∙ ap (after_calls (calls_to_open found (length strays))) no_change.calls
@@ -182,12 +232,12 @@ module _ {D : Type 0} (g : Ghosts D) (only_now : (disk : D) (state other : DiskS
   -- and where the disk failed or memory ran out
   module _ (new : D) (prepared : Prepared) (result : Result ManifestLog IoFail) (e : IoFail) (is_err : result ≡ Err e)
       (repairs : Repairs g (plan_view prepared.plan) mid new result) (read : Image) (is_read : IsRead read state) (is : IsPrepared read prepared) (found : Finds read) where
-    pub calls_stopped : (strays : List Name) → AreStrayNames read found.opening.state.head strays
+    pub calls_stopped : (strays : List Name) → AreStrayNames read found.opening strays
         → MakesSome (calls_to_open found (length strays)) (g.calls old) (g.calls new)
     calls_stopped strays are =
         let plan : Plan = plan_view prepared.plan in
-        let many : length plan.strays ≡ length strays = as_many read found.opening.state.head plan.strays strays
-        (subst (λ (o : Opening). AreStrayNames read o.state.head plan.strays) (same_opening read is.finds found) is.plan.strays) are in
+        let many : length plan.strays ≡ length strays = as_many read found.opening plan.strays strays
+        (subst (λ (o : Opening). AreStrayNames read o plan.strays) (same_opening read is.finds found) is.plan.strays) are in
         let counted : calls_of_plan plan ≡ calls_to_open found (length strays) =
         plan_calls is.finds plan is.plan ∙ ap (calls_to_open is.finds) many ∙ same_calls read is.finds found (length strays) in
         let stops : MakesSome (calls_of_plan plan) (g.calls mid) (g.calls new) =

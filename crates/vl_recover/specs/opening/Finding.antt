@@ -57,7 +57,7 @@ pub record IsFound (image : Image) (found : Findings) : Type 0 where
   pub frozen : map frozen_log found.frozen.items ≡ map held_log finds.opening.logs
   pub greatest : greatest_of found.greatest ≡ finds.greatest
   pub last : found.last ≡ option_map last_log (last_of finds.logs)
-  pub strays : AreStrayNames image finds.opening.state.head found.strays.items
+  pub strays : AreStrayNames image finds.opening found.strays.items
 
 -- It was found, or that is the answer.
 abbrev pub FindsSo : Image → Result Findings OpenError → Type 0
