@@ -18,6 +18,7 @@ use Rattle.vl_engine.specs.Pointed.{layout_logs, segment_at}
 use Rattle.vl_engine.specs.Shown.{ShowsBetween}
 use Rattle.vl_engine.specs.laws.HeldLaws.{image_shows, led_stay, sources_held, store_held, view}
 use Rattle.vl_engine.specs.laws.KeptLaws.{AreOtherLogs, appending_elsewhere, base_kept, each_log_kept, manifests_beside_log, sources_kept, syncing_elsewhere, tables_beside_log, tables_kept, written_elsewhere}
+use Rattle.vl_engine.specs.laws.SegmentLaws.{not_among, other_behind, other_logs}
 use Rattle.vl_engine.specs.laws.ShownLaws.{shown_later}
 use Rattle.vl_frame.specs.Runs.{HasFrame}
 use Rattle.vl_layout.specs.Jobs.{AreDistinct}
@@ -29,50 +30,17 @@ use Rattle.vl_layout.specs.declared.layout.Layout.{Layout}
 use Rattle.vl_layout.specs.declared.segment.Segment.{Segment}
 use Rattle.vl_model.specs.Frames.{frame_length}
 use Rattle.vl_model.specs.History.{History, last_number, with_commit}
-use Rattle.vl_model.specs.Numbers as numbers
 use Rattle.vl_model.specs.declared.log_frame.LogFrame.{LogFrame}
 use Rattle.vl_model.specs.laws.HistoryLaws.{with_commit-extends}
 use Rattle.vl_recover.specs.crash.Alike.{IsLeft}
 use Rattle.vl_recover.specs.crash.Held.{GoOn, HoldsLogs, HoldsStore, View, opening_held}
 use Rattle.vl_recover.specs.crash.Starts.{AllStay, MayOpen}
-use Rattle.vl_recover.specs.laws.crash.AlikeLaws.{log_same}
 use Rattle.vl_recover.specs.laws.crash.AppendLaws.{OpensEither, append_holds, append_leaves, append_may_open, commit_counts, goes_on, sync_leaves, sync_may_open, with_frame}
 use Rattle.vl_recover.specs.laws.crash.TornFrames.{frame_behind}
 use Rattle.vl_recover.specs.laws.opening.ReadImage.{read_image}
 use Rattle.vl_recover.specs.opening.Opening.{IsAmong, Opening, Opens, led_into}
 use Rattle.vl_seglog.specs.Frames.{frames_grammar}
 use Rattle.vl_seglog.specs.laws.FrameLaws.{frames_end-more}
-
--- ---- logs by their numbers
-
--- a log that stands among others isn't the one whose number none of them has
-pub not_among : (n : ℕ) (ss : List Segment) → numbers.has n (log_numbers ss) ≡ false → (log : Segment) → segment_at ss n ≡ Some log → ⊥
-not_among n [] none log at = absurd cc
-not_among n (s ∷ ss) none log at = by (not_among n ss) (s.number == n) none at
-  where
-    by : (numbers.has n (log_numbers ss) ≡ false → (x : Segment) → segment_at ss n ≡ Some x → ⊥) → (b : Bool)
-        → (b || numbers.has n (log_numbers ss)) ≡ false → (if b then Some s else segment_at ss n) ≡ Some log → ⊥
-    by later true no is = absurd (let both : true ≡ false = no in cc)
-    by later false no is = later no log is
-
-pub other_logs : (n : ℕ) (ss : List Segment) → numbers.has n (log_numbers ss) ≡ false → AreOtherLogs (Log n) ss
-other_logs n [] none = tt
-other_logs n (s ∷ ss) none = by (s.number == n) refl none
-  where
-    by : (b : Bool) → (s.number == n) ≡ b → (b || numbers.has n (log_numbers ss)) ≡ false → AreOtherLogs (Log n) (s ∷ ss)
-    by true at no = absurd (let both : true ≡ false = no in cc)
-    by false at no = (
-      λ e. (let same : s.number ≡ n = log_same s.number n e in
-      let yes : (s.number == n) ≡ true = grind (arith, nat_tests, same) in
-      let both : true ≡ false = sym yes ∙ at in cc),
-      other_logs n ss no,
-    )
-
-other_behind : (name : Name) (xs ys : List Segment) → AreOtherLogs name (xs ++ ys) → AreOtherLogs name ys
-other_behind name [] ys all = all
-other_behind name (x ∷ xs) ys all = other_behind name xs ys all.1
-
--- ---- a commit
 
 -- of a transaction that commits, over a layout that a disk holds
 module _ (b : Base) (l : Layout) (h : History) (t : Transaction) (base : IsBase b l h) (tidy : IsTidy (layout_logs l) l h) where

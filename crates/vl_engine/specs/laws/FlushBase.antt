@@ -58,12 +58,12 @@ first_number (s ∷ ss) a = s.number
 
 filter_from : (ss : List Segment) → filter has_frames (from_framed ss) ≡ filter has_frames ss
 filter_from [] = refl
-filter_from (s ∷ ss) = by (has_frames s) refl
+filter_from (s ∷ ss) = by (filter_from ss) (has_frames s) refl
   where
-    by : (b : Bool) → has_frames s ≡ b
+    by : filter has_frames (from_framed ss) ≡ filter has_frames ss → (b : Bool) → has_frames s ≡ b
         → filter has_frames (if b then s ∷ ss else from_framed ss) ≡ (if b then s ∷ filter has_frames ss else filter has_frames ss)
-    by true at = ap (λ (c : Bool). if c then s ∷ filter has_frames ss else filter has_frames ss) at
-    by false at = filter_from ss
+    by later true at = ap (λ (c : Bool). if c then s ∷ filter has_frames ss else filter has_frames ss) at
+    by later false at = later
 
 tail_same : (x y : Segment) (xs ys : List Segment) → x ∷ xs ≡ y ∷ ys → xs ≡ ys
 tail_same x y xs ys e = cc
@@ -74,21 +74,23 @@ head_same x y xs ys e = cc
 filter_past : (ss : List Segment) (s : Segment) (rest : List Segment) → filter has_frames ss ≡ s ∷ rest
     → filter has_frames (past_framed ss) ≡ rest
 filter_past [] s rest is = absurd cc
-filter_past (x ∷ ss) s rest is = by (has_frames x) is
+filter_past (x ∷ ss) s rest is = by (filter_past ss s rest) (has_frames x) is
   where
-    by : (b : Bool) → (if b then x ∷ filter has_frames ss else filter has_frames ss) ≡ s ∷ rest
+    by : (filter has_frames ss ≡ s ∷ rest → filter has_frames (past_framed ss) ≡ rest)
+        → (b : Bool) → (if b then x ∷ filter has_frames ss else filter has_frames ss) ≡ s ∷ rest
         → filter has_frames (if b then ss else past_framed ss) ≡ rest
-    by true one = tail_same x s (filter has_frames ss) rest one
-    by false one = filter_past ss s rest one
+    by later true one = tail_same x s (filter has_frames ss) rest one
+    by later false one = later one
 
 first_from : (ss : List Segment) (a : Segment) → first_number (from_framed ss) a ≡ first_number (filter has_frames ss) a
 first_from [] a = refl
-first_from (s ∷ ss) a = by (has_frames s)
+first_from (s ∷ ss) a = by (first_from ss a) (has_frames s)
   where
-    by : (b : Bool) → first_number (if b then s ∷ ss else from_framed ss) a
+    by : first_number (from_framed ss) a ≡ first_number (filter has_frames ss) a
+        → (b : Bool) → first_number (if b then s ∷ ss else from_framed ss) a
         ≡ first_number (if b then s ∷ filter has_frames ss else filter has_frames ss) a
-    by true = refl
-    by false = first_from ss a
+    by later true = refl
+    by later false = later
 
 -- ---- the one that waits longest
 
@@ -249,6 +251,24 @@ state_more number first others f t u made one = by (first_state first) made
         let after = state_behind s (placed (edits_grammar manifest_format) number next (others ++ f ∷ [])) in
         in_format after ∙ behind_more manifest_format number next s t u others f (sym (in_format before) ∙ is) one
 
+-- ---- the log that waits longest
+
+module _ (b : Base) (l : Layout) (h : History) (s : Segment) (base : IsBase b l h) (waits : oldest l.frozen ≡ Some s) where
+  -- It is the first of the logs with frames before the active one.
+  pub first_framed : (rest : List Segment) × (filter has_frames b.before ≡ s ∷ rest)
+  first_framed = oldest_is (filter has_frames b.before) s (ap oldest (sym base.frozen) ∙ waits)
+
+  pub frozen_then : but_oldest l.frozen ≡ newest_first first_framed.0
+  frozen_then = ap but_oldest base.frozen ∙ ap (λ (ss : List Segment). but_oldest (newest_first ss)) first_framed.1
+      ∙ but_oldest_last (newest_first first_framed.0) s
+
+  -- The new head is the least log that isn't flushed.
+  pub head_then : first_number (before_then b.before) l.active ≡ head (flushed l s)
+  head_then = first_from (past_framed b.before) l.active
+      ∙ ap (λ (ss : List Segment). first_number ss l.active) (filter_past b.before s first_framed.0 first_framed.1)
+      ∙ sym (first_newest first_framed.0 l.active)
+      ∙ ap (λ (ss : List Segment). number_or l.active (oldest ss)) (sym frozen_then)
+
 -- ---- the whole
 
 module _ (b : Base) (l : Layout) (h : History) (s : Segment) (f : List Edit) (state : ManifestState) (base : IsBase b l h)
@@ -261,29 +281,18 @@ module _ (b : Base) (l : Layout) (h : History) (s : Segment) (f : List Edit) (st
   flushed_base = switched_base b f state (before_then b.before)
 
   -- those with frames of the logs before the active one are s, and these
-  waiting : (rest : List Segment) × (filter has_frames b.before ≡ s ∷ rest)
-  waiting = oldest_is (filter has_frames b.before) s (ap oldest (sym base.frozen) ∙ waits)
-
-  frozen_then : but_oldest l.frozen ≡ newest_first waiting.0
-  frozen_then = ap but_oldest base.frozen ∙ ap (λ (ss : List Segment). but_oldest (newest_first ss)) waiting.1
-      ∙ but_oldest_last (newest_first waiting.0) s
+  abbrev waiting : (rest : List Segment) × (filter has_frames b.before ≡ s ∷ rest)
+  waiting = first_framed b l h s base waits
 
   framed_then : filter has_frames (before_then b.before) ≡ waiting.0
   framed_then = filter_from (past_framed b.before) ∙ filter_past b.before s waiting.0 waiting.1
-
-  -- The new head is the least log that isn't flushed.
-  pub head_then : first_number (before_then b.before) l.active ≡ head (flushed l s)
-  head_then = first_from (past_framed b.before) l.active
-      ∙ ap (λ (ss : List Segment). first_number ss l.active) (filter_past b.before s waiting.0 waiting.1)
-      ∙ sym (first_newest waiting.0 l.active)
-      ∙ ap (λ (ss : List Segment). number_or l.active (oldest ss)) (sym frozen_then)
 
   pub flush_base : IsBase flushed_base (flushed l s) h
   flush_base = record {
     numbered = base.numbered;
     made = state_more b.manifest.number b.first b.others f b.state state base.made makes;
     levels = levels ∙ sym (ap (λ (ls : List (List Table)). map numbers_of (in_front (flushed_table l s) ls)) are);
-    frozen = frozen_then ∙ ap newest_first (sym framed_then);
+    frozen = frozen_then b l h s base waits ∙ ap newest_first (sym framed_then);
     led = led;
     goes = subst (λ (n : ℕ). GoOn n (before_then b.before ++ l.active ∷ []) (last_number h)) (sym covers)
         (from_goes l.active (last_number h) (past_framed b.before) (covered_by s.frames b.state.covered)

@@ -105,7 +105,7 @@ module _ (name : Name) (piece : List ℕ) (disk : DiskState) where
 manifest_table : (m n : ℕ) → Manifest m ≡ Table n → ⊥
 manifest_table m n e = cc
 
-log_table : (m n : ℕ) → Log m ≡ Table n → ⊥
+pub log_table : (m n : ℕ) → Log m ≡ Table n → ⊥
 log_table m n e = cc
 
 log_manifest : (m n : ℕ) → Log m ≡ Manifest n → ⊥
