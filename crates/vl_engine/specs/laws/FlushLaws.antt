@@ -187,7 +187,7 @@ module _ (b : Base) (l : Layout) (h : History) (s : Segment) (disk : DiskState) 
 
   -- ---- the table is made
 
-  tables_apart : AreOtherTables table_name (tables l)
+  pub tables_apart : AreOtherTables table_name (tables l)
   tables_apart = apart_from (tables l) tidy.files.stocked.tables_drawn
     where
       apart_from : (ts : List Table) → AllByRecursion (λ (t : Table). t.number < l.next_table) ts → AreOtherTables table_name ts
@@ -197,10 +197,10 @@ module _ (b : Base) (l : Layout) (h : History) (s : Segment) (disk : DiskState) 
         apart_from ts drawn.1,
       )
 
-  base_beside : (now : DiskState) → SameElsewhere table_name disk now → HoldsBase b now
+  pub base_beside : (now : DiskState) → SameElsewhere table_name disk now → HoldsBase b now
   base_beside now same = base_kept table_name disk now same b (manifests_beside_table b.manifest.number l.next_table) holds.base
 
-  files_beside : (now : DiskState) → SameElsewhere table_name disk now → HoldsFiles b l now
+  pub files_beside : (now : DiskState) → SameElsewhere table_name disk now → HoldsFiles b l now
   files_beside now same = files_kept table_name disk now same b l tables_apart (logs_beside_table l.next_table l.flushed)
       (from_beside_table b.state.head l.next_table) holds.files
 
@@ -217,10 +217,10 @@ module _ (b : Base) (l : Layout) (h : History) (s : Segment) (disk : DiskState) 
       elsewhere (done stands same) = same
 
   -- Then all files of the layout behind the flush stand too.
-  base_mid : HoldsBase b mid
+  pub base_mid : HoldsBase b mid
   base_mid = base_beside mid (made_elsewhere table_name (bytes_of l s) disk)
 
-  files_mid : HoldsFiles b l mid
+  pub files_mid : HoldsFiles b l mid
   files_mid = files_beside mid (made_elsewhere table_name (bytes_of l s) disk)
 
   pub files_then : HoldsFiles later (flushed l s) mid
@@ -279,31 +279,31 @@ module _ (b : Base) (l : Layout) (h : History) (s : Segment) (disk : DiskState) 
       base tidy files_mid base_then tidy_then files_then now switching image left)
       during
 
+  pub mid_settled : AllSettled mid
+  mid_settled q file stands = ⊎_elim
+      (λ (same : q ≡ table_name).
+      let is : settled (bytes_of l s) ≡ file = some_same (settled (bytes_of l s)) file
+      (sym (made_there table_name (bytes_of l s) disk) ∙ ap (get mid.standing) (sym same) ∙ stands) in
+      sym is ∙ ap (λ (x : File). settled x.bytes) is)
+      (λ (apart : q ≢ table_name).
+      holds.durable q file (sym ((made_elsewhere table_name (bytes_of l s) disk).standing q apart) ∙ stands))
+      (same_or_other q table_name)
+
   -- ---- and then
 
   abbrev pub final : DiskState
   final = switched b.manifest.number frame mid
 
-  final_settled : AllSettled final
+  pub final_settled : AllSettled final
   final_settled q file stands = ⊎_elim
       (λ (same : q ≡ names.Manifest b.manifest.number).
       let there = (switch_holds b (edits_of l s) can.state (before_then b.before) base.numbered can.frame mid base_mid).has.durable in
       let whole = manifest_bytes b.manifest.number (frames_of later) in
       let is : settled whole ≡ file = some_same (settled whole) file (sym there ∙ ap (get final.standing) (sym same) ∙ stands) in
       sym is ∙ ap (λ (x : File). settled x.bytes) is)
-      (λ (apart : q ≢ names.Manifest b.manifest.number). in_mid q file
+      (λ (apart : q ≢ names.Manifest b.manifest.number). mid_settled q file
       (sym ((written_elsewhere (names.Manifest b.manifest.number) frame mid).standing q apart) ∙ stands))
       (same_or_other q (names.Manifest b.manifest.number))
-    where
-      in_mid : (q : Name) (file : File) → get mid.standing q ≡ Some file → file ≡ settled file.bytes
-      in_mid q file stands = ⊎_elim
-          (λ (same : q ≡ table_name).
-          let is : settled (bytes_of l s) ≡ file = some_same (settled (bytes_of l s)) file
-          (sym (made_there table_name (bytes_of l s) disk) ∙ ap (get mid.standing) (sym same) ∙ stands) in
-          sym is ∙ ap (λ (x : File). settled x.bytes) is)
-          (λ (apart : q ≢ table_name).
-          holds.durable q file (sym ((made_elsewhere table_name (bytes_of l s) disk).standing q apart) ∙ stands))
-          (same_or_other q table_name)
 
   -- The disk holds the layout that the ruling leaves, all of it durable.
   pub flush_holds : IsNumbered table_name → Holds later (flushed l s) final

@@ -6,6 +6,7 @@ use Rattle.std.proofs.Common.{sym, ap, subst, ◌∙◌, append_assoc}
 use Rattle.vl_disk.specs.Crash.{Image, MayLeave}
 use Rattle.vl_disk.specs.DiskState.{DiskState}
 use Rattle.vl_disk.specs.Started.{IsRead, read_left}
+use Rattle.vl_disk.specs.declared.name.Name.{Name}
 use Rattle.vl_disk.specs.declared.name.Name.TheVariants.{Log, Table}
 use Rattle.vl_engine.specs.Files.{HasLog, HasTable, HoldsLog, HoldsTable, bytes_of_table, found_levels}
 use Rattle.vl_engine.specs.Held.{Base, Holds, HoldsBase, HoldsFiles, HoldsSources, IsBase, frames_of, logs_from}
@@ -34,13 +35,15 @@ use Rattle.vl_model.specs.Versions.{low}
 use Rattle.vl_model.specs.declared.entry.Entry.{Entry}
 use Rattle.vl_model.specs.declared.log_frame.LogFrame.{LogFrame}
 use Rattle.vl_model.specs.laws.VersionLaws.{versions-up}
-use Rattle.vl_recover.specs.crash.Alike.{IsLeft, OpensLike}
+use Rattle.vl_recover.specs.crash.Alike.{OpensLike, SameNeeded}
 use Rattle.vl_recover.specs.crash.Held.{DurableAs, HoldsLogs, HoldsStore, Needs, View, log_as_held, opening_held}
 use Rattle.vl_recover.specs.crash.Starts.{AllStay, MayOpen, StaysAsItIs}
-use Rattle.vl_recover.specs.laws.opening.HeldLaws.{held_current, held_may_open, held_standing, left_settled}
-use Rattle.vl_recover.specs.laws.opening.OpeningLaws.{is_opened, some_same}
+use Rattle.vl_recover.specs.laws.crash.AlikeLaws.{shows_same}
+use Rattle.vl_recover.specs.laws.opening.HeldLaws.{held_current, held_may_open, held_opens, held_standing, left_settled}
+use Rattle.vl_recover.specs.laws.opening.OpeningLaws.{is_opened, single_opening, some_same}
 use Rattle.vl_recover.specs.laws.opening.ReadImage.{read_image}
-use Rattle.vl_recover.specs.opening.Opening.{IsAmong, IsNamed, Led, NamedLevels, NamedLogs, Opens, led_into}
+use Rattle.vl_recover.specs.laws.repairing.StageLaws.{ok_same}
+use Rattle.vl_recover.specs.opening.Opening.{IsAmong, IsNamed, Led, NamedLevels, NamedLogs, Opening, Opens, Refusal, led_into}
 use Rattle.vl_recover.specs.opening.Walk.{keeps_header}
 use Rattle.vl_seglog.specs.LogReading.{LogReading, ReadsLog}
 use Rattle.vl_seglog.specs.laws.LogReadingLaws.{one_log_reading, reads_written}
@@ -78,6 +81,20 @@ framed_stays format (f ∷ fs) s formats is framed = or_true (format == log_form
     or_true : (b : Bool) → (b || true) ≡ true
     or_true true = refl
     or_true false = refl
+
+-- A log with frames that stands whole in an image stays as it is.
+pub has_stays : (image : Image) (ss : List Segment) (n : ℕ) → HasFramedAmong image ss n → (bytes : List ℕ) (reading : LogReading)
+    → get image (Log n) ≡ Some bytes → ReadsLog n bytes reading → StaysAsItIs reading
+has_stays image ss n has bytes reading stands reads =
+    let log = has.is.log in
+    let same : bytes ≡ bytes_of_log log = some_same bytes (bytes_of_log log) (sym stands ∙ has_numbered image ss n has) in
+    let written : LogReading = record { header = Some log.format; frames = log.frames; whole = true } in
+    let is : written ≡ reading =
+    one_log_reading log.number (bytes_of_log log) written reading
+    (reads_written log.format log.number has.has.is.readable log.frames has.has.is.have)
+    (subst (λ (m : ℕ). ReadsLog m (bytes_of_log log) reading) (sym (segment_number ss n log has.is.at))
+    (subst (λ (bs : List ℕ). ReadsLog n bs reading) same reads)) in
+    subst StaysAsItIs is (refl, framed_stays log.format log.frames log refl refl has.is.framed)
 
 module _ (b : Base) (l : Layout) (h : History) (base : IsBase b l h) where
   -- The sources are the entries of the logs and those of the tables.
@@ -192,19 +209,7 @@ module _ (b : Base) (l : Layout) (h : History) (base : IsBase b l h) where
 
     -- The logs that tables lead into stay as they are at an opening.
     pub led_stay : AllStay image (led_into (found_levels l.levels))
-    led_stay n bytes reading among stands reads = by (led_left n among)
-      where
-        by : HasFramedAmong image (sealed l) n → StaysAsItIs reading
-        by has =
-            let log = has.is.log in
-            let same : bytes ≡ bytes_of_log log = some_same bytes (bytes_of_log log) (sym stands ∙ has_numbered image (sealed l) n has) in
-            let written : LogReading = record { header = Some log.format; frames = log.frames; whole = true } in
-            let is : written ≡ reading =
-            one_log_reading log.number (bytes_of_log log) written reading
-            (reads_written log.format log.number has.has.is.readable log.frames has.has.is.have)
-            (subst (λ (m : ℕ). ReadsLog m (bytes_of_log log) reading) (sym (segment_number (sealed l) n log has.is.at))
-            (subst (λ (bs : List ℕ). ReadsLog n bs reading) same reads)) in
-            subst StaysAsItIs is (refl, framed_stays log.format log.frames log refl refl has.is.framed)
+    led_stay n bytes reading among stands reads = has_stays image (sealed l) n (led_left n among) bytes reading stands reads
 
   -- so it is a store that is held
   pub store_held : (disk : DiskState) (holds : Holds b l disk) (image : Image) (may : MayLeave disk image) → AreLevels l.levels
@@ -293,3 +298,29 @@ module _ (b : Base) (l : Layout) (h : History) (base : IsBase b l h) where
       let needs = sources_held disk holds.files in
       held_may_open b.state (view disk needs read.0 may) (logs_from b l) disk holds.lawful
       (store_held disk holds read.0 may levels) (led_stay disk needs read.0 may)
+
+  -- Whatever a crash leaves of such a disk opens like what reads give.
+  pub held_durable : (disk : DiskState) → AreLevels l.levels → Holds b l disk → (read image : Image) → IsRead read disk
+      → MayLeave disk image → OpensLike image read
+  held_durable disk levels holds read image is may o opens =
+      let needs = sources_held disk holds.files in
+      let read_may = read_left read disk is in
+      let number = last_number h in
+      let found = opening_held b.state (view disk needs read read_may) (logs_from b l) number in
+      let same : found ≡ o = ok_same {E = Refusal} found o (single_opening read (Ok found) (Ok o)
+      (held_opens b.state (view disk needs read read_may) (logs_from b l) disk (store_held disk holds read read_may levels) number
+      base.goes read read_may) opens) in
+      let durable = needs_left disk needs read read_may levels in (
+        o,
+        subst (λ (x : Opening). Opens image (Ok x)) same
+            (held_opens b.state (view disk needs image may) (logs_from b l) disk (store_held disk holds image may levels) number
+            base.goes image may),
+        shows_same o,
+        subst (SameNeeded image read) same (record {
+          tables = λ n named. left_as_read (Table n) (durable.tables n named);
+          logs = λ n among. left_as_read (Log n) (durable.logs n among);
+        }),
+      )
+    where
+      left_as_read : (name : Name) → DurableAs read disk name → get image name ≡ get read name
+      left_as_read name (bytes, there, stands) = left_settled disk image name bytes stands may ∙ sym there

@@ -108,10 +108,10 @@ manifest_table m n e = cc
 pub log_table : (m n : ℕ) → Log m ≡ Table n → ⊥
 log_table m n e = cc
 
-log_manifest : (m n : ℕ) → Log m ≡ Manifest n → ⊥
+pub log_manifest : (m n : ℕ) → Log m ≡ Manifest n → ⊥
 log_manifest m n e = cc
 
-table_manifest : (m n : ℕ) → Table m ≡ Manifest n → ⊥
+pub table_manifest : (m n : ℕ) → Table m ≡ Manifest n → ⊥
 table_manifest m n e = cc
 
 table_log : (m n : ℕ) → Table m ≡ Log n → ⊥

@@ -3,7 +3,7 @@
 use Rattle.std.specs.Prelude.{◌≡◌, ◌≢◌, ◌⊎◌, ◌≤◌, ◌<◌, ◌^◌, ℕ, ◌+◌, List, [], ◌∷◌, ◌++◌, length, Option, Some, Ok, refl}
 use Rattle.std.specs.FinMap.{get}
 use Rattle.std.specs.List.{AllByRecursion}
-use Rattle.std.proofs.Common.{sym, ap, subst, ◌∙◌, arith, length-append, ⊎_elim}
+use Rattle.std.proofs.Common.{sym, ap, subst, ◌∙◌, arith, inl, inr, length-append, ⊎_elim}
 use Rattle.std.proofs.lemmas.Bool.{cases_lt}
 use Rattle.vl_disk.specs.Changes.{SameElsewhere}
 use Rattle.vl_disk.specs.Crash.{Image, MayLeave, WhileAppending, WhileSyncing}
@@ -65,13 +65,13 @@ module _ (b : Base) (edits : List Edit) (state : ManifestState) (before : List S
   abbrev pub durable : DiskState
   durable = switched b.manifest.number piece mid
 
-  switching_elsewhere : (now : DiskState) → WhileSwitching b.manifest.number piece mid now → SameElsewhere name mid now
+  pub switching_elsewhere : (now : DiskState) → WhileSwitching b.manifest.number piece mid now → SameElsewhere name mid now
   switching_elsewhere now during = ⊎_elim
       (λ (appending : WhileAppending name piece mid now). appending_elsewhere name piece mid now appending)
       (λ (syncing : WhileSyncing name (appended name piece (length piece) mid) now). syncing_elsewhere name piece mid now syncing)
       during
 
-  above_kept : (now : DiskState) → SameElsewhere name mid now → (m : ℕ) → b.manifest.number < m → Manifest m ≢ name
+  pub above_kept : (now : DiskState) → SameElsewhere name mid now → (m : ℕ) → b.manifest.number < m → Manifest m ≢ name
   above_kept now same m less e = omega (arith, less, manifest_same m b.manifest.number e)
 
   -- After both calls the disk holds the manifest with the frame,
@@ -102,20 +102,19 @@ module _ (b : Base) (edits : List Edit) (state : ManifestState) (before : List S
   -- of two layouts, one before the switch and one behind it
   module _ (h : History) (l next : Layout) (base : IsBase b l h) (tidy : IsTidy (layout_logs l) l h) (files : HoldsFiles b l mid)
       (base_next : IsBase later next h) (tidy_next : IsTidy (layout_logs next) next h) (files_next : HoldsFiles later next mid) where
-    -- Whatever a crash leaves while the frame is appended and synced shows the history.
-    pub switching_shows : (now : DiskState) → WhileSwitching b.manifest.number piece mid now → (image : Image) → IsLeft now image
-        → Shown image h (last_number h)
-    switching_shows now during image left =
+    -- what is left of the manifest is current, and says the one state or the other
+    abbrev pub SaysEither : Image → Type 0
+    SaysEither image = (bytes : List ℕ) × IsCurrent image b.manifest.number bytes
+        × (SaysState b.manifest.number bytes b.state ⊎ SaysState b.manifest.number bytes state)
+
+    pub switching_says : (now : DiskState) → WhileSwitching b.manifest.number piece mid now → (image : Image) → IsLeft now image
+        → SaysEither image
+    switching_says now during image left =
         by (switching_leaves b.manifest.number fits (frames_of b) edits holds.has.each has mid holds.has.durable now during
         image left.left (left.no_chance name))
       where
         same : SameElsewhere name mid now
         same = switching_elsewhere now during
-
-        stay : (c : Base) (k : Layout) → HoldsFiles c k mid → HoldsFiles c k now
-        stay c k stand = files_kept name mid now same c k
-            (tables_beside_manifest b.manifest.number (tables k)) (logs_beside_manifest b.manifest.number k.flushed)
-            (from_beside_manifest c.state.head b.manifest.number) stand
 
         current : (bytes : List ℕ) (s : ManifestState) → get image name ≡ Some bytes → SaysState b.manifest.number bytes s
             → IsCurrent image b.manifest.number bytes
@@ -150,12 +149,28 @@ module _ (b : Base) (edits : List Edit) (state : ManifestState) (before : List S
         by : ((bytes : List ℕ) × (get image name ≡ Some bytes)
             × (ReadsManifest manifest_format b.manifest.number bytes (frames_of b)
             ⊎ ReadsManifest manifest_format b.manifest.number bytes (frames_of b ++ edits ∷ [])))
-            → Shown image h (last_number h)
+            → SaysEither image
         by (bytes, is, either) = ⊎_elim
             (λ (reads : ReadsManifest manifest_format b.manifest.number bytes (frames_of b)).
-            shows_under b l h base tidy now (stay b l files) image left.left bytes
-            (current bytes b.state is (old_says bytes reads)) (old_says bytes reads))
+            (bytes, current bytes b.state is (old_says bytes reads), inl (old_says bytes reads)))
             (λ (reads : ReadsManifest manifest_format b.manifest.number bytes (frames_of b ++ edits ∷ [])).
-            shows_under later next h base_next tidy_next now (stay later next files_next) image left.left bytes
-            (current bytes state is (new_says bytes reads)) (new_says bytes reads))
+            (bytes, current bytes state is (new_says bytes reads), inr (new_says bytes reads)))
+            either
+
+    -- Whatever a crash leaves while the frame is appended and synced shows the history.
+    pub switching_shows : (now : DiskState) → WhileSwitching b.manifest.number piece mid now → (image : Image) → IsLeft now image
+        → Shown image h (last_number h)
+    switching_shows now during image left = by (switching_says now during image left)
+      where
+        stay : (c : Base) (k : Layout) → HoldsFiles c k mid → HoldsFiles c k now
+        stay c k stand = files_kept name mid now (switching_elsewhere now during) c k
+            (tables_beside_manifest b.manifest.number (tables k)) (logs_beside_manifest b.manifest.number k.flushed)
+            (from_beside_manifest c.state.head b.manifest.number) stand
+
+        by : SaysEither image → Shown image h (last_number h)
+        by (bytes, current, either) = ⊎_elim
+            (λ (says : SaysState b.manifest.number bytes b.state).
+            shows_under b l h base tidy now (stay b l files) image left.left bytes current says)
+            (λ (says : SaysState b.manifest.number bytes state).
+            shows_under later next h base_next tidy_next now (stay later next files_next) image left.left bytes current says)
             either
