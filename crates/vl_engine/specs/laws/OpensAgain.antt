@@ -269,7 +269,7 @@ module _ (b : Base) (edits : List Edit) (state : ManifestState) (before : List S
   -- At each moment of a switch a store may be opened on the disk, if it stops there.
   pub switching_opens_again : Holds (switched_base b edits state before) next (switched b.manifest.number fresh mid)
       → (now : DiskState) → WhileSwitching b.manifest.number fresh mid now → MayOpen now
-  switching_opens_again then now during = ⊎_elim
+  switching_opens_again behind now during = ⊎_elim
       (λ (appending : WhileAppending name fresh mid now). ⊎_elim
       (λ (is : now ≡ mid). subst MayOpen (sym is) (held_opens_again b l h base mid tidy.levels holds))
       (λ (part : (taken : ℕ) × (taken ≤ length fresh) × (now ≡ appended name fresh taken mid)).
@@ -278,7 +278,7 @@ module _ (b : Base) (edits : List Edit) (state : ManifestState) (before : List S
       (λ (syncing : WhileSyncing name (appended name fresh (length fresh) mid) now). ⊎_elim
       (λ (is : now ≡ appended name fresh (length fresh) mid). subst MayOpen (sym is) (torn_opens_again (length fresh) (omega arith)))
       (λ (is : now ≡ switched b.manifest.number fresh mid). subst MayOpen (sym is)
-      (held_opens_again (switched_base b edits state before) next h base_next (switched b.manifest.number fresh mid) tidy_next.levels then))
+      (held_opens_again (switched_base b edits state before) next h base_next (switched b.manifest.number fresh mid) tidy_next.levels behind))
       syncing)
       during
 
