@@ -10,7 +10,6 @@ use Rattle.vl_layout.specs.declared.layout.Layout.{Layout}
 use Rattle.vl_layout.specs.declared.segment.Segment.{Segment}
 use Rattle.vl_manifest.specs.States.{whole_edits}
 use Rattle.vl_manifest.specs.declared.manifest_log.ManifestLog.{ManifestLog}
-use Rattle.vl_manifest.specs.declared.state.ManifestState.{ManifestState}
 use Rattle.vl_model.specs.History.{History}
 use Rattle.vl_recover.specs.opening.Answers.{Finds}
 use Rattle.vl_recover.specs.opening.Opening.{IsAmong, led_into}

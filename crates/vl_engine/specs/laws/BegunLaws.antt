@@ -1,5 +1,5 @@
 -- What an opening leaves is a layout that the disk holds, tables and the logs that they lead into with it.
-use Rattle.std.specs.Prelude.{◌≡◌, ◌≢◌, ◌⊎◌, ◌≤◌, ◌<◌, ◌^◌, ◌==◌, ℕ, ◌+◌, Bool, true, false, not, nat_lt, if◌then◌else◌, List, [], ◌∷◌, ◌++◌, map, Option, None, Some, Result, Ok, refl}
+use Rattle.std.specs.Prelude.{◌≡◌, ◌≢◌, ◌⊎◌, ◌≤◌, ◌<◌, ◌^◌, ◌==◌, ℕ, ◌+◌, Bool, true, false, not, nat_lt, if◌then◌else◌, List, [], ◌∷◌, ◌++◌, map, Option, Some, Ok, refl}
 use Rattle.std.specs.FinMap.{get}
 use Rattle.std.specs.List.{AllByRecursion, filter}
 use Rattle.std.proofs.Common.{sym, ap, subst, ◌∙◌, append-nil, arith, inl, inr, ⊎_elim}
@@ -9,8 +9,8 @@ use Rattle.vl_disk.specs.Crash.{Image}
 use Rattle.vl_disk.specs.DiskState.{DiskState, IsLawful, settled}
 use Rattle.vl_disk.specs.declared.name.Name.TheVariants.{Log, Manifest, Table}
 use Rattle.vl_engine.specs.Begun.{as_led, base_begun, layout_begun, led_below}
-use Rattle.vl_engine.specs.Files.{HasLog, HasTable, HoldsLog, HoldsTable, bytes_of_table, found_levels}
-use Rattle.vl_engine.specs.Held.{Base, Holds, HoldsBase, HoldsFiles, IsBase}
+use Rattle.vl_engine.specs.Files.{HasTable, HoldsLog, HoldsTable, bytes_of_table, found_levels}
+use Rattle.vl_engine.specs.Held.{Base, Holds, IsBase}
 use Rattle.vl_engine.specs.Pointed.{IsFramedAmong, bytes_of_log, segment_at}
 use Rattle.vl_engine.specs.Shown.{HasFramedAmong, Shown, tables_among}
 use Rattle.vl_engine.specs.laws.FileLaws.{all_back, all_each, all_filtered, all_front, all_more, has_numbered, segment_number}
@@ -22,8 +22,6 @@ use Rattle.vl_layout.specs.Start.{has_frames, is_any, newest_first}
 use Rattle.vl_layout.specs.Tidy.{sealed}
 use Rattle.vl_layout.specs.declared.segment.Segment.{Segment}
 use Rattle.vl_layout.specs.declared.table.Table as laid
-use Rattle.vl_manifest.specs.Grammar.{edits_grammar}
-use Rattle.vl_manifest.specs.Manifest.{state_of}
 use Rattle.vl_manifest.specs.States.{read_in, state_behind, state_then, whole_edits}
 use Rattle.vl_manifest.specs.Switching.{HasFrames}
 use Rattle.vl_manifest.specs.declared.manifest_log.ManifestLog.{ManifestLog}
@@ -32,15 +30,14 @@ use Rattle.vl_manifest.specs.laws.StateLaws.{IsInRange}
 use Rattle.vl_manifest.specs.laws.WholeLaws.{whole_says}
 use Rattle.vl_model.specs.Formats.{log_format, manifest_format}
 use Rattle.vl_model.specs.History.{History, last_number}
-use Rattle.vl_model.specs.declared.log_frame.LogFrame.{LogFrame}
 use Rattle.vl_recover.specs.crash.Held.{DurableAs, GoOn, HoldsLogs, HoldsStore, IsNowhere, view_of}
 use Rattle.vl_recover.specs.laws.opening.OpeningLaws.{opened, single_opening, some_none, some_same}
 use Rattle.vl_recover.specs.laws.repairing.RecoveredLaws.{found_goes_on}
 use Rattle.vl_recover.specs.laws.repairing.StageLaws.{ok_same}
-use Rattle.vl_recover.specs.opening.Answers.{Finds, and_made, as_segments, last_format, logs_then}
+use Rattle.vl_recover.specs.opening.Answers.{Finds, and_made, as_segments, logs_then}
 use Rattle.vl_recover.specs.opening.Opening.{FoundTable, IsAmong, IsNamed, NamedLevels, Opening, Refusal, StandingLogs, led_into}
 use Rattle.vl_recover.specs.opening.Plans.{active_log, log_made, new_state}
-use Rattle.vl_recover.specs.opening.Walk.{StandingLog, format_of}
+use Rattle.vl_recover.specs.opening.Walk.{StandingLog}
 use Rattle.vl_seglog.specs.Frames.{log_bytes}
 use Rattle.vl_seglog.specs.LogReading.{LogReading, ReadsLog}
 use Rattle.vl_seglog.specs.laws.LogReadingLaws.{one_log_reading, reads_written}
@@ -181,7 +178,8 @@ standing_framed image k bytes there framed least (q ∷ []) (next, behind) from 
   where
     at_one : q.number ≡ k → is_any q.reading.frames ≡ true
     at_one same =
-        let one : bytes ≡ next.bytes = some_same bytes next.bytes (sym there ∙ sym (ap (λ (n : ℕ). get image (Log n)) same) ∙ next.stands) in
+        let one : bytes ≡ next.bytes = some_same bytes next.bytes
+        (sym there ∙ sym (ap (λ (n : ℕ). get image (Log n)) same) ∙ next.stands) in
         framed q.reading (subst (λ (bs : List ℕ). ReadsLog k bs q.reading) (sym one)
         (subst (λ (n : ℕ). ReadsLog n next.bytes q.reading) same next.reads))
 
@@ -198,7 +196,8 @@ standing_framed image k bytes there framed least (q ∷ p ∷ ps) (next, behind)
   where
     at_one : q.number ≡ k → is_any q.reading.frames ≡ true
     at_one same =
-        let one : bytes ≡ next.bytes = some_same bytes next.bytes (sym there ∙ sym (ap (λ (n : ℕ). get image (Log n)) same) ∙ next.stands) in
+        let one : bytes ≡ next.bytes = some_same bytes next.bytes
+        (sym there ∙ sym (ap (λ (n : ℕ). get image (Log n)) same) ∙ next.stands) in
         framed q.reading (subst (λ (bs : List ℕ). ReadsLog k bs q.reading) (sym one)
         (subst (λ (n : ℕ). ReadsLog n next.bytes q.reading) same next.reads))
 
@@ -239,7 +238,8 @@ level_durable read disk (t ∷ ts) each have = (
 )
 
 levels_durable : (read : Image) (disk : DiskState) (levels : List (List laid.Table))
-    → ((n : ℕ) → IsNamed (map numbers_of levels) n → DurableAs read disk (Table n)) → AllByRecursion (HasTable read) (tables_among levels)
+    → ((n : ℕ) → IsNamed (map numbers_of levels) n → DurableAs read disk (Table n))
+    → AllByRecursion (HasTable read) (tables_among levels)
     → AllByRecursion (HoldsTable disk) (tables_among levels)
 levels_durable read disk [] each have = tt
 levels_durable read disk (ts ∷ levels) each have = all_more (HoldsTable disk) ts (tables_among levels)
@@ -301,8 +301,10 @@ module _ {read : Image} (found : Finds read) (h : History) (shown : Shown read h
         → IsFramedAmong (sealed (layout_begun room found shown before)) k
     begun_led k among = ⊎_elim
         (λ (less : k < head). found_behind (newest_first (filter has_frames before)) (without ++ below) k
-        (all_newest (λ (x : Segment). x.number ≢ k) (filter has_frames before) (all_filtered (λ (x : Segment). x.number ≢ k) has_frames before (others less)))
-        (found_behind without below k (all_filtered (λ (x : Segment). x.number ≢ k) (λ (x : Segment). not (has_frames x)) before (others less))
+        (all_newest (λ (x : Segment). x.number ≢ k) (filter has_frames before)
+        (all_filtered (λ (x : Segment). x.number ≢ k) has_frames before (others less)))
+        (found_behind without below k
+        (all_filtered (λ (x : Segment). x.number ≢ k) (λ (x : Segment). not (has_frames x)) before (others less))
         (found_among below k (each_below head (λ (x : Segment). has_frames x ≡ true) (led_into shown.opening.levels) shown.led
         (λ n is. (shown.led n is).is.framed))
         (has_below head (led_into shown.opening.levels) shown.led k is_led less))))
@@ -325,7 +327,8 @@ module _ {read : Image} (found : Finds read) (h : History) (shown : Shown read h
         others : k < head → AllByRecursion (λ (x : Segment). x.number ≢ k) before
         others less = all_each (λ (x : Segment). head ≤ x.number) (λ (x : Segment). x.number ≢ k) before
             (λ x from same. omega (arith, less, from, same))
-            (held_from disk head before (new_segment log_format (active_log found.greatest found.opening.state found.logs) [] ∷ []) logs_held)
+            (held_from disk head before
+            (new_segment log_format (active_log found.greatest found.opening.state found.logs) [] ∷ []) logs_held)
 
         found_among : (ss : List Segment) (n : ℕ) → AreFramed ss → HasFramed ss n → IsFramedAmong ss n
         found_among ss n framed has = subst (λ (ts : List Segment). IsFramedAmong ts n) (append-nil ss) (found_framed ss [] n framed has)
@@ -335,7 +338,8 @@ module _ {read : Image} (found : Finds read) (h : History) (shown : Shown read h
         → IsBase (base_begun found manifest before) (layout_begun room found shown before) h
     begun_base fits range number = record {
       numbered = fits;
-      made = ap (λ (o : Option ManifestState). read_in manifest_format (state_then 16 (λ (t : ManifestState). state_behind t []) o)) (whole_says state range);
+      made = ap (λ (o : Option ManifestState). read_in manifest_format (state_then 16 (λ (t : ManifestState). state_behind t []) o))
+          (whole_says state range);
       goes = subst (λ (ss : List Segment). GoOn state.covered ss (last_number h)) ends
           (subst (GoOn state.covered (logs_then found)) number (found_goes_on found));
       levels = names_are;
@@ -348,7 +352,8 @@ module _ {read : Image} (found : Finds read) (h : History) (shown : Shown read h
     }
 
     -- And the disk holds it.
-    pub begun_holds : HasFrames manifest (whole_edits state ∷ []) disk → ((m : ℕ) → manifest.number < m → IsNowhere disk (Manifest m))
+    pub begun_holds : HasFrames manifest (whole_edits state ∷ []) disk
+        → ((m : ℕ) → manifest.number < m → IsNowhere disk (Manifest m))
         → IsLawful disk → Holds (base_begun found manifest before) (layout_begun room found shown before) disk
     begun_holds has above lawful = record {
       base = record { has = has; above = above };
@@ -358,7 +363,8 @@ module _ {read : Image} (found : Finds read) (h : History) (shown : Shown read h
             (λ n named. store.needs.tables n (subst (λ (ns : List (List ℕ)). IsNamed ns n) (sym names_are) named)) shown.tables;
         flushed = all_more (HoldsLog disk) (filter (λ (x : Segment). not (has_frames x)) before) below
             (all_filtered (HoldsLog disk) (λ (x : Segment). not (has_frames x)) before
-            (each_held disk head before (new_segment log_format (active_log found.greatest found.opening.state found.logs) [] ∷ []) logs_held))
+            (each_held disk head before
+            (new_segment log_format (active_log found.greatest found.opening.state found.logs) [] ∷ []) logs_held))
             (each_below head (HoldsLog disk) (led_into shown.opening.levels) shown.led led_durable);
       };
       durable = store.durable;

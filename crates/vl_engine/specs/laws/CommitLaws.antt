@@ -1,10 +1,8 @@
 -- A commit's frame behind the active log of a disk that holds a layout: what a crash leaves meanwhile, and what is held
 -- then. The tables stay, and the logs that they lead into.
-use Rattle.std.specs.Prelude.{◌≡◌, ◌≢◌, ◌≤◌, ℕ, ◌+◌, ◌==◌, ◌||◌, Bool, true, false, if◌then◌else◌, List, [], ◌∷◌, ◌++◌, length, None, Some, Ok, refl}
+use Rattle.std.specs.Prelude.{◌≡◌, ℕ, ◌+◌, true, List, [], ◌∷◌, ◌++◌, length, Ok, refl}
 use Rattle.std.specs.FinMap.{from_sorted}
-use Rattle.std.specs.List.{AllByRecursion}
 use Rattle.std.proofs.Common.{sym, ap, subst, ◌∙◌, length-append, arith, ⊎_elim}
-use Rattle.std.proofs.lemmas.Bool.Decides.{nat_tests}
 use Rattle.vl_disk.specs.Changes.{SameElsewhere}
 use Rattle.vl_disk.specs.Crash.{Image, WhileAppending, WhileSyncing}
 use Rattle.vl_disk.specs.DiskState.{DiskState, appended, synced}
@@ -14,18 +12,17 @@ use Rattle.vl_disk.specs.declared.name.Name.{Name}
 use Rattle.vl_disk.specs.laws.Lawful.{appended_lawful, synced_lawful}
 use Rattle.vl_engine.specs.Files.{found_levels}
 use Rattle.vl_engine.specs.Held.{Base, Holds, HoldsSources, IsBase, logs_from}
-use Rattle.vl_engine.specs.Pointed.{layout_logs, segment_at}
+use Rattle.vl_engine.specs.Pointed.{layout_logs}
 use Rattle.vl_engine.specs.Shown.{ShowsBetween}
 use Rattle.vl_engine.specs.laws.HeldLaws.{image_shows, led_stay, sources_held, store_held, view}
 use Rattle.vl_engine.specs.laws.KeptLaws.{AreOtherLogs, appending_elsewhere, base_kept, each_log_kept, manifests_beside_log, sources_kept, syncing_elsewhere, tables_beside_log, tables_kept, written_elsewhere}
 use Rattle.vl_engine.specs.laws.SegmentLaws.{not_among, other_behind, other_logs}
 use Rattle.vl_engine.specs.laws.ShownLaws.{shown_later}
 use Rattle.vl_frame.specs.Runs.{HasFrame}
-use Rattle.vl_layout.specs.Jobs.{AreDistinct}
 use Rattle.vl_layout.specs.Logs.{log_length}
 use Rattle.vl_layout.specs.Rulings.Commit.{Transaction, commit_frame, committed}
 use Rattle.vl_layout.specs.Sources.{tables}
-use Rattle.vl_layout.specs.Tidy.{IsTidy, log_numbers, sealed}
+use Rattle.vl_layout.specs.Tidy.{IsTidy, sealed}
 use Rattle.vl_layout.specs.declared.layout.Layout.{Layout}
 use Rattle.vl_layout.specs.declared.segment.Segment.{Segment}
 use Rattle.vl_model.specs.Frames.{frame_length}
@@ -38,7 +35,7 @@ use Rattle.vl_recover.specs.crash.Starts.{AllStay, MayOpen}
 use Rattle.vl_recover.specs.laws.crash.AppendLaws.{OpensEither, append_holds, append_leaves, append_may_open, commit_counts, goes_on, sync_leaves, sync_may_open, with_frame}
 use Rattle.vl_recover.specs.laws.crash.TornFrames.{frame_behind}
 use Rattle.vl_recover.specs.laws.opening.ReadImage.{read_image}
-use Rattle.vl_recover.specs.opening.Opening.{IsAmong, Opening, Opens, led_into}
+use Rattle.vl_recover.specs.opening.Opening.{IsAmong, Opens, led_into}
 use Rattle.vl_seglog.specs.Frames.{frames_grammar}
 use Rattle.vl_seglog.specs.laws.FrameLaws.{frames_end-more}
 
@@ -154,7 +151,8 @@ module _ (b : Base) (l : Layout) (h : History) (t : Transaction) (base : IsBase 
             shown_later h longer (with_commit-extends h (from_sorted t.writes)) image (last_number h) (omega arith)
                 (image_shows b l h base tidy now (sources_now now same) image left.left seen refl opens),
           ))
-          (λ (opens : Opens image (Ok (opening_held b.state seen (b.before ++ with_frame next_frame l.active ∷ []) (last_number h + 1)))). (
+          (λ (opens : Opens image (Ok (opening_held b.state seen (b.before ++ with_frame next_frame l.active ∷ [])
+          (last_number h + 1)))). (
             last_number longer,
             omega (arith, one_more),
             omega arith,

@@ -1,30 +1,31 @@
 -- Images that have tables and logs: what an opening finds there, and which of the logs it is led into.
 use Rattle.std.specs.Prelude.{◌≡◌, ◌⊎◌, ℕ, ◌+◌, ◌-◌, ◌<◌, ◌==◌, Bool, true, false, if◌then◌else◌, List, [], ◌∷◌, ◌++◌, map, Option, None, Some, Ok, refl}
 use Rattle.std.specs.FinMap.{get}
-use Rattle.std.specs.List.{AllByRecursion, filter, flat_map}
+use Rattle.std.specs.List.{AllByRecursion, filter}
 use Rattle.std.specs.Ordering.{is_lt}
 use Rattle.std.proofs.Common.{sym, ap, subst, ◌∙◌, arith, inl, inr, ⊎_elim}
 use Rattle.std.proofs.lemmas.Bool.Decides.{nat_tests}
 use Rattle.vl_block.specs.Cutting.{last_key}
 use Rattle.vl_disk.specs.Crash.{Image}
 use Rattle.vl_disk.specs.declared.name.Name.TheVariants.{Log}
-use Rattle.vl_engine.specs.Files.{HasLog, HasTable, bytes_of_table, found_levels, found_of}
+use Rattle.vl_engine.specs.Files.{HasTable, bytes_of_table, found_levels, found_of}
 use Rattle.vl_engine.specs.Pointed.{bytes_of_log, segment_at}
 use Rattle.vl_engine.specs.Shown.{HasFramedAmong, tables_among}
 use Rattle.vl_engine.specs.laws.TableReads.{reads_table}
 use Rattle.vl_layout.specs.Levels.{level_at}
 use Rattle.vl_layout.specs.Sources.{numbers_of}
-use Rattle.vl_layout.specs.TidyLevels.{AreLevels, IsApart}
+use Rattle.vl_layout.specs.TidyLevels.{IsApart}
 use Rattle.vl_layout.specs.declared.segment.Segment.{Segment}
 use Rattle.vl_layout.specs.declared.table.Table.{Table}
 use Rattle.vl_model.specs.Keys.{key_cmp}
-use Rattle.vl_recover.specs.opening.Opening.{FoundTable, IsAbove, IsAmong, IsNamed, NamedLevel, NamedLevels, NamedLogs, NamedTable, first_key}
+use Rattle.vl_recover.specs.opening.Opening.{IsAbove, IsAmong, IsNamed, NamedLevel, NamedLevels, NamedLogs, NamedTable}
 use Rattle.vl_seglog.specs.LogReading.{HasHeader}
 use Rattle.vl_seglog.specs.laws.LogReadingLaws.{reads_written}
 
 -- ---- all of a list
 
-pub all_more : {X : Type 0} (P : X → Type 0) (xs ys : List X) → AllByRecursion P xs → AllByRecursion P ys → AllByRecursion P (xs ++ ys)
+pub all_more : {X : Type 0} (P : X → Type 0) (xs ys : List X) → AllByRecursion P xs → AllByRecursion P ys
+    → AllByRecursion P (xs ++ ys)
 all_more P [] ys some others = others
 all_more P (x ∷ xs) ys some others = (some.0, all_more P xs ys some.1 others)
 
@@ -153,7 +154,8 @@ module _ (image : Image) where
 
   -- ---- the stage of the logs that they lead into
 
-  pub has_numbered : (ss : List Segment) (n : ℕ) → (has : HasFramedAmong image ss n) → get image (Log n) ≡ Some (bytes_of_log has.is.log)
+  pub has_numbered : (ss : List Segment) (n : ℕ) → (has : HasFramedAmong image ss n)
+      → get image (Log n) ≡ Some (bytes_of_log has.is.log)
   has_numbered ss n has =
       ap (λ (m : ℕ). get image (Log m)) (sym (segment_number ss n has.is.log has.is.at)) ∙ has.has.stands
 

@@ -1,6 +1,6 @@
 -- What a flush's switch makes of the base: its state, its head, and the logs from there on.
-use Rattle.std.specs.Prelude.{◌≡◌, ◌<◌, ◌≤◌, ◌^◌, ◌==◌, ℕ, ◌+◌, max, Bool, true, false, if◌then◌else◌, List, [], ◌∷◌, ◌++◌, length, map, Option, None, Some, Result, Ok, Err, refl}
-use Rattle.std.specs.List.{AllByRecursion, filter}
+use Rattle.std.specs.Prelude.{◌≡◌, ◌==◌, ℕ, ◌+◌, max, Bool, true, false, if◌then◌else◌, List, [], ◌∷◌, ◌++◌, length, map, Option, None, Some, Result, Ok, Err, refl}
+use Rattle.std.specs.List.{filter}
 use Rattle.std.proofs.Common.{sym, ap, subst, ◌∙◌, arith}
 use Rattle.std.proofs.lemmas.Bool.Decides.{nat_tests}
 use Rattle.vl_disk.specs.DiskState.{DiskState}
@@ -127,7 +127,8 @@ module _ (disk : DiskState) (a : Segment) where
   from_holds (s ∷ ss) least (up, between, readable, have, stands, rest) = by (from_holds ss (s.number + 1) rest) (has_frames s)
     where
       by : HoldsLogs (first_number (from_framed ss) a) (from_framed ss ++ a ∷ []) disk → (b : Bool)
-          → HoldsLogs (first_number (if b then s ∷ ss else from_framed ss) a) ((if b then s ∷ ss else from_framed ss) ++ a ∷ []) disk
+          → HoldsLogs (first_number (if b then s ∷ ss else from_framed ss) a)
+          ((if b then s ∷ ss else from_framed ss) ++ a ∷ []) disk
       by later true = (omega arith, λ m from less. absurd (omega (arith, from, less)), readable, have, stands, rest)
       by later false = later
 
@@ -158,7 +159,8 @@ counted_covered format (Committed number writes ∷ fs) n place m e =
   where
     by : ((k : ℕ) → counted format k (place + frame_length format (Committed number writes)) fs ≡ Ok m → covered_by fs k ≡ m)
         → (b : Bool) → (number == n + 1) ≡ b
-        → on_ok (λ k. counted format k (place + frame_length format (Committed number writes)) fs) (if b then Ok number else Err place) ≡ Ok m
+        → on_ok (λ k. counted format k (place + frame_length format (Committed number writes)) fs)
+        (if b then Ok number else Err place) ≡ Ok m
         → covered_by fs (max n number) ≡ m
     by rest true at is =
         let same : number ≡ n + 1 = grind (arith, nat_tests, at) in
@@ -243,8 +245,10 @@ state_more number first others f t u made one = by (first_state first) made
     next = 16 + length (item_frame (edits_grammar manifest_format) number 16 first)
 
     by : (o : Option ManifestState)
-        → read_in manifest_format (state_then 16 (λ (s : ManifestState). state_behind s (placed (edits_grammar manifest_format) number next others)) o) ≡ Ok t
-        → read_in manifest_format (state_then 16 (λ (s : ManifestState). state_behind s (placed (edits_grammar manifest_format) number next (others ++ f ∷ []))) o) ≡ Ok u
+        → read_in manifest_format (state_then 16 (λ (s : ManifestState).
+        state_behind s (placed (edits_grammar manifest_format) number next others)) o) ≡ Ok t
+        → read_in manifest_format (state_then 16 (λ (s : ManifestState).
+        state_behind s (placed (edits_grammar manifest_format) number next (others ++ f ∷ []))) o) ≡ Ok u
     by None is = absurd (err_ok 16 t is)
     by (Some s) is =
         let before = state_behind s (placed (edits_grammar manifest_format) number next others) in
@@ -275,7 +279,8 @@ module _ (b : Base) (l : Layout) (h : History) (s : Segment) (f : List Edit) (st
     (waits : oldest l.frozen ≡ Some s) (level : List Table) (deeper : List (List Table)) (are : l.levels ≡ level ∷ deeper)
     (makes : next_state f b.state ≡ Some state)
     (levels : state.levels ≡ (l.next_table ∷ numbers_of level) ∷ map numbers_of deeper)
-    (covers : state.covered ≡ covered_by s.frames b.state.covered) (kept : state.keep ≡ b.state.keep) (since : state.since ≡ b.state.since)
+    (covers : state.covered ≡ covered_by s.frames b.state.covered) 
+    (kept : state.keep ≡ b.state.keep) (since : state.since ≡ b.state.since)
     (led : (n : ℕ) → IsAmong (led_into (found_levels (flushed l s).levels)) n → IsFramedAmong (sealed (flushed l s)) n) where
   abbrev pub flushed_base : Base
   flushed_base = switched_base b f state (before_then b.before)

@@ -1,6 +1,6 @@
 -- A flush: a table is made, and a switch names it. Whatever a crash leaves meanwhile shows the history, and then the disk holds
 -- the layout that the ruling leaves.
-use Rattle.std.specs.Prelude.{◌≡◌, ◌≢◌, ◌⊎◌, ◌≤◌, ◌<◌, ℕ, ◌+◌, ◌&&◌, not, nat_le, length, Bool, true, false, if◌then◌else◌, List, [], ◌∷◌, ◌++◌, map, Option, None, Some, refl, insert}
+use Rattle.std.specs.Prelude.{◌≡◌, ◌≢◌, ◌⊎◌, ◌<◌, ℕ, ◌+◌, ◌&&◌, not, nat_le, length, Bool, true, false, if◌then◌else◌, List, [], ◌∷◌, ◌++◌, map, Option, None, Some, refl, insert}
 use Rattle.std.specs.FinMap.{get}
 use Rattle.std.specs.List.{AllByRecursion, filter, flat_map}
 use Rattle.std.specs.Option.{option_map}
@@ -9,7 +9,7 @@ use Rattle.std.proofs.lemmas.Bool.Decides.{nat_tests}
 use Rattle.vl_block.specs.Bytes.{IsTable, table_bytes}
 use Rattle.vl_disk.specs.Changes.{SameElsewhere}
 use Rattle.vl_disk.specs.Crash.{Image}
-use Rattle.vl_disk.specs.DiskState.{DiskState, File, IsLawful, appended, settled}
+use Rattle.vl_disk.specs.DiskState.{DiskState, File, appended, settled}
 use Rattle.vl_disk.specs.MadeFile.{WhileMaking, made}
 use Rattle.vl_disk.specs.Name.{IsNumbered}
 use Rattle.vl_disk.specs.declared.name.Name.{Name}
@@ -17,13 +17,13 @@ use Rattle.vl_disk.specs.declared.name.Name.TheVariants as names
 use Rattle.vl_disk.specs.laws.Lawful.{appended_lawful, made_lawful, synced_lawful}
 use Rattle.vl_disk.specs.laws.NameMap.{same_or_other}
 use Rattle.vl_engine.specs.Files.{HoldsLog, HoldsTable, IsLogFile, found_levels}
-use Rattle.vl_engine.specs.Held.{Base, Holds, HoldsBase, HoldsFiles, IsBase, frames_of, logs_from}
+use Rattle.vl_engine.specs.Held.{Base, Holds, HoldsBase, HoldsFiles, IsBase, frames_of}
 use Rattle.vl_engine.specs.Pointed.{IsFramedAmong, layout_logs}
 use Rattle.vl_engine.specs.Shown.{Shown}
-use Rattle.vl_engine.specs.laws.FileLaws.{all_each, all_filtered, all_front, all_more}
+use Rattle.vl_engine.specs.laws.FileLaws.{all_each, all_filtered, all_front}
 use Rattle.vl_engine.specs.laws.FlushBase.{before_then, first_framed, first_number, flush_base, head_then, then_holds}
 use Rattle.vl_engine.specs.laws.FlushTidy.{flush_led, flush_tidy}
-use Rattle.vl_engine.specs.laws.HeldLaws.{each_held, needed_shows, sources_held}
+use Rattle.vl_engine.specs.laws.HeldLaws.{needed_shows, sources_held}
 use Rattle.vl_engine.specs.laws.KeptLaws.{AreOtherTables, base_kept, files_kept, from_beside_table, log_table, logs_beside_table, manifests_beside_table, nothing_elsewhere, table_same, written_elsewhere}
 use Rattle.vl_engine.specs.laws.SwitchLaws.{switch_frame, switch_holds, switch_keeps, switched_base, switching_shows}
 use Rattle.vl_frame.specs.Runs.{HasFrame}
@@ -39,7 +39,7 @@ use Rattle.vl_layout.specs.declared.segment.Segment.{Segment}
 use Rattle.vl_layout.specs.declared.table.Table.{Table}
 use Rattle.vl_layout_laws.specs.laws.TidyLogs.{frozen_split}
 use Rattle.vl_manifest.specs.Grammar.{edits_grammar}
-use Rattle.vl_manifest.specs.Levels.{all_tables, is_in, put_at, put_in}
+use Rattle.vl_manifest.specs.Levels.{all_tables, is_in, put_at}
 use Rattle.vl_manifest.specs.Manifest.{manifest_bytes}
 use Rattle.vl_manifest.specs.States.{all_applied, are_next, as_draft, finish, flush_edits, given_if, is_file_number, is_head, next_state, then_applied, with_levels}
 use Rattle.vl_manifest.specs.Switching.{WhileSwitching, switched}
@@ -225,9 +225,11 @@ module _ (b : Base) (l : Layout) (h : History) (s : Segment) (disk : DiskState) 
 
   pub files_then : HoldsFiles later (flushed l s) mid
   files_then = record {
-    logs = subst (λ (n : ℕ). HoldsLogs n (before_then b.before ++ l.active ∷ []) mid) (head_is ∙ sym (ap (λ (x : ManifestState). x.head) state_is))
+    logs = subst (λ (n : ℕ). HoldsLogs n (before_then b.before ++ l.active ∷ []) mid)
+        (head_is ∙ sym (ap (λ (x : ManifestState). x.head) state_is))
         (then_holds mid l.active b.before b.state.head files_mid.logs);
-    tables = subst (λ (ls : List (List Table)). AllByRecursion (HoldsTable mid) (flat_levels (in_front (flushed_table l s) ls))) (sym can.are)
+    tables = subst (λ (ls : List (List Table)). AllByRecursion (HoldsTable mid) (flat_levels (in_front (flushed_table l s) ls)))
+        (sym can.are)
         (new_held, subst (λ (ls : List (List Table)). AllByRecursion (HoldsTable mid) (flat_levels ls)) can.are files_mid.tables);
     flushed = all_filtered (HoldsLog mid) (λ (x : Segment). not (is_idle unswitched x)) (s ∷ l.flushed) (first_mid, files_mid.flushed);
   }
@@ -309,7 +311,8 @@ module _ (b : Base) (l : Layout) (h : History) (s : Segment) (disk : DiskState) 
   pub flush_holds : IsNumbered table_name → Holds later (flushed l s) final
   flush_holds numbered = record {
     base = switch_holds b (edits_of l s) can.state (before_then b.before) base.numbered can.frame mid base_mid;
-    files = switch_keeps b (edits_of l s) can.state (before_then b.before) base.numbered can.frame mid base_mid later (flushed l s) files_then;
+    files = switch_keeps b (edits_of l s) can.state (before_then b.before) base.numbered can.frame mid base_mid later
+        (flushed l s) files_then;
     durable = final_settled;
     lawful = synced_lawful (appended (names.Manifest b.manifest.number) frame (length frame) mid)
         (appended_lawful mid (made_lawful disk holds.lawful table_name (bytes_of l s) numbered) (names.Manifest b.manifest.number)

@@ -1,25 +1,24 @@
 -- A flush leaves a layout tidy whose pointers lead where they led before, in the logs that stay.
-use Rattle.std.specs.Prelude.{◌≡◌, ◌⊎◌, ℕ, Bool, true, false, not, nat_le, if◌then◌else◌, List, [], ◌∷◌, ◌++◌, map, Option, None, Some, refl}
-use Rattle.std.specs.List.{AllByRecursion, filter, flat_map}
+use Rattle.std.specs.Prelude.{◌≡◌, ◌⊎◌, ℕ, Bool, true, false, not, nat_le, if◌then◌else◌, List, [], ◌∷◌, ◌++◌, map, Option, Some, refl}
+use Rattle.std.specs.List.{AllByRecursion, flat_map}
 use Rattle.std.specs.Option.{option_map}
 use Rattle.std.proofs.Common.{sym, ap, subst, ◌∙◌, ⊎_elim}
 use Rattle.vl_engine.specs.Files.{IsLogFile, found_levels}
-use Rattle.vl_engine.specs.Held.{Base, IsBase}
 use Rattle.vl_engine.specs.Pointed.{IsFramedAmong, bytes_of_log, layout_logs, segment_at, stored_among, stored_of}
-use Rattle.vl_engine.specs.laws.FileLaws.{all_back, all_each, all_front, all_more}
+use Rattle.vl_engine.specs.laws.FileLaws.{all_front}
 use Rattle.vl_engine.specs.laws.LedLaws.{AreFarTo, IsFarTo, among_in, led_in, led_more}
 use Rattle.vl_engine.specs.laws.MemtablePlaces.{IsFound, IsFoundAt, memtable_found, memtable_placed}
 use Rattle.vl_engine.specs.laws.SegmentLaws.{of_format, segment_there, segment_wider}
 use Rattle.vl_layout.specs.Jobs.{AreDistinct}
 use Rattle.vl_layout.specs.Logs.{memtable}
 use Rattle.vl_layout.specs.Ruling.{is_idle}
-use Rattle.vl_layout.specs.Rulings.Flush.{flush_of, flush_ruling, flushed, flushed_table}
+use Rattle.vl_layout.specs.Rulings.Flush.{flushed, flushed_table}
 use Rattle.vl_layout.specs.Levels.{in_front}
-use Rattle.vl_layout.specs.Shown.{ArePlaced, ShowsLow, low_at}
-use Rattle.vl_layout.specs.Shows.{Means, Shows}
+use Rattle.vl_layout.specs.Shown.{ShowsLow, low_at}
+use Rattle.vl_layout.specs.Shows.{Shows}
 use Rattle.vl_layout.specs.Sources.{behind_active, but_oldest, oldest, sources, table_entries, tables}
-use Rattle.vl_layout.specs.Start.{has_frames, newest_first}
-use Rattle.vl_layout.specs.Tidy.{IsPlacedAt, IsPlacedIn, IsTidy, format_of, log_numbers, sealed}
+use Rattle.vl_layout.specs.Start.{has_frames}
+use Rattle.vl_layout.specs.Tidy.{IsPlacedAt, IsPlacedIn, IsTidy, log_numbers, sealed}
 use Rattle.vl_layout.specs.declared.layout.Layout.{Layout}
 use Rattle.vl_layout.specs.declared.segment.Segment.{Segment}
 use Rattle.vl_layout.specs.declared.table.Table.{Table}

@@ -18,7 +18,7 @@ use Rattle.vl_engine.specs.laws.ShownLaws.{shown_by}
 use Rattle.vl_layout.specs.Logs.{memtable}
 use Rattle.vl_layout.specs.Shown.{IsOf}
 use Rattle.vl_layout.specs.Shows.{AreUpTo, Shows}
-use Rattle.vl_layout.specs.Sources.{floor, numbers_of, sources, tables}
+use Rattle.vl_layout.specs.Sources.{floor, sources, tables}
 use Rattle.vl_layout.specs.Start.{has_frames, newest_first}
 use Rattle.vl_layout.specs.Tidy.{IsTidy, sealed}
 use Rattle.vl_layout.specs.TidyLevels.{AreLevels}
@@ -68,8 +68,8 @@ all_newest P [] all = tt
 all_newest P (s ∷ ss) all = all_more P (newest_first ss) (s ∷ []) (all_newest P ss all.1) (all.0, tt)
 
 -- a log with frames stays as it is, whatever its format
-framed_stays : (format : ℕ) (frames : List LogFrame) (s : Segment) → s.format ≡ format → s.frames ≡ frames → has_frames s ≡ true
-    → keeps_header (Some format) frames ≡ true
+framed_stays : (format : ℕ) (frames : List LogFrame) (s : Segment) → s.format ≡ format → s.frames ≡ frames
+    → has_frames s ≡ true → keeps_header (Some format) frames ≡ true
 framed_stays format [] s formats is framed =
     absurd (let none : false ≡ true = sym (ap is_any_frame is) ∙ framed in cc)
   where
@@ -243,7 +243,8 @@ module _ (b : Base) (l : Layout) (h : History) (base : IsBase b l h) where
         from_floor : Shows (layout_logs l) (sources l) h (low h (floor l h) b.state.keep b.state.since) (last_number h)
         from_floor =
             subst (λ (k : ℕ). Shows (layout_logs l) (sources l) h (low h (floor l h) k b.state.since) (last_number h)) (sym base.keep)
-            (subst (λ (n : ℕ). Shows (layout_logs l) (sources l) h (low h (floor l h) l.keep n) (last_number h)) (sym base.since) tidy.shows)
+            (subst (λ (n : ℕ). Shows (layout_logs l) (sources l) h (low h (floor l h) l.keep n) (last_number h))
+            (sym base.since) tidy.shows)
 
     -- An image that is left of a disk with the layout's sources, and opens with its logs, shows the history.
     pub image_shows : (disk : DiskState) → HoldsSources l disk → (image : Image) → MayLeave disk image

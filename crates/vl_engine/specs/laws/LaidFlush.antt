@@ -1,9 +1,8 @@
 -- A version that has a layout has the one behind a flush, with the flushed log's table in front and its memtable gone.
-use Rattle.std.specs.Prelude.{◌≡◌, ◌<◌, ℕ, List, [], ◌∷◌, ◌++◌, Option, Some, refl}
+use Rattle.std.specs.Prelude.{◌≡◌, ◌<◌, ℕ, List, [], ◌∷◌, ◌++◌, Option, Some}
 use Rattle.std.specs.List.{AllByRecursion, AllZip, flat_map}
 use Rattle.std.proofs.Common.{sym, ap, subst, ◌∙◌}
-use Rattle.vl_engine.specs.Laid.{HasLayout, HasLog, IsLogOf, IsMemtableOf, IsTableOf}
-use Rattle.vl_engine.specs.Pointed.{segment_at}
+use Rattle.vl_engine.specs.Laid.{HasLayout, HasLog, IsMemtableOf, IsTableOf}
 use Rattle.vl_engine.specs.laws.FlushTidy.{IsWider}
 use Rattle.vl_layout.specs.Levels.{in_front}
 use Rattle.vl_layout.specs.Logs.{memtable}

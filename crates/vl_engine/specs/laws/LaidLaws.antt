@@ -1,11 +1,11 @@
 -- A version that has a layout has its sources, and its pointers lead where the layout's do.
-use Rattle.std.specs.Prelude.{◌≡◌, ℕ, ◌+◌, List, [], ◌∷◌, ◌++◌, map, option_and_then, Option, None, Some, refl}
+use Rattle.std.specs.Prelude.{◌≡◌, ℕ, ◌+◌, List, [], ◌∷◌, ◌++◌, map, option_and_then, Option, Some, refl}
 use Rattle.std.specs.List.{AllByRecursion, AllZip, flat_map}
 use Rattle.std.specs.Option.{option_map}
 use Rattle.std.proofs.Common.{sym, ap, ◌∙◌, append_assoc}
 use Rattle.vl_block.specs.Cutting.{joined}
 use Rattle.vl_engine.specs.Laid.{HasLayout, IsMemtableOf, IsTableOf}
-use Rattle.vl_engine.specs.Pointed.{bytes_of_log, layout_logs, segment_at, stored_of}
+use Rattle.vl_engine.specs.Pointed.{bytes_of_log, layout_logs, stored_of}
 use Rattle.vl_engine.specs.laws.FlushTidy.{IsThere, flat_far, tables_far}
 use Rattle.vl_engine.specs.laws.LedLaws.{AreFarTo, IsFarTo}
 use Rattle.vl_layout.specs.Logs.{committed_records, frame_entries, logged_entries, memtable, record_entry, relocated_records}
@@ -32,7 +32,7 @@ use Rattle.vl_seglog.specs.Stored.{stored_at}
 use Rattle.vl_seglog.specs.declared.sealed.SealedLog.{SealedLog}
 use Rattle.vl_table.specs.OfTables.{AreOf}
 use Rattle.vl_table.specs.declared.table.Table.{Table}
-use Rattle.vl_version.specs.Sources.{HasEntries, held_entries, in_memory, log_in, stored_in, tables_in}
+use Rattle.vl_version.specs.Sources.{HasEntries, held_entries, stored_in, tables_in}
 use Rattle.vl_version.specs.declared.version.Version.{Version}
 
 -- ---- what a memtable has leads into no log
@@ -138,7 +138,8 @@ module _ {H : Type 0} (bytes : H → Option (List ℕ)) where
       entries = ap (λ (es : List Entry). es ++ behind_active l) (sym has.active)
           ∙ ap (λ (es : List Entry). version.active.entries ++ (es ++ flat_map table_entries (tables l)))
           (frozen_entries version.behind.frozen.items l.frozen has.frozen)
-          ∙ ap (λ (es : List Entry). version.active.entries ++ (held_entries version.behind.frozen.items ++ es)) (entries_joined (tables l))
+          ∙ ap (λ (es : List Entry). version.active.entries ++ (held_entries version.behind.frozen.items ++ es))
+          (entries_joined (tables l))
           ∙ sym (append_assoc version.active.entries (held_entries version.behind.frozen.items) (joined (map table_entries (tables l))));
       told = has.told;
       leads = all_lead (sources l) (sources_far l h tidy);

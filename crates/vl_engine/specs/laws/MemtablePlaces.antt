@@ -1,5 +1,5 @@
 -- What a memtable places far is found in the bytes of its log.
-use Rattle.std.specs.Prelude.{◌≡◌, ℕ, ◌+◌, Bool, true, false, if◌then◌else◌, nat_le, List, [], ◌∷◌, ◌++◌, map, Some, refl}
+use Rattle.std.specs.Prelude.{◌≡◌, ℕ, ◌+◌, Bool, true, false, if◌then◌else◌, nat_le, List, [], ◌∷◌, map, Some, refl}
 use Rattle.std.specs.List.{AllByRecursion}
 use Rattle.std.specs.Option.{option_map}
 use Rattle.std.proofs.Common.{ap, ◌∙◌}
@@ -11,7 +11,7 @@ use Rattle.vl_layout.specs.declared.segment.Segment.{Segment}
 use Rattle.vl_layout.specs.laws.OrderShows.{all-in_order}
 use Rattle.vl_layout.specs.laws.ShowsLaws.{all_both}
 use Rattle.vl_model.specs.Frames.{frame_length, moved_length, record_length}
-use Rattle.vl_model.specs.Keys.{Stored, value_length}
+use Rattle.vl_model.specs.Keys.{value_length}
 use Rattle.vl_model.specs.Limits.{max_inline_bytes}
 use Rattle.vl_model.specs.Placement.{placement}
 use Rattle.vl_model.specs.Winners.{Logs, resolved}

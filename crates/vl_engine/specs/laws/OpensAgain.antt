@@ -1,5 +1,5 @@
 -- A store may be opened again on a disk on which a flush stopped, at whatever moment.
-use Rattle.std.specs.Prelude.{◌≡◌, ◌≢◌, ◌⊎◌, ◌≤◌, ◌<◌, ◌^◌, ◌-◌, ℕ, ◌+◌, Bool, true, false, List, [], ◌∷◌, ◌++◌, drop, length, map, take, Option, None, Some, Ok, refl}
+use Rattle.std.specs.Prelude.{◌≡◌, ◌≢◌, ◌⊎◌, ◌≤◌, ◌<◌, ◌-◌, ℕ, ◌+◌, true, false, List, [], ◌∷◌, ◌++◌, drop, length, map, take, Option, None, Some, Ok, refl}
 use Rattle.std.specs.FinMap.{get}
 use Rattle.std.specs.Option.{option_map}
 use Rattle.std.proofs.Common.{sym, ap, subst, ◌∙◌, append_assoc, arith, inl, inr, length-append, ⊎_elim}
@@ -8,7 +8,7 @@ use Rattle.std.proofs.lemmas.List.{drop-append-le, drop-drop, drop_all, drop_at,
 use Rattle.vl_disk.specs.Chance.{NoChanceOne, WasHandedOver, torn_from}
 use Rattle.vl_disk.specs.Changes.{SameElsewhere, changed_there}
 use Rattle.vl_disk.specs.Crash.{Image, WhileAppending, WhileSyncing, last_file}
-use Rattle.vl_disk.specs.DiskState.{DiskState, File, IsLawful, Piece, appended, created, lengthened, settled}
+use Rattle.vl_disk.specs.DiskState.{DiskState, File, IsLawful, appended, created, lengthened, settled}
 use Rattle.vl_disk.specs.MadeFile.{WhileMaking, durable, empty, in_part, made, not_there}
 use Rattle.vl_disk.specs.Name.{IsNumbered}
 use Rattle.vl_disk.specs.Started.{IsRead, read_left}
@@ -20,9 +20,9 @@ use Rattle.vl_engine.specs.Held.{Base, Holds, HoldsBase, HoldsFiles, IsBase, fra
 use Rattle.vl_engine.specs.Pointed.{layout_logs}
 use Rattle.vl_engine.specs.Shown.{Shown}
 use Rattle.vl_engine.specs.laws.FlushBase.{before_then}
-use Rattle.vl_engine.specs.laws.FlushLaws.{CanFlush, WhileFlushing, base_beside, base_mid, base_then, bytes_of, edits_of, files_beside, files_mid, files_then, flush_holds, frame, mid, mid_settled, table_name, tables_apart, tidy_then}
+use Rattle.vl_engine.specs.laws.FlushLaws.{CanFlush, WhileFlushing, base_beside, base_mid, base_then, bytes_of, edits_of, files_beside, files_mid, files_then, flush_holds, frame, mid, mid_settled, tables_apart, tidy_then}
 use Rattle.vl_engine.specs.laws.HeldLaws.{base_says, has_stays, held_opens_again, needed_shows}
-use Rattle.vl_engine.specs.laws.KeptLaws.{AreOtherTables, log_manifest, log_table, table_manifest}
+use Rattle.vl_engine.specs.laws.KeptLaws.{log_manifest, log_table, table_manifest}
 use Rattle.vl_engine.specs.laws.FileLaws.{named_among}
 use Rattle.vl_engine.specs.laws.SwitchLaws.{above_kept, later, piece, switched_base, switching_elsewhere, switching_says, switching_shows}
 use Rattle.vl_frame.specs.Runs.{HasFrame, item_frame}
@@ -42,10 +42,10 @@ use Rattle.vl_manifest.specs.declared.state.ManifestState.{ManifestState}
 use Rattle.vl_model.specs.Formats.{manifest_format}
 use Rattle.vl_model.specs.History.{History, last_number}
 use Rattle.vl_recover.specs.crash.Alike.{IsLeft, Spells}
-use Rattle.vl_recover.specs.crash.Held.{AllSettled, HoldsLogs, HoldsManifest, IsNowhere}
+use Rattle.vl_recover.specs.crash.Held.{HoldsLogs, HoldsManifest, IsNowhere}
 use Rattle.vl_recover.specs.crash.Starts.{AllMayStand, IsDurable, MayOpen, MayStand}
 use Rattle.vl_recover.specs.laws.crash.OneName.{Making, done, making, torn, waits}
-use Rattle.vl_recover.specs.laws.opening.HeldLaws.{held_state, none_removed, settled_may_all_stand, settled_may_stand}
+use Rattle.vl_recover.specs.laws.opening.HeldLaws.{held_state, none_removed, settled_may_stand}
 use Rattle.vl_recover.specs.laws.opening.LeadsLaws.{nowhere_kept}
 use Rattle.vl_recover.specs.laws.opening.OpeningLaws.{IsOpened, one_heading, opened, single_opening, single_says, some_none, some_same}
 use Rattle.vl_recover.specs.laws.repairing.StageLaws.{ok_same}
@@ -103,7 +103,8 @@ below_lead n disk lawful f stands above m gone = (n, low, λ none. some_none f (
 
 -- what is read may be left
 pub read_is_left : (read : Image) (disk : DiskState) → IsRead read disk → AllMayStand disk
-    → ((name : Name) (f : File) → get disk.standing name ≡ Some f → NoChanceOne Spells name (Some f) (Some f.bytes)) → IsLeft disk read
+    → ((name : Name) (f : File) → get disk.standing name ≡ Some f → NoChanceOne Spells name (Some f) (Some f.bytes))
+    → IsLeft disk read
 read_is_left read disk is files chance = record {
   left = read_left read disk is;
   no_chance = λ name. subst (NoChanceOne Spells name (last_file (get disk.standing name) (get disk.removed name))) (sym (is.each name))
@@ -278,7 +279,8 @@ module _ (b : Base) (edits : List Edit) (state : ManifestState) (before : List S
       (λ (syncing : WhileSyncing name (appended name fresh (length fresh) mid) now). ⊎_elim
       (λ (is : now ≡ appended name fresh (length fresh) mid). subst MayOpen (sym is) (torn_opens_again (length fresh) (omega arith)))
       (λ (is : now ≡ switched b.manifest.number fresh mid). subst MayOpen (sym is)
-      (held_opens_again (switched_base b edits state before) next h base_next (switched b.manifest.number fresh mid) tidy_next.levels behind))
+      (held_opens_again (switched_base b edits state before) next h base_next (switched b.manifest.number fresh mid)
+      tidy_next.levels behind))
       syncing)
       during
 
@@ -312,7 +314,8 @@ module _ (b : Base) (l : Layout) (h : History) (s : Segment) (disk : DiskState) 
     state_now read o is opens = held_state b.state now manifest_now read o (read_left read now is) opens
 
     -- a table that is named isn't the one that is made
-    named_settled : (n : ℕ) (g : File) → IsNamed (map numbers_of l.levels) n → get now.standing (Table n) ≡ Some g → g ≡ settled g.bytes
+    named_settled : (n : ℕ) (g : File) → IsNamed (map numbers_of l.levels) n → get now.standing (Table n) ≡ Some g
+        → g ≡ settled g.bytes
     named_settled n g named stands =
         let is = named_among (λ (t : laid.Table). Table t.number ≢ Table l.next_table) l.levels n
         (tables_apart b l h s disk base tidy holds can) named in
@@ -327,26 +330,27 @@ module _ (b : Base) (l : Layout) (h : History) (s : Segment) (disk : DiskState) 
         (λ m g stands. others_settled (Log m) g (log_table m l.next_table) stands)
         (λ read o is opens n g named stands. named_settled n g (subst (λ (ns : List (List ℕ)). IsNamed ns n)
         (ap (λ (x : ManifestState). x.levels) (state_now read o is opens) ∙ base.levels) named) stands)
-        (below_lead b.manifest.number now lawful (settled (manifest_bytes b.manifest.number (frames_of b))) base_now.has.durable base_now.above)
+        (below_lead b.manifest.number now lawful (settled (manifest_bytes b.manifest.number (frames_of b)))
+        base_now.has.durable base_now.above)
         (λ read o is opens m from. none_removed b.state.head (logs_from b l) now lawful files_now.logs m
         (subst (λ (x : ManifestState). x.head ≤ m) (state_now read o is opens) from))
         (λ read is. (h, last_number h, needed_shows b l h base tidy now base_now files_now read (read_left read now is)))
 
   module _ (numbered : IsNumbered (Table l.next_table)) where
-    lawful_now : (now : DiskState) → WhileMaking (Table l.next_table) (bytes_of l s) disk now → IsLawful now
-    lawful_now now (not_there is) = subst IsLawful (sym is) holds.lawful
-    lawful_now now (empty is) = subst IsLawful (sym is) (created_lawful disk holds.lawful (Table l.next_table) numbered)
-    lawful_now now (in_part taken le is) = subst IsLawful (sym is)
+    lawful_now : (d : DiskState) → WhileMaking (Table l.next_table) (bytes_of l s) disk d → IsLawful d
+    lawful_now d (not_there is) = subst IsLawful (sym is) holds.lawful
+    lawful_now d (empty is) = subst IsLawful (sym is) (created_lawful disk holds.lawful (Table l.next_table) numbered)
+    lawful_now d (in_part taken le is) = subst IsLawful (sym is)
         (appended_lawful (created (Table l.next_table) disk) (created_lawful disk holds.lawful (Table l.next_table) numbered)
         (Table l.next_table) (bytes_of l s) taken)
-    lawful_now now (durable is) = subst IsLawful (sym is) (made_lawful disk holds.lawful (Table l.next_table) (bytes_of l s) numbered)
+    lawful_now d (durable is) = subst IsLawful (sym is) (made_lawful disk holds.lawful (Table l.next_table) (bytes_of l s) numbered)
 
     pub making_opens_again : (now : DiskState) → WhileMaking (Table l.next_table) (bytes_of l s) disk now → MayOpen now
     making_opens_again now during = by (making (Table l.next_table) (bytes_of l s) disk now during)
       where
         by : Making (Table l.next_table) (bytes_of l s) disk now → MayOpen now
         by (waits is) = subst MayOpen (sym is) (held_opens_again b l h base disk tidy.levels holds)
-        by (torn file part stands same) = table_opens_again now (lawful_now now during) same
+        by (torn file _ stands same) = table_opens_again now (lawful_now now during) same
         by (done stands same) = table_opens_again now (lawful_now now during) same
 
     was_held : Holds b l (mid b l h s disk base tidy holds can)
@@ -361,7 +365,8 @@ module _ (b : Base) (l : Layout) (h : History) (s : Segment) (disk : DiskState) 
     pub flush_opens_again : (now : DiskState) → WhileFlushing b l h s disk base tidy holds can now → MayOpen now
     flush_opens_again now during = ⊎_elim
         (λ (table : WhileMaking (Table l.next_table) (bytes_of l s) disk now). making_opens_again now table)
-        (λ (switching : WhileSwitching b.manifest.number (frame b l h s disk base tidy holds can) (mid b l h s disk base tidy holds can) now).
+        (λ (switching : WhileSwitching b.manifest.number (frame b l h s disk base tidy holds can)
+        (mid b l h s disk base tidy holds can) now).
         switching_opens_again b (edits_of l s) can.state (before_then b.before) h l (flushed l s) can.frame
         (mid b l h s disk base tidy holds can) was_held base tidy (base_then b l h s disk base tidy holds can)
         (tidy_then b l h s disk base tidy holds can) (files_then b l h s disk base tidy holds can)

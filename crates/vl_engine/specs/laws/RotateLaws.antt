@@ -1,13 +1,12 @@
 -- A new log is begun behind the logs of a disk that holds a layout: what a crash leaves meanwhile, and what is held then. The
 -- tables stay, and the logs that they lead into.
-use Rattle.std.specs.Prelude.{◌≡◌, ◌≢◌, ◌⊎◌, ◌≤◌, ◌<◌, ℕ, ◌+◌, ◌==◌, Bool, true, false, if◌then◌else◌, List, [], ◌∷◌, ◌++◌, length, map, take, All, Option, None, Some, Ok, refl}
+use Rattle.std.specs.Prelude.{◌≡◌, ◌≢◌, ◌⊎◌, ◌≤◌, ◌<◌, ℕ, ◌+◌, ◌==◌, Bool, true, false, if◌then◌else◌, List, [], ◌∷◌, ◌++◌, length, map, take, All, Option, None, Some, refl}
 use Rattle.std.specs.FinMap.{get}
 use Rattle.std.specs.List.{AllByRecursion, filter}
 use Rattle.std.proofs.Common.{sym, ap, subst, ◌∙◌, arith, ⊎_elim}
 use Rattle.std.proofs.lemmas.Bool.{cases_lt, true≢false}
 use Rattle.std.proofs.lemmas.Bool.Decides.{nat_tests}
 use Rattle.std.proofs.lemmas.List.Elements.{All-cons, All-nil, filter-append}
-use Rattle.vl_disk.specs.Changes.{SameElsewhere}
 use Rattle.vl_disk.specs.Crash.{Image, MayLeave, MayLeaveOne}
 use Rattle.vl_disk.specs.DiskState.{DiskState, File, IsLawful, Piece, appended, created, settled}
 use Rattle.vl_disk.specs.MadeFile.{WhileMaking, durable, empty, in_part, made, not_there}
@@ -18,13 +17,13 @@ use Rattle.vl_disk.specs.declared.name.Name.TheVariants.{Log, Table}
 use Rattle.vl_disk.specs.laws.Lawful.{appended_lawful, created_lawful, made_lawful}
 use Rattle.vl_disk.specs.laws.NameMap.{same_or_other}
 use Rattle.vl_engine.specs.Files.{found_levels}
-use Rattle.vl_engine.specs.Held.{Base, Holds, HoldsSources, IsBase, frames_of, logs_from}
+use Rattle.vl_engine.specs.Held.{Base, Holds, IsBase, frames_of, logs_from}
 use Rattle.vl_engine.specs.Pointed.{IsFramedAmong, layout_logs, segment_at}
 use Rattle.vl_engine.specs.Shown.{Shown}
 use Rattle.vl_engine.specs.laws.FileLaws.{all_more, segment_all, segment_number}
 use Rattle.vl_engine.specs.laws.HeldLaws.{base_says, held_shown, led_stay, levels_left, sources_held, store_held, view}
 use Rattle.vl_engine.specs.laws.KeptLaws.{AreOtherLogs, base_kept, each_log_kept, manifests_beside_log, tables_beside_log, tables_kept}
-use Rattle.vl_engine.specs.laws.SegmentLaws.{not_among, other_logs}
+use Rattle.vl_engine.specs.laws.SegmentLaws.{not_among}
 use Rattle.vl_engine.specs.laws.ShownLaws.{shown_like}
 use Rattle.vl_layout.specs.Logs.{new_segment}
 use Rattle.vl_layout.specs.Rulings.Rotate.{rotated}
@@ -39,8 +38,8 @@ use Rattle.vl_model.specs.Formats.{log_format}
 use Rattle.vl_model.specs.History.{History, last_number}
 use Rattle.vl_model.specs.Numbers as numbers
 use Rattle.vl_recover.specs.crash.Alike.{IsLeft, OpensAsOf, OpensLike}
-use Rattle.vl_recover.specs.crash.Held.{AllSettled, GoOn, HoldsLogs, HoldsManifest, HoldsStore, IsNowhere, IsSettled, View, log_as_held}
-use Rattle.vl_recover.specs.crash.Starts.{AllStay, MayOpen}
+use Rattle.vl_recover.specs.crash.Held.{AllSettled, GoOn, HoldsLogs, HoldsManifest, IsNowhere, log_as_held}
+use Rattle.vl_recover.specs.crash.Starts.{MayOpen}
 use Rattle.vl_recover.specs.laws.crash.AlikeLaws.{LastIsWhole, SameBut, alike_some, log_same, one_more}
 use Rattle.vl_recover.specs.laws.crash.AppendLaws.{HoldsLast, last_held}
 use Rattle.vl_recover.specs.laws.crash.NewLogLaws.{making_may_open}
@@ -48,7 +47,7 @@ use Rattle.vl_recover.specs.laws.crash.OneName.{IsLeftOne, IsPart, Making, WasLe
 use Rattle.vl_recover.specs.laws.crash.Torn.{ReadsFrames, header_reads, no_reading, part_loose, part_synced, torn_header}
 use Rattle.vl_recover.specs.laws.opening.ContentLaws.{SameContent, none_each, same_each, walk_more}
 use Rattle.vl_recover.specs.laws.opening.HeldLaws.{held_current, left_nowhere, left_settled}
-use Rattle.vl_recover.specs.laws.opening.LeadsLaws.{current_kept, led_like, log_added, nowhere_kept}
+use Rattle.vl_recover.specs.laws.opening.LeadsLaws.{current_kept, led_like, log_added}
 use Rattle.vl_recover.specs.laws.opening.OpeningLaws.{some_none, some_same}
 use Rattle.vl_recover.specs.laws.opening.ReadImage.{read_image}
 use Rattle.vl_recover.specs.laws.repairing.RepairingSteps.{manifest_log}
@@ -255,8 +254,8 @@ module _ (b : Base) (l : Layout) (h : History) (base : IsBase b l h) (tidy : IsT
           (record { place = 0; bytes = header }) [] (omega arith)
           (All-nil (λ (piece : Piece). piece.place + length piece.bytes ≤ 16))
 
-      there : (file : File) → IsPart header file → (left : Option (List ℕ)) → IsLeftOne new_name (Some file) (get now.removed new_name) left
-          → WasLeft disk new_name left
+      there : (file : File) → IsPart header file → (left : Option (List ℕ))
+          → IsLeftOne new_name (Some file) (get now.removed new_name) left → WasLeft disk new_name left
       there file part None one = left_still disk new_name None missing
       there file part (Some bytes) one = record {
         was = None;

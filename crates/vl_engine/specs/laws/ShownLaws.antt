@@ -1,5 +1,5 @@
 -- What is shown of a history stays shown of each later one, and by images that open alike.
-use Rattle.std.specs.Prelude.{◌≡◌, ◌≤◌, ℕ, Bool, true, false, List, [], ◌∷◌, ◌++◌, map, Option, None, Some, Ok, refl}
+use Rattle.std.specs.Prelude.{◌≡◌, ◌≤◌, ℕ, Bool, true, false, List, [], ◌∷◌, ◌++◌, map, Option, None, Ok, refl}
 use Rattle.std.specs.FinMap.{get}
 use Rattle.std.specs.List.{AllByRecursion}
 use Rattle.std.proofs.Common.{sym, ap, subst, ◌∙◌, arith, inl, inr}
@@ -12,7 +12,7 @@ use Rattle.vl_engine.specs.Shown.{EntriesShow, HasFramedAmong, Shown, ShowsBetwe
 use Rattle.vl_engine.specs.laws.FileLaws.{all_back, all_front, all_more, segment_number}
 use Rattle.vl_engine.specs.laws.LogEntries.{entries-filled}
 use Rattle.vl_layout.specs.Shown.{IsOf}
-use Rattle.vl_layout.specs.Shows.{AreUpTo, Shows}
+use Rattle.vl_layout.specs.Shows.{Shows}
 use Rattle.vl_layout.specs.Sources.{numbers_of}
 use Rattle.vl_layout.specs.Tidy.{IsPlacedIn}
 use Rattle.vl_layout.specs.declared.segment.Segment.{Segment}
@@ -117,7 +117,8 @@ module _ (image : Image) where
   level_numbers deeper before [] (t ∷ ts) is = absurd cc
   level_numbers deeper before (n ∷ ns) [] (t, named, (others, rest, e)) = absurd cc
   level_numbers deeper before (n ∷ ns) (u ∷ us) (t, (stands, above), (others, rest, e)) =
-      let same : found_of u ∷ map found_of us ≡ t ∷ others = ok_same {E = Refusal} (found_of u ∷ map found_of us) (t ∷ others) e in
+      let same : found_of u ∷ map found_of us ≡ t ∷ others =
+      ok_same {E = Refusal} (found_of u ∷ map found_of us) (t ∷ others) e in
       let first : found_of u ≡ t = cc in
       let rest_is : map found_of us ≡ others = cc in
       let number : n ≡ u.number = sym stands.numbered ∙ sym (ap (λ (x : FoundTable). x.number) first) in
@@ -168,7 +169,8 @@ module _ (image other : Image) where
         is = has.is;
         has = record {
           is = has.has.is;
-          stands = ap (λ (m : ℕ). get image (Log m)) number ∙ same ∙ sym (ap (λ (m : ℕ). get other (Log m)) number) ∙ has.has.stands;
+          stands = ap (λ (m : ℕ). get image (Log m)) number ∙ same
+              ∙ sym (ap (λ (m : ℕ). get other (Log m)) number) ∙ has.has.stands;
         };
       }
 
@@ -190,7 +192,8 @@ module _ (image other : Image) where
           let more = entries_among shown.levels in
           subst (λ (k : ℕ). EntriesShow k p.state.since logs (logs_entries p.logs ++ more) h m) (sym alike.state.keep)
           (subst (λ (n : ℕ). EntriesShow was.keep n logs (logs_entries p.logs ++ more) h m) (sym alike.state.since)
-          (subst (λ (ss : List Segment). EntriesShow was.keep was.since logs (logs_entries ss ++ more) h m) (sym alike.logs) shown.entries))
+          (subst (λ (ss : List Segment). EntriesShow was.keep was.since logs (logs_entries ss ++ more) h m)
+          (sym alike.logs) shown.entries))
 
       by : ((p : Opening) × Opens image (Ok p) × ShowsAs p shown.opening × SameNeeded image other shown.opening)
           → Shown image h m

@@ -1,13 +1,12 @@
 -- A switch of the manifest, for whatever two layouts, both of whose files stand: what a crash leaves meanwhile, and what is held
 -- then. Before the switch the disk holds the one, behind it the other.
-use Rattle.std.specs.Prelude.{◌≡◌, ◌≢◌, ◌⊎◌, ◌≤◌, ◌<◌, ◌^◌, ℕ, ◌+◌, List, [], ◌∷◌, ◌++◌, length, Option, Some, Ok, refl}
+use Rattle.std.specs.Prelude.{◌≡◌, ◌≢◌, ◌⊎◌, ◌≤◌, ◌<◌, ◌^◌, ℕ, ◌+◌, List, [], ◌∷◌, ◌++◌, length, Some}
 use Rattle.std.specs.FinMap.{get}
-use Rattle.std.specs.List.{AllByRecursion}
-use Rattle.std.proofs.Common.{sym, ap, subst, ◌∙◌, arith, inl, inr, length-append, ⊎_elim}
+use Rattle.std.proofs.Common.{sym, ap, ◌∙◌, arith, inl, inr, length-append, ⊎_elim}
 use Rattle.std.proofs.lemmas.Bool.{cases_lt}
 use Rattle.vl_disk.specs.Changes.{SameElsewhere}
-use Rattle.vl_disk.specs.Crash.{Image, MayLeave, WhileAppending, WhileSyncing}
-use Rattle.vl_disk.specs.DiskState.{DiskState, appended, settled}
+use Rattle.vl_disk.specs.Crash.{Image, WhileAppending, WhileSyncing}
+use Rattle.vl_disk.specs.DiskState.{DiskState, appended}
 use Rattle.vl_disk.specs.declared.name.Name.{Name}
 use Rattle.vl_disk.specs.declared.name.Name.TheVariants.{Manifest}
 use Rattle.vl_engine.specs.Held.{Base, HoldsBase, HoldsFiles, IsBase, frames_of}
@@ -38,7 +37,8 @@ use Rattle.vl_recover.specs.laws.opening.OpeningLaws.{some_none}
 
 -- the bytes of one frame more at the manifest's end
 abbrev pub switch_frame : Base → List Edit → List ℕ
-switch_frame b edits = item_frame (edits_grammar manifest_format) b.manifest.number (length (manifest_bytes b.manifest.number (frames_of b))) edits
+switch_frame b edits = item_frame (edits_grammar manifest_format) b.manifest.number
+    (length (manifest_bytes b.manifest.number (frames_of b))) edits
 
 -- the base behind it
 abbrev pub switched_base : Base → List Edit → ManifestState → List Segment → Base

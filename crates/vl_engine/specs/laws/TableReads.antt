@@ -1,5 +1,5 @@
 -- A true table is read as what it is. (The text is that of vl_table's proofs, where no other crate sees it.)
-use Rattle.std.specs.Prelude.{◌≡◌, ◌+◌, ◌-◌, ◌≤◌, ◌<◌, ◌^◌, ◌*◌, ℕ, Bool, true, false, List, [], ◌++◌, drop, length, Option, Some, None}
+use Rattle.std.specs.Prelude.{◌≡◌, ◌+◌, ◌-◌, ◌≤◌, ◌<◌, ◌^◌, ◌*◌, ℕ, Bool, true, false, List, [], ◌++◌, drop, length, Some, None}
 use Rattle.std.proofs.Common.{cond, refl, ap, sym, subst, ◌∙◌, append-nil, arith}
 use Rattle.byteorder.specs.Endian.{big_bytes, big_number}
 use Rattle.byteorder.specs.Numbers.{big_number-reads_back}

@@ -1,6 +1,6 @@
 -- The edits of a flush's switch are those of the layout that the ruling leaves.
 use Rattle.std.specs.Prelude.{◌≡◌, ◌≤◌, ℕ, ◌+◌, List, [], ◌∷◌, ◌++◌, length, Some, refl}
-use Rattle.std.proofs.Common.{sym, ap, subst, ◌∙◌, arith}
+use Rattle.std.proofs.Common.{ap, subst, ◌∙◌, arith}
 use Rattle.vl_back.specs.FlushEdits.{flush_switch, head_of, switch_of}
 use Rattle.vl_back.specs.declared.back.Back.{Back}
 use Rattle.vl_back.specs.declared.back.Waiting.{Waiting}
@@ -15,7 +15,6 @@ use Rattle.vl_layout.specs.declared.layout.Layout.{Layout}
 use Rattle.vl_layout.specs.declared.segment.Segment.{Segment}
 use Rattle.vl_layout_laws.specs.laws.TidyLogs.{frozen_split}
 use Rattle.vl_manifest.specs.States.{flush_edits}
-use Rattle.vl_manifest.specs.declared.edit.Edit.{Edit}
 
 -- ---- the frozen logs, the oldest first
 
@@ -66,7 +65,8 @@ module _ (back : Back) (b : Base) (l : Layout) (s : Segment) (is : IsBack back b
           ap (λ (n : ℕ). flush_edits n (head_of l.active.number ws) w.covered back.next_log (n + 1)) table
           ∙ ap (λ (n : ℕ). flush_edits l.next_table n w.covered back.next_log (l.next_table + 1)) first
           ∙ ap (λ (n : ℕ). flush_edits l.next_table (head (flushed l s)) n back.next_log (l.next_table + 1)) covers
-          ∙ ap (λ (n : ℕ). flush_edits l.next_table (head (flushed l s)) (covered_by s.frames l.covered) n (l.next_table + 1)) is.next_log
+          ∙ ap (λ (n : ℕ). flush_edits l.next_table (head (flushed l s)) (covered_by s.frames l.covered) n
+          (l.next_table + 1)) is.next_log
 
   -- and the others wait on.
   pub waiting_then : (ws : List Waiting) (w : Waiting) → back.waiting.items ≡ w ∷ ws
