@@ -71,6 +71,7 @@ pub needs_kept : (s : ManifestState) (v : View) (name : Name) (old now : DiskSta
     → IsUnneeded s v name → Needs s v old → Needs s v now
 needs_kept s v name old now same apart needs = record {
   named = needs.named;
+  led = needs.led;
   tables = λ n named. durable_kept v name old now same (Table n) (apart.tables n named) (needs.tables n named);
   logs = λ n among. durable_kept v name old now same (Log n) (apart.logs n among) (needs.logs n among);
 }

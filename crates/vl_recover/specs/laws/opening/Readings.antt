@@ -84,6 +84,7 @@ place_of (Some p) = p.place
 
 -- A table is damaged first at one place.
 pub one_damage : (number : ℕ) (bytes : List ℕ) (x y : ℕ) → IsDamaged number bytes x → IsDamaged number bytes y → x ≡ y
+unfolding place_of
 one_damage number bytes x y (no_header none at) (no_header none' at') = at ∙ sym at'
 one_damage number bytes x y (no_header none at) (no_place format' begun' none' at') = absurd (none format' begun')
 one_damage number bytes x y (no_header none at) (no_footer format' begun' inside' none' at') = absurd (none format' begun')
