@@ -1,0 +1,6 @@
+mod Adding
+mod Coming
+mod Files
+mod Holding
+mod Named
+mod Switching

@@ -1,0 +1,5 @@
+pub mod Deciding
+pub mod Failing
+pub mod FlushEdits
+pub mod Tables
+pub mod Writing

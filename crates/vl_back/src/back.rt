@@ -1,0 +1,23 @@
+use vl_manifest::{ManifestLog, ManifestState};
+
+/// A frozen log whose memtable waits for its flush.
+#[derive(Clone, Copy, Debug)]
+pub struct Waiting {
+    pub number: u32,
+    /// Commits up to this number are in tables once it is flushed.
+    pub covered: u64,
+}
+
+/// What an engine keeps for steps on files.
+#[derive(Drop)]
+pub struct Back {
+    /// The manifest that is appended to, and what it says.
+    pub manifest: ManifestLog,
+    pub state: ManifestState,
+    /// The least number that a log may still be given.
+    pub next_log: u32,
+    /// How many steps of this run changed which files are used.
+    pub version_number: u64,
+    /// The frozen logs whose memtables wait for their flush, the oldest first.
+    pub waiting: Vec<Waiting>,
+}

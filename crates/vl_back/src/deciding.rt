@@ -1,0 +1,43 @@
+ghost use Rattle.std.specs.Prelude.{◌≡◌};
+ghost use Rattle.vl_back.specs.Deciding.{MayFlush, MayRotate, flush_decision, numbers_decision, rotation_decision};
+ghost use Rattle.vl_back.specs.declared.decision.Decision.TheVariants.{Go};
+
+use crate::{Back, Decision};
+use vl_model::{Counter, MAX_FILE_NUMBER, MAX_VERSION_NUMBER};
+
+impl Back {
+    /// What a flush comes to, where nothing has halted.
+    pub fn decide_flush(&self) -> Decision
+        ensures decided { result ≡ flush_decision self.now }
+        ensures go { result ≡ Go → MayFlush self.now }
+    {
+        if self.waiting.is_empty() {
+            return Decision::Idle;
+        }
+        self.decide_by_numbers(self.state.next_table, Counter::Table)
+    }
+
+    /// What a rotation comes to, where nothing has halted, of a log that has frames or has none.
+    pub fn decide_rotation(&self, has_frames: bool) -> Decision
+        ensures decided { result ≡ rotation_decision has_frames self.now }
+        ensures go { result ≡ Go → MayRotate self.now }
+    {
+        if !has_frames {
+            return Decision::Idle;
+        }
+        self.decide_by_numbers(self.next_log, Counter::Log)
+    }
+
+    // By the number that the step would give to a file of this kind, and the version number.
+    fn decide_by_numbers(&self, next: u32, counter: Counter) -> Decision
+        ensures { result ≡ numbers_decision next counter self.now.version_number }
+    {
+        if next > MAX_FILE_NUMBER {
+            return Decision::Exhausted(counter);
+        }
+        if self.version_number >= MAX_VERSION_NUMBER {
+            return Decision::Exhausted(Counter::Version);
+        }
+        Decision::Go
+    }
+}

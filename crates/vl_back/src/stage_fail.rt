@@ -1,0 +1,46 @@
+ghost use Rattle.std.specs.Prelude.{◌≡◌};
+ghost use Rattle.vl_back.specs.Failing.{add_failed};
+ghost use Rattle.vl_back.specs.declared.stage_fail.StageFail.TheVariants as why;
+
+use std::alloc::{AllocError, AllocFailed};
+use thiserror::Error;
+use vl_table_writer::AddFail;
+
+/// Why a table wasn't spelled.
+#[derive(Clone, Copy, Debug, PartialEq, Eq, Error)]
+pub enum StageFail {
+    /// Memory ran out, or the table would have 2^32 bytes or more.
+    #[error("no memory")]
+    NoMemory,
+    /// There is no entry, or one that a table may not have where it comes. Of what an engine keeps
+    /// neither is so.
+    #[error("not lawful")]
+    NotLawful,
+}
+
+impl From<AllocError> for StageFail {
+    ghost from_gives = { λ _ e. e ≡ why.NoMemory };
+
+    fn from(_: AllocError) -> Self {
+        StageFail::NoMemory
+    }
+}
+
+impl<T: Drop> From<AllocFailed<T>> for StageFail {
+    ghost from_gives = { λ _ e. e ≡ why.NoMemory };
+
+    fn from(_: AllocFailed<T>) -> Self {
+        StageFail::NoMemory
+    }
+}
+
+impl From<AddFail> for StageFail {
+    ghost from_gives = { λ fail e. e ≡ add_failed fail };
+
+    fn from(fail: AddFail) -> Self {
+        match fail {
+            AddFail::NoMemory => StageFail::NoMemory,
+            AddFail::NotLawful => StageFail::NotLawful,
+        }
+    }
+}
