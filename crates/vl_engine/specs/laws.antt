@@ -8,6 +8,7 @@ pub mod MemtableLaws
 pub mod ReadLaws
 pub mod ReopenedLaws
 pub mod ReopenedShown
+pub mod RotateLaws
 pub mod RulingLaws
 pub mod SeesLaws
 pub mod ShownLaws
