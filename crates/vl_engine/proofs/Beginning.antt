@@ -9,6 +9,7 @@ use Rattle.vl_engine.specs.Sees.{ShowsAt}
 use Rattle.vl_engine.specs.declared.kept.Core.{Core}
 use Rattle.vl_engine.specs.laws.LiveLaws.{same_free_ticket}
 use Rattle.vl_engine.specs.laws.SeesLaws.{shows_last}
+use Rattle.vl_engine.specs.laws.VersionLaws.{bare_near}
 use Rattle.vl_layout.specs.Decides.{Answered, Decides, NoMemory, as_before, no_effects}
 use Rattle.vl_layout.specs.Ruling.{Ruling, leaving}
 use Rattle.vl_layout.specs.Rulings.Begin.{BeginAnswer, Begun, TooMany, begin_ruling, begun}
@@ -22,6 +23,7 @@ use Rattle.vl_oracle.specs.LiveTickets.{LiveTickets}
 use Rattle.vl_oracle.specs.LiveTickets as oracle
 use Rattle.vl_oracle.specs.declared.begin_fail.BeginFail.{BeginFail}
 use Rattle.vl_oracle.specs.declared.begin_fail.BeginFail.TheVariants as fails
+use Rattle.vl_version.specs.Near.{AreNear}
 use Rattle.vl_version.specs.declared.version.Version.{Version}
 
 -- ---- by what is live
@@ -124,7 +126,7 @@ sees_now bytes core h l is version same number last =
       logs = layout_logs l;
       has = is.sources_are;
       shows = shows_last (layout_logs l) l h is.tidy.shows;
-      alone = is.alone;
+      near = subst AreNear is.sources_are.entries (bare_near l is.bare);
       readable = omega arith;
       known = omega arith;
     }))

@@ -2,6 +2,7 @@
 use Rattle.std.specs.Prelude.{◌≡◌, ℕ, ◌+◌, ◌++◌, List, Option, None, Some, T, refl}
 use Rattle.std.specs.FinMap.{entries, entries_sorted, from_sorted, get-entries, get-from_sorted, is_sorted, nat_cmp-IsAntisymmetric, same_map, slice_cmp-IsAntisymmetric}
 use Rattle.std.specs.Cmp.Lexicographic.{nat_list_cmp_total}
+use Rattle.std.specs.List.{AllByRecursion}
 use Rattle.std.specs.Option.{option_map}
 use Rattle.std.proofs.Common.{sym, ap, subst, ◌∙◌}
 use Rattle.vl_conflict.specs.Recent.{Remembers}
@@ -15,7 +16,7 @@ use Rattle.vl_engine.proofs.Knowing.{knows_of}
 use Rattle.vl_engine.proofs.Represented.{represents_live}
 use Rattle.vl_engine.proofs.Standing.{decides_as, fronts_committed, fronts_ended, fronts_halted, stands_committed, stands_ended, stands_halted}
 use Rattle.vl_engine.specs.Carries.{Carries}
-use Rattle.vl_engine.specs.Represents.{Fronts, Represents, StandsFor, file_of}
+use Rattle.vl_engine.specs.Represents.{Fronts, IsLogBelow, Represents, StandsFor, file_of}
 use Rattle.vl_engine.specs.Shown.{no_logs}
 use Rattle.vl_engine.specs.Staging.{next_frame}
 use Rattle.vl_engine.specs.Steps.{IsFailed, IsUnwritten, IsWritten, frame_of}
@@ -125,18 +126,18 @@ module _ {H : Type 0} (bytes : H → Option (List ℕ)) (before after : Core H) 
     roomy = is.roomy;
     halted = ap (λ n. option_map file_of n) same.log.halted ∙ is.halted;
     version = ap (λ (b : Back). b.version_number) back ∙ is.version;
+    next_log = ap (λ (b : Back). b.next_log) back ∙ is.next_log;
   }
 
   pub stands_same : after.version ≡ before.version → StandsFor bytes before h l → StandsFor bytes after h l
   stands_same version is =
-      let alone = ap (λ (v : Version H). v.behind.logs.items) version ∙ is.alone in
       record {
         fronts = fronts_same is.fronts;
         sources_are = subst (λ (v : Version H). HasEntries bytes v (sources l) no_logs) (sym version) is.sources_are;
         active_is = ap (λ (v : Version H). v.active.entries) version ∙ is.active_is;
         tidy = is.tidy;
         bare = is.bare;
-        alone = alone;
+        below = subst (λ (v : Version H). AllByRecursion (IsLogBelow l.active.number) v.behind.logs.items) (sym version) is.below;
       }
 
 -- ---- a commit's exits

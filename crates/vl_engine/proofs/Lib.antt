@@ -7,6 +7,7 @@ pub mod Halted
 pub mod Knowing
 pub mod Opened
 pub mod Represented
+pub mod Rotating
 pub mod Ruled
 pub mod Seeing
 pub mod Staged

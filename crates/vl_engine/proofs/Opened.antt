@@ -1,23 +1,24 @@
 -- What an engine that was just opened stands for, and represents.
-use Rattle.std.specs.Prelude.{◌≡◌, ◌≤◌, ℕ, ◌+◌, ◌-◌, ◌^◌, min, max, List, [], ◌∷◌, ◌++◌, map, reverse, Option, None, Some, IsSome, refl}
+use Rattle.std.specs.Prelude.{◌≡◌, ◌≤◌, ◌<◌, ℕ, ◌+◌, ◌-◌, ◌^◌, min, max, List, [], ◌∷◌, ◌++◌, map, reverse, Option, None, Some, IsSome, refl}
 use Rattle.std.specs.FinMap.{get}
-use Rattle.std.specs.Option.{option_map}
+use Rattle.std.specs.List.{AllByRecursion}
+use Rattle.std.specs.Option.{ForSome, option_map}
 use Rattle.std.proofs.Common.{sym, ap, subst, ◌∙◌, arith}
 use Rattle.vl_disk.specs.Crash.{Image}
-use Rattle.vl_disk.specs.Disk.{Stands}
+use Rattle.vl_disk.specs.Disk.{IsFree, Stands}
 use Rattle.vl_disk.specs.DiskState.{DiskState, File, IsLawful}
 use Rattle.vl_disk.specs.Moments.{HoldsThroughout, holds_weaker}
 use Rattle.vl_disk.specs.Started.{IsRead}
 use Rattle.vl_disk.specs.declared.name.Name.TheVariants as names
 use Rattle.vl_disk.specs.declared.watched.Watched.{Ghosts}
 use Rattle.vl_engine.specs.Opening.{IsDurable, recovered, state_then}
-use Rattle.vl_engine.specs.Represents.{Fronts, Represents, StandsFor, file_of}
+use Rattle.vl_engine.specs.Represents.{Fronts, IsLogBelow, Represents, StandsFor, file_of}
 use Rattle.vl_engine.specs.Shown.{LeavesBetween, Shown}
 use Rattle.vl_engine.specs.declared.kept.Core.{Core}
 use Rattle.vl_engine.specs.laws.FrontLaws.{front_known, front_started}
 use Rattle.vl_engine.specs.laws.ShownLaws.{between_itself, opening_shown}
 use Rattle.vl_engine.specs.laws.StartLaws.{base_at_start, opened_base, opened_number, opened_tidy, start_holds}
-use Rattle.vl_engine.specs.laws.VersionLaws.{has_entries, newest_entries, sources_started}
+use Rattle.vl_engine.specs.laws.VersionLaws.{bare_near, has_entries, newest_entries, none_told, sources_started}
 use Rattle.vl_front.specs.Front.{Knows}
 use Rattle.vl_layout.specs.Logs.{memtable}
 use Rattle.vl_layout.specs.Sources.{sources}
@@ -90,7 +91,7 @@ pub record IsMadeOf {D H : Type 0} (parts : Parts D) (room : ℕ) (core : Core H
   pub alone : core.version.behind.logs.items ≡ []
 
 -- the number of a log that stands leaves room for the next one
-number_stands : (disk : DiskState) (number : ℕ) → IsLawful disk → Stands (names.Log number) disk → number ≤ 2 ^ 32 - 2
+pub number_stands : (disk : DiskState) (number : ℕ) → IsLawful disk → Stands (names.Log number) disk → number ≤ 2 ^ 32 - 2
 number_stands disk number lawful stands = by (get disk.standing (names.Log number)) refl stands
   where
     by : (file : Option File) → get disk.standing (names.Log number) ≡ file → IsSome file → number ≤ 2 ^ 32 - 2
@@ -103,7 +104,7 @@ least_within number within = omega (arith, within)
 module _ {D H : Type 0} (bytes : H → Option (List ℕ)) (parts : Parts D) (room : ℕ) (core : Core H)
     (made : IsMadeOf parts room core) (short : parts.active.length ≡ 16) (roomy : room ≤ max_room)
     (read : Image) (found other : Finds read) (opened : opened_of parts ≡ opened_from other) (h : History)
-    (shown : Shown read h (last_number h)) where
+    (shown : Shown read h (last_number h)) (within : parts.active.number ≤ 2 ^ 32 - 2) where
   is : opened_of parts ≡ opened_from found
   is = opened ∙ same_opened read other found
 
@@ -135,6 +136,10 @@ module _ {D H : Type 0} (bytes : H → Option (List ℕ)) (parts : Parts D) (roo
   none_lives : core.front.oracle.tickets ≡ []
   none_lives = ap (λ (o : LiveTickets). o.tickets) made.last
 
+  next_is : core.back.next_log ≡ its_layout.next_log
+  next_is = made.next_log ∙ ap (max parts.state.next_log) (least_within parts.active.number within)
+      ∙ (λ i. max (parts_state i).next_log (active_number i + 1))
+
   pub opened_fronts : Fronts core h its_layout
   opened_fronts = record {
     front = front_known core.front.oracle [] h its_layout (front_started h its_layout core.front.oracle refl last_is none_lives)
@@ -146,24 +151,25 @@ module _ {D H : Type 0} (bytes : H → Option (List ℕ)) (parts : Parts D) (roo
     roomy = roomy;
     halted = ap (option_map file_of) made.halted;
     version = made.version_number;
+    next_log = next_is;
   }
 
   -- It stands for the history that the opened image shows, and for the layout at its start;
   pub opened_stands : StandsFor bytes core h its_layout
   opened_stands = record {
     fronts = opened_fronts;
-    sources_are = has_entries bytes core.version made.alone (sources its_layout) sources_then;
+    sources_are = has_entries bytes core.version (none_told bytes core.version.behind.logs.items made.alone) (sources its_layout)
+        (bare_near its_layout refl) sources_then;
     active_is = made.active;
     tidy = opened_tidy found h shown room;
     bare = refl;
-    alone = made.alone;
+    below = subst (AllByRecursion (IsLogBelow its_layout.active.number)) (sym made.alone) tt;
   }
 
   -- and where the disk holds what was opened it represents them.
   pub opened_represents : (told : Option DiskState) (now : DiskState) → told ≡ Some now
-      → HoldsStore parts.state (logs_then found) now → IsLawful now → Stands (names.Log parts.active.number) now
-      → Represents bytes core told h its_layout
-  opened_represents told now is_told holds lawful stand = record {
+      → HoldsStore parts.state (logs_then found) now → IsLawful now → Represents bytes core told h its_layout
+  opened_represents told now is_told holds lawful = record {
     stands = opened_stands;
     held = λ running. record {
       state = now;
@@ -172,9 +178,7 @@ module _ {D H : Type 0} (bytes : H → Option (List ℕ)) (parts : Parts D) (roo
       is_base = opened_base found h shown room;
       back_is = record {
         state = made.state ∙ parts_state;
-        next_log = made.next_log
-            ∙ ap (max parts.state.next_log) (least_within parts.active.number (number_stands now parts.active.number lawful stand))
-            ∙ (λ i. max (parts_state i).next_log (active_number i + 1));
+        next_log = next_is;
         next_table = refl;
       };
       holds = start_holds found room now (subst (λ s. HoldsStore s (logs_then found) now) parts_state holds) lawful;
@@ -189,3 +193,12 @@ opening_through g old new state durable read is_read h shown through =
     holds_weaker g (OpensAsOf state) (LeavesBetween h h) old new through
     (λ now as_of image left. between_itself h image
     (opening_shown state now read h (last_number h) (λ image. durable.as_read read image is_read) shown as_of image left))
+
+-- From the next number on no log stands.
+pub next_free : (told : Option DiskState) (active next state : ℕ)
+    → ((n : ℕ) → active < n → ForSome told (IsFree (names.Log n))) → ForSome told (Stands (names.Log active))
+    → ((disk : DiskState) → told ≡ Some disk → IsLawful disk) → next ≡ max state (min (active + 1) (2 ^ 32 - 1))
+    → (n : ℕ) → next ≤ n → ForSome told (IsFree (names.Log n))
+next_free told active next state free stands lawful is n up disk told_is =
+    let within = number_stands disk active (lawful disk told_is) (stands disk told_is) in
+    free n (omega (arith, within, is, up)) disk told_is

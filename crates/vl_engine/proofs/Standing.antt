@@ -1,17 +1,18 @@
 -- What an engine stands for in memory, behind a begin, an end, a commit and a halt.
 use Rattle.std.specs.Prelude.{◌≡◌, ℕ, ◌+◌, false, nat_le, List, ◌++◌, length, Option, Some, T}
 use Rattle.std.specs.FinMap.{from_sorted, is_sorted}
+use Rattle.std.specs.List.{AllByRecursion}
 use Rattle.std.specs.Option.{option_map}
 use Rattle.std.proofs.Common.{sym, ap, subst, ◌∙◌}
 use Rattle.vl_disk.specs.declared.name.Name.{Name}
 use Rattle.vl_engine.proofs.Halted.{tidy_halted}
-use Rattle.vl_engine.specs.Represents.{Fronts, IsFront, StandsFor, file_of}
+use Rattle.vl_engine.specs.Represents.{Fronts, IsFront, IsLogBelow, StandsFor, file_of}
 use Rattle.vl_engine.specs.Shown.{no_logs}
 use Rattle.vl_engine.specs.declared.kept.Back.{Back}
 use Rattle.vl_engine.specs.declared.kept.Core.{Core}
 use Rattle.vl_engine.specs.laws.FrontLaws.{front_begun, front_committed, front_ended, front_known}
 use Rattle.vl_engine.specs.laws.RulingLaws.{DecidesAs, IsAccepted}
-use Rattle.vl_engine.specs.laws.VersionLaws.{active_committed, has_entries, next_entries, sources_committed}
+use Rattle.vl_engine.specs.laws.VersionLaws.{active_committed, bare_near, has_entries, next_entries, sources_committed}
 use Rattle.vl_front.specs.Front.{Knows, SameLog}
 use Rattle.vl_layout.specs.Ruling.{Ruling, ended, halted_at}
 use Rattle.vl_layout.specs.Rulings.Begin.{begun}
@@ -29,7 +30,7 @@ use Rattle.vl_model.specs.Limits.{max_live}
 use Rattle.vl_oracle.specs.LiveTickets as oracle
 use Rattle.vl_oracle.specs.LiveTickets.{LiveTickets}
 use Rattle.vl_seglog.specs.declared.active.ActiveLog.{ActiveLog}
-use Rattle.vl_version.specs.Sources.{HasEntries}
+use Rattle.vl_version.specs.Sources.{AreTold, HasEntries}
 use Rattle.vl_version.specs.declared.version.Version.{Version}
 
 -- ---- what decides
@@ -63,6 +64,7 @@ module _ {H : Type 0} (core : Core H) (h : History) (l : Layout) (is : Fronts co
           roomy = is.roomy;
           halted = ap (option_map file_of) same.halted ∙ is.halted;
           version = ap (λ (b : Back). b.version_number) back ∙ is.version;
+          next_log = ap (λ (b : Back). b.next_log) back ∙ is.next_log;
         }
 
     -- and an end
@@ -79,6 +81,7 @@ module _ {H : Type 0} (core : Core H) (h : History) (l : Layout) (is : Fronts co
       roomy = is.roomy;
       halted = ap (option_map file_of) same.halted ∙ is.halted;
       version = ap (λ (b : Back). b.version_number) back ∙ is.version;
+      next_log = ap (λ (b : Back). b.next_log) back ∙ is.next_log;
     }
 
   -- behind a commit, whose frame the log got,
@@ -100,6 +103,7 @@ module _ {H : Type 0} (core : Core H) (h : History) (l : Layout) (is : Fronts co
     roomy = is.roomy;
     halted = ap (option_map file_of) halted ∙ is.halted;
     version = ap (λ (b : Back). b.version_number) back ∙ is.version;
+    next_log = ap (λ (b : Back). b.next_log) back ∙ is.next_log;
   }
 
 -- and behind a halt
@@ -123,6 +127,7 @@ fronts_halted core after h l name is live named log room halted back = record {
   roomy = is.roomy;
   halted = ap (option_map file_of) halted;
   version = ap (λ (b : Back). b.version_number) back ∙ is.version;
+  next_log = ap (λ (b : Back). b.next_log) back ∙ is.next_log;
 }
 
 -- ---- and what is read
@@ -141,7 +146,7 @@ module _ {H : Type 0} (bytes : H → Option (List ℕ)) (core after : Core H) (h
       active_is = ap (λ (v : Version H). v.active.entries) same ∙ is.active_is;
       tidy = tidy_begun no_logs l h is.tidy (free_ticket (tickets_of l.live));
       bare = is.bare;
-      alone = ap (λ (v : Version H). v.behind.logs.items) same ∙ is.alone;
+      below = subst (λ (v : Version H). AllByRecursion (IsLogBelow l.active.number) v.behind.logs.items) (sym same) is.below;
     }
 
     pub stands_ended : (ticket : ℕ) → Fronts after h (ended ticket l) → StandsFor bytes after h (ended ticket l)
@@ -151,7 +156,7 @@ module _ {H : Type 0} (bytes : H → Option (List ℕ)) (core after : Core H) (h
       active_is = ap (λ (v : Version H). v.active.entries) same ∙ is.active_is;
       tidy = tidy_ended no_logs l h is.tidy ticket;
       bare = is.bare;
-      alone = ap (λ (v : Version H). v.behind.logs.items) same ∙ is.alone;
+      below = subst (λ (v : Version H). AllByRecursion (IsLogBelow l.active.number) v.behind.logs.items) (sym same) is.below;
     }
 
     pub stands_halted : (name : Name) → Fronts after h (halted_at (file_of name) l)
@@ -162,7 +167,7 @@ module _ {H : Type 0} (bytes : H → Option (List ℕ)) (core after : Core H) (h
       active_is = ap (λ (v : Version H). v.active.entries) same ∙ is.active_is;
       tidy = tidy_halted (file_of name) no_logs l h is.tidy;
       bare = is.bare;
-      alone = ap (λ (v : Version H). v.behind.logs.items) same ∙ is.alone;
+      below = subst (λ (v : Version H). AllByRecursion (IsLogBelow l.active.number) v.behind.logs.items) (sym same) is.below;
     }
 
   -- Behind a commit that was accepted.
@@ -175,13 +180,14 @@ module _ {H : Type 0} (bytes : H → Option (List ℕ)) (core after : Core H) (h
         → after.version.active.entries ≡ in_order (next_entries l h t ++ core.version.active.entries)
         → StandsFor bytes after (with_commit h (from_sorted t.writes)) (committed l h t).layout
     stands_committed fronts behind more =
-        let alone = ap (λ b. b.logs.items) behind ∙ is.alone in
         record {
           fronts = fronts;
-          sources_are = has_entries bytes after.version alone (sources (committed l h t).layout)
+          sources_are = has_entries bytes after.version
+              (subst (λ b. AreTold bytes b.logs.items) (sym behind) is.sources_are.told) (sources (committed l h t).layout)
+              (bare_near (committed l h t).layout is.bare)
               (sources_committed core.version after.version l h t is.active_is is.tidy.true_logs.0 more behind is.sources_are.entries);
           active_is = active_committed core.version after.version l h t is.active_is is.tidy.true_logs.0 more;
           tidy = tidy_then;
           bare = is.bare;
-          alone = alone;
+          below = subst (λ b. AllByRecursion (IsLogBelow l.active.number) b.logs.items) (sym behind) is.below;
         }

@@ -8,6 +8,7 @@ pub mod Reading
 pub mod Refusing
 pub mod Reopened
 pub mod Represents
+pub mod Rotating
 pub mod Sees
 pub mod Shown
 pub mod Staging

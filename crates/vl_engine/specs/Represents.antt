@@ -1,6 +1,7 @@
 -- What an engine stands for: a history, and a layout.
-use Rattle.std.specs.Prelude.{◌≡◌, ◌≤◌, ℕ, List, [], Option, None, Some}
+use Rattle.std.specs.Prelude.{◌≡◌, ◌≤◌, ◌<◌, ℕ, List, [], Option, None, Some}
 use Rattle.std.specs.FinMap.{find}
+use Rattle.std.specs.List.{AllByRecursion}
 use Rattle.std.specs.Option.{option_map}
 use Rattle.std.specs.Ordering.{nat_cmp}
 use Rattle.vl_conflict.specs.Recent.{Remembers}
@@ -25,6 +26,7 @@ use Rattle.vl_model.specs.History.{History, last_number}
 use Rattle.vl_model.specs.Limits.{max_room}
 use Rattle.vl_model.specs.Winners.{Logs}
 use Rattle.vl_oracle.specs.LiveTickets.{LiveTickets}
+use Rattle.vl_seglog.specs.declared.sealed.SealedLog.{SealedLog}
 use Rattle.vl_version.specs.Sources.{HasEntries}
 
 -- a file's name as the layout has it
@@ -58,6 +60,11 @@ pub record Fronts {H : Type 0} (core : Core H) (h : History) (l : Layout) : Type
   pub roomy : l.room ≤ max_room
   pub halted : option_map file_of core.front.halted ≡ l.halted
   pub version : core.back.version_number ≡ l.version_number
+  pub next_log : core.back.next_log ≡ l.next_log
+
+-- the log has a number below this one
+abbrev pub IsLogBelow : {H : Type 0} → ℕ → SealedLog H → Type 0
+IsLogBelow number log = log.number < number
 
 -- In memory the engine stands for them: its sources are the layout's, which show the history.
 pub record StandsFor {H : Type 0} (bytes : H → Option (List ℕ)) (core : Core H) (h : History) (l : Layout)
@@ -67,9 +74,10 @@ pub record StandsFor {H : Type 0} (bytes : H → Option (List ℕ)) (core : Core
   -- of these the ones in the memtable that takes commits are the active log's
   pub active_is : core.version.active.entries ≡ memtable l.active
   pub tidy : IsTidy (layout_logs l) l h
-  -- there are no tables, so no log that pointers lead into
+  -- there are no tables, so no pointer that leads into a log
   pub bare : tables l ≡ []
-  pub alone : core.version.behind.logs.items ≡ []
+  -- the sealed logs come before the active one
+  pub below : AllByRecursion (IsLogBelow l.active.number) core.version.behind.logs.items
 
 -- ---- with the disk
 

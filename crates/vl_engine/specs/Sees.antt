@@ -13,7 +13,8 @@ use Rattle.vl_model.specs.Reads.{IsExplained, Read}
 use Rattle.vl_model.specs.Winners.{Logs}
 use Rattle.vl_model.specs.declared.entry.Entry.{Entry}
 use Rattle.vl_txn.specs.Reads.{no_notes}
-use Rattle.vl_version.specs.Sources.{HasEntries}
+use Rattle.vl_version.specs.Near.{AreNear}
+use Rattle.vl_version.specs.Sources.{HasEntries, in_memory}
 use Rattle.vl_version.specs.declared.version.Version.{Version}
 
 -- The version shows the history at this number, which can be read.
@@ -24,7 +25,7 @@ pub record ShowsAt {H : Type 0} (bytes : H → Option (List ℕ)) (version : Ver
   pub has : HasEntries bytes version entries_of logs
   pub shows : Shows logs entries_of h (λ key. number) number
   -- while there are no tables no file is read for it;
-  pub alone : version.behind.logs.items ≡ []
+  pub near : AreNear (in_memory version)
   -- the number is one of the history's
   pub readable : h.first ≤ number
   pub known : number ≤ last_number h

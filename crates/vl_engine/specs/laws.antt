@@ -9,6 +9,7 @@ pub mod ReadLaws
 pub mod ReopenedLaws
 pub mod ReopenedShown
 pub mod RotateLaws
+pub mod RotateRulings
 pub mod RulingLaws
 pub mod SeesLaws
 pub mod ShownLaws

@@ -1,4 +1,5 @@
 -- What is changed.
+pub mod ActiveFree
 pub mod ActiveStands
 pub mod Fitted
 pub mod LastFiles

@@ -1,8 +1,8 @@
-ghost use Rattle.std.specs.Prelude.{◌≡◌, ℕ, List, length, Some, IfErr, IfOk};
+ghost use Rattle.std.specs.Prelude.{◌≡◌, ◌<◌, ℕ, List, length, Some, IfErr, IfOk};
 ghost use Rattle.std.specs.Option.{ForSome};
 ghost use Rattle.vl_disk.specs.Calls.{ChangesNothing};
 ghost use Rattle.vl_disk.specs.Crash.{Image};
-ghost use Rattle.vl_disk.specs.Disk.{Stands};
+ghost use Rattle.vl_disk.specs.Disk.{IsFree, Stands};
 ghost use Rattle.vl_disk.specs.DiskState.{DiskState};
 ghost use Rattle.vl_disk.specs.Faults.{HasCause, after_calls};
 ghost use Rattle.vl_disk.specs.Moments.{HoldsThroughout};
@@ -79,6 +79,9 @@ pub fn recover<D: Disk>(alloc: Global, disk: D, room: u64) -> Result<Parts<D>, O
     // The log that takes commits stands, and has only its header.
     ensures stands { IfOk result (λ parts. ForSome (D.told parts.disk) (Stands (Log parts.active.number))) }
     ensures active { IfOk result (λ parts. parts.active.length ≡ 16) }
+
+    // No log above it stands.
+    ensures free { (n : ℕ) → IfOk result (λ parts. parts.active.number < n → ForSome (D.told parts.disk) (IsFree (Log n))) }
 
     // Where it failed, it was asked for some of these calls, or for none.
     ensures stopped { (state : DiskState) (read : Image) (found : Finds read) (strays : List Name)

@@ -9,7 +9,7 @@ use Rattle.vl_version.specs.Sources.{held_entries}
 suc_more : (i : ℕ) → suc i + 1 ≡ suc (i + 1)
 suc_more i = omega arith
 
-pub take_next : (all : List FrozenLog) (i : ℕ) (held : FrozenLog) → i < length all → held ≡ get_or all i held
+pub take_next : {X : Type 0} (all : List X) (i : ℕ) (held : X) → i < length all → held ≡ get_or all i held
     → take (i + 1) all ≡ take i all ++ held ∷ []
 take_next [] i held within is = absurd (omega arith)
 take_next (first ∷ all) zero held within is = ap (λ r. r ∷ []) (sym is)

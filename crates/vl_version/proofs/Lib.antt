@@ -5,6 +5,7 @@ mod GatherLaws
 mod LogLaws
 mod LookLaws
 mod OwnLaws
+mod RotatingLaws
 mod RowLaws
 mod ScanLaws
 mod TakeLaws

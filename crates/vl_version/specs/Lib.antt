@@ -2,8 +2,10 @@ pub mod Answers
 pub mod Faults
 pub mod Gathered
 pub mod Gives
+pub mod Near
 pub mod Own
 pub mod Place
+pub mod Rotating
 pub mod Rows
 pub mod Scans
 pub mod Sources

@@ -18,6 +18,7 @@ mod frozen;
 mod gather;
 mod own;
 mod resolving;
+mod rotating;
 mod rows;
 mod source;
 mod version;

@@ -1,11 +1,12 @@
 //! What the body of an entry leads to, in memory or in a log.
 
-ghost use Rattle.std.specs.Prelude.{◌≡◌, ◌<◌, [], length, IfSome, IsSome, Some, IsErrOf};
+ghost use Rattle.std.specs.Prelude.{◌≡◌, IfSome, Some, IsErrOf};
 ghost use Rattle.std.specs.Option.{option_copied};
 ghost use Rattle.vl_disk.specs.Faults.{HasCause};
 ghost use Rattle.vl_disk.specs.declared.name.Name.TheVariants as names;
 ghost use Rattle.vl_version.specs.Answers.{Fills, Gives, IsFound};
 ghost use Rattle.vl_version.specs.Faults.{Failed};
+ghost use Rattle.vl_version.specs.Near.{IsNear};
 ghost use Rattle.vl_version.specs.Sources.{AreRising, AreTold, log_in, stored_in};
 ghost use Rattle.vl_version.specs.Values.{FillsFar, GivesFar, IsPut};
 ghost use Rattle.vl_version.specs.declared.fault.ReadFault.TheVariants as why;
@@ -24,7 +25,7 @@ pub fn resolve<H: HeldFile, R: Reader<Held = H>>(
     entry: &Entry,
 ) -> Result<Option<Value>, ReadFault>
     ensures cause { HasCause (R.faults reader.old) (R.faults reader.new) (Failed result) }
-    ensures alone { logs.now ≡ [] → Failed result → ⊥ }
+    ensures near { IsNear entry.now.body → Failed result → ⊥ }
     ensures answers { AreTold H.bytes logs.now → Gives (stored_in H.bytes logs.now) (Some entry.now) result }
 {
     match &entry.body {
@@ -46,7 +47,7 @@ pub fn resolve_into<H: HeldFile, R: Reader<Held = H>>(
     out: &mut [u8],
 ) -> Result<Found, ReadFault>
     ensures cause { HasCause (R.faults reader.old) (R.faults reader.new) (Failed result) }
-    ensures alone { logs.now ≡ [] → Failed result → ⊥ }
+    ensures near { IsNear entry.now.body → Failed result → ⊥ }
     ensures answers { AreTold H.bytes logs.now
         → Fills (stored_in H.bytes logs.now) (Some entry.now) out.old out.new result }
     ensures no_memory { IsErrOf result why.NoMemory → ⊥ }
@@ -80,7 +81,6 @@ fn read_far<H: HeldFile, R: Reader<Held = H>>(
     key: &[u8],
 ) -> Result<Value, ReadFault>
     ensures cause { HasCause (R.faults reader.old) (R.faults reader.new) (Failed result) }
-    ensures alone { logs.now ≡ [] → Failed result → ⊥ }
     ensures answers { AreTold H.bytes logs.now → GivesFar (stored_in H.bytes logs.now pointer key.now) pointer result }
 {
     let Some(log) = log_of(logs, pointer.segment) else {
@@ -98,7 +98,6 @@ fn read_far_into<H: HeldFile, R: Reader<Held = H>>(
     out: &mut [u8],
 ) -> Result<Found, ReadFault>
     ensures cause { HasCause (R.faults reader.old) (R.faults reader.new) (Failed result) }
-    ensures alone { logs.now ≡ [] → Failed result → ⊥ }
     ensures answers { AreTold H.bytes logs.now
         → FillsFar (stored_in H.bytes logs.now pointer key.now) pointer out.old out.new result }
     ensures no_memory { IsErrOf result why.NoMemory → ⊥ }
@@ -116,7 +115,6 @@ fn read_far_into<H: HeldFile, R: Reader<Held = H>>(
 fn log_of<H: HeldFile>(logs: &[SealedLog<H>], number: u32) -> Option<&SealedLog<H>>
     ensures found { AreRising logs.now → option_copied result ≡ log_in logs.now number }
     ensures number { IfSome result (λ log. log.now.number ≡ number) }
-    ensures some { IsSome result → 0 < length logs.now }
 {
     let at = logs.partition_point(|log| log.number < number);
     match logs.get(at) {

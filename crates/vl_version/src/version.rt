@@ -1,4 +1,4 @@
-ghost use Rattle.std.specs.Prelude.{◌≡◌, ◌++◌, ◌<◌, [], List, length, reverse, IfOk, IsErrOf, None};
+ghost use Rattle.std.specs.Prelude.{◌≡◌, ◌++◌, ◌∷◌, ◌<◌, [], List, length, reverse, IfOk, IsErrOf, None};
 ghost use Rattle.vl_disk.specs.Faults.{HasCause};
 ghost use Rattle.vl_memtable.specs.Contents.{IsNewTo};
 ghost use Rattle.vl_memtable.specs.Lengths.{lengths_with};
@@ -8,6 +8,8 @@ ghost use Rattle.vl_model.specs.Winners.{Logs, winner};
 ghost use Rattle.vl_model.specs.declared.entry.Entry.{Entry};
 ghost use Rattle.vl_version.specs.Answers.{Fills, Gives, IsAnswer};
 ghost use Rattle.vl_version.specs.Faults.{Failed};
+ghost use Rattle.vl_version.specs.Near.{AreNear};
+ghost use Rattle.vl_version.specs.Rotating.{AreSameLogs};
 ghost use Rattle.vl_version.specs.Scans.{AreScanned, SomeAstray};
 ghost use Rattle.vl_version.specs.Sources.{HasEntries, in_memory};
 ghost use Rattle.vl_version.specs.declared.fault.ReadFault.TheVariants as why;
@@ -16,6 +18,7 @@ use crate::behind::{Behind, SharedBehind};
 use crate::frozen::find_frozen;
 use crate::gather::sources_within;
 use crate::resolving::{resolve, resolve_into};
+use crate::rotating::{with_last, with_newest};
 use crate::rows::take_rows;
 use crate::{Found, ReadFault, Wanted};
 use std::alloc::{AllocError, Global};
@@ -83,7 +86,30 @@ impl<H: HeldFile> Version<H> {
         self.active = active;
     }
 
-    /// The value of a key at a number: that of its greatest version that is at most the number. Where there is no sealed
+    /// The version behind a rotation: what took commits is the memtable of a frozen log of this length, which is held, and an
+    /// empty memtable takes commits. This one stays as it is.
+    pub fn rotated(&self, alloc: Global, length: u64, log: SealedLog<H>) -> Result<Self, AllocError>
+        ensures active { IfOk result (λ next. next.active ≡ record { entries = []; lengths = [] }) }
+        ensures frozen { IfOk result (λ next. next.behind.frozen.items
+            ≡ record { number = log.number; length = length; memtable = self.now.active } ∷ self.now.behind.frozen.items) }
+        ensures logs { IfOk result (λ next.
+            AreSameLogs H.bytes (self.now.behind.logs.items ++ log ∷ []) next.behind.logs.items) }
+    {
+        let newest = FrozenLog {
+            number: log.number,
+            length,
+            memtable: self.active.share()?.freeze(),
+        };
+        let behind = self.behind.as_ref();
+        let frozen = with_newest(alloc, newest, &behind.frozen)?;
+        let logs = with_last(alloc, &behind.logs, log)?;
+        Ok(Version {
+            active: Memtable::new(alloc),
+            behind: SharedBehind::new(Behind { frozen, logs }),
+        })
+    }
+
+    /// The value of a key at a number: that of its greatest version that is at most the number. Where no entry leads into a
     /// log, no file is read.
     pub fn get<R: Reader<Held = H>>(
         &self,
@@ -93,7 +119,7 @@ impl<H: HeldFile> Version<H> {
         number: u64,
     ) -> Result<Option<Value>, ReadFault>
         ensures cause { HasCause (R.faults reader.old) (R.faults reader.new) (Failed result) }
-        ensures alone { self.now.behind.logs.items ≡ [] → Failed result → ⊥ }
+        ensures near { AreNear (in_memory self.now) → Failed result → ⊥ }
         ensures answers { (es : List Entry) (logs : Logs) → HasEntries H.bytes self.now es logs
             → Gives logs (winner es key.now number) result }
     {
@@ -113,7 +139,7 @@ impl<H: HeldFile> Version<H> {
         out: &mut [u8],
     ) -> Result<Found, ReadFault>
         ensures cause { HasCause (R.faults reader.old) (R.faults reader.new) (Failed result) }
-        ensures alone { self.now.behind.logs.items ≡ [] → Failed result → ⊥ }
+        ensures near { AreNear (in_memory self.now) → Failed result → ⊥ }
         ensures answers { (es : List Entry) (logs : Logs) → HasEntries H.bytes self.now es logs
             → Fills logs (winner es key.now number) out.old out.new result }
         ensures no_memory { IsErrOf result why.NoMemory → ⊥ }
@@ -135,7 +161,7 @@ impl<H: HeldFile> Version<H> {
         number: u64,
     ) -> Result<Vec<(Key, Value)>, ReadFault>
         ensures cause { HasCause (R.faults reader.old) (R.faults reader.new) (Failed result) }
-        ensures alone { self.now.behind.logs.items ≡ [] → Failed result → ⊥ }
+        ensures near { AreNear (in_memory self.now) → Failed result → ⊥ }
         ensures answers { (es : List Entry) (logs : Logs) → HasEntries H.bytes self.now es logs
             → IsAnswer (λ rows. AreScanned logs es number wanted.entry own.now rows.items) (SomeAstray logs es number) result }
     {

@@ -59,7 +59,7 @@ version_later bytes version least most number extends shows =
       logs = shows.logs;
       has = shows.has;
       shows = shows_at_later shows.logs shows.entries_of least most number extends known shows.shows;
-      alone = shows.alone;
+      near = shows.near;
       readable = omega (arith, readable, first);
       known = omega (arith, known, later);
     }

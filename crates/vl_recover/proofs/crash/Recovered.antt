@@ -1,10 +1,10 @@
 -- What an opening gives, by what was prepared and how the repairing went.
-use Rattle.std.proofs.Common.{◌≡◌, ℕ, ◌+◌, ◌≤◌, List, [], ◌∷◌, length, map, refl, sym, ap, subst, ◌∙◌, arith}
+use Rattle.std.proofs.Common.{◌≡◌, ℕ, ◌+◌, ◌≤◌, ◌<◌, List, [], ◌∷◌, length, map, refl, sym, ap, subst, ◌∙◌, arith}
 use Rattle.std.specs.Prelude.{Option, None, Some, Result, Ok, Err, IfErr}
 use Rattle.std.specs.Option.{ForSome, option_map}
 use Rattle.vl_disk.specs.Calls.{ChangesNothing}
 use Rattle.vl_disk.specs.Crash.{Image, Unchanged}
-use Rattle.vl_disk.specs.Disk.{Stands}
+use Rattle.vl_disk.specs.Disk.{IsFree, Stands}
 use Rattle.vl_disk.specs.DiskState.{DiskState, IsLawful}
 use Rattle.vl_disk.specs.Faults.{after_calls}
 use Rattle.vl_disk.specs.Moments.{HoldsThroughout, goes_by, waits}
@@ -40,6 +40,7 @@ use Rattle.vl_recover.specs.repairing.Steps.{IsFailAt, MakesSome, Repairs}
 use Rattle.vl_recover.specs.declared.fails.OpenError.{OpenError}
 use Rattle.vl_recover.specs.declared.fails.OpenError.TheVariants as why
 use Rattle.vl_recover.specs.declared.prepared.Prepared.{Prepared}
+use Rattle.vl_recover.proofs.repairs.ActiveFree.{active_free}
 use Rattle.vl_recover.proofs.repairs.ActiveStands.{active_stands}
 use Rattle.vl_recover.specs.laws.opening.OneFinding.{as_many, same_calls, same_logs_then, same_opening}
 
@@ -229,3 +230,24 @@ active_stays g old mid new no_change prepared x repairs ready active same now en
         subst (Stands (Log active)) now_is
         (subst (λ (k : ℕ). Stands (Log k) (repaired (plan_view prepared.plan) state)) (sym (same ∙ is.active))
         (active_stands is.finds state is_read (plan_view prepared.plan) is.plan))
+
+-- and no log above it does
+pub none_above_active : {D : Type 0} (g : Ghosts D) (old mid new : D) {failed : Type 0} → ChangesNothing g old mid failed → (prepared : Prepared) (x : ManifestLog)
+    → Repairs g (plan_view prepared.plan) mid new (Ok x)
+    → ((state : DiskState) (read : Image) → g.told old ≡ Some state → IsRead read state → IsPrepared read prepared)
+    → (active : ℕ) → active ≡ prepared.active → (n : ℕ) → active < n → ForSome (g.told new) (IsFree (Log n))
+none_above_active g old mid new no_change prepared x repairs ready active same n less now ends = by (g.told old) refl
+  where
+    none_some : (d : DiskState) → None ≡ Some d → ⊥
+    none_some d e = cc
+
+    by : (told : Option DiskState) → g.told old ≡ told → IsFree (Log n) now
+    by None told = absurd (none_some now (sym (repairs.done ∙ ap (option_map (repaired (plan_view prepared.plan))) (no_change.told ∙ told)) ∙ ends))
+    by (Some state) told =
+        let (read, is_read) = read_image state in
+        let is = ready state read told is_read in
+        let now_is : repaired (plan_view prepared.plan) state ≡ now = some_same (repaired (plan_view prepared.plan) state) now
+        (sym (repairs.done ∙ ap (option_map (repaired (plan_view prepared.plan))) (no_change.told ∙ told)) ∙ ends) in
+        subst (IsFree (Log n)) now_is
+        (active_free is.finds state is_read (plan_view prepared.plan) is.plan n
+        (subst (λ (k : ℕ). k < n) (same ∙ is.active) less))

@@ -73,7 +73,7 @@ head_free k name disk free =
     changed_free (Log k) synced_file name (headed k disk)
     (changed_free (Log k) (lengthened (log_header log_format k) (length (log_header log_format k))) name disk free)
 
-last_free : (last : LastLog) (name : Name) (disk : DiskState) → IsFree name disk → IsFree name (behind_last last disk)
+pub last_free : (last : LastLog) (name : Name) (disk : DiskState) → IsFree name disk → IsFree name (behind_last last disk)
 last_free NoLast name disk free = free
 last_free (Kept k) name disk free = changed_free (Log k) synced_file name disk free
 last_free (Cut k len) name disk free =

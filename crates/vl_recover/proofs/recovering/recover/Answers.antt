@@ -4,7 +4,7 @@ use Rattle.vl_manifest.specs.Manifest.{manifest_bytes}
 use Rattle.vl_recover.specs.laws.opening.OneFinding.{opened_not}
 use Rattle.vl_recover.specs.repairing.PlanViews.{plan_view}
 use Rattle.vl_recover.specs.opening.Results.{HasFailed, recovery_by}
-use Rattle.vl_recover.proofs.crash.Recovered.{active_stays, as_long, calls_counted, calls_stopped, none_made, disk_repaired, repaired_again, repaired_faults, repaired_meanwhile, repaired_tells, repaired_through, opened_same, read_faults, refused_fine, still_tells, store_held, unchanged_again, unchanged_meanwhile, unchanged_through}
+use Rattle.vl_recover.proofs.crash.Recovered.{active_stays, as_long, calls_counted, calls_stopped, none_above_active, none_made, disk_repaired, repaired_again, repaired_faults, repaired_meanwhile, repaired_tells, repaired_through, opened_same, read_faults, refused_fine, still_tells, store_held, unchanged_again, unchanged_meanwhile, unchanged_through}
 use Rattle.vl_recover.proofs.opening.Unmoved.{call_as, then_call}
 use Rattle.vl_seglog.specs.declared.active.ActiveLog.{ActiveLog}
 use Rattle.vl_recover.proofs.recovering.recover.Goals as goal
@@ -141,6 +141,12 @@ returns-in-Ok-repair-clause-stands g c =
     rw c.opened.ensures.disk
     (active_stays g.D.Watched _ _ _ c.in-Ok.ensures.no_change c.in-Ok.prepared _ c.in-Ok-repair.ensures c.in-Ok.ensures.answer
     c.opened.result.active.number (ap (λ (a : ActiveLog). a.number) c.opened.ensures.active))
+
+pub returns-in-Ok-repair-clause-free : goal.returns-in-Ok-repair-clause-free
+returns-in-Ok-repair-clause-free g c n =
+    rw c.opened.ensures.disk
+    (none_above_active g.D.Watched _ _ _ c.in-Ok.ensures.no_change c.in-Ok.prepared _ c.in-Ok-repair.ensures c.in-Ok.ensures.answer
+    c.opened.result.active.number (ap (λ (a : ActiveLog). a.number) c.opened.ensures.active) n)
 
 -- where it failed
 pub returns-in-Err-clause-at : goal.returns-in-Err-clause-at

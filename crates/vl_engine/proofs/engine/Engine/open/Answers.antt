@@ -1,6 +1,6 @@
 use Rattle.std.proofs.Common.{refl, ap, ◌∙◌}
 use Rattle.std.specs.Prelude.{max}
-use Rattle.vl_engine.proofs.Opened.{opened_represents, opened_stands, opening_through}
+use Rattle.vl_engine.proofs.Opened.{number_stands, opened_represents, opened_stands, opening_through}
 use Rattle.vl_engine.proofs.engine.Engine.open.Goals as goal
 use Rattle.vl_memtable.specs.Contents.{Contents}
 
@@ -12,6 +12,7 @@ returns-in-Err-clause-through g c state read h told durable is_read shown =
 pub returns-clause-stands : goal.returns-clause-stands
 returns-clause-stands g c state read found h told is_read shown =
     let (other, unused, opened) = c.in-Ok.ensures.answer state read told is_read in
+    let (now, told_now) = c.in-Ok.ensures.tells state told in
     opened_stands g.D.Held.HeldFile.bytes c.in-Ok.parts c.args.room
     (record {
       version = c.new-2.result;
@@ -31,6 +32,7 @@ returns-clause-stands g c state read found h told is_read shown =
       frozen = c.new-2.ensures.frozen;
       alone = c.new-2.ensures.logs ∙ c.new.ensures.items;
     }) c.in-Ok.ensures.active c.requires read found other opened h shown
+    (number_stands now c.in-Ok.parts.active.number (g.met.D.Disk.lawful c.in-Ok.parts.disk now told_now) (c.in-Ok.ensures.stands now told_now))
 
 pub returns-clause-represents : goal.returns-clause-represents
 returns-clause-represents g c state read found h told may is_read shown =
@@ -54,9 +56,10 @@ returns-clause-represents g c state read found h told may is_read shown =
       active = ap (λ (held : Contents). held.entries) c.new-2.ensures.active;
       frozen = c.new-2.ensures.frozen;
       alone = c.new-2.ensures.logs ∙ c.new.ensures.items;
-    }) c.in-Ok.ensures.active c.requires read found other opened h shown _ now told_now
-    (c.in-Ok.ensures.held state now read found told may is_read told_now)
-    (g.met.D.Disk.lawful c.in-Ok.parts.disk now told_now) (c.in-Ok.ensures.stands now told_now)
+    }) c.in-Ok.ensures.active c.requires read found other opened h shown
+    (number_stands now c.in-Ok.parts.active.number (g.met.D.Disk.lawful c.in-Ok.parts.disk now told_now) (c.in-Ok.ensures.stands now told_now))
+    _ now told_now (c.in-Ok.ensures.held state now read found told may is_read told_now)
+    (g.met.D.Disk.lawful c.in-Ok.parts.disk now told_now)
 
 pub returns-clause-through : goal.returns-clause-through
 returns-clause-through g c state read h told durable is_read shown =

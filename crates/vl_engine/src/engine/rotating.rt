@@ -1,0 +1,101 @@
+ghost use Rattle.std.specs.Prelude.{◌≡◌, ◌<◌, ◌-◌, ◌^◌, ℕ, Err, None, Some};
+ghost use Rattle.vl_disk.specs.Calls.{ChangesNothing};
+ghost use Rattle.vl_disk.specs.DiskState.{DiskState};
+ghost use Rattle.vl_disk.specs.Faults.{HasCause};
+ghost use Rattle.vl_disk.specs.declared.name.Name.{Name};
+ghost use Rattle.vl_engine.specs.Answers.{StepFailed, StepLeavesDisk, rotate_effects, step_outcome};
+ghost use Rattle.vl_engine.specs.Carries.{Carries};
+ghost use Rattle.vl_engine.specs.Represents.{Fronts, Represents, StandsFor};
+ghost use Rattle.vl_engine.specs.Rotating.{RotatesAs, StopsRotating};
+ghost use Rattle.vl_engine.specs.declared.fails.StepFail.TheVariants as fails;
+ghost use Rattle.vl_layout.specs.Decides.{Decides, as_before};
+ghost use Rattle.vl_layout.specs.Rulings.Rotate.{rotate_ruling};
+ghost use Rattle.vl_layout.specs.Tidy.{IsTrueLog};
+ghost use Rattle.vl_layout.specs.declared.layout.Layout.{Layout};
+ghost use Rattle.vl_model.specs.History.{History};
+ghost use Rattle.vl_model.specs.Limits.{max_version_number};
+
+use crate::rotating::stage_rotation;
+use crate::{Engine, StepFail};
+use vl_disk::{Disk, DiskFail, Name, make_file};
+use vl_model::{Counter, MAX_FILE_NUMBER, MAX_VERSION_NUMBER};
+use vl_seglog::{ActiveLog, LOG_HEADER_BYTES, log_header};
+
+impl<D: Disk> Engine<D> {
+    /// Seals the active log and begins a new one, and answers with the number of the sealed one; none where no commit stands
+    /// in it, and then nothing is done. All memory is taken before the new log is made, by a create, an append and a sync.
+    /// What lives stays.
+    pub fn rotate(&mut self) -> Result<Option<u32>, StepFail>
+        // It is answered as the ruling has it.
+        ensures decides { (h : History) (l : Layout) → Fronts self.old.core h l → IsTrueLog l.active
+            → Decides (Fronts self.new.core) h l (rotate_ruling l h) (as_before l l) (step_outcome result) (rotate_effects result) }
+        ensures stands { (state : DiskState) (h : History) (l : Layout) → D.told self.old.disk ≡ Some state
+            → StandsFor D.Held.bytes self.old.core h l
+            → Decides (StandsFor D.Held.bytes self.new.core) h l (rotate_ruling l h) (as_before l l) (step_outcome result)
+            (rotate_effects result) }
+
+        // Over a disk that holds the layout: what a crash meanwhile leaves shows the history, and however it ends, a store may be
+        // opened on the disk again.
+        ensures carries { (h : History) (l : Layout) → Represents D.Held.bytes self.old.core (D.told self.old.disk) h l
+            → Carries D.Watched D.Held.bytes self.old.disk self.new.disk self.new.core h l (rotate_ruling l h) (as_before l l)
+            (step_outcome result) (rotate_effects result) }
+
+        // Where no log was begun and the disk didn't fail, it was left alone, at each moment.
+        ensures untouched { StepLeavesDisk result → ChangesNothing D.Watched self.old.disk self.new.disk ⊥ }
+
+        // A fault of the disk is counted, and nothing else raises the count. It came at the active log, before the disk was
+        // changed, or while the new one was made.
+        ensures cause { HasCause (D.faults self.old.disk) (D.faults self.new.disk) (StepFailed result) }
+        ensures stopped { (h : History) (l : Layout) (name : Name) → Fronts self.old.core h l → result ≡ Err (fails.Disk name)
+            → StopsRotating l.active.number l.next_log (D.calls self.old.disk) (D.calls self.new.disk) name }
+    {
+        if let Some(name) = self.core.front.halted {
+            return Err(StepFail::Halted { name });
+        }
+        // A log without frames has its header alone.
+        if self.core.front.log.length <= LOG_HEADER_BYTES as u64 {
+            return Ok(None);
+        }
+        if self.core.back.next_log > MAX_FILE_NUMBER {
+            return Err(StepFail::Exhausted(Counter::Log));
+        }
+        if self.core.back.version_number >= MAX_VERSION_NUMBER {
+            return Err(StepFail::Exhausted(Counter::Version));
+        }
+        match self.begin_log() {
+            Ok(number) => Ok(Some(number)),
+            Err(why) => Err(why),
+        }
+    }
+
+    // Begins the next log, and gives the number of the one that is sealed by that.
+    fn begin_log(&mut self) -> Result<u32, StepFail>
+        requires running { self.old.core.front.halted ≡ None }
+        requires numbered { self.old.core.back.next_log < 2 ^ 32 - 1 }
+        requires version { self.old.core.back.version_number < max_version_number }
+        ensures cause { HasCause (D.faults self.old.disk) (D.faults self.new.disk) (StepFailed result) }
+        ensures as_rotated { RotatesAs D.Watched D.Held.bytes self.old.disk self.new.disk self.old.core self.new.core result }
+    {
+        let sealed = self.core.front.log.number;
+        let next = self.core.back.next_log;
+        let version = match stage_rotation(self.alloc, &mut self.disk, &self.core) {
+            Ok(version) => version,
+            Err(DiskFail::NoMemory) => return Err(StepFail::NoMemory),
+            Err(DiskFail::Failed) => {
+                let name = Name::Log(sealed);
+                self.core.front.halted = Some(name);
+                return Err(StepFail::Disk { name });
+            }
+        };
+        let name = Name::Log(next);
+        let Ok(()) = make_file(&mut self.disk, name, &log_header(next)) else {
+            self.core.front.halted = Some(name);
+            return Err(StepFail::Disk { name });
+        };
+        self.core.front.log = ActiveLog::new(next);
+        self.core.version = version;
+        self.core.back.next_log = next + 1;
+        self.core.back.version_number += 1;
+        Ok(sealed)
+    }
+}
