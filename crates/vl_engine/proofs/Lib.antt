@@ -1,5 +1,6 @@
 pub mod Appending
 pub mod Beginning
+pub mod Begun
 pub mod Carrying
 pub mod Committing
 pub mod Filing
@@ -7,6 +8,7 @@ pub mod Halted
 pub mod Knowing
 pub mod Opened
 pub mod Represented
+pub mod Rotated
 pub mod Rotating
 pub mod Ruled
 pub mod Seeing

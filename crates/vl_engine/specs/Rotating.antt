@@ -1,5 +1,5 @@
 -- What beginning a new log does, whatever the engine stands for: to the disk, and in memory.
-use Rattle.std.specs.Prelude.{◌≡◌, ℕ, ◌+◌, List, [], ◌∷◌, ◌++◌, Option, Some, Result, Ok, Err}
+use Rattle.std.specs.Prelude.{◌≡◌, ℕ, ◌+◌, List, [], ◌∷◌, ◌++◌, Option, None, Some, Result, Ok, Err}
 use Rattle.std.specs.Option.{ForSome}
 use Rattle.vl_disk.specs.Calls.{ChangesNothing}
 use Rattle.vl_disk.specs.Crash.{Unchanged}
@@ -84,9 +84,10 @@ pub record IsUnrotated {D H : Type 0} (g : Ghosts D) (old new : D) (before after
 
 -- so it is with what beginning a log answers
 abbrev pub RotatesAs : {D H : Type 0} → Ghosts D → (H → Option (List ℕ)) → (old new : D) → (before after : Core H)
-    → Result ℕ StepFail → Type 0
-RotatesAs g bytes old new before after (Ok number) =
+    → Result (Option ℕ) StepFail → Type 0
+RotatesAs g bytes old new before after (Ok (Some number)) =
     (number ≡ before.front.log.number) × IsRotated g bytes old new before after
+RotatesAs g bytes old new before after (Ok None) = ⊥
 RotatesAs g bytes old new before after (Err (fails.Halted name)) = ⊥
 RotatesAs g bytes old new before after (Err (fails.Exhausted counter)) = ⊥
 RotatesAs g bytes old new before after (Err fails.NoMemory) = (after ≡ before) × ChangesNothing g old new ⊥

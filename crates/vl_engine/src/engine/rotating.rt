@@ -62,14 +62,11 @@ impl<D: Disk> Engine<D> {
         if self.core.back.version_number >= MAX_VERSION_NUMBER {
             return Err(StepFail::Exhausted(Counter::Version));
         }
-        match self.begin_log() {
-            Ok(number) => Ok(Some(number)),
-            Err(why) => Err(why),
-        }
+        self.begin_log()
     }
 
     // Begins the next log, and gives the number of the one that is sealed by that.
-    fn begin_log(&mut self) -> Result<u32, StepFail>
+    fn begin_log(&mut self) -> Result<Option<u32>, StepFail>
         requires running { self.old.core.front.halted ≡ None }
         requires numbered { self.old.core.back.next_log < 2 ^ 32 - 1 }
         requires version { self.old.core.back.version_number < max_version_number }
@@ -96,6 +93,6 @@ impl<D: Disk> Engine<D> {
         self.core.version = version;
         self.core.back.next_log = next + 1;
         self.core.back.version_number += 1;
-        Ok(sealed)
+        Ok(Some(sealed))
     }
 }
