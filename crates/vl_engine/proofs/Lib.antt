@@ -9,7 +9,7 @@ pub mod Knowing
 pub mod Opened
 pub mod Represented
 pub mod Rotated
-pub mod Rotating
+pub mod RotateSteps
 pub mod Ruled
 pub mod Seeing
 pub mod Staged

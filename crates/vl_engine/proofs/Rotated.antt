@@ -1,5 +1,5 @@
 -- What beginning a new log comes to, by the ruling on a rotation.
-use Rattle.std.specs.Prelude.{◌≡◌, ◌≢◌, ℕ, ◌+◌, List, Option, None, Some, Result, Ok, Err, refl}
+use Rattle.std.specs.Prelude.{◌≡◌, ℕ, List, Option, None, Some, Result, Ok, Err, refl}
 use Rattle.std.proofs.Common.{sym, ap, subst, ◌∙◌}
 use Rattle.vl_disk.specs.Calls.{ChangesNothing}
 use Rattle.vl_disk.specs.DiskState.{DiskState}
@@ -7,22 +7,22 @@ use Rattle.vl_disk.specs.declared.name.Name.{Name}
 use Rattle.vl_disk.specs.declared.watched.Watched.{Ghosts}
 use Rattle.vl_engine.proofs.Carrying.{IsWatched, carries_leaving, carries_no_memory, extends_itself}
 use Rattle.vl_engine.proofs.Committing.{decides_answered, decides_failed, decides_leaving, decides_short}
-use Rattle.vl_engine.proofs.Rotating.{MayRotate, carries_rotated, carries_unrotated, fronts_rotated, fronts_unrotated, ruled_made, stands_rotated, stands_unrotated}
-use Rattle.vl_engine.specs.Answers.{StepLeavesDisk, rotate_effects, step_outcome}
+use Rattle.vl_engine.proofs.RotateSteps.{MayRotate, carries_rotated, carries_unrotated, fronts_rotated, fronts_unrotated, may_rotate, ruled_halted, ruled_idle, ruled_log, ruled_made, ruled_version, stands_rotated, stands_unrotated}
+use Rattle.vl_engine.specs.Answers.{StepFailed, StepLeavesDisk, rotate_effects, step_outcome}
 use Rattle.vl_engine.specs.Carries.{Carries}
 use Rattle.vl_engine.specs.Represents.{Fronts, Represents, StandsFor, file_of}
-use Rattle.vl_engine.specs.Rotating.{RotatesAs, StopsRotating}
+use Rattle.vl_engine.specs.Rotating.{IsRefusedSo, MayBegin, RotatesAs, StopsRotating}
 use Rattle.vl_engine.specs.declared.fails.StepFail.TheVariants as fails
 use Rattle.vl_engine.specs.declared.fails.StepFail.{StepFail}
-use Rattle.vl_engine.specs.declared.kept.Back.{Back}
 use Rattle.vl_engine.specs.declared.kept.Core.{Core}
 use Rattle.vl_engine.specs.laws.RotateRulings.{rotate_made}
 use Rattle.vl_layout.specs.Decides.{Answered, Decides, Outcome, as_before, no_effects}
-use Rattle.vl_layout.specs.Ruling.{Ruling, StepAnswer, Stepped, leaving}
+use Rattle.vl_layout.specs.Ruling.{Exhausted, Halted, Idle, Ruling, StepAnswer, Stepped, leaving}
 use Rattle.vl_layout.specs.Rulings.Rotate.{rotate_ruling}
 use Rattle.vl_layout.specs.Tidy.{IsTrueLog}
 use Rattle.vl_layout.specs.declared.layout.Layout.{Layout}
 use Rattle.vl_model.specs.History.{History}
+use Rattle.vl_model.specs.declared.counter.Counter.TheVariants as counters
 
 -- ---- it was refused, and nothing was changed
 
@@ -41,6 +41,64 @@ module _ {H : Type 0} (bytes : H → Option (List ℕ)) (core : Core H) (h : His
   carries_step_refused g watched disk is =
       subst (λ (r : Ruling StepAnswer). Carries g bytes disk disk core h l r (as_before l l) (Answered answer) no_effects) ruled
       (carries_leaving g watched bytes core core h l disk answer l (as_before l l) is is)
+
+-- so it is with whatever is answered where none is begun
+pub ruled_refused : {H : Type 0} (core : Core H) (h : History) (l : Layout) → Fronts core h l → IsTrueLog l.active
+    → (result : Result (Option ℕ) StepFail) → IsRefusedSo core result
+    → (answer : StepAnswer) × (leaving answer h l ≡ rotate_ruling l h) × (step_outcome result ≡ Answered answer)
+    × (rotate_effects result ≡ no_effects)
+ruled_refused core h l is true_log (Ok (Some number)) why = absurd why
+ruled_refused core h l is true_log (Ok None) why = (Idle, ruled_idle core h l is why.0 true_log why.1, refl, refl)
+ruled_refused core h l is true_log (Err (fails.Halted name)) why =
+    (Halted (file_of name), ruled_halted core h l is name why, refl, refl)
+ruled_refused core h l is true_log (Err (fails.Exhausted counters.Commit)) why = absurd why.1.1
+ruled_refused core h l is true_log (Err (fails.Exhausted counters.Log)) why =
+    (Exhausted counters.Log, ruled_log core h l is why.0 why.1.0 true_log why.1.1, refl, refl)
+ruled_refused core h l is true_log (Err (fails.Exhausted counters.Table)) why = absurd why.1.1
+ruled_refused core h l is true_log (Err (fails.Exhausted counters.Manifest)) why = absurd why.1.1
+ruled_refused core h l is true_log (Err (fails.Exhausted counters.Version)) why =
+    (Exhausted counters.Version, ruled_version core h l is why.0 why.1.0 why.1.1.0 true_log why.1.1.1, refl, refl)
+ruled_refused core h l is true_log (Err fails.NoMemory) why = absurd why
+ruled_refused core h l is true_log (Err (fails.Disk name)) why = absurd why
+
+module _ {D H : Type 0} (g : Ghosts D) (watched : IsWatched g) (bytes : H → Option (List ℕ)) (core : Core H) (disk : D)
+    (h : History) (l : Layout) (result : Result (Option ℕ) StepFail) (why : IsRefusedSo core result) where
+  pub fronts_as_refused : Fronts core h l → IsTrueLog l.active
+      → Decides (Fronts core) h l (rotate_ruling l h) (as_before l l) (step_outcome result) (rotate_effects result)
+  fronts_as_refused is true_log =
+      let (answer, ruled, outcome, effects) = ruled_refused core h l is true_log result why in
+      subst (Decides (Fronts core) h l (rotate_ruling l h) (as_before l l) (step_outcome result)) (sym effects)
+      (subst (λ (o : Outcome StepAnswer). Decides (Fronts core) h l (rotate_ruling l h) (as_before l l) o no_effects) (sym outcome)
+      (fronts_refused bytes core h l answer ruled is))
+
+  pub stands_as_refused : StandsFor bytes core h l
+      → Decides (StandsFor bytes core) h l (rotate_ruling l h) (as_before l l) (step_outcome result) (rotate_effects result)
+  stands_as_refused is =
+      let (answer, ruled, outcome, effects) = ruled_refused core h l is.fronts is.tidy.true_logs.0 result why in
+      subst (Decides (StandsFor bytes core) h l (rotate_ruling l h) (as_before l l) (step_outcome result)) (sym effects)
+      (subst (λ (o : Outcome StepAnswer). Decides (StandsFor bytes core) h l (rotate_ruling l h) (as_before l l) o no_effects)
+      (sym outcome) (stands_refused bytes core h l answer ruled is))
+
+  pub carries_as_refused : Represents bytes core (g.told disk) h l
+      → Carries g bytes disk disk core h l (rotate_ruling l h) (as_before l l) (step_outcome result) (rotate_effects result)
+  carries_as_refused is =
+      let (answer, ruled, outcome, effects) =
+      ruled_refused core h l is.stands.fronts is.stands.tidy.true_logs.0 result why in
+      subst (Carries g bytes disk disk core h l (rotate_ruling l h) (as_before l l) (step_outcome result)) (sym effects)
+      (subst (λ (o : Outcome StepAnswer). Carries g bytes disk disk core h l (rotate_ruling l h) (as_before l l) o no_effects)
+      (sym outcome) (carries_step_refused bytes core h l answer ruled g watched disk is))
+
+-- no file is named then
+pub refused_no_disk : {H : Type 0} (core : Core H) (result : Result (Option ℕ) StepFail) → IsRefusedSo core result
+    → StepFailed result → ⊥
+refused_no_disk core (Ok done) why failed = failed
+refused_no_disk core (Err (fails.Halted name)) why failed = failed
+refused_no_disk core (Err (fails.Exhausted counter)) why failed = failed
+refused_no_disk core (Err fails.NoMemory) why failed = failed
+refused_no_disk core (Err (fails.Disk name)) why failed = why
+
+pub may_by : {H : Type 0} (core : Core H) (h : History) (l : Layout) → Fronts core h l → MayBegin core → MayRotate l
+may_by core h l is may = may_rotate core h l is may.running may.long may.left may.below
 
 -- ---- the next log was to be begun
 

@@ -1,5 +1,5 @@
 -- What beginning a new log does, whatever the engine stands for: to the disk, and in memory.
-use Rattle.std.specs.Prelude.{◌≡◌, ℕ, ◌+◌, List, [], ◌∷◌, ◌++◌, Option, None, Some, Result, Ok, Err}
+use Rattle.std.specs.Prelude.{◌≡◌, ◌≤◌, ◌<◌, ℕ, ◌+◌, List, [], ◌∷◌, ◌++◌, Option, None, Some, Result, Ok, Err}
 use Rattle.std.specs.Option.{ForSome}
 use Rattle.vl_disk.specs.Calls.{ChangesNothing}
 use Rattle.vl_disk.specs.Crash.{Unchanged}
@@ -16,10 +16,41 @@ use Rattle.vl_engine.specs.declared.fails.StepFail.{StepFail}
 use Rattle.vl_engine.specs.declared.fails.StepFail.TheVariants as fails
 use Rattle.vl_engine.specs.declared.kept.Core.{Core}
 use Rattle.vl_model.specs.Formats.{log_format}
+use Rattle.vl_model.specs.Limits.{max_file_number, max_version_number}
+use Rattle.vl_model.specs.declared.counter.Counter.{Counter}
+use Rattle.vl_model.specs.declared.counter.Counter.TheVariants as counters
 use Rattle.vl_seglog.specs.Frames.{log_header}
 use Rattle.vl_seglog.specs.declared.sealed.SealedLog.{SealedLog}
 use Rattle.vl_version.specs.Rotating.{AreSameLogs}
 use Rattle.vl_version.specs.declared.version.Version.{Version}
+
+-- ---- whether it may
+
+-- Nothing stands against a new log: the engine isn't halted, a commit stands in the active one, and numbers are left.
+pub record MayBegin {H : Type 0} (core : Core H) : Type 0 where
+  pub running : core.front.halted ≡ None
+  pub long : 16 < core.front.log.length
+  pub left : core.back.next_log ≤ max_file_number
+  pub below : core.back.version_number < max_version_number
+
+-- no number of this kind is left
+abbrev pub IsUsedUp : {H : Type 0} → Core H → Counter → Type 0
+IsUsedUp core counters.Commit = ⊥
+IsUsedUp core counters.Log = max_file_number < core.back.next_log
+IsUsedUp core counters.Table = ⊥
+IsUsedUp core counters.Manifest = ⊥
+IsUsedUp core counters.Version =
+    (core.back.next_log ≤ max_file_number) × (max_version_number ≤ core.back.version_number)
+
+-- why none is begun: the first of these that holds
+abbrev pub IsRefusedSo : {H : Type 0} → Core H → Result (Option ℕ) StepFail → Type 0
+IsRefusedSo core (Ok (Some number)) = ⊥
+IsRefusedSo core (Ok None) = (core.front.halted ≡ None) × (core.front.log.length ≤ 16)
+IsRefusedSo core (Err (fails.Halted name)) = core.front.halted ≡ Some name
+IsRefusedSo core (Err (fails.Exhausted counter)) =
+    (core.front.halted ≡ None) × (16 < core.front.log.length) × IsUsedUp core counter
+IsRefusedSo core (Err fails.NoMemory) = ⊥
+IsRefusedSo core (Err (fails.Disk name)) = ⊥
 
 -- ---- memory
 

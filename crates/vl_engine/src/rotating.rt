@@ -1,18 +1,42 @@
-//! What a rotation wants of memory, the disk's too: all of it is taken before the disk is changed.
-ghost use Rattle.std.specs.Prelude.{IfOk, IsErrOf};
+//! Whether a log may be begun, and what that wants of memory, the disk's too: all of it is taken before the disk is changed.
+ghost use Rattle.std.specs.Prelude.{◌≡◌, IfOk, IfSome, IsErrOf, None};
 ghost use Rattle.std.specs.Option.{ForSome};
 ghost use Rattle.vl_disk.specs.Calls.{ChangesNothing};
 ghost use Rattle.vl_disk.specs.Disk.{Stands};
 ghost use Rattle.vl_disk.specs.Spare.{IsReady};
 ghost use Rattle.vl_disk.specs.declared.errors.DiskFail.TheVariants as why;
 ghost use Rattle.vl_disk.specs.declared.name.Name.TheVariants as names;
-ghost use Rattle.vl_engine.specs.Rotating.{IsNextVersion, next_name};
+ghost use Rattle.vl_engine.specs.Rotating.{IsNextVersion, IsRefusedSo, MayBegin, next_name};
 
+use crate::StepFail;
 use crate::kept::Core;
 use std::alloc::Global;
 use vl_disk::{Disk, DiskFail, Name};
+use vl_model::{Counter, MAX_FILE_NUMBER, MAX_VERSION_NUMBER};
 use vl_seglog::{ActiveLog, LOG_HEADER_BYTES};
 use vl_version::Version;
+
+/// What a rotation is answered where no log is begun: the engine is halted, no commit stands in the active log, or no number is
+/// left.
+pub fn refusal<H>(core: &Core<H>) -> Option<Result<Option<u32>, StepFail>>
+    ensures refused { IfSome result (IsRefusedSo core.now) }
+    ensures may { result ≡ None → MayBegin core.now }
+{
+    if let Some(name) = core.front.halted {
+        return Some(Err(StepFail::Halted { name }));
+    }
+    // A log without frames has its header alone.
+    if core.front.log.length <= LOG_HEADER_BYTES as u64 {
+        return Some(Ok(None));
+    }
+    if core.back.next_log > MAX_FILE_NUMBER {
+        return Some(Err(StepFail::Exhausted(Counter::Log)));
+    }
+    if core.back.version_number >= MAX_VERSION_NUMBER {
+        return Some(Err(StepFail::Exhausted(Counter::Version)));
+    }
+    None
+}
 
 /// Holds the active log, and gives the version behind its rotation. The disk is as before, but for room that was made for
 /// the new log.

@@ -1,4 +1,4 @@
-ghost use Rattle.std.specs.Prelude.{◌≡◌, ◌<◌, ◌-◌, ◌^◌, ℕ, Err, None, Some};
+ghost use Rattle.std.specs.Prelude.{◌≡◌, ℕ, Err, Some};
 ghost use Rattle.vl_disk.specs.Calls.{ChangesNothing};
 ghost use Rattle.vl_disk.specs.DiskState.{DiskState};
 ghost use Rattle.vl_disk.specs.Faults.{HasCause};
@@ -6,20 +6,18 @@ ghost use Rattle.vl_disk.specs.declared.name.Name.{Name};
 ghost use Rattle.vl_engine.specs.Answers.{StepFailed, StepLeavesDisk, rotate_effects, step_outcome};
 ghost use Rattle.vl_engine.specs.Carries.{Carries};
 ghost use Rattle.vl_engine.specs.Represents.{Fronts, Represents, StandsFor};
-ghost use Rattle.vl_engine.specs.Rotating.{RotatesAs, StopsRotating};
+ghost use Rattle.vl_engine.specs.Rotating.{MayBegin, RotatesAs, StopsRotating};
 ghost use Rattle.vl_engine.specs.declared.fails.StepFail.TheVariants as fails;
 ghost use Rattle.vl_layout.specs.Decides.{Decides, as_before};
 ghost use Rattle.vl_layout.specs.Rulings.Rotate.{rotate_ruling};
 ghost use Rattle.vl_layout.specs.Tidy.{IsTrueLog};
 ghost use Rattle.vl_layout.specs.declared.layout.Layout.{Layout};
 ghost use Rattle.vl_model.specs.History.{History};
-ghost use Rattle.vl_model.specs.Limits.{max_version_number};
 
-use crate::rotating::stage_rotation;
+use crate::rotating::{refusal, stage_rotation};
 use crate::{Engine, StepFail};
 use vl_disk::{Disk, DiskFail, Name, make_file};
-use vl_model::{Counter, MAX_FILE_NUMBER, MAX_VERSION_NUMBER};
-use vl_seglog::{ActiveLog, LOG_HEADER_BYTES, log_header};
+use vl_seglog::{ActiveLog, log_header};
 
 impl<D: Disk> Engine<D> {
     /// Seals the active log and begins a new one, and answers with the number of the sealed one; none where no commit stands
@@ -49,27 +47,15 @@ impl<D: Disk> Engine<D> {
         ensures stopped { (h : History) (l : Layout) (name : Name) → Fronts self.old.core h l → result ≡ Err (fails.Disk name)
             → StopsRotating l.active.number l.next_log (D.calls self.old.disk) (D.calls self.new.disk) name }
     {
-        if let Some(name) = self.core.front.halted {
-            return Err(StepFail::Halted { name });
+        match refusal(&self.core) {
+            Some(answer) => answer,
+            None => self.begin_log(),
         }
-        // A log without frames has its header alone.
-        if self.core.front.log.length <= LOG_HEADER_BYTES as u64 {
-            return Ok(None);
-        }
-        if self.core.back.next_log > MAX_FILE_NUMBER {
-            return Err(StepFail::Exhausted(Counter::Log));
-        }
-        if self.core.back.version_number >= MAX_VERSION_NUMBER {
-            return Err(StepFail::Exhausted(Counter::Version));
-        }
-        self.begin_log()
     }
 
     // Begins the next log, and gives the number of the one that is sealed by that.
     fn begin_log(&mut self) -> Result<Option<u32>, StepFail>
-        requires running { self.old.core.front.halted ≡ None }
-        requires numbered { self.old.core.back.next_log < 2 ^ 32 - 1 }
-        requires version { self.old.core.back.version_number < max_version_number }
+        requires { MayBegin self.old.core }
         ensures cause { HasCause (D.faults self.old.disk) (D.faults self.new.disk) (StepFailed result) }
         ensures as_rotated { RotatesAs D.Watched D.Held.bytes self.old.disk self.new.disk self.old.core self.new.core result }
     {
