@@ -21,7 +21,7 @@ still old new same holds disk is = holds disk (sym same ∙ is)
 part_tells : (name : Name) (bytes : List ℕ) (old new : Option DiskState) → TellsPart name bytes old new
     → GoesOnTelling old new
 part_tells name bytes old new part state is =
-    let there = subst (λ (o : Option DiskState). TellsPart name bytes o new) is part in (there.0, there.1.0)
+    let there = subst (λ (o : Option DiskState). TellsPart name bytes o new) is part in (there.0, there.1)
 
 module _ {D H : Type 0} (g : Ghosts D) (core : Core H) where
   -- the active log couldn't be held

@@ -281,12 +281,15 @@ module _ {H : Type 0} (core : Core H) (h : History) (l : Layout) (is : Fronts co
 
 -- ---- what stands then
 
+none_some : (disk : DiskState) → None ≡ Some disk → ⊥
+none_some disk e = cc
+
 -- nothing is asked of a disk that tells nothing
-pub free_then : (next : ℕ) (told_old told_mid told_new : Option DiskState) → told_mid ≡ told_old
-    → told_new ≡ option_map (made (names.Log next) (log_header log_format next)) told_mid
+pub free_then : (next : ℕ) (told_old told_between told_new : Option DiskState) → told_between ≡ told_old
+    → told_new ≡ option_map (made (names.Log next) (log_header log_format next)) told_between
     → ((n : ℕ) → next ≤ n → ForSome told_old (IsFree (names.Log n)))
     → (n : ℕ) → next + 1 ≤ n → ForSome told_new (IsFree (names.Log n))
-free_then next told_old told_mid told_new same changed free n up now is = by told_old refl
+free_then next told_old told_between told_new same changed free n up now is = by told_old refl
   where
     bytes : List ℕ
     bytes = log_header log_format next
@@ -295,7 +298,7 @@ free_then next told_old told_mid told_new same changed free n up now is = by tol
     now_is told e = sym (changed ∙ ap (option_map (made (names.Log next) bytes)) (same ∙ e)) ∙ is
 
     by : (told : Option DiskState) → told_old ≡ told → IsFree (names.Log n) now
-    by None e = absurd (let none = now_is None e in cc)
+    by None e = absurd (none_some now (now_is None e))
     by (Some disk) e =
         let made_is : made (names.Log next) bytes disk ≡ now = some_same (made (names.Log next) bytes disk) now (now_is (Some disk) e) in
         subst (IsFree (names.Log n)) made_is
@@ -303,26 +306,26 @@ free_then next told_old told_mid told_new same changed free n up now is = by tol
         ∙ free n (omega (arith, up)) disk e)
 
 -- a file stands still where the making of another one failed
-pub stands_still : (active next : ℕ) (told_old told_mid told_new : Option DiskState) → told_mid ≡ told_old
-    → TellsPart (names.Log next) (log_header log_format next) told_mid told_new
+pub stands_still : (active next : ℕ) (told_old told_between told_new : Option DiskState) → told_between ≡ told_old
+    → TellsPart (names.Log next) (log_header log_format next) told_between told_new
     → ForSome told_old (Stands (names.Log active)) → ForSome told_old (IsFree (names.Log next))
     → ForSome told_new (Stands (names.Log active))
-stands_still active next told_old told_mid told_new same part stands free now is = by told_mid refl
+stands_still active next told_old told_between told_new same part stands free now is = by told_between refl
   where
     bytes : List ℕ
     bytes = log_header log_format next
 
-    by : (told : Option DiskState) → told_mid ≡ told → Stands (names.Log active) now
+    by : (told : Option DiskState) → told_between ≡ told → Stands (names.Log active) now
     by None e =
         let none = subst (λ (o : Option DiskState). TellsPart (names.Log next) bytes o told_new) e part in
-        absurd (let wrong = sym none ∙ is in cc)
+        absurd (none_some now (sym none ∙ is))
     by (Some disk) e = at (making (names.Log next) bytes disk now during)
       where
         there : (state : DiskState) × (told_new ≡ Some state) × WhileMaking (names.Log next) bytes disk state
         there = subst (λ (o : Option DiskState). TellsPart (names.Log next) bytes o told_new) e part
 
         during : WhileMaking (names.Log next) bytes disk now
-        during = subst (WhileMaking (names.Log next) bytes disk) (some_same there.0 now (sym there.1.0 ∙ is)) there.1.1
+        during = subst (WhileMaking (names.Log next) bytes disk) (some_same there.0 now (sym there.1 ∙ is)) there.2
 
         stood : Stands (names.Log active) disk
         stood = stands disk (sym same ∙ e)
@@ -340,5 +343,5 @@ stands_still active next told_old told_mid told_new same part stands free now is
 
         at : Making (names.Log next) bytes disk now → Stands (names.Log active) now
         at (waits_still unchanged) = subst (Stands (names.Log active)) (sym unchanged) stood
-        at (torn file some there elsewhere) = kept elsewhere
-        at (done there elsewhere) = kept elsewhere
+        at (torn file some stands_so elsewhere) = kept elsewhere
+        at (done stands_so elsewhere) = kept elsewhere

@@ -51,13 +51,13 @@ ruled_refused core h l is true_log (Ok (Some number)) why = absurd why
 ruled_refused core h l is true_log (Ok None) why = (Idle, ruled_idle core h l is why.0 true_log why.1, refl, refl)
 ruled_refused core h l is true_log (Err (fails.Halted name)) why =
     (Halted (file_of name), ruled_halted core h l is name why, refl, refl)
-ruled_refused core h l is true_log (Err (fails.Exhausted counters.Commit)) why = absurd why.1.1
+ruled_refused core h l is true_log (Err (fails.Exhausted counters.Commit)) why = absurd why.2
 ruled_refused core h l is true_log (Err (fails.Exhausted counters.Log)) why =
-    (Exhausted counters.Log, ruled_log core h l is why.0 why.1.0 true_log why.1.1, refl, refl)
-ruled_refused core h l is true_log (Err (fails.Exhausted counters.Table)) why = absurd why.1.1
-ruled_refused core h l is true_log (Err (fails.Exhausted counters.Manifest)) why = absurd why.1.1
+    (Exhausted counters.Log, ruled_log core h l is why.0 why.1 true_log why.2, refl, refl)
+ruled_refused core h l is true_log (Err (fails.Exhausted counters.Table)) why = absurd why.2
+ruled_refused core h l is true_log (Err (fails.Exhausted counters.Manifest)) why = absurd why.2
 ruled_refused core h l is true_log (Err (fails.Exhausted counters.Version)) why =
-    (Exhausted counters.Version, ruled_version core h l is why.0 why.1.0 why.1.1.0 true_log why.1.1.1, refl, refl)
+    (Exhausted counters.Version, ruled_version core h l is why.0 why.1 why.2.0 true_log why.2.1, refl, refl)
 ruled_refused core h l is true_log (Err fails.NoMemory) why = absurd why
 ruled_refused core h l is true_log (Err (fails.Disk name)) why = absurd why
 
@@ -91,7 +91,7 @@ module _ {D H : Type 0} (g : Ghosts D) (watched : IsWatched g) (bytes : H → Op
 -- no file is named then
 pub refused_no_disk : {H : Type 0} (core : Core H) (result : Result (Option ℕ) StepFail) → IsRefusedSo core result
     → StepFailed result → ⊥
-refused_no_disk core (Ok done) why failed = failed
+refused_no_disk core (Ok answer) why failed = failed
 refused_no_disk core (Err (fails.Halted name)) why failed = failed
 refused_no_disk core (Err (fails.Exhausted counter)) why failed = failed
 refused_no_disk core (Err fails.NoMemory) why failed = failed

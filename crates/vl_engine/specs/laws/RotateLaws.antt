@@ -1,5 +1,5 @@
 -- A new log is begun behind the logs of a disk that holds a layout: what a crash leaves meanwhile, and what is held then.
-use Rattle.std.specs.Prelude.{◌≡◌, ◌≢◌, ◌≤◌, ◌<◌, ℕ, ◌+◌, List, [], ◌∷◌, ◌++◌, length, map, take, All, Option, None, Some, Ok, refl, true}
+use Rattle.std.specs.Prelude.{◌≡◌, ◌≢◌, ◌≤◌, ◌<◌, ℕ, ◌+◌, Bool, cond, List, [], ◌∷◌, ◌++◌, length, map, take, All, Option, None, Some, Ok, refl, true}
 use Rattle.std.specs.FinMap.{get}
 use Rattle.std.specs.List.{filter}
 use Rattle.std.proofs.Common.{sym, ap, subst, ◌∙◌, arith, ⊎_elim}
@@ -132,7 +132,7 @@ rotate_base b l h base some = record {
 }
   where
     only : filter has_frames (l.active ∷ []) ≡ l.active ∷ []
-    only = ap (λ b. if b then l.active ∷ [] else []) some
+    only = ap (λ (b : Bool). cond b (l.active ∷ []) []) some
 
 module _ (b : Base) (l : Layout) (h : History) (tidy : IsTidy no_logs l h) (disk : DiskState) (holds : Holds b l disk) where
   abbrev pub new_name : Name
