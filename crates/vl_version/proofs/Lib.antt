@@ -5,14 +5,17 @@ mod FrozenLaws
 mod GatherLaws
 mod LogLaws
 mod LookLaws
+mod NearLaws
 mod looking
 mod NewestLaws
+mod OldestLaws
 mod OverLaws
 mod OwnLaws
 mod PutLaws
 mod RangesMet
 mod RowLaws
 mod ScanLaws
+mod SharedLaws
 mod TableSources
 mod TakeLaws
 mod Telling
