@@ -1,32 +1,17 @@
--- A disk on which the new manifest was being made: what it leaves says the new manifest's state, and a store
--- may be opened on it again.
-use Rattle.std.specs.Prelude.{◌≡◌, ℕ, ◌+◌, ◌-◌, ◌≤◌, ◌<◌, List, [], ◌++◌, length, take, drop, None, Some, Ok, refl}
-use Rattle.std.specs.FinMap.{get}
+-- A file that was being made has no frame by chance as it is read.
+use Rattle.std.specs.Prelude.{◌≡◌, ℕ, ◌+◌, ◌-◌, ◌≤◌, ◌<◌, List, [], ◌++◌, length, take, drop, Some, refl}
 use Rattle.std.proofs.Common.{append_assoc, ap, arith, length-append, subst, sym, ◌∙◌, ⊎_elim}
 use Rattle.std.proofs.lemmas.Bool.{cases_lt}
 use Rattle.std.proofs.lemmas.List.{drop-append-le, drop_all, take-append-drop, take_at}
 use Rattle.vl_disk.specs.Chance.{NoChanceOne, WasHandedOver}
-use Rattle.vl_disk.specs.Crash.{Image}
 use Rattle.vl_disk.specs.DiskState.{File, lengthened, new_file}
 use Rattle.vl_disk.specs.declared.name.Name.{Name}
 use Rattle.vl_disk.specs.declared.name.Name.TheVariants.{Log, Manifest, Table}
 use Rattle.vl_frame.specs.laws.RunLaws.{frame_is_some}
 use Rattle.vl_frame.specs.Runs.{item_frame}
-use Rattle.vl_manifest.specs.Current.{StandsReadable}
 use Rattle.vl_manifest.specs.Grammar.{edits_grammar}
-use Rattle.vl_manifest.specs.Manifest.{IsReadable}
-use Rattle.vl_manifest.specs.States.{as_read}
-use Rattle.vl_manifest.specs.laws.MadeLaws.{SaysAsRead}
-use Rattle.vl_manifest.specs.laws.TableLaws.{bare_told}
 use Rattle.vl_model.specs.Formats.{manifest_format}
-use Rattle.vl_manifest.specs.laws.ManifestLaws.{says_readable}
-use Rattle.vl_manifest.specs.declared.state.ManifestState.{ManifestState}
-use Rattle.vl_recover.specs.crash.Alike.{OpensLike, SameState, Spells}
-use Rattle.vl_recover.specs.laws.crash.AlikeLaws.{SameBut, lead_over, led_anew, like_lead, log_manifest, read_same, state_back, state_then}
-use Rattle.vl_recover.specs.laws.repairing.RepairingSteps.{table_manifest}
-use Rattle.vl_recover.specs.opening.Opening.{Heading, Led, Opening, Opens, Refusal, Says}
-use Rattle.vl_recover.specs.laws.opening.OpeningLaws.{one_heading, opened, single_says, some_none, some_same}
-use Rattle.vl_recover.specs.laws.repairing.StageLaws.{ok_same}
+use Rattle.vl_recover.specs.crash.Alike.{Spells}
 use Rattle.vl_recover.specs.laws.crash.OneName.{IsPart, part_empty, part_some}
 use Rattle.vl_recover.specs.laws.crash.Torn.{ended_no_chance}
 use Rattle.vl_seglog.specs.Frames.{frames_grammar}
@@ -85,51 +70,3 @@ part_no_chance name piece file (part_some taken) = λ grows loose. record {
                 (spelled_in name taken at piece frame here);
           },
         )
-
--- ---- what is said meanwhile
-
--- the new manifest isn't there, can't be read, or says its state
-pub data IsTorn (number : ℕ) (s : ManifestState) (image : Image) : Type 0 where
-  missing : get image (Manifest number) ≡ None → IsTorn number s image
-  unread : (bytes : List ℕ) → get image (Manifest number) ≡ Some bytes → (IsReadable number bytes → ⊥)
-      → IsTorn number s image
-  says : (bytes : List ℕ) → get image (Manifest number) ≡ Some bytes → SaysAsRead number bytes s
-      → IsTorn number s image
-
--- Then the image says this state, where it opens, if so does one without it.
-module _ (number : ℕ) (s : ManifestState) (image before : Image)
-    (same : SameBut (Manifest number) image before) (gone : get before (Manifest number) ≡ None)
-    (said : (o : Opening) → Opens before (Ok o) → SameState s o.state) (above : (m : ℕ) (bytes : List ℕ)
-    → StandsReadable before m bytes → m ≤ number) where
-  back : SameBut (Manifest number) before image
-  back name apart = sym (same name apart)
-
-  not_read : ((bytes : List ℕ) → StandsReadable image number bytes → ⊥) → (o : Opening) → Opens image (Ok o)
-      → SameState s o.state
-  not_read not o opens =
-      let like : OpensLike before image = like_lead before image
-      (lead_over before image number back (λ bytes r. some_none bytes (sym r.stands ∙ gone)) not)
-      (λ m. back (Log m) (log_manifest m number)) (λ m. back (Table m) (table_manifest m number)) in
-      let (p, opens_before, shows) = like o opens in
-      state_then s p.state o.state (said p opens_before) shows.state
-
-  by_itself : (bytes : List ℕ) → get image (Manifest number) ≡ Some bytes → SaysAsRead number bytes s
-      → (o : Opening) → Opens image (Ok o) → SameState s o.state
-  by_itself bytes stands says_s o opens =
-      let led = led_anew image before number bytes same
-      (record { stands = stands; readable = says_readable number bytes here says_s.says.says }) above in
-      let is = opened image o opens in
-      let heading = one_heading image is.heading (Led number bytes) is.by.headed led in
-      let says_o = subst (λ (h : Heading). Says h (Ok o.state)) heading is.by.says in
-      let equal : here ≡ o.state = ok_same {E = Refusal} here o.state
-      (single_says (Led number bytes) (Ok here) (Ok o.state) (Ok here, bare_told number bytes here says_s.says, refl) says_o) in
-      subst (SameState s) equal (state_back here s (read_same says_s.format s))
-    where
-      here : ManifestState
-      here = as_read says_s.format s
-
-  pub torn_says : IsTorn number s image → (o : Opening) → Opens image (Ok o) → SameState s o.state
-  torn_says (missing none) = not_read (λ bytes r. some_none bytes (sym r.stands ∙ none))
-  torn_says (unread bytes is not) = not_read (λ others r. not
-      (subst (IsReadable number) (some_same others bytes (sym r.stands ∙ is)) r.readable))
-  torn_says (says bytes is says_s) = by_itself bytes is says_s

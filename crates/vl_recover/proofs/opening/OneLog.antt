@@ -17,6 +17,7 @@ use Rattle.vl_model.specs.declared.log_frame.LogFrame.{LogFrame}
 use Rattle.vl_recover.specs.declared.found.Content.{Content}
 use Rattle.vl_recover.specs.declared.found.LogFound.{LogFound}
 use Rattle.vl_recover.specs.opening.Answers.{HeldLog, held_log}
+use Rattle.vl_recover.specs.opening.Leading.{BeginsIn}
 use Rattle.vl_recover.specs.opening.LogsSoFar.{FindsLog}
 use Rattle.vl_recover.specs.opening.ReadLogs.{HasNothing, IsContent, IsReadAs, held_content, standing_log}
 use Rattle.vl_recover.specs.opening.Walk.{filled, format_of, has_some}
@@ -46,6 +47,12 @@ module _ (image : Image) (number before size : ℕ) (bytes : List ℕ)
     (front : List ℕ) (front_is : front ≡ bytes_at 0 (min size 16) bytes) where
   same : take 16 front ≡ take 16 bytes
   same = ap (take 16) front_is ∙ ap (λ (n : ℕ). take 16 (take (min n 16) bytes)) size_is ∙ front_same bytes
+
+  -- it begins with its header
+  pub header_begins : (header : Option ℕ) (format : ℕ) → header ≡ Some format → SaysFormat header number front → BeginsIn image number format
+  header_begins header format some says =
+      let right = front_says number bytes front same (Some format) (subst (λ (h : Option ℕ). SaysFormat h number front) some says) in
+      record { bytes = bytes; stands = stands; format_is = right.0; header = right.1 }
 
   -- without a right header it has nothing
   pub headless_found : (header : Option ℕ) → header ≡ None → SaysFormat header number front → (c : Content) → HasNothing 0 before c
