@@ -1,6 +1,6 @@
 -- What a transaction and a view see: the history at their own number, whatever is committed meanwhile. No layout and no disk
 -- stands here, so that no step of the engine touches it.
-use Rattle.std.specs.Prelude.{◌≡◌, ◌≤◌, ℕ, List, [], Option}
+use Rattle.std.specs.Prelude.{◌≡◌, ◌≤◌, ℕ, List, Option}
 use Rattle.std.specs.FinMap.{empty, entries}
 use Rattle.vl_engine.specs.declared.txn.Txn.{Txn}
 use Rattle.vl_engine.specs.declared.view.View.{View}
@@ -12,6 +12,8 @@ use Rattle.vl_model.specs.Notes.{AreNotesOf}
 use Rattle.vl_model.specs.Reads.{IsExplained, Read}
 use Rattle.vl_model.specs.Winners.{Logs}
 use Rattle.vl_model.specs.declared.entry.Entry.{Entry}
+use Rattle.vl_table.specs.Kept.{Files}
+use Rattle.vl_table.specs.KeptBlocks.{ReadsOf}
 use Rattle.vl_txn.specs.Reads.{no_notes}
 use Rattle.vl_version.specs.Sources.{HasEntries, tables_in}
 use Rattle.vl_version.specs.declared.version.Version.{Version}
@@ -23,23 +25,25 @@ pub record ShowsAt {H : Type 0} (bytes : H → Option (List ℕ)) (version : Ver
   pub logs : Logs
   pub has : HasEntries bytes version entries_of logs
   pub shows : Shows logs entries_of h (λ key. number) number
-  -- while there are no tables no file is read for it;
-  pub without_tables : tables_in version ≡ []
-  pub alone : version.behind.logs.items ≡ []
   -- the number is one of the history's
   pub readable : h.first ≤ number
   pub known : number ≤ last_number h
 
--- The transaction sees the history at its number; its notes are those of these reads, which the history explains there.
+-- The transaction sees the history at its number; the blocks that its reader keeps are of the version's tables, of which these
+-- are the files; and its notes are those of these reads, which the history explains there.
 pub record Sees {H R : Type 0} (bytes : H → Option (List ℕ)) (txn : Txn H R) (h : History) (reads : List Read)
     : Type 0 where
   pub version : ShowsAt bytes txn.version h txn.number
+  pub files : Files
+  pub reader : ReadsOf bytes files txn.reader (tables_in txn.version)
   pub notes : AreNotesOf reads txn.reads.keys txn.reads.spans
   pub explained : IsExplained h txn.number reads
 
 -- a view, which notes nothing
-abbrev pub SeesAlone : {H R : Type 0} → (H → Option (List ℕ)) → View H R → History → Type 0
-SeesAlone bytes view h = ShowsAt bytes view.version h view.number
+pub record SeesAlone {H R : Type 0} (bytes : H → Option (List ℕ)) (view : View H R) (h : History) : Type 0 where
+  pub version : ShowsAt bytes view.version h view.number
+  pub files : Files
+  pub reader : ReadsOf bytes files view.reader (tables_in view.version)
 
 -- one that has read and written nothing yet
 pub record IsNew {H R : Type 0} (txn : Txn H R) : Type 0 where

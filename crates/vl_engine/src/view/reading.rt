@@ -1,10 +1,13 @@
 ghost use Rattle.std.specs.Prelude.{◌≡◌, ◌≤◌, IfOk, IsErr, None};
 ghost use Rattle.std.specs.FinMap.{empty};
 ghost use Rattle.vl_disk.specs.Faults.{HasCause};
-ghost use Rattle.vl_engine.specs.Reading.{IsFound, IsRefusedBy, IsRefusedInto, IsSound, IsSoundInto, OnlyReads, ReadFailed, ReadIntoFailed, refused_bounds, rows_under, with_its_tag};
+ghost use Rattle.vl_engine.specs.Reading.{IsFound, IsInMemory, IsRefusedBy, IsRefusedInto, IsSound, IsSoundInto, LiesOver, LooksUp, LooksUpInto, LooksUpTagged, OnlyReads, ReadFailed, ReadIntoFailed, refused_bounds, rows_under, with_its_tag};
 ghost use Rattle.vl_engine.specs.Sees.{SeesAlone};
 ghost use Rattle.vl_model.specs.History.{History, value_at};
+ghost use Rattle.vl_table.specs.Kept.{Files};
+ghost use Rattle.vl_table.specs.KeptBlocks.{ReadsOf};
 ghost use Rattle.vl_txn.specs.Refusals.{refused_key};
+ghost use Rattle.vl_version.specs.Sources.{tables_in};
 
 use crate::txn::tagged_value;
 use crate::{Found, ReadFail, ReadFault, Rows, View};
@@ -26,9 +29,17 @@ impl<H: HeldFile, R: Reader<Held = H> + Drop> View<H, R> {
         ensures value { (h : History) → SeesAlone H.bytes self.old h
             → IfOk result (λ value. value ≡ value_at h self.old.number key.now) }
         ensures keeps { OnlyReads self.old self.new }
+        ensures still { (h : History) → SeesAlone H.bytes self.old h → SeesAlone H.bytes self.new h }
         ensures refused { IsRefusedBy (refused_key key.now) result }
         ensures cause { HasCause (R.faults self.old.reader.reader) (R.faults self.new.reader.reader) (ReadFailed result) }
+        ensures near { IsInMemory self.old.version → ReadFailed result → ⊥ }
         ensures sound { (h : History) → SeesAlone H.bytes self.old h → IsSound result }
+
+        // Also where the tables aren't true, no damage is hidden or made up.
+        ensures looks { (files : Files) → LiesOver H.bytes files self.old.version self.old.reader
+            → LooksUp H.bytes self.old.version key.now self.old.number result }
+        ensures blocks { (files : Files) → ReadsOf H.bytes files self.old.reader (tables_in self.old.version)
+            → ReadsOf H.bytes files self.new.reader (tables_in self.new.version) }
     {
         check_key(key)?;
         Ok(
@@ -42,9 +53,17 @@ impl<H: HeldFile, R: Reader<Held = H> + Drop> View<H, R> {
         ensures value { (h : History) → SeesAlone H.bytes self.old h
             → IfOk result (λ value. value ≡ with_its_tag (value_at h self.old.number key.now)) }
         ensures keeps { OnlyReads self.old self.new }
+        ensures still { (h : History) → SeesAlone H.bytes self.old h → SeesAlone H.bytes self.new h }
         ensures refused { IsRefusedBy (refused_key key.now) result }
         ensures cause { HasCause (R.faults self.old.reader.reader) (R.faults self.new.reader.reader) (ReadFailed result) }
+        ensures near { IsInMemory self.old.version → ReadFailed result → ⊥ }
         ensures sound { (h : History) → SeesAlone H.bytes self.old h → IsSound result }
+
+        // Also where the tables aren't true, no damage is hidden or made up.
+        ensures looks { (files : Files) → LiesOver H.bytes files self.old.version self.old.reader
+            → LooksUpTagged H.bytes self.old.version key.now self.old.number result }
+        ensures blocks { (files : Files) → ReadsOf H.bytes files self.old.reader (tables_in self.old.version)
+            → ReadsOf H.bytes files self.new.reader (tables_in self.new.version) }
     {
         Ok(self.get(key)?.map(tagged_value))
     }
@@ -55,10 +74,18 @@ impl<H: HeldFile, R: Reader<Held = H> + Drop> View<H, R> {
         ensures value { (h : History) → SeesAlone H.bytes self.old h
             → IfOk result (IsFound (value_at h self.old.number key.now) out.old out.new) }
         ensures keeps { OnlyReads self.old self.new }
+        ensures still { (h : History) → SeesAlone H.bytes self.old h → SeesAlone H.bytes self.new h }
         ensures refused { IsRefusedInto (refused_key key.now) result }
         ensures kept { IsErr result → (refused_key key.now ≡ None → ⊥) → out.new ≡ out.old }
         ensures cause { HasCause (R.faults self.old.reader.reader) (R.faults self.new.reader.reader) (ReadIntoFailed result) }
+        ensures near { IsInMemory self.old.version → ReadIntoFailed result → ⊥ }
         ensures sound { (h : History) → SeesAlone H.bytes self.old h → IsSoundInto result }
+
+        // Also where the tables aren't true, no damage is hidden or made up.
+        ensures looks { (files : Files) → LiesOver H.bytes files self.old.version self.old.reader
+            → LooksUpInto H.bytes self.old.version key.now self.old.number out.old out.new result }
+        ensures blocks { (files : Files) → ReadsOf H.bytes files self.old.reader (tables_in self.old.version)
+            → ReadsOf H.bytes files self.new.reader (tables_in self.new.version) }
     {
         check_key(key)?;
         let result = self
@@ -78,9 +105,13 @@ impl<H: HeldFile, R: Reader<Held = H> + Drop> View<H, R> {
         ensures rows { (h : History) → SeesAlone H.bytes self.old h
             → IfOk result (λ rows. rows.items ≡ rows_under empty h self.old.number low.now high.now limit way) }
         ensures keeps { OnlyReads self.old self.new }
+        ensures still { (h : History) → SeesAlone H.bytes self.old h → SeesAlone H.bytes self.new h }
         ensures refused { IsRefusedBy (refused_bounds low.now high.now) result }
         ensures cause { HasCause (R.faults self.old.reader.reader) (R.faults self.new.reader.reader) (ReadFailed result) }
+        ensures near { IsInMemory self.old.version → ReadFailed result → ⊥ }
         ensures sound { (h : History) → SeesAlone H.bytes self.old h → IsSound result }
+        ensures blocks { (files : Files) → ReadsOf H.bytes files self.old.reader (tables_in self.old.version)
+            → ReadsOf H.bytes files self.new.reader (tables_in self.new.version) }
     {
         check_bound(low)?;
         check_bound(high)?;
