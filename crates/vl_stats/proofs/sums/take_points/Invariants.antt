@@ -1,0 +1,12 @@
+use Rattle.std.proofs.Common.{take}
+use Rattle.std.specs.Ordering.{nat_cmp}
+use Rattle.std.specs.BTreeMap.{get}
+use Rattle.vl_layout.specs.Garbage.{pointed_bytes}
+use Rattle.vl_stats.specs.Sums.{Takes, HasNoEmpty}
+use Rattle.vl_stats.proofs.sums.take_points.Given as goal
+
+abbrev pub invariant-loop-point : goal.invariant-loop-point
+invariant-loop-point l = record {
+  takes : Takes (get nat_cmp l.fn.sums) (get nat_cmp l.sums) (λ s. pointed_bytes s (take l.point-index l.points));
+  empty : HasNoEmpty (get nat_cmp l.fn.sums) → HasNoEmpty (get nat_cmp l.sums);
+}
