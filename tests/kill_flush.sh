@@ -26,7 +26,7 @@ tables=0
 for stop in {1..100}; do
   : >"$folder/told"
   "$program" "$folder/store" >"$folder/told" 2>/dev/null &
-  sleep "$(printf '0.%04d' "$((stop * 7))")"
+  sleep "$(printf '0.%04d' "$((stop * 20))")"
   kill -KILL "$!" 2>/dev/null || true
   wait "$!" 2>/dev/null || true
 
