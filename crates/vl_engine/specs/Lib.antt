@@ -1,9 +1,13 @@
 pub mod Answers
+pub mod Begun
 pub mod Carries
+pub mod Files
 pub mod Held
 pub mod Known
+pub mod Laid
 pub mod laws
 pub mod Opening
+pub mod Pointed
 pub mod Reading
 pub mod Refusing
 pub mod Reopened

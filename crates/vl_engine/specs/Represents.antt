@@ -1,41 +1,39 @@
 -- What an engine stands for: a history, and a layout.
-use Rattle.std.specs.Prelude.{◌≡◌, ◌≤◌, ℕ, List, [], Option, None, Some}
+use Rattle.std.specs.Prelude.{◌≡◌, ◌≤◌, ℕ, List, [], ◌∷◌, Option, None, Some}
 use Rattle.std.specs.FinMap.{find}
 use Rattle.std.specs.Option.{option_map}
 use Rattle.std.specs.Ordering.{nat_cmp}
+use Rattle.vl_back.specs.declared.back.Back.{Back}
+use Rattle.vl_back.specs.declared.back.Waiting.{Waiting}
 use Rattle.vl_conflict.specs.Recent.{Remembers}
 use Rattle.vl_disk.specs.DiskState.{DiskState}
-use Rattle.vl_disk.specs.declared.name.Name.{Name}
 use Rattle.vl_disk.specs.declared.name.Name.TheVariants as names
+use Rattle.vl_disk.specs.declared.name.Name.{Name}
 use Rattle.vl_engine.specs.Held.{Base, Holds, IsBase}
-use Rattle.vl_engine.specs.Shown.{no_logs}
-use Rattle.vl_engine.specs.declared.kept.Back.{Back}
+use Rattle.vl_engine.specs.Laid.{HasLayout}
+use Rattle.vl_engine.specs.Pointed.{layout_logs}
 use Rattle.vl_engine.specs.declared.kept.Core.{Core}
-use Rattle.vl_layout.specs.Logs.{memtable}
-use Rattle.vl_layout.specs.Sources.{floor, sources, tables}
+use Rattle.vl_layout.specs.Rulings.Flush.{covered_by}
+use Rattle.vl_layout.specs.Sources.{floor}
+use Rattle.vl_layout.specs.Start.{newest_first}
 use Rattle.vl_layout.specs.Tickets.{tickets_of}
 use Rattle.vl_layout.specs.Tidy.{IsTidy}
-use Rattle.vl_layout.specs.declared.file_name.FileName.{FileName}
 use Rattle.vl_layout.specs.declared.file_name.FileName.TheVariants as files
+use Rattle.vl_layout.specs.declared.file_name.FileName.{FileName}
 use Rattle.vl_layout.specs.declared.layout.Layout.{Layout}
+use Rattle.vl_layout.specs.declared.segment.Segment.{Segment}
 use Rattle.vl_layout_laws.specs.Live.{IsLivedIn}
 use Rattle.vl_model.specs.Conflicts.{Named}
 use Rattle.vl_model.specs.Formats.{log_format}
 use Rattle.vl_model.specs.History.{History, last_number}
 use Rattle.vl_model.specs.Limits.{max_room}
-use Rattle.vl_model.specs.Winners.{Logs}
 use Rattle.vl_oracle.specs.LiveTickets.{LiveTickets}
-use Rattle.vl_version.specs.Sources.{HasEntries, tables_in}
 
 -- a file's name as the layout has it
 abbrev pub file_of : Name → FileName
 file_of (names.Log n) = files.Log n
 file_of (names.Table n) = files.Table n
 file_of (names.Manifest n) = files.Manifest n
-
--- what the layout's pointers lead to: while there are no tables none is followed
-abbrev pub layout_logs : Layout → Logs
-layout_logs l = no_logs
 
 -- ---- without the disk
 
@@ -59,26 +57,32 @@ pub record Fronts {H : Type 0} (core : Core H) (h : History) (l : Layout) : Type
   pub halted : option_map file_of core.front.halted ≡ l.halted
   pub version : core.back.version_number ≡ l.version_number
 
--- In memory the engine stands for them: its sources are the layout's, which show the history.
+-- In memory the engine stands for them: its memtables, tables and logs are the layout's, whose sources show the history.
 pub record StandsFor {H : Type 0} (bytes : H → Option (List ℕ)) (core : Core H) (h : History) (l : Layout)
     : Type 0 where
   pub fronts : Fronts core h l
-  pub sources_are : HasEntries bytes core.version (sources l) (layout_logs l)
-  -- of these the ones in the memtable that takes commits are the active log's
-  pub active_is : core.version.active.entries ≡ memtable l.active
+  pub has : HasLayout bytes core.version l
   pub tidy : IsTidy (layout_logs l) l h
-  -- there are no tables, so no log that pointers lead into
-  pub bare : tables l ≡ []
-  pub without_tables : tables_in core.version ≡ []
-  pub alone : core.version.behind.logs.items ≡ []
 
 -- ---- with the disk
 
--- what steps on files need is that of the base and the layout
+-- These frozen logs wait for their flush, the oldest first; behind each commits up to a number are in tables, where they are up
+-- to this one before the first of them.
+abbrev pub AreWaiting : ℕ → List Waiting → List Segment → Type 0
+AreWaiting covered [] [] = Unit {0}
+AreWaiting covered [] (s ∷ ss) = ⊥
+AreWaiting covered (w ∷ ws) [] = ⊥
+AreWaiting covered (w ∷ ws) (s ∷ ss) =
+    (w.number ≡ s.number) × (w.covered ≡ covered_by s.frames covered) × AreWaiting w.covered ws ss
+
+-- What steps on files need is that of the base and the layout: the manifest that is appended to is the one that stands.
 pub record IsBack (back : Back) (b : Base) (l : Layout) : Type 0 where
+  pub manifest : back.manifest ≡ b.manifest
   pub state : back.state ≡ b.state
   pub next_log : back.next_log ≡ l.next_log
   pub next_table : b.state.next_table ≡ l.next_table
+  -- a layout has its frozen logs the newest first
+  pub waiting : AreWaiting l.covered back.waiting.items (newest_first l.frozen)
 
 -- the disk holds the layout
 pub record IsHeld (back : Back) (told : Option DiskState) (h : History) (l : Layout) : Type 0 where

@@ -1,6 +1,6 @@
 -- What a transaction and a view see: the history at their own number, whatever is committed meanwhile. No layout and no disk
 -- stands here, so that no step of the engine touches it.
-use Rattle.std.specs.Prelude.{◌≡◌, ◌≤◌, ℕ, List, [], Option}
+use Rattle.std.specs.Prelude.{◌≡◌, ◌≤◌, ℕ, List, Option}
 use Rattle.std.specs.FinMap.{empty, entries}
 use Rattle.vl_engine.specs.declared.txn.Txn.{Txn}
 use Rattle.vl_engine.specs.declared.view.View.{View}
@@ -13,7 +13,7 @@ use Rattle.vl_model.specs.Reads.{IsExplained, Read}
 use Rattle.vl_model.specs.Winners.{Logs}
 use Rattle.vl_model.specs.declared.entry.Entry.{Entry}
 use Rattle.vl_txn.specs.Reads.{no_notes}
-use Rattle.vl_version.specs.Sources.{HasEntries, tables_in}
+use Rattle.vl_version.specs.Sources.{HasEntries}
 use Rattle.vl_version.specs.declared.version.Version.{Version}
 
 -- The version shows the history at this number, which can be read.
@@ -23,9 +23,6 @@ pub record ShowsAt {H : Type 0} (bytes : H → Option (List ℕ)) (version : Ver
   pub logs : Logs
   pub has : HasEntries bytes version entries_of logs
   pub shows : Shows logs entries_of h (λ key. number) number
-  -- while there are no tables no file is read for it;
-  pub without_tables : tables_in version ≡ []
-  pub alone : version.behind.logs.items ≡ []
   -- the number is one of the history's
   pub readable : h.first ≤ number
   pub known : number ≤ last_number h

@@ -1,42 +1,65 @@
--- What an image shows of a history, by its own bytes, while no store has tables.
-use Rattle.std.specs.Prelude.{◌≡◌, ℕ, ◌≤◌, List, [], ◌∷◌, ◌++◌, None, Ok}
-use Rattle.std.specs.List.{AllByRecursion}
+-- What an image shows of a history, by its own bytes.
+use Rattle.std.specs.Prelude.{◌≡◌, ℕ, ◌≤◌, List, [], ◌∷◌, ◌++◌, Ok}
+use Rattle.std.specs.List.{AllByRecursion, flat_map}
 use Rattle.vl_disk.specs.Crash.{Image}
 use Rattle.vl_disk.specs.DiskState.{DiskState}
+use Rattle.vl_engine.specs.Files.{HasLog, HasTable, found_levels}
+use Rattle.vl_engine.specs.Pointed.{IsFramedAmong, stored_among}
 use Rattle.vl_layout.specs.Logs.{memtable}
 use Rattle.vl_layout.specs.Shown.{IsOf}
 use Rattle.vl_layout.specs.Shows.{AreUpTo, Shows}
+use Rattle.vl_layout.specs.Sources.{table_entries}
+use Rattle.vl_layout.specs.Tidy.{IsPlacedIn}
 use Rattle.vl_layout.specs.declared.segment.Segment.{Segment}
+use Rattle.vl_layout.specs.declared.table.Table.{Table}
 use Rattle.vl_model.specs.History.{History, last_number}
 use Rattle.vl_model.specs.Limits.{max_commit_number}
 use Rattle.vl_model.specs.Versions.{low}
 use Rattle.vl_model.specs.Winners.{Logs}
 use Rattle.vl_model.specs.declared.entry.Entry.{Entry}
 use Rattle.vl_recover.specs.crash.Alike.{IsLeft}
-use Rattle.vl_recover.specs.opening.Opening.{Opening, Opens}
+use Rattle.vl_recover.specs.opening.Opening.{IsAmong, Opening, Opens, led_into}
 
 -- the entries of logs that rise, end to end, the newest first
 abbrev pub logs_entries : List Segment → List Entry
 logs_entries [] = []
 logs_entries (s ∷ ss) = logs_entries ss ++ memtable s
 
--- where there are no tables no pointer is followed
-abbrev pub no_logs : Logs
-no_logs pointer key = None
+-- the tables of all levels, the newest first, and their entries
+abbrev pub tables_among : List (List Table) → List Table
+tables_among levels = flat_map (λ level. level) levels
 
--- The logs show the history up to a number, each key from the least number on at which it can be read there; each of their
--- entries is of a version of its key; and none is above that number.
-pub record LogsShow (keep since : ℕ) (logs : List Segment) (h : History) (m : ℕ) : Type 0 where
-  pub shows : Shows no_logs (logs_entries logs) h (low h m keep since) m
-  pub versions : AllByRecursion (IsOf h) (logs_entries logs)
-  pub up_to : AreUpTo m (logs_entries logs)
+abbrev pub entries_among : List (List Table) → List Entry
+entries_among levels = flat_map table_entries (tables_among levels)
 
--- The image opens at this number, and its logs show the history there.
+-- The entries show the history up to a number, each key from the least number on at which it can be read there; each of them
+-- is of a version of its key; and none is above that number.
+pub record EntriesShow (keep since : ℕ) (logs : Logs) (es : List Entry) (h : History) (m : ℕ) : Type 0 where
+  pub shows : Shows logs es h (low h m keep since) m
+  pub versions : AllByRecursion (IsOf h) es
+  pub up_to : AreUpTo m es
+
+-- one of these logs has this number, and stands in the image
+pub record HasFramedAmong (image : Image) (logs : List Segment) (number : ℕ) : Type 0 where
+  pub is : IsFramedAmong logs number
+  pub has : HasLog image is.log
+
+-- The image opens at this number. The tables that it names are tables, and the logs that these lead into are whole; so with
+-- what its other logs say its entries show the history there.
 pub record Shown (image : Image) (h : History) (m : ℕ) : Type 0 where
   pub opening : Opening
   pub opens : Opens image (Ok opening)
   pub number : opening.number ≡ m
-  pub logs : LogsShow opening.state.keep opening.state.since opening.logs h m
+  -- what the tables that it finds have
+  pub levels : List (List Table)
+  pub found : opening.levels ≡ found_levels levels
+  pub tables : AllByRecursion (HasTable image) (tables_among levels)
+  -- their pointers lead into these logs, of which those stand that footers tell
+  pub sealed : List Segment
+  pub led : (n : ℕ) → IsAmong (led_into opening.levels) n → HasFramedAmong image sealed n
+  pub placed : AllByRecursion (λ (t : Table). AllByRecursion (IsPlacedIn sealed) t.entries) (tables_among levels)
+  pub entries : EntriesShow opening.state.keep opening.state.since (stored_among sealed)
+      (logs_entries opening.logs ++ entries_among levels) h m
   -- how many versions it keeps, and since when
   pub some : 1 ≤ opening.state.keep
   pub since : opening.state.since ≤ m

@@ -14,6 +14,8 @@ use Rattle.vl_disk.specs.Spare.{SameSpareElsewhere}
 use Rattle.vl_manifest.specs.declared.edit.Edit.{Edit}
 use Rattle.vl_manifest.specs.declared.fails.IoFail.TheVariants.{Disk}
 use Rattle.vl_model.specs.Formats.{manifest_format}
+use Rattle.vl_frame.specs.Runs.{HasFrame}
+use Rattle.vl_manifest.specs.Grammar.{edits_grammar}
 use Rattle.vl_manifest.specs.Making.{MakesManifest, new_manifest}
 use Rattle.vl_manifest.specs.Manifest.{ReadsManifest}
 
@@ -39,6 +41,10 @@ module _ {D : Type 0} (g : Ghosts D) (number : ℕ) (edits : List Edit) (old mid
       (While (g.told old) (WhileMaking (names.Manifest number) (new_manifest number edits))) no_change.time making
       (λ state before disk is. not_there (before disk is)) (λ state meanwhile disk is. meanwhile disk (no_change.told ∙ is))
 
+  has_frame : ReadsManifest manifest_format number (new_manifest number edits) (edits ∷ [])
+      → HasFrame (edits_grammar manifest_format) edits
+  has_frame reads = record { lawful = reads.reads.1.lawful; short = reads.reads.1.short }
+
   -- it was made
   pub was_made : (result : Result Unit Failed) (len : ℕ) → is_err result ≡ false → len ≡ length (new_manifest number edits)
       → ReadsManifest manifest_format number (new_manifest number edits) (edits ∷ [])
@@ -52,6 +58,7 @@ module _ {D : Type 0} (g : Ghosts D) (number : ℕ) (edits : List Edit) (old mid
       stands = makes.stands;
       calls = makes.calls ∙ ap (after_calls 3) no_change.calls;
     };
+    frame = has_frame reads;
     time = time makes.time;
     cause = subst (λ (n : ℕ). HasCause n (g.faults new) ⊥) steady (record {
       later = makes.cause.later;
@@ -64,15 +71,17 @@ module _ {D : Type 0} (g : Ghosts D) (number : ℕ) (edits : List Edit) (old mid
 
   -- the disk failed
   pub was_broken : (result : Result Unit Failed) → is_err result ≡ true
+      → ReadsManifest manifest_format number (new_manifest number edits) (edits ∷ [])
       → Makes g (names.Manifest number) (new_manifest number edits) mid new result
       → MakesManifest g number edits old new (Err (Disk (names.Manifest number)))
-  was_broken (Ok u) failed makes = absurd (false_true failed)
-  was_broken (Err fail) failed makes = record {
+  was_broken (Ok u) failed reads makes = absurd (false_true failed)
+  was_broken (Err fail) failed reads makes = record {
     answer = record {
       name_is = refl;
       part = subst (λ told. TellsPart (names.Manifest number) (new_manifest number edits) told (g.told new)) no_change.told makes.failed;
       stops = (makes.stops.0, makes.stops.1, makes.stops.2, makes.stops.3 ∙ ap (after_calls makes.stops.0) no_change.calls);
     };
+    frame = has_frame reads;
     time = time makes.time;
     cause = subst (λ (n : ℕ). HasCause n (g.faults new) (Unit {0})) steady (record {
       later = makes.cause.later;

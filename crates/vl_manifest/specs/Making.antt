@@ -15,6 +15,8 @@ use Rattle.vl_manifest.specs.declared.fails.IoFail.{IoFail}
 use Rattle.vl_manifest.specs.declared.fails.IoFail.TheVariants.{Disk, NoMemory}
 use Rattle.vl_manifest.specs.declared.manifest_log.ManifestLog.{ManifestLog}
 use Rattle.vl_model.specs.Formats.{manifest_format}
+use Rattle.vl_frame.specs.Runs.{HasFrame}
+use Rattle.vl_manifest.specs.Grammar.{edits_grammar}
 use Rattle.vl_manifest.specs.Manifest.{ReadsManifest, manifest_bytes}
 
 -- the bytes of the manifest with this number whose first frame says these edits, and which has no other
@@ -51,9 +53,16 @@ HasFailed (Ok log) = ⊥
 HasFailed (Err NoMemory) = ⊥
 HasFailed (Err (Disk name)) = Unit {0}
 
+-- the edits make a frame, where there was memory for it
+abbrev pub HasItsFrame : List Edit → Result ManifestLog IoFail → Type 0
+HasItsFrame edits (Ok log) = HasFrame (edits_grammar manifest_format) edits
+HasItsFrame edits (Err NoMemory) = Unit {0}
+HasItsFrame edits (Err (Disk name)) = HasFrame (edits_grammar manifest_format) edits
+
 pub record MakesManifest {D : Type 0} (g : Ghosts D) (number : ℕ) (edits : List Edit) (old new : D)
     (result : Result ManifestLog IoFail) : Type 0 where
   pub answer : MakeAnswers g number edits old new result
+  pub frame : HasItsFrame edits result
   pub time : Elapses g old new (WhileMaking (names.Manifest number) (new_manifest number edits))
   pub cause : HasCause (g.faults old) (g.faults new) (HasFailed result)
   pub spare : SameSpareElsewhere (names.Manifest number) (g.spare old) (g.spare new)

@@ -59,7 +59,7 @@ fn read_state(alloc: Global, bytes: &[u8], number: u32) -> Result<ManifestState,
     ensures says { AnswersStage (Says (Led number bytes.now)) result }
     ensures no_fault { IsFault result → ⊥ }
 {
-    match ManifestLog::read_without_tables(alloc, bytes, number) {
+    match ManifestLog::read(alloc, bytes, number) {
         Ok(state) => Ok(state),
         Err(StateFail::NoMemory) => Err(OpenError::NoMemory),
         Err(StateFail::Damaged { place }) => Err(OpenError::Damaged {

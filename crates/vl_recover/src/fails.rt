@@ -1,6 +1,7 @@
 use std::alloc::AllocError;
 use vl_disk::Name;
 use vl_model::Counter;
+use vl_table::TableFault;
 
 /// Why a store wasn't opened.
 #[derive(Clone, Copy, Debug, PartialEq, Eq)]
@@ -15,7 +16,7 @@ pub enum OpenError {
     Exhausted(Counter),
     /// Memory ran out. Nothing was changed.
     NoMemory,
-    /// The disk failed at this file, or at listing the files, where it is `NO_FILE`.
+    /// The disk, or its reader, failed at this file; or the disk at listing the files, where it is `NO_FILE`.
     Disk { name: Name },
 }
 
@@ -33,9 +34,25 @@ impl From<AllocError> for OpenError {
     }
 }
 
-/// A store that wasn't opened, and its disk.
+impl From<TableFault> for OpenError {
+    ghost use Rattle.std.specs.Prelude.{◌≡◌};
+    ghost use Rattle.vl_recover.specs.opening.TableFaults.{open_error};
+
+    ghost from_gives = { λ fault e. e ≡ open_error fault };
+
+    fn from(fault: TableFault) -> Self {
+        match fault {
+            TableFault::NoMemory => OpenError::NoMemory,
+            TableFault::Disk { name } => OpenError::Disk { name },
+            TableFault::Damaged { name, place } => OpenError::Damaged { name, place },
+        }
+    }
+}
+
+/// A store that wasn't opened, its disk, and the reader through which its tables were read, if there was memory for one.
 #[derive(Drop)]
-pub struct OpenFail<D> {
+pub struct OpenFail<D, R> {
     pub why: OpenError,
     pub disk: D,
+    pub reader: Option<R>,
 }

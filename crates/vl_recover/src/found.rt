@@ -2,6 +2,7 @@ use vl_disk::Name;
 use vl_manifest::ManifestState;
 use vl_memtable::FrozenLog;
 use vl_model::Entry;
+use vl_table::Table;
 
 /// The greatest number of each kind of file that stands, 0 where none does.
 #[derive(Clone, Copy, Debug, Drop)]
@@ -36,7 +37,8 @@ pub(crate) struct Findings {
     pub greatest: GreatestNumbers,
     /// Of the logs from head on the last.
     pub last: Option<LastLog>,
-    /// The files that aren't needed behind the opening: manifests, tables, and logs below head.
+    /// The files that aren't needed behind the opening: manifests, tables that aren't named, and logs below head that no
+    /// table leads into.
     pub strays: Vec<Name>,
 }
 
@@ -78,4 +80,11 @@ pub(crate) struct LogsFound {
     pub number: Result<u64, DamagePlace>,
     pub frozen: Vec<FrozenLog>,
     pub last: Option<LastLog>,
+}
+
+/// The files that an opened store holds for its readers.
+#[derive(Drop)]
+pub(crate) struct HeldFiles<H> {
+    /// The tables that the manifest names, for each level from 0 to 6, in its order.
+    pub levels: Vec<Vec<Table<H>>>,
 }

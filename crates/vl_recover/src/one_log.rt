@@ -54,8 +54,8 @@ pub fn read_log<D: Disk>(
     })
 }
 
-// How many bytes of a file of this length may be a header.
-fn front_length(length: u64) -> u64
+/// How many bytes of a file of this length may be a header.
+pub fn front_length(length: u64) -> u64
     ensures { result ≡ min length 16 }
 {
     length.min(LOG_HEADER_BYTES as u64)

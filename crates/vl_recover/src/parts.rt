@@ -1,10 +1,11 @@
 use vl_manifest::{ManifestLog, ManifestState};
 use vl_memtable::FrozenLog;
 use vl_seglog::ActiveLog;
+use vl_table::Table;
 
-/// An opened store, and its disk.
+/// An opened store, and its disk, whose held files are `H`.
 #[derive(Drop)]
-pub struct Parts<D> {
+pub struct Parts<D, H> {
     pub disk: D,
     /// How many bytes a log may have.
     pub room: u64,
@@ -13,6 +14,8 @@ pub struct Parts<D> {
     /// What the manifest says.
     pub state: ManifestState,
     pub manifest: ManifestLog,
+    /// The tables that it names, for each level from 0 to 6, in its order.
+    pub levels: Vec<Vec<Table<H>>>,
     /// The logs with records from head on, their numbers rising.
     pub frozen: Vec<FrozenLog>,
     /// The log without records that takes the next ones.

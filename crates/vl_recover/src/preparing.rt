@@ -8,13 +8,14 @@ ghost use Rattle.vl_disk.specs.DiskState.{DiskState};
 ghost use Rattle.vl_disk.specs.Started.{IsRead};
 ghost use Rattle.vl_manifest.specs.States.{whole_edits};
 ghost use Rattle.vl_recover.specs.repairing.Deciding.{PreparesSo};
-ghost use Rattle.vl_recover.specs.opening.Finding.{IsFault, IsFaultAt};
+ghost use Rattle.vl_recover.specs.opening.Finding.{FailsAtDisk, IsFaultAt};
 ghost use Rattle.vl_recover.specs.repairing.Fitting.{Fits, HasNumbers, IsReadyFor, IsReadyToMake, IsReadyToRepair, SameSpareBeside, SameSpareBesideLog};
 ghost use Rattle.vl_recover.specs.repairing.PlanViews.{plan_view, step_of};
 
 use crate::OpenError;
 use crate::deciding::decide;
 use crate::finding::find;
+use crate::found::HeldFiles;
 use crate::plan::{LastStep, RepairingPlan};
 use crate::prepared::Prepared;
 use std::alloc::Global;
@@ -23,22 +24,28 @@ use vl_seglog::LOG_HEADER_BYTES;
 
 /// Finds out what stands on a disk, decides how it is repaired, and takes all memory that repairing wants behind the new
 /// manifest. It changes nothing.
-pub(crate) fn prepare<D: Disk>(alloc: Global, disk: &mut D) -> Result<Prepared, OpenError>
+pub(crate) fn prepare<D: Disk>(
+    alloc: Global,
+    disk: &mut D,
+    reader: &mut D::Reader,
+) -> Result<(Prepared, HeldFiles<D::Held>), OpenError>
+    requires fresh { D.Reader.faults reader.old ≡ 0 }
     ensures answer { (state : DiskState) (read : Image) → D.told disk.old ≡ Some state → IsRead read state
         → PreparesSo read result }
-    ensures fits { IfOk result (λ prepared. ForSome (D.told disk.new) (Fits (plan_view prepared.plan))) }
-    ensures edits { IfOk result (λ prepared. prepared.plan.edits.items ≡ whole_edits prepared.state) }
-    ensures numbers { IfOk result (λ prepared. HasNumbers (plan_view prepared.plan)) }
-    ensures ready { IfOk result (λ prepared. IsReadyFor (plan_view prepared.plan) (D.spare disk.new)) }
+    ensures fits { IfOk result (λ ready. ForSome (D.told disk.new) (Fits (plan_view ready.0.plan))) }
+    ensures edits { IfOk result (λ ready. ready.0.plan.edits.items ≡ whole_edits ready.0.state) }
+    ensures numbers { IfOk result (λ ready. HasNumbers (plan_view ready.0.plan)) }
+    ensures ready { IfOk result (λ ready. IsReadyFor (plan_view ready.0.plan) (D.spare disk.new)) }
     ensures at { IfErr result (IsFaultAt (D.told disk.old)) }
-    ensures no_change { ChangesNothing D.Watched disk.old disk.new (IsFault result) }
+    ensures fresh { IfOk result (λ _. D.Reader.faults reader.new ≡ 0) }
+    ensures no_change { ChangesNothing D.Watched disk.old disk.new (FailsAtDisk (D.Reader.faults reader.new) result) }
 {
-    let found = find(alloc, disk)?;
+    let (found, held) = find(alloc, disk, reader)?;
     let prepared = decide(alloc, found)?;
     if ready_all(disk, &prepared.plan).is_err() {
         return Err(OpenError::NoMemory);
     }
-    Ok(prepared)
+    Ok((prepared, held))
 }
 
 // Makes the disk ready for all calls of a plan behind the new manifest's.

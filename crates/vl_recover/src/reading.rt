@@ -1,5 +1,5 @@
 // The disk's calls that an opening makes while it only reads, each with the reason why it isn't opened then.
-ghost use Rattle.std.specs.Prelude.{◌≡◌, ◌+◌, All, IfErr, IfOk, length};
+ghost use Rattle.std.specs.Prelude.{◌≡◌, ◌+◌, All, IfErr, IfOk, Some, length};
 ghost use Rattle.std.specs.Option.{ForSome};
 ghost use Rattle.vl_disk.specs.Calls.{ChangesNothing};
 ghost use Rattle.vl_disk.specs.Disk.{IsInside, Lists, Stands};
@@ -84,5 +84,21 @@ pub fn read_part<D: Disk>(
     match disk.read(name, place, &mut bytes) {
         Ok(()) => Ok(bytes),
         Err(Failed) => Err(OpenError::Disk { name }),
+    }
+}
+
+/// Holds a file as it is.
+pub fn hold<D: Disk>(disk: &mut D, name: Name) -> Result<D::Held, OpenError>
+    requires { ForSome (D.told disk.old) (Stands name) }
+    ensures bytes { IfOk result (λ held. ForSome (D.told disk.old)
+        (λ state. D.Held.bytes held ≡ Some (file_at state name).bytes)) }
+    ensures excused { IfErr result IsExcused }
+    ensures at { IfErr result (IsFaultOf (λ at. at ≡ name)) }
+    ensures no_change { ChangesNothing D.Watched disk.old disk.new (IsFault result) }
+{
+    match disk.hold(name) {
+        Ok(held) => Ok(held),
+        Err(DiskFail::NoMemory) => Err(OpenError::NoMemory),
+        Err(DiskFail::Failed) => Err(OpenError::Disk { name }),
     }
 }

@@ -12,12 +12,14 @@ ghost use Rattle.vl_disk.specs.declared.name.Name.TheVariants.{Log};
 ghost use Rattle.vl_recover.specs.crash.Alike.{OpensAsOf};
 ghost use Rattle.vl_recover.specs.opening.Answers.{AnswersBy, AreStrayNames, Finds, IsNotOpened, calls_to_open, logs_then};
 ghost use Rattle.vl_recover.specs.repairing.Deciding.{opened_by};
-ghost use Rattle.vl_recover.specs.crash.Held.{HoldsStore};
+ghost use Rattle.vl_recover.specs.crash.Held.{HoldsStore, view_of};
 ghost use Rattle.vl_recover.specs.crash.Meanwhile.{FaultsAt, IsAsLong, IsMeanwhile, IsRepaired};
-ghost use Rattle.vl_recover.specs.opening.Results.{HasFailed, FailsWithoutFault, recovery_of, disk_of, opened_of};
+ghost use Rattle.vl_recover.specs.opening.FoundTables.{all_found};
+ghost use Rattle.vl_recover.specs.opening.Results.{FailsWithoutFault, IsDiskFault, recovery_of, disk_of, opened_of, read_faults};
 ghost use Rattle.vl_recover.specs.crash.Starts.{MayOpen};
 ghost use Rattle.vl_recover.specs.repairing.Steps.{MakesSome};
 
+use crate::found::HeldFiles;
 use crate::prepared::Prepared;
 use crate::preparing::prepare;
 use crate::repairing::repair;
@@ -30,7 +32,11 @@ use vl_seglog::ActiveLog;
 /// Opens the store on a disk, whose logs may have so many bytes. All is read first, then all memory is taken, and only then
 /// the disk is changed: a new manifest is made, the last log is cut to its content and made durable, a new log is made
 /// where that one has records, and the files that the new manifest doesn't need are removed.
-pub fn recover<D: Disk>(alloc: Global, disk: D, room: u64) -> Result<Parts<D>, OpenFail<D>>
+pub fn recover<D: Disk>(
+    alloc: Global,
+    disk: D,
+    room: u64,
+) -> Result<Parts<D, D::Held>, OpenFail<D, D::Reader>>
     // It answers what reads give, unless memory runs out or the disk fails.
     ensures answer { (state : DiskState) (read : Image) → D.told disk ≡ Some state → IsRead read state
         → AnswersBy read (recovery_of result) }
@@ -50,10 +56,10 @@ pub fn recover<D: Disk>(alloc: Global, disk: D, room: u64) -> Result<Parts<D>, O
     // So the disk holds the store, all of it durable, after just so many changing calls.
     ensures held { (state now : DiskState) (read : Image) (found : Finds read) → D.told disk ≡ Some state
         → MayOpen state → IsRead read state → D.told (disk_of result) ≡ Some now
-        → IfOk result (λ parts. HoldsStore parts.state (logs_then found) now) }
+        → IfOk result (λ parts. HoldsStore parts.state (view_of found) (logs_then found) now) }
     ensures calls { (state : DiskState) (read : Image) (found : Finds read) (strays : List Name)
         → D.told disk ≡ Some state → IsRead read state
-        → AreStrayNames read found.opening.state.head strays
+        → AreStrayNames read found.opening strays
         → IfOk result (λ parts. D.calls parts.disk ≡ after_calls (calls_to_open found (length strays)) (D.calls disk)) }
 
     // Meanwhile the disk is as it was, or is being repaired by such a plan, whatever is answered.
@@ -70,10 +76,12 @@ pub fn recover<D: Disk>(alloc: Global, disk: D, room: u64) -> Result<Parts<D>, O
     ensures tells { (state : DiskState) → D.told disk ≡ Some state
         → (now : DiskState) × (D.told (disk_of result) ≡ Some now) }
 
-    // A fault is counted, and named by the file at which it came: while the store is repaired, that of the call that failed.
+    // A fault is counted, by the disk or by the reader that it made, and named by the file at which it came: while the store is
+    // repaired, that of the call that failed.
     ensures at { (state : DiskState) (read : Image) → D.told disk ≡ Some state → IsRead read state
         → FaultsAt read state (D.calls disk) (D.calls (disk_of result)) (recovery_of result) }
-    ensures cause { HasCause (D.faults disk) (D.faults (disk_of result)) (HasFailed (recovery_of result)) }
+    ensures cause { HasCause (D.faults disk) (D.faults (disk_of result))
+        (IsDiskFault (read_faults D.Reader.faults result) (recovery_of result)) }
     ensures room { IfOk result (λ parts. parts.room ≡ room) }
 
     // The log that takes commits stands, and has only its header.
@@ -83,32 +91,53 @@ pub fn recover<D: Disk>(alloc: Global, disk: D, room: u64) -> Result<Parts<D>, O
     // Where it failed, it was asked for some of these calls, or for none.
     ensures stopped { (state : DiskState) (read : Image) (found : Finds read) (strays : List Name)
         → D.told disk ≡ Some state → IsRead read state
-        → AreStrayNames read found.opening.state.head strays
+        → AreStrayNames read found.opening strays
         → IfErr result (λ fail. MakesSome (calls_to_open found (length strays)) (D.calls disk) (D.calls fail.disk)) }
 {
     let mut disk = disk;
-    let prepared = match prepare(alloc, &mut disk) {
-        Ok(prepared) => prepared,
-        Err(why) => return Err(OpenFail { why, disk }),
+    let Ok(mut reader) = disk.reader(alloc) else {
+        return Err(OpenFail {
+            why: OpenError::NoMemory,
+            disk,
+            reader: None,
+        });
+    };
+    let (prepared, held) = match prepare(alloc, &mut disk, &mut reader) {
+        Ok(ready) => ready,
+        Err(why) => {
+            return Err(OpenFail {
+                why,
+                disk,
+                reader: Some(reader),
+            });
+        }
     };
     match repair(alloc, &mut disk, &prepared.plan) {
-        Ok(manifest) => Ok(opened(disk, room, manifest, prepared)),
+        Ok(manifest) => Ok(opened(disk, room, manifest, prepared, held)),
         Err(IoFail::NoMemory) => Err(OpenFail {
             why: OpenError::NoMemory,
             disk,
+            reader: Some(reader),
         }),
         Err(IoFail::Disk { name }) => Err(OpenFail {
             why: OpenError::Disk { name },
             disk,
+            reader: Some(reader),
         }),
     }
 }
 
 // The store as it is opened, behind its repairing.
-fn opened<D: Disk>(disk: D, room: u64, manifest: ManifestLog, prepared: Prepared) -> Parts<D>
+fn opened<D, H>(
+    disk: D,
+    room: u64,
+    manifest: ManifestLog,
+    prepared: Prepared,
+    held: HeldFiles<H>,
+) -> Parts<D, H>
     requires { manifest.number ≡ prepared.plan.manifest }
     ensures disk { result.disk ≡ disk }
-    ensures opened { opened_of result ≡ opened_by prepared }
+    ensures opened { opened_of result ≡ opened_by prepared (all_found held.levels) }
     ensures state { result.state ≡ prepared.state }
     ensures manifest { result.manifest ≡ manifest }
     ensures room { result.room ≡ room }
@@ -127,6 +156,7 @@ fn opened<D: Disk>(disk: D, room: u64, manifest: ManifestLog, prepared: Prepared
         number,
         state,
         manifest,
+        levels: held.levels,
         frozen,
         active: ActiveLog::new(active),
     }

@@ -3,6 +3,7 @@
 ghost use Rattle.std.specs.Prelude.{IfErr};
 ghost use Rattle.std.specs.Option.{ForSome};
 ghost use Rattle.vl_disk.specs.Performs.{FailedAt};
+ghost use Rattle.vl_manifest.specs.Making.{HasItsFrame};
 ghost use Rattle.vl_recover.specs.repairing.Fitting.{CanMake, CanRemove, Fits, FitsBehind, HasNumbers, IsReadyFor, IsReadyToMake, IsNumberedLog};
 ghost use Rattle.vl_recover.specs.repairing.PlanViews.{plan_view};
 ghost use Rattle.vl_recover.specs.repairing.Steps.{MakesLog, Repairs, RepairsBehind, RemovesAll, files_behind, log_files};
@@ -25,7 +26,8 @@ pub(crate) fn repair<D: Disk>(
     requires fits { ForSome (D.told disk.old) (Fits (plan_view plan.now)) }
     requires numbers { HasNumbers (plan_view plan.now) }
     requires ready { IsReadyFor (plan_view plan.now) (D.spare disk.old) }
-    ensures { Repairs D.Watched (plan_view plan.now) disk.old disk.new result }
+    ensures repaired { Repairs D.Watched (plan_view plan.now) disk.old disk.new result }
+    ensures frame { HasItsFrame plan.now.edits.items result }
 {
     let manifest = ManifestLog::create(alloc, disk, plan.manifest, &plan.edits)?;
     match repair_behind(disk, plan) {

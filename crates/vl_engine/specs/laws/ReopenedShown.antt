@@ -1,18 +1,19 @@
--- What logs show of a history they show of it as it is gone on with from that number; and a new store shows no commits.
-use Rattle.std.specs.Prelude.{◌≡◌, ◌≤◌, ℕ, ◌==◌, ◌||◌, Bool, true, false, nat_le, List, [], ◌∷◌, None, Some, refl}
+-- What entries show of a history they show of it as it is gone on with from that number; and a new store shows no commits.
+use Rattle.std.specs.Prelude.{◌≡◌, ◌≤◌, ℕ, ◌==◌, ◌||◌, Bool, true, false, nat_le, List, [], ◌∷◌, ◌++◌, None, Some, refl}
 use Rattle.std.specs.List.{AllByRecursion, filter}
 use Rattle.std.proofs.Common.{sym, ap, subst, ◌∙◌, cond, arith}
 use Rattle.std.proofs.lemmas.Bool.Decides.{nat_tests}
 use Rattle.vl_disk.specs.Crash.{Image}
 use Rattle.vl_engine.specs.Reopened.{reopened}
-use Rattle.vl_engine.specs.Shown.{LogsShow, Shown, logs_entries}
+use Rattle.vl_engine.specs.Pointed.{stored_among}
+use Rattle.vl_engine.specs.Shown.{EntriesShow, Shown, entries_among, logs_entries}
 use Rattle.vl_engine.specs.laws.ReopenedLaws.{low-reopened, value_at-reopened, versions-reopened}
 use Rattle.vl_layout.specs.Shown.{IsOf}
 use Rattle.vl_layout.specs.Shows.{AreUpTo}
-use Rattle.vl_layout.specs.declared.segment.Segment.{Segment}
 use Rattle.vl_model.specs.History.{History, no_history}
 use Rattle.vl_model.specs.Numbers.{has}
 use Rattle.vl_model.specs.Versions.{versions}
+use Rattle.vl_model.specs.Winners.{Logs}
 use Rattle.vl_model.specs.declared.entry.Entry.{Entry}
 use Rattle.vl_model.specs.laws.HistoryLaws.{past_value-empty, value_at-first}
 
@@ -38,9 +39,9 @@ of_reopened h m (e ∷ es) all up = (
   of_reopened h m es all.1 up.1,
 )
 
-pub logs_show_reopened : (keep since : ℕ) (logs : List Segment) (h : History) (m : ℕ) → LogsShow keep since logs h m
-    → LogsShow keep since logs (reopened h m) m
-logs_show_reopened keep since logs h m show = record {
+pub entries_show_reopened : (keep since : ℕ) (logs : Logs) (es : List Entry) (h : History) (m : ℕ)
+    → EntriesShow keep since logs es h m → EntriesShow keep since logs es (reopened h m) m
+entries_show_reopened keep since logs es h m show = record {
   shows = record {
     values = λ key number low high.
         show.shows.values key number (subst (λ (n : ℕ). n ≤ number) (low-reopened h m keep since key) low) high
@@ -49,7 +50,7 @@ logs_show_reopened keep since logs h m show = record {
     resolves = show.shows.resolves;
     gone_once = show.shows.gone_once;
   };
-  versions = of_reopened h m (logs_entries logs) show.versions show.up_to;
+  versions = of_reopened h m es show.versions show.up_to;
   up_to = show.up_to;
 }
 
@@ -59,15 +60,22 @@ shown_reopened image h m shown = record {
   opening = shown.opening;
   opens = shown.opens;
   number = shown.number;
+  levels = shown.levels;
+  found = shown.found;
+  tables = shown.tables;
+  sealed = shown.sealed;
+  led = shown.led;
+  placed = shown.placed;
   some = shown.some;
   since = shown.since;
   last = shown.last;
-  logs = logs_show_reopened shown.opening.state.keep shown.opening.state.since shown.opening.logs h m shown.logs;
+  entries = entries_show_reopened shown.opening.state.keep shown.opening.state.since (stored_among shown.sealed)
+      (logs_entries shown.opening.logs ++ entries_among shown.levels) h m shown.entries;
 }
 
--- No logs show a store without commits.
-pub none_show : LogsShow 1 0 [] no_history 0
-none_show = record {
+-- No entries show a store without commits.
+pub none_show : (logs : Logs) → EntriesShow 1 0 logs [] no_history 0
+none_show logs = record {
   shows = record {
     values = λ key number from to. ap Some (sym (value_at-first no_history number key to ∙ past_value-empty number key));
     meaning = λ key version. None;

@@ -1,4 +1,4 @@
--- What is read of a manifest that was being made of a whole state, and of one without tables.
+-- What is read of a manifest that was being made of a whole state.
 use Rattle.std.specs.Prelude.{◌≡◌, ◌⊎◌, ◌+◌, ◌==◌, ◌&&◌, ◌<◌, ◌≤◌, ◌^◌, ℕ, Bool, true, false, bytes_eq, if◌then◌else◌, zero, suc, List, [], ◌∷◌, ◌++◌, drop, length, take, Option, None, Some, refl}
 use Rattle.std.specs.List.{AllByRecursion}
 use Rattle.std.proofs.Common.{sym, ap, subst, ◌∙◌, inl, inr, ⊎_elim, arith}
@@ -19,11 +19,11 @@ use Rattle.vl_manifest.specs.Edits.{IsEdit}
 use Rattle.vl_manifest.specs.Formats.{gone_format, keep_format}
 use Rattle.vl_manifest.specs.Grammar.{edits_grammar}
 use Rattle.vl_manifest.specs.Levels.{no_tables}
-use Rattle.vl_manifest.specs.Manifest.{HasHeader, IsReadable, ReadsManifest, manifest_bytes}
+use Rattle.vl_manifest.specs.Manifest.{HasHeader, IsReadable, ReadsManifest, SaysState, manifest_bytes}
 use Rattle.vl_manifest.specs.States.{adds_from, as_read, last_edits, read_in, state_behind, state_then, whole_edits}
 use Rattle.vl_manifest.specs.Tables.{SaysBareState, names_tables, read}
 use Rattle.vl_manifest.specs.laws.EditLaws.{edits_later}
-use Rattle.vl_manifest.specs.laws.ManifestLaws.{manifest_reads}
+use Rattle.vl_manifest.specs.laws.ManifestLaws.{manifest_reads, whole_said}
 use Rattle.vl_manifest.specs.laws.StateLaws.{IsInRange}
 use Rattle.vl_manifest.specs.laws.WholeLaws.{whole_says}
 
@@ -68,25 +68,14 @@ module _ (s : ManifestState) (bare : s.levels ≡ no_tables) where
       by false false =
           record { lawful = record { few = omega arith; each = (head, (next, (keep, (gone, tt)))) }; short = omega arith }
 
-  module _ (number : ℕ) (r : IsInRange s) where
-    -- what reads as its frame, in any format, says it as it is read there
-    pub bare_said : (format : ℕ) (bytes : List ℕ) → ReadsManifest format number bytes (whole_edits s ∷ [])
-        → SaysBareState number bytes (as_read format s)
-    bare_said format bytes reads = record {
-      says = record {
-        format = format;
-        first = whole_edits s;
-        others = [];
-        reads = reads;
-        made = ap (λ (o : Option ManifestState). read_in format (state_then 16 (λ (t : ManifestState). state_behind t []) o)) (whole_says s r);
-      };
-      bare = read format reads.header (whole_edits s ∷ [], reads.reads, ap (λ (b : Bool). if b then Some 16 else None) names_none);
-    }
-
-    -- A manifest that is made of it says it.
-    pub bare_manifest : number < 2 ^ 32 → SaysBareState number (manifest_bytes number (whole_edits s ∷ [])) s
-    bare_manifest fits = bare_said manifest_format (manifest_bytes number (whole_edits s ∷ []))
-        (manifest_reads number (whole_edits s ∷ []) fits (bare_has_frame r, tt))
+  -- A manifest that is made of it says it.
+  pub bare_manifest : (number : ℕ) → IsInRange s → number < 2 ^ 32 → SaysBareState number (manifest_bytes number (whole_edits s ∷ [])) s
+  bare_manifest number r fits =
+      let reads = manifest_reads number (whole_edits s ∷ []) fits (bare_has_frame r, tt) in
+      record {
+        says = whole_said number s (manifest_bytes number (whole_edits s ∷ [])) r reads;
+        bare = read manifest_format reads.header (whole_edits s ∷ [], reads.reads, ap (λ (b : Bool). if b then Some 16 else None) names_none);
+      }
 
 -- ---- a manifest that was being made
 
@@ -132,18 +121,27 @@ record ReadableIn (format number : ℕ) (bytes : List ℕ) : Type 0 where
 -- Its header may have been torn into that of an earlier format: then it says the state as it is read there.
 pub record SaysAsRead (number : ℕ) (bytes : List ℕ) (s : ManifestState) : Type 0 where
   pub format : ℕ
-  pub says : SaysBareState number bytes (as_read format s)
+  pub says : SaysState number bytes (as_read format s)
 
--- Bytes of a manifest that was being made of a state without tables: each frame at 16 is a front of that state's, and
--- behind it stands none. Then it can't be read, or says the state.
-module _ (number : ℕ) (s : ManifestState) (bare : s.levels ≡ no_tables) (bytes : List ℕ) (fits : number < 2 ^ 32) (r : IsInRange s)
+-- what reads as a state's frame, in any format, says it as it is read there
+said_in : (number : ℕ) (s : ManifestState) (format : ℕ) (bytes : List ℕ) → IsInRange s
+    → ReadsManifest format number bytes (whole_edits s ∷ []) → SaysState number bytes (as_read format s)
+said_in number s format bytes r reads = record {
+  format = format;
+  first = whole_edits s;
+  others = [];
+  reads = reads;
+  made = ap (λ (o : Option ManifestState). read_in format (state_then 16 (λ (t : ManifestState). state_behind t []) o)) (whole_says s r);
+}
+
+-- Bytes of a manifest that was being made of a state: each frame at 16 is a front of that state's, and behind it stands
+-- none. Then it can't be read, or says the state.
+module _ (number : ℕ) (s : ManifestState) (has : HasFrame (edits_grammar manifest_format) (whole_edits s)) (bytes : List ℕ)
+    (fits : number < 2 ^ 32) (r : IsInRange s)
     (torn : (edits : List Edit) (rest : List ℕ) → StandsAt (edits_grammar manifest_format) number 16 (drop 16 bytes) edits rest
     → (take (length (item_frame (edits_grammar manifest_format) number 16 edits)) (item_frame (edits_grammar manifest_format) number 16 (whole_edits s))
     ≡ item_frame (edits_grammar manifest_format) number 16 edits)
     × StandsNone (edits_grammar manifest_format) number (16 + length (item_frame (edits_grammar manifest_format) number 16 edits)) rest) where
-  has : HasFrame (edits_grammar manifest_format) (whole_edits s)
-  has = bare_has_frame s bare r
-
   -- the frame is there
   with_frame : (format : ℕ) → format ≤ manifest_format → HasHeader format number bytes
       → ReadsAs (edits_grammar manifest_format) number 16 (drop 16 bytes) (whole_edits s ∷ [])
@@ -151,7 +149,7 @@ module _ (number : ℕ) (s : ManifestState) (bare : s.levels ≡ no_tables) (byt
   with_frame format le header (rest, stands, none) = ⊎_elim
       (λ (all : AllByRecursion (IsEdit format) (whole_edits s)). inr (record {
         format = format;
-        says = bare_said s bare number r format bytes (record {
+        says = said_in number s format bytes r (record {
           header = header;
           reads = (
             rest,

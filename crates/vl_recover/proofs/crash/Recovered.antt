@@ -6,14 +6,19 @@ use Rattle.vl_disk.specs.Calls.{ChangesNothing}
 use Rattle.vl_disk.specs.Crash.{Image, Unchanged}
 use Rattle.vl_disk.specs.Disk.{Stands}
 use Rattle.vl_disk.specs.DiskState.{DiskState, IsLawful}
-use Rattle.vl_disk.specs.Faults.{after_calls}
+use Rattle.vl_disk.specs.Faults.{HasCause, Rose, after_calls}
 use Rattle.vl_disk.specs.Moments.{HoldsThroughout, goes_by, waits}
 use Rattle.vl_disk.specs.Started.{IsRead}
 use Rattle.vl_disk.specs.declared.name.Name.{Name}
 use Rattle.vl_disk.specs.declared.name.Name.TheVariants.{Log}
 use Rattle.vl_disk.specs.declared.watched.Watched.{Ghosts}
 use Rattle.vl_layout.specs.declared.segment.Segment.{Segment}
+use Rattle.vl_frame.specs.Runs.{HasFrame}
+use Rattle.vl_manifest.specs.Grammar.{edits_grammar}
+use Rattle.vl_manifest.specs.Making.{HasItsFrame}
 use Rattle.vl_manifest.specs.Manifest.{manifest_bytes}
+use Rattle.vl_manifest.specs.declared.edit.Edit.{Edit}
+use Rattle.vl_model.specs.Formats.{manifest_format}
 use Rattle.vl_manifest.specs.States.{whole_edits}
 use Rattle.vl_manifest.specs.declared.fails.IoFail.{IoFail}
 use Rattle.vl_manifest.specs.declared.fails.IoFail.TheVariants.{Disk}
@@ -23,18 +28,18 @@ use Rattle.vl_recover.specs.crash.Alike.{OpensAsOf}
 use Rattle.vl_recover.specs.opening.Answers.{Recovery, Faulted, NoMemory, Recovered, Refused, UsedUp, AreStrayNames, Finds, HeldLog, Opened, calls_to_open, held_log, logs_then, opened_from}
 use Rattle.vl_recover.specs.repairing.Deciding.{IsPrepared, opened_by}
 use Rattle.vl_recover.specs.opening.Finding.{IsFaultAt, IsReadName}
-use Rattle.vl_recover.specs.crash.Held.{HoldsStore}
+use Rattle.vl_recover.specs.crash.Held.{HoldsStore, view_of}
 use Rattle.vl_recover.specs.crash.Meanwhile.{FaultsAt, IsAsLong, IsFaultName, IsMeanwhile, IsRepaired, Repairing, as_before, at_repaired, at_repairing, at_read}
 use Rattle.vl_recover.specs.repairing.Repairing.{Plan, WhileRepairing, calls_of_plan, repaired}
 use Rattle.vl_recover.proofs.repairs.RepairingLaws.{plan_calls}
 use Rattle.vl_recover.proofs.crash.RepairingMayOpen.{repairing_may_open}
 use Rattle.vl_recover.specs.laws.repairing.RepairingOpens.{repaired_holds, repairing_opens}
 use Rattle.vl_recover.specs.laws.crash.OneName as one
-use Rattle.vl_recover.specs.opening.Opening.{Opening}
+use Rattle.vl_recover.specs.opening.Opening.{FoundTable, Opening}
 use Rattle.vl_recover.specs.repairing.PlanViews.{plan_view}
 use Rattle.vl_recover.specs.opening.Plans.{new_state}
 use Rattle.vl_recover.specs.laws.opening.ReadImage.{read_image}
-use Rattle.vl_recover.specs.opening.Results.{HasFailed, FailsWithoutFault, recovery_by, frozen_log}
+use Rattle.vl_recover.specs.opening.Results.{HasFailed, FailsWithoutFault, IsDiskFault, recovery_by, frozen_log}
 use Rattle.vl_recover.specs.crash.Starts.{MayOpen}
 use Rattle.vl_recover.specs.repairing.Steps.{IsFailAt, MakesSome, Repairs}
 use Rattle.vl_recover.specs.declared.fails.OpenError.{OpenError}
@@ -47,23 +52,51 @@ some_same : (a b : DiskState) → Some a ≡ Some b → a ≡ b
 some_same a b e = cc
 
 -- what is opened is what reads give
-pub opened_same : (read : Image) (prepared : Prepared) (is : IsPrepared read prepared) → opened_by prepared ≡ opened_from is.finds
-opened_same read prepared is =
-    ap (λ (n : ℕ). of n prepared.state prepared.plan.manifest (map frozen_log prepared.frozen.items) prepared.active) is.number
-    ∙ ap (λ (s : ManifestState). of is.finds.opening.number s prepared.plan.manifest (map frozen_log prepared.frozen.items) prepared.active) is.state
-    ∙ ap (λ (m : ℕ). of is.finds.opening.number new m (map frozen_log prepared.frozen.items) prepared.active) (ap (λ (p : Plan). p.manifest) is.plan.is)
-    ∙ ap (λ (logs : List HeldLog). of is.finds.opening.number new (is.finds.greatest.manifest + 1) logs prepared.active) is.frozen
-    ∙ ap (λ (a : ℕ). of is.finds.opening.number new (is.finds.greatest.manifest + 1) (map held_log is.finds.opening.logs) a) is.active
+pub opened_same : (read : Image) (prepared : Prepared) (levels : List (List FoundTable)) (is : IsPrepared read prepared)
+    → levels ≡ is.finds.opening.levels → opened_by prepared levels ≡ opened_from is.finds
+opened_same read prepared levels is same =
+    ap (λ (n : ℕ). of n prepared.state prepared.plan.manifest levels (map frozen_log prepared.frozen.items) prepared.active) is.number
+    ∙ ap (λ (s : ManifestState). of is.finds.opening.number s prepared.plan.manifest levels (map frozen_log prepared.frozen.items) prepared.active) is.state
+    ∙ ap (λ (m : ℕ). of is.finds.opening.number new m levels (map frozen_log prepared.frozen.items) prepared.active) (ap (λ (p : Plan). p.manifest) is.plan.is)
+    ∙ ap (λ (l : List (List FoundTable)). of is.finds.opening.number new (is.finds.greatest.manifest + 1) l (map frozen_log prepared.frozen.items) prepared.active) same
+    ∙ ap (λ (logs : List HeldLog). of is.finds.opening.number new (is.finds.greatest.manifest + 1) is.finds.opening.levels logs prepared.active) is.frozen
+    ∙ ap (λ (a : ℕ). of is.finds.opening.number new (is.finds.greatest.manifest + 1) is.finds.opening.levels (map held_log is.finds.opening.logs) a) is.active
   where
     new : ManifestState
     new = new_state is.finds.greatest is.finds.opening.state
 
-    of : ℕ → ManifestState → ℕ → List HeldLog → ℕ → Opened
-    of number state manifest frozen active = record { number = number; state = state; manifest = manifest; frozen = frozen; active = active }
+    of : ℕ → ManifestState → ℕ → List (List FoundTable) → List HeldLog → ℕ → Opened
+    of number state manifest levels frozen active =
+        record { number = number; state = state; manifest = manifest; levels = levels; frozen = frozen; active = active }
+
+-- the new manifest's frame isn't too long
+abbrev pub HasFrameOf : Prepared → Type 0
+HasFrameOf prepared = HasFrame (edits_grammar manifest_format) (whole_edits prepared.state)
+
+has_frame : (read : Image) (prepared : Prepared) (is : IsPrepared read prepared) → HasFrameOf prepared
+    → HasFrame (edits_grammar manifest_format) (whole_edits (new_state is.finds.greatest is.finds.opening.state))
+has_frame read prepared is has = subst (λ (s : ManifestState). HasFrame (edits_grammar manifest_format) (whole_edits s)) is.state has
+
+-- it is so where the manifest was made, and where the disk failed
+pub frame_is : (prepared : Prepared) (edits : List Edit) → edits ≡ whole_edits prepared.state
+    → HasFrame (edits_grammar manifest_format) edits → HasFrameOf prepared
+frame_is prepared edits same has = subst (λ (es : List Edit). HasFrame (edits_grammar manifest_format) es) same has
+
+pub frame_failed : (prepared : Prepared) (edits : List Edit) (name : Name) (result : Result ManifestLog IoFail) → edits ≡ whole_edits prepared.state
+    → result ≡ Err (Disk name) → HasItsFrame edits result → HasFrameOf prepared
+frame_failed prepared edits name result same is has =
+    subst (λ (es : List Edit). HasFrame (edits_grammar manifest_format) es) same
+    (subst (λ (r : Result ManifestLog IoFail). HasItsFrame edits r) is has)
 
 -- the repairing that was prepared
-abbrev pub repairing_of : (read : Image) (prepared : Prepared) → IsPrepared read prepared → Repairing read
-repairing_of read prepared is = record { found = is.finds; unused = is.unused; plan = plan_view prepared.plan; is = is.plan }
+abbrev pub repairing_of : (read : Image) (prepared : Prepared) → IsPrepared read prepared → HasFrameOf prepared → Repairing read
+repairing_of read prepared is has = record {
+  found = is.finds;
+  unused = is.unused;
+  has = has_frame read prepared is has;
+  plan = plan_view prepared.plan;
+  is = is.plan;
+}
 
 -- a refusal is no failure
 pub refused_fine : (recovery_of : Recovery) → FailsWithoutFault recovery_of → HasFailed recovery_of → ⊥
@@ -72,6 +105,21 @@ refused_fine (Refused why) refused failed = failed
 refused_fine (UsedUp counter) refused failed = failed
 refused_fine NoMemory refused failed = failed
 refused_fine (Faulted name) refused failed = refused
+
+pub refused_disk : (read_faults : ℕ) (recovery_of : Recovery) → FailsWithoutFault recovery_of → IsDiskFault read_faults recovery_of → ⊥
+refused_disk n (Recovered opened) refused failed = refused
+refused_disk n (Refused why) refused failed = failed
+refused_disk n (UsedUp counter) refused failed = failed
+refused_disk n NoMemory refused failed = failed
+refused_disk n (Faulted name) refused failed = refused
+
+-- a fault of the disk was counted where the reader had counted none
+pub fault_counted : (before mid now read_faults : ℕ) → mid ≡ before → read_faults ≡ 0 → HasCause mid now (Unit {0}) → HasCause before now (read_faults ≡ 0)
+fault_counted before mid now read_faults same none cause = record {
+  later = (let later = cause.later in omega (arith, later, same));
+  rose = λ _. subst (λ (n : ℕ). Rose n now) same (cause.rose tt);
+  steady = λ not. absurd (not none);
+}
 
 -- where the disk failed while it was read
 pub read_faults : (read : Image) (told : Option DiskState) (state : DiskState) (before now : ℕ) → told ≡ Some state → now ≡ before
@@ -84,11 +132,11 @@ read_faults read told state before now is same why.NoMemory at = tt
 read_faults read told state before now is same (why.Disk name) at = at_read (subst (λ (t : Option DiskState). IsReadName t name) is at) same
 
 -- and while it was repaired
-pub repaired_faults : (read : Image) (state : DiskState) (before begun now : ℕ) → begun ≡ before → (prepared : Prepared) → IsPrepared read prepared
+pub repaired_faults : (read : Image) (state : DiskState) (before begun now : ℕ) → begun ≡ before → (prepared : Prepared) → IsPrepared read prepared → HasFrameOf prepared
     → (result : Result ManifestLog IoFail) (name : Name) → result ≡ Err (Disk name)
     → IfErr result (IsFailAt (plan_view prepared.plan) begun now) → IsFaultName read state before now name
-repaired_faults read state before begun now same prepared is result name failed at =
-    at_repaired (repairing_of read prepared is)
+repaired_faults read state before begun now same prepared is has result name failed at =
+    at_repaired (repairing_of read prepared is has)
     (subst (λ (n : ℕ). IsFailAt (plan_view prepared.plan) n now (Disk name)) same
     (subst (λ (r : Result ManifestLog IoFail). IfErr r (IsFailAt (plan_view prepared.plan) begun now)) failed at))
 
@@ -124,18 +172,24 @@ module _ {D : Type 0} (g : Ghosts D) (only_now : (disk : D) (state other : DiskS
     so_throughout : (P : DiskState → Type 0) → P state → ((now : DiskState) → WhileRepairing plan state now → P now) → HoldsThroughout g old new P
     so_throughout P here meanwhile = goes_by g P old mid new state (WhileRepairing plan) (no_change.told ∙ told) (still_so P here) repairs.time meanwhile
 
-    pub repaired_meanwhile : (read : Image) → IsPrepared read prepared → HoldsThroughout g old new (IsMeanwhile read state)
-    repaired_meanwhile read is = so_throughout (IsMeanwhile read state) (as_before refl)
-        (λ now during. at_repairing (repairing_of read prepared is) during)
+    pub repaired_meanwhile : HasFrameOf prepared → (read : Image) → IsPrepared read prepared → HoldsThroughout g old new (IsMeanwhile read state)
+    repaired_meanwhile has read is = so_throughout (IsMeanwhile read state) (as_before refl)
+        (λ now during. at_repairing (repairing_of read prepared is has) during)
 
-    module _ (lawful : (disk : D) (s : DiskState) → g.told disk ≡ Some s → IsLawful s) (may : MayOpen state)
+    module _ (has : HasFrameOf prepared) (lawful : (disk : D) (s : DiskState) → g.told disk ≡ Some s → IsLawful s) (may : MayOpen state)
         (ready : (read : Image) → IsRead read state → IsPrepared read prepared) where
       pub repaired_through : HoldsThroughout g old new (OpensAsOf state)
       repaired_through =
           let (read, is_read) = read_image state in
           let is = ready read is_read in
           so_throughout (OpensAsOf state) (one.as_before state)
-          (λ now during. repairing_opens state now is.finds plan (lawful old state told) may is_read is.unused is.plan during)
+          (λ now during. repairing_opens state now is.finds plan (record {
+            lawful = lawful old state told;
+            may = may;
+            is_read = is_read;
+            left = is.unused;
+            has = has_frame read prepared is has;
+          }) is.plan during)
 
       -- a store may be opened on it again
       pub repaired_again : ((disk : D) (s : DiskState) (t : ℕ) → g.told disk ≡ Some s → t ≤ g.moment disk → g.states_since disk t s)
@@ -143,38 +197,50 @@ module _ {D : Type 0} (g : Ghosts D) (only_now : (disk : D) (state other : DiskS
       repaired_again counts_now now ends =
           let (read, is_read) = read_image state in
           let is = ready read is_read in
-          let all = repaired_meanwhile read is in
+          let all = repaired_meanwhile has read is in
           by (all.each now (counts_now new now (g.moment old) ends all.time.later)) read is_read
         where
           by : {read : Image} → IsMeanwhile read state now → (r : Image) → IsRead read state → MayOpen now
           by (as_before same) r is_read = subst MayOpen (sym same) may
           by (at_repairing m during) r is_read =
-              repairing_may_open state now m.found m.plan (lawful old state told) may is_read m.unused m.is (lawful new now ends) during
+              repairing_may_open state now m.found m.plan
+              (record { lawful = lawful old state told; may = may; is_read = is_read; left = m.unused; has = m.has }) m.is (lawful new now ends) during
 
   -- to the end
   module _ (new : D) (prepared : Prepared) (x : ManifestLog) (repairs : Repairs g (plan_view prepared.plan) mid new (Ok x))
-      (read : Image) (is_read : IsRead read state) (is : IsPrepared read prepared) (found : Finds read) where
+      (read : Image) (is_read : IsRead read state) (is : IsPrepared read prepared) (has : HasFrameOf prepared) (found : Finds read) where
     abbrev done : Plan
     done = plan_view prepared.plan
 
-    pub store_held : IsLawful state → MayOpen state → (now : DiskState) → g.told new ≡ Some now → (given : ManifestState) → given ≡ prepared.state → HoldsStore given (logs_then found) now
+    pub store_held : IsLawful state → MayOpen state → (now : DiskState) → g.told new ≡ Some now → (given : ManifestState) → given ≡ prepared.state
+        → HoldsStore given (view_of found) (logs_then found) now
     store_held lawful may now ends given same =
         let now_is : repaired done state ≡ now = some_same (repaired done state) now (sym (repairs.done ∙ ap (option_map (repaired done)) (no_change.told ∙ told)) ∙ ends) in
-        subst (λ (s : ManifestState). HoldsStore s (logs_then found) now) (sym (same ∙ is.state))
-        (subst (λ (logs : List Segment). HoldsStore (new_state is.finds.greatest is.finds.opening.state) logs now) (same_logs_then read is.finds found)
-        (subst (λ (d : DiskState). HoldsStore (new_state is.finds.greatest is.finds.opening.state) (logs_then is.finds) d) now_is
-        (repaired_holds state is.finds done lawful may is_read is.unused is.plan)))
+        subst (λ (s : ManifestState). HoldsStore s (view_of found) (logs_then found) now) (sym (same ∙ is.state))
+        (subst (λ (o : Opening). HoldsStore new (record { image = read; levels = o.levels }) (logs_then found) now) (same_opening read is.finds found)
+        (subst (λ (logs : List Segment). HoldsStore new (view_of is.finds) logs now) (same_logs_then read is.finds found)
+        (subst (λ (d : DiskState). HoldsStore new (view_of is.finds) (logs_then is.finds) d) now_is
+        (repaired_holds state is.finds done (record {
+          lawful = lawful;
+          may = may;
+          is_read = is_read;
+          left = is.unused;
+          has = has_frame read prepared is has;
+        }) is.plan))))
+      where
+        new : ManifestState
+        new = new_state is.finds.greatest is.finds.opening.state
 
     pub disk_repaired : IsRepaired read state (g.told new)
     disk_repaired = record {
-      repairing = repairing_of read prepared is;
+      repairing = repairing_of read prepared is has;
       told = repairs.done ∙ ap (option_map (repaired done)) (no_change.told ∙ told);
     }
 
-    pub calls_counted : (strays : List Name) → AreStrayNames read found.opening.state.head strays → g.calls new ≡ after_calls (calls_to_open found (length strays)) (g.calls old)
+    pub calls_counted : (strays : List Name) → AreStrayNames read found.opening strays → g.calls new ≡ after_calls (calls_to_open found (length strays)) (g.calls old)
     calls_counted strays are =
-        let many : length done.strays ≡ length strays = as_many read found.opening.state.head done.strays strays
-        (subst (λ (o : Opening). AreStrayNames read o.state.head done.strays) (same_opening read is.finds found) is.plan.strays) are in
+        let many : length done.strays ≡ length strays = as_many read found.opening done.strays strays
+        (subst (λ (o : Opening). AreStrayNames read o done.strays) (same_opening read is.finds found) is.plan.strays) are in
         repairs.calls
         ∙ ap (λ (n : ℕ). after_calls n (g.calls mid)) (plan_calls is.finds done is.plan ∙ ap (calls_to_open is.finds) many ∙ same_calls read is.finds found (length strays))
         ∙ ap (after_calls (calls_to_open found (length strays))) no_change.calls
@@ -182,12 +248,12 @@ module _ {D : Type 0} (g : Ghosts D) (only_now : (disk : D) (state other : DiskS
   -- and where the disk failed or memory ran out
   module _ (new : D) (prepared : Prepared) (result : Result ManifestLog IoFail) (e : IoFail) (is_err : result ≡ Err e)
       (repairs : Repairs g (plan_view prepared.plan) mid new result) (read : Image) (is_read : IsRead read state) (is : IsPrepared read prepared) (found : Finds read) where
-    pub calls_stopped : (strays : List Name) → AreStrayNames read found.opening.state.head strays
+    pub calls_stopped : (strays : List Name) → AreStrayNames read found.opening strays
         → MakesSome (calls_to_open found (length strays)) (g.calls old) (g.calls new)
     calls_stopped strays are =
         let plan : Plan = plan_view prepared.plan in
-        let many : length plan.strays ≡ length strays = as_many read found.opening.state.head plan.strays strays
-        (subst (λ (o : Opening). AreStrayNames read o.state.head plan.strays) (same_opening read is.finds found) is.plan.strays) are in
+        let many : length plan.strays ≡ length strays = as_many read found.opening plan.strays strays
+        (subst (λ (o : Opening). AreStrayNames read o plan.strays) (same_opening read is.finds found) is.plan.strays) are in
         let counted : calls_of_plan plan ≡ calls_to_open found (length strays) =
         plan_calls is.finds plan is.plan ∙ ap (calls_to_open is.finds) many ∙ same_calls read is.finds found (length strays) in
         let stops : MakesSome (calls_of_plan plan) (g.calls mid) (g.calls new) =

@@ -1,5 +1,4 @@
--- A disk on which the new manifest was being made: what it leaves says the new manifest's state, and a store
--- may be opened on it again.
+-- A file that was being made has no frame by chance as it is read.
 use Rattle.std.specs.Prelude.{◌≡◌, ℕ, ◌+◌, ◌-◌, ◌≤◌, ◌<◌, List, [], ◌++◌, length, take, drop, None, Some, Ok, refl}
 use Rattle.std.specs.FinMap.{get}
 use Rattle.std.proofs.Common.{append_assoc, ap, arith, length-append, subst, sym, ◌∙◌, ⊎_elim}
@@ -85,51 +84,3 @@ part_no_chance name piece file (part_some taken) = λ grows loose. record {
                 (spelled_in name taken at piece frame here);
           },
         )
-
--- ---- what is said meanwhile
-
--- the new manifest isn't there, can't be read, or says its state
-pub data IsTorn (number : ℕ) (s : ManifestState) (image : Image) : Type 0 where
-  missing : get image (Manifest number) ≡ None → IsTorn number s image
-  unread : (bytes : List ℕ) → get image (Manifest number) ≡ Some bytes → (IsReadable number bytes → ⊥)
-      → IsTorn number s image
-  says : (bytes : List ℕ) → get image (Manifest number) ≡ Some bytes → SaysAsRead number bytes s
-      → IsTorn number s image
-
--- Then the image says this state, where it opens, if so does one without it.
-module _ (number : ℕ) (s : ManifestState) (image before : Image)
-    (same : SameBut (Manifest number) image before) (gone : get before (Manifest number) ≡ None)
-    (said : (o : Opening) → Opens before (Ok o) → SameState s o.state) (above : (m : ℕ) (bytes : List ℕ)
-    → StandsReadable before m bytes → m ≤ number) where
-  back : SameBut (Manifest number) before image
-  back name apart = sym (same name apart)
-
-  not_read : ((bytes : List ℕ) → StandsReadable image number bytes → ⊥) → (o : Opening) → Opens image (Ok o)
-      → SameState s o.state
-  not_read not o opens =
-      let like : OpensLike before image = like_lead before image
-      (lead_over before image number back (λ bytes r. some_none bytes (sym r.stands ∙ gone)) not)
-      (λ m. back (Log m) (log_manifest m number)) (λ m. back (Table m) (table_manifest m number)) in
-      let (p, opens_before, shows) = like o opens in
-      state_then s p.state o.state (said p opens_before) shows.state
-
-  by_itself : (bytes : List ℕ) → get image (Manifest number) ≡ Some bytes → SaysAsRead number bytes s
-      → (o : Opening) → Opens image (Ok o) → SameState s o.state
-  by_itself bytes stands says_s o opens =
-      let led = led_anew image before number bytes same
-      (record { stands = stands; readable = says_readable number bytes here says_s.says.says }) above in
-      let is = opened image o opens in
-      let heading = one_heading image is.heading (Led number bytes) is.by.headed led in
-      let says_o = subst (λ (h : Heading). Says h (Ok o.state)) heading is.by.says in
-      let equal : here ≡ o.state = ok_same {E = Refusal} here o.state
-      (single_says (Led number bytes) (Ok here) (Ok o.state) (Ok here, bare_told number bytes here says_s.says, refl) says_o) in
-      subst (SameState s) equal (state_back here s (read_same says_s.format s))
-    where
-      here : ManifestState
-      here = as_read says_s.format s
-
-  pub torn_says : IsTorn number s image → (o : Opening) → Opens image (Ok o) → SameState s o.state
-  torn_says (missing none) = not_read (λ bytes r. some_none bytes (sym r.stands ∙ none))
-  torn_says (unread bytes is not) = not_read (λ others r. not
-      (subst (IsReadable number) (some_same others bytes (sym r.stands ∙ is)) r.readable))
-  torn_says (says bytes is says_s) = by_itself bytes is says_s

@@ -25,6 +25,7 @@ use Rattle.vl_seglog.specs.Frames.{frames_end}
 use Rattle.vl_recover.specs.declared.fails.OpenError.{OpenError}
 use Rattle.vl_recover.specs.declared.fails.OpenError.TheVariants as why
 use Rattle.vl_recover.specs.declared.found.Findings.{Findings}
+use Rattle.vl_recover.specs.declared.found.HeldFiles.{HeldFiles}
 use Rattle.vl_recover.specs.declared.found.LastLog.{LastLog}
 use Rattle.vl_memtable.specs.declared.frozen_log.FrozenLog.{FrozenLog}
 use Rattle.vl_recover.specs.declared.prepared.Prepared.{Prepared}
@@ -125,7 +126,7 @@ module _ (image : Image) (found : Findings) (is : IsFound image found) where
     state = decided.state ∙ state_same;
     frozen = ap (λ (items : List FrozenLog). map frozen_log items) decided.frozen ∙ is.frozen;
     plan = record {
-      strays = subst (AreStrayNames image is.finds.opening.state.head) (sym (ap (λ (p : Plan). p.strays) decided.plan)) is.strays;
+      strays = subst (AreStrayNames image is.finds.opening) (sym (ap (λ (p : Plan). p.strays) decided.plan)) is.strays;
       is = decided.plan ∙ plan_same ∙ ap (λ (names : List Name). plan_of is.finds names) (sym (ap (λ (p : Plan). p.strays) decided.plan));
     };
     active = decided.active ∙ ap (λ (s : ManifestState). number_of (next_of s found.last)) state_same
@@ -150,15 +151,15 @@ decided_fine found (why.NewerFormat format) used failed = failed
 decided_fine found (why.Damaged name place) used failed = failed
 decided_fine found (why.Disk name) used failed = used
 
-pub answer_by : (image : Image) (result : Result Prepared OpenError) (reason : OpenError) → IsErr result → IsErrAnd result (λ e. e ≡ reason)
+pub answer_by : {H : Type 0} (image : Image) (result : Result (Prepared × HeldFiles H) OpenError) (reason : OpenError) → IsErr result → IsErrAnd result (λ e. e ≡ reason)
     → AnswersBy image (recovery_by reason) → PreparesSo image result
-answer_by image (Ok prepared) reason failed is answer = absurd (false_true failed)
+answer_by image (Ok ready) reason failed is answer = absurd (false_true failed)
 answer_by image (Err e) reason failed is answer = subst (λ (w : OpenError). AnswersBy image (recovery_by w)) (sym is) answer
 
 -- the disk didn't fail
-pub decided_at : (found : Findings) (told : Option DiskState) (result : Result Prepared OpenError) (reason : OpenError) → IsErr result → IsErrAnd result (λ e. e ≡ reason)
+pub decided_at : {A : Type 0} (found : Findings) (told : Option DiskState) (result : Result A OpenError) (reason : OpenError) → IsErr result → IsErrAnd result (λ e. e ≡ reason)
     → DecidesSo found (Err reason) → IfErr result (IsFaultAt told)
-decided_at found told (Ok prepared) reason failed is used = absurd (false_true failed)
+decided_at found told (Ok a) reason failed is used = absurd (false_true failed)
 decided_at found told (Err e) reason failed is used = subst (IsFaultAt told) (sym is) (by reason used)
   where
     by : (w : OpenError) → DecidesSo found (Err w) → IsFaultAt told w

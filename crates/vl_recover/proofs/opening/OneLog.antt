@@ -18,6 +18,7 @@ use Rattle.vl_recover.specs.declared.found.Content.{Content}
 use Rattle.vl_recover.specs.declared.found.LogFound.{LogFound}
 use Rattle.vl_recover.specs.opening.Answers.{HeldLog, held_log}
 use Rattle.vl_recover.specs.opening.LogsSoFar.{FindsLog}
+use Rattle.vl_recover.specs.opening.Opening.{BeginsLog}
 use Rattle.vl_recover.specs.opening.ReadLogs.{HasNothing, IsContent, IsReadAs, held_content, standing_log}
 use Rattle.vl_recover.specs.opening.Walk.{filled, format_of, has_some}
 use Rattle.vl_seglog.specs.LogReading.{LogReading, SaysFormat, end_of}
@@ -46,6 +47,16 @@ module _ (image : Image) (number before size : ℕ) (bytes : List ℕ)
     (front : List ℕ) (front_is : front ≡ bytes_at 0 (min size 16) bytes) where
   same : take 16 front ≡ take 16 bytes
   same = ap (take 16) front_is ∙ ap (λ (n : ℕ). take 16 (take (min n 16) bytes)) size_is ∙ front_same bytes
+
+  -- it begins with its header, or doesn't
+  pub header_begins : (header : Option ℕ) (format : ℕ) → header ≡ Some format → SaysFormat header number front → BeginsLog number bytes
+  header_begins header format some says =
+      let right = front_says number bytes front same (Some format) (subst (λ (h : Option ℕ). SaysFormat h number front) some says) in
+      (format, right.0, right.1)
+
+  pub header_missing : (header : Option ℕ) → header ≡ None → SaysFormat header number front → BeginsLog number bytes → ⊥
+  header_missing header none says (format, is_read, has) =
+      front_says number bytes front same None (subst (λ (h : Option ℕ). SaysFormat h number front) none says) format is_read has
 
   -- without a right header it has nothing
   pub headless_found : (header : Option ℕ) → header ≡ None → SaysFormat header number front → (c : Content) → HasNothing 0 before c

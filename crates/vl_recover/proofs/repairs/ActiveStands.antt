@@ -50,8 +50,8 @@ module _ {read : Image} (found : Finds read) (start : DiskState) (is_read : IsRe
   -- a stray stands, and is no log from head on
   no_stray : (k : ℕ) → found.opening.state.head ≤ k → (other : Name) → Contains plan.strays other → Log k ≢ other
   no_stray k above other among same =
-      let stray : IsStrayName found.opening.state.head (Log k) = subst (IsStrayName found.opening.state.head) (sym same) (((is.strays.all other).0 among).1) in
-      omega (arith, stray, above)
+      let stray : IsStrayName found.opening (Log k) = subst (IsStrayName found.opening) (sym same) (((is.strays.all other).0 among).1) in
+      omega (arith, stray.0, above)
 
   nor_new : (k : ℕ) → get read (Log k) ≡ None → (other : Name) → Contains plan.strays other → Log k ≢ other
   nor_new k none other among same =

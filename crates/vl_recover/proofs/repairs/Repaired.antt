@@ -9,7 +9,7 @@ use Rattle.vl_disk.specs.laws.Standing.{holds_after}
 use Rattle.vl_disk.specs.declared.name.Name.{Name}
 use Rattle.vl_disk.specs.declared.name.Name.TheVariants.{Manifest}
 use Rattle.vl_disk.specs.declared.watched.Watched.{Ghosts}
-use Rattle.vl_manifest.specs.Making.{MakesManifest}
+use Rattle.vl_manifest.specs.Making.{HasItsFrame, MakesManifest}
 use Rattle.vl_manifest.specs.declared.edit.Edit.{Edit}
 use Rattle.vl_manifest.specs.declared.fails.IoFail.{IoFail}
 use Rattle.vl_manifest.specs.declared.fails.IoFail.TheVariants as fails
@@ -163,9 +163,22 @@ module _ {D : Type 0} (g : Ghosts D) (plan : RepairingPlan) (edits : List Edit) 
         cause = makes.cause;
       }
 
+  -- so is its frame
+  pub frame_stops : (made : Result ManifestLog IoFail) (e : IoFail) (result : Result ManifestLog IoFail) → made ≡ Err e → result ≡ Err e
+      → MakesManifest g plan.manifest edits old mid made → HasItsFrame plan.edits.items result
+  frame_stops made e result failed is makes =
+      subst (λ (r : Result ManifestLog IoFail). HasItsFrame plan.edits.items r) (failed ∙ sym is) (created made makes).frame
+
   module _ (log : ManifestLog) (made : Result ManifestLog IoFail) (went : made ≡ Ok log) (makes : MakesManifest g plan.manifest edits old mid made) where
     done_so : Created (Ok log)
     done_so = created (Ok log) (subst (λ (r : Result ManifestLog IoFail). MakesManifest g plan.manifest edits old mid r) went makes)
+
+    -- its frame isn't too long
+    pub frame_made : HasItsFrame plan.edits.items (Ok log)
+    frame_made = done_so.frame
+
+    pub frame_behind : (name : Name) → HasItsFrame plan.edits.items (Err (fails.Disk name))
+    frame_behind name = done_so.frame
 
     -- the rest of the plan fits what stands then
     pub behind_fits : ForSome (g.told old) (Fits view) → ForSome (g.told mid) (FitsBehind view)

@@ -1,6 +1,7 @@
 -- When one image opens like another, and when whatever a crash leaves of a disk opens like something that it could have left
 -- of an earlier one.
 use Rattle.std.specs.Prelude.{◌≡◌, ℕ, List, Ok}
+use Rattle.std.specs.FinMap.{get}
 use Rattle.vl_disk.specs.Chance.{NoChanceMatch}
 use Rattle.vl_disk.specs.Crash.{Image, MayLeave}
 use Rattle.vl_disk.specs.DiskState.{DiskState}
@@ -12,7 +13,7 @@ use Rattle.vl_manifest.specs.declared.state.ManifestState.{ManifestState}
 use Rattle.vl_model.specs.Formats.{manifest_format}
 use Rattle.vl_seglog.specs.Frames.{frames_grammar}
 use Rattle.vl_seglog.specs.LogReading.{HasHeader, IsLogFormat}
-use Rattle.vl_recover.specs.opening.Opening.{Opening, Opens}
+use Rattle.vl_recover.specs.opening.Opening.{IsAmong, IsNamed, Opening, Opens, led_into}
 
 -- Two manifests say the same, but for the numbers that may still be given. Neither is `gone` among it: where a crash tears
 -- the new manifest's header into one of an older format, its covered number is read for it.
@@ -23,16 +24,22 @@ pub record SameState (a b : ManifestState) : Type 0 where
   pub keep : a.keep ≡ b.keep
   pub since : a.since ≡ b.since
 
--- so do two openings, which have the same logs and the same last commit
+-- so do two openings, which have the same tables, the same logs and the same last commit
 pub record ShowsAs (a b : Opening) : Type 0 where
   pub state : SameState a.state b.state
+  pub levels : a.levels ≡ b.levels
   pub logs : a.logs ≡ b.logs
   pub number : a.number ≡ b.number
 
--- where the other image opens, this one opens as it
+-- the tables that an opening names, and the logs that these lead into, have the same bytes in both images
+pub record SameNeeded (image other : Image) (o : Opening) : Type 0 where
+  pub tables : (n : ℕ) → IsNamed o.state.levels n → get image (Table n) ≡ get other (Table n)
+  pub logs : (n : ℕ) → IsAmong (led_into o.levels) n → get image (Log n) ≡ get other (Log n)
+
+-- where the other image opens, this one opens as it, and what that needs has the same bytes
 abbrev pub OpensLike : (image other : Image) → Type 0
 OpensLike image other =
-    (o : Opening) → Opens other (Ok o) → (p : Opening) × Opens image (Ok p) × ShowsAs p o
+    (o : Opening) → Opens other (Ok o) → (p : Opening) × Opens image (Ok p) × ShowsAs p o × SameNeeded image other o
 
 -- the frames of a log, in the format that its header says
 abbrev pub SpellsLogged : ℕ → List ℕ → ℕ → List ℕ → Type 0

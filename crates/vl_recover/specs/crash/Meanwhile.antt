@@ -4,19 +4,24 @@ use Rattle.vl_disk.specs.Crash.{Image}
 use Rattle.vl_disk.specs.DiskState.{DiskState}
 use Rattle.vl_disk.specs.Performs.{FailedAt}
 use Rattle.vl_disk.specs.declared.name.Name.{Name}
+use Rattle.vl_frame.specs.Runs.{HasFrame}
+use Rattle.vl_manifest.specs.Grammar.{edits_grammar}
 use Rattle.vl_manifest.specs.Manifest.{manifest_bytes}
 use Rattle.vl_manifest.specs.States.{whole_edits}
 use Rattle.vl_manifest.specs.declared.manifest_log.ManifestLog.{ManifestLog}
 use Rattle.vl_manifest.specs.declared.state.ManifestState.{ManifestState}
 use Rattle.vl_recover.specs.opening.Answers.{Faulted, Finds, NoMemory, Recovered, Recovery, Refused, UsedUp, used_up}
+use Rattle.vl_model.specs.Formats.{manifest_format}
 use Rattle.vl_recover.specs.opening.Finding.{IsReadName}
+use Rattle.vl_recover.specs.opening.Plans.{new_state}
 use Rattle.vl_recover.specs.repairing.Repairing.{IsPlan, Plan, WhileRepairing, repaired}
 use Rattle.vl_recover.specs.repairing.Steps.{files_of}
 
--- a repairing of what reads give, where no number is used up
+-- a repairing of what reads give, where no number is used up and the new manifest's frame isn't too long
 pub record Repairing (read : Image) : Type 0 where
   pub found : Finds read
   pub unused : used_up found ≡ None
+  pub has : HasFrame (edits_grammar manifest_format) (whole_edits (new_state found.greatest found.opening.state))
   pub plan : Plan
   pub is : IsPlan found plan
 

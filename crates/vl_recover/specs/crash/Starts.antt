@@ -1,5 +1,5 @@
 -- What is asked of a disk on which a store is opened, where crashes are spoken of.
-use Rattle.std.specs.Prelude.{◌≡◌, ◌≢◌, ℕ, ◌+◌, ◌≤◌, ◌<◌, true, length, None, Some, Ok, All}
+use Rattle.std.specs.Prelude.{◌≡◌, ◌≢◌, ℕ, ◌+◌, ◌≤◌, ◌<◌, true, List, length, None, Some, Ok, All}
 use Rattle.vl_model.specs.Formats.{log_format}
 use Rattle.std.specs.FinMap.{get}
 use Rattle.vl_disk.specs.Chance.{NoChanceOne}
@@ -8,9 +8,10 @@ use Rattle.vl_disk.specs.DiskState.{DiskState, File}
 use Rattle.vl_disk.specs.Started.{IsRead}
 use Rattle.vl_disk.specs.declared.name.Name.{Name}
 use Rattle.vl_disk.specs.declared.name.Name.TheVariants.{Log, Table, Manifest}
-use Rattle.vl_recover.specs.crash.Alike.{IsLeft, SameState, Spells}
-use Rattle.vl_recover.specs.opening.Opening.{Opening, Opens}
-use Rattle.vl_seglog.specs.LogReading.{HasHeader, SaysFormat}
+use Rattle.vl_recover.specs.crash.Alike.{Spells}
+use Rattle.vl_recover.specs.opening.Opening.{IsAmong, IsNamed, Opening, Opens, led_into}
+use Rattle.vl_recover.specs.opening.Walk.{keeps_header}
+use Rattle.vl_seglog.specs.LogReading.{HasHeader, LogReading, ReadsLog, SaysFormat}
 
 -- a log that doesn't begin with its header, so that none of its frames are read
 abbrev pub HasWrongHeader : Name → File → Type 0
@@ -36,19 +37,36 @@ pub record MayStand (name : Name) (file : File) : Type 0 where
 abbrev pub AllMayStand : DiskState → Type 0
 AllMayStand disk = (name : Name) (file : File) → get disk.standing name ≡ Some file → MayStand name file
 
--- A store may be opened on it. So it is with a disk that was just started, and with one that an opening or a run left.
+abbrev pub IsDurable : File → Type 0
+IsDurable file = (file.wholly_synced ≡ true) × (file.lasting ≡ true)
+
+-- nothing is changed of a log that reads so, also where it is the last one
+abbrev pub StaysAsItIs : LogReading → Type 0
+StaysAsItIs r = (r.whole ≡ true) × (keeps_header r.header r.frames ≡ true)
+
+-- so it is with the logs of these numbers
+abbrev pub AllStay : Image → List ℕ → Type 0
+AllStay image logs = (n : ℕ) (bytes : List ℕ) (reading : LogReading) → IsAmong logs n → get image (Log n) ≡ Some bytes
+    → ReadsLog n bytes reading → StaysAsItIs reading
+
+-- What is asked of a disk of which reads give what opens so. Nothing is asked of what else a crash could leave.
+pub record MayOpenAs (disk : DiskState) (o : Opening) : Type 0 where
+  -- no log from head on was removed
+  pub logs : (m : ℕ) → o.state.head ≤ m → get disk.removed (Log m) ≡ None
+  -- a log from head on that isn't the last is durable
+  pub sealed : (m k : ℕ) (file : File) → o.state.head ≤ m → m < k → get disk.standing (Log k) ≢ None
+      → get disk.standing (Log m) ≡ Some file → IsDurable file
+  -- the tables that are named are durable
+  pub tables : (n : ℕ) (file : File) → IsNamed o.state.levels n → get disk.standing (Table n) ≡ Some file → IsDurable file
+  -- so are the logs that these lead into, and they stay as they are
+  pub led : (n : ℕ) (file : File) → IsAmong (led_into o.levels) n → get disk.standing (Log n) ≡ Some file
+      → IsDurable file × ((reading : LogReading) → ReadsLog n file.bytes reading → StaysAsItIs reading)
+
+-- A store may be opened on it. So it is with a disk that was just started with a store, and with one that an opening or a run
+-- left.
 pub record MayOpen (disk : DiskState) : Type 0 where
   pub files : AllMayStand disk
-  -- whatever a crash could leave says the same state, where both it and what a read gives open
-  pub says : (read before : Image) (o p : Opening) → IsRead read disk → Opens read (Ok o)
-      → IsLeft disk before → Opens before (Ok p) → SameState o.state p.state
-  -- what was removed is below: a manifest below one that stands,
+  -- a manifest that was removed is below one that stands
   pub manifests : (m : ℕ) → get disk.removed (Manifest m) ≢ None
       → (n : ℕ) × (m < n) × (get disk.standing (Manifest n) ≢ None)
-  -- and a log below head
-  pub logs : (read : Image) (o : Opening) → IsRead read disk → Opens read (Ok o)
-      → (m : ℕ) → o.state.head ≤ m → get disk.removed (Log m) ≡ None
-  -- a log from head on that isn't the last is durable
-  pub sealed : (read : Image) (o : Opening) → IsRead read disk → Opens read (Ok o)
-      → (m k : ℕ) (file : File) → o.state.head ≤ m → m < k → get disk.standing (Log k) ≢ None
-      → get disk.standing (Log m) ≡ Some file → (file.wholly_synced ≡ true) × (file.lasting ≡ true)
+  pub as_read : (read : Image) (o : Opening) → IsRead read disk → Opens read (Ok o) → MayOpenAs disk o

@@ -6,3 +6,5 @@ pub mod OneFinding
 pub mod OpeningLaws
 pub mod ReadImage
 pub mod HeldLaws
+pub mod TablesLaws
+pub mod Readings

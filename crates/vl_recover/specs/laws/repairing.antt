@@ -1,5 +1,6 @@
 -- Laws of what is changed.
 pub mod LastLaws
+pub mod ManifestStep
 pub mod RecoveredLaws
 pub mod RepairingOpens
 pub mod RepairingStages

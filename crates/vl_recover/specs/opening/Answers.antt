@@ -11,7 +11,7 @@ use Rattle.vl_model.specs.declared.counter.Counter.{Counter}
 use Rattle.vl_model.specs.declared.entry.Entry.{Entry}
 use Rattle.vl_model.specs.declared.log_frame.LogFrame.{LogFrame}
 use Rattle.vl_manifest.specs.declared.state.ManifestState.{ManifestState}
-use Rattle.vl_recover.specs.opening.Opening.{Opening, Opens, Refusal, StandingLogs}
+use Rattle.vl_recover.specs.opening.Opening.{FoundTable, IsAmong, IsNamed, Opening, Opens, Refusal, StandingLogs, led_into}
 use Rattle.vl_recover.specs.opening.Plans.{AreGreatest, Greatest, active_log, calls_of_opening, exhausted, log_made, new_state}
 use Rattle.vl_recover.specs.opening.Walk.{StandingLog, format_of}
 
@@ -31,6 +31,8 @@ pub record Opened : Type 0 where
   -- what the new manifest says, and its number
   pub state : ManifestState
   pub manifest : ℕ
+  -- the tables of each level that it names
+  pub levels : List (List FoundTable)
   -- the logs with frames, rising, and the number of the one without, which takes commits
   pub frozen : List HeldLog
   pub active : ℕ
@@ -53,6 +55,7 @@ opened_from found = record {
   number = found.opening.number;
   state = new_state found.greatest found.opening.state;
   manifest = found.greatest.manifest + 1;
+  levels = found.opening.levels;
   frozen = map held_log found.opening.logs;
   active = active_log found.greatest found.opening.state found.logs;
 }
@@ -113,13 +116,13 @@ IsNotOpened image =
 
 -- ---- the files that are removed
 
--- a manifest, a table, or a log below head: the new manifest needs none of them
-abbrev pub IsStrayName : (head : ℕ) → Name → Type 0
-IsStrayName head (Log number) = number < head
-IsStrayName head (Table number) = Unit {0}
-IsStrayName head (Manifest number) = Unit {0}
+-- a manifest, a table that isn't named, or a log below head that no table leads into: the new manifest needs none of them
+abbrev pub IsStrayName : Opening → Name → Type 0
+IsStrayName o (Log number) = (number < o.state.head) × (IsAmong (led_into o.levels) number → ⊥)
+IsStrayName o (Table number) = IsNamed o.state.levels number → ⊥
+IsStrayName o (Manifest number) = Unit {0}
 
--- these are the strays of an image, each once
-pub record AreStrayNames (image : Image) (head : ℕ) (names : List Name) : Type 0 where
-  pub all : (name : Name) → Contains names name ↔ (IsSome (get image name) × IsStrayName head name)
+-- these are the strays of an image that opens so, each once
+pub record AreStrayNames (image : Image) (o : Opening) (names : List Name) : Type 0 where
+  pub all : (name : Name) → Contains names name ↔ (IsSome (get image name) × IsStrayName o name)
   pub once : AllPairs (λ a b. a ≢ b) names

@@ -1,8 +1,10 @@
 -- What is looked for among the names of the files that stand.
-use Rattle.std.specs.Prelude.{ℕ, ◌≤◌, ◌<◌, Bool, true, nat_le, nat_lt, if◌then◌else◌, List, [], ◌∷◌, Contains, Option, None, Some}
+use Rattle.std.specs.Prelude.{ℕ, ◌≤◌, ◌<◌, Bool, true, false, not, ◌&&◌, ◌||◌, nat_le, nat_lt, if◌then◌else◌, List, [], ◌∷◌, Contains, Option, None, Some}
 use Rattle.vl_disk.specs.Name.{name_number}
 use Rattle.vl_disk.specs.declared.name.Name.{Name}
 use Rattle.vl_disk.specs.declared.name.Name.TheVariants.{Log, Table, Manifest}
+use Rattle.vl_manifest.specs.Levels.{is_in}
+use Rattle.vl_manifest.specs.declared.state.ManifestState.{ManifestState}
 use Rattle.vl_recover.specs.opening.Plans.{Greatest}
 
 -- ---- the greatest of each kind
@@ -62,7 +64,13 @@ AreRising (name ∷ names) = ((other : Name) → Contains names other → name_n
 
 -- ---- strays
 
-abbrev pub is_stray : ℕ → Name → Bool
-is_stray head (Log number) = nat_lt number head
-is_stray head (Table number) = true
-is_stray head (Manifest number) = true
+-- a level names this table
+abbrev pub is_named : ℕ → List (List ℕ) → Bool
+is_named table [] = false
+is_named table (tables ∷ levels) = is_in table tables || is_named table levels
+
+-- by what the manifest says, and the logs that its tables lead into
+abbrev pub is_stray : ManifestState → List ℕ → Name → Bool
+is_stray state led (Log number) = nat_lt number state.head && not (is_in number led)
+is_stray state led (Table number) = not (is_named number state.levels)
+is_stray state led (Manifest number) = true

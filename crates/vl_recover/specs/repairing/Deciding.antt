@@ -1,6 +1,6 @@
 -- What an opening decides by what it found: the new state, the new log, what becomes of the last log, and whether a
 -- number is used up.
-use Rattle.std.specs.Prelude.{◌≡◌, ℕ, ◌+◌, max, ◌==◌, if◌then◌else◌, [], ◌∷◌, map, Option, None, Some, Result, Ok, Err}
+use Rattle.std.specs.Prelude.{◌≡◌, ℕ, ◌+◌, max, ◌==◌, if◌then◌else◌, List, [], ◌∷◌, map, Option, None, Some, Result, Ok, Err}
 use Rattle.vl_disk.specs.Crash.{Image}
 use Rattle.vl_model.specs.Limits.{max_file_number}
 use Rattle.vl_model.specs.declared.counter.Counter.{Counter}
@@ -13,11 +13,14 @@ use Rattle.vl_recover.specs.repairing.Repairing.{Cut, Headed, IsPlan, Kept, NoLa
 use Rattle.vl_recover.specs.repairing.Repairing as repairing
 use Rattle.vl_recover.specs.repairing.NextLogs.{made_of, number_of}
 use Rattle.vl_recover.specs.repairing.PlanViews.{plan_view}
+use Rattle.vl_recover.specs.opening.FoundTables.{all_found}
+use Rattle.vl_recover.specs.opening.Opening.{FoundTable}
 use Rattle.vl_recover.specs.opening.Plans.{active_log, new_state, passes}
 use Rattle.vl_recover.specs.opening.Results.{recovery_by, frozen_log}
 use Rattle.vl_recover.specs.declared.fails.OpenError.{OpenError}
 use Rattle.vl_recover.specs.declared.fails.OpenError.TheVariants as why
 use Rattle.vl_recover.specs.declared.found.Findings.{Findings}
+use Rattle.vl_recover.specs.declared.found.HeldFiles.{HeldFiles}
 use Rattle.vl_recover.specs.declared.found.LastLog.{LastLog}
 use Rattle.vl_recover.specs.declared.plan.NextLog.{NextLog}
 use Rattle.vl_recover.specs.declared.plan.NextLog.TheVariants as next
@@ -94,17 +97,18 @@ pub record IsPrepared (image : Image) (prepared : Prepared) : Type 0 where
   pub plan : IsPlan finds (plan_view prepared.plan)
   pub active : prepared.active ≡ active_log finds.greatest finds.opening.state finds.logs
 
--- the store that is opened then
-abbrev pub opened_by : Prepared → Opened
-opened_by prepared = record {
+-- the store that is opened then, with these tables
+abbrev pub opened_by : Prepared → List (List FoundTable) → Opened
+opened_by prepared levels = record {
   number = prepared.number;
   state = prepared.state;
   manifest = prepared.plan.manifest;
+  levels = levels;
   frozen = map frozen_log prepared.frozen.items;
   active = prepared.active;
 }
 
--- It is ready, or that is the answer.
-abbrev pub PreparesSo : Image → Result Prepared OpenError → Type 0
-PreparesSo image (Ok prepared) = IsPrepared image prepared
+-- It is ready, with the tables opened, or that is the answer.
+abbrev pub PreparesSo : {H : Type 0} → Image → Result (Prepared × HeldFiles H) OpenError → Type 0
+PreparesSo image (Ok ready) = (is : IsPrepared image ready.0) × (all_found ready.1.levels ≡ is.finds.opening.levels)
 PreparesSo image (Err why) = AnswersBy image (recovery_by why)

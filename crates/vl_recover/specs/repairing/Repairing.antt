@@ -140,7 +140,7 @@ plan_of found strays = plan_from found.greatest found.opening.state found.logs s
 
 -- It is the plan of an opening that finds this: it removes the strays, in any order.
 pub record IsPlan {image : Image} (found : Finds image) (plan : Plan) : Type 0 where
-  pub strays : AreStrayNames image found.opening.state.head plan.strays
+  pub strays : AreStrayNames image found.opening plan.strays
   pub is : plan ≡ plan_of found plan.strays
 
 -- ---- its calls

@@ -1,16 +1,14 @@
 use Rattle.std.proofs.Common.{refl, subst, Ok, Err}
-use Rattle.vl_manifest.specs.Tables.{AnswersWithoutTables}
+use Rattle.vl_manifest.specs.Reading.{AnswersSo}
 use Rattle.vl_manifest.specs.declared.fails.StateFail.{StateFail}
-use Rattle.vl_manifest.specs.laws.TableLaws.{bare_told}
 use Rattle.vl_recover.proofs.current.read_state.Goals as goal
 
 pub returns-in-Ok-clause-says : goal.returns-in-Ok-clause-says
-returns-in-Ok-clause-says c =
-    (Ok c.in-Ok.state, bare_told c.args.number c.args.bytes.now c.in-Ok.state c.in-Ok.ensures, refl)
+returns-in-Ok-clause-says c = (Ok c.in-Ok.state, c.in-Ok.ensures, refl)
 
 pub returns-in-Err-Damaged-clause-says : goal.returns-in-Err-Damaged-clause-says
 returns-in-Err-Damaged-clause-says c = (
   Err c.in-Err-Damaged.place,
-  subst (λ (f : StateFail). AnswersWithoutTables c.args.number c.args.bytes.now (Err f)) c.in-Err-Damaged.field-0-is c.in-Err-Damaged.ensures,
+  subst (λ (f : StateFail). AnswersSo c.args.number c.args.bytes.now (Err f)) c.in-Err-Damaged.field-0-is c.in-Err-Damaged.ensures,
   refl,
 )

@@ -1,7 +1,8 @@
--- Opening depends on what leads an image and on its logs from head on.
-use Rattle.std.specs.Prelude.{◌≡◌, ◌≢◌, ◌⊎◌, ◌≤◌, ◌<◌, ℕ, ◌+◌, if◌then◌else◌, List, [], ◌∷◌, length, None, Some, Result, Ok, Err, refl, true, Bool, false, nat_le}
+-- Opening depends on what leads an image, on the tables that are named and the logs that these lead into, and on the logs
+-- from head on.
+use Rattle.std.specs.Prelude.{◌≡◌, ◌≢◌, ◌⊎◌, ◌≤◌, ◌<◌, ℕ, ◌+◌, if◌then◌else◌, List, [], ◌∷◌, length, None, Some, Result, Ok, Err, refl, true, Bool, false, nat_le, Option}
 use Rattle.std.specs.FinMap.{get}
-use Rattle.std.proofs.Common.{sym, ap, subst, ◌∙◌, arith, ⊎_elim}
+use Rattle.std.proofs.Common.{sym, ap, subst, ◌∙◌, arith, inl, inr, ⊎_elim}
 use Rattle.std.proofs.lemmas.Bool.{cases_eq}
 use Rattle.vl_disk.specs.Crash.{Image}
 use Rattle.vl_disk.specs.laws.NameMap.{same_or_other}
@@ -10,16 +11,14 @@ use Rattle.vl_disk.specs.declared.name.Name.TheVariants.{Log, Table, Manifest}
 use Rattle.vl_manifest.specs.Current.{IsCurrent, StandsReadable}
 use Rattle.vl_manifest.specs.Formats.{gone_format}
 use Rattle.vl_manifest.specs.States.{as_read}
-use Rattle.vl_manifest.specs.Tables.{SaysBareState}
-use Rattle.vl_manifest.specs.laws.TableLaws.{bare_told}
 use Rattle.vl_manifest.specs.declared.state.ManifestState.{ManifestState}
 use Rattle.vl_model.specs.declared.log_frame.LogFrame.{LogFrame}
-use Rattle.vl_recover.specs.crash.Alike.{OpensLike, SameState, ShowsAs}
+use Rattle.vl_recover.specs.crash.Alike.{OpensLike, SameNeeded, SameState, ShowsAs}
 use Rattle.vl_seglog.specs.LogReading.{LogReading, ReadsLog}
 use Rattle.vl_seglog.specs.laws.LogReadingLaws.{one_log_reading}
-use Rattle.vl_recover.specs.opening.Opening.{Bare, Current, Headless, Heading, IsBare, IsHeaded, IsNextLog, Led, LogsFrom, Newest, NewerFormat, NotAStore, Opening, Opens, Refusal, Says, StandingLogs}
-use Rattle.vl_recover.specs.laws.opening.OpeningLaws.{IsOpened, OpensBy, one_heading, opened, opens_by, some_none, some_same}
-use Rattle.vl_recover.specs.laws.repairing.StageLaws.{ok_with, then_kept}
+use Rattle.vl_recover.specs.opening.Opening.{Bare, FoundTable, Heading, Headless, IsAmong, IsBare, IsHeaded, IsNamed, IsNextLog, Led, NamedLevel, NamedLevels, NamedLogs, NamedTable, NewerFormat, Newest, NotAStore, Opening, Refusal, Says, StandingLogs, key_before, led_into}
+use Rattle.vl_recover.specs.laws.opening.OpeningLaws.{IsOpened, is_opened, opened, opening_made, some_none, some_same}
+use Rattle.vl_recover.specs.laws.repairing.StageLaws.{ok_with}
 use Rattle.vl_recover.specs.laws.opening.ContentLaws.{SameContent, same_counted, same_filled, walk_more}
 use Rattle.vl_recover.specs.opening.Walk.{StandingLog, counted_behind, counted_whole, filled, in_log, standing_log, walked, with_frames}
 
@@ -55,42 +54,120 @@ read_same format s = by (nat_le gone_format format)
     by false = record { levels = refl; head = refl; covered = refl; keep = refl; since = refl }
 
 pub shows_same : (o : Opening) → ShowsAs o o
-shows_same o = record { state = same_state o.state; logs = refl; number = refl }
+shows_same o = record { state = same_state o.state; levels = refl; logs = refl; number = refl }
 
 pub shows_then : (a b c : Opening) → ShowsAs a b → ShowsAs b c → ShowsAs a c
 shows_then a b c p q = record {
   state = state_then a.state b.state c.state p.state q.state;
+  levels = p.levels ∙ q.levels;
   logs = p.logs ∙ q.logs;
   number = p.number ∙ q.number;
 }
 
 pub like_same : (image : Image) → OpensLike image image
-like_same image o opens = (o, opens, shows_same o)
+like_same image o opens = (o, opens, shows_same o, record { tables = λ n named. refl; logs = λ n among. refl })
 
 pub like_then : (a b c : Image) → OpensLike a b → OpensLike b c → OpensLike a c
 like_then a b c p q o opens =
-    let (mid, opens_mid, as_o) = q o opens in
-    let (top, opens_top, as_mid) = p mid opens_mid in
-    (top, opens_top, shows_then top mid o as_mid as_o)
+    let (mid, opens_mid, as_o, need_o) = q o opens in
+    let (top, opens_top, as_mid, need_mid) = p mid opens_mid in
+    (
+      top,
+      opens_top,
+      shows_then top mid o as_mid as_o,
+      record {
+        tables = λ n named.
+            need_mid.tables n (subst (λ (l : List (List ℕ)). IsNamed l n) (sym as_o.state.levels) named) ∙ need_o.tables n named;
+        logs = λ n among.
+            need_mid.logs n (subst (λ (l : List (List FoundTable)). IsAmong (led_into l) n) (sym as_o.levels) among)
+            ∙ need_o.logs n among;
+      },
+    )
+
+-- ---- tables, and the logs that they lead into
+
+module _ (image other : Image) where
+  table_kept : (before : Option (List ℕ)) (n : ℕ) (t : FoundTable) → get image (Table n) ≡ get other (Table n)
+      → NamedTable other before n (Ok t) → NamedTable image before n (Ok t)
+  table_kept before n t same (stands, above) = (
+    record { numbered = stands.numbered; bytes = stands.bytes; stands = same ∙ stands.stands; reads = stands.reads },
+    above,
+  )
+
+  level_kept : (deeper : Bool) (before : Option (List ℕ)) (ns : List ℕ) (ts : List FoundTable)
+      → ((n : ℕ) → IsAmong ns n → get image (Table n) ≡ get other (Table n))
+      → NamedLevel deeper other before ns (Ok ts) → NamedLevel deeper image before ns (Ok ts)
+  level_kept deeper before [] ts same is = is
+  level_kept deeper before (n ∷ ns) ts same (t, named, (others, rest, e)) = (
+    t,
+    table_kept before n t (same n (inl refl)) named,
+    (others, level_kept deeper (key_before deeper t) ns others (λ m among. same m (inr among)) rest, e),
+  )
+
+  -- Tables read the same where they have the same bytes,
+  pub levels_kept : (deeper : Bool) (levels : List (List ℕ)) (found : List (List FoundTable))
+      → ((n : ℕ) → IsNamed levels n → get image (Table n) ≡ get other (Table n))
+      → NamedLevels deeper other levels (Ok found) → NamedLevels deeper image levels (Ok found)
+  levels_kept deeper [] found same is = is
+  levels_kept deeper (ns ∷ levels) found same (ts, named, (others, rest, e)) = (
+    ts,
+    level_kept deeper None ns ts (λ m among. same m (inl among)) named,
+    (others, levels_kept true levels others (λ m among. same m (inr among)) rest, e),
+  )
+
+  -- and so do the logs that they lead into.
+  pub led_logs_kept : (ns : List ℕ) → ((n : ℕ) → IsAmong ns n → get image (Log n) ≡ get other (Log n))
+      → NamedLogs other ns (Ok tt) → NamedLogs image ns (Ok tt)
+  led_logs_kept [] same is = is
+  led_logs_kept (n ∷ ns) same (u, (bytes, stands, header), rest) = (
+    tt,
+    (bytes, same n (inl refl) ∙ stands, header),
+    led_logs_kept ns (λ m among. same m (inr among)) rest,
+  )
+
+-- ---- opening alike
+
+-- the logs from a number on have the frames that these have, and count as they do
+pub record Alike (image : Image) (least : ℕ) (others : List StandingLog) : Type 0 where
+  pub standing : List StandingLog
+  pub stands : StandingLogs image least standing
+  pub logs : filled standing ≡ filled others
+  pub walk : (n number : ℕ) → walked n others ≡ Ok number → walked n standing ≡ Ok number
 
 -- how an image opens as an opening of another, of which this was found
-pub record OpensAs (image : Image) (o : Opening) (found : List StandingLog) : Type 0 where
+pub record OpensAs (image other : Image) (o : Opening) (found : List StandingLog) : Type 0 where
   pub heading : Heading
   pub state : ManifestState
-  pub standing : List StandingLog
+  pub headed : IsHeaded image heading
+  pub says : Says heading (Ok state)
   pub same : SameState state o.state
-  pub by : OpensBy image heading state standing o.number
-  pub logs : filled standing ≡ filled found
+  pub needed : SameNeeded image other o
+  pub alike : Alike image o.state.head found
 
--- An image that opens by the same logs, whatever leads it, opens like another.
+-- An image that opens by the same tables and logs, whatever leads it, opens like another.
 pub like_by : (image other : Image)
-    → ((o : Opening) (is : IsOpened other o) → OpensAs image o is.standing) → OpensLike image other
+    → ((o : Opening) (is : IsOpened other o) → OpensAs image other o is.standing) → OpensLike image other
 like_by image other by o opens =
     let is = opened other o opens in
-    let here = by o is in (
-      record { state = here.state; logs = filled here.standing; number = o.number },
-      opens_by image here.heading here.state here.standing o.number here.by,
-      record { state = here.same; logs = here.logs ∙ sym is.logs_are; number = refl },
+    let here = by o is in
+    let p = opening_made here.state o.levels here.alike.standing o.number in
+    (
+      p,
+      is_opened image p (record {
+        heading = here.heading;
+        headed = here.headed;
+        says = here.says;
+        levels = subst (λ (l : List (List ℕ)). NamedLevels false image l (Ok o.levels)) (sym here.same.levels)
+            (levels_kept image other false o.state.levels o.levels here.needed.tables is.levels);
+        led = led_logs_kept image other (led_into o.levels) here.needed.logs is.led;
+        standing = here.alike.standing;
+        stands = subst (λ (n : ℕ). StandingLogs image n here.alike.standing) (sym here.same.head) here.alike.stands;
+        walk = ap (λ (n : ℕ). walked n here.alike.standing) here.same.covered
+            ∙ here.alike.walk o.state.covered o.number is.walk;
+        logs_are = refl;
+      }),
+      record { state = here.same; levels = refl; logs = here.alike.logs ∙ sym is.logs_are; number = refl },
+      here.needed,
     )
 
 -- ---- what leads
@@ -108,6 +185,12 @@ log_same m n e = cc
 pub record SameLead (image other : Image) : Type 0 where
   pub there : (n : ℕ) (bytes : List ℕ) → StandsReadable other n bytes → StandsReadable image n bytes
   pub back : (n : ℕ) (bytes : List ℕ) → StandsReadable image n bytes → StandsReadable other n bytes
+
+pub same_lead : (image other : Image) → ((n : ℕ) → get image (Manifest n) ≡ get other (Manifest n)) → SameLead image other
+same_lead image other same = record {
+  there = λ n bytes r. record { stands = same n ∙ r.stands; readable = r.readable };
+  back = λ n bytes r. record { stands = sym (same n) ∙ r.stands; readable = r.readable };
+}
 
 -- but for one name the images are the same
 abbrev pub SameBut : Name → Image → Image → Type 0
@@ -201,13 +284,17 @@ LastIsWhole least image = (number : ℕ) (bytes : List ℕ) (reading : LogReadin
     → get image (Log number) ≡ Some bytes → ReadsLog number bytes reading → NoLogAbove number image
     → reading.whole ≡ true
 
--- The logs from a number on have the frames that these have, and count as they do.
-pub record Alike (image : Image) (least : ℕ) (others : List StandingLog) : Type 0 where
+-- Logs from a number on are alike, and there are some.
+pub record AlikeSome (image : Image) (least : ℕ) (others : List StandingLog) : Type 0 where
   pub first : StandingLog
   pub behind : List StandingLog
   pub standing : StandingLogs image least (first ∷ behind)
   pub logs : filled (first ∷ behind) ≡ filled others
   pub walk : (n number : ℕ) → walked n others ≡ Ok number → walked n (first ∷ behind) ≡ Ok number
+
+pub alike_some : (image : Image) (least : ℕ) (others : List StandingLog) → AlikeSome image least others → Alike image least others
+alike_some image least others a =
+    record { standing = a.first ∷ a.behind; stands = a.standing; logs = a.logs; walk = a.walk }
 
 module _ (image other : Image) where
   next_kept : (least : ℕ) (log : StandingLog)
@@ -236,7 +323,7 @@ module _ (image other : Image) where
   -- a log that is the same before others that are alike
   behind_one : (least : ℕ) (q p : StandingLog) (ps : List StandingLog)
       → ((m : ℕ) → least ≤ m → m < q.number + 1 → get image (Log m) ≡ get other (Log m))
-      → IsNextLog other least q → Alike image (q.number + 1) (p ∷ ps) → Alike image least (q ∷ p ∷ ps)
+      → IsNextLog other least q → AlikeSome image (q.number + 1) (p ∷ ps) → AlikeSome image least (q ∷ p ∷ ps)
   behind_one least q p ps same next rest = record {
     first = q;
     behind = rest.first ∷ rest.behind;
@@ -252,7 +339,7 @@ module _ (image other : Image) where
 
     -- Logs are alike of which only the last one reads otherwise, with the same frames.
     pub last_alike : SameFrames image other k → (least : ℕ) (logs : List StandingLog) → least ≤ k
-        → StandingLogs other least logs → Alike image least logs
+        → StandingLogs other least logs → AlikeSome image least logs
     last_alike both least [] from none = absurd (some_none both.was (sym both.stood ∙ none k from))
     last_alike both least (q ∷ []) from (next, none) =
         let not_less : k < q.number → ⊥ =
@@ -301,7 +388,7 @@ module _ (image other : Image) where
 
     -- Logs are alike where one without frames stands behind them more, and the last of them is whole.
     pub one_more : NewLog image other k → (least : ℕ) (logs : List StandingLog) → least ≤ k
-        → StandingLogs other least logs → LastIsWhole least other → Alike image least logs
+        → StandingLogs other least logs → LastIsWhole least other → AlikeSome image least logs
     one_more new least [] from none whole = record {
       first = standing_log k new.bytes new.reading;
       behind = [];
@@ -369,57 +456,16 @@ module _ (image other : Image) where
 pub no_state : {S : Type 0} (s : S) (why : Refusal) → ◌≡◌ {A = Result S Refusal} (Ok s) (Err why) → ⊥
 no_state s why e = cc
 
--- the log with this number stands in neither image, or reads the same in both
-pub data SameLog (image other : Image) (m : ℕ) : Type 0 where
-  neither : get image (Log m) ≡ None → get other (Log m) ≡ None → SameLog image other m
-  both : (now was : List ℕ) → get image (Log m) ≡ Some now → get other (Log m) ≡ Some was
-      → length now ≡ length was → ((r : LogReading) → ReadsLog m was r → ReadsLog m now r) → SameLog image other m
-
 module _ (image other : Image) where
-  not_there : (m : ℕ) → SameLog image other m → get other (Log m) ≡ None → get image (Log m) ≡ None
-  not_there m (neither now was) none = now
-  not_there m (both now was stands stood size reads) none = absurd (some_none was (sym stood ∙ none))
-
-  next_there : (least : ℕ) (log : StandingLog) → ((m : ℕ) → least ≤ m → SameLog image other m)
-      → IsNextLog other least log → IsNextLog image least log
-  next_there least log same next = by (same log.number next.from)
-    where
-      by : SameLog image other log.number → IsNextLog image least log
-      by (neither now was) = absurd (some_none next.bytes (sym next.stands ∙ was))
-      by (both now was stands stood size reads) =
-          let bytes : next.bytes ≡ was = some_same next.bytes was (sym next.stands ∙ stood) in
-          record {
-            from = next.from;
-            between = λ m from less. not_there m (same m from) (next.between m from less);
-            bytes = now;
-            stands = stands;
-            length_is = next.length_is ∙ ap length bytes ∙ sym size;
-            reads = reads log.reading (subst (λ (x : List ℕ). ReadsLog log.number x log.reading) bytes next.reads);
-          }
-
-  logs_agree : (least : ℕ) (logs : List StandingLog) → ((m : ℕ) → least ≤ m → SameLog image other m)
-      → StandingLogs other least logs → StandingLogs image least logs
-  logs_agree least [] same none = λ m from. not_there m (same m from) (none m from)
-  logs_agree least (log ∷ logs) same (next, rest) =
-      let from = next.from in (
-        next_there least log same next,
-        logs_agree (log.number + 1) logs (λ m above. same m (omega (arith, from, above))) rest,
-      )
-
-  says_as : (n : ℕ) (bytes : List ℕ) → IsCurrent other n bytes → (r : Result ManifestState Refusal)
-      → Current other r → Says (Led n bytes) r
-  says_as n bytes was r (h, headed, says) =
-      subst (λ (x : Heading). Says x r) (one_heading other h (Led n bytes) headed was) says
-
-  -- Images with one current manifest and the same logs from its head on open the same, and refuse the same.
-  pub agree_opens : (n : ℕ) (bytes : List ℕ) → IsCurrent other n bytes → IsCurrent image n bytes
-      → ((s : ManifestState) → Says (Led n bytes) (Ok s) → (m : ℕ) → s.head ≤ m → SameLog image other m)
-      → (r : Result Opening Refusal) → Opens other r → Opens image r
-  agree_opens n bytes was now logs =
-      then_kept (Current other) (Current image) (LogsFrom other) (LogsFrom image)
-      (λ r c. (Led n bytes, now, says_as n bytes was r c))
-      (λ s c r (standing, stood, is).
-      (standing, logs_agree s.head standing (logs s (says_as n bytes was (Ok s) c)) stood, is))
+  -- the same logs are alike
+  pub logs_alike : (least : ℕ) (logs : List StandingLog) → ((m : ℕ) → least ≤ m → get image (Log m) ≡ get other (Log m))
+      → StandingLogs other least logs → Alike image least logs
+  logs_alike least logs same stands = record {
+    standing = logs;
+    stands = standing_kept image other least logs same stands;
+    logs = refl;
+    walk = λ n number e. e;
+  }
 
   -- An image opens like one in which the same manifests can be read, and the same logs and tables stand.
   pub like_lead : SameLead image other → ((m : ℕ) → get image (Log m) ≡ get other (Log m))
@@ -427,15 +473,11 @@ module _ (image other : Image) where
   like_lead same logs tables = like_by image other (λ o is. record {
     heading = is.heading;
     state = o.state;
-    standing = is.standing;
+    headed = heads o is.heading is.headed is.says;
+    says = is.says;
     same = same_state o.state;
-    by = record {
-      headed = heads o is.heading is.by.headed is.by.says;
-      says = is.by.says;
-      standing = standing_kept image other o.state.head is.standing (λ m from. logs m) is.by.standing;
-      walk = is.by.walk;
-    };
-    logs = refl;
+    needed = record { tables = λ n named. tables n; logs = λ n among. logs n };
+    alike = logs_alike o.state.head is.standing (λ m from. logs m) is.stands;
   })
     where
       heads : (o : Opening) (h : Heading) → IsHeaded other h → Says h (Ok o.state) → IsHeaded image h
@@ -444,49 +486,17 @@ module _ (image other : Image) where
       heads o Headless headed says = absurd (no_state o.state NotAStore says)
       heads o (Newest format) headed says = absurd (no_state o.state (NewerFormat format) says)
 
-  -- An image opens like one with the same current manifest whose logs from head on are alike.
-  pub like_logs : (n : ℕ) (bytes : List ℕ) → IsCurrent other n bytes → IsCurrent image n bytes
-      → ((s : ManifestState) (logs : List StandingLog) → Says (Led n bytes) (Ok s)
-      → StandingLogs other s.head logs → Alike image s.head logs) → OpensLike image other
-  like_logs n bytes was now alike = like_by image other
-      (λ o is. by o is (alike o.state is.standing (says o is) is.by.standing))
-    where
-      says : (o : Opening) → IsOpened other o → Says (Led n bytes) (Ok o.state)
-      says o is = says_as n bytes was (Ok o.state) (is.heading, is.by.headed, is.by.says)
-
-      by : (o : Opening) (is : IsOpened other o) → Alike image o.state.head is.standing → OpensAs image o is.standing
-      by o is a = record {
-        heading = Led n bytes;
-        state = o.state;
-        standing = a.first ∷ a.behind;
-        same = same_state o.state;
-        by = record {
-          headed = now;
-          says = says o is;
-          standing = a.standing;
-          walk = a.walk o.state.covered o.number is.by.walk;
-        };
-        logs = a.logs;
-      }
-
-  -- An image whose current manifest says what the other's said opens like it, where the logs are the same.
-  pub like_new : (n : ℕ) (bytes : List ℕ) (s : ManifestState) → SaysBareState n bytes s → IsCurrent image n bytes
+  -- An image whose heading says what the other opened by opens like it, where logs and tables are the same.
+  pub like_new : (h : Heading) (s : ManifestState) → IsHeaded image h → Says h (Ok s)
       → ((o : Opening) → IsOpened other o → SameState s o.state)
-      → ((m : ℕ) → get image (Log m) ≡ get other (Log m)) → OpensLike image other
-  like_new n bytes s says now same logs = like_by image other (λ o is. by o is (same o is))
-    where
-      by : (o : Opening) (is : IsOpened other o) → SameState s o.state → OpensAs image o is.standing
-      by o is as_o = record {
-        heading = Led n bytes;
-        state = s;
-        standing = is.standing;
-        same = as_o;
-        by = record {
-          headed = now;
-          says = (Ok s, bare_told n bytes s says, refl);
-          standing = subst (λ (k : ℕ). StandingLogs image k is.standing) (sym as_o.head)
-              (standing_kept image other o.state.head is.standing (λ m from. logs m) is.by.standing);
-          walk = ap (λ (k : ℕ). walked k is.standing) as_o.covered ∙ is.by.walk;
-        };
-        logs = refl;
-      }
+      → ((m : ℕ) → get image (Log m) ≡ get other (Log m))
+      → ((m : ℕ) → get image (Table m) ≡ get other (Table m)) → OpensLike image other
+  like_new h s headed says same logs tables = like_by image other (λ o is. record {
+    heading = h;
+    state = s;
+    headed = headed;
+    says = says;
+    same = same o is;
+    needed = record { tables = λ n named. tables n; logs = λ n among. logs n };
+    alike = logs_alike o.state.head is.standing (λ m from. logs m) is.stands;
+  })

@@ -1,4 +1,5 @@
--- A held store whose last log takes one frame more: what a crash leaves meanwhile, and what the disk holds then.
+-- A held store whose last log takes one frame more: what a crash leaves meanwhile, and what the disk holds then. No table
+-- leads into that log.
 use Rattle.std.specs.Prelude.{Bool, ◌≡◌, ◌≢◌, ◌⊎◌, ◌≤◌, ◌<◌, ℕ, ◌+◌, ◌==◌, List, [], ◌∷◌, ◌++◌, length, map, take, Option, None, Some, Result, Ok, Err, refl, true, if◌then◌else◌}
 use Rattle.std.specs.FinMap.{get}
 use Rattle.std.specs.List.{AllByRecursion, sum_by}
@@ -27,15 +28,15 @@ use Rattle.vl_model.specs.declared.log_frame.LogFrame.TheVariants.{Committed}
 use Rattle.vl_recover.specs.crash.Alike.{IsLeft, Spells}
 use Rattle.vl_recover.specs.laws.crash.AlikeLaws.{log_manifest, log_same}
 use Rattle.vl_recover.specs.opening.Walk.{standing_log}
-use Rattle.vl_recover.specs.crash.Held.{AllSettled, HoldsLogs, HoldsManifest, HoldsStore, IsNowhere, IsSettled}
-use Rattle.vl_recover.specs.laws.opening.HeldLaws.{AreSealed, held_current, held_may_open, held_opens, held_says, left_nowhere, left_settled, may_open_by, none_removed, settled_may_stand}
+use Rattle.vl_recover.specs.crash.Held.{AllSettled, HoldsLogs, HoldsManifest, HoldsStore, IsNowhere, IsSettled, Needs, View}
+use Rattle.vl_recover.specs.laws.opening.HeldLaws.{AreSealed, held_current, held_may_open, held_opens, held_says, left_nowhere, left_settled, may_open_by, needs_image, needs_led, none_removed, settled_may_stand}
 use Rattle.vl_recover.specs.crash.Held.{GoOn, log_as_held, opening_held}
-use Rattle.vl_recover.specs.laws.opening.LeadsLaws.{nowhere_kept}
+use Rattle.vl_recover.specs.laws.opening.LeadsLaws.{needs_kept, nowhere_kept, unled_unneeded}
 use Rattle.vl_recover.specs.laws.crash.OneName.{elsewhere_then}
-use Rattle.vl_recover.specs.opening.Opening.{Led, Opens, StandingLogs}
-use Rattle.vl_recover.specs.laws.opening.OpeningLaws.{opens_by, some_same}
+use Rattle.vl_recover.specs.opening.Opening.{IsAmong, Led, Opens, StandingLogs, led_into}
+use Rattle.vl_recover.specs.laws.opening.OpeningLaws.{is_opened, some_same}
 use Rattle.vl_recover.specs.laws.repairing.StageLaws.{err_ok, ok_same, ok_with}
-use Rattle.vl_recover.specs.crash.Starts.{AllMayStand, MayOpen, MayStand}
+use Rattle.vl_recover.specs.crash.Starts.{AllMayStand, AllStay, MayOpen, MayStand}
 use Rattle.vl_recover.specs.opening.Stages.{on_ok}
 use Rattle.vl_recover.specs.laws.crash.TornFrames.{due_as_read, frame_behind, headed_front, torn_log, torn_says}
 use Rattle.vl_recover.specs.opening.Walk.{LogDamage, StandingLog, counted, counted_behind, counted_frame, counted_whole, filled, in_log, walked, walked_on, with_frames}
@@ -236,10 +237,10 @@ goes_on covered before last f number next goes one =
 -- ---- while the frame is appended and made durable
 
 -- the image opens with the logs before the frame, or with those that have it
-abbrev pub OpensEither : ManifestState → List Segment → Segment → LogFrame → (number next : ℕ) → Image → Type 0
-OpensEither state before last f number next image =
-    Opens image (Ok (opening_held state (before ++ last ∷ []) number))
-    ⊎ Opens image (Ok (opening_held state (before ++ with_frame f last ∷ []) next))
+abbrev pub OpensEither : ManifestState → View → List Segment → Segment → LogFrame → (number next : ℕ) → Image → Type 0
+OpensEither state view before last f number next image =
+    Opens image (Ok (opening_held state view (before ++ last ∷ []) number))
+    ⊎ Opens image (Ok (opening_held state view (before ++ with_frame f last ∷ []) next))
 
 have_more : (format : ℕ) (fs : List LogFrame) (f : LogFrame)
     → AllByRecursion (HasFrame (frames_grammar format)) fs
@@ -247,9 +248,16 @@ have_more : (format : ℕ) (fs : List LogFrame) (f : LogFrame)
 have_more format [] f have has = (has, tt)
 have_more format (g ∷ fs) f have has = (have.0, have_more format fs f have.1 has)
 
+-- what a state needs is durable as before where the log of this number changes, if no table leads into it
+pub needs_beside : (state : ManifestState) (view : View) (log : ℕ) (disk now : DiskState)
+    → (IsAmong (led_into view.levels) log → ⊥) → SameElsewhere (Log log) disk now → Needs state view disk → Needs state view now
+needs_beside state view log disk now unled same needs =
+    needs_kept state view (Log log) disk now same (unled_unneeded state view log unled) needs
+
 -- of a disk that holds a store, and a frame for its last log
-module _ (state : ManifestState) (before : List Segment) (last : Segment) (f : LogFrame) (disk : DiskState)
-    (holds : HoldsStore state (before ++ last ∷ []) disk) (has : HasFrame (frames_grammar last.format) f) where
+module _ (state : ManifestState) (view : View) (before : List Segment) (last : Segment) (f : LogFrame) (disk : DiskState)
+    (holds : HoldsStore state view (before ++ last ∷ []) disk) (unled : IsAmong (led_into view.levels) last.number → ⊥)
+    (has : HasFrame (frames_grammar last.format) f) where
   abbrev name : Name
   name = Log last.number
 
@@ -303,9 +311,10 @@ module _ (state : ManifestState) (before : List Segment) (last : Segment) (f : L
       (same_or_other q name)
 
   -- After both calls the disk holds the store with the frame.
-  pub append_holds : HoldsStore state (before ++ with_frame f last ∷ []) durable
+  pub append_holds : HoldsStore state view (before ++ with_frame f last ∷ []) durable
   append_holds = record {
     manifest = manifest_kept last.number state disk durable durable_elsewhere holds.manifest;
+    needs = needs_beside state view last.number disk durable unled durable_elsewhere holds.needs;
     logs_are = logs_with state.head before last (with_frame f last) disk durable refl durable_elsewhere
         here.is_read (have_more last.format last.frames f here.have has) durable_there holds.logs_are;
     durable = durable_settled;
@@ -345,7 +354,7 @@ module _ (state : ManifestState) (before : List Segment) (last : Segment) (f : L
       → (s : Segment) → s.number ≡ last.number → s.format ≡ last.format
       → SaysFrames last.format last.number bytes s.frames
       → (n : ℕ) → GoOn state.covered (before ++ s ∷ []) n
-      → Opens image (Ok (opening_held state (before ++ s ∷ []) n))
+      → Opens image (Ok (opening_held state view (before ++ s ∷ []) n))
   opens_with taken image may bytes is s same format says n goes =
       let held = manifest_kept last.number state disk (torn taken) (torn_elsewhere taken) holds.manifest in
       let found = standing_log last.number bytes (record { header = Some last.format; frames = s.frames; whole = says.0 }) in
@@ -361,21 +370,26 @@ module _ (state : ManifestState) (before : List Segment) (last : Segment) (f : L
       let filled_same : filled logs ≡ filled (map log_as_held (before ++ s ∷ [])) =
       filled_with found (log_as_held s) (sym same) (ap Some (sym format)) refl (map log_as_held before)
       ∙ ap filled (sym (logs_as_held before s)) in
-      subst (λ (l : List Segment). Opens image (Ok (record { state = state; logs = l; number = n }))) filled_same
-      (opens_by image (Led held.number held.bytes) state logs n (record {
+      let needs = needs_beside state view last.number disk (torn taken) unled (torn_elsewhere taken) holds.needs in
+      is_opened image (opening_held state view (before ++ s ∷ []) n) (record {
+        heading = Led held.number held.bytes;
         headed = held_current state (torn taken) held image may;
         says = held_says state (torn taken) held;
-        standing = standing;
+        levels = needs_image state view (torn taken) image needs may;
+        led = needs_led state view (torn taken) image needs may;
+        standing = logs;
+        stands = standing;
         walk = walk;
-      }))
+        logs_are = sym filled_same;
+      })
 
   module _ (number next : ℕ) (goes : GoOn state.covered (before ++ last ∷ []) number)
       (goes_too : GoOn state.covered (before ++ with_frame f last ∷ []) next) where
     torn_leaves : (taken : ℕ) (image : Image) → IsLeft (torn taken) image
-        → OpensEither state before last f number next image
+        → OpensEither state view before last f number next image
     torn_leaves taken image left = by (torn_left taken image left)
       where
-        by : IsTorn image → OpensEither state before last f number next image
+        by : IsTorn image → OpensEither state view before last f number next image
         by (bytes, is, either) = ⊎_elim
             (λ (says : SaysFrames last.format last.number bytes last.frames).
             inl (opens_with taken image left.left bytes is last refl refl says number goes))
@@ -385,9 +399,9 @@ module _ (state : ManifestState) (before : List Segment) (last : Segment) (f : L
 
     -- Whatever a crash leaves while the frame is appended opens with the logs before, or with the frame.
     pub append_leaves : (now : DiskState) → WhileAppending name frame disk now → (image : Image) → IsLeft now image
-        → OpensEither state before last f number next image
+        → OpensEither state view before last f number next image
     append_leaves now during image left = ⊎_elim
-        (λ (same : now ≡ disk). inl (held_opens state (before ++ last ∷ []) number disk holds goes image
+        (λ (same : now ≡ disk). inl (held_opens state view (before ++ last ∷ []) disk holds number goes image
         (subst (λ (d : DiskState). MayLeave d image) same left.left)))
         (λ (part : (taken : ℕ) × (taken ≤ length frame) × (now ≡ torn taken)).
         torn_leaves part.0 image (subst (λ (d : DiskState). IsLeft d image) part.2 left))
@@ -396,18 +410,18 @@ module _ (state : ManifestState) (before : List Segment) (last : Segment) (f : L
     -- So does whatever it leaves while the frame is made durable.
     pub sync_leaves : (now : DiskState) → WhileSyncing name (torn (length frame)) now → (image : Image)
         → IsLeft now image
-        → OpensEither state before last f number next image
+        → OpensEither state view before last f number next image
     sync_leaves now during image left = ⊎_elim
         (λ (same : now ≡ torn (length frame)).
         torn_leaves (length frame) image (subst (λ (d : DiskState). IsLeft d image) same left))
         (λ (synced_now : now ≡ durable).
-        inr (held_opens state (before ++ with_frame f last ∷ []) next durable append_holds goes_too image
+        inr (held_opens state view (before ++ with_frame f last ∷ []) durable append_holds next goes_too image
         (subst (λ (d : DiskState). MayLeave d image) synced_now left.left)))
         during
 
   -- ---- the same disk is opened again
 
-  module _ (lawful : IsLawful disk) (active : last.format ≡ log_format) where
+  module _ (lawful : IsLawful disk) (active : last.format ≡ log_format) (stay : AllStay view.image (led_into view.levels)) where
     -- the header of the log stands, so that none is wrong
     torn_headed : (taken : ℕ) → HasHeader log_format last.number (torn_log last.format last.number last.frames f taken).bytes
     torn_headed taken = subst
@@ -450,8 +464,9 @@ module _ (state : ManifestState) (before : List Segment) (last : Segment) (f : L
 
     torn_may_open : (taken : ℕ) → MayOpen (torn taken)
     torn_may_open taken =
-        may_open_by state (torn taken) (appended_lawful disk lawful name frame taken)
+        may_open_by state view (torn taken) (appended_lawful disk lawful name frame taken)
         (manifest_kept last.number state disk (torn taken) (torn_elsewhere taken) holds.manifest)
+        (needs_beside state view last.number disk (torn taken) unled (torn_elsewhere taken) holds.needs) stay
         (none_removed state.head (before ++ last ∷ []) disk lawful holds.logs_are) (torn_all_stand taken)
         (torn_sealed taken)
 
@@ -459,7 +474,7 @@ module _ (state : ManifestState) (before : List Segment) (last : Segment) (f : L
     pub append_may_open : (now : DiskState) → WhileAppending name frame disk now → MayOpen now
     append_may_open now during = ⊎_elim
         (λ (same : now ≡ disk).
-        subst MayOpen (sym same) (held_may_open state (before ++ last ∷ []) disk lawful holds))
+        subst MayOpen (sym same) (held_may_open state view (before ++ last ∷ []) disk lawful holds stay))
         (λ (part : (taken : ℕ) × (taken ≤ length frame) × (now ≡ torn taken)).
         subst MayOpen (sym part.2) (torn_may_open part.0))
         during
@@ -469,7 +484,7 @@ module _ (state : ManifestState) (before : List Segment) (last : Segment) (f : L
     sync_may_open now during = ⊎_elim
         (λ (same : now ≡ torn (length frame)). subst MayOpen (sym same) (torn_may_open (length frame)))
         (λ (synced_now : now ≡ durable). subst MayOpen (sym synced_now)
-        (held_may_open state (before ++ with_frame f last ∷ []) durable
+        (held_may_open state view (before ++ with_frame f last ∷ []) durable
         (synced_lawful (torn (length frame)) (appended_lawful disk lawful name frame (length frame)) name)
-        append_holds))
+        append_holds stay))
         during

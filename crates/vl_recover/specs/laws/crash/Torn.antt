@@ -10,12 +10,11 @@ use Rattle.vl_disk.specs.declared.name.Name.{Name}
 use Rattle.vl_disk.specs.declared.name.Name.TheVariants.{Log, Manifest, Table}
 use Rattle.vl_frame.specs.laws.HeaderLaws.{length-header_bytes}
 use Rattle.vl_frame.specs.laws.RunLaws.{frame_is_some, none_at_end, one_front}
-use Rattle.vl_frame.specs.Runs.{StandsAt, StandsNone, item_frame}
+use Rattle.vl_frame.specs.Runs.{HasFrame, StandsAt, StandsNone, item_frame}
 use Rattle.vl_frame.specs.declared.kinds.FileKind.TheVariants as files
 use Rattle.vl_manifest.specs.Grammar.{edits_grammar}
-use Rattle.vl_manifest.specs.Levels.{no_tables}
 use Rattle.vl_manifest.specs.Manifest.{IsReadable, manifest_bytes, manifest_header}
-use Rattle.vl_manifest.specs.laws.MadeLaws.{SaysAsRead, bare_has_frame, made_or_not}
+use Rattle.vl_manifest.specs.laws.MadeLaws.{SaysAsRead, made_or_not}
 use Rattle.vl_manifest.specs.laws.StateLaws.{IsInRange}
 use Rattle.vl_manifest.specs.States.{whole_edits}
 use Rattle.vl_manifest.specs.declared.edit.Edit.{Edit}
@@ -132,7 +131,14 @@ part_frames name piece file part bytes only =
 
 -- ---- the new manifest
 
-module _ (number : ℕ) (s : ManifestState) (fits : number < 2 ^ 32) (range : IsInRange s) (bare : s.levels ≡ no_tables) where
+-- The state can be written as a manifest's first frame.
+pub record CanWrite (number : ℕ) (s : ManifestState) : Type 0 where
+  pub fits : number < 2 ^ 32
+  pub range : IsInRange s
+  -- the frame is short enough, else memory is said to be wanting
+  pub has : HasFrame (edits_grammar manifest_format) (whole_edits s)
+
+module _ (number : ℕ) (s : ManifestState) (can : CanWrite number s) where
   abbrev new_manifest : List ℕ
   new_manifest = manifest_bytes number (whole_edits s ∷ [])
 
@@ -147,7 +153,7 @@ module _ (number : ℕ) (s : ManifestState) (fits : number < 2 ^ 32) (range : Is
   pub torn_manifest : (file : File) → IsPart new_manifest file → (bytes : List ℕ)
       → NoChanceOne Spells (Manifest number) (Some file) (Some bytes)
       → (IsReadable number bytes → ⊥) ⊎ SaysAsRead number bytes s
-  torn_manifest file part bytes chance = made_or_not number s bare bytes fits range torn
+  torn_manifest file part bytes chance = made_or_not number s can.has bytes can.fits can.range torn
     where
       frames : ((frame : List ℕ) → Spells (Manifest number) bytes 16 frame
           → take (length frame) (drop 16 new_manifest) ≡ frame)
@@ -172,7 +178,7 @@ module _ (number : ℕ) (s : ManifestState) (fits : number < 2 ^ 32) (range : Is
               ∙ frames.0 (item_frame (edits_grammar manifest_format) number 16 edits) (edits, rest, stands, refl)
 
           same : edits ≡ whole_edits s
-          same = one_front (edits_grammar manifest_format) number 16 (whole_edits s) edits (bare_has_frame s bare range)
+          same = one_front (edits_grammar manifest_format) number 16 (whole_edits s) edits can.has
               (record { lawful = stands.lawful; short = stands.short }) front
 
           at : ℕ

@@ -1,29 +1,29 @@
 -- What a crash leaves of a disk that holds a store opens as that store, which may be opened again on the same
 -- disk.
-use Rattle.std.specs.Prelude.{◌≡◌, ◌≢◌, ◌⊎◌, ◌≤◌, ◌<◌, ℕ, ◌+◌, List, [], ◌∷◌, length, map, Option, None, Some, Ok, refl, true}
+use Rattle.std.specs.Prelude.{◌≡◌, ◌≢◌, ◌⊎◌, ◌≤◌, ◌<◌, ℕ, ◌+◌, List, [], ◌∷◌, length, map, Option, None, Some, Ok, refl, true, false}
 use Rattle.std.specs.FinMap.{get}
 use Rattle.std.specs.Option.{option_map}
-use Rattle.std.proofs.Common.{sym, ap, subst, ◌∙◌, arith, ⊎_elim}
+use Rattle.std.proofs.Common.{sym, ap, subst, ◌∙◌, arith, inl, inr, ⊎_elim}
 use Rattle.std.proofs.lemmas.Bool.{cases_lt, true≢false}
 use Rattle.std.proofs.lemmas.List.Elements.{All-nil}
 use Rattle.vl_disk.specs.Crash.{Image, MayLeave, MayLeaveOne}
 use Rattle.vl_disk.specs.DiskState.{DiskState, File, IsLawful, Piece, settled}
 use Rattle.vl_disk.specs.Started.{IsRead, Started, read_left, started_left}
 use Rattle.vl_disk.specs.declared.name.Name.{Name}
-use Rattle.vl_disk.specs.declared.name.Name.TheVariants.{Log, Manifest}
+use Rattle.vl_disk.specs.declared.name.Name.TheVariants.{Log, Manifest, Table}
 use Rattle.vl_layout.specs.declared.segment.Segment.{Segment}
 use Rattle.vl_manifest.specs.Current.{IsCurrent, StandsReadable}
 use Rattle.vl_manifest.specs.laws.ManifestLaws.{says_readable}
-use Rattle.vl_manifest.specs.laws.TableLaws.{bare_told}
 use Rattle.vl_manifest.specs.declared.state.ManifestState.{ManifestState}
-use Rattle.vl_recover.specs.crash.Alike.{SameState}
-use Rattle.vl_recover.specs.laws.crash.AlikeLaws.{same_state}
-use Rattle.vl_recover.specs.crash.Held.{AllSettled, GoOn, HoldsLogs, HoldsManifest, HoldsStore, IsNowhere, IsSettled, log_as_held, opening_held}
-use Rattle.vl_recover.specs.opening.Opening.{Led, Opening, Opens, Refusal, Says, StandingLogs}
-use Rattle.vl_recover.specs.laws.opening.OpeningLaws.{IsOpened, opened, opens_by, single_opening, single_says, one_heading, some_none, some_same}
+use Rattle.vl_recover.specs.laws.crash.AlikeLaws.{led_logs_kept, levels_kept, log_same}
+use Rattle.vl_recover.specs.crash.Held.{AllSettled, DurableAs, GoOn, HoldsLogs, HoldsManifest, HoldsStore, IsNowhere, IsSettled, Needs, View, log_as_held, opening_held}
+use Rattle.vl_recover.specs.opening.Opening.{FoundTable, IsAmong, IsNamed, Led, NamedLevels, NamedLogs, Opening, Opens, Refusal, Says, StandingLogs, led_into}
+use Rattle.vl_recover.specs.laws.opening.OpeningLaws.{IsOpened, is_opened, opened, one_heading, single_says, some_none, some_same}
+use Rattle.vl_recover.specs.laws.opening.TablesLaws.{single_levels}
 use Rattle.vl_recover.specs.laws.repairing.StageLaws.{ok_same}
-use Rattle.vl_recover.specs.crash.Starts.{AllMayStand, MayOpen, MayStand}
+use Rattle.vl_recover.specs.crash.Starts.{AllMayStand, AllStay, IsDurable, MayOpen, MayOpenAs, MayStand, StaysAsItIs}
 use Rattle.vl_seglog.specs.Frames.{log_bytes}
+use Rattle.vl_seglog.specs.LogReading.{LogReading, ReadsLog}
 use Rattle.vl_seglog.specs.laws.LogReadingLaws.{reads_written}
 
 -- ---- what is left of one name
@@ -58,7 +58,7 @@ module _ (state : ManifestState) (disk : DiskState) (holds : HoldsManifest state
   held_current image may = record {
     here = record {
       stands = left_settled disk image (Manifest holds.number) holds.bytes holds.stands may;
-      readable = says_readable holds.number holds.bytes state holds.says.says;
+      readable = says_readable holds.number holds.bytes state holds.says;
     };
     greatest = λ other bytes r. not_above other bytes r (cases_lt holds.number other);
   }
@@ -72,7 +72,7 @@ module _ (state : ManifestState) (disk : DiskState) (holds : HoldsManifest state
           either
 
   pub held_says : Says (Led holds.number holds.bytes) (Ok state)
-  held_says = (Ok state, bare_told holds.number holds.bytes state holds.says, refl)
+  held_says = (Ok state, holds.says, refl)
 
   -- Whatever is left opens with its state, if it opens.
   pub held_state : (image : Image) (o : Opening) → MayLeave disk image → Opens image (Ok o) → o.state ≡ state
@@ -80,17 +80,11 @@ module _ (state : ManifestState) (disk : DiskState) (holds : HoldsManifest state
     where
       by : IsOpened image o → o.state ≡ state
       by is =
-          let heading = one_heading image is.heading (Led holds.number holds.bytes) is.by.headed
+          let heading = one_heading image is.heading (Led holds.number holds.bytes) is.headed
           (held_current image may) in
-          let says = subst (λ h. Says h (Ok o.state)) heading is.by.says in
+          let says = subst (λ h. Says h (Ok o.state)) heading is.says in
           ok_same {E = Refusal} o.state state
           (single_says (Led holds.number holds.bytes) (Ok o.state) (Ok state) says held_says)
-
-  held_same : (image other : Image) (o p : Opening) → MayLeave disk image → Opens image (Ok o)
-      → MayLeave disk other → Opens other (Ok p) → SameState o.state p.state
-  held_same image other o p may opens may_too opens_too =
-      subst (SameState o.state) (held_state image o may opens ∙ sym (held_state other p may_too opens_too))
-      (same_state o.state)
 
 -- ---- the logs
 
@@ -110,24 +104,45 @@ held_standing least (s ∷ ss) disk image (from, between, is_read, have, stands,
   held_standing (s.number + 1) ss disk image rest may,
 )
 
--- Whatever a crash leaves of a disk that holds a store opens as it.
-pub held_opens : (state : ManifestState) (logs : List Segment) (number : ℕ) (disk : DiskState)
-    → HoldsStore state logs disk → GoOn state.covered logs number
-    → (image : Image) → MayLeave disk image → Opens image (Ok (opening_held state logs number))
-held_opens state logs number disk holds goes image may =
-    opens_by image (Led holds.manifest.number holds.manifest.bytes) state (map log_as_held logs) number (record {
-      headed = held_current state disk holds.manifest image may;
-      says = held_says state disk holds.manifest;
-      standing = held_standing state.head logs disk image holds.logs_are may;
-      walk = goes;
-    })
+-- ---- tables, and the logs that they lead into
 
--- So does what reads give.
-pub held_reads : (state : ManifestState) (logs : List Segment) (number : ℕ) (disk : DiskState)
-    → HoldsStore state logs disk → GoOn state.covered logs number
-    → (read : Image) → IsRead read disk → Opens read (Ok (opening_held state logs number))
-held_reads state logs number disk holds goes read is =
-    held_opens state logs number disk holds goes read (read_left read disk is)
+durable_left : (image : Image) (disk : DiskState) (left : Image) (name : Name) → DurableAs image disk name → MayLeave disk left
+    → get left name ≡ get image name
+durable_left image disk left name (bytes, read, stands) may = left_settled disk left name bytes stands may ∙ sym read
+
+module _ (s : ManifestState) (v : View) (disk : DiskState) (left : Image) (needs : Needs s v disk) (may : MayLeave disk left) where
+  -- Whatever is left has these tables, and the logs that they lead into.
+  pub needs_image : NamedLevels false left s.levels (Ok v.levels)
+  needs_image = levels_kept left v.image false s.levels v.levels
+      (λ n named. durable_left v.image disk left (Table n) (needs.tables n named) may) needs.named
+
+  pub needs_led : NamedLogs left (led_into v.levels) (Ok tt)
+  needs_led = led_logs_kept left v.image (led_into v.levels)
+      (λ n among. durable_left v.image disk left (Log n) (needs.logs n among) may) needs.led
+
+-- ---- a store that is held
+
+module _ (state : ManifestState) (view : View) (logs : List Segment) (disk : DiskState)
+    (holds : HoldsStore state view logs disk) where
+  -- Whatever a crash leaves of a disk that holds a store opens as it.
+  pub held_opens : (number : ℕ) → GoOn state.covered logs number → (image : Image) → MayLeave disk image
+      → Opens image (Ok (opening_held state view logs number))
+  held_opens number goes image may = is_opened image (opening_held state view logs number) (record {
+    heading = Led holds.manifest.number holds.manifest.bytes;
+    headed = held_current state disk holds.manifest image may;
+    says = held_says state disk holds.manifest;
+    levels = needs_image state view disk image holds.needs may;
+    led = needs_led state view disk image holds.needs may;
+    standing = map log_as_held logs;
+    stands = held_standing state.head logs disk image holds.logs_are may;
+    walk = goes;
+    logs_are = refl;
+  })
+
+  -- So does what reads give.
+  pub held_reads : (number : ℕ) → GoOn state.covered logs number → (read : Image) → IsRead read disk
+      → Opens read (Ok (opening_held state view logs number))
+  held_reads number goes read is = held_opens number goes read (read_left read disk is)
 
 -- ---- a store may be opened again
 
@@ -148,7 +163,7 @@ none_removed least (s ∷ ss) disk lawful (up, between, is_read, have, stands, r
 -- a log from a number on that another follows is durable
 abbrev pub AreSealed : ℕ → DiskState → Type 0
 AreSealed least disk = (m k : ℕ) (file : File) → least ≤ m → m < k → get disk.standing (Log k) ≢ None
-    → get disk.standing (Log m) ≡ Some file → (file.wholly_synced ≡ true) × (file.lasting ≡ true)
+    → get disk.standing (Log m) ≡ Some file → IsDurable file
 
 pub settled_may_stand : (name : Name) (bytes : List ℕ) → MayStand name (settled bytes)
 settled_may_stand name bytes = record {
@@ -156,26 +171,41 @@ settled_may_stand name bytes = record {
   headless = λ wrong. All-nil (λ (piece : Piece). piece.place + length piece.bytes ≤ 16);
 }
 
--- A store may be opened on a disk that holds a manifest above all that were removed, and from its head on no log
--- was removed.
-pub may_open_by : (state : ManifestState) (disk : DiskState) → IsLawful disk → HoldsManifest state disk
+settled_durable : (bytes : List ℕ) (file : File) (there : Option File) → there ≡ Some (settled bytes) → there ≡ Some file
+    → IsDurable file
+settled_durable bytes file there is stands =
+    let same : settled bytes ≡ file = some_same (settled bytes) file (sym is ∙ stands) in
+    (ap (λ (f : File). f.wholly_synced) (sym same), ap (λ (f : File). f.lasting) (sym same))
+
+-- what stands as a view has it is durable
+as_durable : (image : Image) (disk : DiskState) (name : Name) (file : File) → DurableAs image disk name
+    → get disk.standing name ≡ Some file → IsDurable file
+as_durable image disk name file (bytes, read, is) stands = settled_durable bytes file (get disk.standing name) is stands
+
+as_stays : (image : Image) (disk : DiskState) (n : ℕ) (file : File) → DurableAs image disk (Log n)
+    → get disk.standing (Log n) ≡ Some file
+    → ((bytes : List ℕ) (reading : LogReading) → get image (Log n) ≡ Some bytes → ReadsLog n bytes reading → StaysAsItIs reading)
+    → (reading : LogReading) → ReadsLog n file.bytes reading → StaysAsItIs reading
+as_stays image disk n file (bytes, read, is) stands stay reading reads =
+    let same : settled bytes ≡ file = some_same (settled bytes) file (sym is ∙ stands) in
+    stay bytes reading read (subst (λ (f : File). ReadsLog n f.bytes reading) (sym same) reads)
+
+-- A store may be opened on a disk that holds a manifest above all that were removed, with what it needs, and from its head on
+-- no log was removed.
+pub may_open_by : (state : ManifestState) (view : View) (disk : DiskState) → IsLawful disk → HoldsManifest state disk
+    → Needs state view disk → AllStay view.image (led_into view.levels)
     → ((m : ℕ) → state.head ≤ m → get disk.removed (Log m) ≡ None) → AllMayStand disk → AreSealed state.head disk
     → MayOpen disk
-may_open_by state disk lawful holds never may_stand sealed = record {
+may_open_by state view disk lawful holds needs stay never may_stand sealed = record {
   files = may_stand;
-  says = λ read before o p is opens left opens_too.
-      held_same state disk holds read before o p (read_left read disk is) opens left.left opens_too;
   manifests = λ m gone. (
     holds.number,
     below m gone (cases_lt m holds.number),
     λ none. some_none (settled holds.bytes) (sym holds.stands ∙ none),
   );
-  logs = λ read o is opens m from.
-      never m (subst (λ (s : ManifestState). s.head ≤ m)
-      (held_state state disk holds read o (read_left read disk is) opens) from);
-  sealed = λ read o is opens m k file from.
-      sealed m k file
-      (subst (λ (s : ManifestState). s.head ≤ m) (held_state state disk holds read o (read_left read disk is) opens) from);
+  as_read = λ read o is opens.
+      (let says = held_state state disk holds read o (read_left read disk is) opens in
+      may_as o says (found_levels read o (read_left read disk is) says (opened read o opens)));
 }
   where
     below : (m : ℕ) → get disk.removed (Manifest m) ≢ None → (m < holds.number) ⊎ (holds.number ≤ m)
@@ -190,20 +220,44 @@ may_open_by state disk lawful holds never may_stand sealed = record {
         (cases_lt holds.number m))))
         either
 
+    found_levels : (read : Image) (o : Opening) → MayLeave disk read → o.state ≡ state → IsOpened read o → o.levels ≡ view.levels
+    found_levels read o may says found =
+        ok_same {E = Refusal} o.levels view.levels (single_levels read false state.levels (Ok o.levels) (Ok view.levels)
+        (subst (λ (s : ManifestState). NamedLevels false read s.levels (Ok o.levels)) says found.levels)
+        (needs_image state view disk read needs may))
+
+    may_as : (o : Opening) → o.state ≡ state → o.levels ≡ view.levels → MayOpenAs disk o
+    may_as o says levels = record {
+      logs = λ m from. never m (subst (λ (s : ManifestState). s.head ≤ m) says from);
+      sealed = λ m k file from. sealed m k file (subst (λ (s : ManifestState). s.head ≤ m) says from);
+      tables = λ n file named stands.
+          as_durable view.image disk (Table n) file (needs.tables n (subst (λ (s : ManifestState). IsNamed s.levels n) says named)) stands;
+      led = λ n file among stands.
+          (let there = subst (λ (l : List (List FoundTable)). IsAmong (led_into l) n) levels among in (
+            as_durable view.image disk (Log n) file (needs.logs n there) stands,
+            as_stays view.image disk n file (needs.logs n there) stands (λ bytes reading. stay n bytes reading there),
+          ));
+    }
+
 pub settled_may_all_stand : (disk : DiskState) → AllSettled disk → AllMayStand disk
 settled_may_all_stand disk all name file stands =
     subst (MayStand name) (sym (all name file stands)) (settled_may_stand name file.bytes)
 
-pub settled_sealed : (least : ℕ) (disk : DiskState) → AllSettled disk → AreSealed least disk
-settled_sealed least disk all m k file from less there stands =
-    let is = all (Log m) file stands in
+all_durable : (disk : DiskState) → AllSettled disk → (name : Name) (file : File) → get disk.standing name ≡ Some file
+    → IsDurable file
+all_durable disk all name file stands =
+    let is = all name file stands in
     (ap (λ (f : File). f.wholly_synced) is, ap (λ (f : File). f.lasting) is)
 
+pub settled_sealed : (least : ℕ) (disk : DiskState) → AllSettled disk → AreSealed least disk
+settled_sealed least disk all m k file from less there stands = all_durable disk all (Log m) file stands
+
 -- A store that is held may be opened again.
-pub held_may_open : (state : ManifestState) (logs : List Segment) (disk : DiskState) → IsLawful disk
-    → HoldsStore state logs disk → MayOpen disk
-held_may_open state logs disk lawful holds =
-    may_open_by state disk lawful holds.manifest (none_removed state.head logs disk lawful holds.logs_are)
+pub held_may_open : (state : ManifestState) (view : View) (logs : List Segment) (disk : DiskState) → IsLawful disk
+    → HoldsStore state view logs disk → AllStay view.image (led_into view.levels) → MayOpen disk
+held_may_open state view logs disk lawful holds stay =
+    may_open_by state view disk lawful holds.manifest holds.needs stay
+    (none_removed state.head logs disk lawful holds.logs_are)
     (settled_may_all_stand disk holds.durable) (settled_sealed state.head disk holds.durable)
 
 -- ---- a disk that was just started
@@ -218,22 +272,32 @@ started_settled image disk started name file stands = of (get image name) (sym s
         let same : file ≡ settled bytes = some_same file (settled bytes) is in
         same ∙ ap (λ (f : File). settled f.bytes) (sym same)
 
--- and a store may be opened on it.
-pub started_may_open : (image : Image) (disk : DiskState) → Started image disk → MayOpen disk
-started_may_open image disk started = record {
+started_bytes : (image : Image) (disk : DiskState) → Started image disk → (name : Name) (file : File)
+    → get disk.standing name ≡ Some file → get image name ≡ Some file.bytes
+started_bytes image disk started name file stands = of (get image name) (sym stands ∙ started.standing name)
+  where
+    of : (there : Option (List ℕ)) → Some file ≡ option_map settled there → there ≡ Some file.bytes
+    of None is = absurd (some_none file is)
+    of (Some bytes) is = ap (λ (f : File). Some f.bytes) (sym (some_same file (settled bytes) is))
+
+-- and a store may be opened on it, if the logs that its tables lead into stay as they are.
+pub started_may_open : (image : Image) (disk : DiskState) → Started image disk
+    → ((o : Opening) → Opens image (Ok o) → AllStay image (led_into o.levels)) → MayOpen disk
+started_may_open image disk started stay = record {
   files = settled_may_all_stand disk all;
-  says = λ read before o p is opens left opens_too.
-      let same : read ≡ before = only read (read_left read disk is) ∙ sym (only before left.left) in
-      let one : o ≡ p = ok_same {E = Refusal} o p (single_opening before (Ok o) (Ok p)
-      (subst (λ (i : Image). Opens i (Ok o)) same opens) opens_too) in
-      subst (λ (x : Opening). SameState o.state x.state) one (same_state o.state);
   manifests = λ m gone. absurd (gone (started.removed (Manifest m)));
-  logs = λ read o is opens m from. started.removed (Log m);
-  sealed = λ read o is opens m k file from. settled_sealed o.state.head disk all m k file from;
+  as_read = λ read o is opens. record {
+    logs = λ m from. started.removed (Log m);
+    sealed = λ m k file from. settled_sealed o.state.head disk all m k file from;
+    tables = λ n file named stands. all_durable disk all (Table n) file stands;
+    led = λ n file among stands. (
+      all_durable disk all (Log n) file stands,
+      λ reading reads. stay o
+          (subst (λ (i : Image). Opens i (Ok o)) (started_left image disk started read (read_left read disk is)) opens)
+          n file.bytes reading among (started_bytes image disk started (Log n) file stands) reads,
+    );
+  };
 }
   where
     all : AllSettled disk
     all = started_settled image disk started
-
-    only : (left : Image) → MayLeave disk left → left ≡ image
-    only = started_left image disk started

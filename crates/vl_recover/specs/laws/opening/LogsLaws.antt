@@ -16,7 +16,7 @@ use Rattle.vl_recover.specs.opening.Answers.{as_segments}
 use Rattle.vl_recover.specs.crash.Held.{HoldsLogs, IsNowhere}
 use Rattle.vl_recover.specs.laws.opening.HeldLaws.{left_nowhere, left_settled}
 use Rattle.vl_recover.specs.laws.opening.LeadsLaws.{nowhere_kept, settled_kept}
-use Rattle.vl_recover.specs.laws.repairing.LastLaws.{IsLastWritten, IsWritten, LastStands, RepairsLast, whole_bytes}
+use Rattle.vl_recover.specs.laws.repairing.LastLaws.{IsLastWritten, IsWritten, LastStands, whole_bytes}
 use Rattle.vl_recover.specs.repairing.Repairing.{Cut, Headed, Kept, LastLog, Rewritten, behind_last, headed, last_of, repairing_of}
 use Rattle.vl_recover.specs.laws.crash.OneName.{elsewhere_then}
 use Rattle.vl_recover.specs.opening.Opening.{IsNextLog, StandingLogs}
@@ -163,7 +163,7 @@ repairing_elsewhere q disk = by (keeps_header q.reading.header q.reading.frames)
 
 -- Then all are durable with their frames and nothing else.
 pub all_written : (least : ℕ) (logs : List StandingLog) (disk : DiskState)
-    → ((q : StandingLog) → IsTheLast LastStands least q disk → RepairsLast q disk (repairing_of q))
+    → ((q : StandingLog) → IsTheLast LastStands least q disk → IsLastWritten q (behind_last (repairing_of q) disk))
     → StandUpTo LastStands least logs disk → StandUpTo IsLastWritten least logs (behind_last (last_of logs) disk)
 all_written least [] disk repairs none = none
 all_written least (q ∷ []) disk repairs (next, is, none) =
@@ -171,7 +171,7 @@ all_written least (q ∷ []) disk repairs (next, is, none) =
     let same = repairing_elsewhere q disk in (
       next_kept (Log q.number) disk now same least q (λ m above less e. omega
           (arith, less, log_same m q.number e)) next,
-      (repairs q (record { from = next.from; holds = is; above = none })).written,
+      repairs q (record { from = next.from; holds = is; above = none }),
       λ m above. nowhere_kept (Log q.number) disk now same (Log m)
           (λ e. omega (arith, above, log_same m q.number e)) (none m above),
     )

@@ -108,8 +108,8 @@ no_more (name ∷ names) many once all =
     first_of (m ∷ ms) zero a b less at = at
     first_of (m ∷ ms) (suc k) a b less at = first_of ms k a b (omega (arith, less)) at
 
-pub as_many : (image : Image) (head : ℕ) (a b : List Name) → AreStrayNames image head a → AreStrayNames image head b → length a ≡ length b
-as_many image head a b is_a is_b =
+pub as_many : (image : Image) (o : Opening) (a b : List Name) → AreStrayNames image o a → AreStrayNames image o b → length a ≡ length b
+as_many image o a b is_a is_b =
     let le = no_more a b is_a.once (λ name among. (is_b.all name).1 ((is_a.all name).0 among)) in
     let ge = no_more b a is_b.once (λ name among. (is_a.all name).1 ((is_b.all name).0 among)) in
     omega (arith, le, ge)

@@ -6,11 +6,12 @@ use Rattle.vl_disk.specs.Crash.{Image}
 use Rattle.vl_disk.specs.declared.name.Name.TheVariants.{Log, Table}
 use Rattle.vl_layout.specs.declared.segment.Segment.{Segment}
 use Rattle.vl_manifest.specs.laws.CurrentLaws as manifests
-use Rattle.vl_manifest.specs.laws.TableLaws.{one_without_tables}
+use Rattle.vl_manifest.specs.laws.ManifestLaws.{one_saying}
 use Rattle.vl_manifest.specs.declared.state.ManifestState.{ManifestState}
 use Rattle.vl_seglog.specs.LogReading.{ReadsLog}
 use Rattle.vl_seglog.specs.laws.LogReadingLaws.{one_log_reading}
-use Rattle.vl_recover.specs.opening.Opening.{Bare, Current, Headless, Heading, IsBare, IsHeaded, IsHeadless, Led, LogsFrom, Newest, Opening, Opens, Says, StandingLogs, of_manifest, opening_of}
+use Rattle.vl_recover.specs.opening.Opening.{Bare, Current, FoundTable, Headless, Heading, IsBare, IsHeaded, IsHeadless, Led, LogsFrom, NamedLevels, NamedLogs, Newest, Opening, Opens, Says, StandingLogs, WithLogs, WithTables, led_into, of_manifest, opening_of}
+use Rattle.vl_recover.specs.laws.opening.TablesLaws.{single_levels, single_logs_led}
 use Rattle.vl_recover.specs.laws.repairing.StageLaws.{ok_err, ok_same, single_then}
 use Rattle.vl_recover.specs.opening.Stages.{IsSingle}
 use Rattle.vl_recover.specs.opening.Walk.{LogDamage, StandingLog, filled, walked}
@@ -61,7 +62,7 @@ one_heading image (Newest a) (Newest b) p q = ap Newest (manifests.one_newest im
 pub single_says : (h : Heading) → IsSingle (Says h)
 single_says Bare r s p q = p ∙ sym q
 single_says (Led n bytes) r s (a, says, p) (b, says_too, q) =
-    p ∙ ap (of_manifest n) (one_without_tables n bytes a b says says_too) ∙ sym q
+    p ∙ ap (of_manifest n) (one_saying n bytes a b says says_too) ∙ sym q
 single_says Headless r s p q = p ∙ sym q
 single_says (Newest format) r s p q = p ∙ sym q
 
@@ -96,69 +97,80 @@ one_standing image least (a ∷ ps) (b ∷ qs) (here, p) (there, q) =
     (subst (λ (n : ℕ). StandingLogs image (n + 1) ps) number p) q in
     λ i. record { number = number i; length = size i; reading = reading i } ∷ others i
 
-pub single_logs : (image : Image) (state : ManifestState) → IsSingle (LogsFrom image state)
-single_logs image state r s (ps, standing, p) (qs, standing_too, q) =
-    p ∙ ap (λ (logs : List StandingLog). opening_of state logs (walked state.covered logs))
+pub single_logs : (image : Image) (state : ManifestState) (levels : List (List FoundTable)) → IsSingle (LogsFrom image state levels)
+single_logs image state levels r s (ps, standing, p) (qs, standing_too, q) =
+    p ∙ ap (λ (logs : List StandingLog). opening_of state levels logs (walked state.covered logs))
     (one_standing image state.head ps qs standing standing_too) ∙ sym q
 
 -- ---- one opening
 
 -- An image opens in one way.
 pub single_opening : (image : Image) → IsSingle (Opens image)
-single_opening image = single_then (Current image) (LogsFrom image) (single_current image) (single_logs image)
+single_opening image = single_then (Current image) (WithTables image) (single_current image) (λ state.
+    single_then (NamedLevels false image state.levels) (WithLogs image state) (single_levels image false state.levels) (λ levels.
+    single_then (NamedLogs image (led_into levels)) (λ t. LogsFrom image state levels) (single_logs_led image (led_into levels))
+    (λ t. single_logs image state levels)))
 
 -- ---- what an opening is made of
-
--- the image is headed so, this state is what the heading says, and these are the logs from its head on, which
--- give this number
-pub record OpensBy (image : Image) (heading : Heading) (state : ManifestState) (logs : List StandingLog)
-    (number : ℕ) : Type 0 where
-  pub headed : IsHeaded image heading
-  pub says : Says heading (Ok state)
-  pub standing : StandingLogs image state.head logs
-  pub walk : walked state.covered logs ≡ Ok number
-
-pub opens_by : (image : Image) (heading : Heading) (state : ManifestState) (logs : List StandingLog)
-    (number : ℕ) → OpensBy image heading state logs number
-    → Opens image (Ok (record { state = state; logs = filled logs; number = number }))
-opens_by image heading state logs number by =
-    (state, (heading, by.headed, by.says), (logs, by.standing, sym (ap (opening_of state logs) by.walk)))
 
 -- what was found in an image that opens
 pub record IsOpened (image : Image) (o : Opening) : Type 0 where
   pub heading : Heading
+  pub headed : IsHeaded image heading
+  pub says : Says heading (Ok o.state)
+  -- the tables that are named, and the logs that these lead into
+  pub levels : NamedLevels false image o.state.levels (Ok o.levels)
+  pub led : NamedLogs image (led_into o.levels) (Ok tt)
+  -- the logs from head on
   pub standing : List StandingLog
-  pub by : OpensBy image heading o.state standing o.number
+  pub stands : StandingLogs image o.state.head standing
+  pub walk : walked o.state.covered standing ≡ Ok o.number
   pub logs_are : o.logs ≡ filled standing
 
-opening_apart : (state : ManifestState) (logs : List StandingLog) (walk : Result ℕ LogDamage) (o : Opening)
-    → Ok o ≡ opening_of state logs walk
-    → (walk ≡ Ok o.number) × (o.state ≡ state) × (o.logs ≡ filled logs)
-opening_apart state logs (Ok number) o e =
-    let same : o ≡ record { state = state; logs = filled logs; number = number } =
-    ok_same o (record { state = state; logs = filled logs; number = number }) e in (
+opening_apart : (state : ManifestState) (levels : List (List FoundTable)) (logs : List StandingLog) (walk : Result ℕ LogDamage) (o : Opening)
+    → Ok o ≡ opening_of state levels logs walk
+    → (walk ≡ Ok o.number) × (o.state ≡ state) × (o.levels ≡ levels) × (o.logs ≡ filled logs)
+opening_apart state levels logs (Ok number) o e =
+    let same : o ≡ record { state = state; levels = levels; logs = filled logs; number = number } =
+    ok_same o (record { state = state; levels = levels; logs = filled logs; number = number }) e in (
       ap Ok (sym (ap (λ (x : Opening). x.number) same)),
       ap (λ (x : Opening). x.state) same,
+      ap (λ (x : Opening). x.levels) same,
       ap (λ (x : Opening). x.logs) same,
     )
-opening_apart state logs (Err damage) o e = absurd (ok_err o _ e)
+opening_apart state levels logs (Err damage) o e = absurd (ok_err o _ e)
+
+abbrev pub opening_made : ManifestState → List (List FoundTable) → List StandingLog → ℕ → Opening
+opening_made state levels logs number = record { state = state; levels = levels; logs = filled logs; number = number }
 
 -- An opening taken apart.
 pub opened : (image : Image) (o : Opening) → Opens image (Ok o) → IsOpened image o
-opened image o (state, (heading, headed, says), (logs, standing, e)) =
-    let apart = opening_apart state logs (walked state.covered logs) o e in
-    let is_state = sym apart.1 in
-    record {
+opened image o (state, (heading, headed, says), (levels, named, (u, led, (logs, standing, e)))) =
+    let apart = opening_apart state levels logs (walked state.covered logs) o e in
+    let same : o ≡ opening_made state levels logs o.number =
+    λ i. record { state = apart.1 i; levels = apart.2 i; logs = apart.3 i; number = o.number } in
+    subst (IsOpened image) (sym same) (record {
       heading = heading;
+      headed = headed;
+      says = says;
+      levels = named;
+      led = led;
       standing = logs;
-      by = subst (λ (s : ManifestState). OpensBy image heading s logs o.number) is_state
-          (record { headed = headed; says = says; standing = standing; walk = apart.0 });
-      logs_are = apart.2;
-    }
+      stands = standing;
+      walk = apart.0;
+      logs_are = refl;
+    })
 
 -- An opening put together.
 pub is_opened : (image : Image) (o : Opening) → IsOpened image o → Opens image (Ok o)
 is_opened image o is =
-    let logs = sym is.logs_are in
-    subst (λ (l : List Segment). Opens image (Ok (record { state = o.state; logs = l; number = o.number }))) logs
-    (opens_by image is.heading o.state is.standing o.number is.by)
+    subst (λ (l : List Segment). Opens image (Ok (record { state = o.state; levels = o.levels; logs = l; number = o.number }))) (sym is.logs_are)
+    (
+      o.state,
+      (is.heading, is.headed, is.says),
+      (
+        o.levels,
+        is.levels,
+        (tt, is.led, (is.standing, is.stands, sym (ap (opening_of o.state o.levels is.standing) is.walk))),
+      ),
+    )

@@ -5,27 +5,29 @@ use Rattle.std.specs.FinMap.{get}
 use Rattle.std.specs.List.{AllByRecursion}
 use Rattle.std.specs.Option.{option_map}
 use Rattle.std.proofs.Common.{ap, arith, inl, inr, subst, sym, ◌∙◌, ⊎_elim}
-use Rattle.std.proofs.lemmas.Bool.{cases_Bool, cases_lt, true≢false}
+use Rattle.std.proofs.lemmas.Bool.{cases_Bool, cases_eq, cases_lt, true≢false}
 use Rattle.std.proofs.lemmas.Bool.Decides.{nat_tests}
 use Rattle.std.proofs.lemmas.List.{take_all}
 use Rattle.std.proofs.lemmas.List.Elements.{All-push}
 use Rattle.vl_disk.specs.Chance.{NoChanceOne}
-use Rattle.vl_disk.specs.Changes.{changed_elsewhere, changed_there}
+use Rattle.vl_disk.specs.Changes.{SameElsewhere, changed_elsewhere, changed_there}
 use Rattle.vl_disk.specs.Crash.{WhileAppending, WhileCutting, WhileSyncing}
 use Rattle.vl_disk.specs.Disk.{IsInside}
 use Rattle.vl_disk.specs.DiskState.{DiskState, File, IsLawfulFile, Piece, appended, cut_to, lengthened, settled, shortened, synced, synced_file, with_file}
-use Rattle.vl_disk.specs.declared.name.Name.TheVariants.{Log}
+use Rattle.vl_disk.specs.declared.name.Name.TheVariants.{Log, Manifest, Table}
 use Rattle.vl_frame.specs.Runs.{HasFrame}
 use Rattle.vl_manifest.specs.declared.state.ManifestState.{ManifestState}
 use Rattle.vl_model.specs.Formats.{log_format}
 use Rattle.vl_model.specs.declared.log_frame.LogFrame.{LogFrame}
 use Rattle.vl_recover.specs.crash.Alike.{OpensAsOf, Spells}
 use Rattle.vl_recover.specs.laws.crash.AlikeLaws.{log_same}
-use Rattle.vl_recover.specs.crash.Held.{IsSettled}
-use Rattle.vl_recover.specs.laws.opening.LeadsLaws.{leads_kept, nowhere_kept}
+use Rattle.vl_recover.specs.crash.Held.{IsNowhere, IsSettled, View}
+use Rattle.vl_recover.specs.crash.Starts.{StaysAsItIs}
+use Rattle.vl_recover.specs.laws.opening.LeadsLaws.{Leads, leads_kept, nowhere_kept, settled_kept, unled_unneeded}
+use Rattle.vl_recover.specs.opening.Opening.{IsAmong, led_into}
 use Rattle.vl_recover.specs.repairing.Repairing.{Cut, Headed, Kept, LastLog, Rewritten, WhileHeading, WhileLast, behind_last, headed, repairing_of}
 use Rattle.vl_recover.specs.laws.repairing.RepairingSteps.{IsLast, change_step, manifest_log, sync_step}
-use Rattle.vl_recover.specs.laws.crash.OneName.{as_before, as_of_then}
+use Rattle.vl_recover.specs.laws.crash.OneName.{as_before, as_of_then, elsewhere_then}
 use Rattle.vl_recover.specs.laws.crash.Torn.{LeavesNone, cut_no_chance, leaves_empty, leaves_none, leaves_read, no_reading, ended_no_chance, torn_cut, torn_header, uncut, uncut_chance}
 use Rattle.vl_recover.specs.opening.Answers.{last_format}
 use Rattle.vl_recover.specs.opening.Walk.{StandingLog, format_of, has_some, keeps_header}
@@ -59,9 +61,10 @@ abbrev pub IsLastWritten : StandingLog → DiskState → Type 0
 IsLastWritten q disk = IsWritten (last_format q.reading.header q.reading.frames) q disk
 
 -- So it becomes of the last log.
-pub record RepairsLast (q : StandingLog) (disk : DiskState) (l : LastLog) : Type 0 where
+pub record RepairsLast (number : ℕ) (s : ManifestState) (v : View) (q : StandingLog) (disk : DiskState) (l : LastLog) : Type 0 where
   pub meanwhile : (now : DiskState) → WhileLast l disk now → OpensAsOf disk now
   pub after : OpensAsOf disk (behind_last l disk)
+  pub leads : Leads number s v (behind_last l disk)
   pub written : IsLastWritten q (behind_last l disk)
 
 -- ---- what it says
@@ -129,13 +132,52 @@ loose_below file len lawful past flat = ⊎_elim
     (λ (loose : file.wholly_synced ≡ false). loose)
     (cases_Bool file.wholly_synced)
 
-module _ (number : ℕ) (s : ManifestState) (k : ℕ) where
+table_log : (m n : ℕ) → Table m ≡ Log n → ⊥
+table_log m n e = cc
+
+headed_elsewhere : (k : ℕ) (disk : DiskState) → SameElsewhere (Log k) disk (synced (Log k) (headed k disk))
+headed_elsewhere k disk = elsewhere_then (Log k) disk (headed k disk) (synced (Log k) (headed k disk))
+    (changed_elsewhere (Log k) disk (lengthened (log_header log_format k) (length (log_header log_format k))))
+    (changed_elsewhere (Log k) (headed k disk) synced_file)
+
+-- A sync leaves what is durable so.
+pub synced_leads : (number : ℕ) (s : ManifestState) (v : View) (k : ℕ) (disk : DiskState) → Leads number s v disk
+    → Leads number s v (synced (Log k) disk)
+synced_leads number s v k disk leads =
+    let same = changed_elsewhere (Log k) disk synced_file in
+    record {
+      bytes = leads.bytes;
+      is_whole = leads.is_whole;
+      stands = settled_kept (Log k) disk (synced (Log k) disk) same (Manifest number) leads.bytes (manifest_log number k) leads.stands;
+      says = leads.says;
+      above = λ m less. nowhere_kept (Log k) disk (synced (Log k) disk) same (Manifest m) (manifest_log m k) (leads.above m less);
+      needs = record {
+        named = leads.needs.named;
+        led = leads.needs.led;
+        tables = λ n named. (let (bytes, read, stands) = leads.needs.tables n named in
+            (bytes, read, settled_kept (Log k) disk (synced (Log k) disk) same (Table n) bytes (table_log n k) stands));
+        logs = λ n among. (let (bytes, read, stands) = leads.needs.logs n among in (
+            bytes,
+            read,
+            ⊎_elim
+                (λ (at : n ≡ k). ap (λ (x : ℕ). get (synced (Log k) disk).standing (Log x)) at
+                ∙ changed_there (Log k) disk synced_file
+                ∙ ap (option_map synced_file) (ap (λ (x : ℕ). get disk.standing (Log x)) (sym at) ∙ stands))
+                (λ (other : n ≢ k). settled_kept (Log k) disk (synced (Log k) disk) same (Log n) bytes
+                (λ e. other (log_same n k e)) stands)
+                (cases_eq n k),
+        ));
+      };
+    }
+
+module _ (number : ℕ) (s : ManifestState) (v : View) (k : ℕ) where
   -- a change of it leaves it the last
-  still_last : (disk : DiskState) (change : File → File) → IsLast number s k disk
-      → IsLast number s k (with_file (Log k) change disk)
+  still_last : (disk : DiskState) (change : File → File) → IsLast number s v k disk
+      → IsLast number s v k (with_file (Log k) change disk)
   still_last disk change last = record {
-    leads = leads_kept number s (Log k) disk (with_file (Log k) change disk)
-        (changed_elsewhere (Log k) disk change) (λ m from. manifest_log m k) last.leads;
+    leads = leads_kept number s v (Log k) disk (with_file (Log k) change disk)
+        (changed_elsewhere (Log k) disk change) (λ m from. manifest_log m k) (unled_unneeded s v k last.unled) last.leads;
+    unled = last.unled;
     from = last.from;
     above = λ m less. nowhere_kept (Log k) disk (with_file (Log k) change disk)
         (changed_elsewhere (Log k) disk change) (Log m) (λ e. omega (arith, less, log_same m k e))
@@ -149,18 +191,18 @@ module _ (number : ℕ) (s : ManifestState) (k : ℕ) where
 
   -- ---- synced
 
-  sync_law : (disk : DiskState) (file : File) → IsLast number s k disk → get disk.standing (Log k) ≡ Some file
+  sync_law : (disk : DiskState) (file : File) → get disk.standing (Log k) ≡ Some file
       → NoChanceOne Spells (Log k) (Some file) (Some file.bytes)
       → (now : DiskState) → WhileSyncing (Log k) disk now → OpensAsOf disk now
-  sync_law disk file last stands as_read now during = ⊎_elim
+  sync_law disk file stands as_read now during = ⊎_elim
       (λ (same : now ≡ disk). subst (OpensAsOf disk) (sym same) (as_before disk))
       (λ (turns : now ≡ synced (Log k) disk). subst (OpensAsOf disk) (sym turns)
-      (sync_step number s k disk file last stands as_read))
+      (sync_step k disk file stands as_read))
       during
 
   -- ---- given a header
 
-  module _ (disk : DiskState) (file : File) (last : IsLast number s k disk)
+  module _ (disk : DiskState) (file : File) (last : IsLast number s v k disk)
       (stands : get disk.standing (Log k) ≡ Some file) (empty : file.bytes ≡ []) (none : file.synced ≡ 0)
       (within : IsWithinHeader file) where
     no_header : SaysFormat None k []
@@ -173,7 +215,7 @@ module _ (number : ℕ) (s : ManifestState) (k : ℕ) where
     empty_chance = ended_no_chance (Log k) file file.bytes (omega (arith, ap length empty))
 
     headed_step : (taken : ℕ) → OpensAsOf disk (appended (Log k) (log_header log_format k) taken disk)
-    headed_step taken = change_step number s k disk file last stands (leaves_read (Log k) file empty_chance)
+    headed_step taken = change_step number s v k disk file last stands (leaves_read (Log k) file empty_chance)
         no_reading reads_empty
         (lengthened (log_header log_format k) taken) refl
         (λ bytes agrees chance. inl (torn_header k (lengthened (log_header log_format k) taken file) bytes refl
@@ -191,7 +233,7 @@ module _ (number : ℕ) (s : ManifestState) (k : ℕ) where
         (lengthened (log_header log_format k) (length (log_header log_format k)) file)
     headed_stands = changed_file disk (lengthened (log_header log_format k) (length (log_header log_format k))) file stands
 
-    headed_last : IsLast number s k (headed k disk)
+    headed_last : IsLast number s v k (headed k disk)
     headed_last = still_last disk (lengthened (log_header log_format k) (length (log_header log_format k))) last
 
     headed_chance : NoChanceOne Spells (Log k) (Some (lengthened (log_header log_format k) (length (log_header log_format k)) file))
@@ -211,7 +253,7 @@ module _ (number : ℕ) (s : ManifestState) (k : ℕ) where
         (λ (w : WhileSyncing (Log k) (headed k disk) now). as_of_then disk (headed k disk) now
         (headed_step (length (log_header log_format k)))
         (sync_law (headed k disk) (lengthened (log_header log_format k)
-        (length (log_header log_format k)) file) headed_last headed_stands headed_chance now w))
+        (length (log_header log_format k)) file) headed_stands headed_chance now w))
         during
 
     headed_after : OpensAsOf disk (synced (Log k) (headed k disk))
@@ -228,10 +270,19 @@ alone : (b : Bool) → (b || false) ≡ true → b ≡ true
 alone true e = refl
 alone false e = e
 
-module _ (number : ℕ) (s : ManifestState) (q : StandingLog) (disk : DiskState)
-    (last : IsLast number s q.number disk) (is : LastStands q disk) where
+module _ (number : ℕ) (s : ManifestState) (v : View) (q : StandingLog) (disk : DiskState)
+    (leads : Leads number s v disk) (from : s.head ≤ q.number) (above : (m : ℕ) → q.number < m → IsNowhere disk (Log m))
+    (led : IsAmong (led_into v.levels) q.number → StaysAsItIs q.reading) (is : LastStands q disk) where
   abbrev k : ℕ
   k = q.number
+
+  last_of_unled : (IsAmong (led_into v.levels) q.number → ⊥) → IsLast number s v q.number disk
+  last_of_unled not = record { leads = leads; unled = not; from = from; above = above }
+
+  leads_elsewhere : (l : LastLog) → (IsAmong (led_into v.levels) q.number → ⊥)
+      → SameElsewhere (Log q.number) disk (behind_last l disk) → Leads number s v (behind_last l disk)
+  leads_elsewhere l not same = leads_kept number s v (Log q.number) disk (behind_last l disk) same
+      (λ m up. manifest_log m q.number) (unled_unneeded s v q.number not) leads
 
   -- without frames it is written once it has its header alone
   written_none : (d : DiskState) → q.reading.frames ≡ [] → IsSettled d (Log q.number) (log_bytes log_format q.number [])
@@ -275,23 +326,27 @@ module _ (number : ℕ) (s : ManifestState) (q : StandingLog) (disk : DiskState)
           stands = subst (λ (n : ℕ). IsSettled d (Log q.number) (log_bytes n q.number q.reading.frames)) (sym last_is) stands;
         }
 
-    kept_law : q.reading.whole ≡ true → RepairsLast q disk (Kept q.number)
+    kept_law : q.reading.whole ≡ true → RepairsLast number s v q disk (Kept q.number)
     kept_law whole = record {
-      meanwhile = sync_law number s k disk is.file last is.stands (is.no_chance right);
-      after = sync_law number s k disk is.file last is.stands (is.no_chance right) (synced (Log k) disk)
+      meanwhile = sync_law number s v k disk is.file is.stands (is.no_chance right);
+      after = sync_law number s v k disk is.file is.stands (is.no_chance right) (synced (Log k) disk)
           (inr refl);
-      written = written (synced (Log k) disk) (changed_file number s k disk synced_file is.file is.stands
+      leads = synced_leads number s v k disk leads;
+      written = written (synced (Log k) disk) (changed_file number s v k disk synced_file is.file is.stands
           ∙ ap (λ (b : List ℕ). Some (settled b))
           (whole_bytes k is.file.bytes q.reading is.reads format header whole));
     }
 
     module _ (goes_on : q.reading.whole ≡ false) where
+      last : IsLast number s v q.number disk
+      last = last_of_unled (λ among. true≢false (sym (led among).0 ∙ goes_on))
+
       loose : is.file.synced ≤ frames_end format q.reading.frames → is.file.wholly_synced ≡ false
       loose = loose_below is.file end is.lawful (goes_past k is.file.bytes q.reading is.reads format header goes_on)
 
       cut_step : (left : ℕ) → frames_end format q.reading.frames ≤ left
           → OpensAsOf disk (cut_to (Log q.number) (frames_end format q.reading.frames) left disk)
-      cut_step left short = change_step number s k disk is.file last is.stands
+      cut_step left short = change_step number s v k disk is.file last is.stands
           (leaves_read (Log k) is.file (is.no_chance right)) q.reading is.reads (shortened end left) refl
           (λ bytes agrees chance. ⊎_elim
           (λ (deep : end < is.file.synced). inl
@@ -305,17 +360,17 @@ module _ (number : ℕ) (s : ManifestState) (q : StandingLog) (disk : DiskState)
       cut_stands : get (cut_to (Log q.number) (frames_end format q.reading.frames)
           (frames_end format q.reading.frames) disk).standing (Log q.number) ≡ Some
           (shortened (frames_end format q.reading.frames) (frames_end format q.reading.frames) is.file)
-      cut_stands = changed_file number s k disk (shortened end end) is.file is.stands
+      cut_stands = changed_file number s v k disk (shortened end end) is.file is.stands
 
       sync_cut : (now : DiskState) → WhileSyncing (Log q.number)
           (cut_to (Log q.number) (frames_end format q.reading.frames) (frames_end format q.reading.frames) disk) now
           → OpensAsOf disk now
       sync_cut now during = as_of_then disk (cut_to (Log k) end end disk) now (cut_step end (omega arith))
-          (sync_law number s k (cut_to (Log k) end end disk) (shortened end end is.file)
-          (still_last number s k disk (shortened end end) last) cut_stands
+          (sync_law number s v k (cut_to (Log k) end end disk) (shortened end end is.file)
+          cut_stands
           (cut_no_chance k end is.file loose (is.no_chance right)) now during)
 
-      cut_law : RepairsLast q disk (Cut q.number (frames_end format q.reading.frames))
+      cut_law : RepairsLast number s v q disk (Cut q.number (frames_end format q.reading.frames))
       cut_law = record {
         meanwhile = λ now during. ⊎_elim
             (λ (w : WhileCutting (Log k) end disk now). ⊎_elim
@@ -326,14 +381,20 @@ module _ (number : ℕ) (s : ManifestState) (q : StandingLog) (disk : DiskState)
             (λ (w : WhileSyncing (Log k) (cut_to (Log k) end end disk) now). sync_cut now w)
             during;
         after = sync_cut (synced (Log k) (cut_to (Log k) end end disk)) (inr refl);
+        leads = leads_elsewhere (Cut q.number end) last.unled (elsewhere_then (Log k) disk (cut_to (Log k) end end disk)
+            (synced (Log k) (cut_to (Log k) end end disk)) (changed_elsewhere (Log k) disk (shortened end end))
+            (changed_elsewhere (Log k) (cut_to (Log k) end end disk) synced_file));
         written = written (synced (Log k) (cut_to (Log k) end end disk))
-            (changed_file number s k (cut_to (Log k) end end disk) synced_file
+            (changed_file number s v k (cut_to (Log k) end end disk) synced_file
             (shortened end end is.file) cut_stands
             ∙ ap (λ (b : List ℕ). Some (settled b)) (reads_cut k is.file.bytes q.reading is.reads format header));
       }
 
   -- where it keeps none
   module _ (keeps : keeps_header q.reading.header q.reading.frames ≡ false) where
+    last0 : IsLast number s v q.number disk
+    last0 = last_of_unled (λ among. true≢false (sym (led among).1 ∙ keeps))
+
     none : q.reading.frames ≡ []
     none = unkept_none k is.file.bytes q.reading is.reads keeps
 
@@ -343,16 +404,17 @@ module _ (number : ℕ) (s : ManifestState) (q : StandingLog) (disk : DiskState)
     within : IsWithinHeader is.file
     within = is.headless not_written
 
-    headed_law : q.length ≡ 0 → RepairsLast q disk (Headed q.number)
+    headed_law : q.length ≡ 0 → RepairsLast number s v q disk (Headed q.number)
     headed_law zero =
         let short : length is.file.bytes ≡ 0 = sym is.length_is ∙ zero in
         let empty : is.file.bytes ≡ [] = nothing is.file.bytes short in
         let synced_none : is.file.synced ≡ 0 = none_synced is.file is.lawful short in
         record {
-          meanwhile = heading_law number s k disk is.file last is.stands empty synced_none within;
-          after = headed_after number s k disk is.file last is.stands empty synced_none within;
+          meanwhile = heading_law number s v k disk is.file last0 is.stands empty synced_none within;
+          after = headed_after number s v k disk is.file last0 is.stands empty synced_none within;
+          leads = leads_elsewhere (Headed q.number) last0.unled (headed_elsewhere k disk);
           written = written_none (synced (Log k) (headed k disk)) none
-              (headed_settled number s k disk is.file last is.stands empty synced_none within);
+              (headed_settled number s v k disk is.file last0 is.stands empty synced_none within);
         }
       where
         nothing : (bytes : List ℕ) → length bytes ≡ 0 → bytes ≡ []
@@ -372,19 +434,19 @@ module _ (number : ℕ) (s : ManifestState) (q : StandingLog) (disk : DiskState)
             (is.no_chance (λ wrong. none_some format (sym h ∙ wrong)))
 
     emptied_step : (left : ℕ) → OpensAsOf disk (cut_to (Log q.number) 0 left disk)
-    emptied_step left = change_step number s k disk is.file last is.stands before.leaves
+    emptied_step left = change_step number s v k disk is.file last0 is.stands before.leaves
         before.reading before.reads (shortened 0 left) refl
         (λ bytes agrees chance. inl (torn_header k (shortened 0 left is.file) bytes refl (omega arith)
         within chance before.reading before.none))
 
     emptied_stands : get (cut_to (Log q.number) 0 0 disk).standing (Log q.number) ≡ Some
         (shortened 0 0 is.file)
-    emptied_stands = changed_file number s k disk (shortened 0 0) is.file is.stands
+    emptied_stands = changed_file number s v k disk (shortened 0 0) is.file is.stands
 
-    emptied_last : IsLast number s q.number (cut_to (Log q.number) 0 0 disk)
-    emptied_last = still_last number s k disk (shortened 0 0) last
+    emptied_last : IsLast number s v q.number (cut_to (Log q.number) 0 0 disk)
+    emptied_last = still_last number s v k disk (shortened 0 0) last0
 
-    rewritten_law : RepairsLast q disk (Rewritten q.number)
+    rewritten_law : RepairsLast number s v q disk (Rewritten q.number)
     rewritten_law = record {
       meanwhile = λ now during. ⊎_elim
           (λ (w : WhileCutting (Log k) 0 disk now). ⊎_elim
@@ -394,27 +456,30 @@ module _ (number : ℕ) (s : ManifestState) (q : StandingLog) (disk : DiskState)
           w)
           (λ (w : WhileHeading k (cut_to (Log k) 0 0 disk) now). as_of_then disk (cut_to (Log k) 0 0 disk) now
           (emptied_step 0)
-          (heading_law number s k (cut_to (Log k) 0 0 disk)
+          (heading_law number s v k (cut_to (Log k) 0 0 disk)
           (shortened 0 0 is.file) emptied_last emptied_stands refl (omega arith) within now w))
           during;
       after = as_of_then disk (cut_to (Log k) 0 0 disk) (synced (Log k) (headed k (cut_to (Log k) 0 0 disk)))
           (emptied_step 0)
-          (headed_after number s k (cut_to (Log k) 0 0 disk)
+          (headed_after number s v k (cut_to (Log k) 0 0 disk)
           (shortened 0 0 is.file) emptied_last emptied_stands refl (omega arith) within);
+      leads = leads_elsewhere (Rewritten q.number) last0.unled (elsewhere_then (Log k) disk (cut_to (Log k) 0 0 disk)
+          (synced (Log k) (headed k (cut_to (Log k) 0 0 disk))) (changed_elsewhere (Log k) disk (shortened 0 0))
+          (headed_elsewhere k (cut_to (Log k) 0 0 disk)));
       written = written_none (synced (Log k) (headed k (cut_to (Log k) 0 0 disk))) none
-          (headed_settled number s k (cut_to (Log k) 0 0 disk)
+          (headed_settled number s v k (cut_to (Log k) 0 0 disk)
           (shortened 0 0 is.file) emptied_last emptied_stands refl (omega arith) within);
     }
 
   -- What an opening makes of the last log.
-  pub last_law : RepairsLast q disk (repairing_of q)
+  pub last_law : RepairsLast number s v q disk (repairing_of q)
   last_law = by q.reading.header (keeps_header q.reading.header q.reading.frames) q.reading.whole (q.length == 0)
       refl refl refl refl
     where
       by : (header : Option ℕ) (keeps whole empty : Bool) → q.reading.header ≡ header
           → keeps_header q.reading.header q.reading.frames ≡ keeps → q.reading.whole ≡ whole
           → (q.length == 0) ≡ empty
-          → RepairsLast q disk (if keeps then (if whole then Kept q.number else Cut q.number
+          → RepairsLast number s v q disk (if keeps then (if whole then Kept q.number else Cut q.number
           (end_of header q.reading.frames)) else
           (if empty then Headed q.number else Rewritten q.number))
       by (Some format) true true empty h p w e = kept_law format h p w

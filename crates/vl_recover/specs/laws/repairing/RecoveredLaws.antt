@@ -11,7 +11,7 @@ use Rattle.vl_layout.specs.declared.segment.Segment.{Segment}
 use Rattle.vl_recover.specs.crash.Alike.{ShowsAs}
 use Rattle.vl_recover.specs.laws.opening.ContentLaws.{walk_more}
 use Rattle.vl_recover.specs.opening.Answers.{Finds, and_made, as_segments, last_format, logs_then}
-use Rattle.vl_recover.specs.crash.Held.{GoOn, log_as_held, opening_held}
+use Rattle.vl_recover.specs.crash.Held.{GoOn, log_as_held, opening_held, view_of}
 use Rattle.vl_recover.specs.opening.Opening.{Opening}
 use Rattle.vl_recover.specs.laws.opening.OpeningLaws.{IsOpened, one_standing, opened}
 use Rattle.vl_recover.specs.opening.Plans.{log_made, new_state}
@@ -120,19 +120,20 @@ module _ {image : Image} (found : Finds image) where
   is_opened = opened image o found.opens
 
   same_logs : is_opened.standing ≡ found.logs
-  same_logs = one_standing image o.state.head is_opened.standing found.logs is_opened.by.standing found.standing
+  same_logs = one_standing image o.state.head is_opened.standing found.logs is_opened.stands found.standing
 
   -- The logs that stand then go on to the number that was found.
   pub found_goes_on : GoOn o.state.covered (logs_then found) o.number
   found_goes_on =
       walk_made made o.state.covered o.number (as_segments found.logs)
       (walk_kept o.state.covered o.number found.logs
-      (subst (λ (l : List StandingLog). walked o.state.covered l ≡ Ok o.number) same_logs is_opened.by.walk))
+      (subst (λ (l : List StandingLog). walked o.state.covered l ≡ Ok o.number) same_logs is_opened.walk))
 
   -- They show what was found.
-  pub found_shows : ShowsAs (opening_held (new_state found.greatest o.state) (logs_then found) o.number) o
+  pub found_shows : ShowsAs (opening_held (new_state found.greatest o.state) (view_of found) (logs_then found) o.number) o
   found_shows = record {
     state = record { levels = refl; head = refl; covered = refl; keep = refl; since = refl };
+    levels = refl;
     logs = filled_made made (as_segments found.logs) ∙ filled_kept found.logs ∙ ap filled (sym same_logs)
         ∙ sym is_opened.logs_are;
     number = refl;

@@ -18,9 +18,11 @@ use Rattle.vl_model.specs.declared.log_frame.LogFrame.{LogFrame}
 use Rattle.vl_recover.specs.crash.Alike.{OpensAsOf}
 use Rattle.vl_recover.specs.laws.crash.AlikeLaws.{LastIsWhole}
 use Rattle.vl_recover.specs.opening.Answers.{and_made}
-use Rattle.vl_recover.specs.crash.Held.{HoldsLogs, IsNowhere}
+use Rattle.vl_recover.specs.crash.Held.{HoldsLogs, IsNowhere, View}
+use Rattle.vl_recover.specs.crash.Starts.{StaysAsItIs}
+use Rattle.vl_recover.specs.opening.Opening.{IsAmong, led_into}
 use Rattle.vl_recover.specs.laws.repairing.LastLaws.{IsLastWritten, LastStands, RepairsLast, last_law}
-use Rattle.vl_recover.specs.laws.opening.LeadsLaws.{Leads, leads_kept, log_added}
+use Rattle.vl_recover.specs.laws.opening.LeadsLaws.{Leads, leads_kept, log_added, unled_unneeded}
 use Rattle.vl_recover.specs.laws.opening.LogsLaws.{IsTheLast, StandUpTo, all_written, last_is, last_stands, made_is, repairing_elsewhere, the_last}
 use Rattle.vl_recover.specs.repairing.Repairing.{LastLog, WhileLast, WhileLog, behind_last, behind_log, behind_strays, last_of, repairing_of}
 use Rattle.vl_recover.specs.laws.repairing.RepairingSteps.{log_step, manifest_log}
@@ -60,44 +62,46 @@ below_log head k old now from same = record {
   removed = λ name below. same.removed name (λ e. below k from (sym e));
 }
 
-pub spare_below : (number head : ℕ) (old now : DiskState) → SameBelow head old now → (name : Name)
-    → IsSpare number head old name → IsSpare number head now name
-spare_below number head old now same name spare = record {
+pub spare_below : (number : ℕ) (s : ManifestState) (v : View) (old now : DiskState) → SameBelow s.head old now → (name : Name)
+    → IsSpare number s v old name → IsSpare number s v now name
+spare_below number s v old now same name spare = record {
   file = spare.file;
   stands = same.standing name spare.below ∙ spare.stands;
   leaves = spare.leaves;
   lower = spare.lower;
   below = spare.below;
+  unneeded = spare.unneeded;
 }
 
 -- ---- the last log
 
-pub record LastStage (number : ℕ) (s : ManifestState) (logs : List StandingLog)
+pub record LastStage (number : ℕ) (s : ManifestState) (v : View) (logs : List StandingLog)
     (disk : DiskState) : Type 0 where
   pub meanwhile : (now : DiskState) → WhileLast (last_of logs) disk now → OpensAsOf disk now
   pub after : OpensAsOf disk (behind_last (last_of logs) disk)
-  pub leads : Leads number s (behind_last (last_of logs) disk)
+  pub leads : Leads number s v (behind_last (last_of logs) disk)
   pub same : SameBelow s.head disk (behind_last (last_of logs) disk)
   pub written : StandUpTo IsLastWritten s.head logs (behind_last (last_of logs) disk)
 
-pub last_stage : (number : ℕ) (s : ManifestState) (logs : List StandingLog) (disk : DiskState)
-    → Leads number s disk
-    → StandUpTo LastStands s.head logs disk → LastStage number s logs disk
-last_stage number s [] disk leads none = record {
+pub last_stage : (number : ℕ) (s : ManifestState) (v : View) (logs : List StandingLog) (disk : DiskState)
+    → Leads number s v disk
+    → StandUpTo LastStands s.head logs disk
+    → ((q : StandingLog) → IsTheLast LastStands s.head q disk → IsAmong (led_into v.levels) q.number → StaysAsItIs q.reading)
+    → LastStage number s v logs disk
+last_stage number s v [] disk leads none led = record {
   meanwhile = λ now during. absurd during;
   after = as_before disk;
   leads = leads;
   same = below_same s.head disk;
   written = none;
 }
-last_stage number s (q ∷ qs) disk leads stand = record {
+last_stage number s v (q ∷ qs) disk leads stand led = record {
   meanwhile = subst (λ (l : LastLog). (now : DiskState) → WhileLast l disk now → OpensAsOf disk now)
       (sym (last_is q qs)) repairs.meanwhile;
   after = subst (λ (l : LastLog). OpensAsOf disk (behind_last l disk)) (sym (last_is q qs)) repairs.after;
-  leads = leads_kept number s (Log last) disk (behind_last (last_of (q ∷ qs)) disk) elsewhere
-      (λ m from. manifest_log m last) leads;
+  leads = subst (λ (l : LastLog). Leads number s v (behind_last l disk)) (sym (last_is q qs)) repairs.leads;
   same = below_log s.head last disk (behind_last (last_of (q ∷ qs)) disk) is.from elsewhere;
-  written = all_written s.head (q ∷ qs) disk each stand;
+  written = all_written s.head (q ∷ qs) disk (λ x at. (each x at).written) stand;
 }
   where
     last : ℕ
@@ -106,10 +110,10 @@ last_stage number s (q ∷ qs) disk leads stand = record {
     is : IsTheLast LastStands s.head (the_last q qs) disk
     is = last_stands LastStands s.head q qs disk stand
 
-    each : (x : StandingLog) → IsTheLast LastStands s.head x disk → RepairsLast x disk (repairing_of x)
-    each x at = last_law number s x disk (record { leads = leads; from = at.from; above = at.above }) at.holds
+    each : (x : StandingLog) → IsTheLast LastStands s.head x disk → RepairsLast number s v x disk (repairing_of x)
+    each x at = last_law number s v x disk leads at.from at.above (led x at) at.holds
 
-    repairs : RepairsLast (the_last q qs) disk (repairing_of (the_last q qs))
+    repairs : RepairsLast number s v (the_last q qs) disk (repairing_of (the_last q qs))
     repairs = each (the_last q qs) is
 
     elsewhere : SameElsewhere (Log (the_last q qs).number) disk (behind_last (last_of (q ∷ qs)) disk)
@@ -147,34 +151,40 @@ made_free s (q ∷ qs) disk stand below k made =
       nowhere = λ m above. last.above m (omega (arith, less, same, above));
     }
 
-pub record LogStage (number : ℕ) (s : ManifestState) (new : Option ℕ) (logs : List Segment)
+pub record LogStage (number : ℕ) (s : ManifestState) (v : View) (new : Option ℕ) (logs : List Segment)
     (disk : DiskState) : Type 0 where
   pub meanwhile : (now : DiskState) → WhileLog new disk now → OpensAsOf disk now
   pub after : OpensAsOf disk (behind_log new disk)
-  pub leads : Leads number s (behind_log new disk)
+  pub leads : Leads number s v (behind_log new disk)
   pub same : SameBelow s.head disk (behind_log new disk)
   pub held : HoldsLogs s.head (logs ++ and_made new) (behind_log new disk)
 
-pub log_stage : (number : ℕ) (s : ManifestState) (new : Option ℕ) (logs : List Segment) (disk : DiskState)
-    → Leads number s disk
+pub free_unled : (number : ℕ) (s : ManifestState) (v : View) (k : ℕ) (disk : DiskState) → Leads number s v disk
+    → IsNowhere disk (Log k) → IsAmong (led_into v.levels) k → ⊥
+free_unled number s v k disk leads nowhere among =
+    let (bytes, read, stands) = leads.needs.logs k among in some_none (settled bytes) (sym stands ∙ nowhere.free)
+
+pub log_stage : (number : ℕ) (s : ManifestState) (v : View) (new : Option ℕ) (logs : List Segment) (disk : DiskState)
+    → Leads number s v disk
     → ((image : Image) → MayLeave disk image → LastIsWhole s.head image)
     → ((k : ℕ) → new ≡ Some k → IsFreeFrom s.head k disk)
-    → HoldsLogs s.head logs disk → LogStage number s new logs disk
-log_stage number s None logs disk leads whole free held = record {
+    → HoldsLogs s.head logs disk → LogStage number s v new logs disk
+log_stage number s v None logs disk leads whole free held = record {
   meanwhile = λ now during. absurd during;
   after = as_before disk;
   leads = leads;
   same = below_same s.head disk;
   held = subst (λ (l : List Segment). HoldsLogs s.head l disk) (sym (append-nil logs)) held;
 }
-log_stage number s (Some k) logs disk leads whole free held =
+log_stage number s v (Some k) logs disk leads whole free held =
     let at = free k refl in
     let now = made (Log k) (log_header log_format k) disk in
     let same = made_elsewhere (Log k) (log_header log_format k) disk in
     record {
-      meanwhile = λ now during. log_step number s k disk now leads at.from at.nowhere whole during;
-      after = log_step number s k disk now leads at.from at.nowhere whole (durable refl);
-      leads = leads_kept number s (Log k) disk now same (λ m from. manifest_log m k) leads;
+      meanwhile = λ now during. log_step number s v k disk now leads at.from at.nowhere whole during;
+      after = log_step number s v k disk now leads at.from at.nowhere whole (durable refl);
+      leads = leads_kept number s v (Log k) disk now same (λ m from. manifest_log m k) (unled_unneeded s v k
+          (free_unled number s v k disk leads (at.nowhere k (omega arith)))) leads;
       same = below_log s.head k disk now at.from same;
       held = log_added disk k s.head logs at.from at.nowhere held;
     }

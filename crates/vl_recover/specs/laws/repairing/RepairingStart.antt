@@ -1,37 +1,39 @@
--- What is so of the disk on which a repairing begins: its new manifest is above all others, and whatever a
--- crash leaves says what the new one says.
-use Rattle.std.specs.Prelude.{◌≡◌, ◌≢◌, ◌⊎◌, ℕ, ◌+◌, ◌≤◌, ◌<◌, ◌==◌, Bool, Option, None, Some, Result, Ok, Err, if◌then◌else◌, false, true, refl}
+-- What is so of the disk on which a repairing begins: its new manifest is above all others, and says what is in range; and
+-- what the store needs is durable.
+use Rattle.std.specs.Prelude.{◌≡◌, ◌≢◌, ◌⊎◌, ℕ, ◌+◌, ◌≤◌, ◌<◌, ◌==◌, Bool, List, [], ◌∷◌, Option, None, Some, Result, Ok, Err, if◌then◌else◌, false, true, refl}
 use Rattle.std.specs.FinMap.{get}
 use Rattle.std.specs.Option.{option_map}
 use Rattle.std.proofs.Common.{ap, arith, inl, inr, subst, sym, ◌∙◌, ⊎_elim}
 use Rattle.std.proofs.lemmas.Bool.{cases_lt}
 use Rattle.std.proofs.lemmas.Bool.Decides.{nat_tests}
 use Rattle.vl_disk.specs.Crash.{Image}
-use Rattle.vl_disk.specs.DiskState.{DiskState, File, IsLawful}
+use Rattle.vl_disk.specs.DiskState.{DiskState, File, IsLawful, settled}
 use Rattle.vl_disk.specs.Name.{file_number}
 use Rattle.vl_disk.specs.Started.{IsRead}
 use Rattle.vl_disk.specs.declared.name.Name.{Name}
 use Rattle.vl_disk.specs.declared.name.Name.TheVariants.{Log, Manifest, Table}
-use Rattle.vl_manifest.specs.Levels.{no_tables}
-use Rattle.vl_manifest.specs.Tables.{SaysWithoutTables}
+use Rattle.vl_frame.specs.Runs.{HasFrame}
+use Rattle.vl_manifest.specs.Grammar.{edits_grammar}
+use Rattle.vl_manifest.specs.Manifest.{ManifestSays}
 use Rattle.vl_manifest.specs.laws.ManifestLaws.{says_in_range}
-use Rattle.vl_manifest.specs.laws.TableLaws.{bare_levels, told_bare}
 use Rattle.vl_manifest.specs.laws.StateLaws.{IsInRange, opened_in_range}
-use Rattle.vl_manifest.specs.States.{fresh_state}
+use Rattle.vl_manifest.specs.States.{fresh_state, whole_edits}
 use Rattle.vl_manifest.specs.declared.state.ManifestState.{ManifestState}
+use Rattle.vl_model.specs.Formats.{manifest_format}
 use Rattle.vl_model.specs.Limits.{max_file_number}
 use Rattle.vl_model.specs.declared.counter.Counter.{Counter}
 use Rattle.vl_model.specs.declared.counter.Counter.TheVariants as counters
 use Rattle.vl_recover.specs.opening.Answers.{Finds, used_up}
-use Rattle.vl_recover.specs.crash.Held.{IsNowhere}
-use Rattle.vl_recover.specs.laws.opening.HeldLaws.{left_nowhere}
-use Rattle.vl_recover.specs.laws.repairing.RepairingSteps.{AllSay}
-use Rattle.vl_recover.specs.opening.Opening.{Bare, Headless, Heading, Led, Newest, NewerFormat, NotAStore, Refusal, Says, of_manifest}
-use Rattle.vl_recover.specs.laws.opening.OpeningLaws.{IsOpened, is_opened, one_standing, opened, some_none}
-use Rattle.vl_recover.specs.laws.crash.AlikeLaws.{no_state}
+use Rattle.vl_recover.specs.crash.Held.{DurableAs, IsNowhere, Needs}
+use Rattle.vl_recover.specs.laws.crash.Torn.{CanWrite}
+use Rattle.vl_recover.specs.laws.opening.LeadsLaws.{IsUnneeded}
+use Rattle.vl_recover.specs.laws.repairing.RepairingSteps.{table_manifest}
+use Rattle.vl_recover.specs.opening.Opening.{Bare, FoundTable, Heading, Headless, IsAmong, IsNamed, Led, NamedLevel, NamedLevels, NamedLogs, NewerFormat, Newest, NotAStore, Refusal, Says, key_before, led_into, of_manifest}
+use Rattle.vl_recover.specs.laws.opening.OpeningLaws.{IsOpened, one_standing, opened, some_none, some_same}
+use Rattle.vl_recover.specs.laws.crash.AlikeLaws.{log_manifest, no_state}
 use Rattle.vl_recover.specs.opening.Plans.{IsGreatest, log_made, new_state, passes}
 use Rattle.vl_recover.specs.laws.repairing.StageLaws.{ok_same}
-use Rattle.vl_recover.specs.crash.Starts.{MayOpen}
+use Rattle.vl_recover.specs.crash.Starts.{IsDurable, MayOpen, MayOpenAs}
 use Rattle.vl_recover.specs.opening.Walk.{walked}
 
 -- ---- what a heading says is in range
@@ -56,26 +58,13 @@ says_range : (heading : Heading) (s : ManifestState) → Says heading (Ok s) →
 says_range Bare s says = subst IsInRange (sym (ok_same {E = Refusal} s fresh_state says)) fresh_range
 says_range (Led number bytes) s (said, manifest, is) = by said manifest is
   where
-    by : (said : Result ManifestState ℕ) → SaysWithoutTables number bytes said → Ok s ≡ of_manifest number said
+    by : (said : Result ManifestState ℕ) → ManifestSays number bytes said → Ok s ≡ of_manifest number said
         → IsInRange s
     by (Ok t) manifest is = subst IsInRange (sym (ok_same {E = Refusal} s t is))
-        (says_in_range number bytes t (told_bare number bytes t manifest).says)
+        (says_in_range number bytes t manifest)
     by (Err place) manifest is = absurd (no_state s _ is)
 says_range Headless s says = absurd (no_state s NotAStore says)
 says_range (Newest format) s says = absurd (no_state s (NewerFormat format) says)
-
--- and has no tables
-says_bare : (heading : Heading) (s : ManifestState) → Says heading (Ok s) → s.levels ≡ no_tables
-says_bare Bare s says = ap (λ (t : ManifestState). t.levels) (ok_same {E = Refusal} s fresh_state says)
-says_bare (Led number bytes) s (said, manifest, is) = by said manifest is
-  where
-    by : (said : Result ManifestState ℕ) → SaysWithoutTables number bytes said → Ok s ≡ of_manifest number said
-        → s.levels ≡ no_tables
-    by (Ok t) manifest is = ap (λ (u : ManifestState). u.levels) (ok_same {E = Refusal} s t is)
-        ∙ bare_levels number bytes t (told_bare number bytes t manifest)
-    by (Err place) manifest is = absurd (no_state s _ is)
-says_bare Headless s says = absurd (no_state s NotAStore says)
-says_bare (Newest format) s says = absurd (no_state s (NewerFormat format) says)
 
 -- ---- numbers that stand
 
@@ -111,6 +100,33 @@ module _ (read : Image) (start : DiskState) (is_read : IsRead read start) where
       omega (arith, fits, number greatest))
       (cases_lt greatest 1)
 
+-- ---- what is named stands
+
+module _ (image : Image) where
+  level_stands : (deeper : Bool) (before : Option (List ℕ)) (ns : List ℕ) (ts : List FoundTable) → NamedLevel deeper image before ns (Ok ts)
+      → (n : ℕ) → IsAmong ns n → (bytes : List ℕ) × (get image (Table n) ≡ Some bytes)
+  level_stands deeper before [] ts is n among = absurd among
+  level_stands deeper before (m ∷ ns) ts (t, (stands, above), (others, rest, e)) n among = ⊎_elim
+      (λ (at : m ≡ n). (stands.bytes, ap (λ (x : ℕ). get image (Table x)) (sym at) ∙ stands.stands))
+      (λ (behind_it : IsAmong ns n). level_stands deeper (key_before deeper t) ns others rest n behind_it)
+      among
+
+  pub levels_stand : (deeper : Bool) (levels : List (List ℕ)) (found : List (List FoundTable)) → NamedLevels deeper image levels (Ok found)
+      → (n : ℕ) → IsNamed levels n → (bytes : List ℕ) × (get image (Table n) ≡ Some bytes)
+  levels_stand deeper [] found is n named = absurd named
+  levels_stand deeper (ns ∷ levels) found (ts, level, (others, rest, e)) n named = ⊎_elim
+      (λ (here : IsAmong ns n). level_stands deeper None ns ts level n here)
+      (λ (below : IsNamed levels n). levels_stand true levels others rest n below)
+      named
+
+  pub led_stand : (ns : List ℕ) → NamedLogs image ns (Ok tt) → (n : ℕ) → IsAmong ns n
+      → (bytes : List ℕ) × (get image (Log n) ≡ Some bytes)
+  led_stand [] is n among = absurd among
+  led_stand (m ∷ ns) (u, (bytes, stands, header), rest) n among = ⊎_elim
+      (λ (at : m ≡ n). (bytes, ap (λ (x : ℕ). get image (Log x)) (sym at) ∙ stands))
+      (λ (behind_it : IsAmong ns n). led_stand ns rest n behind_it)
+      among
+
 -- ---- numbers that are used up
 
 false_true : false ≡ true → ⊥
@@ -130,26 +146,28 @@ not_last false false e = refl
 
 -- ---- of what an opening finds on a disk that may be opened
 
--- An opening that found this repairs the disk: a store may be opened on it, it reads as the image, and no
--- number is used up.
+-- An opening that found this repairs the disk: a store may be opened on it, it reads as the image, no number is used up, and
+-- the new state can be written.
 pub record Begins {read : Image} (found : Finds read) (start : DiskState) : Type 0 where
   pub lawful : IsLawful start
   pub may : MayOpen start
   pub is_read : IsRead read start
   pub left : used_up found ≡ None
+  -- the new state's frame is short enough, else memory is said to be wanting
+  pub has : HasFrame (edits_grammar manifest_format) (whole_edits (new_state found.greatest found.opening.state))
 
 module _ {read : Image} (found : Finds read) (start : DiskState) (begins : Begins found start) where
   abbrev state : ManifestState
   state = found.opening.state
 
-  opened_read : IsOpened read found.opening
+  pub opened_read : IsOpened read found.opening
   opened_read = opened read found.opening found.opens
 
   -- its logs give the number that it opens at
   pub found_walk : walked found.opening.state.covered found.logs ≡ Ok found.opening.number
   found_walk = ap (walked state.covered)
-      (one_standing read state.head found.logs opened_read.standing found.standing opened_read.by.standing)
-      ∙ opened_read.by.walk
+      (one_standing read state.head found.logs opened_read.standing found.standing opened_read.stands)
+      ∙ opened_read.walk
 
   -- what the new manifest says is in range
   pub new_range : IsInRange (new_state found.greatest found.opening.state)
@@ -158,11 +176,7 @@ module _ {read : Image} (found : Finds read) (start : DiskState) (begins : Begin
       (λ n. refl) begins.lawful found.are_greatest.log)
       (greatest_fits read start begins.is_read Table found.greatest.table
       (λ n. refl) begins.lawful found.are_greatest.table)
-      (says_range opened_read.heading state opened_read.by.says)
-
-  -- it names no tables,
-  pub new_bare : (new_state found.greatest found.opening.state).levels ≡ no_tables
-  new_bare = says_bare opened_read.heading state opened_read.by.says
+      (says_range opened_read.heading state opened_read.says)
 
   -- and its number is one that a manifest may have.
   pub manifest_fits : found.greatest.manifest + 1 ≤ max_file_number
@@ -190,26 +204,9 @@ module _ {read : Image} (found : Finds read) (start : DiskState) (begins : Begin
           absurd (stands (free higher (omega (arith, above, more)))))
           (stands_or_not (get start.removed (Manifest m)))
 
-  -- Whatever a crash leaves says what the new manifest says, but for the next numbers.
-  pub all_say : AllSay start (found.greatest.manifest + 1) (new_state found.greatest found.opening.state)
-  all_say = record {
-    same = λ image o left is.
-        (let same = begins.may.says read image found.opening o begins.is_read found.opens left
-        (is_opened image o is) in
-        record {
-          levels = same.levels;
-          head = same.head;
-          covered = same.covered;
-          keep = same.keep;
-          since = same.since;
-        });
-    above = λ image m bytes left r. ⊎_elim
-        (λ (less : found.greatest.manifest < m). absurd
-        (some_none bytes (sym r.stands ∙ left_nowhere start image (Manifest m)
-        (manifests_nowhere m less) left.left)))
-        (λ (le : m ≤ found.greatest.manifest). omega (arith, le))
-        (cases_lt found.greatest.manifest m);
-  }
+  -- So it can be written.
+  pub can_write : CanWrite (found.greatest.manifest + 1) (new_state found.greatest found.opening.state)
+  can_write = record { fits = omega (arith, manifest_fits); range = new_range; has = begins.has }
 
   -- A log that stands has at most the greatest number.
   pub log_below : (m : ℕ) (file : File) → get start.standing (Log m) ≡ Some file → m ≤ found.greatest.log
@@ -218,3 +215,34 @@ module _ {read : Image} (found : Finds read) (start : DiskState) (begins : Begin
       ∙ unread_free read start begins.is_read (Log m) (found.are_greatest.log.none_above m less))))
       (λ (le : m ≤ found.greatest.log). le)
       (cases_lt found.greatest.log m)
+
+  pub may_as : MayOpenAs start found.opening
+  may_as = begins.may.as_read read found.opening begins.is_read found.opens
+
+  -- ---- what is needed is durable
+
+  file_of : (name : Name) (bytes : List ℕ) → get read name ≡ Some bytes → (file : File) × (get start.standing name ≡ Some file) × (file.bytes ≡ bytes)
+  file_of name bytes there =
+      let (file, stands) = some_file (get start.standing name) (λ none. some_none bytes (sym there ∙ free_unread read start begins.is_read name none)) in
+      (file, stands, some_same file.bytes bytes (sym (begins.is_read.each name ∙ ap (option_map (λ (f : File). f.bytes)) stands) ∙ there))
+
+  durable_file : (name : Name) (bytes : List ℕ) → get read name ≡ Some bytes
+      → ((file : File) → get start.standing name ≡ Some file → IsDurable file) → DurableAs read start name
+  durable_file name bytes there each =
+      let (file, stands, is_bytes) = file_of name bytes there in
+      let same = (begins.lawful.standing name file stands).as_synced (each file stands).0 in
+      (bytes, there, stands ∙ ap Some same ∙ ap (λ (b : List ℕ). Some (settled b)) is_bytes)
+
+  pub start_needs : Needs (new_state found.greatest found.opening.state) (record { image = read; levels = found.opening.levels }) start
+  start_needs = record {
+    named = opened_read.levels;
+    led = opened_read.led;
+    tables = λ n named. (let (bytes, there) = levels_stand read false found.opening.state.levels found.opening.levels opened_read.levels n named in
+        durable_file (Table n) bytes there (λ file stands. may_as.tables n file named stands));
+    logs = λ n among. (let (bytes, there) = led_stand read (led_into found.opening.levels) opened_read.led n among in
+        durable_file (Log n) bytes there (λ file stands. (may_as.led n file among stands).0));
+  }
+
+  pub manifest_unneeded : (m : ℕ) → IsUnneeded (new_state found.greatest found.opening.state)
+      (record { image = read; levels = found.opening.levels }) (Manifest m)
+  manifest_unneeded m = record { tables = λ n named. table_manifest n m; logs = λ n among. log_manifest n m }

@@ -1,5 +1,5 @@
--- Each call of a repairing: what a crash leaves while it is under way opens as something that it could have
--- left before it.
+-- Each call of a repairing behind the new manifest: what a crash leaves while it is under way opens as something that it could
+-- have left before it.
 use Rattle.std.specs.Prelude.{◌≡◌, ◌≢◌, ◌⊎◌, ℕ, ◌+◌, ◌^◌, ◌≤◌, ◌<◌, List, [], ◌∷◌, length, All, Option, None, Some, true, refl}
 use Rattle.std.specs.FinMap.{get}
 use Rattle.std.specs.Option.{option_map}
@@ -14,32 +14,26 @@ use Rattle.vl_disk.specs.MadeFile.{WhileMaking}
 use Rattle.vl_disk.specs.laws.NameMap.{get_removed}
 use Rattle.vl_disk.specs.declared.name.Name.{Name}
 use Rattle.vl_disk.specs.declared.name.Name.TheVariants.{Log, Manifest, Table}
-use Rattle.vl_manifest.specs.Current.{StandsReadable}
-use Rattle.vl_manifest.specs.Levels.{no_tables}
-use Rattle.vl_manifest.specs.Manifest.{IsReadable, manifest_bytes}
-use Rattle.vl_manifest.specs.laws.MadeLaws.{SaysAsRead, bare_manifest}
-use Rattle.vl_model.specs.Formats.{manifest_format}
-use Rattle.vl_manifest.specs.States.{as_read}
-use Rattle.vl_manifest.specs.laws.ManifestLaws.{says_readable}
-use Rattle.vl_manifest.specs.laws.StateLaws.{IsInRange}
-use Rattle.vl_manifest.specs.States.{whole_edits}
 use Rattle.vl_manifest.specs.declared.state.ManifestState.{ManifestState}
-use Rattle.vl_recover.specs.crash.Alike.{IsLeft, OpensAsOf, OpensLike, SameState, Spells}
-use Rattle.vl_recover.specs.laws.crash.AlikeLaws.{LastIsWhole, SameBut, last_alike, lead_over, led_anew, like_lead, like_new, log_manifest, one_more, read_same, state_then}
+use Rattle.vl_recover.specs.crash.Alike.{IsLeft, OpensAsOf, OpensLike, Spells}
+use Rattle.vl_recover.specs.laws.crash.AlikeLaws.{LastIsWhole, SameBut, alike_some, last_alike, log_same, one_more}
 use Rattle.vl_recover.specs.laws.opening.ContentLaws.{SameContent, none_each, same_each}
-use Rattle.vl_recover.specs.crash.Held.{IsNowhere}
-use Rattle.vl_recover.specs.laws.opening.HeldLaws.{left_nowhere}
-use Rattle.vl_recover.specs.laws.opening.LeadsLaws.{Leads, current_kept, leads_image, led_like, led_same}
+use Rattle.vl_recover.specs.crash.Held.{IsNowhere, View}
+use Rattle.vl_recover.specs.laws.opening.HeldLaws.{left_nowhere, needs_image}
+use Rattle.vl_recover.specs.laws.opening.LeadsLaws.{IsUnneeded, Leads, current_kept, leads_image, led_like, led_same}
 use Rattle.vl_recover.specs.laws.crash.OneName.{IsLeftOne, IsPart, Making, WasLeft, as_before, done, left_still, making, may_miss, one_name, part_empty, part_some, torn, waits}
-use Rattle.vl_recover.specs.opening.Opening.{Opening}
-use Rattle.vl_recover.specs.laws.opening.OpeningLaws.{IsOpened, some_none, some_same}
-use Rattle.vl_recover.specs.laws.crash.Torn.{Leaves, ReadsFrames, header_reads, leaves_read, no_reading, part_loose, part_synced, torn_header, torn_manifest}
+use Rattle.vl_recover.specs.opening.Opening.{IsAmong, led_into}
+use Rattle.vl_recover.specs.laws.opening.OpeningLaws.{some_none}
+use Rattle.vl_recover.specs.laws.crash.Torn.{Leaves, ReadsFrames, header_reads, leaves_read, no_reading, part_loose, part_synced, torn_header}
 use Rattle.vl_model.specs.Formats.{log_format}
 use Rattle.vl_seglog.specs.Frames.{log_header}
 use Rattle.vl_seglog.specs.LogReading.{LogReading, ReadsLog}
 
 pub table_manifest : (m n : ℕ) → Table m ≡ Manifest n → ⊥
 table_manifest m n e = cc
+
+table_log : (m n : ℕ) → Table m ≡ Log n → ⊥
+table_log m n e = cc
 
 pub manifest_log : (m n : ℕ) → Manifest m ≡ Log n → ⊥
 manifest_log m n e = cc
@@ -64,105 +58,30 @@ left_standing : (name : Name) (disk : DiskState) (file : Option File) (left : Op
 left_standing name disk file left stands one = subst
     (λ (o : Option File). IsLeftOne name o (get disk.removed name) left) (sym stands) one
 
--- ---- the new manifest is made
-
--- Whatever the disk leaves says this state, but for the numbers that may still be given, and has no manifest
--- above this number that can be read.
-pub record AllSay (disk : DiskState) (number : ℕ) (s : ManifestState) : Type 0 where
-  pub same : (image : Image) (o : Opening) → IsLeft disk image → IsOpened image o → SameState s o.state
-  pub above : (image : Image) (m : ℕ) (bytes : List ℕ) → IsLeft disk image → StandsReadable image m bytes
-      → m ≤ number
-
-module _ (number : ℕ) (s : ManifestState) (fits : number < 2 ^ 32) (range : IsInRange s) (bare : s.levels ≡ no_tables)
-    (old now : DiskState) (free : get old.standing (Manifest number) ≡ None) (all : AllSay old number s) where
-  abbrev name : Name
-  name = Manifest number
-
-  abbrev piece : List ℕ
-  piece = manifest_bytes number (whole_edits s ∷ [])
-
-  -- it isn't there, or can't be read
-  module _ (image before : Image) (same : SameBut (Manifest number) image before)
-      (gone : get before (Manifest number) ≡ None) where
-    same_logs : (m : ℕ) → get image (Log m) ≡ get before (Log m)
-    same_logs m = same (Log m) (log_manifest m number)
-
-    unread : ((bytes : List ℕ) → StandsReadable image number bytes → ⊥) → OpensLike image before
-    unread not = like_lead image before
-        (lead_over image before number same not (λ bytes r. some_none bytes (sym r.stands ∙ gone)))
-        same_logs (λ m. same (Table m) (table_manifest m number))
-
-    reads : (bytes : List ℕ) → get image (Manifest number) ≡ Some bytes → SaysAsRead number bytes s
-        → IsLeft old before → OpensLike image before
-    reads bytes is said low = like_new image before number bytes (as_read said.format s) said.says
-        (led_anew image before number bytes same (record {
-          stands = is;
-          readable =
-              says_readable number bytes (as_read said.format s) said.says.says;
-        }) (λ m others r. all.above before m others low r))
-        (λ o opened. state_then (as_read said.format s) s o.state (read_same said.format s) (all.same before o low opened)) same_logs
-
-  -- before it nothing stood there
-  missing : IsLeftOne (Manifest number) (get old.standing (Manifest number))
-      (get old.removed (Manifest number)) None
-  missing = left_standing (Manifest number) old None None free
-      (may_miss (Manifest number) (get old.removed (Manifest number)))
-
-  pub manifest_step : WhileMaking (Manifest number) (manifest_bytes number (whole_edits s ∷ [])) old now
-      → OpensAsOf old now
-  manifest_step during = by (making (Manifest number) piece old now during)
-    where
-      by : Making (Manifest number) (manifest_bytes number (whole_edits s ∷ [])) old now → OpensAsOf old now
-      by (waits is) = subst (OpensAsOf old) (sym is) (as_before old)
-      by (torn file part stands elsewhere) = one_name (Manifest number) old now elsewhere
-          (λ left one. there left (standing_left (Manifest number) now (Some file) left stands one))
-        where
-          there : (left : Option (List ℕ)) → IsLeftOne (Manifest number) (Some file)
-              (get now.removed (Manifest number)) left → WasLeft old (Manifest number) left
-          there None one = record {
-            was = None;
-            is_left = missing;
-            like = λ image before low same is gone. unread image before same gone
-                (λ bytes r. some_none bytes (sym r.stands ∙ is));
-          }
-          there (Some bytes) one = record {
-            was = None;
-            is_left = missing;
-            like = λ image before low same is gone. ⊎_elim
-                (λ (not : IsReadable number bytes → ⊥). unread image before same gone
-                (λ others r. not (subst (IsReadable number)
-                (some_same others bytes (sym r.stands ∙ is)) r.readable)))
-                (λ (says : SaysAsRead number bytes s). reads image before same gone bytes is says low)
-                (torn_manifest number s fits range bare file part bytes one.no_chance);
-          }
-      by (done stands elsewhere) = one_name (Manifest number) old now elsewhere (λ left one. record {
-        was = None;
-        is_left = missing;
-        like = λ image before low same is gone. reads image before same gone piece
-            (is ∙ settled_left piece (get now.removed (Manifest number)) left
-            (standing_left (Manifest number) now (Some (settled piece)) left stands one).may)
-            (record { format = manifest_format; says = bare_manifest s bare number range fits }) low;
-      })
-
 -- ---- the last log is changed
 
 -- The log of this number is the last one from head on, and the new manifest leads.
-pub record IsLast (number : ℕ) (s : ManifestState) (k : ℕ) (disk : DiskState) : Type 0 where
-  pub leads : Leads number s disk
+pub record IsLast (number : ℕ) (s : ManifestState) (v : View) (k : ℕ) (disk : DiskState) : Type 0 where
+  pub leads : Leads number s v disk
+  -- no table leads into it
+  pub unled : IsAmong (led_into v.levels) k → ⊥
   pub from : s.head ≤ k
   pub above : (m : ℕ) → k < m → IsNowhere disk (Log m)
 
 -- where it has the same frames as before
-last_like : (number : ℕ) (s : ManifestState) (k : ℕ) (disk : DiskState) → IsLast number s k disk
+last_like : (number : ℕ) (s : ManifestState) (v : View) (k : ℕ) (disk : DiskState) → IsLast number s v k disk
     → (was now : List ℕ) (reading : LogReading) → ReadsLog k was reading → ReadsFrames k now reading
     → (image before : Image) → IsLeft disk before → SameBut (Log k) image before
     → get image (Log k) ≡ Some now → get before (Log k) ≡ Some was
     → OpensLike image before
-last_like number s k disk last was now reading read reads image before low same stands stood =
-    let led = leads_image number s disk before last.leads low.left in
-    led_like number last.leads.bytes s image before last.leads.says led
+last_like number s v k disk last was now reading read reads image before low same stands stood =
+    let led = leads_image number s v disk before last.leads low.left in
+    led_like number last.leads.bytes s v before last.leads.says led
+    (needs_image s v disk before last.leads.needs low.left) image
     (current_kept number (Log k) image before last.leads.bytes same (λ m from. manifest_log m k) led)
-    (λ logs standing. last_alike image before k same
+    (λ n named. same (Table n) (λ e. table_log n k e))
+    (λ n among. same (Log n) (λ e. last.unled (subst (IsAmong (led_into v.levels)) (log_same n k e) among)))
+    (λ logs standing. alike_some image s.head logs (last_alike image before k same
     (λ m less. left_nowhere disk before (Log m) (last.above m less) low.left)
     (record {
       now = now;
@@ -176,15 +95,32 @@ last_like number s k disk last was now reading read reads image before low same 
       read_was = read;
       same = reads.same;
     })
-    s.head logs last.from standing)
+    s.head logs last.from standing))
 
-module _ (number : ℕ) (s : ManifestState) (k : ℕ) (old : DiskState) (file : File)
-    (last : IsLast number s k old) (stands : get old.standing (Log k) ≡ Some file) where
+module _ (k : ℕ) (old : DiskState) (file : File) (stands : get old.standing (Log k) ≡ Some file) where
   leaves_one : (leaves : Leaves (Log k) file) → IsLeftOne (Log k) (get old.standing (Log k))
       (get old.removed (Log k)) (Some leaves.bytes)
   leaves_one leaves = left_standing (Log k) old (Some file) (Some leaves.bytes) stands
       (record { may = leaves.may; no_chance = leaves.no_chance })
 
+  -- It may be synced.
+  pub sync_step : NoChanceOne Spells (Log k) (Some file) (Some file.bytes)
+      → OpensAsOf old (synced (Log k) old)
+  sync_step as_read = one_name (Log k) old (synced (Log k) old) (changed_elsewhere (Log k) old synced_file)
+      (λ left one. there left (settled_left file.bytes (get old.removed (Log k)) left
+      (subst (λ (o : Option File). IsLeftOne (Log k) o
+      (get old.removed (Log k)) left) now_there one).may))
+    where
+      now_there : get (synced (Log k) old).standing (Log k) ≡ Some (settled file.bytes)
+      now_there = changed_there (Log k) old synced_file ∙ ap (option_map synced_file) stands
+
+      there : (left : Option (List ℕ)) → left ≡ Some file.bytes → WasLeft old (Log k) left
+      there left is = left_still old (Log k) left (subst
+          (IsLeftOne (Log k) (get old.standing (Log k)) (get old.removed (Log k))) (sym is)
+          (leaves_one (leaves_read (Log k) file as_read)))
+
+module _ (number : ℕ) (s : ManifestState) (v : View) (k : ℕ) (old : DiskState) (file : File)
+    (last : IsLast number s v k old) (stands : get old.standing (Log k) ≡ Some file) where
   -- It may be changed where what is left of it has the same frames as something that could have been left
   -- before, or could itself have been left.
   pub change_step : (leaves : Leaves (Log k) file) (reading : LogReading) → ReadsLog k leaves.bytes reading
@@ -209,29 +145,13 @@ module _ (number : ℕ) (s : ManifestState) (k : ℕ) (old : DiskState) (file : 
       there (Some bytes) one = ⊎_elim
           (λ (same : ReadsFrames k bytes reading). record {
             was = Some leaves.bytes;
-            is_left = leaves_one leaves;
+            is_left = leaves_one k old file stands leaves;
             like = λ image before low but is was.
-                last_like number s k old last leaves.bytes bytes reading read same image before low but is was;
+                last_like number s v k old last leaves.bytes bytes reading read same image before low but is was;
           })
           (λ (still : IsLeftOne (Log k) (Some file) (get old.removed (Log k)) (Some bytes)). left_still old
           (Log k) (Some bytes) (left_standing (Log k) old (Some file) (Some bytes) stands still))
           (left_as bytes one.may one.no_chance)
-
-  -- It may be synced.
-  pub sync_step : NoChanceOne Spells (Log k) (Some file) (Some file.bytes)
-      → OpensAsOf old (synced (Log k) old)
-  sync_step as_read = one_name (Log k) old (synced (Log k) old) (changed_elsewhere (Log k) old synced_file)
-      (λ left one. there left (settled_left file.bytes (get old.removed (Log k)) left
-      (subst (λ (o : Option File). IsLeftOne (Log k) o
-      (get old.removed (Log k)) left) now_there one).may))
-    where
-      now_there : get (synced (Log k) old).standing (Log k) ≡ Some (settled file.bytes)
-      now_there = changed_there (Log k) old synced_file ∙ ap (option_map synced_file) stands
-
-      there : (left : Option (List ℕ)) → left ≡ Some file.bytes → WasLeft old (Log k) left
-      there left is = left_still old (Log k) left (subst
-          (IsLeftOne (Log k) (get old.standing (Log k)) (get old.removed (Log k))) (sym is)
-          (leaves_one (leaves_read (Log k) file as_read)))
 
 -- ---- the new log is made
 
@@ -240,10 +160,16 @@ unfilled : (reading : LogReading) → SameContent reading no_reading → reading
 unfilled reading (none_each none here) = none
 unfilled reading (same_each header frames) = frames
 
-module _ (number : ℕ) (s : ManifestState) (k : ℕ) (old now : DiskState) (leads : Leads number s old)
+module _ (number : ℕ) (s : ManifestState) (v : View) (k : ℕ) (old now : DiskState) (leads : Leads number s v old)
     (from : s.head ≤ k)
     (nowhere : (m : ℕ) → k ≤ m → IsNowhere old (Log m)) (whole : (image : Image) → MayLeave old image
     → LastIsWhole s.head image) where
+  -- no table leads into it, since it doesn't stand
+  unled : IsAmong (led_into v.levels) k → ⊥
+  unled among =
+      let (bytes, read, stands) = leads.needs.logs k among in
+      some_none (settled bytes) (sym stands ∙ (nowhere k (omega arith)).free)
+
   pub log_step : WhileMaking (Log k) (log_header log_format k) old now → OpensAsOf old now
   log_step during = by (making (Log k) (log_header log_format k) old now during)
     where
@@ -255,10 +181,13 @@ module _ (number : ℕ) (s : ManifestState) (k : ℕ) (old now : DiskState) (lea
           → SameBut (Log k) image before
           → get image (Log k) ≡ Some bytes → get before (Log k) ≡ None → OpensLike image before
       new bytes reads image before low same is gone =
-          let led = leads_image number s old before leads low.left in
-          led_like number leads.bytes s image before leads.says led
+          let led = leads_image number s v old before leads low.left in
+          led_like number leads.bytes s v before leads.says led
+          (needs_image s v old before leads.needs low.left) image
           (current_kept number (Log k) image before leads.bytes same (λ m from. manifest_log m k) led)
-          (λ logs standing. one_more image before k same
+          (λ n named. same (Table n) (λ e. table_log n k e))
+          (λ n among. same (Log n) (λ e. unled (subst (IsAmong (led_into v.levels)) (log_same n k e) among)))
+          (λ logs standing. alike_some image s.head logs (one_more image before k same
           (λ m less. left_nowhere old before (Log m) (nowhere m (omega (arith, less))) low.left)
           (record {
             bytes = bytes;
@@ -269,7 +198,7 @@ module _ (number : ℕ) (s : ManifestState) (k : ℕ) (old now : DiskState) (lea
                 reads.reads;
             empty = unfilled reads.reading reads.same;
           })
-          s.head logs from standing (whole before low.left))
+          s.head logs from standing (whole before low.left)))
 
       by : Making (Log k) (log_header log_format k) old now → OpensAsOf old now
       by (waits is) = subst (OpensAsOf old) (sym is) (as_before old)
@@ -312,17 +241,16 @@ module _ (number : ℕ) (s : ManifestState) (k : ℕ) (old now : DiskState) (lea
 
 -- ---- a stray is removed
 
-module _ (number : ℕ) (s : ManifestState) (name : Name) (old : DiskState) (file : File)
-    (leads : Leads number s old) (stands : get old.standing name ≡ Some file)
+module _ (number : ℕ) (s : ManifestState) (v : View) (name : Name) (old : DiskState) (file : File)
+    (leads : Leads number s v old) (stands : get old.standing name ≡ Some file)
     (leaves : Leaves name file) (lower : (m : ℕ) → number ≤ m → Manifest m ≢ name) (below : (m : ℕ)
-    → s.head ≤ m → Log m ≢ name) where
+    → s.head ≤ m → Log m ≢ name) (unneeded : IsUnneeded s v name) where
   without_like : (image before : Image) → IsLeft old before → SameBut name image before
       → OpensLike image before
   without_like image before low same =
-      let led = leads_image number s old before leads low.left in
-      led_same number leads.bytes s image before leads.says led
-      (current_kept number name image before leads.bytes same lower led)
-      (λ m from. same (Log m) (below m from))
+      let led = leads_image number s v old before leads low.left in
+      led_same number s v name old image before leads low.left
+      (current_kept number name image before leads.bytes same lower led) same unneeded below
 
   pub remove_step : OpensAsOf old (without name old)
   remove_step = one_name name old (without name old) (without_elsewhere name old)

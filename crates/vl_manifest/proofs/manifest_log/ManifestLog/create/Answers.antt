@@ -9,7 +9,7 @@ pub returns-then-is_err : goal.returns-then-is_err
 returns-then-is_err g c =
     let bytes : c.deref.result.now ≡ new_manifest c.args.number c.args.edits.now = c.deref.ensures.value ∙ c.in_ok-bytes.ensures.bytes in
     was_broken g.D.Watched c.args.number c.args.edits.now c.args.disk.now c.ready.new.self c.make_file.new.disk c.in_ok-ready.ensures.no_change c.in_ok-ready.ensures.elsewhere
-    c.make_file.result (sym c.is_err.ensures.value ∙ c.if-is_err.true)
+    c.make_file.result (sym c.is_err.ensures.value ∙ c.if-is_err.true) c.in_ok-bytes.ensures.reads
     (subst (λ (b : List ℕ). Makes g.D.Watched (names.Manifest c.args.number) b c.ready.new.self c.make_file.new.disk c.make_file.result) bytes c.make_file.ensures)
 
 pub returns : goal.returns

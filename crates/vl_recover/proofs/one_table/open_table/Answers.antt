@@ -1,0 +1,26 @@
+use Rattle.std.proofs.Common.{◌≡◌, ◌∙◌, refl}
+use Rattle.std.specs.Prelude.{Some}
+use Rattle.std.specs.FinMap.{get}
+use Rattle.vl_disk.specs.DiskState.{file_at}
+use Rattle.vl_disk.specs.declared.name.Name.TheVariants.{Table}
+use Rattle.vl_recover.proofs.opening.Looking.{as_read}
+use Rattle.vl_recover.proofs.opening.OneTable.{table_fails, table_reads}
+use Rattle.vl_recover.proofs.one_table.open_table.Goals as goal
+
+pub returns-in-Ok-clause-answer : goal.returns-in-Ok-clause-answer
+returns-in-Ok-clause-answer g c = λ state read told is.
+    let name = Table c.args.number in
+    let bytes = (file_at state name).bytes in
+    let there = ((c.requires.lists state told).all name).0 (c.has.ensures.0 c.if-not-has.false) in
+    let stands : get read name ≡ Some bytes = as_read read state name bytes is there refl in
+    table_reads read c.args.number bytes stands c.in-Ok.table c.in-Ok.ensures.number
+    (c.in-Ok.ensures.answers.answer bytes (c.in_ok-held.ensures.bytes state told))
+
+pub returns-in-Err-clause-answer : goal.returns-in-Err-clause-answer
+returns-in-Err-clause-answer g c = λ state read told is.
+    let name = Table c.args.number in
+    let bytes = (file_at state name).bytes in
+    let there = ((c.requires.lists state told).all name).0 (c.has.ensures.0 c.if-not-has.false) in
+    let stands : get read name ≡ Some bytes = as_read read state name bytes is there refl in
+    table_fails read c.args.number bytes stands c.in-Err.fault c.in-Err.ensures.answers.named
+    (c.in-Err.ensures.answers.answer bytes (c.in_ok-held.ensures.bytes state told))

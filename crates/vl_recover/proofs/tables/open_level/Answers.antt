@@ -1,0 +1,74 @@
+use Rattle.std.proofs.Common.{◌≡◌, ◌+◌, ℕ, List, drop, get_or, subst, sym, ◌∙◌}
+use Rattle.std.proofs.lemmas.List.{drop_all, drop_more}
+use Rattle.std.specs.Prelude.{Option}
+use Rattle.vl_disk.specs.DiskState.{DiskState}
+use Rattle.vl_recover.specs.opening.Finding.{IsReadTable}
+use Rattle.vl_recover.specs.opening.FoundTables.{found_level, found_list, found_table}
+use Rattle.vl_recover.specs.opening.Opening.{FoundTable, NamedLevel}
+use Rattle.vl_recover.proofs.opening.FaultNames.{handed_on}
+use Rattle.vl_recover.proofs.opening.Handing.{as_handed}
+use Rattle.vl_recover.proofs.opening.NamingTables.{AreOpened, all_opened, found_more, next_refused, none_opened, one_opened, table_refused}
+use Rattle.vl_recover.proofs.opening.Unmoved.{no_call, then_call}
+use Rattle.vl_recover.proofs.tables.open_level.Goals as goal
+
+pub loop-number-init : goal.loop-number-init
+loop-number-init g c = record {
+  still = no_call g.D.Watched c.args.disk.now;
+  fresh = c.requires.fresh;
+  so_far = λ state read told is.
+      subst (λ (ts : List _). AreOpened read c.args.is_deeper c.args.tables.now (found_list ts) c.args.tables.now) (sym c.new.ensures.items)
+      (none_opened read c.args.is_deeper c.args.tables.now);
+}
+
+pub loop-number-preserved : goal.loop-number-preserved
+loop-number-preserved g c =
+    let tables = c.args.tables.now in
+    let deeper = c.args.is_deeper in
+    let i = c.loop-number.number-index in
+    let so = c.loop-number.invariant in
+    record {
+      still = then_call g.D.Watched c.args.disk.now c.loop-number.disk c.open_table.new.disk ⊥ so.still c.in_ok-table.ensures.no_change;
+      fresh = c.in_ok-table.ensures.fresh;
+      so_far = λ state read told is.
+          subst (λ (ts : List FoundTable). AreOpened read deeper tables ts (drop (i + 1) tables))
+          (found_more c.loop-number.opened.items c.in_ok-opened.opened.items c.in_ok-table.table c.in_ok-opened.ensures.more)
+          (one_opened read deeper tables (found_level c.loop-number.opened) (get_or tables i 0) (drop (i + 1) tables) (found_table c.in_ok-table.table)
+          (subst (AreOpened read deeper tables (found_level c.loop-number.opened)) (drop_more tables i 0 c.loop-number-test.true) (so.so_far state read told is))
+          (c.in_ok-table.ensures.answer state read (so.still.told ∙ told) is) c.in_ok-opened.ensures.next);
+    }
+
+pub returns-clause-answer : goal.returns-clause-answer
+returns-clause-answer g c = λ state read told is.
+    all_opened read c.args.is_deeper c.args.tables.now (found_level c.loop-number.opened)
+    (subst (AreOpened read c.args.is_deeper c.args.tables.now (found_level c.loop-number.opened))
+    (drop_all c.loop-number.number-index c.args.tables.now c.loop-number-test.false)
+    (c.loop-number.invariant.so_far state read told is))
+
+pub returns-in_err-table-clause-answer : goal.returns-in_err-table-clause-answer
+returns-in_err-table-clause-answer g c = λ state read told is.
+    let tables = c.args.tables.now in
+    let i = c.loop-number.number-index in
+    let so = c.loop-number.invariant in
+    as_handed found_level (NamedLevel c.args.is_deeper read _ tables) c.from_residual.result c.in_err-table.field-0.0
+    c.from_residual.ensures.0 c.from_residual.ensures.1
+    (table_refused read c.args.is_deeper tables (found_level c.loop-number.opened) (get_or tables i 0) (drop (i + 1) tables)
+    (subst (AreOpened read c.args.is_deeper tables (found_level c.loop-number.opened)) (drop_more tables i 0 c.loop-number-test.true) (so.so_far state read told is))
+    c.in_err-table.field-0.0 (c.in_err-table.ensures.answer state read (so.still.told ∙ told) is))
+
+pub returns-in_err-opened-clause-answer : goal.returns-in_err-opened-clause-answer
+returns-in_err-opened-clause-answer g c = λ state read told is.
+    let tables = c.args.tables.now in
+    let i = c.loop-number.number-index in
+    let so = c.loop-number.invariant in
+    as_handed found_level (NamedLevel c.args.is_deeper read _ tables) c.from_residual-in_err-opened.result c.in_err-opened.field-0.0
+    c.from_residual-in_err-opened.ensures.0 c.from_residual-in_err-opened.ensures.1
+    (next_refused read c.args.is_deeper tables (found_level c.loop-number.opened) (get_or tables i 0) (drop (i + 1) tables) (found_table c.in_ok-table.table)
+    (subst (AreOpened read c.args.is_deeper tables (found_level c.loop-number.opened)) (drop_more tables i 0 c.loop-number-test.true) (so.so_far state read told is))
+    (c.in_ok-table.ensures.answer state read (so.still.told ∙ told) is)
+    c.in_err-opened.field-0.0 c.in_err-opened.ensures.next)
+
+pub returns-in_err-table-clause-at : goal.returns-in_err-table-clause-at
+returns-in_err-table-clause-at g c =
+    handed_on c.open_table.result c.in_err-table.field-0.0 c.from_residual.result (IsReadTable (g.D.Watched.told c.loop-number.disk))
+    (IsReadTable (g.D.Watched.told c.args.disk.now)) c.in_err-table.was c.from_residual.ensures.0 c.from_residual.ensures.1
+    (λ name is. subst (λ (told : Option DiskState). IsReadTable told name) c.loop-number.invariant.still.told is) c.open_table.ensures.at

@@ -1,0 +1,44 @@
+// One table that a manifest names.
+ghost use Rattle.std.specs.Prelude.{◌≡◌, Some, IfErr, IfOk};
+ghost use Rattle.std.specs.Option.{ForSome};
+ghost use Rattle.vl_disk.specs.Calls.{ChangesNothing};
+ghost use Rattle.vl_disk.specs.Crash.{Image};
+ghost use Rattle.vl_disk.specs.Disk.{Lists};
+ghost use Rattle.vl_disk.specs.DiskState.{DiskState};
+ghost use Rattle.vl_disk.specs.Started.{IsRead};
+ghost use Rattle.vl_recover.specs.opening.Finding.{FailsAtDisk, IsFaultOf, IsReadTable};
+ghost use Rattle.vl_recover.specs.opening.OpenedTables.{IsTableFound};
+
+use crate::OpenError;
+use crate::names::has;
+use crate::reading::hold;
+use std::alloc::Global;
+use vl_disk::{Disk, Name};
+use vl_table::Table;
+
+/// Opens the table of this number, which has to stand. No block of it is read.
+pub fn open_table<D: Disk>(
+    alloc: Global,
+    disk: &mut D,
+    reader: &mut D::Reader,
+    names: &[Name],
+    number: u32,
+) -> Result<Table<D::Held>, OpenError>
+    requires lists { ForSome (D.told disk.old) (Lists names.now) }
+    requires fresh { D.Reader.faults reader.old ≡ 0 }
+    ensures answer { (state : DiskState) (read : Image) → D.told disk.old ≡ Some state → IsRead read state
+        → IsTableFound read number result }
+    ensures at { IfErr result (IsFaultOf (IsReadTable (D.told disk.old))) }
+    ensures fresh { IfOk result (λ _. D.Reader.faults reader.new ≡ 0) }
+    ensures no_change { ChangesNothing D.Watched disk.old disk.new (FailsAtDisk (D.Reader.faults reader.new) result) }
+{
+    let name = Name::Table(number);
+    if !has(names, name) {
+        return Err(OpenError::Damaged { name, place: 0 });
+    }
+    let held = hold(disk, name)?;
+    match Table::open(alloc, reader, held, number) {
+        Ok(table) => Ok(table),
+        Err(fault) => Err(OpenError::from(fault)),
+    }
+}
