@@ -1,7 +1,7 @@
 -- What a step on files comes to, before anything is written.
 use Rattle.std.specs.Prelude.{◌≤◌, ◌<◌, ℕ, Bool, nat_le, nat_lt, if◌then◌else◌, List, [], ◌∷◌, length}
 use Rattle.vl_back.specs.declared.back.Back.{Back}
-use Rattle.vl_back.specs.declared.back.Waiting.{Waiting}
+use Rattle.vl_manifest.specs.declared.waiting.Waiting.{Waiting}
 use Rattle.vl_back.specs.declared.decision.Decision.{Decision}
 use Rattle.vl_back.specs.declared.decision.Decision.TheVariants.{Exhausted, Go, Idle}
 use Rattle.vl_model.specs.Limits.{max_file_number, max_version_number}

@@ -1,7 +1,7 @@
 -- What a flush changes of what the manifest says.
 use Rattle.std.specs.Prelude.{ℕ, ◌+◌, List, [], ◌∷◌}
 use Rattle.vl_back.specs.declared.back.Back.{Back}
-use Rattle.vl_back.specs.declared.back.Waiting.{Waiting}
+use Rattle.vl_manifest.specs.declared.waiting.Waiting.{Waiting}
 use Rattle.vl_manifest.specs.States.{flush_edits}
 use Rattle.vl_manifest.specs.declared.edit.Edit.{Edit}
 

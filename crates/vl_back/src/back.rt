@@ -1,12 +1,4 @@
-use vl_manifest::{ManifestLog, ManifestState};
-
-/// A frozen log whose memtable waits for its flush.
-#[derive(Clone, Copy, Debug)]
-pub struct Waiting {
-    pub number: u32,
-    /// Commits up to this number are in tables once it is flushed.
-    pub covered: u64,
-}
+use vl_manifest::{ManifestLog, ManifestState, Waiting};
 
 /// What an engine keeps for steps on files.
 #[derive(Drop)]

@@ -3,7 +3,7 @@
 ghost use Rattle.std.specs.Prelude.{◌≡◌, ◌∷◌, List};
 ghost use Rattle.vl_back.specs.Deciding.{MayFlush};
 ghost use Rattle.vl_back.specs.FlushEdits.{flush_switch, head_of};
-ghost use Rattle.vl_back.specs.declared.back.Waiting.{Waiting};
+ghost use Rattle.vl_manifest.specs.declared.waiting.Waiting.{Waiting};
 
 use crate::Back;
 use vl_manifest::Edit;

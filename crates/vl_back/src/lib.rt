@@ -22,9 +22,10 @@ mod stage_fail;
 mod table;
 mod writing;
 
-pub use back::{Back, Waiting};
+pub use back::Back;
 pub use decision::Decision;
 pub use making::{make_log, make_table};
 pub use stage_fail::StageFail;
 pub use table::StagedTable;
+pub use vl_manifest::Waiting;
 pub use writing::write_and_switch;

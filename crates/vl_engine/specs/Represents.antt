@@ -4,7 +4,6 @@ use Rattle.std.specs.FinMap.{find}
 use Rattle.std.specs.Option.{option_map}
 use Rattle.std.specs.Ordering.{nat_cmp}
 use Rattle.vl_back.specs.declared.back.Back.{Back}
-use Rattle.vl_back.specs.declared.back.Waiting.{Waiting}
 use Rattle.vl_conflict.specs.Recent.{Remembers}
 use Rattle.vl_disk.specs.DiskState.{DiskState}
 use Rattle.vl_disk.specs.declared.name.Name.TheVariants as names
@@ -28,6 +27,7 @@ use Rattle.vl_model.specs.Formats.{log_format}
 use Rattle.vl_model.specs.History.{History, last_number}
 use Rattle.vl_model.specs.Limits.{max_room}
 use Rattle.vl_oracle.specs.LiveTickets.{LiveTickets}
+use Rattle.vl_recover.specs.opening.HeldFiles.{AreWaiting}
 
 -- a file's name as the layout has it
 abbrev pub file_of : Name → FileName
@@ -65,15 +65,6 @@ pub record StandsFor {H : Type 0} (bytes : H → Option (List ℕ)) (core : Core
   pub tidy : IsTidy (layout_logs l) l h
 
 -- ---- with the disk
-
--- These frozen logs wait for their flush, the oldest first; behind each commits up to a number are in tables, where they are up
--- to this one before the first of them.
-abbrev pub AreWaiting : ℕ → List Waiting → List Segment → Type 0
-AreWaiting covered [] [] = Unit {0}
-AreWaiting covered [] (s ∷ ss) = ⊥
-AreWaiting covered (w ∷ ws) [] = ⊥
-AreWaiting covered (w ∷ ws) (s ∷ ss) =
-    (w.number ≡ s.number) × (w.covered ≡ covered_by s.frames covered) × AreWaiting w.covered ws ss
 
 -- What steps on files need is that of the base and the layout: the manifest that is appended to is the one that stands.
 pub record IsBack (back : Back) (b : Base) (l : Layout) : Type 0 where

@@ -18,6 +18,7 @@ mod switching;
 mod table_list;
 mod tables;
 mod version_builder;
+mod waiting;
 mod writing;
 
 pub use edit::Edit;
@@ -29,4 +30,5 @@ pub use reading::read_edits;
 pub use staged::StagedEdits;
 pub use state::ManifestState;
 pub use table_list::TableList;
+pub use waiting::Waiting;
 pub use writing::write_edits;

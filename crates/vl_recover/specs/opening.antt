@@ -3,6 +3,7 @@ pub mod Answers
 pub mod Counting
 pub mod Finding
 pub mod FoundTables
+pub mod HeldFiles
 pub mod Leading
 pub mod LogsSoFar
 pub mod Named

@@ -15,6 +15,7 @@ ghost use Rattle.vl_recover.specs.repairing.Deciding.{opened_by};
 ghost use Rattle.vl_recover.specs.crash.Held.{HoldsStore, view_of};
 ghost use Rattle.vl_recover.specs.crash.Meanwhile.{FaultsAt, IsAsLong, IsMeanwhile, IsRepaired};
 ghost use Rattle.vl_recover.specs.opening.FoundTables.{all_found};
+ghost use Rattle.vl_recover.specs.opening.HeldFiles.{AreHeldLogs, AreReadTables, AreWaiting, tables_of};
 ghost use Rattle.vl_recover.specs.opening.Results.{FailsWithoutFault, IsDiskFault, recovery_of, disk_of, opened_of, read_faults};
 ghost use Rattle.vl_recover.specs.crash.Starts.{MayOpen};
 ghost use Rattle.vl_recover.specs.repairing.Steps.{MakesSome};
@@ -83,6 +84,15 @@ pub fn recover<D: Disk>(
     ensures cause { HasCause (D.faults disk) (D.faults (disk_of result))
         (IsDiskFault (read_faults D.Reader.faults result) (recovery_of result)) }
     ensures room { IfOk result (λ parts. parts.room ≡ room) }
+
+    // What it holds for readers is what reads gave, but for what was cut off from the last log. There are seven levels.
+    ensures tables { (state : DiskState) (read : Image) → D.told disk ≡ Some state → IsRead read state
+        → IfOk result (λ parts. AreReadTables D.Held.bytes read (tables_of parts.levels.items)) }
+    ensures logs { (state : DiskState) (read : Image) (found : Finds read) → D.told disk ≡ Some state → IsRead read state
+        → IfOk result (λ parts. AreHeldLogs D.Held.bytes found parts.sealed.items) }
+    ensures waiting { (state : DiskState) (read : Image) (found : Finds read) → D.told disk ≡ Some state → IsRead read state
+        → IfOk result (λ parts. AreWaiting found.opening.state.covered parts.waiting.items found.opening.logs) }
+    ensures seven { IfOk result (λ parts. length parts.levels.items ≡ 7) }
 
     // The log that takes commits stands, and has only its header.
     ensures stands { IfOk result (λ parts. ForSome (D.told parts.disk) (Stands (Log parts.active.number))) }

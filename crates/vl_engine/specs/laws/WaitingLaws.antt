@@ -3,9 +3,10 @@ use Rattle.std.specs.Prelude.{◌≡◌, ◌≤◌, ℕ, ◌+◌, List, [], ◌�
 use Rattle.std.proofs.Common.{ap, subst, ◌∙◌, arith}
 use Rattle.vl_back.specs.FlushEdits.{flush_switch, head_of, switch_of}
 use Rattle.vl_back.specs.declared.back.Back.{Back}
-use Rattle.vl_back.specs.declared.back.Waiting.{Waiting}
+use Rattle.vl_manifest.specs.declared.waiting.Waiting.{Waiting}
 use Rattle.vl_engine.specs.Held.{Base}
-use Rattle.vl_engine.specs.Represents.{AreWaiting, IsBack}
+use Rattle.vl_engine.specs.Represents.{IsBack}
+use Rattle.vl_recover.specs.opening.HeldFiles.{AreWaiting}
 use Rattle.vl_engine.specs.laws.FlushBase.{first_number}
 use Rattle.vl_engine.specs.laws.FlushLaws.{edits_of}
 use Rattle.vl_layout.specs.Rulings.Flush.{covered_by, flushed}
