@@ -48,6 +48,24 @@ impl Levels {
         }
     }
 
+    // The same once more.
+    pub(crate) fn copy(&self, alloc: Global) -> Result<Self, AllocError>
+        ensures { IfOk result (λ copy. copy ≡ self.now) }
+    {
+        let lists = &self.lists;
+        Ok(Levels {
+            lists: [
+                lists[0].copy(alloc)?,
+                lists[1].copy(alloc)?,
+                lists[2].copy(alloc)?,
+                lists[3].copy(alloc)?,
+                lists[4].copy(alloc)?,
+                lists[5].copy(alloc)?,
+                lists[6].copy(alloc)?,
+            ],
+        })
+    }
+
     /// The list of each level.
     pub fn as_slice(&self) -> &[TableList]
         ensures { result.now ≡ self.now }

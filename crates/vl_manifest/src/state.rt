@@ -114,6 +114,30 @@ impl ManifestState {
         Ok(())
     }
 
+    /// What the manifest says behind one more frame, of these edits; none where one can't be applied. This state stays as it
+    /// is.
+    pub fn then(&self, alloc: Global, edits: &[Edit]) -> Result<Option<Self>, AllocError>
+        ensures { IfOk result (λ state. state ≡ states.next_state edits.now self.now) }
+    {
+        self.copy(alloc)?.next(edits)
+    }
+
+    // The same once more.
+    fn copy(&self, alloc: Global) -> Result<Self, AllocError>
+        ensures { IfOk result (λ copy. copy ≡ self.now) }
+    {
+        Ok(ManifestState {
+            levels: self.levels.copy(alloc)?,
+            head: self.head,
+            covered: self.covered,
+            next_log: self.next_log,
+            next_table: self.next_table,
+            keep: self.keep,
+            since: self.since,
+            gone: self.gone,
+        })
+    }
+
     // The state that the edits of a manifest's first frame make; none where one can't be applied, or where they don't
     // give all of it.
     pub(crate) fn first(alloc: Global, edits: &[Edit]) -> Result<Option<Self>, AllocError>

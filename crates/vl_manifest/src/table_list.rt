@@ -31,6 +31,15 @@ impl TableList {
         }
     }
 
+    // The same once more.
+    pub(crate) fn copy(&self, alloc: Global) -> Result<Self, AllocError>
+        ensures { IfOk result (λ copy. copy ≡ self.now) }
+    {
+        Ok(TableList {
+            tables: Vec::from_slice(alloc, &self.tables)?,
+        })
+    }
+
     pub fn as_slice(&self) -> &[u32]
         ensures { result.now ≡ self.now }
     {
