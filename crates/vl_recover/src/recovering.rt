@@ -1,21 +1,19 @@
-ghost use Rattle.std.specs.Prelude.{◌≡◌, ℕ, List, length, Some, IfErr, IfOk};
+ghost use Rattle.std.specs.Prelude.{◌≡◌, ◌≤◌, ℕ, List, length, Some, IfErr, IfOk};
 ghost use Rattle.std.specs.Option.{ForSome};
 ghost use Rattle.vl_disk.specs.Calls.{ChangesNothing};
 ghost use Rattle.vl_disk.specs.Crash.{Image};
-ghost use Rattle.vl_disk.specs.Disk.{Stands};
 ghost use Rattle.vl_disk.specs.DiskState.{DiskState};
 ghost use Rattle.vl_disk.specs.Faults.{HasCause, after_calls};
 ghost use Rattle.vl_disk.specs.Moments.{HoldsThroughout};
 ghost use Rattle.vl_disk.specs.Started.{IsRead};
 ghost use Rattle.vl_disk.specs.declared.name.Name.{Name};
-ghost use Rattle.vl_disk.specs.declared.name.Name.TheVariants.{Log};
 ghost use Rattle.vl_recover.specs.crash.Alike.{OpensAsOf};
 ghost use Rattle.vl_recover.specs.opening.Answers.{AnswersBy, AreStrayNames, Finds, IsNotOpened, calls_to_open, logs_then};
 ghost use Rattle.vl_recover.specs.repairing.Deciding.{opened_by};
 ghost use Rattle.vl_recover.specs.crash.Held.{HoldsStore, view_of};
 ghost use Rattle.vl_recover.specs.crash.Meanwhile.{FaultsAt, IsAsLong, IsMeanwhile, IsRepaired};
 ghost use Rattle.vl_recover.specs.opening.FoundTables.{all_found};
-ghost use Rattle.vl_recover.specs.opening.HeldFiles.{AreHeldLogs, AreReadTables, AreWaiting, tables_of};
+ghost use Rattle.vl_recover.specs.opening.HeldFiles.{AreHeldLogs, AreReadTables, AreWaiting, IsReadyToGoOn, tables_of};
 ghost use Rattle.vl_recover.specs.opening.Results.{FailsWithoutFault, IsDiskFault, recovery_of, disk_of, opened_of, read_faults};
 ghost use Rattle.vl_recover.specs.crash.Starts.{MayOpen};
 ghost use Rattle.vl_recover.specs.repairing.Steps.{MakesSome};
@@ -94,8 +92,11 @@ pub fn recover<D: Disk>(
         → IfOk result (λ parts. AreWaiting found.opening.state.covered parts.waiting.items found.opening.logs) }
     ensures seven { IfOk result (λ parts. length parts.levels.items ≡ 7) }
 
-    // The log that takes commits stands, and has only its header.
-    ensures stands { IfOk result (λ parts. ForSome (D.told parts.disk) (Stands (Log parts.active.number))) }
+    // The disk is ready for steps on files: no number that may still be given is taken. The log that takes commits has only its
+    // header.
+    ensures ready { IfOk result (λ parts. ForSome (D.told parts.disk)
+        (IsReadyToGoOn parts.active.number parts.manifest.number parts.state)) }
+    ensures numbered { IfOk result (λ parts. 1 ≤ parts.state.next_table) }
     ensures active { IfOk result (λ parts. parts.active.length ≡ 16) }
 
     // Where it failed, it was asked for some of these calls, or for none.

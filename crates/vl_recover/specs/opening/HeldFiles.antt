@@ -1,12 +1,15 @@
 -- The files that an opened store holds for its readers, and the logs whose memtables wait for their flush.
-use Rattle.std.specs.Prelude.{◌≡◌, ℕ, nat_lt, List, [], ◌∷◌, ◌++◌, Option, Some, Vec}
+use Rattle.std.specs.Prelude.{◌≡◌, ◌≤◌, ◌<◌, ℕ, nat_lt, List, [], ◌∷◌, ◌++◌, Option, Some, Vec}
 use Rattle.std.specs.FinMap.{get}
 use Rattle.std.specs.List.{AllByRecursion, AllZip, filter, flat_map}
 use Rattle.std.specs.Global.{Global}
 use Rattle.vl_disk.specs.Crash.{Image}
+use Rattle.vl_disk.specs.Disk.{IsFree, Stands}
+use Rattle.vl_disk.specs.DiskState.{DiskState}
 use Rattle.vl_disk.specs.declared.name.Name.TheVariants as names
 use Rattle.vl_layout.specs.Rulings.Flush.{covered_by}
 use Rattle.vl_layout.specs.declared.segment.Segment.{Segment}
+use Rattle.vl_manifest.specs.declared.state.ManifestState.{ManifestState}
 use Rattle.vl_manifest.specs.declared.waiting.Waiting.{Waiting}
 use Rattle.vl_recover.specs.opening.Answers.{Finds, logs_then}
 use Rattle.vl_recover.specs.opening.Opening.{led_into}
@@ -65,3 +68,11 @@ AreWaiting covered [] (s ∷ ss) = ⊥
 AreWaiting covered (w ∷ ws) [] = ⊥
 AreWaiting covered (w ∷ ws) (s ∷ ss) =
     (w.number ≡ s.number) × (w.covered ≡ covered_by s.frames covered) × AreWaiting w.covered ws ss
+
+-- What steps on files ask of the disk: the log that takes commits stands and so does the manifest, and no log and no table stands
+-- under a number that may still be given.
+pub record IsReadyToGoOn (active manifest : ℕ) (state : ManifestState) (disk : DiskState) : Type 0 where
+  pub log : Stands (names.Log active) disk
+  pub manifest_is : Stands (names.Manifest manifest) disk
+  pub logs_free : (n : ℕ) → active < n → state.next_log ≤ n → IsFree (names.Log n) disk
+  pub tables_free : (n : ℕ) → state.next_table ≤ n → IsFree (names.Table n) disk
