@@ -6,7 +6,7 @@ mod refusals;
 mod stock;
 
 use crate::refusals::{not_committed, not_opened};
-use crate::stock::{add, change, rows};
+use crate::stock::{add, change, make_room, rows};
 use anyhow::{Result, bail};
 use std::env;
 use vlstore::{CommitFail, Disk, Engine, FolderDisk, MAX_ROOM};
@@ -27,6 +27,11 @@ fn main(rt: HostRuntime) -> Result<()> {
 
     overtake(&rt, &mut store)?;
     print_stock(&rt, &mut store)?;
+
+    // What is in a table needs no memory, and is there at once when the store is opened again.
+    if let Some(number) = make_room(&mut store)? {
+        println!(rt; "written to table {number}")?;
+    }
 
     // The folder is free for the next store once its disk is gone.
     drop(store.close());

@@ -1,7 +1,7 @@
 //! What a refusal of the store means to a service.
 
 use anyhow::{Error, anyhow};
-use vlstore::{CommitFail, Disk, Engine, OpenError};
+use vlstore::{CommitFail, Disk, Engine, OpenError, StepFail};
 
 /// Why a store wasn't opened, and what may be done.
 pub fn not_opened(why: OpenError) -> Error {
@@ -32,11 +32,21 @@ pub fn not_committed<D: Disk>(
         }
         CommitFail::Full { txn, .. } => {
             store.forget(txn);
-            anyhow!("the log is full: open again")
+            anyhow!("the log is full: rotate it")
         }
         CommitFail::NoMemory(txn) => {
             store.forget(txn);
             anyhow!("no memory: try again")
         }
+    }
+}
+
+/// Why a log wasn't sealed, or no table was written, and what may be done.
+pub fn not_done(fail: StepFail) -> Error {
+    match fail {
+        StepFail::Halted { name } => anyhow!("the disk failed at {name:?}: open again"),
+        StepFail::Disk { name } => anyhow!("the disk failed at {name:?}: open again"),
+        StepFail::Exhausted(counter) => anyhow!("no number is left: {counter:?}"),
+        StepFail::NoMemory => anyhow!("no memory: try again"),
     }
 }

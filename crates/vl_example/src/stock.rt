@@ -1,6 +1,6 @@
 //! The stock: under each fruit's name how many there are, as text.
 
-use crate::refusals::not_committed;
+use crate::refusals::{not_committed, not_done};
 use anyhow::{Result, bail};
 use std::alloc::Global;
 use vlstore::{CommitFail, Disk, Done, Engine, HeldFile, Reader, Rows, Txn, Way};
@@ -28,7 +28,7 @@ pub fn add<H: HeldFile, R: Reader<Held = H> + Drop>(
 }
 
 /// Counts so many more of a fruit, in a transaction of its own, and gives the commit's number. Where another commit came before
-/// it, it begins anew.
+/// it, or the log was full, it begins anew.
 pub fn change<D: Disk>(
     alloc: Global,
     store: &mut Engine<D>,
@@ -44,6 +44,10 @@ pub fn change<D: Disk>(
         match store.commit(txn) {
             Ok(Done::At(number)) => return Ok(number),
             Err(CommitFail::Conflict { .. }) => {}
+            Err(CommitFail::Full { txn, .. }) => {
+                store.forget(txn);
+                make_room(store)?;
+            }
             Err(fail) => return Err(not_committed(store, fail)),
             Ok(Done::Nothing) => bail!("nothing was written"),
         }
@@ -57,4 +61,16 @@ pub fn rows<D: Disk>(store: &mut Engine<D>) -> Result<Rows> {
     let rows = view.scan(b"", b"", 1000, Way::Up);
     store.release(view);
     Ok(rows?)
+}
+
+/// Seals the log, so that a new one takes commits, and writes the oldest entries that wait in memory to a table, whose number it
+/// gives, if any waits.
+pub fn make_room<D: Disk>(store: &mut Engine<D>) -> Result<Option<u32>> {
+    if let Err(fail) = store.rotate() {
+        return Err(not_done(fail));
+    }
+    match store.flush() {
+        Ok(table) => Ok(table),
+        Err(fail) => Err(not_done(fail)),
+    }
 }

@@ -18,6 +18,7 @@ use Rattle.vl_model.specs.declared.change.Change.TheVariants.{Set, Delete}
 use Rattle.vl_model.specs.declared.entry.Entry.{Entry}
 use Rattle.vl_version.specs.Answers.{IsAnswer, IsAstray, LeadsTo}
 use Rattle.vl_version.specs.Gathered.{span_of}
+use Rattle.vl_version.specs.Near.{AreNear, IsNear, IsNearEntry}
 use Rattle.vl_version.specs.Own.{own_entries, own_entry}
 use Rattle.vl_version.specs.Rows.{AreRowsOf, IsKept, OneAstray}
 use Rattle.vl_version.specs.Scans.{AreScanned, MayHave, SomeAstray}
@@ -51,6 +52,37 @@ module _ (held logs : Logs) (es : List Entry) (number : ℕ) (own : Writes) (wan
   -- nothing that is visible is a deletion
   pub all_kept : AllByRecursion IsKept seen
   all_kept = all_by_key IsKept seen (λ key. subst (AllByRecursion IsKept) (sym (winners key)) (kept_of (winner all key number)))
+
+  -- ---- what leads into no log
+
+  own_near : (writes : List (List ℕ × Change)) → AreNear (own_entries number writes)
+  own_near [] = tt
+  own_near ((key, Set value) ∷ writes) = (tt, own_near writes)
+  own_near ((key, Delete) ∷ writes) = (tt, own_near writes)
+
+  both_near : (xs ys : List Entry) → AreNear xs → AreNear ys → AreNear (xs ++ ys)
+  both_near [] ys near too = too
+  both_near (x ∷ xs) ys near too = (near.0, both_near xs ys near.1 too)
+
+  near_shown : (w : Option Entry) → ((e : Entry) → w ≡ Some e → IsNear e.body) → AreNear (shown w)
+  near_shown None near = tt
+  near_shown (Some e) near = by (is_gone e.body)
+    where
+      by : (b : Bool) → AreNear (cond b [] (e ∷ []))
+      by true = tt
+      by false = (near e refl, tt)
+
+  -- Where no entry leads into a log, none that is visible does.
+  pub all_near : AreNear es → AreNear seen
+  all_near near = all_by_key IsNearEntry seen (λ key. subst AreNear (sym (winners key))
+      (near_shown (winner all key number) (λ e is. won key e (is_in_span (span_of wanted.low.now wanted.high.now) key)
+      (sym (wins key) ∙ is))))
+    where
+      won : (key : List ℕ) (e : Entry) (b : Bool)
+          → cond b (winner (own_entries number (entries own) ++ es) key number) None ≡ Some e → IsNear e.body
+      won key e true is = winner-has key number IsNearEntry (own_entries number (entries own) ++ es) e
+          (both_near (own_entries number (entries own)) es (own_near (entries own)) near) is
+      won key e false is = absurd cc
 
   -- ---- what is answered well
 

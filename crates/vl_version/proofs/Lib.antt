@@ -5,6 +5,7 @@ mod FrozenLaws
 mod GatherLaws
 mod LogLaws
 mod LookLaws
+mod NearLaws
 mod looking
 mod NewestLaws
 mod OverLaws

@@ -12,6 +12,7 @@ use Rattle.vl_model.specs.declared.entry.Entry.{Entry}
 use Rattle.vl_version.specs.Answers.{IsAnswer, IsAstray}
 use Rattle.vl_version.specs.declared.fault.ReadFault.{ReadFault}
 use Rattle.vl_version.specs.declared.fault.ReadFault.TheVariants.{NoMemory, Disk, Damaged}
+use Rattle.vl_version.specs.Near.{AreNear, IsNear}
 use Rattle.vl_version.specs.Rows.{AreRowsOf, IsKept, OneAstray, PushesRow}
 
 -- the rows are of the first of these entries, and the others are left; there are no more rows than may be
@@ -51,6 +52,25 @@ drop_front [] ys zero exact = refl
 drop_front [] ys (suc n) exact = absurd (omega arith)
 drop_front (x ∷ xs) ys zero exact = absurd (omega arith)
 drop_front (x ∷ xs) ys (suc n) exact = drop_front xs ys n (omega arith)
+
+-- ---- where no entry leads into a log
+
+-- what is left is told, and leads into none
+pub record LeavesNear (left : Option (List Entry)) : Type 0 where
+  pub rest : List Entry
+  pub behind : left ≡ Some rest
+  pub near : AreNear rest
+
+module _ (left now : Option (List Entry)) (so : LeavesNear left) (e : Entry) (gives : Gives left now (Some e)) where
+  pub near_next : IsNear e.body
+  near_next = (subst AreNear (gives so.rest so.behind).1 so.near).0
+
+  pub leaves_near : LeavesNear now
+  leaves_near =
+      let next = gives so.rest so.behind in
+      record { rest = next.0; behind = next.2; near = (subst AreNear next.1 so.near).1 }
+
+-- ---- rows
 
 module _ (logs : Logs) (whole : List Entry) where
   pub takes_none : (left : Option (List Entry)) (limit : ℕ) → left ≡ Some whole → AllByRecursion IsKept whole

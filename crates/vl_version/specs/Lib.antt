@@ -2,6 +2,7 @@ pub mod Answers
 pub mod Faults
 pub mod Gathered
 pub mod Gives
+pub mod Near
 pub mod laws
 pub mod levels
 pub mod Newest

@@ -1,6 +1,6 @@
 //! What the body of an entry leads to, in memory or in a log.
 
-ghost use Rattle.std.specs.Prelude.{◌≡◌, ◌<◌, [], length, IfSome, IsSome, Some, IsErrOf};
+ghost use Rattle.std.specs.Prelude.{◌≡◌, IfSome, Some, IsErrOf};
 ghost use Rattle.std.specs.Option.{option_copied};
 ghost use Rattle.vl_disk.specs.Faults.{HasCause};
 ghost use Rattle.vl_disk.specs.declared.name.Name.TheVariants as names;
@@ -8,6 +8,7 @@ ghost use Rattle.vl_block.specs.Founds.{found_of};
 ghost use Rattle.vl_model.specs.Keys.{Stored};
 ghost use Rattle.vl_version.specs.Answers.{Fills, Gives, IsFound};
 ghost use Rattle.vl_version.specs.Faults.{Failed};
+ghost use Rattle.vl_version.specs.Near.{IsNear, IsNearEntry};
 ghost use Rattle.vl_version.specs.Newest.{newest_entry};
 ghost use Rattle.vl_version.specs.Sources.{AreRising, AreTold, log_in, stored_in};
 ghost use Rattle.vl_version.specs.Values.{FillsFar, GivesFar, IsPut};
@@ -30,7 +31,7 @@ pub fn resolve_newest<H: HeldFile, R: Reader<Held = H>>(
     newest: Newest<'_>,
 ) -> Result<Option<Value>, ReadFault>
     ensures cause { HasCause (R.faults reader.old) (R.faults reader.new) (Failed result) }
-    ensures alone { logs.now ≡ [] → Failed result → ⊥ }
+    ensures near { IfSome (newest_entry key.now newest.entry) IsNearEntry → Failed result → ⊥ }
     ensures answers { AreTold H.bytes logs.now → Gives (stored_in H.bytes logs.now) (newest_entry key.now newest.entry) result }
 {
     match newest {
@@ -49,7 +50,7 @@ pub fn resolve_newest_into<H: HeldFile, R: Reader<Held = H>>(
     out: &mut [u8],
 ) -> Result<Found, ReadFault>
     ensures cause { HasCause (R.faults reader.old) (R.faults reader.new) (Failed result) }
-    ensures alone { logs.now ≡ [] → Failed result → ⊥ }
+    ensures near { IfSome (newest_entry key.now newest.entry) IsNearEntry → Failed result → ⊥ }
     ensures answers { AreTold H.bytes logs.now
         → Fills (stored_in H.bytes logs.now) (newest_entry key.now newest.entry) out.old out.new result }
     ensures no_memory { IsErrOf result why.NoMemory → ⊥ }
@@ -69,7 +70,7 @@ pub fn resolve<H: HeldFile, R: Reader<Held = H>>(
     entry: &Entry,
 ) -> Result<Option<Value>, ReadFault>
     ensures cause { HasCause (R.faults reader.old) (R.faults reader.new) (Failed result) }
-    ensures alone { logs.now ≡ [] → Failed result → ⊥ }
+    ensures near { IsNear entry.now.body → Failed result → ⊥ }
     ensures answers { AreTold H.bytes logs.now → Gives (stored_in H.bytes logs.now) (Some entry.now) result }
 {
     match &entry.body {
@@ -91,7 +92,7 @@ fn resolve_into<H: HeldFile, R: Reader<Held = H>>(
     out: &mut [u8],
 ) -> Result<Found, ReadFault>
     ensures cause { HasCause (R.faults reader.old) (R.faults reader.new) (Failed result) }
-    ensures alone { logs.now ≡ [] → Failed result → ⊥ }
+    ensures near { IsNear entry.now.body → Failed result → ⊥ }
     ensures answers { AreTold H.bytes logs.now
         → Fills (stored_in H.bytes logs.now) (Some entry.now) out.old out.new result }
     ensures no_memory { IsErrOf result why.NoMemory → ⊥ }
@@ -113,7 +114,7 @@ fn resolve_found<H: HeldFile, R: Reader<Held = H>>(
     found: &TableFound,
 ) -> Result<Option<Value>, ReadFault>
     ensures cause { HasCause (R.faults reader.old) (R.faults reader.new) (Failed result) }
-    ensures alone { logs.now ≡ [] → Failed result → ⊥ }
+    ensures near { IsNearEntry (found_of key.now found.now) → Failed result → ⊥ }
     ensures answers { AreTold H.bytes logs.now
         → Gives (stored_in H.bytes logs.now) (Some (found_of key.now found.now)) result }
 {
@@ -139,7 +140,7 @@ fn resolve_found_into<H: HeldFile, R: Reader<Held = H>>(
     out: &mut [u8],
 ) -> Result<Found, ReadFault>
     ensures cause { HasCause (R.faults reader.old) (R.faults reader.new) (Failed result) }
-    ensures alone { logs.now ≡ [] → Failed result → ⊥ }
+    ensures near { IsNearEntry (found_of key.now found.now) → Failed result → ⊥ }
     ensures answers { AreTold H.bytes logs.now
         → Fills (stored_in H.bytes logs.now) (Some (found_of key.now found.now)) out.old out.new result }
     ensures no_memory { IsErrOf result why.NoMemory → ⊥ }
@@ -171,7 +172,6 @@ fn read_far<H: HeldFile, R: Reader<Held = H>>(
     key: &[u8],
 ) -> Result<Value, ReadFault>
     ensures cause { HasCause (R.faults reader.old) (R.faults reader.new) (Failed result) }
-    ensures alone { logs.now ≡ [] → Failed result → ⊥ }
     ensures answers { AreTold H.bytes logs.now → GivesFar (stored_in H.bytes logs.now pointer key.now) pointer result }
 {
     let Some(log) = log_of(logs, pointer.segment) else {
@@ -189,7 +189,6 @@ fn read_far_into<H: HeldFile, R: Reader<Held = H>>(
     out: &mut [u8],
 ) -> Result<Found, ReadFault>
     ensures cause { HasCause (R.faults reader.old) (R.faults reader.new) (Failed result) }
-    ensures alone { logs.now ≡ [] → Failed result → ⊥ }
     ensures answers { AreTold H.bytes logs.now
         → FillsFar (stored_in H.bytes logs.now pointer key.now) pointer out.old out.new result }
     ensures no_memory { IsErrOf result why.NoMemory → ⊥ }
@@ -207,7 +206,6 @@ fn read_far_into<H: HeldFile, R: Reader<Held = H>>(
 fn log_of<H: HeldFile>(logs: &[SealedLog<H>], number: u32) -> Option<&SealedLog<H>>
     ensures found { AreRising logs.now → option_copied result ≡ log_in logs.now number }
     ensures number { IfSome result (λ log. log.now.number ≡ number) }
-    ensures some { IsSome result → 0 < length logs.now }
 {
     let at = logs.partition_point(|log| log.number < number);
     match logs.get(at) {

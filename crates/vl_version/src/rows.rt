@@ -1,12 +1,13 @@
 //! The rows of a scan.
 
-ghost use Rattle.std.specs.Prelude.{◌≡◌, ◌⊎◌, [], List, Some, false, take, drop, OnOk};
+ghost use Rattle.std.specs.Prelude.{◌≡◌, ◌⊎◌, List, Some, false, take, drop, OnOk};
 ghost use Rattle.std.specs.List.{AllByRecursion};
 ghost use Rattle.vl_disk.specs.Faults.{HasCause};
 ghost use Rattle.vl_model.specs.declared.entry.Entry.{Entry};
 ghost use Rattle.vl_version.specs.Answers.{IsAnswer, IsAstray};
 ghost use Rattle.vl_version.specs.Faults.{Failed};
 ghost use Rattle.vl_version.specs.Gives.{is_disk_fault};
+ghost use Rattle.vl_version.specs.Near.{AreNear, IsNear};
 ghost use Rattle.vl_version.specs.Rows.{AreRowsOf, IsKept, OneAstray, PushesRow};
 ghost use Rattle.vl_version.specs.Sources.{AreTold, stored_in};
 ghost use Rattle.vl_version.specs.declared.fault.ReadFault.{ReadFault};
@@ -30,8 +31,8 @@ pub fn take_rows<H: HeldFile, R: Reader<Held = H>, C: Cursor<Fault = ReadFault, 
     requires counts { (r : R) → C.faults r ≡ R.faults r }
     requires told { (fault : ReadFault) → C.is_read_fault fault ≡ is_disk_fault fault }
     ensures cause { HasCause (R.faults reader.old) (R.faults reader.new) (Failed result) }
-    ensures alone { logs.now ≡ [] → ((fault : ReadFault) → C.may_fail entries.old fault → is_disk_fault fault ≡ false)
-        → Failed result → ⊥ }
+    ensures near { (left : List Entry) → C.left entries.old ≡ Some left → AreNear left
+        → ((fault : ReadFault) → C.may_fail entries.old fault → is_disk_fault fault ≡ false) → Failed result → ⊥ }
     ensures answers { AreTold H.bytes logs.now → (left : List Entry) → C.left entries.old ≡ Some left → AllByRecursion IsKept left
         → IsAnswer (λ rows. AreRowsOf (stored_in H.bytes logs.now) (take limit left) rows.items)
         (λ name place. C.may_fail entries.old (why.Damaged name place)
@@ -58,7 +59,7 @@ fn push_row<H: HeldFile, R: Reader<Held = H>>(
     entry: Entry,
 ) -> Result<(), ReadFault>
     ensures cause { HasCause (R.faults reader.old) (R.faults reader.new) (Failed result) }
-    ensures alone { logs.now ≡ [] → Failed result → ⊥ }
+    ensures near { IsNear entry.body → Failed result → ⊥ }
     ensures answers { AreTold H.bytes logs.now → IsKept entry
         → IsAnswer (λ _. PushesRow (stored_in H.bytes logs.now) entry rows.old.items rows.new.items)
         (IsAstray (stored_in H.bytes logs.now) (Some entry)) result }

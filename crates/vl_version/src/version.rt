@@ -10,6 +10,7 @@ ghost use Rattle.vl_version.specs.Answers.{Fills, Gives, IsAnswer};
 ghost use Rattle.vl_table.specs.Kept.{Files};
 ghost use Rattle.vl_table.specs.KeptBlocks.{AreKept, ReadsOf};
 ghost use Rattle.vl_version.specs.Faults.{Failed};
+ghost use Rattle.vl_version.specs.Near.{AreNear};
 ghost use Rattle.vl_version.specs.Over.{LooksOver};
 ghost use Rattle.vl_version.specs.Scans.{AreScanned, SomeAstray};
 ghost use Rattle.vl_version.specs.Sources.{AreTold, HasEntries, in_memory, stored_in, tables_in};
@@ -97,7 +98,7 @@ impl<H: HeldFile> Version<H> {
     }
 
     /// The value of a key at a number: that of its greatest version that is at most the number. Where there are no tables and
-    /// no sealed logs, no file is read.
+    /// no entry leads into a log, no file is read.
     pub fn get<R: Reader<Held = H>>(
         &self,
         alloc: Global,
@@ -106,7 +107,7 @@ impl<H: HeldFile> Version<H> {
         number: u64,
     ) -> Result<Option<Value>, ReadFault>
         ensures cause { HasCause (R.faults reader.old.reader) (R.faults reader.new.reader) (Failed result) }
-        ensures alone { self.now.behind.logs.items ≡ [] → tables_in self.now ≡ [] → Failed result → ⊥ }
+        ensures near { tables_in self.now ≡ [] → AreNear (in_memory self.now) → Failed result → ⊥ }
         ensures kept { (files : Files) → ReadsOf H.bytes files reader.old (tables_in self.now) → AreKept files reader.new }
         ensures answers { (files : Files) (es : List Entry) (logs : Logs) → ReadsOf H.bytes files reader.old (tables_in self.now)
             → HasEntries H.bytes self.now es logs → Gives logs (winner es key.now number) result }
@@ -133,7 +134,7 @@ impl<H: HeldFile> Version<H> {
         out: &mut [u8],
     ) -> Result<Found, ReadFault>
         ensures cause { HasCause (R.faults reader.old.reader) (R.faults reader.new.reader) (Failed result) }
-        ensures alone { self.now.behind.logs.items ≡ [] → tables_in self.now ≡ [] → Failed result → ⊥ }
+        ensures near { tables_in self.now ≡ [] → AreNear (in_memory self.now) → Failed result → ⊥ }
         ensures kept { (files : Files) → ReadsOf H.bytes files reader.old (tables_in self.now) → AreKept files reader.new }
         ensures answers { (files : Files) (es : List Entry) (logs : Logs) → ReadsOf H.bytes files reader.old (tables_in self.now)
             → HasEntries H.bytes self.now es logs → Fills logs (winner es key.now number) out.old out.new result }
@@ -162,7 +163,7 @@ impl<H: HeldFile> Version<H> {
         number: u64,
     ) -> Result<Vec<(Key, Value)>, ReadFault>
         ensures cause { HasCause (R.faults reader.old.reader) (R.faults reader.new.reader) (Failed result) }
-        ensures alone { self.now.behind.logs.items ≡ [] → tables_in self.now ≡ [] → Failed result → ⊥ }
+        ensures near { tables_in self.now ≡ [] → AreNear (in_memory self.now) → Failed result → ⊥ }
         ensures kept { reader.new ≡ record reader.old { reader = reader.new.reader } }
         ensures answers { (es : List Entry) (logs : Logs) → HasEntries H.bytes self.now es logs
             → IsAnswer (λ rows. AreScanned logs es number wanted.entry own.now rows.items) (SomeAstray logs es number) result }

@@ -1,5 +1,5 @@
-use Rattle.std.proofs.Common.{ap, sym, subst, ◌∙◌, arith, inr, take, Vec, Global}
-use Rattle.std.specs.Prelude.{◌⊎◌, Err, Option, Result, Some}
+use Rattle.std.proofs.Common.{ap, sym, subst, ◌∙◌, arith, inr, refl, take, Vec, Global}
+use Rattle.std.specs.Prelude.{◌⊎◌, Err, List, Option, Result, Some}
 use Rattle.std.proofs.lemmas.Result.{err_from_is_err_and}
 use Rattle.vl_model.specs.Cursors.{Gives}
 use Rattle.vl_model.specs.Keys.{Row}
@@ -9,7 +9,7 @@ use Rattle.vl_version.specs.Rows.{AreRowsOf, OneAstray, PushesRow}
 use Rattle.vl_version.specs.Sources.{stored_in}
 use Rattle.vl_version.specs.declared.fault.ReadFault.{ReadFault}
 use Rattle.vl_version.specs.declared.fault.ReadFault.TheVariants.{Damaged}
-use Rattle.vl_version.proofs.TakeLaws.{astray_next, err_answer, next_kept, takes_all, takes_end, takes_next}
+use Rattle.vl_version.proofs.TakeLaws.{TakesFront, astray_next, err_answer, leaves_near, next_kept, takes_all, takes_end, takes_next, takes_none}
 use Rattle.vl_version.proofs.rows.take_rows.Goals as goal
 
 pub returns-in_default-clause-answers : goal.returns-in_default-clause-answers
@@ -44,6 +44,21 @@ taking-preserved g c = record {
       let pushes : PushesRow logs c.in-Some.entry rows c.push_row.new.rows.items =
       c.in_ok-push_row.ensures.answers told (next_kept logs left before now rows c.args.limit so c.in-Some.entry gives) in
       takes_next logs left before now rows c.args.limit so c.in-Some.entry c.push_row.new.rows.items gives (omega arith) pushes;
+  near = λ left is near. leaves_near (g.C.Cursor.left c.taking.entries) (g.C.Cursor.left c.next.new.self)
+      (c.taking.invariant.near left is near) c.in-Some.entry
+      (subst (λ (o : Option Entry). Gives (g.C.Cursor.left c.taking.entries) (g.C.Cursor.left c.next.new.self) o) c.in-Some.is
+      c.in_ok-entry.ensures.given);
+}
+
+pub taking-init : goal.taking-init
+taking-init g c = record {
+  steady = refl;
+  fails = λ fault now. now;
+  taken = λ told left is kept.
+      subst (λ (rows : List Row). TakesFront (stored_in g.H.HeldFile.bytes c.args.logs.now) left
+      (g.C.Cursor.left c.args.entries.now) rows c.args.limit) (sym c.new-rows.ensures.items)
+      (takes_none (stored_in g.H.HeldFile.bytes c.args.logs.now) left (g.C.Cursor.left c.args.entries.now) c.args.limit is kept);
+  near = λ left is near. record { rest = left; behind = is; near = near };
 }
 
 pub returns-in_err-push_row-clause-answers : goal.returns-in_err-push_row-clause-answers

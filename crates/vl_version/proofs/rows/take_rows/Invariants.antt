@@ -1,9 +1,10 @@
 use Rattle.std.proofs.Common.{◌≡◌, List, Some}
 use Rattle.std.specs.List.{AllByRecursion}
 use Rattle.vl_model.specs.declared.entry.Entry.{Entry}
+use Rattle.vl_version.specs.Near.{AreNear}
 use Rattle.vl_version.specs.Rows.{IsKept}
 use Rattle.vl_version.specs.Sources.{AreTold, stored_in}
-use Rattle.vl_version.proofs.TakeLaws.{TakesFront}
+use Rattle.vl_version.proofs.TakeLaws.{LeavesNear, TakesFront}
 use Rattle.vl_version.proofs.rows.take_rows.Given as goal
 
 abbrev pub invariant-taking : goal.invariant-taking
@@ -13,6 +14,8 @@ invariant-taking g l = record {
   taken : AreTold g.H.HeldFile.bytes l.logs → (left : List Entry) → g.C.Cursor.left l.initial.entries ≡ Some left
       → AllByRecursion IsKept left
       → TakesFront (stored_in g.H.HeldFile.bytes l.logs) left (g.C.Cursor.left l.entries) l.rows.items l.limit;
+  near : (left : List Entry) → g.C.Cursor.left l.initial.entries ≡ Some left → AreNear left
+      → LeavesNear (g.C.Cursor.left l.entries);
 }
 
 abbrev pub decreases-taking : goal.decreases-taking

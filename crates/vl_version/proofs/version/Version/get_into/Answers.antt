@@ -11,12 +11,13 @@ use Rattle.vl_seglog.specs.declared.sealed.SealedLog.{SealedLog}
 use Rattle.vl_version.specs.Answers.{Fills, IsAstray, IsFound}
 use Rattle.vl_version.specs.Faults.{Failed}
 use Rattle.vl_version.specs.Newest.{newest_entry, stand_in}
-use Rattle.vl_version.specs.Sources.{AreTold, stored_in}
+use Rattle.vl_version.specs.Sources.{AreTold, in_memory, stored_in}
 use Rattle.vl_version.specs.declared.behind.Behind.{Behind}
 use Rattle.vl_version.specs.declared.found.Found.{Found}
 use Rattle.vl_version.specs.declared.levels.look.Look.TheVariants.{UpTo}
 use Rattle.vl_version.specs.levels.LevelsLooked.{tables_of}
 use Rattle.vl_version.proofs.FaultLaws.{handed_cause, handed_failure}
+use Rattle.vl_version.proofs.NearLaws.{held_counts, near_winner}
 use Rattle.vl_version.proofs.LookLaws.{fault_answers, filled_of}
 use Rattle.vl_version.proofs.NewestLaws.{newest_wins}
 use Rattle.vl_version.proofs.OverLaws.{laid_behind, no_fault, on_version, over_fault, over_found, reads_behind}
@@ -90,12 +91,22 @@ returns-in_err-found-clause-looks g c files reads laid told =
     over_fault bytes self key number b behind c.stand_in.result stands (λ (w : Option Entry). Fills (stored_in bytes self.behind.logs.items) w c.args.out.now c.args.out.now)
     c.from_residual.result c.in_err-found.field-0.0 (c.in_err-found.ensures.looks files now laid_then) (p.1 ∙ ap Err p.2)
 
-pub returns-clause-alone : goal.returns-clause-alone
-returns-clause-alone g c none untabled =
-    c.resolve_newest_into.ensures.alone (c.deref.ensures.value ∙ ap (λ (d : Behind g.row.H.Denot). d.logs.items) c.as_ref-behind.ensures ∙ none)
+pub returns-clause-near : goal.returns-clause-near
+returns-clause-near g c untabled near =
+    let self = c.args.self.now in
+    let key = c.args.key.now in
+    let number = c.args.number in
+    let b = c.as_ref-behind.result.now in
+    let none = ap (λ (d : Behind g.row.H.Denot). tables_of d.levels) c.as_ref-behind.ensures ∙ untabled in
+    let held = c.find_held-held.ensures in
+    c.resolve_newest_into.ensures.near (near_winner (in_memory self) key number near (newest_entry key c.newer_of-counts.result)
+    (c.newer_of-counts.ensures key
+    ∙ held_counts g.H.HeldFile.bytes b.levels key number _ c.stand_in.result c.in_ok-found.found c.stand_in.ensures _ _ c.args.reader.now none
+    c.in_ok-found.ensures.answers
+    ∙ held))
 
-pub returns-in_err-found-clause-alone : goal.returns-in_err-found-clause-alone
-returns-in_err-found-clause-alone g c none untabled failed =
+pub returns-in_err-found-clause-near : goal.returns-in_err-found-clause-near
+returns-in_err-found-clause-near g c untabled near failed =
     let b = c.as_ref-behind.result.now in
     let p = err_from_is_err_and c.from_residual.result c.from_residual.ensures.1 in
     no_fault g.H.HeldFile.bytes b.levels (UpTo c.args.number) c.args.key.now _ _ _ c.args.reader.now (Err c.in_err-found.field-0.0)

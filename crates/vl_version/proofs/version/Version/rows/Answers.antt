@@ -1,4 +1,4 @@
-use Rattle.std.proofs.Common.{◌≡◌, ◌++◌, ap, sym, subst, ◌∙◌, List, ℕ}
+use Rattle.std.proofs.Common.{◌≡◌, ◌++◌, [], ap, refl, sym, subst, ◌∙◌, List, ℕ}
 use Rattle.std.specs.FinMap.{entries}
 use Rattle.std.specs.List.{flat_map}
 use Rattle.std.specs.Option.{option_map}
@@ -10,12 +10,14 @@ use Rattle.vl_model.specs.Winners.{resolved_at, winner}
 use Rattle.vl_model.specs.declared.entry.Entry.{Entry}
 use Rattle.vl_seglog.specs.declared.sealed.SealedLog.{SealedLog}
 use Rattle.vl_table.specs.OfTables.{AreOf}
+use Rattle.vl_table.specs.declared.table.Table.{Table}
 use Rattle.vl_version.specs.Gathered.{TellWinners, span_of}
 use Rattle.vl_version.specs.Own.{own_entries}
 use Rattle.vl_version.specs.Sources.{AreTold, held_entries, stored_in}
 use Rattle.vl_version.specs.declared.behind.Behind.{Behind}
 use Rattle.vl_version.specs.levels.LevelsLooked.{AreInOrder, tables_of}
-use Rattle.vl_version.proofs.AnswerLaws.{all_kept, same_led, scan_answers}
+use Rattle.vl_version.proofs.AnswerLaws.{all_kept, all_near, same_led, scan_answers}
+use Rattle.vl_version.proofs.NearLaws.{near_behind, none_in_order}
 use Rattle.vl_version.proofs.version.Version.rows.Goals as goal
 
 pub returns-clause-answers : goal.returns-clause-answers
@@ -55,9 +57,30 @@ returns-clause-answers g c es logs has =
     (all_kept (stored_in bytes c.deref.result.now) logs es number c.args.own.now wanted all seen led
     (λ key. give.winners key number) along winners))
 
-pub returns-clause-alone : goal.returns-clause-alone
-returns-clause-alone g c none untabled =
-    let behind = c.as_ref-behind.ensures in
-    c.take_rows.ensures.alone (c.deref.ensures.value ∙ ap (λ (b : Behind g.row.H.Denot). b.logs.items) behind ∙ none)
-    (λ fault may. c.in_ok-sources.ensures.quiet (ap (λ (b : Behind g.row.H.Denot). tables_of b.levels) behind ∙ untabled) fault
+pub returns-clause-near : goal.returns-clause-near
+returns-clause-near g c untabled near =
+    let self = c.args.self.now in
+    let bytes = g.H.HeldFile.bytes in
+    let number = c.args.number in
+    let wanted = c.args.wanted in
+    let way = wanted.way in
+    let b = c.as_ref-behind.result.now in
+    let behind : b ≡ self.behind = c.as_ref-behind.ensures in
+    let none = ap (λ (d : Behind g.row.H.Denot). tables_of d.levels) behind ∙ untabled in
+    let es : List Entry = (self.active.entries ++ held_entries b.frozen.items) ++ joined [] in
+    let all_are = near_behind self b behind near in
+    let tells = c.in_ok-sources.ensures.winners [] (subst (λ (ts : List (Table g.row.H.Denot)). AreOf bytes ts []) (sym none) tt)
+    (none_in_order b.levels none) in
+    let give = tells.give in
+    let all : List Entry = flat_map (λ (l : List Entry). l) tells.left in
+    let seen : List Entry = visible number (merged way all) in
+    let along = c.visible_entries_are_the_winners.ensures.along way all number in
+    let winners = λ (key : List ℕ). c.visible_entries_are_the_winners.ensures.winners way all key number in
+    let left = c.new-visible.ensures.left
+    ∙ ap (option_map (visible number))
+    (c.in_ok-new.ensures.left ∙ ap (merge_of way) tells.told ∙ c.merge_of_told_sources.ensures way tells.left give.along) in
+    let held = stored_in bytes self.behind.logs.items in
+    c.take_rows.ensures.near seen left
+    (all_near held held es number c.args.own.now wanted all seen (λ key. refl) (λ key. give.winners key number) along winners all_are)
+    (λ fault may. c.in_ok-sources.ensures.quiet none fault
     (c.in_ok-new.ensures.may_fail fault (c.new-visible.ensures.may_fail fault may)))
