@@ -3,4 +3,6 @@ mod Coming
 mod Files
 mod Holding
 mod Named
+mod Spelled
 mod Switching
+mod Unmoved

@@ -1,5 +1,6 @@
 pub mod Deciding
 pub mod Failing
 pub mod FlushEdits
+pub mod Staging
 pub mod Tables
 pub mod Writing

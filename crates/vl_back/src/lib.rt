@@ -1,11 +1,11 @@
 //! What an engine keeps for steps on files, and parts of these steps over any disk.
 //!
 //! `Back` says what a flush and a rotation come to before anything is written (`decide_flush` and
-//! `decide_rotation`), and what a flush changes of the manifest (`flush_edits`). `StagedTable::of`
-//! spells a table in memory, of the entries that a cursor gives. The caller spells the manifest's
-//! frame, and makes the room for both files on the disk. Then `write_and_switch` makes the table by
-//! three changing calls, holds it for readers, and has the manifest name it by two more. `make_log`
-//! makes a rotation's log by three.
+//! `decide_rotation`). `stage_flush` takes all the memory that a flush wants: it spells the table, of
+//! the entries that a cursor gives (`StagedTable::of`), and the manifest's frame (`flush_edits`), and
+//! makes the room for both files on the disk. Then `write_and_switch` makes the table by three
+//! changing calls, holds it for readers, and has the manifest name it by two more. `make_log` makes
+//! a rotation's log by three.
 //!
 //! `apply_flush` and `apply_rotation` change what is in memory behind that, and want no more of it:
 //! `make_room` took what a rotation wants.
@@ -19,6 +19,7 @@ mod edits;
 mod making;
 mod placing;
 mod stage_fail;
+mod staging;
 mod table;
 mod writing;
 
@@ -26,6 +27,7 @@ pub use back::Back;
 pub use decision::Decision;
 pub use making::{make_log, make_table};
 pub use stage_fail::StageFail;
+pub use staging::StagedFlush;
 pub use table::StagedTable;
 pub use vl_manifest::Waiting;
 pub use writing::write_and_switch;

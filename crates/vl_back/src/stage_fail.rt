@@ -4,16 +4,17 @@ ghost use Rattle.vl_back.specs.declared.stage_fail.StageFail.TheVariants as why;
 
 use std::alloc::{AllocError, AllocFailed};
 use thiserror::Error;
+use vl_disk::NoMemory;
 use vl_table_writer::AddFail;
 
-/// Why a table wasn't spelled.
+/// Why a flush wasn't staged.
 #[derive(Clone, Copy, Debug, PartialEq, Eq, Error)]
 pub enum StageFail {
-    /// Memory ran out, or the table would have 2^32 bytes or more.
+    /// Memory ran out, or the table or the manifest would have more bytes than a file may.
     #[error("no memory")]
     NoMemory,
-    /// There is no entry, or one that a table may not have where it comes. Of what an engine keeps
-    /// neither is so.
+    /// There is no entry, or one that a table may not have where it comes, or the switch can't be
+    /// applied to what the manifest says. Of what an engine keeps none of these is so.
     #[error("not lawful")]
     NotLawful,
 }
@@ -30,6 +31,14 @@ impl<T: Drop> From<AllocFailed<T>> for StageFail {
     ghost from_gives = { λ _ e. e ≡ why.NoMemory };
 
     fn from(_: AllocFailed<T>) -> Self {
+        StageFail::NoMemory
+    }
+}
+
+impl From<NoMemory> for StageFail {
+    ghost from_gives = { λ _ e. e ≡ why.NoMemory };
+
+    fn from(_: NoMemory) -> Self {
         StageFail::NoMemory
     }
 }

@@ -8,12 +8,14 @@ mod LookLaws
 mod NearLaws
 mod looking
 mod NewestLaws
+mod OldestLaws
 mod OverLaws
 mod OwnLaws
 mod PutLaws
 mod RangesMet
 mod RowLaws
 mod ScanLaws
+mod SharedLaws
 mod TableSources
 mod TakeLaws
 mod Telling

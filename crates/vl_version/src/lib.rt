@@ -16,6 +16,7 @@
 
 mod behind;
 mod fault;
+mod flushing;
 mod found;
 mod frozen;
 mod gather;
@@ -23,13 +24,16 @@ mod levels;
 mod newest;
 mod own;
 mod resolving;
+mod rotating;
 mod rows;
+mod shared;
 mod source;
 mod version;
 mod wanted;
 
 pub use behind::Behind;
 pub use fault::ReadFault;
+pub use flushing::FlushedVersion;
 pub use found::Found;
 pub use levels::{Level, Levels};
 pub use version::Version;

@@ -37,8 +37,8 @@ use vl_txn::Writes;
 /// The sources of a store at one moment. It is shared by all who read there, and only its memtable takes commits.
 #[derive(Drop)]
 pub struct Version<H> {
-    active: Memtable,
-    behind: SharedBehind<H>,
+    pub(crate) active: Memtable,
+    pub(crate) behind: SharedBehind<H>,
 }
 
 impl<H: HeldFile> Version<H> {
