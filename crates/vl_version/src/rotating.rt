@@ -14,12 +14,7 @@ use vl_seglog::SealedLog;
 impl<H: HeldFile> Version<H> {
     /// The version behind a rotation: what took commits is the memtable of a frozen log of this length, which is held, and an
     /// empty memtable takes commits. This one stays as it is.
-    pub fn rotated(
-        &self,
-        alloc: Global,
-        length: u64,
-        log: SealedLog<H>,
-    ) -> Result<Self, AllocError>
+    pub fn rotated(&self, alloc: Global, length: u64, log: SealedLog<H>) -> Result<Self, AllocError>
         ensures { IfOk result (IsRotated H.bytes self.now length log) }
     {
         let newest = FrozenLog {

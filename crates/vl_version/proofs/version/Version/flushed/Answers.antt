@@ -14,7 +14,7 @@ returns g c =
     let bytes = g.H.HeldFile.bytes in
     let behind : Behind H = c.args.self.now.behind in
     let shared : AreSameLevels bytes behind.levels c.in_ok-levels.levels =
-        subst (λ (b : Behind H). AreSameLevels bytes b.levels c.in_ok-levels.levels) c.as_ref-behind.ensures c.in_ok-levels.ensures in
+    subst (λ (b : Behind H). AreSameLevels bytes b.levels c.in_ok-levels.levels) c.as_ref-behind.ensures c.in_ok-levels.ensures in
     record {
       active = c.in_ok-share.ensures;
       frozen = c.in_ok-without_oldest.ensures
