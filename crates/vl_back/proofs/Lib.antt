@@ -6,3 +6,4 @@ mod Named
 mod Spelled
 mod Switching
 mod Unmoved
+mod Untold

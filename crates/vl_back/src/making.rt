@@ -1,6 +1,6 @@
 //! Files that a step makes: a table that is held for readers, and a log that has no frames yet.
 
-ghost use Rattle.std.specs.Prelude.{◌≡◌, length, Some, IfErr, IfOk, IsTrue};
+ghost use Rattle.std.specs.Prelude.{◌≡◌, length, None, Some, IfErr, IfOk, IsTrue};
 ghost use Rattle.std.specs.Option.{ForSome};
 ghost use Rattle.vl_back.specs.Writing.{KeepsOthers};
 ghost use Rattle.vl_disk.specs.Disk.{IsFree};
@@ -26,6 +26,7 @@ pub fn make_table<D: Disk>(disk: &mut D, number: u32, bytes: &[u8]) -> Result<D:
         disk.old disk.new result }
     ensures held { IfOk result (λ held. ForSome (D.told disk.old) (λ _. D.Held.bytes held ≡ Some bytes.now)) }
     ensures named { IfOk result (λ held. D.Held.named held ≡ names.Table number) }
+    ensures untold { D.told disk.old ≡ None → D.told disk.new ≡ None }
     ensures spare { SameSpareElsewhere (names.Table number) (D.spare disk.old) (D.spare disk.new) }
 {
     let name = Name::Table(number);
@@ -46,6 +47,9 @@ pub fn make_log<D: Disk>(disk: &mut D, number: u32) -> Result<(), Name>
         (WhileMaking (names.Log number) (log_header log_format number)) 3 disk.old disk.new result }
     ensures at { IfErr result (FailedAt (calls_on 3 (names.Log number)) (D.calls disk.old) (D.calls disk.new)) }
     ensures files { KeepsOthers (names.Log number) (D.told disk.old) (D.told disk.new) }
+
+    // A disk that told nothing tells nothing then.
+    ensures untold { D.told disk.old ≡ None → D.told disk.new ≡ None }
 {
     let name = Name::Log(number);
     match make_file(disk, name, &log_header(number)) {

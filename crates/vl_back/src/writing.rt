@@ -1,6 +1,6 @@
 //! The changing calls of a flush.
 
-ghost use Rattle.std.specs.Prelude.{◌≡◌, ◌+◌, ◌-◌, ◌^◌, length, min, Some, IfErr, IfOk, IsTrue, OnErr, OnOk};
+ghost use Rattle.std.specs.Prelude.{◌≡◌, ◌+◌, ◌-◌, ◌^◌, length, min, None, Some, IfErr, IfOk, IsTrue, OnErr, OnOk};
 ghost use Rattle.std.specs.Option.{ForSome};
 ghost use Rattle.vl_back.specs.Writing.{KeepsOthers, WhileWriting, flush_files, written};
 ghost use Rattle.vl_disk.specs.Disk.{IsFree, Stands};
@@ -41,6 +41,7 @@ pub fn write_and_switch<D: Disk>(
 
     // The other files stand as before, also where it failed.
     ensures files { KeepsOthers (names.Table table) (D.told disk.old) (D.told disk.new) }
+    ensures untold { D.told disk.old ≡ None → D.told disk.new ≡ None }
     ensures number { manifest.new.number ≡ manifest.old.number }
     ensures longer { OnOk result
         (manifest.new.length ≡ min (manifest.old.length + length edits.now.frame.items) (2 ^ 64 - 1)) }

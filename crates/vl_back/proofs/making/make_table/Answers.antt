@@ -1,6 +1,7 @@
 use Rattle.std.proofs.Common.{Some, ap, ◌∙◌}
 use Rattle.std.specs.Option.{option_map}
 use Rattle.vl_back.proofs.Holding.{made_bytes, makes_held, makes_unheld, stops_making}
+use Rattle.vl_back.proofs.Untold.{changed_untold, part_untold}
 use Rattle.vl_back.proofs.making.make_table.Goals as goal
 use Rattle.vl_disk.specs.MadeFile.{made}
 use Rattle.vl_disk.specs.declared.name.Name.TheVariants as names
@@ -27,3 +28,17 @@ returns-in-Err-clause-makes g c =
     makes_unheld g.D.Watched (names.Table c.args.number) c.args.bytes.now c.args.disk.now c.make_file.new.disk c.hold.new.self
     _ c.in-Err.field-0 _ c.in_ok-make_file.ensures c.in-Err.ensures.no_change
     (c.in-Err.ensures.memory (c.in_ok-make_file.ensures.hold ∙ c.requires.hold))
+
+pub returns-in_err-make_file-clause-untold : goal.returns-in_err-make_file-clause-untold
+returns-in_err-make_file-clause-untold g c = part_untold (names.Table c.args.number) c.args.bytes.now
+    (g.D.Watched.told c.args.disk.now) (g.D.Watched.told c.make_file.new.disk) c.in_err-make_file.ensures.failed
+
+pub returns-in-Ok-clause-untold : goal.returns-in-Ok-clause-untold
+returns-in-Ok-clause-untold g c = λ none. c.in-Ok.ensures.no_change.told
+    ∙ changed_untold (made (names.Table c.args.number) c.args.bytes.now) (g.D.Watched.told c.args.disk.now)
+    (g.D.Watched.told c.make_file.new.disk) c.in_ok-make_file.ensures.made none
+
+pub returns-in-Err-clause-untold : goal.returns-in-Err-clause-untold
+returns-in-Err-clause-untold g c = λ none. c.in-Err.ensures.no_change.told
+    ∙ changed_untold (made (names.Table c.args.number) c.args.bytes.now) (g.D.Watched.told c.args.disk.now)
+    (g.D.Watched.told c.make_file.new.disk) c.in_ok-make_file.ensures.made none

@@ -4,7 +4,10 @@ use Rattle.vl_disk.specs.declared.name.Name.TheVariants as names
 use Rattle.vl_back.specs.Writing.{WhileWriting, written}
 use Rattle.vl_back.proofs.Files.{making_keeps, run_keeps, writing_keeps}
 use Rattle.vl_back.proofs.Switching.{all_written, failed_at_switch, failed_at_table, still_stands, stops_at_switch, stops_at_table}
+use Rattle.vl_back.proofs.Untold.{changed_untold}
 use Rattle.vl_back.proofs.writing.write_and_switch.Goals as goal
+use Rattle.vl_disk.specs.DiskState.{appended}
+use Rattle.vl_manifest.specs.Switching.{switched}
 
 pub returns-in_default-clause-writes : goal.returns-in_default-clause-writes
 returns-in_default-clause-writes g c =
@@ -64,3 +67,14 @@ returns-in-Err-clause-files g c =
     (stops_at_switch g.D.Watched c.args.table c.args.bytes.now manifest frame
     c.args.disk.now c.make_table.new.disk c.switch.new.disk c.in-Ok.held c.in-Ok.ensures.makes _
     (names.Manifest manifest) c.in-Err.ensures.switched)
+
+pub returns-in-Ok-switch-clause-untold : goal.returns-in-Ok-switch-clause-untold
+returns-in-Ok-switch-clause-untold g c = λ none.
+    changed_untold (switched c.args.manifest.now.number c.args.edits.now.frame.items) (g.D.Watched.told c.make_table.new.disk)
+    (g.D.Watched.told c.switch.new.disk) c.in-Ok-switch.ensures.switched.performs.done (c.in-Ok.ensures.untold none)
+
+pub returns-in-Err-clause-untold : goal.returns-in-Err-clause-untold
+returns-in-Err-clause-untold g c = λ none.
+    let (taken, within, changed) = c.in-Err.ensures.switched.failed in
+    changed_untold (appended (names.Manifest c.args.manifest.now.number) c.args.edits.now.frame.items taken)
+    (g.D.Watched.told c.make_table.new.disk) (g.D.Watched.told c.switch.new.disk) changed (c.in-Ok.ensures.untold none)
