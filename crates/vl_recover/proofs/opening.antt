@@ -4,7 +4,9 @@ pub mod Contents
 pub mod Decided
 pub mod FaultNames
 pub mod Filling
+pub mod HandedCalls
 pub mod Handing
+pub mod HeldLogs
 pub mod LedInto
 pub mod Looking
 pub mod Naming
@@ -16,3 +18,4 @@ pub mod ReadingLogs
 pub mod Rows
 pub mod SortedOnce
 pub mod Unmoved
+pub mod WaitingLogs

@@ -1,6 +1,10 @@
 -- What is changed.
 pub mod ActiveStands
+pub mod ActiveFree
 pub mod Fitted
+pub mod GoingOn
+pub mod Holding
+pub mod LastHeld
 pub mod LastFiles
 pub mod Removals
 pub mod Repaired

@@ -1,5 +1,5 @@
 // The current manifest, or what stands in its place.
-ghost use Rattle.std.specs.Prelude.{◌≡◌, All, Some, IfErr};
+ghost use Rattle.std.specs.Prelude.{◌≡◌, All, Some, length, IfErr, IfOk};
 ghost use Rattle.std.specs.Option.{ForSome};
 ghost use Rattle.vl_disk.specs.Calls.{ChangesNothing};
 ghost use Rattle.vl_disk.specs.Crash.{Image};
@@ -34,6 +34,7 @@ pub fn current_state<D: Disk>(
     requires greatest { AreGreatestIn names.now (greatest_of greatest) }
     ensures says { (state : DiskState) (read : Image) → D.told disk.old ≡ Some state → IsRead read state
         → AnswersStage (Current read) result }
+    ensures seven { IfOk result (λ said. length said.levels ≡ 7) }
     ensures at { IfErr result (IsFaultOf (IsReadManifest (D.told disk.old))) }
     ensures no_change { ChangesNothing D.Watched disk.old disk.new (IsFault result) }
 {
@@ -57,6 +58,7 @@ pub fn current_state<D: Disk>(
 // What the manifest with this number and these bytes says, which is the current one.
 fn read_state(alloc: Global, bytes: &[u8], number: u32) -> Result<ManifestState, OpenError>
     ensures says { AnswersStage (Says (Led number bytes.now)) result }
+    ensures seven { IfOk result (λ said. length said.levels ≡ 7) }
     ensures no_fault { IsFault result → ⊥ }
 {
     match ManifestLog::read(alloc, bytes, number) {
@@ -86,6 +88,7 @@ fn without_current(
     newest: Option<u32>,
 ) -> Result<ManifestState, OpenError>
     ensures says { AnswersStage (Says (heading_without (greatest_of greatest) newest)) result }
+    ensures seven { IfOk result (λ said. length said.levels ≡ 7) }
     ensures no_fault { IsFault result → ⊥ }
 {
     if greatest.log == 0 && greatest.table == 0 {

@@ -2,13 +2,14 @@
 
 ghost use Rattle.std.specs.Prelude.{◌≡◌, Some};
 ghost use Rattle.vl_recover.specs.repairing.Deciding.{DecidesSo, next_of, step_for, used_up_of};
+ghost use Rattle.vl_recover.specs.repairing.Holding.{hold_for};
 ghost use Rattle.vl_recover.specs.opening.Finding.{AreFileNumbers};
 ghost use Rattle.vl_recover.specs.repairing.PlanViews.{step_of};
 ghost use Rattle.vl_recover.specs.opening.Plans as plans;
 
 use crate::OpenError;
 use crate::found::{Findings, LastLog};
-use crate::plan::{LastStep, NextLog, RepairingPlan};
+use crate::plan::{LastStep, LogToHold, NextLog, RepairingPlan};
 use crate::prepared::Prepared;
 use std::alloc::Global;
 use vl_manifest::ManifestState;
@@ -23,6 +24,7 @@ pub(crate) fn decide(alloc: Global, found: Findings) -> Result<Prepared, OpenErr
         state,
         number,
         frozen,
+        waiting,
         greatest,
         last,
         strays,
@@ -41,10 +43,12 @@ pub(crate) fn decide(alloc: Global, found: Findings) -> Result<Prepared, OpenErr
         number,
         state,
         frozen,
+        waiting,
         plan: RepairingPlan {
             manifest,
             edits,
             last: last_step(last),
+            hold: log_to_hold(last),
             log,
             strays,
         },
@@ -87,6 +91,25 @@ fn passes(log: Option<u32>) -> bool
     match log {
         None => false,
         Some(number) => number > MAX_FILE_NUMBER,
+    }
+}
+
+// The log that is held: the last one, where it has frames, and so keeps its header.
+fn log_to_hold(last: Option<LastLog>) -> Option<LogToHold>
+    ensures { result ≡ hold_for last }
+{
+    match last {
+        None => None,
+        Some(last) => {
+            if last.header && last.has_frames {
+                Some(LogToHold {
+                    number: last.number,
+                    format: last.format,
+                })
+            } else {
+                None
+            }
+        }
     }
 }
 

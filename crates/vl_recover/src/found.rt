@@ -1,7 +1,8 @@
 use vl_disk::Name;
-use vl_manifest::ManifestState;
+use vl_manifest::{ManifestState, Waiting};
 use vl_memtable::FrozenLog;
 use vl_model::Entry;
+use vl_seglog::SealedLog;
 use vl_table::Table;
 
 /// The greatest number of each kind of file that stands, 0 where none does.
@@ -18,6 +19,8 @@ pub(crate) struct LastLog {
     pub number: u32,
     /// Of its file, in bytes.
     pub length: u64,
+    /// The one in its header, or the one that is written where that isn't right.
+    pub format: u32,
     /// Whether it keeps its header: this is right, and in the format that is written, or has frames behind it.
     pub header: bool,
     /// Where its content ends, in bytes: 0 without a right header.
@@ -34,6 +37,8 @@ pub(crate) struct Findings {
     pub number: u64,
     /// The logs with frames from head on, their numbers rising.
     pub frozen: Vec<FrozenLog>,
+    /// The same as they wait for their flush.
+    pub waiting: Vec<Waiting>,
     pub greatest: GreatestNumbers,
     /// Of the logs from head on the last.
     pub last: Option<LastLog>,
@@ -75,10 +80,14 @@ pub(crate) struct DamagePlace {
 
 /// What logs come to that were read one after the other.
 #[derive(Drop)]
-pub(crate) struct LogsFound {
+pub(crate) struct LogsFound<H> {
     /// Of the last commit; or the first damage, behind which they were read all the same.
     pub number: Result<u64, DamagePlace>,
     pub frozen: Vec<FrozenLog>,
+    /// The same as they wait for their flush, by the commits that are counted. Behind a damage none are.
+    pub waiting: Vec<Waiting>,
+    /// The logs that are held: those below head, and behind them each that another follows.
+    pub sealed: Vec<SealedLog<H>>,
     pub last: Option<LastLog>,
 }
 
@@ -87,4 +96,6 @@ pub(crate) struct LogsFound {
 pub(crate) struct HeldFiles<H> {
     /// The tables that the manifest names, for each level from 0 to 6, in its order.
     pub levels: Vec<Vec<Table<H>>>,
+    /// The logs below head that tables lead into, and those from head on but for the last one. There is room for that too.
+    pub sealed: Vec<SealedLog<H>>,
 }

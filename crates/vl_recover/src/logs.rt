@@ -1,5 +1,5 @@
 // The logs of a store, from head on.
-ghost use Rattle.std.specs.Prelude.{◌≡◌, ◌++◌, ◌∷◌, [], List, map, All, Some, Contains, IfErr, IfOk, IfSome};
+ghost use Rattle.std.specs.Prelude.{◌≡◌, ◌++◌, ◌∷◌, ℕ, [], false, List, map, All, Ok, Some, Contains, IfErr, IfOk, IfSome};
 ghost use Rattle.std.specs.Option.{ForSome};
 ghost use Rattle.vl_disk.specs.Calls.{ChangesNothing};
 ghost use Rattle.vl_disk.specs.Crash.{Image};
@@ -11,11 +11,15 @@ ghost use Rattle.vl_disk.specs.declared.name.Name.TheVariants as kinds;
 ghost use Rattle.vl_model.specs.declared.log_frame.LogFrame.{LogFrame};
 ghost use Rattle.vl_recover.specs.opening.Counting.{walked_log};
 ghost use Rattle.vl_recover.specs.opening.Finding.{IsExcused, IsFault, IsFaultOf, IsReadLog};
-ghost use Rattle.vl_recover.specs.opening.LogsSoFar.{AreLogsFound, FindsOneMore, HasOneMore, number_before, walk_of};
+ghost use Rattle.vl_recover.specs.opening.HeldFiles.{AreWaiting};
+ghost use Rattle.vl_recover.specs.opening.LogsSoFar.{AreHeldSoFar, AreLogsFound, FindsOneMore, HasOneMore, IsHeldWhere, held_list};
+ghost use Rattle.vl_recover.specs.opening.LogsSoFar.{number_before, waits_with, walk_of};
 ghost use Rattle.vl_recover.specs.opening.Named.{AreRising, IsGreatestIn};
+ghost use Rattle.vl_recover.specs.opening.Opening.{StandingLogs};
 ghost use Rattle.vl_recover.specs.opening.ReadLogs.{IsReadAs, held_content, standing_log};
 ghost use Rattle.vl_recover.specs.opening.Results.{frozen_log};
 ghost use Rattle.vl_recover.specs.opening.Walk as walk;
+ghost use Rattle.vl_recover.specs.opening.Walk.{StandingLog};
 ghost use Rattle.vl_seglog.specs.LogReading.{LogReading};
 
 use crate::OpenError;
@@ -24,13 +28,16 @@ use crate::found::{Content, DamagePlace, LastLog, LogFound, LogsFound};
 use crate::memtables::memtable_of;
 use crate::names::log_from;
 use crate::one_log::read_log;
+use crate::reading::hold;
 use std::alloc::{AllocError, Global};
-use vl_disk::{Disk, Name};
+use vl_disk::{Disk, HeldFile, Name};
+use vl_manifest::Waiting;
 use vl_memtable::FrozenLog;
 use vl_model::LOG_FORMAT;
+use vl_seglog::SealedLog;
 
-/// Reads the logs from head on, each once, also behind a damage. The names are in order, and the greatest log has this
-/// number. The commits before the logs have numbers up to `covered`.
+/// Reads the logs from head on, each once, also behind a damage, and holds each that another follows, behind the lower ones. The
+/// names are in order, and the greatest log has this number. The commits before the logs have numbers up to `covered`.
 pub fn read_logs<D: Disk>(
     alloc: Global,
     disk: &mut D,
@@ -38,13 +45,20 @@ pub fn read_logs<D: Disk>(
     greatest: u32,
     head: u32,
     covered: u64,
-) -> Result<LogsFound, OpenError>
+    lower: Vec<SealedLog<D::Held>>,
+) -> Result<LogsFound<D::Held>, OpenError>
     requires lists { ForSome (D.told disk.old) (Lists names.now) }
     requires numbered { All IsNumbered names.now }
     requires rising { AreRising names.now }
     requires greatest { IsGreatestIn names.now kinds.Log greatest }
     ensures reads { (state : DiskState) (read : Image) → D.told disk.old ≡ Some state → IsRead read state
         → IfOk result (AreLogsFound read head covered) }
+    ensures waiting { (state : DiskState) (read : Image) (logs : List StandingLog) (number : ℕ) → D.told disk.old ≡ Some state
+        → IsRead read state → StandingLogs read head logs → walk.walked covered logs ≡ Ok number
+        → IfOk result (λ found. AreWaiting covered found.waiting.items (walk.filled logs)) }
+    ensures held { (state : DiskState) (read : Image) (logs : List StandingLog) → D.told disk.old ≡ Some state
+        → IsRead read state → StandingLogs read head logs
+        → IfOk result (λ found. AreHeldSoFar D.Held.bytes read lower.items false logs found.sealed.items) }
     ensures last { IfOk result (λ logs. IfSome logs.last (λ q. Contains names.now (kinds.Log q.number))) }
     ensures excused { IfErr result IsExcused }
     ensures at { IfErr result (IsFaultOf (IsReadLog (D.told disk.old))) }
@@ -53,6 +67,8 @@ pub fn read_logs<D: Disk>(
     let mut so_far = LogsFound {
         number: Ok(covered),
         frozen: Vec::new(alloc),
+        waiting: Vec::new(alloc),
+        sealed: lower,
         last: None,
     };
     let mut least = head;
@@ -70,20 +86,56 @@ pub fn read_logs<D: Disk>(
 fn with_next<D: Disk>(
     alloc: Global,
     disk: &mut D,
-    so_far: LogsFound,
+    so_far: LogsFound<D::Held>,
     number: u32,
     followed: bool,
-) -> Result<LogsFound, OpenError>
+) -> Result<LogsFound<D::Held>, OpenError>
     requires { ForSome (D.told disk.old) (Stands (kinds.Log number)) }
     ensures reads { (state : DiskState) (read : Image) → D.told disk.old ≡ Some state → IsRead read state
-        → IfOk result (FindsOneMore read number followed so_far) }
+        → IfOk result (FindsOneMore D.Held.bytes read number followed so_far) }
     ensures last { IfOk result (λ logs. IfSome logs.last (λ q. q.number ≡ number)) }
     ensures excused { IfErr result IsExcused }
     ensures at { IfErr result (IsFaultOf (λ at. at ≡ kinds.Log number)) }
     ensures no_change { ChangesNothing D.Watched disk.old disk.new (IsFault result) }
 {
     let log = read_log(alloc, disk, number, last_before(so_far.number))?;
-    Ok(with_log(alloc, so_far, log, followed)?)
+    let held = hold_log(disk, number, log.format, followed)?;
+    Ok(with_log(alloc, so_far, log, followed, held)?)
+}
+
+// The log of this number and format as it stands, where another follows it.
+fn hold_log<D: Disk>(
+    disk: &mut D,
+    number: u32,
+    format: Option<u32>,
+    followed: bool,
+) -> Result<Option<SealedLog<D::Held>>, OpenError>
+    requires { ForSome (D.told disk.old) (Stands (kinds.Log number)) }
+    ensures held { (state : DiskState) (read : Image) → D.told disk.old ≡ Some state → IsRead read state
+        → IfOk result (IsHeldWhere D.Held.bytes read number format followed) }
+    ensures excused { IfErr result IsExcused }
+    ensures at { IfErr result (IsFaultOf (λ at. at ≡ kinds.Log number)) }
+    ensures no_change { ChangesNothing D.Watched disk.old disk.new (IsFault result) }
+{
+    if !followed {
+        return Ok(None);
+    }
+    let held = hold(disk, Name::Log(number))?;
+    Ok(Some(SealedLog {
+        number,
+        format: format_of(format),
+        held,
+    }))
+}
+
+// The format of a log; without the right header that which is written.
+fn format_of(format: Option<u32>) -> u32
+    ensures { result ≡ walk.format_of format }
+{
+    match format {
+        Some(format) => format,
+        None => LOG_FORMAT,
+    }
 }
 
 // The number of the last commit so far. Behind a damage it doesn't matter any more.
@@ -96,25 +148,35 @@ fn last_before(number: Result<u64, DamagePlace>) -> u64
     }
 }
 
-// With a log more.
-fn with_log(
+// With a log more, which is held or not.
+fn with_log<H: HeldFile>(
     alloc: Global,
-    so_far: LogsFound,
+    so_far: LogsFound<H>,
     log: LogFound,
     followed: bool,
-) -> Result<LogsFound, AllocError>
+    held: Option<SealedLog<H>>,
+) -> Result<LogsFound<H>, AllocError>
     ensures one_more { (reading : LogReading) → IsReadAs (number_before so_far.number) reading log
         → IfOk result (HasOneMore (standing_log log reading) followed so_far) }
+    ensures sealed { IfOk result (λ logs. logs.sealed.items ≡ so_far.sealed.items ++ held_list held) }
     ensures number { IfOk result (λ logs. IfSome logs.last (λ q. q.number ≡ log.number)) }
 {
     let number = number_with(so_far.number, &log, followed);
     let last = LastLog {
         number: log.number,
         length: log.length,
+        format: format_of(log.format),
         header: keeps_header(log.format, log.content.has_frames),
         end: log.content.end,
         has_frames: log.content.has_frames,
     };
+    let sealed = with_sealed(so_far.sealed, held)?;
+    let waiting = with_waiting(
+        so_far.waiting,
+        log.number,
+        last_before(number),
+        log.content.has_frames,
+    )?;
     let frozen = if log.content.has_frames {
         with_frozen(alloc, so_far.frozen, log.number, log.content)?
     } else {
@@ -123,8 +185,41 @@ fn with_log(
     Ok(LogsFound {
         number,
         frozen,
+        waiting,
+        sealed,
         last: Some(last),
     })
+}
+
+// With this log more, if it is held.
+fn with_sealed<H: HeldFile>(
+    sealed: Vec<SealedLog<H>>,
+    held: Option<SealedLog<H>>,
+) -> Result<Vec<SealedLog<H>>, AllocError>
+    ensures { IfOk result (λ with. with.items ≡ sealed.items ++ held_list held) }
+{
+    let mut with = sealed;
+    if let Some(log) = held {
+        with.push(log)?;
+    }
+    Ok(with)
+}
+
+// With a log more that waits for its flush, if it has frames. Commits up to `covered` are in it and before it.
+fn with_waiting(
+    waiting: Vec<Waiting>,
+    number: u32,
+    covered: u64,
+    has_frames: bool,
+) -> Result<Vec<Waiting>, AllocError>
+    ensures { (frames : List LogFrame) → has_frames ≡ walk.has_some frames
+        → IfOk result (λ with. with.items ≡ waiting.items ++ waits_with number covered frames) }
+{
+    let mut with = waiting;
+    if has_frames {
+        with.push(Waiting { number, covered })?;
+    }
+    Ok(with)
 }
 
 // The number of the last commit, or the first damage, with a log more.

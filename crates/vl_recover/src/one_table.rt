@@ -1,11 +1,13 @@
 // One table that a manifest names.
 ghost use Rattle.std.specs.Prelude.{◌≡◌, Some, IfErr, IfOk};
+ghost use Rattle.std.specs.FinMap.{get};
 ghost use Rattle.std.specs.Option.{ForSome};
 ghost use Rattle.vl_disk.specs.Calls.{ChangesNothing};
 ghost use Rattle.vl_disk.specs.Crash.{Image};
 ghost use Rattle.vl_disk.specs.Disk.{Lists};
 ghost use Rattle.vl_disk.specs.DiskState.{DiskState};
 ghost use Rattle.vl_disk.specs.Started.{IsRead};
+ghost use Rattle.vl_disk.specs.declared.name.Name.TheVariants as kinds;
 ghost use Rattle.vl_recover.specs.opening.Finding.{FailsAtDisk, IsFaultOf, IsReadTable};
 ghost use Rattle.vl_recover.specs.opening.OpenedTables.{IsTableFound};
 
@@ -28,6 +30,8 @@ pub fn open_table<D: Disk>(
     requires fresh { D.Reader.faults reader.old ≡ 0 }
     ensures answer { (state : DiskState) (read : Image) → D.told disk.old ≡ Some state → IsRead read state
         → IsTableFound read number result }
+    ensures held { (state : DiskState) (read : Image) → D.told disk.old ≡ Some state → IsRead read state
+        → IfOk result (λ table. D.Held.bytes table.held ≡ get read (kinds.Table number)) }
     ensures at { IfErr result (IsFaultOf (IsReadTable (D.told disk.old))) }
     ensures fresh { IfOk result (λ _. D.Reader.faults reader.new ≡ 0) }
     ensures no_change { ChangesNothing D.Watched disk.old disk.new (FailsAtDisk (D.Reader.faults reader.new) result) }

@@ -47,6 +47,14 @@ impl NextLog {
     }
 }
 
+/// A log that is to be held.
+#[derive(Clone, Copy)]
+pub(crate) struct LogToHold {
+    pub number: u32,
+    /// The one in its header.
+    pub format: u32,
+}
+
 /// How an opening repairs a store.
 #[derive(Drop)]
 pub(crate) struct RepairingPlan {
@@ -55,6 +63,8 @@ pub(crate) struct RepairingPlan {
     /// What its first frame says.
     pub edits: Vec<Edit>,
     pub last: LastStep,
+    /// The last log, where it has frames: it is held as it is then.
+    pub hold: Option<LogToHold>,
     /// The log that is made.
     pub log: Option<u32>,
     /// The files that are removed.

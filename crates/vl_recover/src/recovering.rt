@@ -1,4 +1,4 @@
-ghost use Rattle.std.specs.Prelude.{◌≡◌, ◌≤◌, ℕ, List, length, Some, IfErr, IfOk};
+ghost use Rattle.std.specs.Prelude.{◌≡◌, ◌+◌, ◌++◌, ◌≤◌, ℕ, List, length, Some, IfErr, IfOk, vec_capacity, vec_len};
 ghost use Rattle.std.specs.Option.{ForSome};
 ghost use Rattle.vl_disk.specs.Calls.{ChangesNothing};
 ghost use Rattle.vl_disk.specs.Crash.{Image};
@@ -10,10 +10,12 @@ ghost use Rattle.vl_disk.specs.declared.name.Name.{Name};
 ghost use Rattle.vl_recover.specs.crash.Alike.{OpensAsOf};
 ghost use Rattle.vl_recover.specs.opening.Answers.{AnswersBy, AreStrayNames, Finds, IsNotOpened, calls_to_open, logs_then};
 ghost use Rattle.vl_recover.specs.repairing.Deciding.{opened_by};
+ghost use Rattle.vl_recover.specs.repairing.Holding.{listed};
 ghost use Rattle.vl_recover.specs.crash.Held.{HoldsStore, view_of};
 ghost use Rattle.vl_recover.specs.crash.Meanwhile.{FaultsAt, IsAsLong, IsMeanwhile, IsRepaired};
 ghost use Rattle.vl_recover.specs.opening.FoundTables.{all_found};
 ghost use Rattle.vl_recover.specs.opening.HeldFiles.{AreHeldLogs, AreReadTables, AreWaiting, IsReadyToGoOn, tables_of};
+ghost use Rattle.vl_recover.specs.opening.Opening.{NamesNoTable};
 ghost use Rattle.vl_recover.specs.opening.Results.{FailsWithoutFault, IsDiskFault, recovery_of, disk_of, opened_of, read_faults};
 ghost use Rattle.vl_recover.specs.crash.Starts.{MayOpen};
 ghost use Rattle.vl_recover.specs.repairing.Steps.{MakesSome};
@@ -26,7 +28,7 @@ use crate::{OpenError, OpenFail, Parts};
 use std::alloc::Global;
 use vl_disk::Disk;
 use vl_manifest::{IoFail, ManifestLog};
-use vl_seglog::ActiveLog;
+use vl_seglog::{ActiveLog, SealedLog};
 
 /// Opens the store on a disk, whose logs may have so many bytes. All is read first, then all memory is taken, and only then
 /// the disk is changed: a new manifest is made, the last log is cut to its content and made durable, a new log is made
@@ -81,6 +83,9 @@ pub fn recover<D: Disk>(
         → FaultsAt read state (D.calls disk) (D.calls (disk_of result)) (recovery_of result) }
     ensures cause { HasCause (D.faults disk) (D.faults (disk_of result))
         (IsDiskFault (read_faults D.Reader.faults result) (recovery_of result)) }
+    // Where no table is named that reader isn't asked.
+    ensures unread { (state : DiskState) (read : Image) → D.told disk ≡ Some state → IsRead read state → NamesNoTable read
+        → read_faults D.Reader.faults result ≡ 0 }
     ensures room { IfOk result (λ parts. parts.room ≡ room) }
 
     // What it holds for readers is what reads gave, but for what was cut off from the last log. There are seven levels.
@@ -124,7 +129,7 @@ pub fn recover<D: Disk>(
         }
     };
     match repair(alloc, &mut disk, &prepared.plan) {
-        Ok(manifest) => Ok(opened(disk, room, manifest, prepared, held)),
+        Ok((manifest, last)) => Ok(opened(disk, room, manifest, prepared, held, last)),
         Err(IoFail::NoMemory) => Err(OpenFail {
             why: OpenError::NoMemory,
             disk,
@@ -145,30 +150,52 @@ fn opened<D, H>(
     manifest: ManifestLog,
     prepared: Prepared,
     held: HeldFiles<H>,
+    last: Option<SealedLog<H>>,
 ) -> Parts<D, H>
-    requires { manifest.number ≡ prepared.plan.manifest }
+    requires manifest { manifest.number ≡ prepared.plan.manifest }
+    requires place { vec_len held.sealed + 1 ≤ vec_capacity held.sealed }
     ensures disk { result.disk ≡ disk }
     ensures opened { opened_of result ≡ opened_by prepared (all_found held.levels) }
     ensures state { result.state ≡ prepared.state }
     ensures manifest { result.manifest ≡ manifest }
     ensures room { result.room ≡ room }
     ensures active { result.active ≡ record { number = prepared.active; length = 16 } }
+    ensures levels { result.levels ≡ held.levels }
+    ensures waiting { result.waiting ≡ prepared.waiting }
+    ensures sealed { result.sealed.items ≡ held.sealed.items ++ listed last }
 {
     let Prepared {
         number,
         state,
         frozen,
+        waiting,
         active,
         ..
     } = prepared;
+    let HeldFiles { levels, sealed } = held;
     Parts {
         disk,
         room,
         number,
         state,
         manifest,
-        levels: held.levels,
+        levels,
         frozen,
+        waiting,
+        sealed: with_last(sealed, last),
         active: ActiveLog::new(active),
     }
+}
+
+// The sealed logs, and behind them the last one, where it has frames.
+fn with_last<H>(sealed: Vec<SealedLog<H>>, last: Option<SealedLog<H>>) -> Vec<SealedLog<H>>
+    requires { vec_len sealed + 1 ≤ vec_capacity sealed }
+    ensures { result.items ≡ sealed.items ++ listed last }
+{
+    let mut sealed = sealed;
+    match last {
+        None => {}
+        Some(log) => sealed.push_reserved(log),
+    }
+    sealed
 }

@@ -1,5 +1,5 @@
 // The tables that a manifest names.
-ghost use Rattle.std.specs.Prelude.{◌≡◌, ◌↔◌, ◌++◌, ◌∷◌, [], Some, false, IfErr, IfOk, IsTrue};
+ghost use Rattle.std.specs.Prelude.{◌≡◌, ℕ, ◌↔◌, ◌++◌, ◌∷◌, [], Some, false, length, IfErr, IfOk, IsTrue};
 ghost use Rattle.std.specs.Option.{ForSome};
 ghost use Rattle.vl_disk.specs.Calls.{ChangesNothing};
 ghost use Rattle.vl_disk.specs.Crash.{Image};
@@ -7,7 +7,8 @@ ghost use Rattle.vl_disk.specs.Disk.{Lists};
 ghost use Rattle.vl_disk.specs.DiskState.{DiskState};
 ghost use Rattle.vl_disk.specs.Started.{IsRead};
 ghost use Rattle.vl_recover.specs.opening.Finding.{FailsAtDisk, IsFaultOf, IsReadTable};
-ghost use Rattle.vl_recover.specs.opening.Opening.{IsAbove, NamedLevel, NamedLevels, first_key, last_key};
+ghost use Rattle.vl_recover.specs.opening.HeldFiles.{AreReadTables, tables_of};
+ghost use Rattle.vl_recover.specs.opening.Opening.{IsAbove, IsNamed, NamedLevel, NamedLevels, first_key, last_key};
 ghost use Rattle.vl_recover.specs.opening.FoundTables.{all_found, found_level, found_list, found_table};
 ghost use Rattle.vl_recover.specs.opening.OpenedTables.{AnswersAs, IsNext, last_before};
 
@@ -28,10 +29,16 @@ pub fn open_tables<D: Disk>(
 ) -> Result<Vec<Vec<Table<D::Held>>>, OpenError>
     requires lists { ForSome (D.told disk.old) (Lists names.now) }
     requires fresh { D.Reader.faults reader.old ≡ 0 }
+    requires seven { length levels.now ≡ 7 }
     ensures answer { (state : DiskState) (read : Image) → D.told disk.old ≡ Some state → IsRead read state
         → AnswersAs all_found (NamedLevels false read levels.now) result }
+    ensures held { (state : DiskState) (read : Image) → D.told disk.old ≡ Some state → IsRead read state
+        → IfOk result (λ opened. AreReadTables D.Held.bytes read (tables_of opened.items)) }
+    ensures seven { IfOk result (λ opened. length opened.items ≡ 7) }
     ensures at { IfErr result (IsFaultOf (IsReadTable (D.told disk.old))) }
     ensures fresh { IfOk result (λ _. D.Reader.faults reader.new ≡ 0) }
+    // Where no table is named the reader isn't asked.
+    ensures unread { ((n : ℕ) → IsNamed levels.now n → ⊥) → D.Reader.faults reader.new ≡ 0 }
     ensures no_change { ChangesNothing D.Watched disk.old disk.new (FailsAtDisk (D.Reader.faults reader.new) result) }
 {
     let mut opened = Vec::new(alloc);
@@ -60,8 +67,11 @@ fn open_level<D: Disk>(
     requires fresh { D.Reader.faults reader.old ≡ 0 }
     ensures answer { (state : DiskState) (read : Image) → D.told disk.old ≡ Some state → IsRead read state
         → AnswersAs found_level (NamedLevel is_deeper read None tables.now) result }
+    ensures held { (state : DiskState) (read : Image) → D.told disk.old ≡ Some state → IsRead read state
+        → IfOk result (λ opened. AreReadTables D.Held.bytes read opened.items) }
     ensures at { IfErr result (IsFaultOf (IsReadTable (D.told disk.old))) }
     ensures fresh { IfOk result (λ _. D.Reader.faults reader.new ≡ 0) }
+    ensures unread { tables.now ≡ [] → D.Reader.faults reader.new ≡ 0 }
     ensures no_change { ChangesNothing D.Watched disk.old disk.new (FailsAtDisk (D.Reader.faults reader.new) result) }
 {
     let mut opened: Vec<Table<D::Held>> = Vec::new(alloc);

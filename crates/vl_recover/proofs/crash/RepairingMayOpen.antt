@@ -10,6 +10,7 @@ use Rattle.vl_disk.specs.DiskState.{DiskState, File, IsLawful, settled}
 use Rattle.vl_disk.specs.MadeFile.{WhileMaking}
 use Rattle.vl_disk.specs.laws.NameMap.{get_removed}
 use Rattle.vl_disk.specs.Started.{IsRead}
+use Rattle.vl_disk.specs.declared.name.Name.{Name}
 use Rattle.vl_disk.specs.declared.name.Name.TheVariants.{Log, Manifest, Table}
 use Rattle.vl_manifest.specs.Current.{IsCurrent}
 use Rattle.vl_manifest.specs.Manifest.{IsReadable}
@@ -56,7 +57,8 @@ may_as_kept start now n o p same head named levels may = record {
 
 made_never : (new : Option ℕ) (disk : DiskState) (k : ℕ) → new ≡ Some k → get (behind_log new disk).removed (Log k) ≡ None
 made_never None disk k e = absurd (some_none k (sym e))
-made_never (Some j) disk k e = ap (λ (n : ℕ). get (behind_log (Some j) disk).removed (Log n)) (sym (some_same j k e)) ∙ get_removed disk.removed (Log j)
+made_never (Some j) disk k e = ap (λ (n : ℕ). get (behind_log (Some j) disk).removed (Log n)) (sym (some_same j k e))
+    ∙ get_removed disk.removed (Log j)
 
 module _ {read : Image} (found : Finds read) (start : DiskState) (begins : Begins found start) (strays : List Name) where
   abbrev n : ℕ
@@ -130,7 +132,8 @@ module _ {read : Image} (found : Finds read) (start : DiskState) (begins : Begin
         let like : OpensLike read image = like_lead read image lead
         (λ m. sym (read_same_but image is (Log m) (log_manifest m n))) (λ m. sym (read_same_but image is (Table m) (table_manifest m n))) in
         let (p, opens_read, shows, needed) = like o opens in
-        let one : found.opening ≡ p = ok_same {E = Refusal} found.opening p (single_opening read (Ok found.opening) (Ok p) found.opens opens_read) in
+        let one : found.opening ≡ p = ok_same {E = Refusal} found.opening p (single_opening read (Ok found.opening)
+        (Ok p) found.opens opens_read) in
         may_as_kept start now n found.opening o same
         (ap (λ (x : Opening). x.state.head) one ∙ shows.state.head) (ap (λ (x : Opening). x.state.levels) one ∙ shows.state.levels)
         (ap (λ (x : Opening). x.levels) one ∙ shows.levels) as_start)
@@ -252,7 +255,8 @@ module _ {read : Image} (found : Finds read) (start : DiskState) (begins : Begin
   may_open_meanwhile names now lawful_now (at_log during) =
       may now lawful_now (log_goes now (λ k file is stands. lawful_now.apart (Log k) file stands) during)
   may_open_meanwhile names now lawful_now (at_strays during) =
-      may now lawful_now (strays_well n new_s view strays disk3 now (third_spare found start begins strays names) names.once third_goes during)
+      may now lawful_now (strays_well n new_s view strays disk3 now (third_spare found start begins strays names) names.once third_goes
+      during)
 
 -- At each moment of a repairing a store may be opened on the disk, if it stops there.
 pub repairing_may_open : {read : Image} (start now : DiskState) (found : Finds read) (plan : Plan)

@@ -116,12 +116,12 @@ one_named n (ns ∷ levels) named = ⊎_elim
     named
 
 not_true : (b : Bool) → not b ≡ true → b ≡ true → ⊥
-not_true true is yes = differ is
-not_true false is yes = differ yes
+not_true true is it = differ is
+not_true false is it = differ it
 
 true_not : (b : Bool) → (b ≡ true → ⊥) → not b ≡ true
-true_not true no = absurd (no refl)
-true_not false no = refl
+true_not true never = absurd (never refl)
+true_not false never = refl
 
 -- by what was found
 module _ (o : Opening) (led : List ℕ) (same : led ≡ led_into o.levels) where
@@ -192,8 +192,8 @@ led_refuse image state levels current named e is = refused_by image (Opens image
 
 -- ---- the stages together
 
-module _ (image : Image) (state : ManifestState) (levels : List (List FoundTable)) (led : List ℕ) (leads : Leads image state levels led)
-    (logs : LogsFound) (read : AreLogsFound image state.head state.covered logs) where
+module _ {H : Type 0} (image : Image) (state : ManifestState) (levels : List (List FoundTable)) (led : List ℕ) (leads : Leads image state levels led)
+    (logs : LogsFound H) (read : AreLogsFound image state.head state.covered logs) where
   opens_so : (r : Result ℕ LogDamage) → walk_of logs.number ≡ r → (o : Result Opening Refusal) → o ≡ opening_of state levels read.logs r
       → LogsFrom image state levels o
   opens_so r is o opening = (read.logs, read.standing, opening ∙ ap (opening_of state levels read.logs) (sym is ∙ read.are_read.number))
@@ -214,8 +214,7 @@ module _ (image : Image) (state : ManifestState) (levels : List (List FoundTable
   is_found disk names found is lists are number same_state same_frozen same_last same_strays =
       let named = listed image disk names is lists in
       let given_all = given image disk names is lists in
-      let o : Opening = record { state = state; levels = levels; logs = filled read.logs; number = found.number } in
-      (
+      let o : Opening = record { state = state; levels = levels; logs = filled read.logs; number = found.number } in (
         record {
           finds = record {
             opening = o;

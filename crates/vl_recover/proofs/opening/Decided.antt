@@ -13,9 +13,10 @@ use Rattle.vl_model.specs.declared.log_frame.LogFrame.{LogFrame}
 use Rattle.vl_recover.specs.opening.Answers.{AnswersBy, AreStrayNames, used_up}
 use Rattle.vl_recover.specs.repairing.Deciding.{DecidesSo, IsDecided, IsPrepared, PreparesSo, log_for, next_of, plan_for, state_for, step_for, used_up_for, used_up_of}
 use Rattle.vl_recover.specs.opening.Finding.{IsFaultAt, IsFound, last_log, last_of}
+use Rattle.vl_recover.specs.repairing.Holding.{hold_for}
 use Rattle.vl_recover.specs.repairing.Repairing.{Cut, Headed, IsPlan, Kept, Plan, Rewritten, plan_of}
 use Rattle.vl_recover.specs.repairing.Repairing as repairing
-use Rattle.vl_recover.specs.opening.Opening.{IsNextLog, StandingLogs}
+use Rattle.vl_recover.specs.opening.Opening.{FoundTable, IsNextLog, StandingLogs}
 use Rattle.vl_recover.specs.opening.Plans.{Greatest, active_of, log_behind, log_made, new_state}
 use Rattle.vl_recover.specs.repairing.NextLogs.{made_of, number_of}
 use Rattle.vl_recover.specs.opening.Results.{HasFailed, recovery_by, frozen_log}
@@ -50,7 +51,8 @@ active_is : (s : ManifestState) (logs : List StandingLog) → number_of (next_of
 active_is s [] = refl
 active_is s (q ∷ []) = by q.reading.frames refl
   where
-    by : (frames : List LogFrame) → q.reading.frames ≡ frames → number_of (next_of s (ending (q ∷ []))) ≡ active_of (log_behind s q.reading.frames) (q ∷ [])
+    by : (frames : List LogFrame) → q.reading.frames ≡ frames → number_of (next_of s (ending (q ∷ []))) ≡ active_of
+        (log_behind s q.reading.frames) (q ∷ [])
     by [] is = rw is refl
     by (f ∷ fs) is = rw is refl
 active_is s (q ∷ p ∷ ps) = active_is s (p ∷ ps) ∙ same (log_made s (p ∷ ps))
@@ -67,15 +69,19 @@ whole_is image least q next format header =
     ∙ ap (λ (n : ℕ). n == frames_end format q.reading.frames) (sym next.length_is)
     ∙ ap (λ (h : Option ℕ). q.length == end_of h q.reading.frames) (sym header)
 
-step_is : (image : Image) (least : ℕ) (logs : List StandingLog) → StandingLogs image least logs → step_for (ending logs) ≡ repairing.last_of logs
+step_is : (image : Image) (least : ℕ) (logs : List StandingLog) → StandingLogs image least logs
+    → step_for (ending logs) ≡ repairing.last_of logs
 step_is image least [] standing = refl
 step_is image least (q ∷ []) (next, rest) = by (keeps_header q.reading.header q.reading.frames) q.reading.header refl refl
   where
     by : (keeps : Bool) (header : Option ℕ) → keeps_header q.reading.header q.reading.frames ≡ keeps → q.reading.header ≡ header
-        → (if keeps then (if q.length == content_end q.reading then Kept q.number else Cut q.number (content_end q.reading)) else (if q.length == 0 then Headed q.number else Rewritten q.number))
-        ≡ (if keeps then (if q.reading.whole then Kept q.number else Cut q.number (content_end q.reading)) else (if q.length == 0 then Headed q.number else Rewritten q.number))
+        → (if keeps then (if q.length == content_end q.reading then Kept q.number else Cut q.number (content_end q.reading)) else
+        (if q.length == 0 then Headed q.number else Rewritten q.number))
+        ≡ (if keeps then (if q.reading.whole then Kept q.number else Cut q.number (content_end q.reading)) else
+        (if q.length == 0 then Headed q.number else Rewritten q.number))
     by true (Some format) keeps is =
-        ap (λ (whole : Bool). if whole then Kept q.number else Cut q.number (content_end q.reading)) (sym (whole_is image least q next format is))
+        ap (λ (whole : Bool). if whole then Kept q.number else Cut q.number (content_end q.reading))
+        (sym (whole_is image least q next format is))
     by true None keeps is =
         absurd (true≢false (sym keeps ∙ ap (λ (h : Option ℕ). keeps_header h q.reading.frames) is))
     by false header keeps is = refl
@@ -105,7 +111,8 @@ module _ (image : Image) (found : Findings) (is : IsFound image found) where
   plan_same =
       ap (λ (g : Greatest). of g.manifest (state_for found) (step_for found.last) (log_for found)) is.greatest
       ∙ ap (λ (s : ManifestState). of is.finds.greatest.manifest s (step_for found.last) (log_for found)) state_same
-      ∙ ap (λ (l : repairing.LastLog). of is.finds.greatest.manifest new l (log_for found)) (ap step_for is.last ∙ step_is image is.finds.opening.state.head is.finds.logs is.finds.standing)
+      ∙ ap (λ (l : repairing.LastLog). of is.finds.greatest.manifest new l (log_for found)) (ap step_for is.last
+      ∙ step_is image is.finds.opening.state.head is.finds.logs is.finds.standing)
       ∙ ap (of is.finds.greatest.manifest new (repairing.last_of is.finds.logs)) log_same
     where
       of : ℕ → ManifestState → repairing.LastLog → Option ℕ → Plan
@@ -125,6 +132,7 @@ module _ (image : Image) (found : Findings) (is : IsFound image found) where
     number = decided.number ∙ is.number;
     state = decided.state ∙ state_same;
     frozen = ap (λ (items : List FrozenLog). map frozen_log items) decided.frozen ∙ is.frozen;
+    hold = decided.hold ∙ ap hold_for is.last;
     plan = record {
       strays = subst (AreStrayNames image is.finds.opening) (sym (ap (λ (p : Plan). p.strays) decided.plan)) is.strays;
       is = decided.plan ∙ plan_same ∙ ap (λ (names : List Name). plan_of is.finds names) (sym (ap (λ (p : Plan). p.strays) decided.plan));
@@ -132,6 +140,13 @@ module _ (image : Image) (found : Findings) (is : IsFound image found) where
     active = decided.active ∙ ap (λ (s : ManifestState). number_of (next_of s found.last)) state_same
         ∙ ap (λ (o : Option LastLog). number_of (next_of new o)) is.last ∙ active_is new is.finds.logs;
   }
+
+  -- with these tables
+  pub decided_ready : (prepared : Prepared) → IsDecided found prepared → (levels : List (List FoundTable))
+      → levels ≡ is.finds.opening.levels
+      → (ready : IsPrepared image prepared) × (levels ≡ ready.finds.opening.levels)
+  unfolding decided_prepared
+  decided_ready prepared decided levels same = (decided_prepared prepared decided, same)
 
   -- or that is the answer
   pub decided_answer : (reason : OpenError) → DecidesSo found (Err reason) → AnswersBy image (recovery_by reason)
@@ -151,13 +166,15 @@ decided_fine found (why.NewerFormat format) used failed = failed
 decided_fine found (why.Damaged name place) used failed = failed
 decided_fine found (why.Disk name) used failed = used
 
-pub answer_by : {H : Type 0} (image : Image) (result : Result (Prepared × HeldFiles H) OpenError) (reason : OpenError) → IsErr result → IsErrAnd result (λ e. e ≡ reason)
+pub answer_by : {H : Type 0} (image : Image) (result : Result (Prepared × HeldFiles H) OpenError) (reason : OpenError) → IsErr result
+    → IsErrAnd result (λ e. e ≡ reason)
     → AnswersBy image (recovery_by reason) → PreparesSo image result
 answer_by image (Ok ready) reason failed is answer = absurd (false_true failed)
 answer_by image (Err e) reason failed is answer = subst (λ (w : OpenError). AnswersBy image (recovery_by w)) (sym is) answer
 
 -- the disk didn't fail
-pub decided_at : {A : Type 0} (found : Findings) (told : Option DiskState) (result : Result A OpenError) (reason : OpenError) → IsErr result → IsErrAnd result (λ e. e ≡ reason)
+pub decided_at : {A : Type 0} (found : Findings) (told : Option DiskState) (result : Result A OpenError) (reason : OpenError)
+    → IsErr result → IsErrAnd result (λ e. e ≡ reason)
     → DecidesSo found (Err reason) → IfErr result (IsFaultAt told)
 decided_at found told (Ok a) reason failed is used = absurd (false_true failed)
 decided_at found told (Err e) reason failed is used = subst (IsFaultAt told) (sym is) (by reason used)

@@ -1,10 +1,10 @@
 -- What a stage refuses, handed on.
-use Rattle.std.proofs.Common.{◌≡◌, ap, refl, subst, sym}
+use Rattle.std.proofs.Common.{◌≡◌, subst, sym}
 use Rattle.std.specs.Prelude.{false, true, Result, Ok, Err, IsErr, IsErrAnd}
 use Rattle.vl_recover.specs.declared.fails.OpenError.{OpenError}
 use Rattle.vl_recover.specs.declared.fails.OpenError.TheVariants as why
 use Rattle.vl_recover.specs.opening.Leading.{AnswersStage}
-use Rattle.vl_recover.specs.opening.OpenedTables.{AnswersAs, mapped}
+use Rattle.vl_recover.specs.opening.OpenedTables.{AnswersAs}
 use Rattle.vl_recover.specs.opening.Opening.{Damaged, NewerFormat, NotAStore, Refusal}
 
 false_true : false ≡ true → ⊥
@@ -21,11 +21,6 @@ of_stage first second onto why.NoMemory is = tt
 of_stage first second onto (why.Disk name) is = tt
 
 -- the answer is that refusal
-pub stage_handed : {B : Type 0} (stage : Result B Refusal → Type 0) (result : Result B OpenError) (e : OpenError)
-    → IsErr result → IsErrAnd result (λ f. f ≡ e) → AnswersStage stage (Err e) → AnswersStage stage result
-stage_handed stage (Ok b) e failed same is = absurd (false_true failed)
-stage_handed stage (Err f) e failed same is = subst (λ (x : OpenError). AnswersStage stage (Err x)) (sym same) is
-
 pub as_handed : {T A : Type 0} (f : T → A) (stage : Result A Refusal → Type 0) (result : Result T OpenError) (e : OpenError)
     → IsErr result → IsErrAnd result (λ g. g ≡ e) → AnswersStage stage (Err e) → AnswersAs f stage result
 as_handed f stage (Ok x) e failed same is = absurd (false_true failed)

@@ -1,18 +1,22 @@
 -- Tables are opened one behind the other: what is said of the rest, behind those that were opened, is said of all.
-use Rattle.std.specs.Prelude.{◌≡◌, ◌≤◌, ◌-◌, ℕ, Bool, true, false, length, get_or, List, [], ◌∷◌, ◌++◌, map, Option, None, Some, Result, Ok, Err, Vec, refl}
+use Rattle.std.specs.Prelude.{◌≡◌, ◌≤◌, ◌-◌, ℕ, suc, Bool, true, false, length, get_or, List, [], ◌∷◌, ◌++◌, map, Option, None, Some, Result, Ok, Err, IsErr, IsErrAnd, Vec, refl}
 use Rattle.std.specs.FinMap.{get}
-use Rattle.std.proofs.Common.{sym, ap, subst, ◌∙◌, inl, inr, append_assoc, append-nil, arith, ⊎_elim}
+use Rattle.std.proofs.Common.{sym, ap, subst, ◌∙◌, inl, inr, append_assoc, append-nil, arith}
 use Rattle.vl_disk.specs.Crash.{Image}
 use Rattle.vl_disk.specs.declared.name.Name.TheVariants.{Table}
 use Rattle.vl_disk.specs.declared.name.Name.{Name}
 use Rattle.vl_recover.specs.declared.fails.OpenError.{OpenError}
 use Rattle.vl_recover.specs.declared.fails.OpenError.TheVariants as why
 use Rattle.std.specs.Global.{Global}
-use Rattle.std.proofs.lemmas.List.{map-append}
+use Rattle.std.proofs.lemmas.List.{flat_map_more, map-append}
+use Rattle.vl_table.specs.Tables.{number_of}
 use Rattle.vl_table.specs.declared.table.Table.{Table as OpenTable}
+use Rattle.vl_recover.specs.opening.Finding.{FailsAtDisk}
 use Rattle.vl_recover.specs.opening.FoundTables.{found_level, found_list, found_table}
+use Rattle.vl_recover.specs.opening.HeldFiles.{AreReadTables, tables_of}
 use Rattle.vl_recover.specs.opening.Leading.{AnswersStage}
-use Rattle.vl_recover.specs.opening.OpenedTables.{IsNext, IsTableFound, last_before}
+use Rattle.vl_recover.specs.opening.OpenedTables.{IsNoTable, IsNotNext, last_before}
+use Rattle.vl_recover.specs.opening.Results.{IsDiskFault, recovery_by}
 use Rattle.vl_recover.specs.opening.Opening.{Damaged, FoundTable, IsAbove, IsBadTable, NamedLevel, NamedLevels, NamedLog, NamedLogs, NamedTable, Refusal, StandsTable, first_key, key_before, last_key, not_above}
 
 -- what a stage gives, behind what was there already
@@ -72,8 +76,8 @@ module _ (image : Image) (deeper : Bool) where
   next_damaged all opened n rest place so bad = so.goes_on (Err (Damaged (Table n) place)) (inl (place, bad, refl))
 
   -- or isn't opened
-  pub table_refused : {H : Type 0} (all : List ℕ) (opened : List FoundTable) (n : ℕ) (rest : List ℕ) → AreOpened all opened (n ∷ rest)
-      → (e : OpenError) → IsTableFound {H = H} image n (Err e) → AnswersStage (NamedLevel deeper image None all) (Err e)
+  pub table_refused : (all : List ℕ) (opened : List FoundTable) (n : ℕ) (rest : List ℕ) → AreOpened all opened (n ∷ rest)
+      → (e : OpenError) → IsNoTable image n e → AnswersStage (NamedLevel deeper image None all) (Err e)
   table_refused all opened n rest so why.NotAStore is = absurd is
   table_refused all opened n rest so (why.NewerFormat format) is = absurd is
   table_refused all opened n rest so (why.Damaged name place) is =
@@ -84,8 +88,8 @@ module _ (image : Image) (deeper : Bool) where
   table_refused all opened n rest so (why.Disk name) is = tt
 
   -- or isn't behind the one before it
-  pub next_refused : {T : Type 0} (all : List ℕ) (opened : List FoundTable) (n : ℕ) (rest : List ℕ) (t : FoundTable) → AreOpened all opened (n ∷ rest)
-      → StandsTable image n t → (e : OpenError) → IsNext {T = T} (last_before deeper opened) t (Err e)
+  pub next_refused : (all : List ℕ) (opened : List FoundTable) (n : ℕ) (rest : List ℕ) (t : FoundTable) → AreOpened all opened (n ∷ rest)
+      → StandsTable image n t → (e : OpenError) → IsNotNext (last_before deeper opened) t e
       → AnswersStage (NamedLevel deeper image None all) (Err e)
   next_refused all opened n rest t so stands why.NotAStore is = absurd is
   next_refused all opened n rest t so stands (why.NewerFormat format) is = absurd is
@@ -99,6 +103,23 @@ module _ (image : Image) (deeper : Bool) where
 
   pub all_opened : (all : List ℕ) (opened : List FoundTable) → AreOpened all opened [] → NamedLevel deeper image None all (Ok opened)
   all_opened all opened so = subst (λ (l : List FoundTable). NamedLevel deeper image None all (Ok l)) (append-nil opened) (so.goes_on (Ok []) refl)
+
+-- memory may have run out behind it, but the disk didn't fail
+no_disk_fault : (before : Option (List ℕ)) (t : FoundTable) (n : ℕ) (e : OpenError) → IsNotNext before t e → IsDiskFault n (recovery_by e) → ⊥
+no_disk_fault before t n why.NotAStore is fault = fault
+no_disk_fault before t n (why.NewerFormat format) is fault = fault
+no_disk_fault before t n (why.Damaged name place) is fault = fault
+no_disk_fault before t n (why.Exhausted counter) is fault = fault
+no_disk_fault before t n why.NoMemory is fault = fault
+no_disk_fault before t n (why.Disk name) is fault = is
+
+false_true : false ≡ true → ⊥
+false_true e = cc
+
+pub not_next_handed : {B : Type 0} (before : Option (List ℕ)) (t : FoundTable) (n : ℕ) (e : OpenError) (result : Result B OpenError)
+    → IsErr result → IsErrAnd result (λ f. f ≡ e) → IsNotNext before t e → FailsAtDisk n result → ⊥
+not_next_handed before t n e (Ok x) failed same is fault = absurd (false_true failed)
+not_next_handed before t n e (Err f) failed same is fault = no_disk_fault before t n f (subst (IsNotNext before t) (sym same) is) fault
 
 -- ---- levels
 
@@ -182,4 +203,35 @@ pub last_at : {H : Type 0} (ts : List (OpenTable H)) (d : OpenTable H) → 1 ≤
     → last_before true (found_list ts) ≡ Some (last_key (found_table (get_or ts (length ts - 1) d)))
 last_at [] d some = absurd (omega (arith, some))
 last_at (t ∷ []) d some = refl
-last_at (t ∷ u ∷ us) d some = last_at (u ∷ us) d (omega arith)
+last_at {H = H} (t ∷ u ∷ us) d some =
+    let rest : length (u ∷ us) - 1 ≡ length us = omega arith in
+    let all : length (t ∷ u ∷ us) - 1 ≡ suc (length us) = omega arith in
+    last_at (u ∷ us) d (omega arith)
+    ∙ ap (λ (k : ℕ). Some (last_key (found_table (get_or (u ∷ us) k d)))) rest
+    ∙ sym (ap (λ (k : ℕ). Some (last_key (found_table (get_or (t ∷ u ∷ us) k d)))) all)
+
+-- ---- they are held as reads give them
+
+module _ {H : Type 0} (bytes_of : H → Option (List ℕ)) (image : Image) where
+  pub no_held : AreReadTables bytes_of image []
+  no_held = tt
+
+  held_behind : (ts us : List (OpenTable H)) → AreReadTables bytes_of image ts → AreReadTables bytes_of image us
+      → AreReadTables bytes_of image (ts ++ us)
+  held_behind [] us first second = second
+  held_behind (t ∷ ts) us first second = (first.0, held_behind ts us first.1 second)
+
+  -- one table more
+  pub held_more : (ts more : List (OpenTable H)) (t : OpenTable H) (number : ℕ) → more ≡ ts ++ t ∷ [] → number_of t ≡ number
+      → AreReadTables bytes_of image ts → bytes_of t.held ≡ get image (Table number) → AreReadTables bytes_of image more
+  held_more ts more t number is numbered so one =
+      subst (AreReadTables bytes_of image) (sym is)
+      (held_behind ts (t ∷ []) so (one ∙ ap (λ (n : ℕ). get image (Table n)) (sym numbered), tt))
+
+  -- one level more
+  pub level_held : (ls more : List (Vec (OpenTable H) Global)) (l : Vec (OpenTable H) Global) → more ≡ ls ++ l ∷ []
+      → AreReadTables bytes_of image (tables_of ls) → AreReadTables bytes_of image l.items → AreReadTables bytes_of image (tables_of more)
+  level_held ls more l is so one =
+      subst (λ (xs : List (Vec (OpenTable H) Global)). AreReadTables bytes_of image (tables_of xs)) (sym is)
+      (subst (AreReadTables bytes_of image) (flat_map_more (λ (level : Vec (OpenTable H) Global). level.items) [] ls l)
+      (held_behind (tables_of ls) l.items so one))

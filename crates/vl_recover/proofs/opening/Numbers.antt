@@ -1,8 +1,9 @@
 -- The numbers that an opening gives out.
-use Rattle.std.proofs.Common.{◌≡◌, ℕ, ◌+◌, ◌≤◌, max, refl, sym, subst, arith}
+use Rattle.std.proofs.Common.{◌≡◌, ℕ, ◌+◌, ◌≤◌, max, refl, sym, ap, subst, arith}
 use Rattle.std.specs.Prelude.{◌≢◌, ◌==◌, if◌then◌else◌, nat_le, Bool, true, false, Option, None, Some}
 use Rattle.std.proofs.lemmas.Bool.Decides.{nat_tests}
 use Rattle.vl_disk.specs.declared.name.Name.TheVariants.{Log}
+use Rattle.vl_manifest.specs.declared.state.ManifestState.{ManifestState}
 use Rattle.vl_model.specs.Limits.{max_file_number}
 use Rattle.vl_model.specs.declared.counter.Counter.{Counter}
 use Rattle.vl_model.specs.declared.counter.Counter.TheVariants as counters
@@ -93,3 +94,9 @@ module _ (found : Findings) (numbers : AreFileNumbers found.greatest) (last : Is
     log = numbered (log_for found) (log_first found.last) (none_passes (passes (log_for found)) (found.greatest.manifest == max_file_number) unused);
     beside = beside found.last last;
   })
+
+-- the number of the next table is one
+pub decided_table : (found : Findings) (state : ManifestState) → state ≡ state_for found → 1 ≤ state.next_table
+decided_table found state is =
+    let next : state.next_table ≡ max found.state.next_table (found.greatest.table + 1) = ap (λ (s : ManifestState). s.next_table) is in
+    omega (arith, next)

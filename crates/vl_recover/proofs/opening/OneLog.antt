@@ -17,8 +17,8 @@ use Rattle.vl_model.specs.declared.log_frame.LogFrame.{LogFrame}
 use Rattle.vl_recover.specs.declared.found.Content.{Content}
 use Rattle.vl_recover.specs.declared.found.LogFound.{LogFound}
 use Rattle.vl_recover.specs.opening.Answers.{HeldLog, held_log}
+use Rattle.vl_recover.specs.opening.Leading.{BeginsIn}
 use Rattle.vl_recover.specs.opening.LogsSoFar.{FindsLog}
-use Rattle.vl_recover.specs.opening.Opening.{BeginsLog}
 use Rattle.vl_recover.specs.opening.ReadLogs.{HasNothing, IsContent, IsReadAs, held_content, standing_log}
 use Rattle.vl_recover.specs.opening.Walk.{filled, format_of, has_some}
 use Rattle.vl_seglog.specs.LogReading.{LogReading, SaysFormat, end_of}
@@ -48,15 +48,11 @@ module _ (image : Image) (number before size : ℕ) (bytes : List ℕ)
   same : take 16 front ≡ take 16 bytes
   same = ap (take 16) front_is ∙ ap (λ (n : ℕ). take 16 (take (min n 16) bytes)) size_is ∙ front_same bytes
 
-  -- it begins with its header, or doesn't
-  pub header_begins : (header : Option ℕ) (format : ℕ) → header ≡ Some format → SaysFormat header number front → BeginsLog number bytes
+  -- it begins with its header
+  pub header_begins : (header : Option ℕ) (format : ℕ) → header ≡ Some format → SaysFormat header number front → BeginsIn image number format
   header_begins header format some says =
       let right = front_says number bytes front same (Some format) (subst (λ (h : Option ℕ). SaysFormat h number front) some says) in
-      (format, right.0, right.1)
-
-  pub header_missing : (header : Option ℕ) → header ≡ None → SaysFormat header number front → BeginsLog number bytes → ⊥
-  header_missing header none says (format, is_read, has) =
-      front_says number bytes front same None (subst (λ (h : Option ℕ). SaysFormat h number front) none says) format is_read has
+      record { bytes = bytes; stands = stands; format_is = right.0; header = right.1 }
 
   -- without a right header it has nothing
   pub headless_found : (header : Option ℕ) → header ≡ None → SaysFormat header number front → (c : Content) → HasNothing 0 before c

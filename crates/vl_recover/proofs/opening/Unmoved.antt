@@ -1,5 +1,6 @@
 -- Calls that change nothing, one behind the other.
 use Rattle.std.proofs.Common.{◌≡◌, ℕ, refl, sym, ◌∙◌, subst, arith}
+use Rattle.std.specs.Prelude.{false, true, Result, Ok, Err, IsErr, IsErrAnd}
 use Rattle.std.specs.Option.{ForSome}
 use Rattle.vl_disk.specs.declared.watched.Watched.{Ghosts}
 use Rattle.vl_disk.specs.Calls.{ChangesNothing}
@@ -7,6 +8,28 @@ use Rattle.vl_disk.specs.Crash.{Unchanged}
 use Rattle.vl_disk.specs.DiskState.{DiskState}
 use Rattle.vl_disk.specs.Faults.{Rose}
 use Rattle.vl_disk.specs.Moments.{While, passes_none, passes_then, past_of}
+use Rattle.vl_recover.specs.declared.fails.OpenError.{OpenError}
+use Rattle.vl_recover.specs.opening.Answers.{Faulted, NoMemory, Recovered, Recovery, Refused, UsedUp}
+use Rattle.vl_recover.specs.opening.Finding.{FailsAtDisk}
+use Rattle.vl_recover.specs.opening.Results.{HasFailed, IsDiskFault, recovery_by}
+
+false_true : false ≡ true → ⊥
+false_true e = cc
+
+-- where the reader has counted none, a fault is the disk's
+at_disk : (faults : ℕ) → faults ≡ 0 → (r : Recovery) → HasFailed r → IsDiskFault faults r
+at_disk faults none (Recovered opened) failed = failed
+at_disk faults none (Refused why) failed = failed
+at_disk faults none (UsedUp counter) failed = failed
+at_disk faults none NoMemory failed = failed
+at_disk faults none (Faulted name) failed = none
+
+of_disk : (faults : ℕ) (r : Recovery) → IsDiskFault faults r → HasFailed r
+of_disk faults (Recovered opened) failed = failed
+of_disk faults (Refused why) failed = failed
+of_disk faults (UsedUp counter) failed = failed
+of_disk faults NoMemory failed = failed
+of_disk faults (Faulted name) failed = tt
 
 module _ {D : Type 0} (g : Ghosts D) where
   pub no_call : (disk : D) → ChangesNothing g disk disk ⊥
@@ -41,6 +64,36 @@ module _ {D : Type 0} (g : Ghosts D) where
     cause = record { later = call.cause.later; rose = λ e. absurd (none e); steady = λ _. call.cause.steady fine };
   }
 
+  -- the same, said of a failure that was the other
+  pub call_with : (a b : D) (failed other : Type 0) → (failed → other) → (other → failed) → ChangesNothing g a b failed
+      → ChangesNothing g a b other
+  call_with a b failed other to back call = record {
+    told = call.told;
+    calls = call.calls;
+    time = call.time;
+    cause = record {
+      later = call.cause.later;
+      rose = λ e. call.cause.rose (back e);
+      steady = λ none. call.cause.steady (λ e. none (to e));
+    };
+  }
+
+  -- a fault is the disk's own, where the reader has counted none
+  pub as_disk_fault : (a b : D) (faults : ℕ) (e : OpenError) → faults ≡ 0 → ChangesNothing g a b (HasFailed (recovery_by e))
+      → ChangesNothing g a b (IsDiskFault faults (recovery_by e))
+  as_disk_fault a b faults e none call = call_with a b (HasFailed (recovery_by e)) (IsDiskFault faults (recovery_by e))
+      (at_disk faults none (recovery_by e)) (of_disk faults (recovery_by e)) call
+
+  -- an answer that is no fault is handed on
+  pub calm_handed : {B : Type 0} (a b : D) (faults : ℕ) (e : OpenError) (result : Result B OpenError) → IsErr result
+      → IsErrAnd result (λ f. f ≡ e)
+      → (HasFailed (recovery_by e) → ⊥) → ChangesNothing g a b ⊥ → ChangesNothing g a b (FailsAtDisk faults result)
+  calm_handed a b faults e (Ok x) failed same calm call = absurd (false_true failed)
+  calm_handed a b faults e (Err f) failed same calm call =
+      subst (λ (x : OpenError). ChangesNothing g a b (IsDiskFault faults (recovery_by x))) (sym same)
+      (call_as a b ⊥ (IsDiskFault faults (recovery_by e)) (λ x. x) (λ fault. calm (of_disk faults (recovery_by e) fault)) call)
+
   -- what holds of a disk that is told holds behind calls that change nothing
-  pub still : (a b : D) (failed : Type 0) (P : DiskState → Type 0) → ChangesNothing g a b failed → ForSome (g.told a) P → ForSome (g.told b) P
+  pub still : (a b : D) (failed : Type 0) (P : DiskState → Type 0) → ChangesNothing g a b failed → ForSome (g.told a) P
+      → ForSome (g.told b) P
   still a b failed P none holds disk is = holds disk (sym none.told ∙ is)

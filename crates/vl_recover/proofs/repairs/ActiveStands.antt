@@ -23,7 +23,7 @@ some_none : {X : Type 0} (x : X) → Some x ≡ None → ⊥
 some_none x e = cc
 
 -- what is no stray stays
-strays_leave : (names : List Name) (name : Name) (disk : DiskState) → ((other : Name) → Contains names other → name ≢ other)
+pub strays_leave : (names : List Name) (name : Name) (disk : DiskState) → ((other : Name) → Contains names other → name ≢ other)
     → Stands name disk → Stands name (behind_strays names disk)
 strays_leave [] name disk apart stands = stands
 strays_leave (other ∷ names) name disk apart stands =
@@ -35,7 +35,11 @@ module _ (read : Image) (start : DiskState) (is_read : IsRead read start) where
   last_there : (s : ManifestState) (none least : ℕ) (logs : List StandingLog) → StandingLogs read least logs → log_made s logs ≡ None
       → Stands (Log (last_number none logs)) start × (least ≤ last_number none logs)
   last_there s none least [] standing is = absurd (some_none _ is)
-  last_there s none least (q ∷ []) (next, rest) is = (stands_read read start is_read (Log q.number) (subst IsSome (sym next.stands) refl), next.from)
+  last_there s none least (q ∷ []) (next, rest) is = (
+    stands_read read start is_read (Log q.number)
+        (subst IsSome (sym next.stands) refl),
+    next.from,
+  )
   last_there s none least (q ∷ p ∷ ps) (next, rest) is =
       let (stands, above) = last_there s q.number (q.number + 1) (p ∷ ps) rest is in
       (stands, omega (arith, above, next.from))
@@ -62,7 +66,8 @@ module _ {read : Image} (found : Finds read) (start : DiskState) (is_read : IsRe
       missing None e some = cc
       missing (Some bytes) e some = some_none bytes e
 
-  by_log : (log : Option ℕ) → log_made new found.logs ≡ log → planned.log ≡ log → Stands (Log (active_of log found.logs)) (with_log planned start)
+  by_log : (log : Option ℕ) → log_made new found.logs ≡ log → planned.log ≡ log → Stands (Log (active_of log found.logs))
+      (with_log planned start)
       × ((other : Name) → Contains plan.strays other → Log (active_of log found.logs) ≢ other)
   by_log (Some k) made_is log_is = (
     subst (λ (l : Option ℕ). Stands (Log k) (behind_log l (with_last planned start))) (sym log_is)

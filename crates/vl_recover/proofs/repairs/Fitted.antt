@@ -40,7 +40,8 @@ log_manifest k m e = cc
 
 -- ---- what stands, and what is free, is so behind a change of other files, and behind one that removes none
 
-changed_free : (name : Name) (change : File → File) (other : Name) (disk : DiskState) → IsFree other disk → IsFree other (with_file name change disk)
+changed_free : (name : Name) (change : File → File) (other : Name) (disk : DiskState) → IsFree other disk
+    → IsFree other (with_file name change disk)
 changed_free name change other disk free = ⊎_elim
     (λ (same : other ≡ name).
     subst (λ (n : Name). get (with_file name change disk).standing n ≡ None) (sym same)
@@ -48,11 +49,13 @@ changed_free name change other disk free = ⊎_elim
     (λ (apart : other ≢ name). (changed_elsewhere name disk change).standing other apart ∙ free)
     (same_or_other other name)
 
-changed_stands : (name : Name) (change : File → File) (other : Name) (disk : DiskState) → Stands other disk → Stands other (with_file name change disk)
+changed_stands : (name : Name) (change : File → File) (other : Name) (disk : DiskState) → Stands other disk
+    → Stands other (with_file name change disk)
 changed_stands name change other disk stands = ⊎_elim
     (λ (same : other ≡ name).
     subst (λ (n : Name). IsSome (get (with_file name change disk).standing n)) (sym same)
-    (subst IsSome (sym (changed_there name disk change)) (mapped (get disk.standing name) (subst (λ (n : Name). IsSome (get disk.standing n)) same stands))))
+    (subst IsSome (sym (changed_there name disk change)) (mapped (get disk.standing name)
+    (subst (λ (n : Name). IsSome (get disk.standing n)) same stands))))
     (λ (apart : other ≢ name). subst IsSome (sym ((changed_elsewhere name disk change).standing other apart)) stands)
     (same_or_other other name)
   where
@@ -73,7 +76,7 @@ head_free k name disk free =
     changed_free (Log k) synced_file name (headed k disk)
     (changed_free (Log k) (lengthened (log_header log_format k) (length (log_header log_format k))) name disk free)
 
-last_free : (last : LastLog) (name : Name) (disk : DiskState) → IsFree name disk → IsFree name (behind_last last disk)
+pub last_free : (last : LastLog) (name : Name) (disk : DiskState) → IsFree name disk → IsFree name (behind_last last disk)
 last_free NoLast name disk free = free
 last_free (Kept k) name disk free = changed_free (Log k) synced_file name disk free
 last_free (Cut k len) name disk free =
@@ -92,7 +95,8 @@ last_stands (Kept k) name disk stands = changed_stands (Log k) synced_file name 
 last_stands (Cut k len) name disk stands =
     changed_stands (Log k) synced_file name (cut_to (Log k) len len disk) (changed_stands (Log k) (shortened len len) name disk stands)
 last_stands (Headed k) name disk stands = head_stands k name disk stands
-last_stands (Rewritten k) name disk stands = head_stands k name (cut_to (Log k) 0 0 disk) (changed_stands (Log k) (shortened 0 0) name disk stands)
+last_stands (Rewritten k) name disk stands = head_stands k name (cut_to (Log k) 0 0 disk)
+    (changed_stands (Log k) (shortened 0 0) name disk stands)
 
 pub log_stands : (log : Option ℕ) (name : Name) (disk : DiskState) → Stands name disk → Stands name (behind_log log disk)
 log_stands None name disk stands = stands
@@ -104,7 +108,8 @@ module _ (read : Image) (start : DiskState) (is_read : IsRead read start) (manif
   abbrev first : DiskState
   first = made (Manifest manifest) piece start
 
-  read_file : (bytes : List ℕ) (there : Option File) → Some bytes ≡ option_map (λ (file : File). file.bytes) there → (file : File) × (there ≡ Some file) × (bytes ≡ file.bytes)
+  read_file : (bytes : List ℕ) (there : Option File) → Some bytes ≡ option_map (λ (file : File). file.bytes) there
+      → (file : File) × (there ≡ Some file) × (bytes ≡ file.bytes)
   read_file bytes None e = absurd (some_none bytes e)
   read_file bytes (Some file) e = (file, refl, some_same bytes file.bytes e)
 
@@ -115,7 +120,8 @@ module _ (read : Image) (start : DiskState) (is_read : IsRead read start) (manif
       file_is = read_file next.bytes (get start.standing (Log q.number)) (sym next.stands ∙ is_read.each (Log q.number))
 
       there : get first.standing (Log q.number) ≡ Some file_is.0
-      there = get_inserted_other start.standing (Manifest manifest) (settled piece) (Log q.number) (log_manifest q.number manifest) ∙ file_is.1
+      there = get_inserted_other start.standing (Manifest manifest) (settled piece) (Log q.number) (log_manifest q.number manifest)
+          ∙ file_is.1
 
       stands : Stands (Log q.number) first
       stands = subst IsSome (sym there) refl
@@ -130,7 +136,8 @@ module _ (read : Image) (start : DiskState) (is_read : IsRead read start) (manif
           (subst (λ (b : List ℕ). content_end q.reading ≤ length b) file_is.2 (within q.reading.header refl))
 
       by : (keeps whole empty : Bool)
-          → CanRepair (if keeps then (if whole then Kept q.number else Cut q.number (content_end q.reading)) else (if empty then Headed q.number else Rewritten q.number)) first
+          → CanRepair (if keeps then (if whole then Kept q.number else Cut q.number (content_end q.reading)) else
+          (if empty then Headed q.number else Rewritten q.number)) first
       by true true empty = stands
       by true false empty = (stands, inside)
       by false whole true = stands
@@ -154,19 +161,22 @@ above_all s (q ∷ p ∷ ps) k is = above_all s (p ∷ ps) k is
 
 -- ---- the strays
 
-rest_apart : (name : Name) (names : List Name) → AllPairs (λ a b. a ≢ b) (name ∷ names) → (other : Name) → Contains names other → other ≢ name
+rest_apart : (name : Name) (names : List Name) → AllPairs (λ a b. a ≢ b) (name ∷ names) → (other : Name) → Contains names other
+    → other ≢ name
 rest_apart name names once other (k, less, is) same =
     once 0 (suc k) other (omega arith) (omega (arith, less)) (sym same ∙ sym is)
 
 rest_once : (name : Name) (names : List Name) → AllPairs (λ a b. a ≢ b) (name ∷ names) → AllPairs (λ a b. a ≢ b) names
 rest_once name names once i j d below within = once (suc i) (suc j) d (omega (arith, below)) (omega (arith, within))
 
-all_can : (names : List Name) (disk : DiskState) → ((name : Name) → Contains names name → Stands name disk) → AllPairs (λ a b. a ≢ b) names → CanRemove names disk
+all_can : (names : List Name) (disk : DiskState) → ((name : Name) → Contains names name → Stands name disk)
+    → AllPairs (λ a b. a ≢ b) names → CanRemove names disk
 all_can [] disk stand once = tt
 all_can (name ∷ names) disk stand once = (
   stand name (0, omega arith, refl),
   all_can names (without name disk)
-      (λ other (k, less, is). subst IsSome (sym (get_removed_other disk.standing name other (rest_apart name names once other (k, less, is))))
+      (λ other (k, less, is). subst IsSome (sym (get_removed_other disk.standing name other (rest_apart name names once other
+      (k, less, is))))
       (stand other (suc k, omega (arith, less), is)))
       (rest_once name names once),
 )
@@ -195,13 +205,16 @@ module _ {read : Image} (found : Finds read) (start : DiskState) (is_read : IsRe
   -- It fits.
   pub found_fits : (plan : Plan) → IsPlan found plan → Fits plan start
   found_fits plan is = subst (λ (p : Plan). Fits p start) (sym is.is) (record {
-    manifest = unread_free read start is_read (Manifest manifest_number) (found.are_greatest.manifest.none_above manifest_number (omega arith));
+    manifest = unread_free read start is_read (Manifest manifest_number) (found.are_greatest.manifest.none_above manifest_number
+        (omega arith));
     behind = record {
       last = last_can read start is_read manifest_number (the_plan.piece) found.opening.state.head found.logs found.standing;
       log = log_can (log_made new found.logs) refl;
       strays = all_can plan.strays (with_log the_plan start)
-          (λ name among. log_stands the_plan.log name (with_last the_plan start) (last_stands the_plan.last name (with_manifest the_plan start)
-          (made_stands (Manifest manifest_number) the_plan.piece name start (stands_read read start is_read name (((is.strays.all name).0 among).0)))))
+          (λ name among. log_stands the_plan.log name (with_last the_plan start) (last_stands the_plan.last name
+          (with_manifest the_plan start)
+          (made_stands (Manifest manifest_number) the_plan.piece name start (stands_read read start is_read name
+          (((is.strays.all name).0 among).0)))))
           is.strays.once;
     };
   })
@@ -212,4 +225,5 @@ module _ {read : Image} (found : Finds read) (start : DiskState) (is_read : IsRe
       log_can : (log : Option ℕ) → log_made new found.logs ≡ log → CanMake log (with_last the_plan start)
       log_can None made_is = tt
       log_can (Some k) made_is = last_free the_plan.last (Log k) (with_manifest the_plan start)
-          (get_inserted_other start.standing (Manifest manifest_number) (settled the_plan.piece) (Log k) (log_manifest k manifest_number) ∙ free_log k made_is)
+          (get_inserted_other start.standing (Manifest manifest_number) (settled the_plan.piece) (Log k) (log_manifest k manifest_number)
+          ∙ free_log k made_is)

@@ -38,9 +38,11 @@ module _ (names : List Name) (i : ℕ) (some : i < length names) (old : Option D
   pub can_here : ForSome old (Stands here)
   can_here disk is = (subst (λ (left : List Name). CanRemove left disk) (left_from names i some) (can disk is)).0
 
-  pub can_next : (new : Option DiskState) (outcome : Result Unit Failed) (answer : Result Unit Name) (u : Unit {0}) → answer ≡ at_file here outcome → answer ≡ Ok u
+  pub can_next : (new : Option DiskState) (outcome : Result Unit Failed) (answer : Result Unit Name) (u : Unit {0})
+      → answer ≡ at_file here outcome → answer ≡ Ok u
       → OnOk outcome (IsChangedBy (without here) old new) → ForSome new (CanRemove (drop (i + 1) names))
-  can_next new (Ok v) answer u at went gone = holds_after (without here) old new (CanRemove (drop i names)) (CanRemove (drop (i + 1) names)) gone
+  can_next new (Ok v) answer u at went gone = holds_after (without here) old new (CanRemove (drop i names))
+      (CanRemove (drop (i + 1) names)) gone
       (λ disk fits. (subst (λ (left : List Name). CanRemove left disk) (left_from names i some) fits).1) can
   can_next new (Err e) answer u at went gone = absurd (not_ok here u (sym at ∙ went))
 
@@ -54,19 +56,23 @@ pub removing_begins : {D : Type 0} (g : Ghosts D) (start : D) (all : List Name) 
 removing_begins g start all = record { ends = λ new result step. step; fails = λ new name failed. failed }
 
 -- none is left
-pub removing_ends : {D : Type 0} (g : Ghosts D) (start now : D) (all left : List Name) → left ≡ [] → Removing g start now all left → RemovesAll {T = Unit {0}} {E = Name} g all start now (Ok tt)
+pub removing_ends : {D : Type 0} (g : Ghosts D) (start now : D) (all left : List Name) → left ≡ [] → Removing g start now all left
+    → RemovesAll {T = Unit {0}} {E = Name} g all start now (Ok tt)
 removing_ends g start now all left none so_far =
-    so_far.ends now (Ok tt) (subst (λ (names : List Name). RemovesAll {T = Unit {0}} {E = Name} g names now now (Ok tt)) (sym none) (nothing_performed g now now tt (WhileStrays []) refl))
+    so_far.ends now (Ok tt) (subst (λ (names : List Name). RemovesAll {T = Unit {0}} {E = Name} g names now now (Ok tt)) (sym none)
+    (nothing_performed g now now tt (WhileStrays []) refl))
 
 module _ {D : Type 0} (g : Ghosts D) (start now new : D) (all : List Name) where
-  module _ (name : Name) (left rest : List Name) (is : left ≡ name ∷ rest) (so_far : Removing g start now all left) (answer : Result Unit Name) where
+  module _ (name : Name) (left rest : List Name) (is : left ≡ name ∷ rest) (so_far : Removing g start now all left)
+      (answer : Result Unit Name) where
     -- one was removed
     pub removing_goes_on : (outcome : Result Unit Failed) (u : Unit {0}) → answer ≡ at_file name outcome → answer ≡ Ok u
         → Removes g name now new outcome → Removing g start new all rest
     removing_goes_on (Ok u) v at went call = record {
       ends = λ end result step.
           so_far.ends end result (subst (λ (names : List Name). RemovesAll g names now end result) (sym is)
-          (performs_as g now end (behind_strays (name ∷ rest)) (WhileStrays (name ∷ rest)) (WhileStrays (name ∷ rest)) (length rest + 1) (length (name ∷ rest))
+          (performs_as g now end (behind_strays (name ∷ rest)) (WhileStrays (name ∷ rest)) (WhileStrays (name ∷ rest)) (length rest + 1)
+          (length (name ∷ rest))
           (λ disk state during. during) result (omega arith)
           (performs_then g (without name) (behind_strays rest) (WhileRemoving name) (WhileStrays rest) 1 (length rest) now new end u result
           (remove_performs g now new name (Ok u) call) step)));
@@ -77,7 +83,8 @@ module _ {D : Type 0} (g : Ghosts D) (start now new : D) (all : List Name) where
     removing_goes_on (Err e) v at went call = absurd (not_ok name v (sym at ∙ went))
 
     -- it failed there
-    pub removing_stops : (outcome : Result Unit Failed) (e : Name) (result : Result Unit Name) → answer ≡ at_file name outcome → answer ≡ Err e → IsErr result
+    pub removing_stops : (outcome : Result Unit Failed) (e : Name) (result : Result Unit Name) → answer ≡ at_file name outcome
+        → answer ≡ Err e → IsErr result
         → Removes g name now new outcome → RemovesAll g all start new result
     removing_stops (Ok u) e result at failed stopped call = absurd (not_ok e u (sym (sym at ∙ failed)))
     removing_stops (Err f) e result at failed stopped call =
@@ -87,7 +94,8 @@ module _ {D : Type 0} (g : Ghosts D) (start now new : D) (all : List Name) where
         (remove_performs g now new name (Err f) call)))
 
     -- so it failed at this name
-    pub removing_failed : (outcome : Result Unit Failed) (e : Name) (result : Result Unit Name) → answer ≡ at_file name outcome → answer ≡ Err e
+    pub removing_failed : (outcome : Result Unit Failed) (e : Name) (result : Result Unit Name) → answer ≡ at_file name outcome
+        → answer ≡ Err e
         → IsErr result → IsErrAnd result (λ f. f ≡ e) → Removes g name now new outcome
         → IfErr result (FailedAt all (g.calls start) (g.calls new))
     removing_failed (Ok u) e result at failed stopped same call = absurd (not_ok e u (sym (sym at ∙ failed)))

@@ -39,8 +39,8 @@ pub data IsMeanwhile (read : Image) (old now : DiskState) : Type 0 where
 abbrev pub IsAsLong : ManifestState → ManifestLog → Type 0
 IsAsLong state log = log.length ≡ length (manifest_bytes log.number (whole_edits state ∷ []))
 
--- Where a disk fails, by the counts of changing calls before and now: at a manifest or a log that stood and was read, or at
--- listing the files, and then no changing call was made; or at the file of the last one that was made, in the order of a
+-- Where a disk fails, by the counts of changing calls before and now: at a manifest, a table or a log that stood and was read, or
+-- at listing the files, and then no changing call was made; or at the file of the last one that was made, in the order of a
 -- repairing.
 pub data IsFaultName (read : Image) (old : DiskState) (before now : ℕ) (name : Name) : Type 0 where
   at_read : IsReadName (Some old) name → now ≡ before → IsFaultName read old before now name

@@ -19,7 +19,7 @@ use Rattle.vl_recover.specs.opening.FoundTables.{all_found}
 use Rattle.vl_recover.specs.opening.Opening.{Current, FoundTable, NamedLevels, NamedLogs, led_into}
 use Rattle.vl_recover.specs.opening.Plans.{Greatest}
 use Rattle.vl_recover.specs.opening.Results.{HasFailed, IsDiskFault, recovery_by, frozen_log}
-use Rattle.vl_recover.specs.opening.Walk.{StandingLog, content_end, has_some, keeps_header}
+use Rattle.vl_recover.specs.opening.Walk.{StandingLog, content_end, format_of, has_some, keeps_header}
 
 abbrev pub greatest_of : GreatestNumbers → Greatest
 greatest_of g = record { log = g.log; table = g.table; manifest = g.manifest }
@@ -41,6 +41,7 @@ abbrev pub last_log : StandingLog → LastLog
 last_log q = record {
   number = q.number;
   length = q.length;
+  format = format_of q.reading.header;
   header = keeps_header q.reading.header q.reading.frames;
   end = content_end q.reading;
   has_frames = has_some q.reading.frames;
@@ -70,9 +71,9 @@ pub record Leads (image : Image) (state : ManifestState) (levels : List (List Fo
   pub logs : NamedLogs image led (Ok tt)
   pub led_is : led ≡ led_into levels
 
--- it was found, with these tables, or that is the answer
-abbrev pub IsAllFound : Image → List (List FoundTable) → Result Findings OpenError → Type 0
-IsAllFound image levels (Ok found) = (is : IsFound image found) × (levels ≡ is.finds.opening.levels)
+-- it was found, with these tables and something beside, or that is the answer
+abbrev pub IsAllFound : {X : Type 0} → Image → List (List FoundTable) → Result (Findings × X) OpenError → Type 0
+IsAllFound image levels (Ok found) = (is : IsFound image found.0) × (levels ≡ is.finds.opening.levels)
 IsAllFound image levels (Err why) = AnswersBy image (recovery_by why)
 
 -- It was found, with these tables opened, or that is the answer.

@@ -11,7 +11,7 @@ use Rattle.vl_layout.specs.Rulings.Flush.{covered_by}
 use Rattle.vl_layout.specs.declared.segment.Segment.{Segment}
 use Rattle.vl_manifest.specs.declared.state.ManifestState.{ManifestState}
 use Rattle.vl_manifest.specs.declared.waiting.Waiting.{Waiting}
-use Rattle.vl_recover.specs.opening.Answers.{Finds, logs_then}
+use Rattle.vl_recover.specs.opening.Answers.{Finds, as_segments, logs_then}
 use Rattle.vl_recover.specs.opening.Opening.{led_into}
 use Rattle.vl_seglog.specs.Frames.{log_bytes}
 use Rattle.vl_seglog.specs.LogReading.{HasHeader, IsLogFormat}
@@ -19,11 +19,11 @@ use Rattle.vl_seglog.specs.declared.sealed.SealedLog.{SealedLog}
 use Rattle.vl_table.specs.Tables.{number_of}
 use Rattle.vl_table.specs.declared.table.Table.{Table}
 
--- logs but for the last
-abbrev pub but_last : List Segment → List Segment
+-- a list but for its last
+abbrev pub but_last : {A : Type 0} → List A → List A
 but_last [] = []
-but_last (s ∷ []) = []
-but_last (s ∷ t ∷ ss) = s ∷ but_last (t ∷ ss)
+but_last (x ∷ []) = []
+but_last (x ∷ y ∷ ys) = x ∷ but_last (y ∷ ys)
 
 -- the logs below head that tables lead into, rising
 abbrev pub led_below_head : {read : Image} → Finds read → List ℕ
@@ -59,6 +59,14 @@ module _ {H : Type 0} where
       pub split : logs ≡ lower ++ upper
       pub lower_are : AllZip (IsReadLog read) lower (led_below_head found)
       pub upper_are : AllZip IsHeldLog upper (but_last (logs_then found))
+
+    -- The same as far as it was found by reading: of the logs from head on the last isn't held before it is repaired.
+    pub record AreHeldFound {read : Image} (found : Finds read) (logs : List (SealedLog H)) : Type 0 where
+      pub lower : List (SealedLog H)
+      pub upper : List (SealedLog H)
+      pub split : logs ≡ lower ++ upper
+      pub lower_are : AllZip (IsReadLog read) lower (led_below_head found)
+      pub upper_are : AllZip IsHeldLog upper (but_last (as_segments found.logs))
 
 -- These logs wait for their flush, the oldest first; behind each commits up to a number are in tables, where they are up to
 -- this one before the first of them.

@@ -1,12 +1,15 @@
 -- What leads an image, as far as it was looked for.
 use Rattle.std.specs.Prelude.{◌≡◌, ℕ, ◌<◌, ◌≤◌, ◌==◌, ◌&&◌, if◌then◌else◌, List, Option, None, Some, Result, Ok, Err}
+use Rattle.std.specs.FinMap.{get}
 use Rattle.vl_disk.specs.Crash.{Image}
+use Rattle.vl_disk.specs.declared.name.Name.TheVariants.{Log}
 use Rattle.vl_manifest.specs.Current.{StandsNewer, StandsReadable}
 use Rattle.vl_manifest.specs.Manifest.{IsNewer}
 use Rattle.vl_recover.specs.declared.fails.OpenError.{OpenError}
 use Rattle.vl_recover.specs.declared.fails.OpenError.TheVariants as why
 use Rattle.vl_recover.specs.opening.Opening.{Bare, Damaged, Heading, Headless, NewerFormat, Newest, NotAStore, Refusal}
 use Rattle.vl_recover.specs.opening.Plans.{Greatest}
+use Rattle.vl_seglog.specs.LogReading.{HasHeader, IsLogFormat}
 
 -- It is what a stage gives; for want of memory, and where the disk fails, it may give up.
 abbrev pub AnswersStage : {A : Type 0} → (Result A Refusal → Type 0) → Result A OpenError → Type 0
@@ -48,3 +51,12 @@ headed_by (Some format) = Newest format
 
 abbrev pub heading_without : Greatest → Option ℕ → Heading
 heading_without g newest = if (g.log == 0) && (g.table == 0) then Bare else headed_by newest
+
+-- ---- the logs that tables lead into
+
+-- the log stands, and begins with its header in this format
+pub record BeginsIn (image : Image) (number format : ℕ) : Type 0 where
+  pub bytes : List ℕ
+  pub stands : get image (Log number) ≡ Some bytes
+  pub format_is : IsLogFormat format
+  pub header : HasHeader format number bytes

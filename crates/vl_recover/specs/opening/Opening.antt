@@ -167,6 +167,10 @@ abbrev pub IsNamed : List (List ℕ) → ℕ → Type 0
 IsNamed [] n = ⊥
 IsNamed (ns ∷ levels) n = IsAmong ns n ⊎ IsNamed levels n
 
+-- the current manifest, where one can be read, names no table
+abbrev pub NamesNoTable : Image → Type 0
+NamesNoTable image = (state : ManifestState) → Current image (Ok state) → (n : ℕ) → IsNamed state.levels n → ⊥
+
 -- the bytes begin with the right header of the log with this number
 abbrev pub BeginsLog : ℕ → List ℕ → Type 0
 BeginsLog number bytes = (format : ℕ) × IsLogFormat format × HasHeader format number bytes

@@ -1,6 +1,7 @@
 -- What an opening decides by what it found: the new state, the new log, what becomes of the last log, and whether a
 -- number is used up.
 use Rattle.std.specs.Prelude.{◌≡◌, ℕ, ◌+◌, max, ◌==◌, if◌then◌else◌, List, [], ◌∷◌, map, Option, None, Some, Result, Ok, Err}
+use Rattle.std.specs.Option.{option_map}
 use Rattle.vl_disk.specs.Crash.{Image}
 use Rattle.vl_model.specs.Limits.{max_file_number}
 use Rattle.vl_model.specs.declared.counter.Counter.{Counter}
@@ -11,8 +12,10 @@ use Rattle.vl_manifest.specs.declared.state.ManifestState.{ManifestState}
 use Rattle.vl_recover.specs.opening.Answers.{AnswersBy, Finds, Opened, held_log, used_up}
 use Rattle.vl_recover.specs.repairing.Repairing.{Cut, Headed, IsPlan, Kept, NoLast, Plan, Rewritten}
 use Rattle.vl_recover.specs.repairing.Repairing as repairing
+use Rattle.vl_recover.specs.repairing.Holding.{hold_for}
 use Rattle.vl_recover.specs.repairing.NextLogs.{made_of, number_of}
 use Rattle.vl_recover.specs.repairing.PlanViews.{plan_view}
+use Rattle.vl_recover.specs.opening.Finding.{last_log, last_of}
 use Rattle.vl_recover.specs.opening.FoundTables.{all_found}
 use Rattle.vl_recover.specs.opening.Opening.{FoundTable}
 use Rattle.vl_recover.specs.opening.Plans.{active_log, new_state, passes}
@@ -71,8 +74,10 @@ pub record IsDecided (found : Findings) (prepared : Prepared) : Type 0 where
   pub number : prepared.number ≡ found.number
   pub state : prepared.state ≡ state_for found
   pub frozen : prepared.frozen.items ≡ found.frozen.items
+  pub waiting : prepared.waiting.items ≡ found.waiting.items
   pub plan : plan_view prepared.plan ≡ plan_for found
   pub edits : prepared.plan.edits.items ≡ whole_edits prepared.state
+  pub hold : prepared.plan.hold ≡ hold_for found.last
   pub active : prepared.active ≡ number_of (next_of (state_for found) found.last)
 
 -- it was decided, or a number is used up, or memory ran out
@@ -95,6 +100,7 @@ pub record IsPrepared (image : Image) (prepared : Prepared) : Type 0 where
   pub state : prepared.state ≡ new_state finds.greatest finds.opening.state
   pub frozen : map frozen_log prepared.frozen.items ≡ map held_log finds.opening.logs
   pub plan : IsPlan finds (plan_view prepared.plan)
+  pub hold : prepared.plan.hold ≡ hold_for (option_map last_log (last_of finds.logs))
   pub active : prepared.active ≡ active_log finds.greatest finds.opening.state finds.logs
 
 -- the store that is opened then, with these tables

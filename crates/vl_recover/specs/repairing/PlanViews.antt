@@ -3,6 +3,8 @@ use Rattle.std.specs.Prelude.{[], ◌∷◌, Result, Ok, Err}
 use Rattle.vl_disk.specs.declared.errors.Failed.{Failed}
 use Rattle.vl_disk.specs.declared.name.Name.{Name}
 use Rattle.vl_manifest.specs.Manifest.{manifest_bytes}
+use Rattle.vl_manifest.specs.declared.fails.IoFail.{IoFail}
+use Rattle.vl_manifest.specs.declared.manifest_log.ManifestLog.{ManifestLog}
 use Rattle.vl_recover.specs.repairing.Repairing.{Cut, Headed, Kept, LastLog, NoLast, Plan, Rewritten}
 use Rattle.vl_recover.specs.declared.plan.LastStep.{LastStep}
 use Rattle.vl_recover.specs.declared.plan.LastStep.TheVariants as steps
@@ -23,6 +25,11 @@ plan_view plan = record {
   log = plan.log;
   strays = plan.strays.items;
 }
+
+-- the manifest that a repairing made, without what it held
+abbrev pub manifest_of : {A : Type 0} → Result (ManifestLog × A) IoFail → Result ManifestLog IoFail
+manifest_of (Ok made) = Ok made.0
+manifest_of (Err e) = Err e
 
 -- a call's result, with the file's name where it failed
 abbrev pub at_file : {A : Type 0} → Name → Result A Failed → Result A Name

@@ -16,7 +16,7 @@ use Rattle.vl_manifest.specs.declared.manifest_log.ManifestLog.{ManifestLog}
 use Rattle.vl_recover.specs.repairing.Repairing.{Cut, Headed, Kept, LastLog, NoLast, Plan, Rewritten, WhileLast, WhileLog, WhileRepairing, WhileStrays, behind_last, behind_log, behind_strays, calls_of_plan, calls_to_repair, repaired}
 use Rattle.vl_recover.specs.opening.Plans.{calls_to_make}
 
--- the last log is repaired and made durable
+-- The last log is repaired and made durable. Where it is held then the hold may fail too, behind all of its calls.
 abbrev pub RepairsLast : {D T E : Type 0} → Ghosts D → LastLog → D → D → Result T E → Type 0
 RepairsLast g last old new result =
     Performs g (behind_last last) (WhileLast last) (calls_to_repair last) old new result
@@ -69,7 +69,7 @@ abbrev pub RepairsBehind : {D T E : Type 0} → Ghosts D → Plan → D → D �
 RepairsBehind g plan old new result =
     Performs g (behind_manifest plan) (WhileBehind plan) (calls_behind plan) old new result
 
--- by the counts of changing calls before and now the last one failed, and is on the file that is named
+-- by the counts of changing calls before and now the last one is on the file that is named: it failed, or a hold right behind it
 abbrev pub IsFailAt : Plan → (before now : ℕ) → IoFail → Type 0
 IsFailAt plan before now NoMemory = Unit {0}
 IsFailAt plan before now (Disk name) = FailedAt (files_of plan) before now name

@@ -10,7 +10,8 @@ pub returns-in_err-cut-clause-repaired : goal.returns-in_err-cut-clause-repaired
 returns-in_err-cut-clause-repaired g c =
     let name = Log c.args.number in
     let len = c.args.length in
-    performs_stop g.D.Watched _ _ (cut_to name len len) (WhileCutting name len) (WhileLast (Cut c.args.number len)) 1 2 (λ disk now is. inl is)
+    performs_stop g.D.Watched _ _ (cut_to name len len) (WhileCutting name len) (WhileLast (Cut c.args.number len)) 1 2
+    (λ disk now is. inl is)
     (behind_last (Cut c.args.number len)) _ c.from_residual.result c.from_residual.ensures.0 (omega arith)
     (cut_performs g.D.Watched _ _ name len _ c.in_err-cut.ensures)
 

@@ -16,6 +16,7 @@ returns-in_err-cut-clause-repaired g c =
 pub returns-clause-repaired : goal.returns-clause-repaired
 returns-clause-repaired g c =
     let name = Log c.args.number in
-    performs_then g.D.Watched (cut_to name 0 0) (behind_last (Headed c.args.number)) (WhileCutting name 0) (WhileLast (Headed c.args.number)) 1 2 _ _ _ _ c.head.result
+    performs_then g.D.Watched (cut_to name 0 0) (behind_last (Headed c.args.number)) (WhileCutting name 0)
+    (WhileLast (Headed c.args.number)) 1 2 _ _ _ _ c.head.result
     (cut_performs g.D.Watched _ _ name 0 _ c.in_ok-cut.ensures)
     c.head.ensures.repaired

@@ -15,5 +15,5 @@ invariant-loop-name g l = record {
   come : LogsToCome l.names l.least (drop l.name-index l.names);
   last : IfSome l.so_far.last (λ q. Contains l.names (kinds.Log q.number));
   reads : (state : DiskState) (read : Image) → g.D.Watched.told l.fn.disk ≡ Some state → IsRead read state
-      → AreReadUpTo read l.names l.head l.covered l.least l.so_far;
+      → AreReadUpTo g.D.Held.HeldFile.bytes read l.names l.head l.covered l.least l.fn.lower.items l.so_far;
 }

@@ -28,8 +28,7 @@ returns-then-is_same c =
     let names = c.args.names.now in
     let i = c.loop-other.other-index in
     let first = get_or names i (Log 0) in
-    let rest = drop (i + 1) names in
-    (
+    let rest = drop (i + 1) names in (
       λ _. subst (λ (l : List Name). Contains l c.args.name) (take-append-drop i names)
           (Contains-append_right (take i names) (drop i names) c.args.name
           (subst (λ (l : List Name). Contains l c.args.name) (sym (drop_more names i (Log 0) c.loop-other-test.true))

@@ -1,8 +1,9 @@
-use Rattle.std.proofs.Common.{◌≡◌, ◌∙◌, refl}
+use Rattle.std.proofs.Common.{◌≡◌, ◌∙◌, ap, refl, subst, sym}
 use Rattle.std.specs.Prelude.{Some}
 use Rattle.std.specs.FinMap.{get}
 use Rattle.vl_disk.specs.DiskState.{file_at}
 use Rattle.vl_disk.specs.declared.name.Name.TheVariants.{Table}
+use Rattle.vl_recover.specs.opening.OpenedTables.{IsNoTable}
 use Rattle.vl_recover.proofs.opening.Looking.{as_read}
 use Rattle.vl_recover.proofs.opening.OneTable.{table_fails, table_reads}
 use Rattle.vl_recover.proofs.one_table.open_table.Goals as goal
@@ -22,5 +23,14 @@ returns-in-Err-clause-answer g c = λ state read told is.
     let bytes = (file_at state name).bytes in
     let there = ((c.requires.lists state told).all name).0 (c.has.ensures.0 c.if-not-has.false) in
     let stands : get read name ≡ Some bytes = as_read read state name bytes is there refl in
-    table_fails read c.args.number bytes stands c.in-Err.fault c.in-Err.ensures.answers.named
-    (c.in-Err.ensures.answers.answer bytes (c.in_ok-held.ensures.bytes state told))
+    subst (IsNoTable read c.args.number) (sym c.from.ensures)
+    (table_fails read c.args.number bytes stands g.row.D-Held.Denot c.in-Err.fault c.in-Err.ensures.answers.named
+    (c.in-Err.ensures.answers.answer bytes (c.in_ok-held.ensures.bytes state told)))
+
+pub returns-in-Ok-clause-held : goal.returns-in-Ok-clause-held
+returns-in-Ok-clause-held g c = λ state read told is.
+    let name = Table c.args.number in
+    let bytes = (file_at state name).bytes in
+    let there = ((c.requires.lists state told).all name).0 (c.has.ensures.0 c.if-not-has.false) in
+    let stands : get read name ≡ Some bytes = as_read read state name bytes is there refl in
+    ap g.D.Held.HeldFile.bytes c.in-Ok.ensures.held ∙ c.in_ok-held.ensures.bytes state told ∙ sym stands

@@ -5,6 +5,7 @@ use Rattle.vl_disk.specs.Crash.{Image}
 use Rattle.vl_disk.specs.DiskState.{DiskState}
 use Rattle.vl_disk.specs.Started.{IsRead}
 use Rattle.vl_recover.specs.opening.FoundTables.{found_level}
+use Rattle.vl_recover.specs.opening.HeldFiles.{AreReadTables}
 use Rattle.vl_recover.proofs.opening.NamingTables.{AreOpened}
 use Rattle.vl_recover.proofs.tables.open_level.Given as goal
 
@@ -14,4 +15,6 @@ invariant-loop-number g l = record {
   fresh : g.D.Reader.Reader.faults l.reader ≡ 0;
   so_far : (state : DiskState) (read : Image) → g.D.Watched.told l.fn.disk ≡ Some state → IsRead read state
       → AreOpened read l.is_deeper l.tables (found_level l.opened) (drop l.number-index l.tables);
+  held : (state : DiskState) (read : Image) → g.D.Watched.told l.fn.disk ≡ Some state → IsRead read state
+      → AreReadTables g.D.Held.HeldFile.bytes read l.opened.items;
 }

@@ -70,8 +70,7 @@ like_same image o opens = (o, opens, shows_same o, record { tables = λ n named.
 pub like_then : (a b c : Image) → OpensLike a b → OpensLike b c → OpensLike a c
 like_then a b c p q o opens =
     let (mid, opens_mid, as_o, need_o) = q o opens in
-    let (top, opens_top, as_mid, need_mid) = p mid opens_mid in
-    (
+    let (top, opens_top, as_mid, need_mid) = p mid opens_mid in (
       top,
       opens_top,
       shows_then top mid o as_mid as_o,
@@ -150,8 +149,7 @@ pub like_by : (image other : Image)
 like_by image other by o opens =
     let is = opened other o opens in
     let here = by o is in
-    let p = opening_made here.state o.levels here.alike.standing o.number in
-    (
+    let p = opening_made here.state o.levels here.alike.standing o.number in (
       p,
       is_opened image p (record {
         heading = here.heading;

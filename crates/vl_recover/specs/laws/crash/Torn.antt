@@ -166,7 +166,8 @@ module _ (number : ℕ) (s : ManifestState) (can : CanWrite number s) where
       torn : (edits : List Edit) (rest : List ℕ) → StandsAt (edits_grammar manifest_format) number 16 (drop 16 bytes) edits rest
           → (take (length (item_frame (edits_grammar manifest_format) number 16 edits)) whole
           ≡ item_frame (edits_grammar manifest_format) number 16 edits)
-          × StandsNone (edits_grammar manifest_format) number (16 + length (item_frame (edits_grammar manifest_format) number 16 edits)) rest
+          × StandsNone (edits_grammar manifest_format) number (16 + length (item_frame (edits_grammar manifest_format) number 16 edits))
+          rest
       torn edits rest stands = (front, none)
         where
           frame : List ℕ
@@ -197,7 +198,8 @@ module _ (number : ℕ) (s : ManifestState) (can : CanWrite number s) where
               ∙ drop_all (length (item_frame (edits_grammar manifest_format) number 16 edits))
               (item_frame (edits_grammar manifest_format) number 16 edits) (omega arith)
 
-          none : StandsNone (edits_grammar manifest_format) number (16 + length (item_frame (edits_grammar manifest_format) number 16 edits)) rest
+          none : StandsNone (edits_grammar manifest_format) number
+              (16 + length (item_frame (edits_grammar manifest_format) number 16 edits)) rest
           none more after next =
               let place = 16 + length (item_frame (edits_grammar manifest_format) number 16 edits) in
               let other = item_frame (edits_grammar manifest_format) number place more in

@@ -60,7 +60,8 @@ module _ (format number : ℕ) (bytes : List ℕ) (is_read : IsLogFormat format)
       subst (λ (n : ℕ). SpellsAt (frames_grammar n) number bytes at frame)
       (one_header_format number bytes other format is_read_too is_read header_too header) spelled
 
-module _ (format number : ℕ) (is_read : IsLogFormat format) (frames : List LogFrame) (f : LogFrame) (has : HasFrame (frames_grammar format) f) (taken : ℕ) where
+module _ (format number : ℕ) (is_read : IsLogFormat format) (frames : List LogFrame) (f : LogFrame)
+    (has : HasFrame (frames_grammar format) f) (taken : ℕ) where
   abbrev end : ℕ
   end = frames_end format frames
 

@@ -30,7 +30,8 @@ module _ (image : Image) where
   all_greatest a b is_a is_b =
       ap (λ (n : ℕ). record { log = n; table = a.table; manifest = a.manifest }) (one_greatest Log a.log b.log is_a.log is_b.log)
       ∙ ap (λ (n : ℕ). record { log = b.log; table = n; manifest = a.manifest }) (one_greatest Table a.table b.table is_a.table is_b.table)
-      ∙ ap (λ (n : ℕ). record { log = b.log; table = b.table; manifest = n }) (one_greatest Manifest a.manifest b.manifest is_a.manifest is_b.manifest)
+      ∙ ap (λ (n : ℕ). record { log = b.log; table = b.table; manifest = n }) (one_greatest Manifest a.manifest b.manifest is_a.manifest
+      is_b.manifest)
 
   module _ (a b : Finds image) where
     pub same_opening : a.opening ≡ b.opening
@@ -77,7 +78,8 @@ cut_length k [] less = absurd (omega (arith, less))
 cut_length zero (name ∷ names) less = refl
 cut_length (suc k) (name ∷ names) less = let rest = cut_length k names (omega (arith, less)) in omega (arith, rest)
 
-cut_has : (k j : ℕ) (names : List Name) (name : Name) → j ≢ k → j < length names → slice_index_or names j name ≡ name → Contains (cut_out k names) name
+cut_has : (k j : ℕ) (names : List Name) (name : Name) → j ≢ k → j < length names → slice_index_or names j name ≡ name
+    → Contains (cut_out k names) name
 unfolding cut_out
 cut_has k j [] name other less is = absurd (omega (arith, less))
 cut_has zero zero (first ∷ names) name other less is = absurd (other refl)
@@ -88,7 +90,8 @@ cut_has (suc k) (suc j) (first ∷ names) name other less is =
     (suc i, omega (arith, within), at)
 
 -- names that differ are no more than those of a list that has them all
-no_more : (few many : List Name) → AllPairs (λ a b. a ≢ b) few → ((name : Name) → Contains few name → Contains many name) → length few ≤ length many
+no_more : (few many : List Name) → AllPairs (λ a b. a ≢ b) few → ((name : Name) → Contains few name → Contains many name)
+    → length few ≤ length many
 no_more [] many once all = omega arith
 no_more (name ∷ names) many once all =
     let (k, less, is) = all name (0, omega arith, refl) in

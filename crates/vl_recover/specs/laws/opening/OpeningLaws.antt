@@ -127,7 +127,8 @@ pub record IsOpened (image : Image) (o : Opening) : Type 0 where
   pub walk : walked o.state.covered standing ≡ Ok o.number
   pub logs_are : o.logs ≡ filled standing
 
-opening_apart : (state : ManifestState) (levels : List (List FoundTable)) (logs : List StandingLog) (walk : Result ℕ LogDamage) (o : Opening)
+opening_apart : (state : ManifestState) (levels : List (List FoundTable)) (logs : List StandingLog) (walk : Result ℕ LogDamage)
+    (o : Opening)
     → Ok o ≡ opening_of state levels logs walk
     → (walk ≡ Ok o.number) × (o.state ≡ state) × (o.levels ≡ levels) × (o.logs ≡ filled logs)
 opening_apart state levels logs (Ok number) o e =
@@ -164,8 +165,8 @@ opened image o (state, (heading, headed, says), (levels, named, (u, led, (logs, 
 -- An opening put together.
 pub is_opened : (image : Image) (o : Opening) → IsOpened image o → Opens image (Ok o)
 is_opened image o is =
-    subst (λ (l : List Segment). Opens image (Ok (record { state = o.state; levels = o.levels; logs = l; number = o.number }))) (sym is.logs_are)
-    (
+    subst (λ (l : List Segment). Opens image (Ok (record { state = o.state; levels = o.levels; logs = l; number = o.number })))
+    (sym is.logs_are) (
       o.state,
       (is.heading, is.headed, is.says),
       (

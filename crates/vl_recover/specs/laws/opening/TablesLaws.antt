@@ -65,14 +65,16 @@ module _ (image : Image) where
   single_level deeper before (n ∷ ns) =
       single_then (NamedTable image before n) (λ t. AndThen (NamedLevel deeper image (key_before deeper t) ns) (λ ts s. s ≡ Ok (t ∷ ts)))
       (single_table before n)
-      (λ t. single_then (NamedLevel deeper image (key_before deeper t) ns) (λ ts s. s ≡ Ok (t ∷ ts)) (single_level deeper (key_before deeper t) ns) (λ ts r s p q. p ∙ sym q))
+      (λ t. single_then (NamedLevel deeper image (key_before deeper t) ns) (λ ts s. s ≡ Ok (t ∷ ts))
+      (single_level deeper (key_before deeper t) ns) (λ ts r s p q. p ∙ sym q))
 
   pub single_levels : (deeper : Bool) (levels : List (List ℕ)) → IsSingle (NamedLevels deeper image levels)
   single_levels deeper [] = λ r s p q. p ∙ sym q
   single_levels deeper (ns ∷ levels) =
       single_then (NamedLevel deeper image None ns) (λ ts. AndThen (NamedLevels true image levels) (λ others s. s ≡ Ok (ts ∷ others)))
       (single_level deeper None ns)
-      (λ ts. single_then (NamedLevels true image levels) (λ others s. s ≡ Ok (ts ∷ others)) (single_levels true levels) (λ others r s p q. p ∙ sym q))
+      (λ ts. single_then (NamedLevels true image levels) (λ others s. s ≡ Ok (ts ∷ others)) (single_levels true levels)
+      (λ others r s p q. p ∙ sym q))
 
   -- ---- the stage of the logs that tables lead into
 

@@ -157,15 +157,15 @@ synced_leads number s v k disk leads =
         tables = λ n named. (let (bytes, read, stands) = leads.needs.tables n named in
             (bytes, read, settled_kept (Log k) disk (synced (Log k) disk) same (Table n) bytes (table_log n k) stands));
         logs = λ n among. (let (bytes, read, stands) = leads.needs.logs n among in (
-            bytes,
-            read,
-            ⊎_elim
-                (λ (at : n ≡ k). ap (λ (x : ℕ). get (synced (Log k) disk).standing (Log x)) at
-                ∙ changed_there (Log k) disk synced_file
-                ∙ ap (option_map synced_file) (ap (λ (x : ℕ). get disk.standing (Log x)) (sym at) ∙ stands))
-                (λ (other : n ≢ k). settled_kept (Log k) disk (synced (Log k) disk) same (Log n) bytes
-                (λ e. other (log_same n k e)) stands)
-                (cases_eq n k),
+          bytes,
+          read,
+          ⊎_elim
+              (λ (at : n ≡ k). ap (λ (x : ℕ). get (synced (Log k) disk).standing (Log x)) at
+              ∙ changed_there (Log k) disk synced_file
+              ∙ ap (option_map synced_file) (ap (λ (x : ℕ). get disk.standing (Log x)) (sym at) ∙ stands))
+              (λ (other : n ≢ k). settled_kept (Log k) disk (synced (Log k) disk) same (Log n) bytes
+              (λ e. other (log_same n k e)) stands)
+              (cases_eq n k),
         ));
       };
     }

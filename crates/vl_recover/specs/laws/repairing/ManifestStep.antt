@@ -63,7 +63,8 @@ as_read_left read start is_read files m = record {
   may = read_left read start is_read (Manifest m);
   no_chance = subst (NoChanceOne Spells (Manifest m) (last_file (get start.standing (Manifest m)) (get start.removed (Manifest m))))
       (sym (is_read.each (Manifest m)))
-      (by (get start.standing (Manifest m)) (get start.removed (Manifest m)) (λ file stands. (files (Manifest m) file stands).no_chance (λ wrong. wrong)));
+      (by (get start.standing (Manifest m)) (get start.removed (Manifest m)) (λ file stands. (files (Manifest m) file stands).no_chance
+      (λ wrong. wrong)));
 }
   where
     by : (standing removed : Option File)
@@ -205,7 +206,8 @@ module _ (read : Image) (o : Opening) (is : IsOpened read o) (number : ℕ) (s :
       by (waits is_start) = subst (OpensAsOf start) (sym is_start) (as_before start)
       by (torn file part stands same) = λ image left. there image left (get image (Manifest number)) refl
         where
-          there : (image : Image) → IsLeft now image → (found : Option (List ℕ)) → get image (Manifest number) ≡ found → (old : Image) × IsLeft start old × OpensLike image old
+          there : (image : Image) → IsLeft now image → (found : Option (List ℕ)) → get image (Manifest number) ≡ found
+              → (old : Image) × IsLeft start old × OpensLike image old
           there image left None none = unreads same image left (λ bytes r. some_none bytes (sym r.stands ∙ none))
           there image left (Some bytes) here = ⊎_elim
               (λ (not : IsReadable number bytes → ⊥). unreads same image left
@@ -213,10 +215,12 @@ module _ (read : Image) (o : Opening) (is : IsOpened read o) (number : ℕ) (s :
               (λ (says : SaysAsRead number bytes s). reads same image left bytes here says)
               (torn_manifest number s can file part bytes
               (subst (λ (x : Option (List ℕ)). IsLeftOne (Manifest number) (Some file) (get now.removed (Manifest number)) x) here
-              (subst (λ (x : Option File). IsLeftOne (Manifest number) x (get now.removed (Manifest number)) (get image (Manifest number))) stands
+              (subst (λ (x : Option File). IsLeftOne (Manifest number) x (get now.removed (Manifest number))
+              (get image (Manifest number))) stands
               (left_one now image left (Manifest number)))).no_chance)
       by (done stands same) = λ image left. reads same image left piece
           (settled_left (get now.removed (Manifest number)) (get image (Manifest number))
-          (subst (λ (x : Option File). IsLeftOne (Manifest number) x (get now.removed (Manifest number)) (get image (Manifest number))) stands
+          (subst (λ (x : Option File). IsLeftOne (Manifest number) x (get now.removed (Manifest number)) (get image (Manifest number)))
+          stands
           (left_one now image left (Manifest number))).may)
           (record { format = manifest_format; says = whole_manifest number s can.fits can.range can.has })

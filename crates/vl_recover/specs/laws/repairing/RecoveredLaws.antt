@@ -55,7 +55,11 @@ walk_kept n number (q ∷ p ∷ logs) e =
     goes p logs (log_kept q.number n m q.reading is) (walk_kept m number (p ∷ logs) rest)
   where
     goes : (p : StandingLog) (logs : List StandingLog) {m : ℕ}
-        → in_log q.number (counted_whole n (record { header = Some (format_of q.reading.header); frames = q.reading.frames; whole = true })) ≡ Ok m
+        → in_log q.number (counted_whole n (record {
+          header = Some (format_of q.reading.header);
+          frames = q.reading.frames;
+          whole = true;
+        })) ≡ Ok m
         → walked m (all_repaired (p ∷ logs)) ≡ Ok number
         → walked n (all_repaired (q ∷ p ∷ logs)) ≡ Ok number
     goes p [] {m} is rest =
@@ -84,7 +88,8 @@ filled_kept (q ∷ p ∷ logs) = by q.reading.frames (filled_kept (p ∷ logs))
 walk_empty : (k n number : ℕ) (logs : List Segment) → walked n (map log_as_held logs) ≡ Ok number
     → walked n (map log_as_held (logs ++ new_segment log_format k [] ∷ [])) ≡ Ok number
 walk_empty k n number [] e = e
-walk_empty k n number (s ∷ []) e = walk_more k n number s.number (log_as_held s).reading (log_as_held (new_segment log_format k [])).reading refl refl e
+walk_empty k n number (s ∷ []) e = walk_more k n number s.number (log_as_held s).reading
+    (log_as_held (new_segment log_format k [])).reading refl refl e
 walk_empty k n number (s ∷ t ∷ logs) e =
     ok_with (λ m. walked m (map log_as_held (t ∷ logs)))
     (λ m. walked m (map log_as_held (t ∷ logs ++ new_segment log_format k [] ∷ []))) number number

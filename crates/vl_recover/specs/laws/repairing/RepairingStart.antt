@@ -221,9 +221,11 @@ module _ {read : Image} (found : Finds read) (start : DiskState) (begins : Begin
 
   -- ---- what is needed is durable
 
-  file_of : (name : Name) (bytes : List ℕ) → get read name ≡ Some bytes → (file : File) × (get start.standing name ≡ Some file) × (file.bytes ≡ bytes)
+  file_of : (name : Name) (bytes : List ℕ) → get read name ≡ Some bytes
+      → (file : File) × (get start.standing name ≡ Some file) × (file.bytes ≡ bytes)
   file_of name bytes there =
-      let (file, stands) = some_file (get start.standing name) (λ none. some_none bytes (sym there ∙ free_unread read start begins.is_read name none)) in
+      let (file, stands) = some_file (get start.standing name) (λ none. some_none bytes (sym there
+      ∙ free_unread read start begins.is_read name none)) in
       (file, stands, some_same file.bytes bytes (sym (begins.is_read.each name ∙ ap (option_map (λ (f : File). f.bytes)) stands) ∙ there))
 
   durable_file : (name : Name) (bytes : List ℕ) → get read name ≡ Some bytes
@@ -237,7 +239,8 @@ module _ {read : Image} (found : Finds read) (start : DiskState) (begins : Begin
   start_needs = record {
     named = opened_read.levels;
     led = opened_read.led;
-    tables = λ n named. (let (bytes, there) = levels_stand read false found.opening.state.levels found.opening.levels opened_read.levels n named in
+    tables = λ n named. (let (bytes, there) = levels_stand read false found.opening.state.levels found.opening.levels opened_read.levels n
+        named in
         durable_file (Table n) bytes there (λ file stands. may_as.tables n file named stands));
     logs = λ n among. (let (bytes, there) = led_stand read (led_into found.opening.levels) opened_read.led n among in
         durable_file (Log n) bytes there (λ file stands. (may_as.led n file among stands).0));
