@@ -1,31 +1,17 @@
 -- A file that was being made has no frame by chance as it is read.
-use Rattle.std.specs.Prelude.{◌≡◌, ℕ, ◌+◌, ◌-◌, ◌≤◌, ◌<◌, List, [], ◌++◌, length, take, drop, None, Some, Ok, refl}
-use Rattle.std.specs.FinMap.{get}
+use Rattle.std.specs.Prelude.{◌≡◌, ℕ, ◌+◌, ◌-◌, ◌≤◌, ◌<◌, List, [], ◌++◌, length, take, drop, Some, refl}
 use Rattle.std.proofs.Common.{append_assoc, ap, arith, length-append, subst, sym, ◌∙◌, ⊎_elim}
 use Rattle.std.proofs.lemmas.Bool.{cases_lt}
 use Rattle.std.proofs.lemmas.List.{drop-append-le, drop_all, take-append-drop, take_at}
 use Rattle.vl_disk.specs.Chance.{NoChanceOne, WasHandedOver}
-use Rattle.vl_disk.specs.Crash.{Image}
 use Rattle.vl_disk.specs.DiskState.{File, lengthened, new_file}
 use Rattle.vl_disk.specs.declared.name.Name.{Name}
 use Rattle.vl_disk.specs.declared.name.Name.TheVariants.{Log, Manifest, Table}
 use Rattle.vl_frame.specs.laws.RunLaws.{frame_is_some}
 use Rattle.vl_frame.specs.Runs.{item_frame}
-use Rattle.vl_manifest.specs.Current.{StandsReadable}
 use Rattle.vl_manifest.specs.Grammar.{edits_grammar}
-use Rattle.vl_manifest.specs.Manifest.{IsReadable}
-use Rattle.vl_manifest.specs.States.{as_read}
-use Rattle.vl_manifest.specs.laws.MadeLaws.{SaysAsRead}
-use Rattle.vl_manifest.specs.laws.TableLaws.{bare_told}
 use Rattle.vl_model.specs.Formats.{manifest_format}
-use Rattle.vl_manifest.specs.laws.ManifestLaws.{says_readable}
-use Rattle.vl_manifest.specs.declared.state.ManifestState.{ManifestState}
-use Rattle.vl_recover.specs.crash.Alike.{OpensLike, SameState, Spells}
-use Rattle.vl_recover.specs.laws.crash.AlikeLaws.{SameBut, lead_over, led_anew, like_lead, log_manifest, read_same, state_back, state_then}
-use Rattle.vl_recover.specs.laws.repairing.RepairingSteps.{table_manifest}
-use Rattle.vl_recover.specs.opening.Opening.{Heading, Led, Opening, Opens, Refusal, Says}
-use Rattle.vl_recover.specs.laws.opening.OpeningLaws.{one_heading, opened, single_says, some_none, some_same}
-use Rattle.vl_recover.specs.laws.repairing.StageLaws.{ok_same}
+use Rattle.vl_recover.specs.crash.Alike.{Spells}
 use Rattle.vl_recover.specs.laws.crash.OneName.{IsPart, part_empty, part_some}
 use Rattle.vl_recover.specs.laws.crash.Torn.{ended_no_chance}
 use Rattle.vl_seglog.specs.Frames.{frames_grammar}

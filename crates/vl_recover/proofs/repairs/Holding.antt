@@ -1,12 +1,12 @@
 -- The last log is held behind its mending.
-use Rattle.std.proofs.Common.{◌≡◌, ◌⊎◌, inl, inr, ℕ, ◌+◌, ◌≤◌, List, length, refl, sym, ap, subst, ◌∙◌, arith}
+use Rattle.std.proofs.Common.{◌≡◌, inr, ℕ, ◌≤◌, refl, sym, ap, subst, ◌∙◌, arith}
 use Rattle.std.specs.Prelude.{◌&&◌, ◌==◌, ◌≢◌, if◌then◌else◌, Bool, true, false, Option, None, Some, Result, Ok, Err, IfErr, IsErr, IsErrAnd, IsTrue}
 use Rattle.std.specs.Option.{ForSome, option_map}
 use Rattle.vl_disk.specs.Calls.{ChangesNothing}
 use Rattle.vl_disk.specs.Crash.{Unchanged}
 use Rattle.vl_disk.specs.Disk.{Stands}
 use Rattle.vl_disk.specs.DiskState.{DiskState}
-use Rattle.vl_disk.specs.Faults.{HasCause, Rose, after_calls}
+use Rattle.vl_disk.specs.Faults.{Rose, after_calls}
 use Rattle.vl_disk.specs.Moments.{Elapses, While, passes_then, past_of}
 use Rattle.vl_disk.specs.Performs.{FailedAt, GoesOnTelling}
 use Rattle.vl_disk.specs.Spare.{SameSpareElsewhere, Spare}

@@ -1,6 +1,6 @@
 -- What is held of the last log behind its mending, and so what an opened store holds.
-use Rattle.std.proofs.Common.{◌≡◌, ℕ, ◌+◌, List, [], ◌∷◌, ◌++◌, append_assoc, length, take, refl, sym, ap, subst, ◌∙◌}
-use Rattle.std.specs.Prelude.{◌||◌, ◌&&◌, ◌==◌, nat_lt, if◌then◌else◌, Bool, true, false, Option, None, Some, unwrap_or}
+use Rattle.std.proofs.Common.{◌≡◌, ℕ, ◌+◌, List, [], ◌∷◌, ◌++◌, append_assoc, take, refl, sym, ap, subst, ◌∙◌}
+use Rattle.std.specs.Prelude.{◌&&◌, ◌==◌, nat_lt, if◌then◌else◌, Bool, true, false, Option, None, Some, unwrap_or}
 use Rattle.std.specs.FinMap.{get}
 use Rattle.std.specs.List.{AllZip, filter}
 use Rattle.std.specs.Option.{option_map}
@@ -15,7 +15,6 @@ use Rattle.vl_disk.specs.laws.NameMap.{get_inserted_other}
 use Rattle.vl_layout.specs.Logs.{new_segment}
 use Rattle.vl_layout.specs.declared.segment.Segment.{Segment}
 use Rattle.vl_manifest.specs.declared.state.ManifestState.{ManifestState}
-use Rattle.vl_model.specs.Formats.{log_format}
 use Rattle.vl_model.specs.declared.log_frame.LogFrame.{LogFrame}
 use Rattle.vl_recover.specs.declared.plan.LogToHold.{LogToHold}
 use Rattle.vl_recover.specs.laws.crash.AlikeLaws.{log_manifest}
@@ -28,7 +27,7 @@ use Rattle.vl_recover.specs.opening.HeldFiles.{AreHeldFound, AreHeldLogs, IsHeld
 use Rattle.vl_recover.specs.opening.Opening.{IsNextLog, Opening, StandingLogs, led_into}
 use Rattle.vl_recover.specs.opening.Plans.{log_behind, log_made, new_state}
 use Rattle.vl_recover.specs.opening.Walk.{StandingLog, format_of, has_some, keeps_header}
-use Rattle.vl_recover.specs.repairing.Holding.{IsHeld, IsHeldOn, hold_for, listed}
+use Rattle.vl_recover.specs.repairing.Holding.{IsHeld, hold_for, listed}
 use Rattle.vl_recover.specs.repairing.Repairing.{Cut, Headed, IsPlan, Kept, LastLog, Plan, Rewritten, behind_last, plan_of, repairing_of, with_last}
 use Rattle.vl_recover.specs.repairing.Repairing as repairing
 use Rattle.vl_seglog.specs.Frames.{log_bytes}

@@ -1,6 +1,5 @@
 -- The hold of the last log behind its repairing: which log is held, the room that the hold wants, and what is held then.
 use Rattle.std.specs.Prelude.{◌≡◌, ◌&&◌, ℕ, if◌then◌else◌, List, [], ◌∷◌, Option, None, Some, IsTrue}
-use Rattle.vl_disk.specs.Disk.{Stands}
 use Rattle.vl_disk.specs.DiskState.{DiskState, file_at}
 use Rattle.vl_disk.specs.Spare.{Spare}
 use Rattle.vl_disk.specs.declared.name.Name.{Name}

@@ -1,9 +1,9 @@
 -- What a crash leaves of a disk that holds a store opens as that store, which may be opened again on the same
 -- disk.
-use Rattle.std.specs.Prelude.{◌≡◌, ◌≢◌, ◌⊎◌, ◌≤◌, ◌<◌, ℕ, ◌+◌, List, [], ◌∷◌, length, map, Option, None, Some, Ok, refl, true, false}
+use Rattle.std.specs.Prelude.{◌≡◌, ◌≢◌, ◌⊎◌, ◌≤◌, ◌<◌, ℕ, ◌+◌, List, [], ◌∷◌, length, map, Option, None, Some, Ok, refl, false}
 use Rattle.std.specs.FinMap.{get}
 use Rattle.std.specs.Option.{option_map}
-use Rattle.std.proofs.Common.{sym, ap, subst, ◌∙◌, arith, inl, inr, ⊎_elim}
+use Rattle.std.proofs.Common.{sym, ap, subst, ◌∙◌, arith, ⊎_elim}
 use Rattle.std.proofs.lemmas.Bool.{cases_lt, true≢false}
 use Rattle.std.proofs.lemmas.List.Elements.{All-nil}
 use Rattle.vl_disk.specs.Crash.{Image, MayLeave, MayLeaveOne}
@@ -15,7 +15,7 @@ use Rattle.vl_layout.specs.declared.segment.Segment.{Segment}
 use Rattle.vl_manifest.specs.Current.{IsCurrent, StandsReadable}
 use Rattle.vl_manifest.specs.laws.ManifestLaws.{says_readable}
 use Rattle.vl_manifest.specs.declared.state.ManifestState.{ManifestState}
-use Rattle.vl_recover.specs.laws.crash.AlikeLaws.{led_logs_kept, levels_kept, log_same}
+use Rattle.vl_recover.specs.laws.crash.AlikeLaws.{led_logs_kept, levels_kept}
 use Rattle.vl_recover.specs.crash.Held.{AllSettled, DurableAs, GoOn, HoldsLogs, HoldsManifest, HoldsStore, IsNowhere, IsSettled, Needs, View, log_as_held, opening_held}
 use Rattle.vl_recover.specs.opening.Opening.{FoundTable, IsAmong, IsNamed, Led, NamedLevels, NamedLogs, Opening, Opens, Refusal, Says, StandingLogs, led_into}
 use Rattle.vl_recover.specs.laws.opening.OpeningLaws.{IsOpened, is_opened, opened, one_heading, single_says, some_none, some_same}

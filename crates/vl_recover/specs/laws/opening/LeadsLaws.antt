@@ -1,6 +1,6 @@
 -- The manifest that leads what a crash leaves, with the tables that it names and the logs that these lead into, and what of a
 -- held store stays where a disk changes under one name.
-use Rattle.std.specs.Prelude.{◌≡◌, ◌≢◌, ℕ, ◌+◌, ◌≤◌, ◌<◌, List, [], ◌∷◌, ◌++◌, None, Some, Result, Ok, false, refl}
+use Rattle.std.specs.Prelude.{◌≡◌, ◌≢◌, ℕ, ◌+◌, ◌≤◌, ◌<◌, List, [], ◌∷◌, ◌++◌, Ok, false, refl}
 use Rattle.std.specs.FinMap.{get}
 use Rattle.std.proofs.Common.{arith, subst, sym, ◌∙◌, ⊎_elim}
 use Rattle.std.proofs.lemmas.Bool.{cases_lt}

@@ -1,11 +1,10 @@
 -- Of the tables that a manifest names, and of the logs that these lead into, one thing can be said.
-use Rattle.std.specs.Prelude.{◌≡◌, ℕ, List, [], ◌∷◌, Option, None, Some, Result, Ok, Err, refl, true, Bool}
-use Rattle.std.specs.FinMap.{get}
+use Rattle.std.specs.Prelude.{◌≡◌, ℕ, List, [], ◌∷◌, Option, None, Some, Ok, Err, refl, true, Bool}
 use Rattle.std.proofs.Common.{sym, ap, subst, ◌∙◌}
 use Rattle.vl_disk.specs.Crash.{Image}
-use Rattle.vl_disk.specs.declared.name.Name.TheVariants.{Log, Table}
+use Rattle.vl_disk.specs.declared.name.Name.TheVariants.{Table}
 use Rattle.vl_recover.specs.laws.repairing.StageLaws.{single_then}
-use Rattle.vl_recover.specs.opening.Opening.{BeginsLog, Damaged, FoundTable, IsAbove, IsBadTable, NamedLevel, NamedLevels, NamedLog, NamedLogs, NamedTable, Refusal, StandsTable, damaged, first_key, key_before, missing, not_above}
+use Rattle.vl_recover.specs.opening.Opening.{Damaged, FoundTable, IsAbove, IsBadTable, NamedLevel, NamedLevels, NamedLog, NamedLogs, NamedTable, Refusal, StandsTable, damaged, first_key, key_before, missing, not_above}
 use Rattle.vl_recover.specs.opening.Stages.{AndThen, IsSingle}
 use Rattle.vl_table.specs.Begun.{said_place}
 use Rattle.vl_table.specs.Opening.{IsDamaged, IsRead}

@@ -1,7 +1,7 @@
 -- The new manifest is made. Whatever a crash leaves meanwhile opens as something that it could have left at the start. What it
 -- could have left then needn't say what reads give: where the new manifest can be read, all manifests could have been left as
 -- they were read; where it can't, the image without it could have been.
-use Rattle.std.specs.Prelude.{◌≡◌, ◌≢◌, ℕ, ◌+◌, ◌≤◌, ◌<◌, zero, suc, List, [], ◌∷◌, Option, None, Some, Result, Ok, refl}
+use Rattle.std.specs.Prelude.{◌≡◌, ◌≢◌, ℕ, ◌+◌, ◌≤◌, ◌<◌, zero, suc, List, [], ◌∷◌, Option, None, Some, Ok, refl}
 use Rattle.std.specs.FinMap.{get}
 use Rattle.std.specs.Option.{option_map}
 use Rattle.std.proofs.Common.{ap, arith, subst, sym, ◌∙◌, ⊎_elim}

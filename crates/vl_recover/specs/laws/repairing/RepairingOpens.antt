@@ -1,12 +1,12 @@
 -- An opening's repairing: whatever a crash leaves meanwhile opens as something that it could have left before,
 -- and then the disk holds the store.
-use Rattle.std.specs.Prelude.{◌≡◌, ◌≢◌, ◌⊎◌, ℕ, ◌+◌, ◌≤◌, ◌<◌, List, [], ◌∷◌, Option, None, Some, IsSome, Contains, false, true, refl}
+use Rattle.std.specs.Prelude.{◌≡◌, ◌≢◌, ◌⊎◌, ℕ, ◌+◌, ◌≤◌, ◌<◌, List, [], ◌∷◌, None, Some, IsSome, Contains, refl}
 use Rattle.std.specs.FinMap.{get}
 use Rattle.std.specs.Option.{option_map}
 use Rattle.std.proofs.Common.{ap, arith, inl, inr, subst, sym, ◌∙◌, ⊎_elim}
 use Rattle.std.proofs.lemmas.Bool.{cases_eq, cases_lt, true≢false}
 use Rattle.vl_disk.specs.Crash.{Image}
-use Rattle.vl_disk.specs.DiskState.{DiskState, File, IsLawful, settled}
+use Rattle.vl_disk.specs.DiskState.{DiskState, File, settled}
 use Rattle.vl_disk.specs.MadeFile.{WhileMaking, durable}
 use Rattle.vl_disk.specs.declared.name.Name.{Name}
 use Rattle.vl_disk.specs.declared.name.Name.TheVariants.{Log, Manifest, Table}
