@@ -3,7 +3,7 @@
 use crate::keys::{Order, keys};
 use crate::laps::{Laps, Report};
 use anyhow::{Result, bail};
-use vlstore::{Disk, Engine, View, Way};
+use vlstore::{CommitFail, Disk, Engine, View, Way};
 
 /// What work is done on: the keys in rising order, and the value that is written to them.
 #[derive(Drop)]
@@ -86,8 +86,23 @@ fn write<D: Disk>(store: &mut Engine<D>, key: &[u8], value: Option<&Vec<u8>>) ->
     }
     match store.commit(txn) {
         Ok(_) => Ok(()),
+        Err(CommitFail::Full { txn, .. }) => {
+            make_room(store)?;
+            match store.commit(txn) {
+                Ok(_) => Ok(()),
+                Err(_) => bail!("a commit failed"),
+            }
+        }
         Err(_) => bail!("a commit failed"),
     }
+}
+
+/// Seals the log, and writes what it has to a table.
+pub fn make_room<D: Disk>(store: &mut Engine<D>) -> Result<()> {
+    if store.rotate().is_err() || store.flush().is_err() {
+        bail!("the log wasn't sealed, or not flushed");
+    }
+    Ok(())
 }
 
 /// Reads a key, which is to have a value.
