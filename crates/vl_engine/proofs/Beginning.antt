@@ -1,14 +1,18 @@
 -- A begin is answered as the ruling has it.
-use Rattle.std.specs.Prelude.{◌≡◌, ℕ, Bool, true, false, nat_le, if◌then◌else◌, List, length, Option, Err}
+use Rattle.std.specs.Prelude.{◌≡◌, ℕ, Bool, true, false, nat_le, if◌then◌else◌, List, length, IfOk, OnErr, Option, Result, Err, Ok}
 use Rattle.std.proofs.Common.{sym, ap, subst, ◌∙◌, refl, arith}
 use Rattle.std.proofs.lemmas.List.{length-map}
 use Rattle.std.proofs.lemmas.Bool.Decides.{nat_tests}
 use Rattle.vl_engine.specs.Answers.{view_outcome}
-use Rattle.vl_engine.specs.Represents.{Fronts, StandsFor, layout_logs}
-use Rattle.vl_engine.specs.Sees.{ShowsAt}
+use Rattle.vl_engine.specs.Pointed.{layout_logs}
+use Rattle.vl_engine.specs.Represents.{Fronts, StandsFor}
+use Rattle.vl_engine.specs.Sees.{SeesAlone, ShowsAt}
 use Rattle.vl_engine.specs.declared.kept.Core.{Core}
+use Rattle.vl_engine.specs.declared.view.View.{View}
+use Rattle.vl_engine.specs.laws.LaidLaws.{laid_entries}
 use Rattle.vl_engine.specs.laws.LiveLaws.{same_free_ticket}
-use Rattle.vl_engine.specs.laws.SeesLaws.{shows_last}
+use Rattle.vl_engine.specs.laws.SeesLaws.{file_in, files_laid, shows_last}
+use Rattle.vl_front.specs.declared.front.Front.{Front}
 use Rattle.vl_layout.specs.Decides.{Answered, Decides, NoMemory, as_before, no_effects}
 use Rattle.vl_layout.specs.Ruling.{Ruling, leaving}
 use Rattle.vl_layout.specs.Rulings.Begin.{BeginAnswer, Begun, TooMany, begin_ruling, begun}
@@ -22,6 +26,10 @@ use Rattle.vl_oracle.specs.LiveTickets.{LiveTickets}
 use Rattle.vl_oracle.specs.LiveTickets as oracle
 use Rattle.vl_oracle.specs.declared.begin_fail.BeginFail.{BeginFail}
 use Rattle.vl_oracle.specs.declared.begin_fail.BeginFail.TheVariants as fails
+use Rattle.vl_table.specs.Kept.{Files}
+use Rattle.vl_table.specs.KeptBlocks.{AreKept, ReadsOf}
+use Rattle.vl_table.specs.declared.block_reader.BlockReader.{BlockReader}
+use Rattle.vl_version.specs.Sources.{tables_in}
 use Rattle.vl_version.specs.declared.version.Version.{Version}
 
 -- ---- by what is live
@@ -112,20 +120,37 @@ module _ {H : Type 0} (core : Core H) (h : History) (l : Layout) (is : Fronts co
   pub ticket_is : oracle.free_ticket core.front.oracle ≡ free_ticket (tickets_of l.live)
   ticket_is = same_free_ticket core.front.oracle.tickets ∙ ap free_ticket is.front.live_are
 
+-- a begin leaves the last number
+pub last_begun : (result : Result ℕ BeginFail) (before after : Front)
+    → IfOk result (λ ticket. (ticket ≡ oracle.free_ticket before.oracle) × (after.oracle ≡ oracle.begun before.oracle))
+    → OnErr result (after ≡ before) → after.oracle.last ≡ before.oracle.last
+last_begun (Ok ticket) before after ok err = ap (λ (o : LiveTickets). o.last) ok.1
+last_begun (Err why) before after ok err = ap (λ (f : Front). f.oracle.last) err
+
 -- ---- what is seen
 
--- Sources that show the history up to its last number are seen there.
-pub sees_now : {H : Type 0} (bytes : H → Option (List ℕ)) (core : Core H) (h : History) (l : Layout)
-    → StandsFor bytes core h l → (version : Version H) → version ≡ core.version → (number : ℕ) → number ≡ last_number h
-    → ShowsAt bytes version h number
-sees_now bytes core h l is version same number last =
-    subst (λ v. ShowsAt bytes v h number) (sym same) (subst (ShowsAt bytes core.version h) (sym last) (record {
-      entries_of = sources l;
-      logs = layout_logs l;
-      has = is.sources_are;
-      shows = shows_last (layout_logs l) l h is.tidy.shows;
-      without_tables = is.without_tables;
-      alone = is.alone;
-      readable = omega arith;
-      known = omega arith;
-    }))
+-- Sources that show the history up to its last number are seen there, through a reader that keeps no block of other files.
+module _ {H : Type 0} (bytes : H → Option (List ℕ)) (core : Core H) (h : History) (l : Layout) (is : StandsFor bytes core h l) where
+  sees_version : ShowsAt bytes core.version h (last_number h)
+  sees_version = record {
+    entries_of = sources l;
+    logs = layout_logs l;
+    has = laid_entries bytes core.version l is.has h is.tidy;
+    shows = shows_last (layout_logs l) l h is.tidy.shows;
+    readable = omega arith;
+    known = omega arith;
+  }
+
+  reads_version : {R : Type 0} (reader : BlockReader R) → AreKept (file_in bytes (tables_in core.version)) reader
+      → ReadsOf bytes (file_in bytes (tables_in core.version)) reader (tables_in core.version)
+  reads_version reader kept = record { kept = kept; told = files_laid bytes core.version l is.has is.tidy.levels }
+
+  pub sees_now : {R : Type 0} (view : View H R) → view.version ≡ core.version → view.number ≡ last_number h
+      → ((files : Files) → AreKept files view.reader) → SeesAlone bytes view h
+  sees_now view same last kept = record {
+    version = subst (λ (v : Version H). ShowsAt bytes v h view.number) (sym same)
+        (subst (ShowsAt bytes core.version h) (sym last) sees_version);
+    files = file_in bytes (tables_in core.version);
+    reader = subst (λ (v : Version H). ReadsOf bytes (file_in bytes (tables_in core.version)) view.reader (tables_in v)) (sym same)
+        (reads_version view.reader (kept (file_in bytes (tables_in core.version))));
+  }

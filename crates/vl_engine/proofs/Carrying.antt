@@ -3,6 +3,7 @@ use Rattle.std.specs.Prelude.{◌≡◌, ◌≤◌, ℕ, ◌+◌, T, List, [], l
 use Rattle.std.specs.FinMap.{from_sorted, is_sorted}
 use Rattle.std.specs.Option.{option_map}
 use Rattle.std.proofs.Common.{sym, ap, subst, ◌∙◌, append-nil, arith, ⊎_elim}
+use Rattle.vl_back.specs.declared.back.Back.{Back}
 use Rattle.vl_disk.specs.Calls.{ChangesNothing}
 use Rattle.vl_disk.specs.Crash.{Unchanged, WhileAppending, WhileSyncing}
 use Rattle.vl_disk.specs.Disk.{IsChangedBy}
@@ -16,10 +17,10 @@ use Rattle.vl_engine.proofs.Represented.{represents_committed, represents_halted
 use Rattle.vl_engine.proofs.Standing.{tidy_then}
 use Rattle.vl_engine.specs.Carries.{Carries, CrashesShow, Tells}
 use Rattle.vl_engine.specs.Held.{IsBase}
+use Rattle.vl_engine.specs.Pointed.{layout_logs}
 use Rattle.vl_engine.specs.Represents.{IsHeld, Represents, StandsFor, file_of}
-use Rattle.vl_engine.specs.Shown.{LeavesBetween, no_logs}
+use Rattle.vl_engine.specs.Shown.{LeavesBetween}
 use Rattle.vl_engine.specs.Writing.{WhileWriting, written}
-use Rattle.vl_engine.specs.declared.kept.Back.{Back}
 use Rattle.vl_engine.specs.declared.kept.Core.{Core}
 use Rattle.vl_engine.specs.laws.CommitLaws.{append_opens_again, append_shows, commit_base, commit_holds, sync_opens_again, sync_shows}
 use Rattle.vl_engine.specs.laws.HeldLaws.{held_opens_again, held_shown}
@@ -52,7 +53,7 @@ extends_itself h = record { first = refl; base = refl; later = []; commits = sym
 module _ {D : Type 0} (g : Ghosts D) (watched : IsWatched g) where
   -- ---- nothing is changed
 
-  module _ (h : History) (l : Layout) (tidy : IsTidy no_logs l h) (back : Back) where
+  module _ (h : History) (l : Layout) (tidy : IsTidy (layout_logs l) l h) (back : Back) where
     held_leaves : (disk : D) (held : IsHeld back (g.told disk) h l) → LeavesBetween h h held.state
     held_leaves disk held image left =
         between_itself h image (held_shown held.base l h held.is_base tidy held.state held.holds image left.left)
@@ -69,7 +70,8 @@ module _ {D : Type 0} (g : Ghosts D) (watched : IsWatched g) where
         (λ now same. subst (LeavesBetween h h) (sym same) (held_leaves old held))
 
     pub opens_again : (disk : D) → IsHeld back (g.told disk) h l → Tells g disk MayOpen
-    opens_again disk held = (held.state, held.told_is, held_opens_again held.base l held.state held.holds)
+    opens_again disk held =
+        (held.state, held.told_is, held_opens_again held.base l h held.is_base held.state tidy.levels held.holds)
 
   shows_wider : (old new : D) (h k : History) → Extends h k → CrashesShow g old new h h → CrashesShow g old new h k
   shows_wider old new h k extends goes =
@@ -110,8 +112,11 @@ module _ {D : Type 0} (g : Ghosts D) (watched : IsWatched g) where
       called = λ a said. absurd cc;
       through = λ running. shows_wider old new h ruling.history extends
           (looked h l is.stands.tidy core.back old new failed no_change (is.held running));
-      again = λ running. let held = is.held running in
-          (held.state, no_change.told ∙ held.told_is, held_opens_again held.base l held.state held.holds);
+      again = λ running. let held = is.held running in (
+        held.state,
+        no_change.told ∙ held.told_is,
+        held_opens_again held.base l h held.is_base held.state is.stands.tidy.levels held.holds,
+      );
     }
 
   -- ---- a frame is written
@@ -134,10 +139,10 @@ module _ {D : Type 0} (g : Ghosts D) (watched : IsWatched g) where
     held : IsHeld core.back (g.told old) h l
     held = is.held accepted.running
 
-    abbrev tidy : IsTidy no_logs l h
+    abbrev tidy : IsTidy (layout_logs l) l h
     tidy = is.stands.tidy
 
-    tidy_longer : IsTidy no_logs (committed l h t).layout (with_commit h (from_sorted t.writes))
+    tidy_longer : IsTidy (layout_logs l) (committed l h t).layout (with_commit h (from_sorted t.writes))
     tidy_longer = tidy_then bytes core core h l is.stands t rising accepted
 
     has_so : (base : IsBase held.base l h) → HasFrame (frames_grammar l.active.format) (commit_frame h t.writes)
@@ -181,7 +186,7 @@ module _ {D : Type 0} (g : Ghosts D) (watched : IsWatched g) where
     now_may_open now told = ⊎_elim
         (λ (before : g.states_since mid (g.moment mid) now).
         subst MayOpen (sym (watched.only_now mid held.state now told_mid before))
-        (held_opens_again held.base l held.state held.holds))
+        (held_opens_again held.base l h held.is_base held.state tidy.levels held.holds))
         (λ (during : While (g.told mid) (WhileWriting name frame) now).
         writing_may_open now
         (subst (λ (piece : List ℕ). WhileWriting name piece held.state now) (frame_whole held.is_base) (during held.state told_mid)))

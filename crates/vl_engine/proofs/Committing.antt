@@ -4,6 +4,7 @@ use Rattle.std.specs.FinMap.{entries, entries_sorted, from_sorted, get-entries, 
 use Rattle.std.specs.Cmp.Lexicographic.{nat_list_cmp_total}
 use Rattle.std.specs.Option.{option_map}
 use Rattle.std.proofs.Common.{sym, ap, subst, ◌∙◌}
+use Rattle.vl_back.specs.declared.back.Back.{Back}
 use Rattle.vl_conflict.specs.Recent.{Remembers}
 use Rattle.vl_disk.specs.Disk.{IsChangedBy}
 use Rattle.vl_disk.specs.DiskState.{DiskState}
@@ -15,12 +16,11 @@ use Rattle.vl_engine.proofs.Knowing.{knows_of}
 use Rattle.vl_engine.proofs.Represented.{represents_live}
 use Rattle.vl_engine.proofs.Standing.{decides_as, fronts_committed, fronts_ended, fronts_halted, stands_committed, stands_ended, stands_halted}
 use Rattle.vl_engine.specs.Carries.{Carries}
+use Rattle.vl_engine.specs.Laid.{HasLayout}
 use Rattle.vl_engine.specs.Represents.{Fronts, Represents, StandsFor, file_of}
-use Rattle.vl_engine.specs.Shown.{no_logs}
 use Rattle.vl_engine.specs.Staging.{next_frame}
 use Rattle.vl_engine.specs.Steps.{IsFailed, IsUnwritten, IsWritten, frame_of}
 use Rattle.vl_engine.specs.Writing.{WhileWriting, written}
-use Rattle.vl_engine.specs.declared.kept.Back.{Back}
 use Rattle.vl_engine.specs.declared.kept.Core.{Core}
 use Rattle.vl_engine.specs.laws.FrontLaws.{front_known}
 use Rattle.vl_engine.specs.laws.RulingLaws.{IsAccepted, answered_accepted, ruled, ruled_so}
@@ -34,7 +34,6 @@ use Rattle.vl_layout.specs.Decides.{Answered, Decides, Effects, Failed, NoMemory
 use Rattle.vl_layout.specs.Logs.{frame_entries}
 use Rattle.vl_layout.specs.Ruling.{Ruling, ended, halted_at, leaving}
 use Rattle.vl_layout.specs.Rulings.Commit.{At, CommitAnswer, Transaction, commit_frame, commit_lost, commit_ruling, committed}
-use Rattle.vl_layout.specs.Sources.{sources}
 use Rattle.vl_layout.specs.declared.file_name.FileName.{FileName}
 use Rattle.vl_layout.specs.declared.layout.Layout.{Layout}
 use Rattle.vl_model.specs.Conflicts.{first_conflict}
@@ -50,7 +49,6 @@ use Rattle.vl_model.specs.laws.HistoryLaws.{with_commit-extends}
 use Rattle.vl_oracle.specs.LiveTickets.{LiveTickets, floor_of}
 use Rattle.vl_seglog.specs.Frames.{frame_at, frames_grammar}
 use Rattle.vl_seglog.specs.declared.active.ActiveLog.{ActiveLog}
-use Rattle.vl_version.specs.Sources.{HasEntries, tables_in}
 use Rattle.vl_version.specs.declared.version.Version.{Version}
 
 -- ---- decisions, whatever stands then
@@ -128,17 +126,11 @@ module _ {H : Type 0} (bytes : H → Option (List ℕ)) (before after : Core H) 
   }
 
   pub stands_same : after.version ≡ before.version → StandsFor bytes before h l → StandsFor bytes after h l
-  stands_same version is =
-      let alone = ap (λ (v : Version H). v.behind.logs.items) version ∙ is.alone in
-      record {
-        fronts = fronts_same is.fronts;
-        sources_are = subst (λ (v : Version H). HasEntries bytes v (sources l) no_logs) (sym version) is.sources_are;
-        active_is = ap (λ (v : Version H). v.active.entries) version ∙ is.active_is;
-        tidy = is.tidy;
-        bare = is.bare;
-        without_tables = ap tables_in version ∙ is.without_tables;
-        alone = alone;
-      }
+  stands_same version is = record {
+    fronts = fronts_same is.fronts;
+    has = subst (λ (v : Version H). HasLayout bytes v l) (sym version) is.has;
+    tidy = is.tidy;
+  }
 
 -- ---- a commit's exits
 

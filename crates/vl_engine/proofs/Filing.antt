@@ -67,7 +67,7 @@ files_changed name change disk q = (standing, (λ none. none, λ none. none))
         (λ none. sym elsewhere ∙ none, λ none. elsewhere ∙ none))
         (same_or_other q name)
 
-files_written : (name : Name) (frame : List ℕ) (disk : DiskState) → HasSameFiles disk (written name frame disk)
+pub files_written : (name : Name) (frame : List ℕ) (disk : DiskState) → HasSameFiles disk (written name frame disk)
 files_written name frame disk =
     let mid = appended name frame (length frame) disk in
     files_then disk mid (written name frame disk) (files_changed name (lengthened frame (length frame)) disk)

@@ -2,11 +2,11 @@
 use Rattle.std.specs.Prelude.{◌≡◌, ℕ, List, Option, Some}
 use Rattle.std.specs.FinMap.{from_sorted}
 use Rattle.std.proofs.Common.{sym, subst}
+use Rattle.vl_back.specs.declared.back.Back.{Back}
 use Rattle.vl_disk.specs.DiskState.{DiskState}
 use Rattle.vl_disk.specs.declared.name.Name.{Name}
 use Rattle.vl_engine.specs.Held.{Base, Holds, IsBase}
 use Rattle.vl_engine.specs.Represents.{IsBack, IsHeld, Represents, StandsFor, file_of}
-use Rattle.vl_engine.specs.declared.kept.Back.{Back}
 use Rattle.vl_engine.specs.declared.kept.Core.{Core}
 use Rattle.vl_layout.specs.Ruling.{halted_at}
 use Rattle.vl_layout.specs.Rulings.Commit.{Transaction, committed}
@@ -19,25 +19,37 @@ held_live : (back : Back) (told : Option DiskState) (h : History) (l : Layout) (
     → IsHeld back told h (record l { live = live })
 held_live back told h l live held =
     let b = held.is_base in
+    let k = held.back_is in
+    let d = held.holds in
     record {
       state = held.state;
       told_is = held.told_is;
       base = held.base;
       is_base = record {
+        numbered = b.numbered;
+        made = b.made;
         goes = b.goes;
+        levels = b.levels;
         frozen = b.frozen;
-        bare = b.bare;
+        led = b.led;
         keep = b.keep;
         since = b.since;
         covered = b.covered;
         format = b.format;
       };
       back_is = record {
-        state = held.back_is.state;
-        next_log = held.back_is.next_log;
-        next_table = held.back_is.next_table;
+        manifest = k.manifest;
+        state = k.state;
+        next_log = k.next_log;
+        next_table = k.next_table;
+        waiting = k.waiting;
       };
-      holds = record { store = held.holds.store; lawful = held.holds.lawful };
+      holds = record {
+        base = d.base;
+        files = record { logs = d.files.logs; tables = d.files.tables; flushed = d.files.flushed };
+        durable = d.durable;
+        lawful = d.lawful;
+      };
     }
 
 module _ {H : Type 0} (bytes : H → Option (List ℕ)) (core after : Core H) (h : History) (l : Layout)
@@ -75,7 +87,13 @@ module _ {H : Type 0} (bytes : H → Option (List ℕ)) (core after : Core H) (h
       base = b;
       is_base = base;
       back_is = subst (λ (k : Back). IsBack k b (committed l h t).layout) (sym back)
-          (record { state = is_back.state; next_log = is_back.next_log; next_table = is_back.next_table });
+          (record {
+            manifest = is_back.manifest;
+            state = is_back.state;
+            next_log = is_back.next_log;
+            next_table = is_back.next_table;
+            waiting = is_back.waiting;
+          });
       holds = holds;
     };
   }

@@ -1,15 +1,16 @@
 -- What reads leave of what a transaction sees.
-use Rattle.std.specs.Prelude.{IsErrAnd, ◌≡◌, ℕ, List, [], ◌∷◌, ◌++◌, is_some, if◌then◌else◌, option_and_then, Option, None, Some, Result, Ok, Err}
+use Rattle.std.specs.Prelude.{IsErrAnd, OnErr, ◌≡◌, ℕ, List, [], ◌∷◌, ◌++◌, is_some, if◌then◌else◌, option_and_then, Option, None, Some, Result, Ok, Err}
 use Rattle.std.specs.FinMap.{get}
 use Rattle.std.specs.Option.{option_map}
 use Rattle.std.proofs.Common.{ap, refl, sym, subst, ◌∙◌}
 use Rattle.vl_disk.specs.declared.name.Name.{Name}
-use Rattle.vl_engine.specs.Reading.{IsFound, IsSound, value_under, written_value}
+use Rattle.vl_engine.specs.Reading.{IsFound, IsSound, ReadFailed, value_under, written_value}
 use Rattle.vl_engine.specs.Refusing.{as_failed_read}
-use Rattle.vl_engine.specs.Sees.{Sees, ShowsAt}
+use Rattle.vl_engine.specs.Sees.{Sees, SeesAlone, ShowsAt}
 use Rattle.vl_engine.specs.declared.fails.ReadFail.{ReadFail}
 use Rattle.vl_engine.specs.declared.fails.ReadFail.TheVariants as fails
 use Rattle.vl_engine.specs.declared.txn.Txn.{Txn}
+use Rattle.vl_engine.specs.declared.view.View.{View}
 use Rattle.vl_engine.specs.laws.ReadLaws.{value_led, winner_leads}
 use Rattle.vl_layout.specs.Shows.{Shows}
 use Rattle.vl_model.specs.History.{History, contents_at, value_at, value_left}
@@ -20,9 +21,10 @@ use Rattle.vl_model.specs.Winners.{Logs, winner}
 use Rattle.vl_model.specs.declared.change.Change.{Change}
 use Rattle.vl_model.specs.declared.entry.Entry.{Entry}
 use Rattle.vl_model.specs.declared.way.Way.{Way}
-use Rattle.vl_txn.specs.Reads.{NotesGet, NotesScan, scan_of, with_get, with_scan}
+use Rattle.vl_txn.specs.Reads.{Notes, NotesGet, NotesScan, scan_of, with_get, with_scan}
 use Rattle.vl_seglog.specs.Sealed.{IsHere, IsSmall}
-use Rattle.vl_table.specs.KeptBlocks.{ReadsOf}
+use Rattle.vl_table.specs.Kept.{Files}
+use Rattle.vl_table.specs.KeptBlocks.{AreKept, ReadsOf}
 use Rattle.vl_table.specs.declared.block_reader.BlockReader.{BlockReader}
 use Rattle.vl_version.specs.Answers.{IsAnswer, value_of}
 use Rattle.vl_version.specs.Answers as held
@@ -33,25 +35,39 @@ use Rattle.vl_version.specs.declared.found.Found.{Found}
 use Rattle.vl_version.specs.declared.found.Found.TheVariants as found
 use Rattle.vl_version.specs.declared.version.Version.{Version}
 use Rattle.vl_version.specs.Sources.{tables_in}
-use Rattle.vl_version.specs.laws.NoTables.{no_files, reads_of_none}
 
 -- ---- faults
 
--- Where nothing is astray and no log is read, a read that fails has met neither damage nor a fault of its reader.
+-- Where nothing is astray, a read that fails has met no damage.
 pub fault_sound : {T U : Type 0} (good : T → Type 0) (bad : Name → ℕ → Type 0) → ((name : Name) (place : ℕ) → bad name place → ⊥)
-    → (fault : VersionFault) → (Failed {T = T} (Err fault) → ⊥) → IsAnswer good bad (Err fault)
+    → (fault : VersionFault) → IsAnswer good bad (Err fault)
     → (result : Result U ReadFail) → IsErrAnd result (λ why. why ≡ as_failed_read fault) → IsSound result
-fault_sound good bad fine fault alone is (Ok answer) failed = absurd failed
-fault_sound {U = U} good bad fine faults.NoMemory alone is (Err e) failed =
-    subst (λ (e : ReadFail). IsSound {T = U} (Err e)) (sym failed) ((λ (b : ⊥). b), λ (b : ⊥). b)
-fault_sound good bad fine (faults.Disk name) alone is (Err e) failed = absurd (alone tt)
-fault_sound good bad fine (faults.Damaged name place) alone is (Err e) failed = absurd (fine name place is)
+fault_sound good bad fine fault is (Ok answer) failed = absurd failed
+fault_sound {U = U} good bad fine faults.NoMemory is (Err e) failed =
+    subst (λ (e : ReadFail). IsSound {T = U} (Err e)) (sym failed) (λ (b : ⊥). b)
+fault_sound {U = U} good bad fine (faults.Disk name) is (Err e) failed =
+    subst (λ (e : ReadFail). IsSound {T = U} (Err e)) (sym failed) (λ (b : ⊥). b)
+fault_sound good bad fine (faults.Damaged name place) is (Err e) failed = absurd (fine name place is)
+
+-- Where no file is read, its reader hasn't failed.
+pub fault_near : (T U : Type 0) (fault : VersionFault) → (Failed {T = T} (Err fault) → ⊥)
+    → (result : Result U ReadFail) → IsErrAnd result (λ why. why ≡ as_failed_read fault) → ReadFailed result → ⊥
+fault_near T U fault near (Ok answer) failed = absurd failed
+fault_near T U faults.NoMemory near (Err e) failed =
+    subst (λ (e : ReadFail). ReadFailed {T = U} (Err e) → ⊥) (sym failed) (λ (b : ⊥). b)
+fault_near T U (faults.Disk name) near (Err e) failed = absurd (near tt)
+fault_near T U (faults.Damaged name place) near (Err e) failed =
+    subst (λ (e : ReadFail). ReadFailed {T = U} (Err e) → ⊥) (sym failed) (λ (b : ⊥). b)
 
 -- and no damage.
 pub undamaged : {T : Type 0} (good : T → Type 0) (bad : Name → ℕ → Type 0) → ((name : Name) (place : ℕ) → bad name place → ⊥)
     → (fault : VersionFault) → IsAnswer good bad (Err fault) → (name : Name) (place : ℕ) → fault ≡ faults.Damaged name place → ⊥
 undamaged {T} good bad fine fault is name place at =
     fine name place (subst (λ (f : VersionFault). IsAnswer {T = T} good bad (Err f)) at is)
+
+-- so a fault of a reader isn't met where none comes
+pub unfailed : (T : Type 0) (fault : VersionFault) (name : Name) → fault ≡ faults.Disk name → (Failed {T = T} (Err fault) → ⊥) → ⊥
+unfailed T fault name is near = subst (λ (f : VersionFault). Failed {T = T} (Err f) → ⊥) is near tt
 
 -- a failure that is handed on is as sound
 sound_still : (T U : Type 0) (why : ReadFail) → IsSound {T = T} (Err why) → IsSound {T = U} (Err why)
@@ -67,12 +83,21 @@ handed_on T U why sound (Ok answer) failed = absurd failed
 handed_on T U why sound (Err e) failed =
     subst (λ (f : ReadFail). IsSound {T = U} (Err f)) (sym failed) (sound_still T U why sound)
 
--- ---- without tables
+-- what holds in any case holds behind a failure
+pub on_error : (T E P : Type 0) (result : Result T E) → P → OnErr result P
+on_error T E P (Ok answer) holds = tt
+on_error T E P (Err why) holds = holds
 
--- any reader reads of a version that has none
-pub reads_untabled : {H R : Type 0} (bytes : H → Option (List ℕ)) (version : Version H) (reader : BlockReader R)
-    → tables_in version ≡ [] → ReadsOf bytes no_files reader (tables_in version)
-reads_untabled bytes version reader none = subst (ReadsOf bytes no_files reader) (sym none) (reads_of_none bytes reader)
+-- ---- what the reader keeps
+
+-- with another reader in its place
+abbrev pub with_reader : {R : Type 0} → BlockReader R → R → BlockReader R
+with_reader b reader = record b { reader = reader }
+
+pub kept_beside : {R : Type 0} (files : Files) (old new : BlockReader R) → new ≡ with_reader old new.reader
+    → AreKept files old → AreKept files new
+kept_beside files old new same kept =
+    subst (AreKept files) (sym same) (record { front = kept.front; others = kept.others })
 
 -- ---- what is read into the caller's bytes
 
@@ -117,14 +142,33 @@ one_read_more own reads key answer none =
     ap (λ (change : Option Change). if is_some change then reads else (reads ++ KeyRead key answer ∷ [])) none
 
 module _ {H R : Type 0} (bytes : H → Option (List ℕ)) (old new : Txn H R) (h : History) (reads : List Read)
-    (sees : Sees bytes old h reads) where
+    (sees : Sees bytes old h reads) (version : new.version ≡ old.version) (number : new.number ≡ old.number)
+    (kept : AreKept sees.files new.reader) where
+  shows_still : ShowsAt bytes new.version h new.number
+  shows_still = subst (λ (n : ℕ). ShowsAt bytes new.version h n) (sym number)
+      (subst (λ v. ShowsAt bytes v h old.number) (sym version) sees.version)
+
+  reads_still : ReadsOf bytes sees.files new.reader (tables_in new.version)
+  reads_still = subst (λ (v : Version H). ReadsOf bytes sees.files new.reader (tables_in v)) (sym version)
+      (record { kept = kept; told = sees.reader.told })
+
+  -- behind a read that gave nothing
+  pub sees_still : new.reads ≡ old.reads → Sees bytes new h reads
+  sees_still same = record {
+    version = shows_still;
+    files = sees.files;
+    reader = reads_still;
+    notes = subst (λ (r : Notes). AreNotesOf reads r.keys r.spans) (sym same) sees.notes;
+    explained = subst (λ (n : ℕ). IsExplained h n reads) (sym number) sees.explained;
+  }
+
   -- behind a get of a key that it hasn't written
-  pub sees_get : (key : List ℕ) → new.version ≡ old.version → new.number ≡ old.number → get old.writes key ≡ None
-      → NotesGet old.writes key old.reads new.reads
+  pub sees_get : (key : List ℕ) → get old.writes key ≡ None → NotesGet old.writes key old.reads new.reads
       → Sees bytes new h (reads ++ KeyRead key (value_at h old.number key) ∷ [])
-  sees_get key version number none noted = record {
-    version = subst (λ (n : ℕ). ShowsAt bytes new.version h n) (sym number)
-        (subst (λ v. ShowsAt bytes v h old.number) (sym version) sees.version);
+  sees_get key none noted = record {
+    version = shows_still;
+    files = sees.files;
+    reader = reads_still;
     notes = subst (λ (rs : List Read). AreNotesOf rs new.reads.keys new.reads.spans)
         (one_read_more old.writes reads key (value_at h old.number key) none) (noted reads (value_at h old.number key) sees.notes);
     explained = subst (λ (n : ℕ). IsExplained h n (reads ++ KeyRead key (value_at h old.number key) ∷ [])) (sym number)
@@ -133,17 +177,28 @@ module _ {H R : Type 0} (bytes : H → Option (List ℕ)) (old new : Txn H R) (h
 
   -- behind a scan
   pub sees_scan : (low high : List ℕ) (limit : ℕ) (way : Way) (given rows : List Row) → given ≡ rows
-      → new.version ≡ old.version → new.number ≡ old.number
       → rows ≡ rows_of (contents_at h old.number) (scan_of low high limit way rows old.writes)
       → NotesScan (scan_of low high limit way given) old.reads new.reads
       → Sees bytes new h (with_scan reads (scan_of low high limit way rows old.writes))
-  sees_scan low high limit way given rows same version number is noted =
+  sees_scan low high limit way given rows same is noted =
       let scan = scan_of low high limit way rows old.writes in
       record {
-        version = subst (λ (n : ℕ). ShowsAt bytes new.version h n) (sym number)
-            (subst (λ v. ShowsAt bytes v h old.number) (sym version) sees.version);
+        version = shows_still;
+        files = sees.files;
+        reader = reads_still;
         notes = subst (λ (rs : List Row). AreNotesOf (with_scan reads (scan_of low high limit way rs old.writes)) new.reads.keys new.reads.spans)
             same (noted reads old.writes sees.notes);
         explained = subst (λ (n : ℕ). IsExplained h n (with_scan reads scan)) (sym number)
             (explained_too h old.number reads (RangeRead scan) sees.explained is);
       }
+
+-- behind any read of a view
+pub sees_alone_still : {H R : Type 0} (bytes : H → Option (List ℕ)) (old new : View H R) (h : History) (sees : SeesAlone bytes old h)
+    → new.version ≡ old.version → new.number ≡ old.number → AreKept sees.files new.reader → SeesAlone bytes new h
+sees_alone_still {H} bytes old new h sees version number kept = record {
+  version = subst (λ (n : ℕ). ShowsAt bytes new.version h n) (sym number)
+      (subst (λ v. ShowsAt bytes v h old.number) (sym version) sees.version);
+  files = sees.files;
+  reader = subst (λ (v : Version H). ReadsOf bytes sees.files new.reader (tables_in v)) (sym version)
+      (record { kept = kept; told = sees.reader.told });
+}

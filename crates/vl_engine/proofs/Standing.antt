@@ -1,22 +1,22 @@
 -- What an engine stands for in memory, behind a begin, an end, a commit and a halt.
-use Rattle.std.specs.Prelude.{◌≡◌, ℕ, ◌+◌, false, nat_le, List, [], ◌++◌, length, Option, Some, T}
+use Rattle.std.specs.Prelude.{◌≡◌, ℕ, ◌+◌, false, nat_le, List, ◌++◌, length, Option, Some, T}
 use Rattle.std.specs.FinMap.{from_sorted, is_sorted}
 use Rattle.std.specs.Option.{option_map}
 use Rattle.std.proofs.Common.{sym, ap, subst, ◌∙◌}
+use Rattle.vl_back.specs.declared.back.Back.{Back}
 use Rattle.vl_disk.specs.declared.name.Name.{Name}
 use Rattle.vl_engine.proofs.Halted.{tidy_halted}
+use Rattle.vl_engine.specs.Laid.{HasLayout}
+use Rattle.vl_engine.specs.Pointed.{layout_logs}
 use Rattle.vl_engine.specs.Represents.{Fronts, IsFront, StandsFor, file_of}
-use Rattle.vl_engine.specs.Shown.{no_logs}
-use Rattle.vl_engine.specs.declared.kept.Back.{Back}
 use Rattle.vl_engine.specs.declared.kept.Core.{Core}
 use Rattle.vl_engine.specs.laws.FrontLaws.{front_begun, front_committed, front_ended, front_known}
 use Rattle.vl_engine.specs.laws.RulingLaws.{DecidesAs, IsAccepted}
-use Rattle.vl_engine.specs.laws.VersionLaws.{active_committed, entries_held, has_entries, next_entries, sources_committed}
+use Rattle.vl_engine.specs.laws.VersionLaws.{laid_committed, laid_halted, laid_live, next_entries}
 use Rattle.vl_front.specs.Front.{Knows, SameLog}
 use Rattle.vl_layout.specs.Ruling.{Ruling, ended, halted_at}
 use Rattle.vl_layout.specs.Rulings.Begin.{begun}
 use Rattle.vl_layout.specs.Rulings.Commit.{CommitAnswer, Transaction, committed}
-use Rattle.vl_layout.specs.Sources.{sources}
 use Rattle.vl_layout.specs.Tickets.{free_ticket, tickets_of}
 use Rattle.vl_layout.specs.Tidy.{IsRuledTidy, IsTidy}
 use Rattle.vl_layout.specs.declared.layout.Layout.{Layout}
@@ -29,8 +29,6 @@ use Rattle.vl_model.specs.Limits.{max_live}
 use Rattle.vl_oracle.specs.LiveTickets as oracle
 use Rattle.vl_oracle.specs.LiveTickets.{LiveTickets}
 use Rattle.vl_seglog.specs.declared.active.ActiveLog.{ActiveLog}
-use Rattle.vl_version.specs.Sources.{HasEntries, tables_in}
-use Rattle.vl_version.specs.levels.LevelsLooked.{tables_of}
 use Rattle.vl_version.specs.declared.version.Version.{Version}
 
 -- ---- what decides
@@ -131,64 +129,46 @@ fronts_halted core after h l name is live named log room halted back = record {
 module _ {H : Type 0} (bytes : H → Option (List ℕ)) (core after : Core H) (h : History) (l : Layout)
     (is : StandsFor bytes core h l) where
   module _ (same : after.version ≡ core.version) where
-    entries_kept : HasEntries bytes after.version (sources l) no_logs
-    entries_kept = subst (λ (v : Version H). HasEntries bytes v (sources l) no_logs) (sym same) is.sources_are
+    has_still : HasLayout bytes after.version l
+    has_still = subst (λ (v : Version H). HasLayout bytes v l) (sym same) is.has
 
     pub stands_begun : Fronts after h (begun l (free_ticket (tickets_of l.live)) (last_number h))
         → StandsFor bytes after h (begun l (free_ticket (tickets_of l.live)) (last_number h))
-    stands_begun fronts = record {
-      fronts = fronts;
-      sources_are = entries_kept;
-      active_is = ap (λ (v : Version H). v.active.entries) same ∙ is.active_is;
-      tidy = tidy_begun no_logs l h is.tidy (free_ticket (tickets_of l.live));
-      bare = is.bare;
-      without_tables = ap tables_in same ∙ is.without_tables;
-      alone = ap (λ (v : Version H). v.behind.logs.items) same ∙ is.alone;
-    }
+    stands_begun fronts =
+        let ticket = free_ticket (tickets_of l.live) in
+        record {
+          fronts = fronts;
+          has = laid_live bytes after.version l has_still (begun l ticket (last_number h)).live;
+          tidy = tidy_begun (layout_logs l) l h is.tidy ticket;
+        }
 
     pub stands_ended : (ticket : ℕ) → Fronts after h (ended ticket l) → StandsFor bytes after h (ended ticket l)
     stands_ended ticket fronts = record {
       fronts = fronts;
-      sources_are = entries_kept;
-      active_is = ap (λ (v : Version H). v.active.entries) same ∙ is.active_is;
-      tidy = tidy_ended no_logs l h is.tidy ticket;
-      bare = is.bare;
-      without_tables = ap tables_in same ∙ is.without_tables;
-      alone = ap (λ (v : Version H). v.behind.logs.items) same ∙ is.alone;
+      has = laid_live bytes after.version l has_still (ended ticket l).live;
+      tidy = tidy_ended (layout_logs l) l h is.tidy ticket;
     }
 
     pub stands_halted : (name : Name) → Fronts after h (halted_at (file_of name) l)
         → StandsFor bytes after h (halted_at (file_of name) l)
     stands_halted name fronts = record {
       fronts = fronts;
-      sources_are = entries_kept;
-      active_is = ap (λ (v : Version H). v.active.entries) same ∙ is.active_is;
-      tidy = tidy_halted (file_of name) no_logs l h is.tidy;
-      bare = is.bare;
-      without_tables = ap tables_in same ∙ is.without_tables;
-      alone = ap (λ (v : Version H). v.behind.logs.items) same ∙ is.alone;
+      has = laid_halted bytes after.version l has_still (file_of name);
+      tidy = tidy_halted (file_of name) (layout_logs l) l h is.tidy;
     }
 
   -- Behind a commit that was accepted.
   module _ (t : Transaction) (rising : T (is_sorted key_cmp t.writes)) (accepted : IsAccepted l h t) where
-    pub tidy_then : IsTidy no_logs (committed l h t).layout (with_commit h (from_sorted t.writes))
-    tidy_then = subst (λ (r : Ruling CommitAnswer). IsRuledTidy no_logs r) accepted.ruling (commit_tidy no_logs l h is.tidy t rising)
+    pub tidy_then : IsTidy (layout_logs l) (committed l h t).layout (with_commit h (from_sorted t.writes))
+    tidy_then = subst (λ (r : Ruling CommitAnswer). IsRuledTidy (layout_logs l) r) accepted.ruling
+        (commit_tidy (layout_logs l) l h is.tidy t rising)
 
     pub stands_committed : Fronts after (with_commit h (from_sorted t.writes)) (committed l h t).layout
         → after.version.behind ≡ core.version.behind
         → after.version.active.entries ≡ in_order (next_entries l h t ++ core.version.active.entries)
         → StandsFor bytes after (with_commit h (from_sorted t.writes)) (committed l h t).layout
-    stands_committed fronts behind more =
-        let alone = ap (λ b. b.logs.items) behind ∙ is.alone in
-        let untabled : tables_in after.version ≡ [] = ap (λ b. tables_of b.levels) behind ∙ is.without_tables in
-        record {
-          fronts = fronts;
-          sources_are = has_entries bytes after.version alone untabled (sources (committed l h t).layout)
-              (sources_committed core.version after.version l h t is.active_is is.tidy.true_logs.0 more behind
-              (entries_held bytes core.version (sources l) no_logs is.without_tables is.sources_are));
-          active_is = active_committed core.version after.version l h t is.active_is is.tidy.true_logs.0 more;
-          tidy = tidy_then;
-          bare = is.bare;
-          without_tables = untabled;
-          alone = alone;
-        }
+    stands_committed fronts behind more = record {
+      fronts = fronts;
+      has = laid_committed bytes core.version l is.has after.version h t is.tidy.true_logs.0 behind more;
+      tidy = tidy_then;
+    }

@@ -5,7 +5,7 @@ use Rattle.vl_disk.specs.Crash.{Image}
 use Rattle.vl_engine.specs.Held.{Base}
 use Rattle.vl_engine.specs.Shown.{HasFramedAmong, Shown}
 use Rattle.vl_layout.specs.Logs.{new_segment}
-use Rattle.vl_layout.specs.Start.{Recovered, layout_at_start}
+use Rattle.vl_layout.specs.Start.{Recovered, layout_at_start, no_tables}
 use Rattle.vl_layout.specs.declared.layout.Layout.{Layout}
 use Rattle.vl_layout.specs.declared.segment.Segment.{Segment}
 use Rattle.vl_manifest.specs.States.{whole_edits}
@@ -36,6 +36,23 @@ recovered_as found shown before =
       levels = shown.levels;
       logs = before;
       below = led_below found.opening.state.head (led_into shown.opening.levels) shown.led;
+      active = active_log found.greatest found.opening.state found.logs;
+      covered = state.covered;
+      next_log = state.next_log;
+      next_table = state.next_table;
+      keep = state.keep;
+      since = state.since;
+      gone = state.gone;
+    }
+
+-- The same where there are no tables, and so no logs below head.
+abbrev pub recovered_bare : {read : Image} → Finds read → List Segment → Recovered
+recovered_bare found before =
+    let state = new_state found.greatest found.opening.state in
+    record {
+      levels = no_tables;
+      logs = before;
+      below = [];
       active = active_log found.greatest found.opening.state found.logs;
       covered = state.covered;
       next_log = state.next_log;

@@ -2,6 +2,8 @@ pub mod Answers
 pub mod Begun
 pub mod Carries
 pub mod Files
+pub mod Fit
+pub mod Flushing
 pub mod Held
 pub mod Known
 pub mod Laid
@@ -12,8 +14,10 @@ pub mod Reading
 pub mod Refusing
 pub mod Reopened
 pub mod Represents
+pub mod Rotating
 pub mod Sees
 pub mod Shown
 pub mod Staging
+pub mod Stepping
 pub mod Steps
 pub mod Writing

@@ -1,14 +1,17 @@
 -- What an opening gives, where a store was opened and where not.
-use Rattle.std.specs.Prelude.{◌≡◌, ℕ, ◌+◌, List, [], ◌∷◌, Option, None, Some, Result, Ok, Err}
+use Rattle.std.specs.Prelude.{◌≡◌, ℕ, ◌+◌, max, List, [], ◌∷◌, map, Option, None, Some, Result, Ok, Err, Vec}
+use Rattle.std.specs.Global.{Global}
+use Rattle.vl_back.specs.declared.back.Back.{Back}
 use Rattle.vl_disk.specs.Crash.{Image}
 use Rattle.vl_disk.specs.DiskState.{DiskState}
 use Rattle.vl_disk.specs.Started.{IsRead}
 use Rattle.vl_disk.specs.declared.watched.Watched.{Ghosts}
+use Rattle.vl_engine.specs.Begun.{recovered_as}
+use Rattle.vl_engine.specs.Shown.{Shown}
 use Rattle.vl_engine.specs.declared.engine.Engine.{Engine}
-use Rattle.vl_engine.specs.declared.kept.Back.{Back}
-use Rattle.vl_layout.specs.Start.{Recovered, layout_at_start, no_tables}
-use Rattle.vl_layout.specs.declared.segment.Segment.{Segment}
+use Rattle.vl_layout.specs.Start.{Recovered}
 use Rattle.vl_manifest.specs.declared.state.ManifestState.{ManifestState}
+use Rattle.vl_model.specs.History.{History}
 use Rattle.vl_recover.specs.crash.Alike.{IsLeft, OpensLike}
 use Rattle.vl_recover.specs.crash.Meanwhile.{IsAsLong}
 use Rattle.vl_recover.specs.crash.Starts.{MayOpen}
@@ -16,19 +19,27 @@ use Rattle.vl_recover.specs.declared.fails.OpenError.{OpenError}
 use Rattle.vl_recover.specs.declared.fails.OpenError.TheVariants as why
 use Rattle.vl_recover.specs.declared.fails.OpenFail.{OpenFail}
 use Rattle.vl_recover.specs.opening.Answers.{AnswersBy, Finds, logs_then, used_up}
+use Rattle.vl_recover.specs.opening.HeldFiles.{AreWaiting, but_last}
 use Rattle.vl_recover.specs.opening.Plans.{active_log, new_state}
-use Rattle.vl_recover.specs.opening.Results.{recovery_by}
+use Rattle.vl_recover.specs.opening.Results.{counted, recovery_by}
+use Rattle.vl_table.specs.declared.table.Table.{Table}
+use Rattle.vl_version.specs.declared.levels.Levels.{Levels}
 
 -- the disk behind an opening: in the engine, or handed back. The type of an engine names all that its disk has.
-abbrev pub disk_behind : {D Held Reader Writer : Type 0} {watched : _} {held : _} {cloned : _} {read : _} {write : _}
-    → Result (Engine D Held Reader Writer watched held cloned read write) (OpenFail D) → D
+abbrev pub disk_behind : {D Held Reader Writer R : Type 0} {watched : _} {held : _} {cloned : _} {read : _} {write : _}
+    → Result (Engine D Held Reader Writer watched held cloned read write) (OpenFail D R) → D
 disk_behind (Ok engine) = engine.disk
 disk_behind (Err fail) = fail.disk
 
 -- why none was opened
-abbrev pub why_of : {E D : Type 0} → Result E (OpenFail D) → Option OpenError
+abbrev pub why_of : {E D R : Type 0} → Result E (OpenFail D R) → Option OpenError
 why_of (Ok engine) = None
 why_of (Err fail) = Some fail.why
+
+-- how many faults the reader of an opening has counted that is handed back, if there is one
+abbrev pub reader_faults : {E D R : Type 0} → (R → ℕ) → Result E (OpenFail D R) → ℕ
+reader_faults faults (Ok engine) = 0
+reader_faults faults (Err fail) = counted faults fail.reader
 
 -- an opening answers so by what reads give: a store that is there, with a number left for each file that is made, is
 -- opened; a refusal has its cause; want of memory and faults may come instead
@@ -36,7 +47,7 @@ abbrev pub AnswersOpening : Image → Option OpenError → Type 0
 AnswersOpening read None = (found : Finds read) × (used_up found ≡ None)
 AnswersOpening read (Some reason) = AnswersBy read (recovery_by reason)
 
--- the disk failed
+-- the disk failed, or its reader
 abbrev pub IsFault : Option OpenError → Type 0
 IsFault None = ⊥
 IsFault (Some why.NotAStore) = ⊥
@@ -45,6 +56,16 @@ IsFault (Some (why.Damaged name place)) = ⊥
 IsFault (Some (why.Exhausted counter)) = ⊥
 IsFault (Some why.NoMemory) = ⊥
 IsFault (Some (why.Disk name)) = Unit {0}
+
+-- the disk failed itself, and not the reader, which has counted so many faults
+abbrev pub IsDiskFault : ℕ → Option OpenError → Type 0
+IsDiskFault read_faults None = ⊥
+IsDiskFault read_faults (Some why.NotAStore) = ⊥
+IsDiskFault read_faults (Some (why.NewerFormat format)) = ⊥
+IsDiskFault read_faults (Some (why.Damaged name place)) = ⊥
+IsDiskFault read_faults (Some (why.Exhausted counter)) = ⊥
+IsDiskFault read_faults (Some why.NoMemory) = ⊥
+IsDiskFault read_faults (Some (why.Disk name)) = read_faults ≡ 0
 
 -- the disk is as it was, and was asked for no changing call
 abbrev pub IsAsBefore : {D : Type 0} → Ghosts D → (old new : D) → Type 0
@@ -58,35 +79,30 @@ pub record IsDurable (disk : DiskState) : Type 0 where
 
 -- ---- what is found
 
--- logs but for the last
-abbrev pub but_last : List Segment → List Segment
-but_last [] = []
-but_last (s ∷ []) = []
-but_last (s ∷ t ∷ ss) = s ∷ but_last (t ∷ ss)
-
 -- what the new manifest says then
 abbrev pub state_then : {read : Image} → Finds read → ManifestState
 state_then found = new_state found.greatest found.opening.state
 
--- as a layout has it: without tables, and so with no logs below head
-abbrev pub recovered : {read : Image} → Finds read → Recovered
-recovered found = record {
-  levels = no_tables;
-  logs = but_last (logs_then found);
-  below = [];
-  active = active_log found.greatest found.opening.state found.logs;
-  covered = (state_then found).covered;
-  next_log = (state_then found).next_log;
-  next_table = (state_then found).next_table;
-  keep = (state_then found).keep;
-  since = (state_then found).since;
-  gone = (state_then found).gone;
-}
+-- As a layout has it, where reads show a history: the tables that they show, the logs from head on, and those below it that tables
+-- lead into.
+abbrev pub recovered : {read : Image} (found : Finds read) {h : History} {m : ℕ} → Shown read h m → Recovered
+recovered found shown = recovered_as found shown (but_last (logs_then found))
 
--- What steps on files need of an engine that was just opened: what the new manifest says, which number the next log gets, and
--- the new manifest at its length.
-pub record IsBackAtStart {read : Image} (found : Finds read) (room : ℕ) (back : Back) : Type 0 where
+-- What steps on files need of an engine that was just opened: what the new manifest says, which number the next log gets, the new
+-- manifest at its length, and the logs whose memtables wait for their flush.
+pub record IsBackAtStart {read : Image} (found : Finds read) (back : Back) : Type 0 where
   pub state : back.state ≡ state_then found
-  pub next_log : back.next_log ≡ (layout_at_start room (recovered found)).next_log
+  pub next_log : back.next_log
+      ≡ max (state_then found).next_log (active_log found.greatest found.opening.state found.logs + 1)
   pub number : back.manifest.number ≡ found.greatest.manifest + 1
   pub long : IsAsLong back.state back.manifest
+  pub waiting : AreWaiting found.opening.state.covered back.waiting.items found.opening.logs
+  pub version_number : back.version_number ≡ 0
+
+-- ---- its tables
+
+-- the levels have these tables, the ones of level 0 first
+abbrev pub AreLeveled : {H : Type 0} → List (Vec (Table H) Global) → Levels H → Type 0
+AreLeveled [] levels = ⊥
+AreLeveled {H} (tables ∷ others) levels =
+    (levels.newest ≡ tables) × (levels.deeper.items ≡ map (λ (v : Vec (Table H) Global). v.items) others)

@@ -18,8 +18,11 @@ use Rattle.vl_txn.specs.Reads.{scan_of}
 use Rattle.vl_txn.specs.Refusals.{refused_bound}
 use Rattle.vl_txn.specs.declared.key_fail.KeyFail.{KeyFail}
 use Rattle.vl_txn.specs.declared.key_fail.KeyFail.TheVariants.{EmptyKey, KeyTooLong}
+use Rattle.vl_version.specs.Near.{AreNear}
+use Rattle.vl_version.specs.Sources.{in_memory, tables_in}
 use Rattle.vl_version.specs.declared.found.Found.{Found}
 use Rattle.vl_version.specs.declared.found.Found.TheVariants as found
+use Rattle.vl_version.specs.declared.version.Version.{Version}
 
 -- ---- refusals
 
@@ -82,12 +85,17 @@ MetDamageInto (Err fault.KeyTooLong) = ⊥
 MetDamageInto (Err (fault.Disk name)) = ⊥
 MetDamageInto (Err (fault.Damaged name place)) = Unit {0}
 
--- neither damage nor a fault of the reader
+-- no damage was met
 abbrev pub IsSound : {T : Type 0} → Result T ReadFail → Type 0
-IsSound result = (MetDamage result → ⊥) × (ReadFailed result → ⊥)
+IsSound result = MetDamage result → ⊥
 
 abbrev pub IsSoundInto : {T : Type 0} → Result T ReadFault → Type 0
-IsSoundInto result = (MetDamageInto result → ⊥) × (ReadIntoFailed result → ⊥)
+IsSoundInto result = MetDamageInto result → ⊥
+
+-- All of the version is in memory, so that no read of it asks a file: it has no tables, and no entry leads into a log.
+pub record IsInMemory {H : Type 0} (version : Version H) : Type 0 where
+  pub tables : tables_in version ≡ []
+  pub near : AreNear (in_memory version)
 
 -- ---- answers
 

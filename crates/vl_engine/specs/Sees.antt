@@ -12,8 +12,10 @@ use Rattle.vl_model.specs.Notes.{AreNotesOf}
 use Rattle.vl_model.specs.Reads.{IsExplained, Read}
 use Rattle.vl_model.specs.Winners.{Logs}
 use Rattle.vl_model.specs.declared.entry.Entry.{Entry}
+use Rattle.vl_table.specs.Kept.{Files}
+use Rattle.vl_table.specs.KeptBlocks.{ReadsOf}
 use Rattle.vl_txn.specs.Reads.{no_notes}
-use Rattle.vl_version.specs.Sources.{HasEntries}
+use Rattle.vl_version.specs.Sources.{HasEntries, tables_in}
 use Rattle.vl_version.specs.declared.version.Version.{Version}
 
 -- The version shows the history at this number, which can be read.
@@ -27,16 +29,21 @@ pub record ShowsAt {H : Type 0} (bytes : H → Option (List ℕ)) (version : Ver
   pub readable : h.first ≤ number
   pub known : number ≤ last_number h
 
--- The transaction sees the history at its number; its notes are those of these reads, which the history explains there.
+-- The transaction sees the history at its number; the blocks that its reader keeps are of the version's tables, of which these
+-- are the files; and its notes are those of these reads, which the history explains there.
 pub record Sees {H R : Type 0} (bytes : H → Option (List ℕ)) (txn : Txn H R) (h : History) (reads : List Read)
     : Type 0 where
   pub version : ShowsAt bytes txn.version h txn.number
+  pub files : Files
+  pub reader : ReadsOf bytes files txn.reader (tables_in txn.version)
   pub notes : AreNotesOf reads txn.reads.keys txn.reads.spans
   pub explained : IsExplained h txn.number reads
 
 -- a view, which notes nothing
-abbrev pub SeesAlone : {H R : Type 0} → (H → Option (List ℕ)) → View H R → History → Type 0
-SeesAlone bytes view h = ShowsAt bytes view.version h view.number
+pub record SeesAlone {H R : Type 0} (bytes : H → Option (List ℕ)) (view : View H R) (h : History) : Type 0 where
+  pub version : ShowsAt bytes view.version h view.number
+  pub files : Files
+  pub reader : ReadsOf bytes files view.reader (tables_in view.version)
 
 -- one that has read and written nothing yet
 pub record IsNew {H R : Type 0} (txn : Txn H R) : Type 0 where

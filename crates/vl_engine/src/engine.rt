@@ -1,14 +1,15 @@
 //! The engine: a disk, and what is kept of its store in memory.
-ghost use Rattle.std.specs.Prelude.{◌≡◌, true};
+ghost use Rattle.std.specs.Prelude.{◌≡◌, ◌≤◌, true};
 ghost use Rattle.std.specs.Option.{ForSome};
-ghost use Rattle.vl_disk.specs.Disk.{Stands};
-ghost use Rattle.vl_disk.specs.declared.name.Name.TheVariants as names;
+ghost use Rattle.vl_engine.specs.Fit.{IsFitFor};
 ghost use Rattle.vl_engine.specs.Known.{are_known};
 
 mod beginning;
 mod committing;
 mod ending;
+mod flushing;
 mod opening;
+mod rotating;
 
 use crate::kept::Core;
 use std::alloc::Global;
@@ -20,8 +21,10 @@ pub struct Engine<D: Disk> {
     alloc: Global,
     disk: D,
     core: Core<D::Held>,
-    // The log that takes commits stands.
-    ghost stands: { ForSome (D.told disk) (Stands (names.Log core.front.log.number)) },
+    // What its next calls ask of the disk is so.
+    ghost ready: { ForSome (D.told disk) (IsFitFor core) },
+    // The next numbers are ones that files may have, if any are left.
+    ghost numbered: { (1 ≤ core.back.next_log) × (1 ≤ core.back.state.next_table) },
     // No entry of its memtable has a version above the last commit's.
     ghost known: { are_known core.front.oracle.last core.version.active.entries ≡ true },
 }

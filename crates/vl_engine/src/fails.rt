@@ -5,7 +5,7 @@ use crate::Txn;
 use std::alloc::AllocError;
 use thiserror::Error;
 use vl_disk::Name;
-use vl_model::Key;
+use vl_model::{Counter, Key};
 use vl_txn::KeyFail;
 use vl_version::ReadFault as VersionFault;
 
@@ -119,4 +119,21 @@ pub enum CommitFail<H, R> {
     Disk {
         name: Name,
     },
+}
+
+/// Why a step on files was not done.
+#[derive(Clone, Copy, Debug, PartialEq, Eq, Error)]
+pub enum StepFail {
+    /// An earlier step failed at this file, and nothing is changed any more.
+    #[error("halted at {name:?}")]
+    Halted { name: Name },
+    /// No such number is left.
+    #[error("no number is left")]
+    Exhausted(Counter),
+    /// Nothing was changed.
+    #[error("no memory")]
+    NoMemory,
+    /// The disk failed at this file, and the engine is halted.
+    #[error("the disk failed at {name:?}")]
+    Disk { name: Name },
 }

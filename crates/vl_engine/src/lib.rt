@@ -9,15 +9,17 @@
 
 mod engine;
 mod fails;
+mod flushing;
 mod kept;
 mod laws;
+mod rotating;
 mod staging;
 mod txn;
 mod view;
 mod writing;
 
 pub use engine::{Done, Engine};
-pub use fails::{CommitFail, ReadFail, ReadFault};
+pub use fails::{CommitFail, ReadFail, ReadFault, StepFail};
 pub use laws::what_is_seen_stays;
 pub use txn::Txn;
 pub use view::View;

@@ -1,5 +1,5 @@
 -- Each far body of a table leads into a log that a footer names.
-use Rattle.std.specs.Prelude.{◌≡◌, ◌⊎◌, ℕ, ◌+◌, List, [], ◌∷◌, ◌++◌, map, refl}
+use Rattle.std.specs.Prelude.{◌≡◌, ◌⊎◌, ℕ, ◌+◌, List, [], ◌∷◌, refl}
 use Rattle.std.specs.FinMap.{nat_cmp-IsAntisymmetric}
 use Rattle.std.specs.List.{AllByRecursion, flat_map}
 use Rattle.std.specs.Ordering.{nat_cmp}
@@ -8,17 +8,17 @@ use Rattle.std.specs.declared.cmp.Ordering.{Ordering}
 use Rattle.std.proofs.Common.{inl, inr, subst, sym}
 use Rattle.vl_block.specs.Cutting.{pointed, points_of, with_point}
 use Rattle.vl_block.specs.declared.points.Point.{Point}
-use Rattle.vl_engine.specs.Files.{found_levels, found_of}
+use Rattle.vl_engine.specs.Files.{found_levels}
 use Rattle.vl_engine.specs.Shown.{tables_among}
-use Rattle.vl_engine.specs.laws.LedLaws.{AreFarTo, IsFarTo}
+use Rattle.vl_engine.specs.laws.FileLaws.{all_each, all_more}
+use Rattle.vl_engine.specs.laws.LedLaws.{AreFarTo, ArePointsTo, IsFarTo, points_led}
 use Rattle.vl_layout.specs.Sources.{table_entries}
 use Rattle.vl_layout.specs.declared.table.Table.{Table}
-use Rattle.vl_layout.specs.laws.ShowsLaws.{all_both, all_parts}
 use Rattle.vl_model.specs.Entries.{by_order}
 use Rattle.vl_model.specs.declared.entry.Body.TheVariants.{Far, Gone, Inline, Logged}
 use Rattle.vl_model.specs.declared.entry.Body.{Body}
 use Rattle.vl_model.specs.declared.entry.Entry.{Entry}
-use Rattle.vl_recover.specs.opening.Opening.{IsAmong, led_by, led_into, put_number, put_points}
+use Rattle.vl_recover.specs.opening.Opening.{IsAmong, led_into}
 
 abbrev HasPoint : List Point → ℕ → Type 0
 HasPoint [] n = ⊥
@@ -80,64 +80,28 @@ points_have (e ∷ es) = (
       (λ n has. with_keeps e.body (points_of es) n has) es (points_have es),
 )
 
--- ---- numbers
+-- ---- all tables
 
-put_has : (n : ℕ) (ns : List ℕ) → IsAmong (put_number n ns) n
-put_has n [] = inl refl
-put_has n (m ∷ ms) = by (put_has n ms) (nat_cmp n m) refl
-  where
-    by : IsAmong (put_number n ms) n → (r : Ordering) → nat_cmp n m ≡ r
-        → IsAmong (by_order r (n ∷ m ∷ ms) (m ∷ ms) (m ∷ put_number n ms)) n
-    by later Less e = inl refl
-    by later Equal e = inl (sym (nat_cmp-IsAntisymmetric n m e))
-    by later Greater e = inr later
+point_in : (P : ℕ → Type 0) (ps : List Point) (n : ℕ) → ArePointsTo P ps → HasPoint ps n → P n
+point_in P [] n all has = absurd has
+point_in P (p ∷ ps) n all (inl same) = subst P same all.0
+point_in P (p ∷ ps) n all (inr rest) = point_in P ps n all.1 rest
 
-put_keeps : (n : ℕ) (ns : List ℕ) (k : ℕ) → IsAmong ns k → IsAmong (put_number n ns) k
-put_keeps n [] k among = absurd among
-put_keeps n (m ∷ ms) k among = by (put_keeps n ms k) (nat_cmp n m) among
-  where
-    by : (IsAmong ms k → IsAmong (put_number n ms) k) → (r : Ordering) → (m ≡ k) ⊎ IsAmong ms k
-        → IsAmong (by_order r (n ∷ m ∷ ms) (m ∷ ms) (m ∷ put_number n ms)) k
-    by later Less is = inr is
-    by later Equal is = is
-    by later Greater (inl same) = inl same
-    by later Greater (inr rest) = inr (later rest)
+-- The far bodies of each table lead into logs that footers name,
+pub each_led : (levels : List (List Table))
+    → AllByRecursion (λ (t : Table). AreFarTo (IsAmong (led_into (found_levels levels))) t.entries) (tables_among levels)
+each_led levels =
+    let led = IsAmong (led_into (found_levels levels)) in
+    all_each (λ (t : Table). ArePointsTo led (points_of t.entries)) (λ (t : Table). AreFarTo led t.entries) (tables_among levels)
+    (λ t are. far_more (HasPoint (points_of t.entries)) led (λ n has. point_in led (points_of t.entries) n are has) t.entries
+    (points_have t.entries)) (points_led levels)
 
-said_has : (ps : List Point) (ns : List ℕ) (n : ℕ) → HasPoint ps n ⊎ IsAmong ns n → IsAmong (put_points ps ns) n
-said_has [] ns n (inl has) = absurd has
-said_has [] ns n (inr among) = among
-said_has (p ∷ ps) ns n (inl (inl same)) = subst (λ (k : ℕ). IsAmong (put_number p.segment (put_points ps ns)) k) same
-    (put_has p.segment (put_points ps ns))
-said_has (p ∷ ps) ns n (inl (inr rest)) = put_keeps p.segment (put_points ps ns) n (said_has ps ns n (inl rest))
-said_has (p ∷ ps) ns n (inr among) = put_keeps p.segment (put_points ps ns) n (said_has ps ns n (inr among))
+flat : (P : ℕ → Type 0) (ts : List Table) → AllByRecursion (λ (t : Table). AreFarTo P t.entries) ts
+    → AreFarTo P (flat_map table_entries ts)
+flat P [] all = tt
+flat P (t ∷ ts) all = all_more (λ (e : Entry). IsFarTo P e.body) t.entries (flat_map table_entries ts) all.0 (flat P ts all.1)
 
-led_keeps : (ts : List Table) (ns : List ℕ) (n : ℕ) → IsAmong ns n → IsAmong (led_by (map found_of ts) ns) n
-led_keeps [] ns n among = among
-led_keeps (t ∷ ts) ns n among = said_has (points_of t.entries) (led_by (map found_of ts) ns) n (inr (led_keeps ts ns n among))
-
-level_far : (ts : List Table) (ns : List ℕ) → AreFarTo (IsAmong (led_by (map found_of ts) ns)) (flat_map table_entries ts)
-level_far [] ns = tt
-level_far (t ∷ ts) ns =
-    let all = led_by (map found_of (t ∷ ts)) ns in
-    all_both (λ (e : Entry). IsFarTo (IsAmong all) e.body) t.entries (flat_map table_entries ts)
-    (far_more (HasPoint (points_of t.entries)) (IsAmong all)
-    (λ n has. said_has (points_of t.entries) (led_by (map found_of ts) ns) n (inl has)) t.entries (points_have t.entries))
-    (far_more (IsAmong (led_by (map found_of ts) ns)) (IsAmong all)
-    (λ n among. said_has (points_of t.entries) (led_by (map found_of ts) ns) n (inr among)) (flat_map table_entries ts) (level_far ts ns))
-
-flat_both : (P : ℕ → Type 0) (ts us : List Table) → AreFarTo P (flat_map table_entries ts) → AreFarTo P (flat_map table_entries us)
-    → AreFarTo P (flat_map table_entries (ts ++ us))
-flat_both P [] us a b = b
-flat_both P (t ∷ ts) us a b =
-    let parts = all_parts (λ (e : Entry). IsFarTo P e.body) t.entries (flat_map table_entries ts) a in
-    all_both (λ (e : Entry). IsFarTo P e.body) t.entries (flat_map table_entries (ts ++ us)) parts.0 (flat_both P ts us parts.1 b)
-
--- The far bodies of tables lead into logs that their footers name.
+-- and so do those of all of them.
 pub tables_led : (levels : List (List Table))
     → AreFarTo (IsAmong (led_into (found_levels levels))) (flat_map table_entries (tables_among levels))
-tables_led [] = tt
-tables_led (ts ∷ levels) =
-    let rest = led_into (found_levels levels) in
-    flat_both (IsAmong (led_by (map found_of ts) rest)) ts (tables_among levels) (level_far ts rest)
-    (far_more (IsAmong rest) (IsAmong (led_by (map found_of ts) rest)) (λ n among. led_keeps ts rest n among)
-    (flat_map table_entries (tables_among levels)) (tables_led levels))
+tables_led levels = flat (IsAmong (led_into (found_levels levels))) (tables_among levels) (each_led levels)

@@ -10,16 +10,18 @@ use Rattle.vl_disk.specs.DiskState.{DiskState, IsLawful, settled}
 use Rattle.vl_disk.specs.declared.name.Name.TheVariants.{Log, Manifest, Table}
 use Rattle.vl_engine.specs.Begun.{as_led, base_begun, layout_begun, led_below}
 use Rattle.vl_engine.specs.Files.{HasTable, HoldsLog, HoldsTable, bytes_of_table, found_levels}
-use Rattle.vl_engine.specs.Held.{Base, Holds, IsBase}
+use Rattle.vl_engine.specs.Held.{Holds, IsBase}
 use Rattle.vl_engine.specs.Pointed.{IsFramedAmong, bytes_of_log, segment_at}
 use Rattle.vl_engine.specs.Shown.{HasFramedAmong, Shown, tables_among}
-use Rattle.vl_engine.specs.laws.FileLaws.{all_back, all_each, all_filtered, all_front, all_more, has_numbered, segment_number}
+use Rattle.vl_engine.specs.laws.FileLaws.{all_back, all_each, all_filtered, all_front, all_more, has_numbered, segment_all, segment_number}
 use Rattle.vl_engine.specs.laws.HeldLaws.{each_held}
 use Rattle.vl_engine.specs.laws.ShownLaws.{levels_numbers}
+use Rattle.vl_engine.specs.laws.StartLaws.{IsAsRead, all_newest, before_from, before_read, each_sealed, logs_end}
 use Rattle.vl_layout.specs.Logs.{new_segment}
 use Rattle.vl_layout.specs.Sources.{numbers_of}
 use Rattle.vl_layout.specs.Start.{has_frames, is_any, newest_first}
 use Rattle.vl_layout.specs.Tidy.{sealed}
+use Rattle.vl_layout.specs.declared.layout.Layout.{Layout}
 use Rattle.vl_layout.specs.declared.segment.Segment.{Segment}
 use Rattle.vl_layout.specs.declared.table.Table as laid
 use Rattle.vl_manifest.specs.States.{read_in, state_behind, state_then, whole_edits}
@@ -35,9 +37,10 @@ use Rattle.vl_recover.specs.laws.opening.OpeningLaws.{opened, single_opening, so
 use Rattle.vl_recover.specs.laws.repairing.RecoveredLaws.{found_goes_on}
 use Rattle.vl_recover.specs.laws.repairing.StageLaws.{ok_same}
 use Rattle.vl_recover.specs.opening.Answers.{Finds, and_made, as_segments, logs_then}
+use Rattle.vl_recover.specs.opening.HeldFiles.{but_last}
 use Rattle.vl_recover.specs.opening.Opening.{FoundTable, IsAmong, IsNamed, NamedLevels, Opening, Refusal, StandingLogs, led_into}
 use Rattle.vl_recover.specs.opening.Plans.{active_log, log_made, new_state}
-use Rattle.vl_recover.specs.opening.Walk.{StandingLog}
+use Rattle.vl_recover.specs.opening.Walk.{StandingLog, format_of}
 use Rattle.vl_seglog.specs.Frames.{log_bytes}
 use Rattle.vl_seglog.specs.LogReading.{LogReading, ReadsLog}
 use Rattle.vl_seglog.specs.laws.LogReadingLaws.{one_log_reading, reads_written}
@@ -94,10 +97,6 @@ all_framed (x ∷ xs) = by (all_framed xs) (has_frames x) refl
     by later true at = (at, later)
     by later false at = later
 
-all_newest : (P : Segment → Type 0) (ss : List Segment) → AllByRecursion P ss → AllByRecursion P (newest_first ss)
-all_newest P [] all = tt
-all_newest P (s ∷ ss) all = all_more P (newest_first ss) (s ∷ []) (all_newest P ss all.1) (all.0, tt)
-
 -- Where all of them have frames it is found,
 found_framed : (xs ys : List Segment) (k : ℕ) → AreFramed xs → HasFramed xs k → IsFramedAmong (xs ++ ys) k
 found_framed [] ys k framed has = absurd has
@@ -139,7 +138,7 @@ found_behind (x ∷ xs) ys k others is =
 -- ---- the logs below head
 
 module _ {image : Image} {among : List Segment} (head : ℕ) where
-  each_below : (P : Segment → Type 0) (ns : List ℕ) (led : (n : ℕ) → IsAmong ns n → HasFramedAmong image among n)
+  pub each_below : (P : Segment → Type 0) (ns : List ℕ) (led : (n : ℕ) → IsAmong ns n → HasFramedAmong image among n)
       → ((n : ℕ) (is : IsAmong ns n) → P (as_led n (led n is))) → AllByRecursion P (led_below head ns led)
   each_below P [] led each = tt
   each_below P (n ∷ ns) led each =
@@ -210,15 +209,6 @@ standing_framed image k bytes there framed least (q ∷ p ∷ ps) (next, behind)
         (cases_lt q.number k))
         (cases_lt k q.number)
 
-held_from : (disk : DiskState) (least : ℕ) (logs more : List Segment) → HoldsLogs least (logs ++ more) disk
-    → AllByRecursion (λ (s : Segment). least ≤ s.number) logs
-held_from disk least [] more holds = tt
-held_from disk least (s ∷ ss) more (from, between, readable, have, stands, rest) = (
-  from,
-  all_each (λ (x : Segment). s.number + 1 ≤ x.number) (λ (x : Segment). least ≤ x.number) ss
-      (λ x above. omega (arith, from, above)) (held_from disk (s.number + 1) ss more rest),
-)
-
 -- ---- what is durable as reads give it
 
 table_durable : (read : Image) (disk : DiskState) (t : laid.Table) → HasTable read t → DurableAs read disk (Table t.number)
@@ -246,31 +236,54 @@ levels_durable read disk (ts ∷ levels) each have = all_more (HoldsTable disk) 
     (level_durable read disk ts (λ n among. each n (inl among)) (all_front (HasTable read) ts (tables_among levels) have))
     (levels_durable read disk levels (λ n named. each n (inr named)) (all_back (HasTable read) ts (tables_among levels) have))
 
+-- ---- how a log reads that is whole
+
+-- A log that stands among others reads as its frames.
+framed_reading : (image : Image) (ss : List Segment) (n : ℕ) (has : HasFramedAmong image ss n) (reading : LogReading)
+    → ReadsLog n (bytes_of_log has.is.log) reading
+    → ◌≡◌ {A = LogReading} (record { header = Some has.is.log.format; frames = has.is.log.frames; whole = true }) reading
+framed_reading image ss n has reading reads =
+    let log = has.is.log in
+    one_log_reading log.number (bytes_of_log log) (record { header = Some log.format; frames = log.frames; whole = true }) reading
+    (reads_written log.format log.number has.has.is.readable log.frames has.has.is.have)
+    (subst (λ (m : ℕ). ReadsLog m (bytes_of_log log) reading) (sym (segment_number ss n log has.is.at)) reads)
+
 -- ---- the whole
 
-module _ {read : Image} (found : Finds read) (h : History) (shown : Shown read h (last_number h)) (room : ℕ)
-    (before : List Segment)
-    (ends : logs_then found ≡ before ++ new_segment log_format (active_log found.greatest found.opening.state found.logs) [] ∷ [])
-    (manifest : ManifestLog) (disk : DiskState) where
+module _ {read : Image} (found : Finds read) (h : History) (shown : Shown read h (last_number h)) (room : ℕ) where
   abbrev pub state : ManifestState
   state = new_state found.greatest found.opening.state
 
   abbrev pub head : ℕ
   head = found.opening.state.head
 
-  one : shown.opening ≡ found.opening
-  one = ok_same {E = Refusal} shown.opening found.opening
+  -- the logs from head on before the active one
+  abbrev pub before : List Segment
+  before = but_last (logs_then found)
+
+  abbrev pub active : Segment
+  active = new_segment log_format (active_log found.greatest found.opening.state found.logs) []
+
+  abbrev pub begun : Layout
+  begun = layout_begun room found shown (but_last (logs_then found))
+
+  pub one_opening : shown.opening ≡ found.opening
+  one_opening = ok_same {E = Refusal} shown.opening found.opening
       (single_opening read (Ok shown.opening) (Ok found.opening) shown.opens found.opens)
 
   -- the names are those of the tables that are shown
-  names_are : found.opening.state.levels ≡ map numbers_of shown.levels
-  names_are = ap (λ (o : Opening). o.state.levels) (sym one)
+  pub names_are : found.opening.state.levels ≡ map numbers_of shown.levels
+  names_are = ap (λ (o : Opening). o.state.levels) (sym one_opening)
       ∙ levels_numbers read false shown.opening.state.levels shown.levels
       (subst (λ (ls : List (List FoundTable)). NamedLevels false read shown.opening.state.levels (Ok ls)) shown.found
       (opened read shown.opening shown.opens).levels)
 
-  abbrev below : List Segment
-  below = led_below head (led_into shown.opening.levels) shown.led
+  -- the logs that they lead into are those that footers tell
+  pub as_told : (k : ℕ) → IsAmong (led_into (found_levels shown.levels)) k → IsAmong (led_into shown.opening.levels) k
+  as_told k among = subst (λ (ls : List (List FoundTable)). IsAmong (led_into ls) k) (sym shown.found) among
+
+  abbrev pub below : List Segment
+  below = led_below found.opening.state.head (led_into shown.opening.levels) shown.led
 
   -- a log that is led into reads with frames
   led_reads : (k : ℕ) → IsAmong (led_into shown.opening.levels) k
@@ -283,79 +296,115 @@ module _ {read : Image} (found : Finds read) (h : History) (shown : Shown read h
       by has = (
         bytes_of_log has.is.log,
         has_numbered read shown.sealed k has,
-        λ reading reads.
-            (let log = has.is.log in
-            let written : LogReading = record { header = Some log.format; frames = log.frames; whole = true } in
-            let same : written ≡ reading = one_log_reading log.number (bytes_of_log log) written reading
-            (reads_written log.format log.number has.has.is.readable log.frames has.has.is.have)
-            (subst (λ (n : ℕ). ReadsLog n (bytes_of_log log) reading) (sym (segment_number shown.sealed k log has.is.at)) reads) in
-            ap (λ (r : LogReading). is_any r.frames) (sym same) ∙ has.is.framed),
+        λ reading reads. ap (λ (r : LogReading). is_any r.frames) (sym (framed_reading read shown.sealed k has reading reads))
+            ∙ has.is.framed,
       )
 
-  module _ (store : HoldsStore state (view_of found) (logs_then found) disk) where
-    logs_held : HoldsLogs head (before ++ new_segment log_format (active_log found.greatest found.opening.state found.logs) [] ∷ []) disk
-    logs_held = subst (λ (ss : List Segment). HoldsLogs head ss disk) ends store.logs_are
+  -- What tables lead into is sealed, and has frames.
+  pub begun_led : (k : ℕ) → IsAmong (led_into (found_levels (layout_begun room found shown (but_last (logs_then found))).levels)) k
+      → IsFramedAmong (sealed (layout_begun room found shown (but_last (logs_then found)))) k
+  begun_led k among = ⊎_elim
+      (λ (less : k < head). found_behind (newest_first (filter has_frames before)) (without ++ below) k
+      (all_newest (λ (x : Segment). x.number ≢ k) (filter has_frames before)
+      (all_filtered (λ (x : Segment). x.number ≢ k) has_frames before (others less)))
+      (found_behind without below k
+      (all_filtered (λ (x : Segment). x.number ≢ k) (λ (x : Segment). not (has_frames x)) before (others less))
+      (found_among below k (each_below head (λ (x : Segment). has_frames x ≡ true) (led_into shown.opening.levels) shown.led
+      (λ n is. (shown.led n is).is.framed))
+      (has_below head (led_into shown.opening.levels) shown.led k (as_told k among) less))))
+      (λ (from : head ≤ k). (let (bytes, there, framed) = led_reads k (as_told k among) in
+      found_framed (newest_first (filter has_frames before)) (without ++ below) k
+      (all_newest (λ (x : Segment). has_frames x ≡ true) (filter has_frames before) (all_framed before))
+      (framed_newest (filter has_frames before) k (framed_filtered before k
+      (framed_before before active k refl
+      (subst (λ (ss : List Segment). HasFramed ss k) (logs_end found)
+      (framed_front (as_segments found.logs) (and_made (log_made state found.logs)) k
+      (standing_framed read k bytes there framed head found.logs found.standing from))))))))
+      (cases_lt k head)
+    where
+      without : List Segment
+      without = filter (λ (x : Segment). not (has_frames x)) before
 
-    -- What tables lead into is sealed, and has frames.
-    pub begun_led : (k : ℕ) → IsAmong (led_into (found_levels (layout_begun room found shown before).levels)) k
-        → IsFramedAmong (sealed (layout_begun room found shown before)) k
-    begun_led k among = ⊎_elim
-        (λ (less : k < head). found_behind (newest_first (filter has_frames before)) (without ++ below) k
-        (all_newest (λ (x : Segment). x.number ≢ k) (filter has_frames before)
-        (all_filtered (λ (x : Segment). x.number ≢ k) has_frames before (others less)))
-        (found_behind without below k
-        (all_filtered (λ (x : Segment). x.number ≢ k) (λ (x : Segment). not (has_frames x)) before (others less))
-        (found_among below k (each_below head (λ (x : Segment). has_frames x ≡ true) (led_into shown.opening.levels) shown.led
-        (λ n is. (shown.led n is).is.framed))
-        (has_below head (led_into shown.opening.levels) shown.led k is_led less))))
-        (λ (from : head ≤ k). (let (bytes, there, framed) = led_reads k is_led in
-        found_framed (newest_first (filter has_frames before)) (without ++ below) k
-        (all_newest (λ (x : Segment). has_frames x ≡ true) (filter has_frames before) (all_framed before))
-        (framed_newest (filter has_frames before) k (framed_filtered before k
-        (framed_before before (new_segment log_format (active_log found.greatest found.opening.state found.logs) []) k refl
-        (subst (λ (ss : List Segment). HasFramed ss k) ends
-        (framed_front (as_segments found.logs) (and_made (log_made state found.logs)) k
-        (standing_framed read k bytes there framed head found.logs found.standing from))))))))
-        (cases_lt k head)
-      where
-        without : List Segment
-        without = filter (λ (x : Segment). not (has_frames x)) before
+      others : k < head → AllByRecursion (λ (x : Segment). x.number ≢ k) before
+      others less = all_each (λ (x : Segment). head ≤ x.number) (λ (x : Segment). x.number ≢ k) before
+          (λ x from same. omega (arith, less, from, same)) (before_from found)
 
-        is_led : IsAmong (led_into shown.opening.levels) k
-        is_led = subst (λ (ls : List (List FoundTable)). IsAmong (led_into ls) k) (sym shown.found) among
+      found_among : (ss : List Segment) (n : ℕ) → AreFramed ss → HasFramed ss n → IsFramedAmong ss n
+      found_among ss n framed has = subst (λ (ts : List Segment). IsFramedAmong ts n) (append-nil ss) (found_framed ss [] n framed has)
 
-        others : k < head → AllByRecursion (λ (x : Segment). x.number ≢ k) before
-        others less = all_each (λ (x : Segment). head ≤ x.number) (λ (x : Segment). x.number ≢ k) before
-            (λ x from same. omega (arith, less, from, same))
-            (held_from disk head before
-            (new_segment log_format (active_log found.greatest found.opening.state found.logs) [] ∷ []) logs_held)
+  -- ---- its logs are as they are read
 
-        found_among : (ss : List Segment) (n : ℕ) → AreFramed ss → HasFramed ss n → IsFramedAmong ss n
-        found_among ss n framed has = subst (λ (ts : List Segment). IsFramedAmong ts n) (append-nil ss) (found_framed ss [] n framed has)
+  pub sealed_read : AllByRecursion (IsAsRead read) (sealed (layout_begun room found shown (but_last (logs_then found))))
+  sealed_read = each_sealed (IsAsRead read) before below (before_read found)
+      (each_below head (IsAsRead read) (led_into shown.opening.levels) shown.led read_below)
+    where
+      read_below : (n : ℕ) (is : IsAmong (led_into shown.opening.levels) n) → IsAsRead read (as_led n (shown.led n is))
+      read_below n is = by (shown.led n is)
+        where
+          by : (led : HasFramedAmong read shown.sealed n) → IsAsRead read (as_led n led)
+          by led =
+              let log = led.is.log in
+              record {
+                bytes = bytes_of_log log;
+                stands = has_numbered read shown.sealed n led;
+                reading = record { header = Some log.format; frames = log.frames; whole = true };
+                reads = subst (λ (m : ℕ). ReadsLog m (bytes_of_log log)
+                    (record { header = Some log.format; frames = log.frames; whole = true }))
+                    (segment_number shown.sealed n log led.is.at)
+                    (reads_written log.format log.number led.has.is.readable log.frames led.has.is.have);
+                frames = refl;
+                format = λ framed. refl;
+              }
 
-    -- Its base is that of the manifest that was made.
-    pub begun_base : manifest.number < 2 ^ 32 → IsInRange state → found.opening.number ≡ last_number h
-        → IsBase (base_begun found manifest before) (layout_begun room found shown before) h
-    begun_base fits range number = record {
-      numbered = fits;
-      made = ap (λ (o : Option ManifestState). read_in manifest_format (state_then 16 (λ (t : ManifestState). state_behind t []) o))
-          (whole_says state range);
-      goes = subst (λ (ss : List Segment). GoOn state.covered ss (last_number h)) ends
-          (subst (GoOn state.covered (logs_then found)) number (found_goes_on found));
-      levels = names_are;
-      frozen = refl;
-      led = begun_led;
-      keep = refl;
-      since = refl;
-      covered = refl;
-      format = refl;
-    }
+  -- A log that tables lead into is found as reads show it.
+  pub led_alike : (k : ℕ) (is : IsFramedAmong (sealed (layout_begun room found shown (but_last (logs_then found)))) k)
+      (has : HasFramedAmong read shown.sealed k)
+      → (is.log.format ≡ has.is.log.format) × (is.log.frames ≡ has.is.log.frames)
+  led_alike k is has =
+      let x = is.log in
+      let y = has.is.log in
+      let here = segment_all (IsAsRead read) (sealed begun) k x sealed_read is.at in
+      let number : x.number ≡ k = segment_number (sealed begun) k x is.at in
+      let bytes : here.bytes ≡ bytes_of_log y = some_same here.bytes (bytes_of_log y)
+      (sym here.stands ∙ ap (λ (n : ℕ). get read (Log n)) number ∙ has_numbered read shown.sealed k has) in
+      let same = framed_reading read shown.sealed k has here.reading
+      (subst (λ (bs : List ℕ). ReadsLog k bs here.reading) bytes
+      (subst (λ (n : ℕ). ReadsLog n here.bytes here.reading) number here.reads)) in (
+        sym (here.format is.framed) ∙ sym (ap (λ (r : LogReading). format_of r.header) same),
+        sym here.frames ∙ sym (ap (λ (r : LogReading). r.frames) same),
+      )
+
+  -- ---- what the disk holds
+
+  -- Its base is that of the manifest that was made.
+  pub begun_base : (manifest : ManifestLog) → manifest.number < 2 ^ 32 → IsInRange (new_state found.greatest found.opening.state)
+      → found.opening.number ≡ last_number h
+      → IsBase (base_begun found manifest (but_last (logs_then found))) (layout_begun room found shown (but_last (logs_then found))) h
+  begun_base manifest fits range number = record {
+    numbered = fits;
+    made = ap (λ (o : Option ManifestState). read_in manifest_format (state_then 16 (λ (t : ManifestState). state_behind t []) o))
+        (whole_says state range);
+    goes = subst (λ (ss : List Segment). GoOn state.covered ss (last_number h)) (logs_end found)
+        (subst (GoOn state.covered (logs_then found)) number (found_goes_on found));
+    levels = names_are;
+    frozen = refl;
+    led = begun_led;
+    keep = refl;
+    since = refl;
+    covered = refl;
+    format = refl;
+  }
+
+  module _ (disk : DiskState)
+      (store : HoldsStore (new_state found.greatest found.opening.state) (view_of found) (logs_then found) disk) where
+    logs_held : HoldsLogs head (before ++ active ∷ []) disk
+    logs_held = subst (λ (ss : List Segment). HoldsLogs head ss disk) (logs_end found) store.logs_are
 
     -- And the disk holds it.
-    pub begun_holds : HasFrames manifest (whole_edits state ∷ []) disk
-        → ((m : ℕ) → manifest.number < m → IsNowhere disk (Manifest m))
-        → IsLawful disk → Holds (base_begun found manifest before) (layout_begun room found shown before) disk
-    begun_holds has above lawful = record {
+    pub begun_holds : (manifest : ManifestLog) → HasFrames manifest (whole_edits (new_state found.greatest found.opening.state) ∷ []) disk
+        → ((m : ℕ) → manifest.number < m → IsNowhere disk (Manifest m)) → IsLawful disk
+        → Holds (base_begun found manifest (but_last (logs_then found))) (layout_begun room found shown (but_last (logs_then found))) disk
+    begun_holds manifest has above lawful = record {
       base = record { has = has; above = above };
       files = record {
         logs = logs_held;
@@ -363,8 +412,7 @@ module _ {read : Image} (found : Finds read) (h : History) (shown : Shown read h
             (λ n named. store.needs.tables n (subst (λ (ns : List (List ℕ)). IsNamed ns n) (sym names_are) named)) shown.tables;
         flushed = all_more (HoldsLog disk) (filter (λ (x : Segment). not (has_frames x)) before) below
             (all_filtered (HoldsLog disk) (λ (x : Segment). not (has_frames x)) before
-            (each_held disk head before
-            (new_segment log_format (active_log found.greatest found.opening.state found.logs) [] ∷ []) logs_held))
+            (each_held disk head before (active ∷ []) logs_held))
             (each_below head (HoldsLog disk) (led_into shown.opening.levels) shown.led led_durable);
       };
       durable = store.durable;
@@ -372,7 +420,8 @@ module _ {read : Image} (found : Finds read) (h : History) (shown : Shown read h
     }
       where
         led_durable : (n : ℕ) (is : IsAmong (led_into shown.opening.levels) n) → HoldsLog disk (as_led n (shown.led n is))
-        led_durable n is = by (shown.led n is) (store.needs.logs n (subst (λ (o : Opening). IsAmong (led_into o.levels) n) one is))
+        led_durable n is =
+            by (shown.led n is) (store.needs.logs n (subst (λ (o : Opening). IsAmong (led_into o.levels) n) one_opening is))
           where
             by : (led : HasFramedAmong read shown.sealed n) → DurableAs read disk (Log n) → HoldsLog disk (as_led n led)
             by led (bytes, there, stands) =

@@ -123,7 +123,8 @@ module _ (b : Base) (l : Layout) (h : History) (s : Segment) (disk : DiskState) 
   abbrev pub mid : DiskState
   mid = made table_name (bytes_of l s) disk
 
-  state_is : can.state ≡ flushed_state b.state l.next_table (head (flushed l s)) (flushed l s).covered l.next_log (l.next_table + 1)
+  -- What the manifest says then is told by what it said.
+  pub state_is : can.state ≡ flushed_state b.state l.next_table (head (flushed l s)) (flushed l s).covered l.next_log (l.next_table + 1)
       (numbers_of can.level) (map numbers_of can.deeper)
   state_is = flush_made b.state (numbers_of can.level) (map numbers_of can.deeper) l.next_table (head (flushed l s))
       (flushed l s).covered l.next_log (l.next_table + 1) can.state
@@ -149,7 +150,7 @@ module _ (b : Base) (l : Layout) (h : History) (s : Segment) (disk : DiskState) 
       of [] least (from, between, readable, have, stands, rest) = record { readable = readable; have = have }
       of (x ∷ ss) least (from, between, readable, have, stands, rest) = of ss (x.number + 1) rest
 
-  memtables : AllByRecursion IsLogFile (l.active ∷ l.frozen)
+  pub memtables : AllByRecursion IsLogFile (l.active ∷ l.frozen)
   memtables = (active_file, all_each (HoldsLog disk) IsLogFile l.frozen (λ x held. held.is) frozen_held)
 
   framed : has_frames s ≡ true

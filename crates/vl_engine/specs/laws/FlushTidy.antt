@@ -15,7 +15,6 @@ use Rattle.vl_layout.specs.Ruling.{is_idle}
 use Rattle.vl_layout.specs.Rulings.Flush.{flushed, flushed_table}
 use Rattle.vl_layout.specs.Levels.{in_front}
 use Rattle.vl_layout.specs.Shown.{ShowsLow, low_at}
-use Rattle.vl_layout.specs.Shows.{Shows}
 use Rattle.vl_layout.specs.Sources.{behind_active, but_oldest, oldest, sources, table_entries, tables}
 use Rattle.vl_layout.specs.Start.{has_frames}
 use Rattle.vl_layout.specs.Tidy.{IsPlacedAt, IsPlacedIn, IsTidy, log_numbers, sealed}

@@ -1,9 +1,17 @@
 -- A version that has a layout has the one behind a flush, with the flushed log's table in front and its memtable gone.
-use Rattle.std.specs.Prelude.{◌≡◌, ◌<◌, ℕ, List, [], ◌∷◌, ◌++◌, Option, Some}
-use Rattle.std.specs.List.{AllByRecursion, AllZip, flat_map}
+use Rattle.std.specs.Prelude.{◌≡◌, ℕ, List, [], ◌∷◌, ◌++◌, map, Option, Some}
+use Rattle.std.specs.List.{AllZip, flat_map}
 use Rattle.std.proofs.Common.{sym, ap, subst, ◌∙◌}
-use Rattle.vl_engine.specs.Laid.{HasLayout, HasLog, IsMemtableOf, IsTableOf}
+use Rattle.vl_block.specs.Bytes.{table_bytes}
+use Rattle.vl_block.specs.Shapes.{IsShapeOf}
+use Rattle.vl_block.specs.declared.shape.TableShape.{TableShape}
+use Rattle.vl_back.specs.Tables as staged
+use Rattle.vl_back.specs.declared.staging.StagedFlush.{StagedFlush}
+use Rattle.vl_disk.specs.DiskState.{DiskState}
+use Rattle.vl_engine.specs.Flushing.{IsNextVersion, IsTableHeld}
+use Rattle.vl_engine.specs.Laid.{HasLayout, IsMemtableOf, IsTableOf}
 use Rattle.vl_engine.specs.laws.FlushTidy.{IsWider}
+use Rattle.vl_engine.specs.laws.SharedLaws.{below_shared, logs_shared, order_shared, same_tables, tables_shared, told_shared}
 use Rattle.vl_layout.specs.Levels.{in_front}
 use Rattle.vl_layout.specs.Logs.{memtable}
 use Rattle.vl_layout.specs.Rulings.Flush.{flushed, flushed_table}
@@ -12,48 +20,117 @@ use Rattle.vl_layout.specs.Tidy.{sealed}
 use Rattle.vl_layout.specs.declared.layout.Layout.{Layout}
 use Rattle.vl_layout.specs.declared.segment.Segment.{Segment}
 use Rattle.vl_layout.specs.declared.table.Table as laid
-use Rattle.vl_layout_laws.specs.laws.TidyLogs.{frozen_split}
+use Rattle.vl_memtable.specs.Contents.{Contents}
 use Rattle.vl_memtable.specs.declared.frozen_log.FrozenLog.{FrozenLog}
-use Rattle.vl_seglog.specs.declared.sealed.SealedLog.{SealedLog}
+use Rattle.vl_model.specs.Formats.{table_format}
+use Rattle.vl_model.specs.Placement.{placed}
+use Rattle.vl_model.specs.declared.entry.Entry.{Entry}
+use Rattle.vl_table.specs.Tables.{number_of, shape_of}
 use Rattle.vl_table.specs.declared.table.Table.{Table}
-use Rattle.vl_version.specs.Sources.{AreTold, tables_in}
+use Rattle.vl_version.specs.Oldest as version_oldest
+use Rattle.vl_version.specs.Shared.{AreSameLogs}
+use Rattle.vl_version.specs.Sources.{tables_in}
 use Rattle.vl_version.specs.declared.version.Version.{Version}
-use Rattle.vl_version.specs.levels.LevelsLooked.{AreInOrder}
+use Rattle.vl_version.specs.levels.LevelTables.{AreAllApart, all_tables}
+use Rattle.vl_version.specs.levels.LevelsLooked.{tables_of}
 
--- what lies side by side does so without the last of each
-zip_front : (xs : List FrozenLog) (x : FrozenLog) (ys : List Segment) (y : Segment)
-    → AllZip IsMemtableOf (xs ++ x ∷ []) (ys ++ y ∷ []) → AllZip IsMemtableOf xs ys
-zip_front [] x [] y all = tt
-zip_front [] x (z ∷ []) y all = absurd all.1
-zip_front [] x (z ∷ w ∷ ys) y all = absurd all.1
-zip_front (z ∷ []) x [] y all = absurd all.1
-zip_front (z ∷ w ∷ xs) x [] y all = absurd all.1
-zip_front (z ∷ xs) x (w ∷ ys) y all = (all.0, zip_front xs x ys y all.1)
+-- what lies side by side does so without the last of each,
+zip_but_oldest : (xs : List FrozenLog) (ys : List Segment) → AllZip IsMemtableOf xs ys
+    → AllZip IsMemtableOf (version_oldest.but_oldest xs) (but_oldest ys)
+zip_but_oldest [] [] all = tt
+zip_but_oldest [] (y ∷ ys) all = absurd all
+zip_but_oldest (x ∷ xs) [] all = absurd all
+zip_but_oldest (x ∷ []) (y ∷ []) all = tt
+zip_but_oldest (x ∷ []) (y ∷ z ∷ ys) all = absurd all.1
+zip_but_oldest (x ∷ w ∷ xs) (y ∷ []) all = absurd all.1
+zip_but_oldest (x ∷ w ∷ xs) (y ∷ z ∷ ys) all = (all.0, zip_but_oldest (w ∷ xs) (z ∷ ys) all.1)
 
-module _ {H : Type 0} (bytes : H → Option (List ℕ)) (version after : Version H) (l : Layout) (s : Segment)
-    (has : HasLayout bytes version l) (waits : oldest l.frozen ≡ Some s) (level : List laid.Table)
-    (deeper : List (List laid.Table)) (are : l.levels ≡ level ∷ deeper) (stay : IsWider (sealed (flushed l s)) (sealed l)) where
-  -- where it has changed so, and the new table is the layout's
-  pub laid_flushed : (table : Table H) (rest : List FrozenLog) (last : FrozenLog)
-      → after.active.entries ≡ version.active.entries
-      → version.behind.frozen.items ≡ rest ++ last ∷ [] → after.behind.frozen.items ≡ rest
-      → tables_in after ≡ table ∷ tables_in version → AreInOrder after.behind.levels
-      → after.behind.logs.items ≡ version.behind.logs.items
-      → IsTableOf bytes table (flushed_table l s) → HasLayout bytes after (flushed l s)
-  laid_flushed table rest last active was now more ordered logs new = record {
-    active = active ∙ has.active;
-    frozen = subst (λ (fs : List FrozenLog). AllZip IsMemtableOf fs (but_oldest l.frozen)) (sym now)
-        (zip_front rest last (but_oldest l.frozen) s
-        (subst (λ (fs : List FrozenLog). AllZip IsMemtableOf fs (but_oldest l.frozen ++ s ∷ [])) was
-        (subst (AllZip IsMemtableOf version.behind.frozen.items) (frozen_split l.frozen s waits) has.frozen)));
-    tables_are = subst (λ (ts : List (Table H)). AllZip (IsTableOf bytes) ts (tables (flushed l s))) (sym more)
-        (subst (AllZip (IsTableOf bytes) (table ∷ tables_in version)) (sym new_is) (new, has.tables_are));
-    in_order = ordered;
-    logs = λ n x at. subst (λ (ls : List (SealedLog H)). HasLog bytes ls n x) (sym logs) (has.logs n x (stay n x at));
-    told = subst (AreTold bytes) (sym logs) has.told;
-    below = subst (AllByRecursion (λ (log : SealedLog H). log.number < l.active.number)) (sym logs) has.below;
+-- and these lie side by side.
+zip_oldest : (xs : List FrozenLog) (ys : List Segment) → AllZip IsMemtableOf xs ys → (x : FrozenLog) (y : Segment)
+    → version_oldest.oldest_frozen xs ≡ Some x → oldest ys ≡ Some y → IsMemtableOf x y
+zip_oldest [] ys all x y last first = absurd cc
+zip_oldest (a ∷ xs) [] all x y last first = absurd all
+zip_oldest (a ∷ []) (b ∷ []) all x y last first =
+    subst (λ (z : FrozenLog). IsMemtableOf z y) (one_log a x last)
+    (subst (IsMemtableOf a) (one_segment b y first) all.0)
+  where
+    one_log : (p q : FrozenLog) → Some p ≡ Some q → p ≡ q
+    one_log p q e = cc
+
+    one_segment : (p q : Segment) → Some p ≡ Some q → p ≡ q
+    one_segment p q e = cc
+zip_oldest (a ∷ []) (b ∷ c ∷ ys) all x y last first = absurd all.1
+zip_oldest (a ∷ d ∷ xs) (b ∷ []) all x y last first = absurd all.1
+zip_oldest (a ∷ d ∷ xs) (b ∷ c ∷ ys) all x y last first = zip_oldest (d ∷ xs) (c ∷ ys) all.1 x y last first
+
+module _ {H : Type 0} (bytes : H → Option (List ℕ)) where
+  -- Of the memtable that is flushed the entries are the layout's.
+  pub oldest_entries : (version : Version H) (l : Layout) (s : Segment) (log : FrozenLog) → HasLayout bytes version l
+      → version_oldest.oldest_frozen version.behind.frozen.items ≡ Some log → oldest l.frozen ≡ Some s
+      → log.memtable.entries ≡ memtable s
+  oldest_entries version l s log has last first =
+      (zip_oldest version.behind.frozen.items l.frozen has.frozen log s last first).entries
+
+  -- The table that was staged and is held is the layout's.
+  pub made_table : (told : Option DiskState) (state : DiskState) (flush : StagedFlush) (table : Table H) (l : Layout) (s : Segment)
+      → told ≡ Some state → IsTableHeld bytes told flush table
+      → staged.IsTableOf l.next_table (map placed (memtable s)) flush.table → IsTableOf bytes table (flushed_table l s)
+  made_table told state flush table l s is held spelled = record {
+    of = record {
+      shape = subst (λ (n : ℕ). IsShapeOf n es (shape_of table)) (sym number_is) shape_then;
+      told = held.held state is ∙ ap Some spelled.bytes
+          ∙ ap (λ (f : ℕ). Some (table_bytes f l.next_table es)) (sym format_is)
+          ∙ ap (λ (n : ℕ). Some (table_bytes (shape_of table).format n es)) (sym number_is);
+    };
+    number = number_is;
+    format = format_is;
   }
     where
-      new_is : tables (flushed l s) ≡ flushed_table l s ∷ tables l
-      new_is = ap (λ (ls : List (List laid.Table)). flat_map (λ ts. ts) (in_front (flushed_table l s) ls)) are
-          ∙ sym (ap (λ (ls : List (List laid.Table)). flushed_table l s ∷ flat_map (λ ts. ts) ls) are)
+      es : List Entry
+      es = map placed (memtable s)
+
+      shape_then : IsShapeOf l.next_table (map placed (memtable s)) (shape_of table)
+      shape_then = subst (IsShapeOf l.next_table (map placed (memtable s))) (sym held.shape) spelled.shape
+
+      number_is : number_of table ≡ l.next_table
+      number_is = shape_then.numbered
+
+      format_is : (shape_of table).format ≡ table_format
+      format_is = ap (λ (x : TableShape). x.format) held.shape ∙ spelled.format
+
+  module _ (before after : Version H) (l : Layout) (s : Segment) (has : HasLayout bytes before l) (level : List laid.Table)
+      (deeper : List (List laid.Table)) (are : l.levels ≡ level ∷ deeper) (stay : IsWider (sealed (flushed l s)) (sealed l))
+      (table : Table H) (made : IsNextVersion bytes before after table) where
+    tables_are : AllZip (IsTableOf bytes) (tables_of made.next.levels) (tables l)
+    tables_are = tables_shared bytes (tables_in before) (tables_of made.next.levels) (tables l)
+        (same_tables bytes before.behind.levels made.next.levels made.is.levels) has.tables_are
+
+    tables_then : tables_in after ≡ table ∷ tables_of made.next.levels
+    tables_then = ap (λ (ts : List (Table H)). ts ++ all_tables after.behind.levels.deeper.items) made.newest
+        ∙ ap (λ (ls : List (List (Table H))). (table ∷ made.next.levels.newest.items) ++ all_tables ls) deeper_is
+
+      where
+        deeper_is : after.behind.levels.deeper.items ≡ made.next.levels.deeper.items
+        deeper_is = ap (λ d. d.items) made.deeper
+
+    new_is : tables (flushed l s) ≡ flushed_table l s ∷ tables l
+    new_is = ap (λ (ls : List (List laid.Table)). flat_map (λ ts. ts) (in_front (flushed_table l s) ls)) are
+        ∙ sym (ap (λ (ls : List (List laid.Table)). flushed_table l s ∷ flat_map (λ ts. ts) ls) are)
+
+    logs_then : AreSameLogs bytes before.behind.logs.items after.behind.logs.items
+    logs_then = subst (AreSameLogs bytes before.behind.logs.items) (sym made.logs) made.is.logs
+
+    -- where the new table is the layout's
+    pub laid_flushed : IsTableOf bytes table (flushed_table l s) → HasLayout bytes after (flushed l s)
+    laid_flushed new = record {
+      active = ap (λ (m : Contents). m.entries) (made.active ∙ made.is.active) ∙ has.active;
+      frozen = subst (λ (fs : List FrozenLog). AllZip IsMemtableOf fs (but_oldest l.frozen)) (sym (made.frozen ∙ made.is.frozen))
+          (zip_but_oldest before.behind.frozen.items l.frozen has.frozen);
+      tables_are = subst (λ (ts : List (Table H)). AllZip (IsTableOf bytes) ts (tables (flushed l s))) (sym tables_then)
+          (subst (AllZip (IsTableOf bytes) (table ∷ tables_of made.next.levels)) (sym new_is) (new, tables_are));
+      in_order = subst AreAllApart (sym (ap (λ d. d.items) made.deeper))
+          (order_shared bytes before.behind.levels made.next.levels made.is.levels has.in_order);
+      logs = λ n x at. logs_shared bytes before.behind.logs.items after.behind.logs.items logs_then n x (has.logs n x (stay n x at));
+      told = told_shared bytes before.behind.logs.items after.behind.logs.items logs_then has.told;
+      below = below_shared bytes l.active.number before.behind.logs.items after.behind.logs.items logs_then has.below;
+    }

@@ -1,18 +1,29 @@
 -- What is seen at a begin stays as it was, whatever is committed later.
-use Rattle.std.specs.Prelude.{◌≤◌, ℕ, List, length, Option}
-use Rattle.std.proofs.Common.{ap, arith, length-append, ◌∙◌}
-use Rattle.vl_engine.specs.Sees.{Sees, ShowsAt}
+use Rattle.std.specs.Prelude.{◌≡◌, ◌≢◌, ◌≤◌, ◌==◌, ℕ, Bool, true, false, if◌then◌else◌, List, [], ◌∷◌, length, Option, None}
+use Rattle.std.specs.List.{AllByRecursion, AllZip}
+use Rattle.std.proofs.Common.{ap, arith, length-append, sym, ◌∙◌}
+use Rattle.std.proofs.lemmas.Bool.Decides.{nat_tests}
+use Rattle.vl_engine.specs.Laid.{HasLayout, IsTableOf}
+use Rattle.vl_engine.specs.Sees.{Sees, SeesAlone, ShowsAt}
 use Rattle.vl_engine.specs.declared.txn.Txn.{Txn}
+use Rattle.vl_engine.specs.declared.view.View.{View}
 use Rattle.vl_layout.specs.Shown.{ShowsLow, low_at}
 use Rattle.vl_layout.specs.Shows.{Shows}
-use Rattle.vl_layout.specs.Sources.{floor, sources}
+use Rattle.vl_layout.specs.Sources.{floor, sources, tables}
+use Rattle.vl_layout.specs.TidyLevels.{AreLevels, IsDistinct}
 use Rattle.vl_layout.specs.declared.layout.Layout.{Layout}
+use Rattle.vl_layout.specs.declared.table.Table as laid
 use Rattle.vl_layout.specs.laws.LowShows.{floor-up, low_up, shows-extends, shows_from}
 use Rattle.vl_model.specs.History.{Extends, History, last_number}
 use Rattle.vl_model.specs.Winners.{Logs}
 use Rattle.vl_model.specs.Reads.{Read}
 use Rattle.vl_model.specs.declared.entry.Entry.{Entry}
 use Rattle.vl_model.specs.laws.ExplainedLaws.{explained-extends}
+use Rattle.vl_table.specs.Kept.{Files}
+use Rattle.vl_table.specs.KeptBlocks.{AreFiles}
+use Rattle.vl_table.specs.Tables.{number_of}
+use Rattle.vl_table.specs.declared.table.Table.{Table}
+use Rattle.vl_version.specs.Sources.{tables_in}
 use Rattle.vl_version.specs.declared.version.Version.{Version}
 
 last-extended : (least most : History) → Extends least most → last_number least ≤ last_number most
@@ -44,6 +55,53 @@ pub shows_at_later : (logs : Logs) (es : List Entry) (least most : History) (num
 shows_at_later logs es least most number extends known shows =
     shows-extends logs es least most (λ key. number) number extends known shows
 
+-- ---- the files of a version's tables
+
+module _ {H : Type 0} (bytes : H → Option (List ℕ)) where
+  -- the file of the table with a number
+  abbrev pub file_in : List (Table H) → Files
+  file_in [] number = None
+  file_in (t ∷ ts) number = if number_of t == number then bytes t.held else file_in ts number
+
+  -- tables of other numbers keep their files
+  others_filed : (n : ℕ) (told : Option (List ℕ)) (files : Files) (us : List (Table H)) (ls : List laid.Table)
+      → AllZip (IsTableOf bytes) us ls → AllByRecursion (λ (u : laid.Table). u.number ≢ n) ls → AreFiles bytes files us
+      → AreFiles bytes (λ number. if n == number then told else files number) us
+  others_filed n told files [] [] zip apart are = tt
+  others_filed n told files [] (l ∷ ls) zip apart are = absurd zip
+  others_filed n told files (u ∷ us) [] zip apart are = absurd zip
+  others_filed n told files (u ∷ us) (l ∷ ls) zip apart are =
+      let number = zip.0.number in
+      let other : l.number ≢ n = apart.0 in
+      let unlike : (n == number_of u) ≡ false = grind (arith, nat_tests, number, other) in (
+        ap (λ (b : Bool). if b then told else files (number_of u)) unlike ∙ are.0,
+        others_filed n told files us ls zip.1 apart.1 are.1,
+      )
+
+  -- where no number stands twice, these are the files of tables that are those of a layout
+  filed : (ts : List (Table H)) (ls : List laid.Table) → AllZip (IsTableOf bytes) ts ls → IsDistinct ls
+      → AreFiles bytes (file_in ts) ts
+  filed [] [] zip apart = tt
+  filed [] (l ∷ ls) zip apart = absurd zip
+  filed (t ∷ ts) [] zip apart = absurd zip
+  filed (t ∷ ts) (l ∷ ls) zip apart =
+      let same : (number_of t == number_of t) ≡ true = grind (arith, nat_tests) in
+      let number = zip.0.number in
+      let others : AllByRecursion (λ (u : laid.Table). u.number ≢ number_of t) ls = renamed ls (sym number) apart.0 in (
+        ap (λ (b : Bool). if b then bytes t.held else file_in ts (number_of t)) same,
+        others_filed (number_of t) (bytes t.held) (file_in ts) ts ls zip.1 others (filed ts ls zip.1 apart.1),
+      )
+    where
+      renamed : (ms : List laid.Table) → l.number ≡ number_of t → AllByRecursion (λ (u : laid.Table). u.number ≢ l.number) ms
+          → AllByRecursion (λ (u : laid.Table). u.number ≢ number_of t) ms
+      renamed [] is all = tt
+      renamed (m ∷ ms) is all = (λ e. all.0 (e ∙ sym is), renamed ms is all.1)
+
+  -- So a version that has a layout has its tables' files.
+  pub files_laid : (version : Version H) (l : Layout) → HasLayout bytes version l → AreLevels l.levels
+      → AreFiles bytes (file_in (tables_in version)) (tables_in version)
+  files_laid version l has levels = filed (tables_in version) (tables l) has.tables_are levels.distinct
+
 -- ---- what a reader sees
 
 -- So a version shows to a later history what it shows,
@@ -59,17 +117,25 @@ version_later bytes version least most number extends shows =
       logs = shows.logs;
       has = shows.has;
       shows = shows_at_later shows.logs shows.entries_of least most number extends known shows.shows;
-      without_tables = shows.without_tables;
-      alone = shows.alone;
       readable = omega (arith, readable, first);
       known = omega (arith, known, later);
     }
 
--- and a transaction sees there what it sees.
+-- and a transaction and a view see there what they see.
 pub sees_later : {H R : Type 0} (bytes : H → Option (List ℕ)) (txn : Txn H R) (least most : History) (reads : List Read)
     → Extends least most → Sees bytes txn least reads → Sees bytes txn most reads
 sees_later bytes txn least most reads extends sees = record {
   version = version_later bytes txn.version least most txn.number extends sees.version;
+  files = sees.files;
+  reader = sees.reader;
   notes = sees.notes;
   explained = explained-extends least most extends txn.number sees.version.known reads sees.explained;
+}
+
+pub sees_alone_later : {H R : Type 0} (bytes : H → Option (List ℕ)) (view : View H R) (least most : History)
+    → Extends least most → SeesAlone bytes view least → SeesAlone bytes view most
+sees_alone_later bytes view least most extends sees = record {
+  version = version_later bytes view.version least most view.number extends sees.version;
+  files = sees.files;
+  reader = sees.reader;
 }

@@ -1,5 +1,5 @@
 -- The edits of a flush's switch are those of the layout that the ruling leaves.
-use Rattle.std.specs.Prelude.{◌≡◌, ◌≤◌, ℕ, ◌+◌, List, [], ◌∷◌, ◌++◌, length, Some, refl}
+use Rattle.std.specs.Prelude.{◌≡◌, ◌≤◌, ℕ, ◌+◌, List, [], ◌∷◌, ◌++◌, drop, length, Some, refl}
 use Rattle.std.proofs.Common.{ap, subst, ◌∙◌, arith}
 use Rattle.vl_back.specs.FlushEdits.{flush_switch, head_of, switch_of}
 use Rattle.vl_back.specs.declared.back.Back.{Back}
@@ -76,3 +76,12 @@ module _ (back : Back) (b : Base) (l : Layout) (s : Segment) (is : IsBack back b
       let (number, covers, rest) =
       subst (λ (all : List Waiting). AreWaiting l.covered all (s ∷ newest_first (but_oldest l.frozen))) are waiting_so in
       subst (λ (n : ℕ). AreWaiting n ws (newest_first (but_oldest l.frozen))) covers rest
+
+  -- Without the first of them these are left.
+  pub waiting_dropped : AreWaiting (flushed l s).covered (drop 1 back.waiting.items) (newest_first (flushed l s).frozen)
+  waiting_dropped = by back.waiting.items waiting_so
+    where
+      by : (ws : List Waiting) → AreWaiting l.covered ws (s ∷ newest_first (but_oldest l.frozen))
+          → AreWaiting (flushed l s).covered (drop 1 ws) (newest_first (but_oldest l.frozen))
+      by [] are = absurd are
+      by (w ∷ ws) (number, covers, rest) = subst (λ (n : ℕ). AreWaiting n ws (newest_first (but_oldest l.frozen))) covers rest

@@ -1,5 +1,6 @@
 ghost use Rattle.std.specs.Prelude.{◌≡◌, [], IfOk};
 ghost use Rattle.vl_engine.specs.Answers.{begin_outcome, view_outcome};
+ghost use Rattle.vl_engine.specs.Reading.{IsInMemory};
 ghost use Rattle.vl_engine.specs.Represents.{Fronts, Represents, StandsFor};
 ghost use Rattle.vl_engine.specs.Sees.{IsNew, Sees, SeesAlone};
 ghost use Rattle.vl_layout.specs.Decides.{Decides, as_before, no_effects};
@@ -10,7 +11,7 @@ ghost use Rattle.vl_model.specs.History.{History};
 
 use crate::{BeginFail, Engine, Txn, View};
 use vl_disk::Disk;
-use vl_table::BlockReader;
+use vl_table::{BlockReader, KEPT_BLOCKS};
 use vl_txn::{Reads, Writes};
 
 impl<D: Disk> Engine<D> {
@@ -29,6 +30,8 @@ impl<D: Disk> Engine<D> {
         ensures sees { (h : History) (l : Layout) → StandsFor D.Held.bytes self.old.core h l
             → IfOk result (λ txn. Sees D.Held.bytes txn h []) }
         ensures fresh { IfOk result IsNew }
+        // Where all of the engine's version is in memory, so is its own, and no read of it asks a file.
+        ensures memory { IsInMemory self.old.core.version → IfOk result (λ txn. IsInMemory txn.version) }
 
         // The disk isn't asked, and what steps need stays.
         ensures disk { self.new.disk ≡ self.old.disk }
@@ -63,14 +66,14 @@ impl<D: Disk> Engine<D> {
             (view_outcome result) no_effects }
         ensures sees { (h : History) (l : Layout) → StandsFor D.Held.bytes self.old.core h l
             → IfOk result (λ view. SeesAlone D.Held.bytes view h) }
+        ensures memory { IsInMemory self.old.core.version → IfOk result (λ view. IsInMemory view.version) }
         ensures disk { self.new.disk ≡ self.old.disk }
         ensures back { self.new.core.back ≡ self.old.core.back }
     {
         let Ok(reader) = self.disk.reader(self.alloc) else {
             return Err(BeginFail::NoMemory);
         };
-        // While no version has tables there is no block to keep: the least room is enough.
-        let reader = BlockReader::new(self.alloc, reader, 1)?;
+        let reader = BlockReader::new(self.alloc, reader, KEPT_BLOCKS)?;
         let version = self.core.version.share()?;
         match self.core.front.begin() {
             Ok(ticket) => Ok(View {

@@ -1,4 +1,4 @@
-ghost use Rattle.std.specs.Prelude.{◌≡◌, ◌≤◌, List, length, Some, IfErr, IfOk, IsErr};
+ghost use Rattle.std.specs.Prelude.{◌≡◌, ◌≤◌, ◌+◌, List, [], length, Some, IfErr, IfOk, IsErr, vec_capacity};
 ghost use Rattle.vl_disk.specs.Calls.{ChangesNothing};
 ghost use Rattle.vl_disk.specs.Crash.{Image};
 ghost use Rattle.vl_disk.specs.DiskState.{DiskState};
@@ -7,7 +7,7 @@ ghost use Rattle.vl_disk.specs.Moments.{HoldsThroughout};
 ghost use Rattle.vl_disk.specs.Started.{IsRead};
 ghost use Rattle.vl_disk.specs.declared.name.Name.{Name};
 ghost use Rattle.vl_engine.specs.Carries.{CrashesShow, Tells};
-ghost use Rattle.vl_engine.specs.Opening.{AnswersOpening, IsAsBefore, IsBackAtStart, IsDurable, IsFault, disk_behind, recovered, why_of};
+ghost use Rattle.vl_engine.specs.Opening.{AnswersOpening, AreLeveled, IsAsBefore, IsBackAtStart, IsDiskFault, IsDurable, IsFault, disk_behind, reader_faults, recovered, why_of};
 ghost use Rattle.vl_engine.specs.Represents.{Represents, StandsFor};
 ghost use Rattle.vl_engine.specs.Shown.{Shown};
 ghost use Rattle.vl_layout.specs.Start.{layout_at_start};
@@ -17,32 +17,39 @@ ghost use Rattle.vl_recover.specs.crash.Alike.{OpensAsOf};
 ghost use Rattle.vl_recover.specs.crash.Meanwhile.{FaultsAt, IsMeanwhile, IsRepaired};
 ghost use Rattle.vl_recover.specs.crash.Starts.{MayOpen};
 ghost use Rattle.vl_recover.specs.opening.Answers.{AreStrayNames, Finds, IsNotOpened, calls_to_open};
+ghost use Rattle.vl_recover.specs.opening.Opening.{NamesNoTable};
 ghost use Rattle.vl_recover.specs.opening.Results.{recovery_by};
 ghost use Rattle.vl_recover.specs.repairing.Steps.{MakesSome};
 
-use crate::kept::{Back, Core};
-use crate::{Engine, OpenFail};
+use crate::kept::Core;
+use crate::{Engine, OpenError, OpenFail};
 use std::alloc::Global;
+use vl_back::Back;
 use vl_disk::Disk;
 use vl_front::Front;
 use vl_recover::{Parts, recover};
-use vl_version::{Levels, Version};
+use vl_table::Table;
+use vl_version::{Level, Levels, Version};
+
+// How many levels there are below level 0.
+const DEEPER_LEVELS: usize = 6;
 
 impl<D: Disk> Engine<D> {
     /// Opens the store on a disk, or makes one where nothing stands. Each log may have so many bytes.
-    pub fn open(alloc: Global, disk: D, room: u64) -> Result<Self, OpenFail<D>>
+    pub fn open(alloc: Global, disk: D, room: u64) -> Result<Self, OpenFail<D, D::Reader>>
         requires { room ≤ max_room }
 
         // It stands for the history that reads of the disk show, and for the layout at its start; and represents it where a
         // store may be opened.
         ensures stands { (state : DiskState) (read : Image) (found : Finds read) (h : History) → D.told disk ≡ Some state
-            → IsRead read state → Shown read h (last_number h)
-            → IfOk result (λ engine. StandsFor D.Held.bytes engine.core h (layout_at_start room (recovered found))) }
+            → IsRead read state → (shown : Shown read h (last_number h))
+            → IfOk result (λ engine. StandsFor D.Held.bytes engine.core h (layout_at_start room (recovered found shown))) }
         ensures represents { (state : DiskState) (read : Image) (found : Finds read) (h : History) → D.told disk ≡ Some state
-            → MayOpen state → IsRead read state → Shown read h (last_number h)
-            → IfOk result (λ engine. Represents D.Held.bytes engine.core (D.told engine.disk) h (layout_at_start room (recovered found))) }
+            → MayOpen state → IsRead read state → (shown : Shown read h (last_number h))
+            → IfOk result (λ engine. Represents D.Held.bytes engine.core (D.told engine.disk) h
+            (layout_at_start room (recovered found shown))) }
         ensures back { (state : DiskState) (read : Image) (found : Finds read) → D.told disk ≡ Some state → IsRead read state
-            → IfOk result (λ engine. IsBackAtStart found room engine.core.back) }
+            → IfOk result (λ engine. IsBackAtStart found engine.core.back) }
 
         // What a crash leaves meanwhile shows what was opened; and opens as something that one could have left before.
         ensures through { (state : DiskState) (read : Image) (h : History) → D.told disk ≡ Some state → IsDurable state
@@ -62,8 +69,12 @@ impl<D: Disk> Engine<D> {
         ensures left_alone { (IsFault (why_of result) → ⊥) → IsErr result
             → IsAsBefore D.Watched disk (disk_behind result) }
 
-        // A fault is counted, and named by the file at which it came.
-        ensures cause { HasCause (D.faults disk) (D.faults (disk_behind result)) (IsFault (why_of result)) }
+        // A fault is counted, by the disk or by the reader that is handed back, and named by the file at which it came.
+        ensures cause { HasCause (D.faults disk) (D.faults (disk_behind result))
+            (IsDiskFault (reader_faults D.Reader.faults result) (why_of result)) }
+        // Where no table is named that reader isn't asked.
+        ensures unread { (state : DiskState) (read : Image) → D.told disk ≡ Some state → IsRead read state → NamesNoTable read
+            → reader_faults D.Reader.faults result ≡ 0 }
         ensures at { (state : DiskState) (read : Image) → D.told disk ≡ Some state → IsRead read state
             → IfErr result (λ fail. FaultsAt read state (D.calls disk) (D.calls (disk_behind result)) (recovery_by fail.why)) }
 
@@ -80,12 +91,22 @@ impl<D: Disk> Engine<D> {
         ensures repaired { (state : DiskState) (read : Image) → D.told disk ≡ Some state → IsRead read state
             → IfOk result (λ engine. IsRepaired read state (D.told engine.disk)) }
         ensures calls { (state : DiskState) (read : Image) (found : Finds read) (strays : List Name)
-            → D.told disk ≡ Some state → IsRead read state → AreStrayNames read found.opening.state.head strays
+            → D.told disk ≡ Some state → IsRead read state → AreStrayNames read found.opening strays
             → IfOk result (λ engine. D.calls engine.disk ≡ after_calls (calls_to_open found (length strays)) (D.calls disk)) }
         ensures stopped { (state : DiskState) (read : Image) (found : Finds read) (strays : List Name)
-            → D.told disk ≡ Some state → IsRead read state → AreStrayNames read found.opening.state.head strays
+            → D.told disk ≡ Some state → IsRead read state → AreStrayNames read found.opening strays
             → IfErr result (λ fail. MakesSome (calls_to_open found (length strays)) (D.calls disk) (D.calls fail.disk)) }
     {
+        let deeper = match Vec::with_capacity(alloc, DEEPER_LEVELS) {
+            Ok(deeper) => deeper,
+            Err(_) => {
+                return Err(OpenFail {
+                    why: OpenError::NoMemory,
+                    disk,
+                    reader: None,
+                });
+            }
+        };
         let parts = match recover(alloc, disk, room) {
             Ok(parts) => parts,
             Err(fail) => return Err(fail),
@@ -96,23 +117,44 @@ impl<D: Disk> Engine<D> {
             number,
             state,
             manifest,
+            levels,
             frozen,
+            waiting,
+            sealed,
             active,
         } = parts;
         let next_log = state.next_log.max(active.number.saturating_add(1));
+        let leveled = with_levels(levels, deeper);
         Ok(Engine {
             alloc,
             disk,
             core: Core {
-                version: Version::new(alloc, frozen, Levels::none(alloc), Vec::new(alloc)),
+                version: Version::new(alloc, frozen, leveled, sealed),
                 front: Front::new(alloc, number, active, room),
                 back: Back {
                     manifest,
                     state,
                     next_log,
                     version_number: 0,
+                    waiting,
                 },
             },
         })
     }
+}
+
+// The levels with these tables, those of level 0 first. There is room for the ones below it.
+fn with_levels<H: Drop>(tables: Vec<Vec<Table<H>>>, deeper: Vec<Level<H>>) -> Levels<H>
+    requires some { 1 ≤ length tables.items }
+    requires room { length tables.items ≤ vec_capacity deeper + 1 }
+    requires empty { deeper.items ≡ [] }
+    ensures { AreLeveled tables.items result }
+{
+    let mut others = tables;
+    let newest = others.remove(0);
+    let mut all = deeper;
+    for level in others {
+        all.push_reserved(Level::new(level));
+    }
+    Levels::new(newest, all)
 }

@@ -2,7 +2,7 @@ ghost use Rattle.std.specs.Prelude.{◌≡◌, ◌≤◌, ◌++◌, ◌∷◌, [
 ghost use Rattle.std.specs.FinMap.{get};
 ghost use Rattle.std.specs.Option.{option_map};
 ghost use Rattle.vl_disk.specs.Faults.{HasCause};
-ghost use Rattle.vl_engine.specs.Reading.{IsRefusedBy, IsSound, NotesNothing, OnlyNotes, ReadFailed, refused_bounds, rows_under, tagged_under, value_under, written_value};
+ghost use Rattle.vl_engine.specs.Reading.{IsInMemory, IsRefusedBy, IsSound, NotesNothing, OnlyNotes, ReadFailed, refused_bounds, rows_under, tagged_under, value_under, written_value};
 ghost use Rattle.vl_engine.specs.Sees.{Sees};
 ghost use Rattle.vl_model.specs.History.{History, value_at};
 ghost use Rattle.vl_model.specs.Reads.{KeyRead, Read};
@@ -34,12 +34,14 @@ impl<H: HeldFile, R: Reader<Held = H> + Drop> Txn<H, R> {
         ensures noted { OnOk result (self.new.reads ≡ after_get self.old.writes key.now self.old.reads) }
         ensures keeps { OnlyNotes self.old self.new }
 
-        // It is refused exactly by the limits, and then nothing is noted.
+        // It is refused exactly by the limits. Where it gives nothing, nothing is noted, and all is seen as before.
         ensures refused { IsRefusedBy (refused_key key.now) result }
         ensures kept { OnErr result (NotesNothing self.old self.new) }
+        ensures still { (h : History) (reads : List Read) → Sees H.bytes self.old h reads → OnErr result (Sees H.bytes self.new h reads) }
 
-        // A fault is the reader's. What is seen is never damaged, and while there are no tables nothing of it is read.
+        // A fault is the reader's, and comes only where something of what is seen stands in files. What is seen is never damaged.
         ensures cause { HasCause (R.faults self.old.reader.reader) (R.faults self.new.reader.reader) (ReadFailed result) }
+        ensures near { IsInMemory self.old.version → ReadFailed result → ⊥ }
         ensures sound { (h : History) (reads : List Read) → Sees H.bytes self.old h reads → IsSound result }
     {
         check_key(key)?;
@@ -59,7 +61,9 @@ impl<H: HeldFile, R: Reader<Held = H> + Drop> Txn<H, R> {
         ensures keeps { OnlyNotes self.old self.new }
         ensures refused { IsRefusedBy (refused_key key.now) result }
         ensures kept { OnErr result (NotesNothing self.old self.new) }
+        ensures still { (h : History) (reads : List Read) → Sees H.bytes self.old h reads → OnErr result (Sees H.bytes self.new h reads) }
         ensures cause { HasCause (R.faults self.old.reader.reader) (R.faults self.new.reader.reader) (ReadFailed result) }
+        ensures near { IsInMemory self.old.version → ReadFailed result → ⊥ }
         ensures sound { (h : History) (reads : List Read) → Sees H.bytes self.old h reads → IsSound result }
     {
         Ok(self.get(key)?.map(tagged_value))
@@ -79,7 +83,9 @@ impl<H: HeldFile, R: Reader<Held = H> + Drop> Txn<H, R> {
         ensures keeps { OnlyNotes self.old self.new }
         ensures refused { IsRefusedBy (refused_bounds low.now high.now) result }
         ensures kept { OnErr result (NotesNothing self.old self.new) }
+        ensures still { (h : History) (reads : List Read) → Sees H.bytes self.old h reads → OnErr result (Sees H.bytes self.new h reads) }
         ensures cause { HasCause (R.faults self.old.reader.reader) (R.faults self.new.reader.reader) (ReadFailed result) }
+        ensures near { IsInMemory self.old.version → ReadFailed result → ⊥ }
         ensures sound { (h : History) (reads : List Read) → Sees H.bytes self.old h reads → IsSound result }
     {
         check_bound(low)?;
@@ -112,7 +118,9 @@ impl<H: HeldFile, R: Reader<Held = H> + Drop> Txn<H, R> {
         ensures keeps { OnlyNotes self.old self.new }
         ensures allowed { IsRefusedBy None result }
         ensures kept { OnErr result (NotesNothing self.old self.new) }
+        ensures still { (h : History) (reads : List Read) → Sees H.bytes self.old h reads → OnErr result (Sees H.bytes self.new h reads) }
         ensures cause { HasCause (R.faults self.old.reader.reader) (R.faults self.new.reader.reader) (ReadFailed result) }
+        ensures near { IsInMemory self.old.version → ReadFailed result → ⊥ }
         ensures sound { (h : History) (reads : List Read) → Sees H.bytes self.old h reads → IsSound result }
     {
         let value = self

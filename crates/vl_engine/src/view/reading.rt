@@ -1,7 +1,7 @@
 ghost use Rattle.std.specs.Prelude.{◌≡◌, ◌≤◌, IfOk, IsErr, None};
 ghost use Rattle.std.specs.FinMap.{empty};
 ghost use Rattle.vl_disk.specs.Faults.{HasCause};
-ghost use Rattle.vl_engine.specs.Reading.{IsFound, IsRefusedBy, IsRefusedInto, IsSound, IsSoundInto, OnlyReads, ReadFailed, ReadIntoFailed, refused_bounds, rows_under, with_its_tag};
+ghost use Rattle.vl_engine.specs.Reading.{IsFound, IsInMemory, IsRefusedBy, IsRefusedInto, IsSound, IsSoundInto, OnlyReads, ReadFailed, ReadIntoFailed, refused_bounds, rows_under, with_its_tag};
 ghost use Rattle.vl_engine.specs.Sees.{SeesAlone};
 ghost use Rattle.vl_model.specs.History.{History, value_at};
 ghost use Rattle.vl_txn.specs.Refusals.{refused_key};
@@ -26,8 +26,10 @@ impl<H: HeldFile, R: Reader<Held = H> + Drop> View<H, R> {
         ensures value { (h : History) → SeesAlone H.bytes self.old h
             → IfOk result (λ value. value ≡ value_at h self.old.number key.now) }
         ensures keeps { OnlyReads self.old self.new }
+        ensures still { (h : History) → SeesAlone H.bytes self.old h → SeesAlone H.bytes self.new h }
         ensures refused { IsRefusedBy (refused_key key.now) result }
         ensures cause { HasCause (R.faults self.old.reader.reader) (R.faults self.new.reader.reader) (ReadFailed result) }
+        ensures near { IsInMemory self.old.version → ReadFailed result → ⊥ }
         ensures sound { (h : History) → SeesAlone H.bytes self.old h → IsSound result }
     {
         check_key(key)?;
@@ -42,8 +44,10 @@ impl<H: HeldFile, R: Reader<Held = H> + Drop> View<H, R> {
         ensures value { (h : History) → SeesAlone H.bytes self.old h
             → IfOk result (λ value. value ≡ with_its_tag (value_at h self.old.number key.now)) }
         ensures keeps { OnlyReads self.old self.new }
+        ensures still { (h : History) → SeesAlone H.bytes self.old h → SeesAlone H.bytes self.new h }
         ensures refused { IsRefusedBy (refused_key key.now) result }
         ensures cause { HasCause (R.faults self.old.reader.reader) (R.faults self.new.reader.reader) (ReadFailed result) }
+        ensures near { IsInMemory self.old.version → ReadFailed result → ⊥ }
         ensures sound { (h : History) → SeesAlone H.bytes self.old h → IsSound result }
     {
         Ok(self.get(key)?.map(tagged_value))
@@ -55,9 +59,11 @@ impl<H: HeldFile, R: Reader<Held = H> + Drop> View<H, R> {
         ensures value { (h : History) → SeesAlone H.bytes self.old h
             → IfOk result (IsFound (value_at h self.old.number key.now) out.old out.new) }
         ensures keeps { OnlyReads self.old self.new }
+        ensures still { (h : History) → SeesAlone H.bytes self.old h → SeesAlone H.bytes self.new h }
         ensures refused { IsRefusedInto (refused_key key.now) result }
         ensures kept { IsErr result → (refused_key key.now ≡ None → ⊥) → out.new ≡ out.old }
         ensures cause { HasCause (R.faults self.old.reader.reader) (R.faults self.new.reader.reader) (ReadIntoFailed result) }
+        ensures near { IsInMemory self.old.version → ReadIntoFailed result → ⊥ }
         ensures sound { (h : History) → SeesAlone H.bytes self.old h → IsSoundInto result }
     {
         check_key(key)?;
@@ -78,8 +84,10 @@ impl<H: HeldFile, R: Reader<Held = H> + Drop> View<H, R> {
         ensures rows { (h : History) → SeesAlone H.bytes self.old h
             → IfOk result (λ rows. rows.items ≡ rows_under empty h self.old.number low.now high.now limit way) }
         ensures keeps { OnlyReads self.old self.new }
+        ensures still { (h : History) → SeesAlone H.bytes self.old h → SeesAlone H.bytes self.new h }
         ensures refused { IsRefusedBy (refused_bounds low.now high.now) result }
         ensures cause { HasCause (R.faults self.old.reader.reader) (R.faults self.new.reader.reader) (ReadFailed result) }
+        ensures near { IsInMemory self.old.version → ReadFailed result → ⊥ }
         ensures sound { (h : History) → SeesAlone H.bytes self.old h → IsSound result }
     {
         check_bound(low)?;

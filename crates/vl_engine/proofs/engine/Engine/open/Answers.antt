@@ -1,101 +1,201 @@
-use Rattle.std.proofs.Common.{refl, ap, ◌∙◌}
+use Rattle.std.proofs.Common.{refl, ap, subst, sym, ◌∙◌}
 use Rattle.std.specs.Prelude.{max}
-use Rattle.vl_engine.proofs.Opened.{opened_back, opened_represents, opened_stands, opening_through}
+use Rattle.vl_engine.proofs.Opened.{opened_back, opened_fit, opened_numbered, opened_represents, opened_stands, opening_through, opens_still}
 use Rattle.vl_engine.proofs.engine.Engine.open.Goals as goal
+use Rattle.vl_engine.specs.Known.{are_known}
+use Rattle.vl_engine.specs.Opening.{AreLeveled}
 use Rattle.vl_memtable.specs.Contents.{Contents}
-use Rattle.vl_version.specs.levels.LevelsLooked.{tables_of}
+
+-- ---- where there was no memory
 
 pub returns-in-Err-clause-through : goal.returns-in-Err-clause-through
 returns-in-Err-clause-through g c state read h told durable is_read shown =
-    opening_through g.D.Watched c.args.disk c.in-Err.fail.disk state durable read is_read h shown
-    (c.in-Err.ensures.through state told durable.may_open)
+    opening_through g.D.Watched c.args.disk c.args.disk state durable read is_read h shown
+    (opens_still g.D.Watched c.args.disk g.met.D.Disk.only_now state told)
+
+pub returns-in-Err-clause-as_of : goal.returns-in-Err-clause-as_of
+returns-in-Err-clause-as_of g c state told may = opens_still g.D.Watched c.args.disk g.met.D.Disk.only_now state told
+
+-- ---- where none was opened
+
+pub returns-in-Err-recover-clause-through : goal.returns-in-Err-recover-clause-through
+returns-in-Err-recover-clause-through g c state read h told durable is_read shown =
+    opening_through g.D.Watched c.args.disk c.in-Err-recover.fail.disk state durable read is_read h shown
+    (c.in-Err-recover.ensures.through state told durable.may_open)
+
+-- ---- where one was
+
+pub invariant_of-result : goal.invariant_of-result
+invariant_of-result g c = record {
+  ready = λ now told. opened_fit c.in-Ok-recover.parts c.args.room
+      (record {
+        version = c.new.result;
+        front = c.new-2.result;
+        back = record {
+          manifest = c.in-Ok-recover.parts.manifest;
+          state = c.in-Ok-recover.parts.state;
+          next_log = c.max-next_log.result;
+          version_number = 0;
+          waiting = c.in-Ok-recover.parts.waiting;
+        };
+      })
+      (record {
+        last = c.new-2.ensures.oracle;
+        knows = c.new-2.ensures.knows;
+        log = c.new-2.ensures.log.0;
+        room_is = c.new-2.ensures.log.1 ∙ c.in-Ok-recover.ensures.room;
+        halted = c.new-2.ensures.log.2;
+        state = refl;
+        next_log = c.max-next_log.ensures ∙ ap (max c.in-Ok-recover.parts.state.next_log) c.saturating_add.ensures;
+        manifest = refl;
+        version_number = refl;
+        waiting = refl;
+        active = ap (λ (held : Contents). held.entries) c.new.ensures.active;
+        frozen = c.new.ensures.frozen;
+        leveled = subst (AreLeveled c.in-Ok-recover.parts.levels.items) (sym c.new.ensures.levels) c.with_levels-leveled.ensures;
+        logs = c.new.ensures.logs;
+      }) now (g.met.D.Disk.lawful c.in-Ok-recover.parts.disk now told) (c.in-Ok-recover.ensures.ready now told);
+  numbered = opened_numbered c.in-Ok-recover.parts c.args.room
+      (record {
+        version = c.new.result;
+        front = c.new-2.result;
+        back = record {
+          manifest = c.in-Ok-recover.parts.manifest;
+          state = c.in-Ok-recover.parts.state;
+          next_log = c.max-next_log.result;
+          version_number = 0;
+          waiting = c.in-Ok-recover.parts.waiting;
+        };
+      })
+      (record {
+        last = c.new-2.ensures.oracle;
+        knows = c.new-2.ensures.knows;
+        log = c.new-2.ensures.log.0;
+        room_is = c.new-2.ensures.log.1 ∙ c.in-Ok-recover.ensures.room;
+        halted = c.new-2.ensures.log.2;
+        state = refl;
+        next_log = c.max-next_log.ensures ∙ ap (max c.in-Ok-recover.parts.state.next_log) c.saturating_add.ensures;
+        manifest = refl;
+        version_number = refl;
+        waiting = refl;
+        active = ap (λ (held : Contents). held.entries) c.new.ensures.active;
+        frozen = c.new.ensures.frozen;
+        leveled = subst (AreLeveled c.in-Ok-recover.parts.levels.items) (sym c.new.ensures.levels) c.with_levels-leveled.ensures;
+        logs = c.new.ensures.logs;
+      }) c.in-Ok-recover.ensures.numbered;
+  known = ap (λ (held : Contents). are_known c.new-2.result.oracle.last held.entries) c.new.ensures.active;
+}
 
 pub returns-clause-stands : goal.returns-clause-stands
 returns-clause-stands g c state read found h told is_read shown =
-    let (other, unused, opened) = c.in-Ok.ensures.answer state read told is_read in
-    opened_stands c.in-Ok.parts c.args.room
+    let (other, unused, opened) = c.in-Ok-recover.ensures.answer state read told is_read in
+    opened_stands c.in-Ok-recover.parts c.args.room
     (record {
-      version = c.new-2.result;
-      front = c.new-3.result;
-      back = record { manifest = c.in-Ok.parts.manifest; state = c.in-Ok.parts.state; next_log = c.max-next_log.result; version_number = 0 };
+      version = c.new.result;
+      front = c.new-2.result;
+      back = record {
+        manifest = c.in-Ok-recover.parts.manifest;
+        state = c.in-Ok-recover.parts.state;
+        next_log = c.max-next_log.result;
+        version_number = 0;
+        waiting = c.in-Ok-recover.parts.waiting;
+      };
     })
     (record {
-      last = c.new-3.ensures.oracle;
-      knows = c.new-3.ensures.knows;
-      log = c.new-3.ensures.log.0;
-      room_is = c.new-3.ensures.log.1 ∙ c.in-Ok.ensures.room;
-      halted = c.new-3.ensures.log.2;
+      last = c.new-2.ensures.oracle;
+      knows = c.new-2.ensures.knows;
+      log = c.new-2.ensures.log.0;
+      room_is = c.new-2.ensures.log.1 ∙ c.in-Ok-recover.ensures.room;
+      halted = c.new-2.ensures.log.2;
       state = refl;
-      next_log = c.max-next_log.ensures ∙ ap (max c.in-Ok.parts.state.next_log) c.saturating_add.ensures;
+      next_log = c.max-next_log.ensures ∙ ap (max c.in-Ok-recover.parts.state.next_log) c.saturating_add.ensures;
       manifest = refl;
       version_number = refl;
-      active = ap (λ (held : Contents). held.entries) c.new-2.ensures.active;
-      frozen = c.new-2.ensures.frozen;
-      without_tables = ap tables_of c.new-2.ensures.levels ∙ c.none.ensures;
-      alone = c.new-2.ensures.logs ∙ c.new.ensures.items;
-    }) read found other opened g.D.Held.HeldFile.bytes c.in-Ok.ensures.active c.requires h shown
+      waiting = refl;
+      active = ap (λ (held : Contents). held.entries) c.new.ensures.active;
+      frozen = c.new.ensures.frozen;
+      leveled = subst (AreLeveled c.in-Ok-recover.parts.levels.items) (sym c.new.ensures.levels) c.with_levels-leveled.ensures;
+      logs = c.new.ensures.logs;
+    }) read found other opened g.D.Held.HeldFile.bytes c.in-Ok-recover.ensures.active c.requires h shown
+    (c.in-Ok-recover.ensures.tables state read told is_read) (c.in-Ok-recover.ensures.logs state read found told is_read)
 
 pub returns-clause-back : goal.returns-clause-back
 returns-clause-back g c state read found told is_read =
-    let (other, unused, opened) = c.in-Ok.ensures.answer state read told is_read in
-    let (now, told_now) = c.in-Ok.ensures.tells state told in
-    opened_back c.in-Ok.parts c.args.room
+    let (other, unused, opened) = c.in-Ok-recover.ensures.answer state read told is_read in
+    let (now, told_now) = c.in-Ok-recover.ensures.tells state told in
+    opened_back c.in-Ok-recover.parts c.args.room
     (record {
-      version = c.new-2.result;
-      front = c.new-3.result;
-      back = record { manifest = c.in-Ok.parts.manifest; state = c.in-Ok.parts.state; next_log = c.max-next_log.result; version_number = 0 };
+      version = c.new.result;
+      front = c.new-2.result;
+      back = record {
+        manifest = c.in-Ok-recover.parts.manifest;
+        state = c.in-Ok-recover.parts.state;
+        next_log = c.max-next_log.result;
+        version_number = 0;
+        waiting = c.in-Ok-recover.parts.waiting;
+      };
     })
     (record {
-      last = c.new-3.ensures.oracle;
-      knows = c.new-3.ensures.knows;
-      log = c.new-3.ensures.log.0;
-      room_is = c.new-3.ensures.log.1 ∙ c.in-Ok.ensures.room;
-      halted = c.new-3.ensures.log.2;
+      last = c.new-2.ensures.oracle;
+      knows = c.new-2.ensures.knows;
+      log = c.new-2.ensures.log.0;
+      room_is = c.new-2.ensures.log.1 ∙ c.in-Ok-recover.ensures.room;
+      halted = c.new-2.ensures.log.2;
       state = refl;
-      next_log = c.max-next_log.ensures ∙ ap (max c.in-Ok.parts.state.next_log) c.saturating_add.ensures;
+      next_log = c.max-next_log.ensures ∙ ap (max c.in-Ok-recover.parts.state.next_log) c.saturating_add.ensures;
       manifest = refl;
       version_number = refl;
-      active = ap (λ (held : Contents). held.entries) c.new-2.ensures.active;
-      frozen = c.new-2.ensures.frozen;
-      without_tables = ap tables_of c.new-2.ensures.levels ∙ c.none.ensures;
-      alone = c.new-2.ensures.logs ∙ c.new.ensures.items;
-    }) read found other opened now (g.met.D.Disk.lawful c.in-Ok.parts.disk now told_now) (c.in-Ok.ensures.stands now told_now)
-    c.in-Ok.ensures.manifest
+      waiting = refl;
+      active = ap (λ (held : Contents). held.entries) c.new.ensures.active;
+      frozen = c.new.ensures.frozen;
+      leveled = subst (AreLeveled c.in-Ok-recover.parts.levels.items) (sym c.new.ensures.levels) c.with_levels-leveled.ensures;
+      logs = c.new.ensures.logs;
+    }) read found other opened now (g.met.D.Disk.lawful c.in-Ok-recover.parts.disk now told_now)
+    (c.in-Ok-recover.ensures.ready now told_now).log c.in-Ok-recover.ensures.manifest
+    (c.in-Ok-recover.ensures.waiting state read found told is_read)
 
 pub returns-clause-represents : goal.returns-clause-represents
 returns-clause-represents g c state read found h told may is_read shown =
-    let (other, unused, opened) = c.in-Ok.ensures.answer state read told is_read in
-    let (now, told_now) = c.in-Ok.ensures.tells state told in
-    opened_represents c.in-Ok.parts c.args.room
+    let (other, unused, opened) = c.in-Ok-recover.ensures.answer state read told is_read in
+    opened_represents c.in-Ok-recover.parts c.args.room
     (record {
-      version = c.new-2.result;
-      front = c.new-3.result;
-      back = record { manifest = c.in-Ok.parts.manifest; state = c.in-Ok.parts.state; next_log = c.max-next_log.result; version_number = 0 };
+      version = c.new.result;
+      front = c.new-2.result;
+      back = record {
+        manifest = c.in-Ok-recover.parts.manifest;
+        state = c.in-Ok-recover.parts.state;
+        next_log = c.max-next_log.result;
+        version_number = 0;
+        waiting = c.in-Ok-recover.parts.waiting;
+      };
     })
     (record {
-      last = c.new-3.ensures.oracle;
-      knows = c.new-3.ensures.knows;
-      log = c.new-3.ensures.log.0;
-      room_is = c.new-3.ensures.log.1 ∙ c.in-Ok.ensures.room;
-      halted = c.new-3.ensures.log.2;
+      last = c.new-2.ensures.oracle;
+      knows = c.new-2.ensures.knows;
+      log = c.new-2.ensures.log.0;
+      room_is = c.new-2.ensures.log.1 ∙ c.in-Ok-recover.ensures.room;
+      halted = c.new-2.ensures.log.2;
       state = refl;
-      next_log = c.max-next_log.ensures ∙ ap (max c.in-Ok.parts.state.next_log) c.saturating_add.ensures;
+      next_log = c.max-next_log.ensures ∙ ap (max c.in-Ok-recover.parts.state.next_log) c.saturating_add.ensures;
       manifest = refl;
       version_number = refl;
-      active = ap (λ (held : Contents). held.entries) c.new-2.ensures.active;
-      frozen = c.new-2.ensures.frozen;
-      without_tables = ap tables_of c.new-2.ensures.levels ∙ c.none.ensures;
-      alone = c.new-2.ensures.logs ∙ c.new.ensures.items;
-    }) read found other opened g.D.Held.HeldFile.bytes c.in-Ok.ensures.active c.requires h shown _ now told_now
-    (c.in-Ok.ensures.held state now read found told may is_read told_now)
-    (g.met.D.Disk.lawful c.in-Ok.parts.disk now told_now)
-    (returns-clause-back g c state read found told is_read)
+      waiting = refl;
+      active = ap (λ (held : Contents). held.entries) c.new.ensures.active;
+      frozen = c.new.ensures.frozen;
+      leveled = subst (AreLeveled c.in-Ok-recover.parts.levels.items) (sym c.new.ensures.levels) c.with_levels-leveled.ensures;
+      logs = c.new.ensures.logs;
+    }) read found other opened g.D.Held.HeldFile.bytes c.in-Ok-recover.ensures.active c.requires h shown state
+    (g.D.Watched.told c.in-Ok-recover.parts.disk) (g.met.D.Disk.lawful c.args.disk state told) may is_read
+    (λ now told_now. g.met.D.Disk.lawful c.in-Ok-recover.parts.disk now told_now)
+    (c.in-Ok-recover.ensures.repaired state read told is_read)
+    (returns-clause-back g c state read found told is_read) c.in-Ok-recover.ensures.manifest
+    (returns-clause-stands g c state read found h told is_read shown)
 
 pub returns-clause-through : goal.returns-clause-through
 returns-clause-through g c state read h told durable is_read shown =
-    opening_through g.D.Watched c.args.disk c.in-Ok.parts.disk state durable read is_read h shown
-    (c.in-Ok.ensures.through state told durable.may_open)
+    opening_through g.D.Watched c.args.disk c.in-Ok-recover.parts.disk state durable read is_read h shown
+    (c.in-Ok-recover.ensures.through state told durable.may_open)
 
 pub returns-clause-answer : goal.returns-clause-answer
 returns-clause-answer g c state read told is_read =
-    let (found, unused, opened) = c.in-Ok.ensures.answer state read told is_read in (found, unused)
+    let (found, unused, opened) = c.in-Ok-recover.ensures.answer state read told is_read in (found, unused)

@@ -1,14 +1,18 @@
-use Rattle.std.proofs.Common.{ap, refl, sym, subst, ◌∙◌}
-use Rattle.vl_engine.proofs.Beginning.{decides_begun, decides_refused, has_room, is_full, sees_now, ticket_is}
+use Rattle.std.proofs.Common.{◌≡◌, ℕ, ap, refl, sym, subst, true, ◌∙◌}
+use Rattle.vl_engine.proofs.Beginning.{decides_begun, decides_refused, has_room, is_full, last_begun, sees_now, ticket_is}
+use Rattle.vl_engine.proofs.Fitting.{fit_still}
 use Rattle.vl_engine.proofs.Knowing.{knows_of}
 use Rattle.vl_engine.proofs.Represented.{represents_live}
 use Rattle.vl_engine.proofs.Standing.{fronts_begun, stands_begun}
+use Rattle.vl_engine.specs.Known.{are_known}
+use Rattle.vl_engine.specs.Reading.{IsInMemory}
 use Rattle.vl_engine.specs.Represents.{Fronts, Represents, StandsFor}
 use Rattle.vl_front.specs.declared.front.Front.{Front}
 use Rattle.vl_layout.specs.Rulings.Begin.{begun}
 use Rattle.vl_layout.specs.Tickets.{free_ticket, tickets_of}
 use Rattle.vl_model.specs.History.{last_number}
 use Rattle.vl_oracle.specs.LiveTickets.{LiveTickets}
+use Rattle.vl_seglog.specs.declared.active.ActiveLog.{ActiveLog}
 use Rattle.vl_version.specs.declared.version.Version.{Version}
 use Rattle.vl_engine.proofs.engine.Engine.view.Goals as goal
 
@@ -47,8 +51,13 @@ returns-in-Ok-begin-clause-represents g c h l is =
 
 pub returns-in-Ok-begin-clause-sees : goal.returns-in-Ok-begin-clause-sees
 returns-in-Ok-begin-clause-sees g c h l is =
-    sees_now g.D.Held.HeldFile.bytes c.args.self.now.core h l is c.in_ok-version.version c.in_ok-version.ensures.shared _
+    sees_now g.D.Held.HeldFile.bytes c.args.self.now.core h l is _ c.in_ok-version.ensures.shared
     (c.last.ensures.last ∙ ap (λ (o : LiveTickets). o.last) c.in-Ok-begin.ensures.ok.1 ∙ is.fronts.front.last)
+    c.in_ok-reader.ensures.kept
+
+pub returns-in-Ok-begin-clause-memory : goal.returns-in-Ok-begin-clause-memory
+returns-in-Ok-begin-clause-memory g c in_memory =
+    subst (IsInMemory {H = g.row.D-Held.Denot}) (sym c.in_ok-version.ensures.shared) in_memory
 
 pub returns-in-Err-clause-decides : goal.returns-in-Err-clause-decides
 returns-in-Err-clause-decides g c h l is =
@@ -75,3 +84,16 @@ returns-in-Err-clause-represents g c h l is =
     (sym c.in-Err.ensures.err)
     (subst (λ (v : Version g.row.D-Held.Denot). Represents g.D.Held.HeldFile.bytes (record core { version = v }) (g.D.Watched.told c.args.self.now.disk) h l)
     (sym c.share.ensures.same) is))
+
+pub invariant_of-self-2-clause-ready : goal.invariant_of-self-2-clause-ready
+invariant_of-self-2-clause-ready g c state told =
+    fit_still c.args.self.now.core _ (ap (λ (log : ActiveLog). log.number) c.begin.ensures.log.log) c.begin.ensures.log.halted refl
+    state (c.args.self.now.ready state told)
+
+pub invariant_of-self-2-clause-known : goal.invariant_of-self-2-clause-known
+invariant_of-self-2-clause-known g c =
+    let core = c.args.self.now.core in
+    subst (λ (n : ℕ). are_known n c.share.new.self.active.entries ≡ true)
+    (sym (last_begun c.begin.result core.front c.begin.new.self c.begin.ensures.ok c.begin.ensures.err))
+    (subst (λ (v : Version g.row.D-Held.Denot). are_known core.front.oracle.last v.active.entries ≡ true) (sym c.share.ensures.same)
+    c.args.self.now.known)

@@ -1,8 +1,12 @@
 use Rattle.std.proofs.Common.{◌≡◌, ◌+◌, ◌-◌, ◌^◌, length, min, ℕ, ap, sym, subst, ◌∙◌}
-use Rattle.std.specs.Prelude.{Some}
-use Rattle.vl_disk.specs.Disk.{Stands}
+use Rattle.std.specs.Option.{ForSome}
+use Rattle.std.specs.Prelude.{Option, Some, true}
+use Rattle.vl_disk.specs.DiskState.{DiskState}
 use Rattle.vl_disk.specs.declared.name.Name.TheVariants as names
+use Rattle.vl_engine.proofs.Fitting.{fit_still, fit_written}
 use Rattle.vl_engine.proofs.Written.{changed_by, hands_by, known_then, knows_alike, longer, stopped_by}
+use Rattle.vl_engine.specs.Fit.{IsFitFor}
+use Rattle.vl_engine.specs.Known.{are_known}
 use Rattle.vl_oracle.specs.LiveTickets.{LiveTickets}
 use Rattle.vl_oracle.specs.LiveTickets as oracle
 use Rattle.vl_seglog.specs.declared.active.ActiveLog.{ActiveLog}
@@ -33,20 +37,41 @@ returns-in_default-append_durably-clause-as_written g c =
       },
     )
 
-pub invariant_of-self-2 : goal.invariant_of-self-2
-invariant_of-self-2 g c =
+pub invariant_of-self-clause-ready : goal.invariant_of-self-clause-ready
+invariant_of-self-clause-ready g c state told =
+    let same = c.in_default.ensures.same in
+    fit_still c.args.self.now.core c.stage_commit.new.core (ap (λ (log : ActiveLog). log.number) same.log.log) same.log.halted
+    c.in_default.ensures.back state (c.args.self.now.ready state (sym c.in_default.ensures.no_change.told ∙ told))
+
+pub invariant_of-self-clause-known : goal.invariant_of-self-clause-known
+invariant_of-self-clause-known g c =
+    let before = c.args.self.now.core in
+    subst (λ (v : Version g.row.D-Held.Denot). are_known c.stage_commit.new.core.front.oracle.last v.active.entries ≡ true)
+    (sym c.in_default.ensures.version)
+    (subst (λ (o : LiveTickets). are_known o.last before.version.active.entries ≡ true) (sym c.in_default.ensures.same.oracle)
+    c.args.self.now.known)
+
+pub invariant_of-self-2-clause-ready : goal.invariant_of-self-2-clause-ready
+invariant_of-self-2-clause-ready g c =
+    let before = c.args.self.now.core in
+    let same = c.in-Ok.ensures.same in
+    let name = names.Log c.stage_commit.new.core.front.log.number in
+    fit_written before _
+    (ap (λ (log : ActiveLog). log.number) c.committed.ensures.log.log ∙ c.append_durably.ensures.number
+    ∙ ap (λ (log : ActiveLog). log.number) same.log.log)
+    (c.committed.ensures.log.halted ∙ same.log.halted) c.in-Ok.ensures.back name c.in-Ok.staged.frame.frame.items _ _
+    (subst (λ (told : Option DiskState). ForSome told (IsFitFor before)) (sym c.in-Ok.ensures.no_change.told) c.args.self.now.ready)
+    (rw c.in-Ok-append_durably.is at c.append_durably.ensures.written)
+
+pub invariant_of-self-2-clause-known : goal.invariant_of-self-2-clause-known
+invariant_of-self-2-clause-known g c =
     let before = c.args.self.now.core in
     let same = c.in-Ok.ensures.same in
     let staged = c.in-Ok.ensures.staged in
-    record {
-      stands = λ state told. subst (λ (n : ℕ). Stands (names.Log n) state)
-          (sym (ap (λ (log : ActiveLog). log.number) c.committed.ensures.log.log)) (c.append_durably.ensures.stands state told);
-      known = known_then before.front c.args.txn.writes before.version.active.entries _ _
-          (ap (λ (o : LiveTickets). o.last) c.committed.ensures.oracle
-          ∙ ap (λ (o : LiveTickets). o.last + 1) same.oracle)
-          (ap (λ (v : Version g.row.D-Held.Denot). v.active.entries) c.set_active.ensures ∙ staged.more)
-          c.args.self.now.known;
-    }
+    known_then before.front c.args.txn.writes before.version.active.entries _ _
+    (ap (λ (o : LiveTickets). o.last) c.committed.ensures.oracle ∙ ap (λ (o : LiveTickets). o.last + 1) same.oracle)
+    (ap (λ (v : Version g.row.D-Held.Denot). v.active.entries) c.set_active.ensures ∙ staged.more)
+    c.args.self.now.known
 
 pub returns-clause-as_written : goal.returns-clause-as_written
 returns-clause-as_written g c =

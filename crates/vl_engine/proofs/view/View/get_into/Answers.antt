@@ -1,26 +1,45 @@
-use Rattle.std.proofs.Common.{subst}
+use Rattle.std.proofs.Common.{Result, refl, subst}
 use Rattle.vl_model.specs.Winners.{winner}
 use Rattle.vl_version.specs.Answers.{IsAnswer, IsAstray, IsFound}
-use Rattle.vl_engine.proofs.Seeing.{found_led, reads_untabled, undamaged}
+use Rattle.vl_version.specs.Faults.{Failed}
+use Rattle.vl_version.specs.declared.fault.ReadFault.{ReadFault}
+use Rattle.vl_version.specs.declared.found.Found.{Found}
+use Rattle.vl_engine.proofs.Seeing.{found_led, sees_alone_still, undamaged, unfailed}
 use Rattle.vl_engine.specs.laws.ReadLaws.{none_astray}
-use Rattle.vl_version.specs.laws.NoTables.{no_files}
 use Rattle.vl_engine.proofs.view.View.get_into.Goals as goal
 
 pub returns-in-Ok-clause-value : goal.returns-in-Ok-clause-value
-returns-in-Ok-clause-value g c h v =
+returns-in-Ok-clause-value g c h sees =
+    let v = sees.version in
     found_led v.logs v.entries_of h c.args.self.now.number v.shows c.args.key.now c.args.out.now c.get_into-result.new.out c.in-Ok.found
-    (c.in-Ok.ensures.answers no_files v.entries_of v.logs
-    (reads_untabled g.H.HeldFile.bytes c.args.self.now.version c.args.self.now.reader v.without_tables) v.has)
+    (c.in-Ok.ensures.answers sees.files v.entries_of v.logs sees.reader v.has)
 
 pub returns-in-Err-Damaged-clause-sound : goal.returns-in-Err-Damaged-clause-sound
-returns-in-Err-Damaged-clause-sound g c h v =
+returns-in-Err-Damaged-clause-sound g c h sees =
+    let v = sees.version in
     let found = winner v.entries_of c.args.key.now c.args.self.now.number in
     let good = IsFound v.logs found c.args.out.now c.get_into-result.new.out in
     let bad = IsAstray v.logs found in
-    let fills = c.get_into-result.ensures.answers no_files v.entries_of v.logs
-    (reads_untabled g.H.HeldFile.bytes c.args.self.now.version c.args.self.now.reader v.without_tables) v.has in
+    let fills = c.get_into-result.ensures.answers sees.files v.entries_of v.logs sees.reader v.has in
     let never = undamaged good bad
     (λ name place astray. none_astray v.logs v.entries_of h c.args.self.now.number v.shows c.args.key.now astray.0)
     c.in-Err-Damaged.field-0 (subst (IsAnswer good bad) c.in-Err-Damaged.is fills)
     c.in-Err-Damaged.name c.in-Err-Damaged.place (rw c.in-Err-Damaged.is at c.in-Err-Damaged.field-0-is) in
-    (λ _. never, λ nothing. nothing)
+    λ _. never
+
+pub returns-in-Ok-clause-still : goal.returns-in-Ok-clause-still
+returns-in-Ok-clause-still g c h sees =
+    sees_alone_still g.H.HeldFile.bytes c.args.self.now _ h sees refl refl (c.get_into-result.ensures.kept sees.files sees.reader)
+
+pub returns-in-Err-Damaged-clause-still : goal.returns-in-Err-Damaged-clause-still
+returns-in-Err-Damaged-clause-still g c h sees =
+    sees_alone_still g.H.HeldFile.bytes c.args.self.now _ h sees refl refl (c.get_into-result.ensures.kept sees.files sees.reader)
+
+pub returns-in-Err-Disk-clause-still : goal.returns-in-Err-Disk-clause-still
+returns-in-Err-Disk-clause-still g c h sees =
+    sees_alone_still g.H.HeldFile.bytes c.args.self.now _ h sees refl refl (c.get_into-result.ensures.kept sees.files sees.reader)
+
+pub returns-in-Err-Disk-clause-near : goal.returns-in-Err-Disk-clause-near
+returns-in-Err-Disk-clause-near g c alone failed =
+    unfailed Found c.in-Err-Disk.field-0 c.in-Err-Disk.name (rw c.in-Err-Disk.is at c.in-Err-Disk.field-0-is)
+    (subst (λ (r : Result Found ReadFault). Failed r → ⊥) c.in-Err-Disk.is (c.get_into-result.ensures.near alone.tables alone.near))

@@ -1,0 +1,113 @@
+use Rattle.std.proofs.Common.{◌≡◌, ap, arith, refl, ◌∙◌, ℕ}
+use Rattle.vl_engine.proofs.Begins.{begins_making, begins_nothing, made_so, next_back, next_version, none_known, same_back, still_numbered, stops_making, then_numbered}
+use Rattle.vl_engine.proofs.Fitting.{fit_halted}
+use Rattle.vl_engine.proofs.RotateFit.{fit_rotated, stands_still}
+use Rattle.vl_engine.specs.Rotating.{IsNextBack, IsSameBack, at_hold}
+use Rattle.vl_memtable.specs.Contents.{Contents}
+use Rattle.vl_seglog.specs.declared.active.ActiveLog.{ActiveLog}
+use Rattle.vl_engine.proofs.engine.Engine.begin_log.Goals as goal
+
+-- it failed at the hold
+pub returns-in-Err-Failed-clause-as_rotated : goal.returns-in-Err-Failed-clause-as_rotated
+returns-in-Err-Failed-clause-as_rotated g c =
+    let before = c.args.self.now.core in
+    record {
+      begins = begins_nothing g.D.Watched before c.args.self.now.disk c.stage_rotation.new.disk _ c.stage_rotation.ensures.no_change;
+      stops = at_hold refl c.stage_rotation.ensures.no_change.calls;
+      front = refl;
+      back = same_back before.back c.make_room.new.self c.in-Ok.ensures.others c.in-Ok.ensures.waiting;
+      version = refl;
+    }
+
+-- at the new log
+pub invariant_of-self-in-Err : goal.invariant_of-self-in-Err
+invariant_of-self-in-Err g c =
+    let before = c.args.self.now.core in
+    let told = g.D.Watched.told in
+    let next = c.make_room.new.self.next_log in
+    let same : IsSameBack before.back c.make_room.new.self =
+        same_back before.back c.make_room.new.self c.in-Ok.ensures.others c.in-Ok.ensures.waiting in
+    record {
+      ready = fit_halted _ c.in-Err.name refl (told c.make_log.new.disk)
+          (stands_still before.front.log.number next (told c.args.self.now.disk) (told c.stage_rotation.new.disk)
+          (told c.make_log.new.disk) c.in-Ok-stage_rotation.ensures.no_change.told c.in-Err.ensures.files c.in-Err.ensures.untold
+          (λ state is. (c.args.self.now.ready state is).log)
+          (λ state is. ((c.args.self.now.ready state is).steps c.requires.running).logs next
+          (let up = same.next_log in omega (arith, up))));
+      numbered = still_numbered before.back c.make_room.new.self same c.args.self.now.numbered;
+      known = c.args.self.now.known;
+    }
+
+pub returns-in-Err-clause-as_rotated : goal.returns-in-Err-clause-as_rotated
+returns-in-Err-clause-as_rotated g c =
+    let before = c.args.self.now.core in
+    let old = c.args.self.now.disk in
+    let mid = c.stage_rotation.new.disk in
+    let new = c.make_log.new.disk in
+    let same : IsSameBack before.back c.make_room.new.self =
+        same_back before.back c.make_room.new.self c.in-Ok.ensures.others c.in-Ok.ensures.waiting in
+    let quiet = c.in-Ok-stage_rotation.ensures.no_change in
+    record {
+      begins = begins_making g.D.Watched before old mid new _ quiet c.make_room.new.self.next_log same.next_log _ c.in-Err.ensures.makes;
+      stops = stops_making g.D.Watched before old mid new _ quiet c.make_room.new.self.next_log same.next_log _ c.in-Err.ensures.makes
+          before.front.log.number c.in-Err.name c.in-Err.ensures.at;
+      front = refl;
+      back = same;
+      version = refl;
+    }
+
+-- it was begun
+pub invariant_of-self-2 : goal.invariant_of-self-2
+invariant_of-self-2 g c =
+    let before = c.args.self.now.core in
+    let old = c.args.self.now.disk in
+    let mid = c.stage_rotation.new.disk in
+    let new = c.make_log.new.disk in
+    let same : IsSameBack before.back c.make_room.new.self =
+        same_back before.back c.make_room.new.self c.in-Ok.ensures.others c.in-Ok.ensures.waiting in
+    let quiet = c.in-Ok-stage_rotation.ensures.no_change in
+    let log_is : c.new-self.result ≡ record { number = before.back.next_log; length = 16 } =
+        c.new-self.ensures ∙ ap (λ (n : ℕ). record { number = n; length = 16 }) same.next_log in
+    let next_is : IsNextBack before c.apply_rotation.new.self =
+        next_back before c.make_room.new.self c.apply_rotation.new.self c.last-covered.result same c.apply_rotation.ensures.manifest
+        c.apply_rotation.ensures.state c.apply_rotation.ensures.next_log c.apply_rotation.ensures.version
+        c.apply_rotation.ensures.waiting c.last-covered.ensures.last in
+    record {
+      ready = fit_rotated before _ (ap (λ (log : ActiveLog). record before.front { log = log }) log_is) next_is c.requires.running
+          (g.D.Watched.told old) (g.D.Watched.told mid) (g.D.Watched.told new) quiet.told
+          (made_so g.D.Watched before old mid new _ quiet c.make_room.new.self.next_log same.next_log _
+          c.in_default-make_log.ensures.makes c.in_default-make_log.ensures.makes.done) c.args.self.now.ready;
+      numbered = then_numbered before c.apply_rotation.new.self next_is c.args.self.now.numbered;
+      known = none_known before.front.oracle.last c.in-Ok-stage_rotation.version.active.entries
+          (ap (λ (contents : Contents). contents.entries) c.in-Ok-stage_rotation.ensures.version.is.active);
+    }
+
+pub returns-clause-as_rotated : goal.returns-clause-as_rotated
+returns-clause-as_rotated g c =
+    let before = c.args.self.now.core in
+    let old = c.args.self.now.disk in
+    let mid = c.stage_rotation.new.disk in
+    let new = c.make_log.new.disk in
+    let same : IsSameBack before.back c.make_room.new.self =
+        same_back before.back c.make_room.new.self c.in-Ok.ensures.others c.in-Ok.ensures.waiting in
+    let quiet = c.in-Ok-stage_rotation.ensures.no_change in
+    let log_is : c.new-self.result ≡ record { number = before.back.next_log; length = 16 } =
+        c.new-self.ensures ∙ ap (λ (n : ℕ). record { number = n; length = 16 }) same.next_log in
+    let next_is : IsNextBack before c.apply_rotation.new.self =
+        next_back before c.make_room.new.self c.apply_rotation.new.self c.last-covered.result same c.apply_rotation.ensures.manifest
+        c.apply_rotation.ensures.state c.apply_rotation.ensures.next_log c.apply_rotation.ensures.version
+        c.apply_rotation.ensures.waiting c.last-covered.ensures.last in (
+      refl,
+      record {
+        begins = begins_making g.D.Watched before old mid new _ quiet c.make_room.new.self.next_log same.next_log _
+            c.in_default-make_log.ensures.makes;
+        changed = made_so g.D.Watched before old mid new _ quiet c.make_room.new.self.next_log same.next_log _
+            c.in_default-make_log.ensures.makes c.in_default-make_log.ensures.makes.done;
+        calls = c.in_default-make_log.ensures.makes.calls;
+        front = ap (λ (log : ActiveLog). record before.front { log = log }) log_is;
+        back = next_is;
+        version = next_version g.D.Held.HeldFile.bytes (g.D.Watched.told old) before
+            (record before { back = c.make_room.new.self }) c.in-Ok-stage_rotation.version refl refl
+            c.in-Ok-stage_rotation.ensures.version;
+      },
+    )

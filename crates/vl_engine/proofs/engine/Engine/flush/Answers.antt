@@ -1,0 +1,146 @@
+use Rattle.std.proofs.Common.{arith, refl, sym}
+use Rattle.vl_engine.proofs.Committing.{decides_leaving}
+use Rattle.vl_engine.proofs.Flushed.{carries_by, carries_leaving_flush, fronts_by, ruled_exhausted, ruled_halted, ruled_idle, runs_on, stands_by, stopped_by, untouched_by}
+use Rattle.vl_engine.proofs.FlushSteps.{numbers_held}
+use Rattle.vl_engine.proofs.Untouched.{alone}
+use Rattle.vl_engine.specs.Represents.{Fronts, StandsFor, file_of}
+use Rattle.vl_layout.specs.Decides.{as_before}
+use Rattle.vl_layout.specs.Ruling.{Exhausted, Halted, Idle}
+use Rattle.vl_layout.specs.Rulings.Flush.{flush_ruling}
+use Rattle.vl_engine.proofs.engine.Engine.flush.Goals as goal
+
+-- it is halted
+
+pub returns-in-Some-clause-decides : goal.returns-in-Some-clause-decides
+returns-in-Some-clause-decides g c h l is has =
+    let core = c.args.self.now.core in
+    decides_leaving (Fronts core) h l (flush_ruling l h) (as_before l l) (Halted (file_of c.in-Some.name)) l
+    (ruled_halted core h l is c.in-Some.name c.in-Some.is) is
+
+pub returns-in-Some-clause-stands : goal.returns-in-Some-clause-stands
+returns-in-Some-clause-stands g c state h l told is can =
+    let core = c.args.self.now.core in
+    decides_leaving (StandsFor g.D.Held.HeldFile.bytes core) h l (flush_ruling l h) (as_before l l) (Halted (file_of c.in-Some.name)) l
+    (ruled_halted core h l is.fronts c.in-Some.name c.in-Some.is) is
+
+pub returns-in-Some-clause-carries : goal.returns-in-Some-clause-carries
+returns-in-Some-clause-carries g c h l is =
+    let core = c.args.self.now.core in
+    carries_leaving_flush g.D.Watched (record { only_now = g.met.D.Disk.only_now; counts_now = g.met.D.Disk.counts_now })
+    g.D.Held.HeldFile.bytes core h l c.args.self.now.disk (Halted (file_of c.in-Some.name))
+    (ruled_halted core h l is.stands.fronts c.in-Some.name c.in-Some.is) is
+
+pub returns-in-Some-clause-untouched : goal.returns-in-Some-clause-untouched
+returns-in-Some-clause-untouched g c leaves = alone g.D.Watched _ _ refl
+
+pub returns-in-Some-clause-cause : goal.returns-in-Some-clause-cause
+returns-in-Some-clause-cause g c = record { later = omega arith; rose = λ failed. absurd failed; steady = λ fine. refl }
+
+pub returns-in-Some-clause-stopped : goal.returns-in-Some-clause-stopped
+returns-in-Some-clause-stopped g c name failed = absurd cc
+
+-- no memtable waits
+
+pub returns-in-Idle-clause-decides : goal.returns-in-Idle-clause-decides
+returns-in-Idle-clause-decides g c h l is has =
+    let core = c.args.self.now.core in
+    decides_leaving (Fronts core) h l (flush_ruling l h) (as_before l l) Idle l
+    (ruled_idle core h l is c.in_default.is (has (runs_on core h l is c.in_default.is)) (sym c.in-Idle.ensures.decided)) is
+
+pub returns-in-Idle-clause-stands : goal.returns-in-Idle-clause-stands
+returns-in-Idle-clause-stands g c state h l told is can =
+    let core = c.args.self.now.core in
+    decides_leaving (StandsFor g.D.Held.HeldFile.bytes core) h l (flush_ruling l h) (as_before l l) Idle l
+    (ruled_idle core h l is.fronts c.in_default.is ((can (runs_on core h l is.fronts c.in_default.is)).0)
+    (sym c.in-Idle.ensures.decided)) is
+
+pub returns-in-Idle-clause-carries : goal.returns-in-Idle-clause-carries
+returns-in-Idle-clause-carries g c h l is =
+    let core = c.args.self.now.core in
+    let held = is.held (runs_on core h l is.stands.fronts c.in_default.is) in
+    carries_leaving_flush g.D.Watched (record { only_now = g.met.D.Disk.only_now; counts_now = g.met.D.Disk.counts_now })
+    g.D.Held.HeldFile.bytes core h l c.args.self.now.disk Idle
+    (ruled_idle core h l is.stands.fronts c.in_default.is (numbers_held core.back held.base l held.back_is)
+    (sym c.in-Idle.ensures.decided)) is
+
+pub returns-in-Idle-clause-untouched : goal.returns-in-Idle-clause-untouched
+returns-in-Idle-clause-untouched g c leaves = alone g.D.Watched _ _ refl
+
+pub returns-in-Idle-clause-cause : goal.returns-in-Idle-clause-cause
+returns-in-Idle-clause-cause g c = record { later = omega arith; rose = λ failed. absurd failed; steady = λ fine. refl }
+
+pub returns-in-Idle-clause-stopped : goal.returns-in-Idle-clause-stopped
+returns-in-Idle-clause-stopped g c name failed = absurd cc
+
+-- no number is left
+
+pub returns-in-Exhausted-clause-decides : goal.returns-in-Exhausted-clause-decides
+returns-in-Exhausted-clause-decides g c h l is has =
+    let core = c.args.self.now.core in
+    decides_leaving (Fronts core) h l (flush_ruling l h) (as_before l l) (Exhausted c.in-Exhausted.counter) l
+    (ruled_exhausted core h l is c.in_default.is (has (runs_on core h l is c.in_default.is)) c.in-Exhausted.counter
+    (sym c.in-Exhausted.ensures.decided)) is
+
+pub returns-in-Exhausted-clause-stands : goal.returns-in-Exhausted-clause-stands
+returns-in-Exhausted-clause-stands g c state h l told is can =
+    let core = c.args.self.now.core in
+    decides_leaving (StandsFor g.D.Held.HeldFile.bytes core) h l (flush_ruling l h) (as_before l l)
+    (Exhausted c.in-Exhausted.counter) l
+    (ruled_exhausted core h l is.fronts c.in_default.is ((can (runs_on core h l is.fronts c.in_default.is)).0) c.in-Exhausted.counter
+    (sym c.in-Exhausted.ensures.decided)) is
+
+pub returns-in-Exhausted-clause-carries : goal.returns-in-Exhausted-clause-carries
+returns-in-Exhausted-clause-carries g c h l is =
+    let core = c.args.self.now.core in
+    let held = is.held (runs_on core h l is.stands.fronts c.in_default.is) in
+    carries_leaving_flush g.D.Watched (record { only_now = g.met.D.Disk.only_now; counts_now = g.met.D.Disk.counts_now })
+    g.D.Held.HeldFile.bytes core h l c.args.self.now.disk (Exhausted c.in-Exhausted.counter)
+    (ruled_exhausted core h l is.stands.fronts c.in_default.is (numbers_held core.back held.base l held.back_is)
+    c.in-Exhausted.counter (sym c.in-Exhausted.ensures.decided)) is
+
+pub returns-in-Exhausted-clause-untouched : goal.returns-in-Exhausted-clause-untouched
+returns-in-Exhausted-clause-untouched g c leaves = alone g.D.Watched _ _ refl
+
+pub returns-in-Exhausted-clause-cause : goal.returns-in-Exhausted-clause-cause
+returns-in-Exhausted-clause-cause g c = record { later = omega arith; rose = λ failed. absurd failed; steady = λ fine. refl }
+
+pub returns-in-Exhausted-clause-stopped : goal.returns-in-Exhausted-clause-stopped
+returns-in-Exhausted-clause-stopped g c name failed = absurd cc
+
+-- a table is made
+
+pub make_table-requires : goal.make_table-requires
+make_table-requires g c = record { may = c.in-Go.ensures.go refl; running = c.in_default.is }
+
+pub returns-in-Go-clause-decides : goal.returns-in-Go-clause-decides
+returns-in-Go-clause-decides g c h l is has =
+    let core = c.args.self.now.core in
+    fronts_by g.D.Watched g.D.Held.HeldFile.bytes core c.make_table.new.self.core c.args.self.now.disk c.make_table.new.self.disk
+    h l c.in_default.is (c.in-Go.ensures.go refl) (sym c.in-Go.ensures.decided) is (has (runs_on core h l is c.in_default.is))
+    c.make_table.result c.make_table.ensures.as_flushed
+
+pub returns-in-Go-clause-stands : goal.returns-in-Go-clause-stands
+returns-in-Go-clause-stands g c state h l told is can =
+    let core = c.args.self.now.core in
+    let may = can (runs_on core h l is.fronts c.in_default.is) in
+    stands_by g.D.Watched g.D.Held.HeldFile.bytes core c.make_table.new.self.core c.args.self.now.disk c.make_table.new.self.disk
+    h l c.in_default.is (c.in-Go.ensures.go refl) (sym c.in-Go.ensures.decided) state told is may.0 may.1
+    c.make_table.result c.make_table.ensures.as_flushed
+
+pub returns-in-Go-clause-carries : goal.returns-in-Go-clause-carries
+returns-in-Go-clause-carries g c h l is =
+    let core = c.args.self.now.core in
+    carries_by g.D.Watched g.D.Held.HeldFile.bytes core c.make_table.new.self.core c.args.self.now.disk c.make_table.new.self.disk
+    h l c.in_default.is (c.in-Go.ensures.go refl) (sym c.in-Go.ensures.decided)
+    (record { only_now = g.met.D.Disk.only_now; counts_now = g.met.D.Disk.counts_now }) is
+    c.make_table.result c.make_table.ensures.as_flushed
+
+pub returns-in-Go-clause-untouched : goal.returns-in-Go-clause-untouched
+returns-in-Go-clause-untouched g c leaves =
+    untouched_by g.D.Watched g.D.Held.HeldFile.bytes c.args.self.now.core c.make_table.new.self.core c.args.self.now.disk
+    c.make_table.new.self.disk c.make_table.result c.make_table.ensures.as_flushed leaves
+
+pub returns-in-Go-clause-stopped : goal.returns-in-Go-clause-stopped
+returns-in-Go-clause-stopped g c name failed =
+    stopped_by g.D.Watched g.D.Held.HeldFile.bytes c.args.self.now.core c.make_table.new.self.core c.args.self.now.disk
+    c.make_table.new.self.disk c.make_table.result c.make_table.ensures.as_flushed name failed

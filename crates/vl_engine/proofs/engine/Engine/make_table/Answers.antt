@@ -1,0 +1,114 @@
+use Rattle.std.proofs.Common.{List, ap, arith, refl, sym, ◌∙◌, ℕ}
+use Rattle.std.specs.Prelude.{Some}
+use Rattle.vl_disk.specs.declared.name.Name.TheVariants as names
+use Rattle.vl_engine.proofs.FlushKeeps.{changed_by, failed_then, fit_flushed, fit_unflushed, next_then, still_told, stops_by, writes_by}
+use Rattle.vl_engine.specs.Fit.{IsFitFor}
+use Rattle.vl_engine.specs.Known.{are_known}
+use Rattle.vl_manifest.specs.declared.manifest_log.ManifestLog.{ManifestLog}
+use Rattle.vl_manifest.specs.declared.state.ManifestState.{ManifestState}
+use Rattle.vl_memtable.specs.Contents.{Contents}
+use Rattle.vl_engine.proofs.engine.Engine.make_table.Goals as goal
+
+pub write_and_switch-requires-clause-free : goal.write_and_switch-requires-clause-free
+write_and_switch-requires-clause-free g c disk told =
+    ((c.args.self.now.ready disk (sym c.in-Ok.ensures.no_change.told ∙ told)).steps c.requires.running).tables
+    c.args.self.now.core.back.state.next_table (omega arith)
+
+-- it is made
+
+pub invariant_of-self-in-Ok-write_and_switch : goal.invariant_of-self-in-Ok-write_and_switch
+invariant_of-self-in-Ok-write_and_switch g c =
+    let core = c.args.self.now.core in
+    let wrote = c.in-Ok-write_and_switch.ensures in
+    let applied = c.apply_flush.ensures in
+    let some = c.args.self.now.numbered in
+    let next = ap (λ (s : ManifestState). s.next_table) applied.state
+    ∙ next_then core.front.log.number core.back c.in-Ok.ready.staged.state c.requires.may.waits c.in-Ok.ensures.of.is.says in
+    let next_log = applied.next_log in
+    record {
+      ready = still_told {P = IsFitFor core} (names.Table core.back.state.next_table) (g.D.Watched.told c.ready_flush.new.disk)
+          (g.D.Watched.told c.write_and_switch.new.disk)
+          (λ disk told. c.args.self.now.ready disk (sym c.in-Ok.ensures.no_change.told ∙ told)) wrote.files wrote.untold
+          (λ disk now fit kept. fit_flushed core _ disk now fit kept refl c.requires.running
+          (ap (λ (m : ManifestLog). m.number) applied.manifest ∙ wrote.number) applied.next_log next);
+      numbered = (omega (arith, some, next_log), omega (arith, next));
+      known = ap (λ (m : Contents). are_known core.front.oracle.last m.entries)
+          (c.with_table.ensures.active ∙ c.in-Ok.ensures.version.active) ∙ c.args.self.now.known;
+    }
+
+pub returns-in-Ok-write_and_switch-clause-as_flushed : goal.returns-in-Ok-write_and_switch-clause-as_flushed
+returns-in-Ok-write_and_switch-clause-as_flushed g c =
+    let core = c.args.self.now.core in
+    let ready = c.in-Ok.ready in
+    let wrote = c.in-Ok-write_and_switch.ensures in
+    let applied = c.apply_flush.ensures in (
+      refl,
+      record {
+        staged = ready.staged;
+        of = c.in-Ok.ensures.of;
+        writes = writes_by g.D.Watched core ready.staged c.args.self.now.disk c.ready_flush.new.disk c.write_and_switch.new.disk _
+            c.deref.ensures.value c.in-Ok.ensures.no_change _ wrote.writes;
+        changed = changed_by g.D.Watched core ready.staged c.args.self.now.disk c.ready_flush.new.disk c.write_and_switch.new.disk _
+            c.deref.ensures.value c.in-Ok.ensures.no_change _ wrote.writes;
+        calls = wrote.writes.calls;
+        table = c.of.result;
+        held = record {
+          shape = c.of.ensures.shape;
+          held = λ state told. ap g.D.Held.HeldFile.bytes c.of.ensures.held ∙ wrote.held state told
+              ∙ ap (λ (bs : List ℕ). Some bs) c.deref.ensures.value;
+        };
+        front = refl;
+        back = record {
+          number = ap (λ (m : ManifestLog). m.number) applied.manifest ∙ wrote.number;
+          longer = ap (λ (m : ManifestLog). m.length) applied.manifest ∙ wrote.longer;
+          state = applied.state;
+          next_log = applied.next_log;
+          waiting = applied.waiting;
+          version = applied.version;
+        };
+        version = record {
+          next = ready.version;
+          is = c.in-Ok.ensures.version;
+          active = c.with_table.ensures.active;
+          frozen = c.with_table.ensures.frozen;
+          newest = c.with_table.ensures.newest;
+          deeper = c.with_table.ensures.deeper;
+          logs = c.with_table.ensures.logs;
+        };
+      },
+    )
+
+-- it failed
+
+pub invariant_of-self-in-Err : goal.invariant_of-self-in-Err
+invariant_of-self-in-Err g c =
+    let core = c.args.self.now.core in
+    let wrote = c.in-Err.ensures in
+    record {
+      ready = still_told {P = IsFitFor core} (names.Table core.back.state.next_table) (g.D.Watched.told c.ready_flush.new.disk)
+          (g.D.Watched.told c.write_and_switch.new.disk)
+          (λ disk told. c.args.self.now.ready disk (sym c.in-Ok.ensures.no_change.told ∙ told)) wrote.files wrote.untold
+          (λ disk now fit kept. fit_unflushed core _ disk now fit kept refl c.in-Err.name refl);
+      numbered = c.args.self.now.numbered;
+      known = c.args.self.now.known;
+    }
+
+pub returns-in-Err-clause-cause : goal.returns-in-Err-clause-cause
+returns-in-Err-clause-cause g c =
+    failed_then _ _ _ _ c.in-Ok.ensures.no_change.cause c.in-Err.ensures.writes.cause refl
+
+pub returns-in-Err-clause-as_flushed : goal.returns-in-Err-clause-as_flushed
+returns-in-Err-clause-as_flushed g c =
+    let core = c.args.self.now.core in
+    let ready = c.in-Ok.ready in
+    record {
+      staged = ready.staged;
+      of = c.in-Ok.ensures.of;
+      writes = writes_by g.D.Watched core ready.staged c.args.self.now.disk c.ready_flush.new.disk c.write_and_switch.new.disk _
+          c.deref.ensures.value c.in-Ok.ensures.no_change _ c.in-Err.ensures.writes;
+      stops = stops_by g.D.Watched core ready.staged c.args.self.now.disk c.ready_flush.new.disk c.write_and_switch.new.disk _
+          c.deref.ensures.value c.in-Ok.ensures.no_change c.in-Err.name c.in-Err.ensures.at;
+      front = refl;
+      version_number = refl;
+      version = refl;
+    }

@@ -1,0 +1,81 @@
+use Rattle.std.proofs.Common.{arith, refl, subst, sym}
+use Rattle.vl_engine.proofs.RotateSteps.{running_so}
+use Rattle.vl_engine.proofs.Rotated.{can_by, carries_as_refused, carries_by, fronts_as_refused, fronts_by, numbers_held, refused_no_disk, stands_as_refused, stands_by, stopped_by, untouched_by}
+use Rattle.vl_engine.proofs.Untouched.{alone}
+use Rattle.vl_engine.specs.Stepping.{StepFailed}
+use Rattle.vl_engine.proofs.engine.Engine.rotate.Goals as goal
+
+-- none is begun
+
+pub returns-in-Some-clause-decides : goal.returns-in-Some-clause-decides
+returns-in-Some-clause-decides g c h l is has true_log =
+    fronts_as_refused g.D.Watched (record { only_now = g.met.D.Disk.only_now; counts_now = g.met.D.Disk.counts_now })
+    g.D.Held.HeldFile.bytes c.args.self.now.core c.args.self.now.disk h l c.in-Some.answer c.in-Some.ensures.refused is has true_log
+
+pub returns-in-Some-clause-stands : goal.returns-in-Some-clause-stands
+returns-in-Some-clause-stands g c state h l told is has =
+    stands_as_refused g.D.Watched (record { only_now = g.met.D.Disk.only_now; counts_now = g.met.D.Disk.counts_now })
+    g.D.Held.HeldFile.bytes c.args.self.now.core c.args.self.now.disk h l c.in-Some.answer c.in-Some.ensures.refused is
+    (λ running. (has running).0)
+
+pub returns-in-Some-clause-carries : goal.returns-in-Some-clause-carries
+returns-in-Some-clause-carries g c h l is =
+    carries_as_refused g.D.Watched (record { only_now = g.met.D.Disk.only_now; counts_now = g.met.D.Disk.counts_now })
+    g.D.Held.HeldFile.bytes c.args.self.now.core c.args.self.now.disk h l c.in-Some.answer c.in-Some.ensures.refused is
+
+pub returns-in-Some-clause-untouched : goal.returns-in-Some-clause-untouched
+returns-in-Some-clause-untouched g c leaves = alone g.D.Watched _ _ refl
+
+pub returns-in-Some-clause-cause : goal.returns-in-Some-clause-cause
+returns-in-Some-clause-cause g c = record {
+  later = omega arith;
+  rose = λ failed. absurd (refused_no_disk c.args.self.now.core c.in-Some.answer c.in-Some.ensures.refused failed);
+  steady = λ fine. refl;
+}
+
+pub returns-in-Some-clause-stopped : goal.returns-in-Some-clause-stopped
+returns-in-Some-clause-stopped g c name failed =
+    absurd (refused_no_disk c.args.self.now.core c.in-Some.answer c.in-Some.ensures.refused
+    (subst StepFailed (sym failed) tt))
+
+-- the next log is begun
+
+pub begin_log-requires : goal.begin_log-requires
+begin_log-requires g c = c.in-None.ensures.may refl
+
+pub returns-in-None-clause-decides : goal.returns-in-None-clause-decides
+returns-in-None-clause-decides g c h l is has true_log =
+    let core = c.args.self.now.core in
+    let may = c.in-None.ensures.may refl in
+    fronts_by g.D.Watched g.D.Held.HeldFile.bytes core c.begin_log.new.self.core c.args.self.now.disk
+    c.begin_log.new.self.disk h l (can_by core h l is has may) is (has (running_so core h l is may.running)).next_log true_log
+    c.begin_log.result c.begin_log.ensures.as_rotated
+
+pub returns-in-None-clause-stands : goal.returns-in-None-clause-stands
+returns-in-None-clause-stands g c state h l told is has =
+    let core = c.args.self.now.core in
+    let may = c.in-None.ensures.may refl in
+    let (numbers, active) = has (running_so core h l is.fronts may.running) in
+    stands_by g.D.Watched g.D.Held.HeldFile.bytes core c.begin_log.new.self.core c.args.self.now.disk
+    c.begin_log.new.self.disk h l (can_by core h l is.fronts (λ running. numbers) may) state told is numbers.next_log active
+    c.begin_log.result c.begin_log.ensures.as_rotated
+
+pub returns-in-None-clause-carries : goal.returns-in-None-clause-carries
+returns-in-None-clause-carries g c h l is =
+    let core = c.args.self.now.core in
+    carries_by g.D.Watched g.D.Held.HeldFile.bytes core c.begin_log.new.self.core c.args.self.now.disk
+    c.begin_log.new.self.disk h l
+    (can_by core h l is.stands.fronts (numbers_held core.back (g.D.Watched.told c.args.self.now.disk) h l is.held)
+    (c.in-None.ensures.may refl))
+    (record { only_now = g.met.D.Disk.only_now; counts_now = g.met.D.Disk.counts_now }) is
+    c.begin_log.result c.begin_log.ensures.as_rotated
+
+pub returns-in-None-clause-untouched : goal.returns-in-None-clause-untouched
+returns-in-None-clause-untouched g c leaves =
+    untouched_by g.D.Watched g.D.Held.HeldFile.bytes c.args.self.now.core c.begin_log.new.self.core c.args.self.now.disk
+    c.begin_log.new.self.disk c.begin_log.result c.begin_log.ensures.as_rotated leaves
+
+pub returns-in-None-clause-stopped : goal.returns-in-None-clause-stopped
+returns-in-None-clause-stopped g c name failed =
+    stopped_by g.D.Watched g.D.Held.HeldFile.bytes c.args.self.now.core c.begin_log.new.self.core c.args.self.now.disk
+    c.begin_log.new.self.disk c.begin_log.result c.begin_log.ensures.as_rotated name failed

@@ -1,0 +1,53 @@
+-- Steps on files: what they count, and what they come to as rulings have it.
+use Rattle.std.specs.Prelude.{◌≡◌, ℕ, ◌∷◌, Option, None, Some, Result, Ok, Err}
+use Rattle.std.specs.List.{AllByRecursion}
+use Rattle.vl_back.specs.declared.back.Back.{Back}
+use Rattle.vl_engine.specs.Files.{IsLogFile}
+use Rattle.vl_engine.specs.Represents.{file_of}
+use Rattle.vl_engine.specs.declared.fails.StepFail.{StepFail}
+use Rattle.vl_engine.specs.declared.fails.StepFail.TheVariants as fails
+use Rattle.vl_layout.specs.Decides.{Answered, Failed, NoMemory, Outcome}
+use Rattle.vl_layout.specs.Ruling.{Exhausted, Halted, Idle, StepAnswer, Stepped}
+use Rattle.vl_layout.specs.Start.{newest_first}
+use Rattle.vl_layout.specs.declared.layout.Layout.{Layout}
+use Rattle.vl_recover.specs.opening.HeldFiles.{AreWaiting}
+
+-- ---- what they count
+
+-- the next numbers and the logs that wait are those of the layout
+pub record HasNumbers (back : Back) (l : Layout) : Type 0 where
+  pub next_log : back.next_log ≡ l.next_log
+  pub next_table : back.state.next_table ≡ l.next_table
+  -- a layout has its frozen logs the newest first
+  pub waiting : AreWaiting l.covered back.waiting.items (newest_first l.frozen)
+
+-- the logs whose memtables are kept can be spelled, so that tables can be made of them
+abbrev pub AreLogFiles : Layout → Type 0
+AreLogFiles l = AllByRecursion IsLogFile (l.active ∷ l.frozen)
+
+-- ---- what they come to
+
+abbrev pub step_outcome : Result (Option ℕ) StepFail → Outcome StepAnswer
+step_outcome (Ok (Some number)) = Answered (Stepped number)
+step_outcome (Ok None) = Answered Idle
+step_outcome (Err (fails.Halted name)) = Answered (Halted (file_of name))
+step_outcome (Err (fails.Exhausted counter)) = Answered (Exhausted counter)
+step_outcome (Err fails.NoMemory) = NoMemory
+step_outcome (Err (fails.Disk name)) = Failed (file_of name)
+
+-- the disk failed
+abbrev pub StepFailed : {T : Type 0} → Result T StepFail → Type 0
+StepFailed (Ok done) = ⊥
+StepFailed (Err (fails.Halted name)) = ⊥
+StepFailed (Err (fails.Exhausted counter)) = ⊥
+StepFailed (Err fails.NoMemory) = ⊥
+StepFailed (Err (fails.Disk name)) = Unit {0}
+
+-- nothing was written: all answers but that of a step that was done, and a fault's
+abbrev pub StepLeavesDisk : Result (Option ℕ) StepFail → Type 0
+StepLeavesDisk (Ok (Some number)) = ⊥
+StepLeavesDisk (Ok None) = Unit {0}
+StepLeavesDisk (Err (fails.Halted name)) = Unit {0}
+StepLeavesDisk (Err (fails.Exhausted counter)) = Unit {0}
+StepLeavesDisk (Err fails.NoMemory) = Unit {0}
+StepLeavesDisk (Err (fails.Disk name)) = ⊥

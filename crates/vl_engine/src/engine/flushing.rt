@@ -1,0 +1,99 @@
+ghost use Rattle.std.specs.Prelude.{◌≡◌, ℕ, Err, None, Some};
+ghost use Rattle.vl_back.specs.Deciding.{MayFlush};
+ghost use Rattle.vl_disk.specs.Calls.{ChangesNothing};
+ghost use Rattle.vl_disk.specs.DiskState.{DiskState};
+ghost use Rattle.vl_disk.specs.Faults.{HasCause};
+ghost use Rattle.vl_disk.specs.declared.name.Name.{Name};
+ghost use Rattle.vl_engine.specs.Carries.{Carries};
+ghost use Rattle.vl_engine.specs.Flushing.{FlushesAs, StopsFlushing, flush_effects};
+ghost use Rattle.vl_engine.specs.Represents.{Fronts, Represents, StandsFor};
+ghost use Rattle.vl_engine.specs.Stepping.{AreLogFiles, HasNumbers, StepFailed, StepLeavesDisk, step_outcome};
+ghost use Rattle.vl_engine.specs.declared.fails.StepFail.TheVariants as fails;
+ghost use Rattle.vl_layout.specs.Decides.{Decides, as_before};
+ghost use Rattle.vl_layout.specs.Rulings.Flush.{flush_ruling};
+ghost use Rattle.vl_layout.specs.declared.layout.Layout.{Layout};
+ghost use Rattle.vl_model.specs.History.{History};
+
+use crate::flushing::{ReadyFlush, ready_flush};
+use crate::{Engine, StepFail};
+use vl_back::{Decision, StagedFlush, StagedTable, write_and_switch};
+use vl_disk::Disk;
+use vl_table::Table;
+
+impl<D: Disk> Engine<D> {
+    /// Makes a table of the memtable that has been frozen for longest, and answers with the table's number; none where none is
+    /// frozen, and then nothing is done. All memory is taken before the first of the five changing calls: the table is made by a
+    /// create, an append and a sync, and then named by the manifest, by an append and a sync. What lives stays.
+    pub fn flush(&mut self) -> Result<Option<u32>, StepFail>
+        // It is answered as the ruling has it.
+        ensures decides { (h : History) (l : Layout) → Fronts self.old.core h l → (l.halted ≡ None → HasNumbers self.old.core.back l)
+            → Decides (Fronts self.new.core) h l (flush_ruling l h) (as_before l l) (step_outcome result) (flush_effects result) }
+        ensures stands { (state : DiskState) (h : History) (l : Layout) → D.told self.old.disk ≡ Some state
+            → StandsFor D.Held.bytes self.old.core h l → (l.halted ≡ None → HasNumbers self.old.core.back l × AreLogFiles l)
+            → Decides (StandsFor D.Held.bytes self.new.core) h l (flush_ruling l h) (as_before l l) (step_outcome result)
+            (flush_effects result) }
+
+        // Over a disk that holds the layout: what a crash meanwhile leaves shows the history, and however it ends, a store may be
+        // opened on the disk again.
+        ensures carries { (h : History) (l : Layout) → Represents D.Held.bytes self.old.core (D.told self.old.disk) h l
+            → Carries D.Watched D.Held.bytes self.old.disk self.new.disk self.new.core h l (flush_ruling l h) (as_before l l)
+            (step_outcome result) (flush_effects result) }
+
+        // Where no table was made and the disk didn't fail, it was left alone, at each moment.
+        ensures untouched { StepLeavesDisk result → ChangesNothing D.Watched self.old.disk self.new.disk ⊥ }
+
+        // A fault of the disk is counted, and nothing else raises the count. The last changing call that was made failed, and
+        // is on the file that is named: the table, or behind it the manifest.
+        ensures cause { HasCause (D.faults self.old.disk) (D.faults self.new.disk) (StepFailed result) }
+        ensures stopped { (name : Name) → result ≡ Err (fails.Disk name)
+            → StopsFlushing self.old.core.back.state.next_table self.old.core.back.manifest.number
+            (D.calls self.old.disk) (D.calls self.new.disk) name }
+    {
+        if let Some(name) = self.core.front.halted {
+            return Err(StepFail::Halted { name });
+        }
+        match self.core.back.decide_flush() {
+            Decision::Idle => Ok(None),
+            Decision::Exhausted(counter) => Err(StepFail::Exhausted(counter)),
+            Decision::Go => self.make_table(),
+        }
+    }
+
+    // Makes the table of the memtable that has been frozen for longest, and gives its number. Where the table or the manifest
+    // would have more bytes than a file may, memory is what is wanting.
+    fn make_table(&mut self) -> Result<Option<u32>, StepFail>
+        requires may { MayFlush self.old.core.back }
+        requires running { self.old.core.front.halted ≡ None }
+        ensures cause { HasCause (D.faults self.old.disk) (D.faults self.new.disk) (StepFailed result) }
+        ensures as_flushed { FlushesAs D.Watched D.Held.bytes self.old.disk self.new.disk self.old.core self.new.core result }
+    {
+        let Ok(ready) = ready_flush(self.alloc, &mut self.disk, &self.core) else {
+            return Err(StepFail::NoMemory);
+        };
+        let ReadyFlush { staged, version } = ready;
+        let StagedFlush {
+            table,
+            edits,
+            state,
+        } = staged;
+        let StagedTable { bytes, shape } = table;
+        let number = self.core.back.state.next_table;
+        match write_and_switch(
+            &mut self.disk,
+            &mut self.core.back.manifest,
+            number,
+            &bytes,
+            &edits,
+        ) {
+            Ok(held) => {
+                self.core.version = version.with_table(Table::of(held, shape));
+                self.core.back.apply_flush(state);
+                Ok(Some(number))
+            }
+            Err(name) => {
+                self.core.front.halted = Some(name);
+                Err(StepFail::Disk { name })
+            }
+        }
+    }
+}

@@ -1,0 +1,93 @@
+ghost use Rattle.std.specs.Prelude.{◌≡◌, ℕ, Err, None, Some};
+ghost use Rattle.vl_disk.specs.Calls.{ChangesNothing};
+ghost use Rattle.vl_disk.specs.DiskState.{DiskState};
+ghost use Rattle.vl_disk.specs.Faults.{HasCause};
+ghost use Rattle.vl_disk.specs.declared.name.Name.{Name};
+ghost use Rattle.vl_engine.specs.Carries.{Carries};
+ghost use Rattle.vl_engine.specs.Represents.{Fronts, Represents, StandsFor};
+ghost use Rattle.vl_engine.specs.Rotating.{HasActive, MayBegin, RotatesAs, StopsRotating, rotate_effects};
+ghost use Rattle.vl_engine.specs.Stepping.{HasNumbers, StepFailed, StepLeavesDisk, step_outcome};
+ghost use Rattle.vl_engine.specs.declared.fails.StepFail.TheVariants as fails;
+ghost use Rattle.vl_layout.specs.Decides.{Decides, as_before};
+ghost use Rattle.vl_layout.specs.Rulings.Rotate.{rotate_ruling};
+ghost use Rattle.vl_layout.specs.Tidy.{IsTrueLog};
+ghost use Rattle.vl_layout.specs.declared.layout.Layout.{Layout};
+ghost use Rattle.vl_model.specs.History.{History};
+
+use crate::rotating::{refusal, stage_rotation};
+use crate::{Engine, StepFail};
+use vl_back::{Waiting, make_log};
+use vl_disk::{Disk, DiskFail, Name};
+use vl_seglog::ActiveLog;
+
+impl<D: Disk> Engine<D> {
+    /// Seals the active log and begins a new one, and answers with the number of the sealed one; none where no commit stands
+    /// in it, and then nothing is done. All memory is taken before the new log is made, by a create, an append and a sync.
+    /// What lives stays.
+    pub fn rotate(&mut self) -> Result<Option<u32>, StepFail>
+        // It is answered as the ruling has it.
+        ensures decides { (h : History) (l : Layout) → Fronts self.old.core h l → (l.halted ≡ None → HasNumbers self.old.core.back l)
+            → IsTrueLog l.active
+            → Decides (Fronts self.new.core) h l (rotate_ruling l h) (as_before l l) (step_outcome result) (rotate_effects result) }
+        ensures stands { (state : DiskState) (h : History) (l : Layout) → D.told self.old.disk ≡ Some state
+            → StandsFor D.Held.bytes self.old.core h l
+            → (l.halted ≡ None → HasNumbers self.old.core.back l × HasActive l state)
+            → Decides (StandsFor D.Held.bytes self.new.core) h l (rotate_ruling l h) (as_before l l) (step_outcome result)
+            (rotate_effects result) }
+
+        // Over a disk that holds the layout: what a crash meanwhile leaves shows the history, and however it ends, a store may be
+        // opened on the disk again.
+        ensures carries { (h : History) (l : Layout) → Represents D.Held.bytes self.old.core (D.told self.old.disk) h l
+            → Carries D.Watched D.Held.bytes self.old.disk self.new.disk self.new.core h l (rotate_ruling l h) (as_before l l)
+            (step_outcome result) (rotate_effects result) }
+
+        // Where no log was begun and the disk didn't fail, it was left alone, at each moment.
+        ensures untouched { StepLeavesDisk result → ChangesNothing D.Watched self.old.disk self.new.disk ⊥ }
+
+        // A fault of the disk is counted, and nothing else raises the count. It came at the active log, before the disk was
+        // changed, or while the new one was made.
+        ensures cause { HasCause (D.faults self.old.disk) (D.faults self.new.disk) (StepFailed result) }
+        ensures stopped { (name : Name) → result ≡ Err (fails.Disk name)
+            → StopsRotating self.old.core.front.log.number self.old.core.back.next_log (D.calls self.old.disk) (D.calls self.new.disk)
+            name }
+    {
+        match refusal(&self.core) {
+            Some(answer) => answer,
+            None => self.begin_log(),
+        }
+    }
+
+    // Begins the next log, and gives the number of the one that is sealed by that.
+    fn begin_log(&mut self) -> Result<Option<u32>, StepFail>
+        requires { MayBegin self.old.core }
+        ensures cause { HasCause (D.faults self.old.disk) (D.faults self.new.disk) (StepFailed result) }
+        ensures as_rotated { RotatesAs D.Watched D.Held.bytes self.old.disk self.new.disk self.old.core self.new.core result }
+    {
+        let Ok(()) = self.core.back.make_room() else {
+            return Err(StepFail::NoMemory);
+        };
+        let sealed = self.core.front.log.number;
+        let version = match stage_rotation(self.alloc, &mut self.disk, &self.core) {
+            Ok(version) => version,
+            Err(DiskFail::NoMemory) => return Err(StepFail::NoMemory),
+            Err(DiskFail::Failed) => {
+                let name = Name::Log(sealed);
+                self.core.front.halted = Some(name);
+                return Err(StepFail::Disk { name });
+            }
+        };
+        let next = self.core.back.next_log;
+        if let Err(name) = make_log(&mut self.disk, next) {
+            self.core.front.halted = Some(name);
+            return Err(StepFail::Disk { name });
+        }
+        let covered = self.core.front.oracle.last();
+        self.core.front.log = ActiveLog::new(next);
+        self.core.version = version;
+        self.core.back.apply_rotation(Waiting {
+            number: sealed,
+            covered,
+        });
+        Ok(Some(sealed))
+    }
+}
