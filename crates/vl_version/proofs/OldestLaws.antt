@@ -1,5 +1,5 @@
 -- Frozen logs, of which the last is the oldest.
-use Rattle.std.proofs.Common.{◌≡◌, ℕ, suc, ◌+◌, ◌-◌, List, [], ◌∷◌, ◌++◌, length, refl, ap, sym, ◌∙◌, arith}
+use Rattle.std.proofs.Common.{◌≡◌, ℕ, suc, ◌-◌, List, [], ◌∷◌, ◌++◌, length, refl, ap, sym, ◌∙◌, arith}
 use Rattle.std.specs.Prelude.{slice_get}
 use Rattle.vl_memtable.specs.declared.frozen_log.FrozenLog.{FrozenLog}
 use Rattle.vl_version.specs.Oldest.{but_oldest, oldest_frozen}

@@ -1,6 +1,5 @@
 use Rattle.std.proofs.Common.{◌∙◌, ap, sym, subst, List, Vec, Global}
 use Rattle.std.specs.List.{AllZip}
-use Rattle.vl_memtable.specs.declared.frozen_log.FrozenLog.{FrozenLog}
 use Rattle.vl_seglog.specs.declared.sealed.SealedLog.{SealedLog}
 use Rattle.vl_table.specs.declared.table.Table.{Table}
 use Rattle.vl_version.specs.Oldest.{but_oldest}

@@ -1,6 +1,4 @@
-use Rattle.std.proofs.Common.{◌∙◌, ap, length, ◌-◌, List}
-use Rattle.std.specs.Prelude.{slice_get}
-use Rattle.vl_memtable.specs.declared.frozen_log.FrozenLog.{FrozenLog}
+use Rattle.std.proofs.Common.{◌∙◌, ap}
 use Rattle.vl_version.specs.Oldest.{oldest_frozen}
 use Rattle.vl_version.proofs.OldestLaws.{oldest_at}
 use Rattle.vl_version.proofs.version.Version.oldest.Goals as goal
