@@ -1,11 +1,11 @@
 -- Entries that a cursor gives, added to a table one by one, each at its placement.
 use Rattle.std.proofs.Common.{◌≡◌, ◌≤◌, ◌↔◌, ℕ, List, [], ◌∷◌, ◌++◌, length, refl, sym, ap, subst, ◌∙◌, arith, append_assoc, append-nil}
 use Rattle.std.specs.Prelude.{map, Option, None, Some, Result, Ok, Err, IsErrAnd, IsErrOf}
-use Rattle.vl_back.proofs.Coming.{may_come}
+use Rattle.vl_back.proofs.Coming.{may_come, spellable_at}
 use Rattle.vl_back.specs.Failing.{add_failed}
+use Rattle.vl_back.specs.Tables.{AreSpellable, IsSpellable}
 use Rattle.vl_back.specs.declared.stage_fail.StageFail.{StageFail}
 use Rattle.vl_back.specs.declared.stage_fail.StageFail.TheVariants as why
-use Rattle.vl_block.specs.Bytes.{AreTabled}
 use Rattle.vl_block.specs.Entries.{IsEntry}
 use Rattle.vl_model.specs.Cursors.{Gives}
 use Rattle.vl_model.specs.Placement.{placed}
@@ -70,16 +70,20 @@ module _ (number : ℕ) (es left : List Entry) (before now : Option (List Entry)
       }
 
   -- where a table may have all of them, this one may come
-  pub next_may_come : (e p : Entry) → p ≡ placed e → Gives before now (Some e) → AreTabled table_format (es ++ map placed left)
-      → MayCome (es ++ map placed so.front) p
-  next_may_come e p is gives tabled =
+  pub next_may_come : (e p : Entry) → p ≡ placed e → (IsSpellable p → IsEntry table_format p) → Gives before now (Some e)
+      → AreSpellable (es ++ map placed left) → MayCome (es ++ map placed so.front) p
+  next_may_come e p is fits gives spellable =
       let next = gives so.rest so.now_is in
-      subst (MayCome (es ++ map placed so.front)) (sym is)
-      (may_come (es ++ map placed so.front) (placed e) (map placed next.0)
-      (subst (AreTabled table_format)
+      let front = es ++ map placed so.front in
+      let parts : AreSpellable (front ++ placed e ∷ map placed next.0) =
+      subst AreSpellable
       (ap (λ l. es ++ map placed l) (so.left_is ∙ ap (λ l. so.front ++ l) next.1) ∙ ap (λ l. es ++ l) (map_both so.front (e ∷ next.0))
       ∙ sym (append_assoc es (map placed so.front) (placed e ∷ map placed next.0)))
-      tabled))
+      spellable in
+      let entry : IsEntry table_format p =
+      fits (subst IsSpellable (sym is) (spellable_at front (placed e) (map placed next.0) parts.each)) in
+      subst (MayCome front) (sym is)
+      (may_come front (placed e) (map placed next.0) parts (subst (IsEntry table_format) is entry))
 
   -- and no more
   pub adds_all : Gives before now None → IsWriting writer number (es ++ map placed left) given
@@ -107,15 +111,16 @@ module _ (es : List Entry) (first : Entry) (before now : Option (List Entry)) (t
       subst (IsWriting writer number (placed first ∷ [])) (sym (starts ∙ ap (λ l. l ++ header) none))
       (subst (λ e. IsWriting writer number (e ∷ []) header) is writing)
 
-  pub first_may_come : (p : Entry) → p ≡ placed first → AreTabled table_format (map placed es) → IsEntry table_format p
-  first_may_come p is tabled = subst (IsEntry table_format) (sym is)
-      ((subst (AreTabled table_format) (sym all_placed) tabled).each.0)
+  pub first_may_come : (p : Entry) → p ≡ placed first → (IsSpellable p → IsEntry table_format p) → AreSpellable (map placed es)
+      → IsEntry table_format p
+  first_may_come p is fits spellable =
+      fits (subst IsSpellable (sym is) ((subst AreSpellable (sym all_placed) spellable).each.0))
 
 -- none was left
 pub none_tabled : (es : List Entry) (before now : Option (List Entry)) → before ≡ Some es → Gives before now None
-    → AreTabled table_format (map placed es) → ⊥
-none_tabled es before now told gives tabled =
-    let some : 1 ≤ length (map placed es) = tabled.some in
+    → AreSpellable (map placed es) → ⊥
+none_tabled es before now told gives spellable =
+    let some : 1 ≤ length (map placed es) = spellable.some in
     let short : length (map placed es) ≡ 0 = ap (λ l. length (map placed l)) (gives es told).0 in
     omega (arith, some, short)
 

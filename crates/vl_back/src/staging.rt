@@ -4,15 +4,13 @@ ghost use Rattle.std.specs.Prelude.{◌≡◌, List, Some, length, map, IfOk, Is
 ghost use Rattle.vl_back.specs.Deciding.{MayFlush};
 ghost use Rattle.vl_back.specs.FlushEdits.{flush_switch};
 ghost use Rattle.vl_back.specs.Staging.{IsStagedFlush};
-ghost use Rattle.vl_back.specs.Tables.{IsTableOf};
-ghost use Rattle.vl_block.specs.Bytes.{AreTabled};
+ghost use Rattle.vl_back.specs.Tables.{AreSpellable, IsTableOf};
 ghost use Rattle.vl_disk.specs.Calls.{ChangesNothing};
 ghost use Rattle.vl_disk.specs.Name.{IsNumbered};
 ghost use Rattle.vl_disk.specs.Spare.{CanAppend, IsReady};
 ghost use Rattle.vl_disk.specs.declared.name.Name.TheVariants as names;
 ghost use Rattle.vl_manifest.specs.States.{next_state};
 ghost use Rattle.vl_manifest.specs.declared.state.ManifestState.{ManifestState};
-ghost use Rattle.vl_model.specs.Formats.{table_format};
 ghost use Rattle.vl_model.specs.Placement as model;
 ghost use Rattle.vl_model.specs.declared.entry.Entry.{Entry};
 
@@ -59,7 +57,7 @@ impl Back {
         // Where there is such a table, and the switch can be applied to what the manifest says, only
         // memory may be wanting.
         ensures lawful { (es : List Entry) (state : ManifestState) → C.left entries.old ≡ Some es
-            → AreTabled table_format (map model.placed es)
+            → AreSpellable (map model.placed es)
             → next_state (flush_switch active self.now) self.now.state ≡ Some state
             → IsErrOf result StageFail.NotLawful → ⊥ }
 
@@ -101,7 +99,7 @@ impl Back {
         ensures says { IfOk result (λ spelled.
             next_state (flush_switch active self.now) self.now.state ≡ Some spelled.state) }
         ensures lawful { (es : List Entry) (state : ManifestState) → C.left entries.old ≡ Some es
-            → AreTabled table_format (map model.placed es)
+            → AreSpellable (map model.placed es)
             → next_state (flush_switch active self.now) self.now.state ≡ Some state
             → IsErrOf result StageFail.NotLawful → ⊥ }
     {

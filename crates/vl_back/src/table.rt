@@ -1,15 +1,13 @@
 //! A table that is spelled before it is written.
 
 ghost use Rattle.std.specs.Prelude.{◌≡◌, ◌++◌, ℕ, List, Some, map, IfOk, IsErrOf, OnOk};
-ghost use Rattle.vl_back.specs.Tables.{IsTableOf};
-ghost use Rattle.vl_block.specs.Bytes.{AreTabled};
-ghost use Rattle.vl_model.specs.Formats.{table_format};
+ghost use Rattle.vl_back.specs.Tables.{AreSpellable, IsTableOf};
 ghost use Rattle.vl_model.specs.Placement as model;
 ghost use Rattle.vl_model.specs.declared.entry.Entry.{Entry};
 ghost use Rattle.vl_table_writer.specs.Writing.{IsWriting};
 
 use crate::StageFail;
-use crate::placing::placed;
+use crate::placing::{numbers_fit, placed};
 use std::alloc::{AllocError, Global};
 use std::sync::Arc;
 use vl_block::TableShape;
@@ -35,13 +33,15 @@ impl StagedTable {
         ensures spelled { (es : List Entry) → C.left entries.old ≡ Some es
             → IfOk result (IsTableOf number (map model.placed es)) }
         ensures lawful { (es : List Entry) → C.left entries.old ≡ Some es
-            → AreTabled table_format (map model.placed es) → IsErrOf result StageFail.NotLawful → ⊥ }
+            → AreSpellable (map model.placed es) → IsErrOf result StageFail.NotLawful → ⊥ }
     {
         let Some(first) = entries.next(&mut ())? else {
             return Err(StageFail::NotLawful);
         };
+        let spelled = placed(first);
+        numbers_fit(&spelled);
         let mut bytes = Vec::new(alloc);
-        let mut writer = TableWriter::begin(alloc, &mut bytes, number, &placed(first))?;
+        let mut writer = TableWriter::begin(alloc, &mut bytes, number, &spelled)?;
         add_left(&mut writer, &mut bytes, entries)?;
         finished(alloc, writer, bytes)
     }
@@ -74,11 +74,13 @@ fn add_left<C: Cursor<Fault = AllocError, Reader = ()>>(
         → C.left entries.old ≡ Some left
         → OnOk result (IsWriting writer.new number (es ++ map model.placed left) bytes.new.items) }
     ensures lawful { (number : ℕ) (es left : List Entry) → IsWriting writer.old number es bytes.old.items
-        → C.left entries.old ≡ Some left → AreTabled table_format (es ++ map model.placed left)
+        → C.left entries.old ≡ Some left → AreSpellable (es ++ map model.placed left)
         → IsErrOf result StageFail.NotLawful → ⊥ }
 {
     'adding: while let Some(entry) = entries.next(&mut ())? {
-        writer.add(bytes, &placed(entry))?;
+        let spelled = placed(entry);
+        numbers_fit(&spelled);
+        writer.add(bytes, &spelled)?;
     }
     Ok(())
 }

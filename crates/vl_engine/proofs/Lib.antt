@@ -6,6 +6,7 @@ pub mod Committing
 pub mod Filing
 pub mod Fitting
 pub mod FlushKeeps
+pub mod FlushLawful
 pub mod FlushSteps
 pub mod Flushed
 pub mod Halted

@@ -65,13 +65,12 @@ ruled_refused core h l is has true_log (Err (fails.Exhausted counters.Log)) why 
     (Exhausted counters.Log, ruled_log core h l is why.0 why.1 (has (running_so core h l is why.0)).next_log true_log why.2, refl, refl)
 ruled_refused core h l is has true_log (Err (fails.Exhausted counters.Table)) why = absurd why.2
 ruled_refused core h l is has true_log (Err (fails.Exhausted counters.Manifest)) why = absurd why.2
-ruled_refused core h l is has true_log (Err (fails.Exhausted counters.Version)) why =
-    (
-      Exhausted counters.Version,
-      ruled_version core h l is why.0 why.1 (has (running_so core h l is why.0)).next_log why.2.0 true_log why.2.1,
-      refl,
-      refl,
-    )
+ruled_refused core h l is has true_log (Err (fails.Exhausted counters.Version)) why = (
+  Exhausted counters.Version,
+  ruled_version core h l is why.0 why.1 (has (running_so core h l is why.0)).next_log why.2.0 true_log why.2.1,
+  refl,
+  refl,
+)
 ruled_refused core h l is has true_log (Err fails.NoMemory) why = absurd why
 ruled_refused core h l is has true_log (Err (fails.Disk name)) why = absurd why
 

@@ -7,6 +7,7 @@ pub mod BegunShows
 pub mod BegunTidy
 pub mod CommitLaws
 pub mod FileLaws
+pub mod FlushApplies
 pub mod FlushBase
 pub mod FlushLaws
 pub mod FlushRulings
@@ -24,6 +25,7 @@ pub mod LiveLaws
 pub mod LogEntries
 pub mod MemtableLaws
 pub mod MemtablePlaces
+pub mod MemtableSpelled
 pub mod OpensAgain
 pub mod ReadLaws
 pub mod ReopenedLaws

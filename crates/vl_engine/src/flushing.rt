@@ -1,11 +1,14 @@
 //! What a flush wants of memory, the disk's too: all of it is taken before the disk is changed.
 
-ghost use Rattle.std.specs.Prelude.{◌≡◌, length, IfOk, IsTrue, Some};
+ghost use Rattle.std.specs.Prelude.{◌≡◌, ◌≤◌, length, IfOk, IsErrOf, IsTrue, None, Some};
 ghost use Rattle.vl_back.specs.Deciding.{MayFlush};
 ghost use Rattle.vl_disk.specs.Calls.{ChangesNothing};
 ghost use Rattle.vl_disk.specs.Spare.{CanAppend, IsReady};
 ghost use Rattle.vl_disk.specs.declared.name.Name.TheVariants as names;
 ghost use Rattle.vl_engine.specs.Flushing.{IsStagedOf};
+ghost use Rattle.vl_engine.specs.Represents.{Represents};
+ghost use Rattle.vl_layout.specs.declared.layout.Layout.{Layout};
+ghost use Rattle.vl_model.specs.History.{History};
 ghost use Rattle.vl_version.specs.Flushing.{IsFlushed};
 
 use crate::kept::Core;
@@ -33,7 +36,9 @@ pub fn ready_flush<D: Disk>(
     disk: &mut D,
     core: &Core<D::Held>,
 ) -> Result<ReadyFlush<D::Held>, StageFail>
-    requires { MayFlush core.now.back }
+    requires may { MayFlush core.now.back }
+    requires running { core.now.front.halted ≡ None }
+    requires numbered { 1 ≤ core.now.back.next_log }
     ensures of { IfOk result (λ ready. IsStagedOf core.now ready.staged) }
     ensures version { IfOk result (λ ready. IsFlushed D.Held.bytes core.now.version ready.version) }
 
@@ -44,7 +49,13 @@ pub fn ready_flush<D: Disk>(
     ensures append { IfOk result (λ ready. CanAppend (length ready.staged.edits.frame.items)
         (D.spare disk.new (names.Manifest core.now.back.manifest.number))) }
     ensures no_change { ChangesNothing D.Watched disk.old disk.new ⊥ }
+
+    // Of what an engine represents a table can be spelled, and named by the manifest: only memory may be wanting.
+    ensures lawful { (h : History) (l : Layout) → Represents D.Held.bytes core.now (D.told disk.old) h l
+        → IsErrOf result StageFail.NotLawful → ⊥ }
 {
+    // What is read tells the proof that it fits its bytes.
+    let _next_log = core.back.next_log;
     let Some(oldest) = core.version.oldest() else {
         return Err(StageFail::NotLawful);
     };

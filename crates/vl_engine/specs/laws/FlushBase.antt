@@ -279,7 +279,7 @@ module _ (b : Base) (l : Layout) (h : History) (s : Segment) (f : List Edit) (st
     (waits : oldest l.frozen ≡ Some s) (level : List Table) (deeper : List (List Table)) (are : l.levels ≡ level ∷ deeper)
     (makes : next_state f b.state ≡ Some state)
     (levels : state.levels ≡ (l.next_table ∷ numbers_of level) ∷ map numbers_of deeper)
-    (covers : state.covered ≡ covered_by s.frames b.state.covered) 
+    (covers : state.covered ≡ covered_by s.frames b.state.covered)
     (kept : state.keep ≡ b.state.keep) (since : state.since ≡ b.state.since)
     (led : (n : ℕ) → IsAmong (led_into (found_levels (flushed l s).levels)) n → IsFramedAmong (sealed (flushed l s)) n) where
   abbrev pub flushed_base : Base

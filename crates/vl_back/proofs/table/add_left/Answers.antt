@@ -15,7 +15,8 @@ adding-preserved g c = record {
       let now = g.C.Cursor.left c.next.new.self in
       let so = c.adding.invariant.added number es left writing told in
       let gives = subst (λ (o : Option Entry). Gives before now o) c.in-Some.is c.in_ok-entry.ensures.given in
-      adds_next number es left before now c.adding.writer c.adding.bytes.items so c.in-Some.entry c.placed.result c.placed.ensures
+      adds_next number es left before now c.adding.writer c.adding.bytes.items so c.in-Some.entry
+      c.placed-spelled.result c.placed-spelled.ensures
       c.add.new.self c.add.new.out.items gives (c.in_ok-add.ensures.added number _ c.adding.bytes.items so.writing);
 }
 
@@ -26,7 +27,8 @@ adding-preserved-in_ok-add g c = record {
       let now = g.C.Cursor.left c.next.new.self in
       let so = c.adding.invariant.added number es left writing told in
       let gives = subst (λ (o : Option Entry). Gives before now o) c.in-Some.is c.in_ok-entry.ensures.given in
-      adds_next number es left before now c.adding.writer c.adding.bytes.items so c.in-Some.entry c.placed.result c.placed.ensures
+      adds_next number es left before now c.adding.writer c.adding.bytes.items so c.in-Some.entry
+      c.placed-spelled.result c.placed-spelled.ensures
       c.add.new.self c.add.new.out.items gives (c.in_ok-add.ensures.added number _ c.adding.bytes.items so.writing);
 }
 
@@ -49,5 +51,5 @@ returns-in_err-add-clause-lawful g c = λ number es left writing told tabled.
     let gives = subst (λ (o : Option Entry). Gives before now o) c.in-Some.is c.in_ok-entry.ensures.given in
     add_fault _ c.from_residual-in_err-add.result c.from_residual-in_err-add.ensures.1 _
     (next_may_come number es left before now c.adding.writer c.adding.bytes.items so
-    c.in-Some.entry c.placed.result c.placed.ensures gives tabled)
+    c.in-Some.entry c.placed-spelled.result c.placed-spelled.ensures c.numbers_fit.ensures gives tabled)
     (c.in_err-add.ensures.refused number _ c.adding.bytes.items so.writing)

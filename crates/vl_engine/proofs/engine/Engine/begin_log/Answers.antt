@@ -26,7 +26,7 @@ invariant_of-self-in-Err g c =
     let told = g.D.Watched.told in
     let next = c.make_room.new.self.next_log in
     let same : IsSameBack before.back c.make_room.new.self =
-        same_back before.back c.make_room.new.self c.in-Ok.ensures.others c.in-Ok.ensures.waiting in
+    same_back before.back c.make_room.new.self c.in-Ok.ensures.others c.in-Ok.ensures.waiting in
     record {
       ready = fit_halted _ c.in-Err.name refl (told c.make_log.new.disk)
           (stands_still before.front.log.number next (told c.args.self.now.disk) (told c.stage_rotation.new.disk)
@@ -45,7 +45,7 @@ returns-in-Err-clause-as_rotated g c =
     let mid = c.stage_rotation.new.disk in
     let new = c.make_log.new.disk in
     let same : IsSameBack before.back c.make_room.new.self =
-        same_back before.back c.make_room.new.self c.in-Ok.ensures.others c.in-Ok.ensures.waiting in
+    same_back before.back c.make_room.new.self c.in-Ok.ensures.others c.in-Ok.ensures.waiting in
     let quiet = c.in-Ok-stage_rotation.ensures.no_change in
     record {
       begins = begins_making g.D.Watched before old mid new _ quiet c.make_room.new.self.next_log same.next_log _ c.in-Err.ensures.makes;
@@ -64,14 +64,14 @@ invariant_of-self-2 g c =
     let mid = c.stage_rotation.new.disk in
     let new = c.make_log.new.disk in
     let same : IsSameBack before.back c.make_room.new.self =
-        same_back before.back c.make_room.new.self c.in-Ok.ensures.others c.in-Ok.ensures.waiting in
+    same_back before.back c.make_room.new.self c.in-Ok.ensures.others c.in-Ok.ensures.waiting in
     let quiet = c.in-Ok-stage_rotation.ensures.no_change in
     let log_is : c.new-self.result ≡ record { number = before.back.next_log; length = 16 } =
-        c.new-self.ensures ∙ ap (λ (n : ℕ). record { number = n; length = 16 }) same.next_log in
+    c.new-self.ensures ∙ ap (λ (n : ℕ). record { number = n; length = 16 }) same.next_log in
     let next_is : IsNextBack before c.apply_rotation.new.self =
-        next_back before c.make_room.new.self c.apply_rotation.new.self c.last-covered.result same c.apply_rotation.ensures.manifest
-        c.apply_rotation.ensures.state c.apply_rotation.ensures.next_log c.apply_rotation.ensures.version
-        c.apply_rotation.ensures.waiting c.last-covered.ensures.last in
+    next_back before c.make_room.new.self c.apply_rotation.new.self c.last-covered.result same c.apply_rotation.ensures.manifest
+    c.apply_rotation.ensures.state c.apply_rotation.ensures.next_log c.apply_rotation.ensures.version
+    c.apply_rotation.ensures.waiting c.last-covered.ensures.last in
     record {
       ready = fit_rotated before _ (ap (λ (log : ActiveLog). record before.front { log = log }) log_is) next_is c.requires.running
           (g.D.Watched.told old) (g.D.Watched.told mid) (g.D.Watched.told new) quiet.told
@@ -89,14 +89,14 @@ returns-clause-as_rotated g c =
     let mid = c.stage_rotation.new.disk in
     let new = c.make_log.new.disk in
     let same : IsSameBack before.back c.make_room.new.self =
-        same_back before.back c.make_room.new.self c.in-Ok.ensures.others c.in-Ok.ensures.waiting in
+    same_back before.back c.make_room.new.self c.in-Ok.ensures.others c.in-Ok.ensures.waiting in
     let quiet = c.in-Ok-stage_rotation.ensures.no_change in
     let log_is : c.new-self.result ≡ record { number = before.back.next_log; length = 16 } =
-        c.new-self.ensures ∙ ap (λ (n : ℕ). record { number = n; length = 16 }) same.next_log in
+    c.new-self.ensures ∙ ap (λ (n : ℕ). record { number = n; length = 16 }) same.next_log in
     let next_is : IsNextBack before c.apply_rotation.new.self =
-        next_back before c.make_room.new.self c.apply_rotation.new.self c.last-covered.result same c.apply_rotation.ensures.manifest
-        c.apply_rotation.ensures.state c.apply_rotation.ensures.next_log c.apply_rotation.ensures.version
-        c.apply_rotation.ensures.waiting c.last-covered.ensures.last in (
+    next_back before c.make_room.new.self c.apply_rotation.new.self c.last-covered.result same c.apply_rotation.ensures.manifest
+    c.apply_rotation.ensures.state c.apply_rotation.ensures.next_log c.apply_rotation.ensures.version
+    c.apply_rotation.ensures.waiting c.last-covered.ensures.last in (
       refl,
       record {
         begins = begins_making g.D.Watched before old mid new _ quiet c.make_room.new.self.next_log same.next_log _
