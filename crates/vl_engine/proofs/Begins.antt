@@ -1,13 +1,14 @@
 -- The steps by which a new log is begun.
-use Rattle.std.specs.Prelude.{◌≡◌, ◌≤◌, ℕ, ◌+◌, List, [], ◌∷◌, ◌++◌, Option, None, Some, Result, Ok, Err, Vec, true, refl}
-use Rattle.std.specs.Global.{Global}
-use Rattle.std.specs.Option.{ForSome, option_map}
+use Rattle.std.specs.Prelude.{◌≡◌, ◌≤◌, ℕ, ◌+◌, List, [], ◌∷◌, ◌++◌, Option, Some, Result, true}
+use Rattle.std.specs.Option.{ForSome}
 use Rattle.std.proofs.Common.{ap, subst, sym, ◌∙◌, arith}
+use Rattle.vl_back.specs.Writing.{IsKept, KeepsOthers}
 use Rattle.vl_back.specs.declared.back.Back.{Back}
 use Rattle.vl_disk.specs.Calls.{ChangesNothing}
 use Rattle.vl_disk.specs.Crash.{Unchanged}
 use Rattle.vl_disk.specs.Disk.{IsChangedBy}
 use Rattle.vl_disk.specs.DiskState.{DiskState, file_at}
+use Rattle.vl_disk.specs.Faults.{Rose}
 use Rattle.vl_disk.specs.MadeFile.{WhileMaking, made}
 use Rattle.vl_disk.specs.Moments.{Elapses, While, passes_none, passes_then, past_of}
 use Rattle.vl_disk.specs.Performs.{FailedAt, Performs, calls_on}
@@ -22,6 +23,7 @@ use Rattle.vl_manifest.specs.declared.state.ManifestState.{ManifestState}
 use Rattle.vl_manifest.specs.declared.waiting.Waiting.{Waiting}
 use Rattle.vl_model.specs.Formats.{log_format}
 use Rattle.vl_model.specs.declared.entry.Entry.{Entry}
+use Rattle.vl_recover.specs.laws.opening.OpeningLaws.{some_same}
 use Rattle.vl_seglog.specs.Frames.{log_header}
 use Rattle.vl_version.specs.Rotating.{IsRotated}
 use Rattle.vl_version.specs.declared.version.Version.{Version}
@@ -65,7 +67,8 @@ next_version {H} bytes told before room next version front is = record {
       (subst (λ (v : Version H). IsRotated bytes v room.front.log.length is.log next) version is.is);
   number = is.number ∙ ap (λ (f : Front). f.log.number) front;
   format = is.format;
-  held = subst (λ (f : Front). ForSome told (λ state. bytes is.log.held ≡ Some (file_at state (names.Log f.log.number)).bytes)) front is.held;
+  held = subst (λ (f : Front). ForSome told (λ state. bytes is.log.held ≡ Some (file_at state (names.Log f.log.number)).bytes)) front
+      is.held;
 }
 
 -- nothing is above the last number in an empty memtable
@@ -89,25 +92,37 @@ then_numbered before after next some = (
 
 -- ---- the disk
 
--- what is said of a disk that is told is said of it while that stays
-pub still : {P : DiskState → Type 0} (old new : Option DiskState) → new ≡ old → ForSome old P → ForSome new P
-still old new same holds disk is = holds disk (sym same ∙ is)
-
--- one call behind the other changed nothing, and neither failed
-pub then_call : {D : Type 0} (g : Ghosts D) (a b c : D) (first second both : Type 0) → (first → ⊥) → (second → ⊥) → (both → ⊥)
-    → ChangesNothing g a b first → ChangesNothing g b c second → ChangesNothing g a c both
-then_call g a b c first second both fine well none one other = record {
+-- One call behind the other changed nothing: the first didn't fail, and both did only where the second did.
+pub then_call : {D : Type 0} (g : Ghosts D) (a b c : D) (second both : Type 0) → (both → second) → (second → both)
+    → ChangesNothing g a b ⊥ → ChangesNothing g b c second → ChangesNothing g a c both
+then_call g a b c second both so back one other = record {
   told = other.told ∙ one.told;
   calls = other.calls ∙ one.calls;
   time = passes_then (past_of g a) (past_of g b) (past_of g c)
       (While (g.told a) Unchanged) (While (g.told b) Unchanged) (While (g.told a) Unchanged) one.time other.time
       (λ state now. now) (λ state now disk is. now disk (one.told ∙ is));
-  cause = let steady : g.faults c ≡ g.faults a = other.cause.steady well ∙ one.cause.steady fine in record {
-    later = omega (arith, steady);
-    rose = λ e. absurd (none e);
-    steady = λ _. steady;
+  cause = let steady : g.faults b ≡ g.faults a = one.cause.steady (λ e. e) in record {
+    later = let later = other.cause.later in omega (arith, steady, later);
+    rose = λ e. subst (λ (n : ℕ). Rose n (g.faults c)) steady (other.cause.rose (so e));
+    steady = λ fine. other.cause.steady (λ e. fine (back e)) ∙ steady;
   };
 }
+
+-- what is said of a disk that is told is said of it while that stays
+pub still : {P : DiskState → Type 0} (old new : Option DiskState) → new ≡ old → ForSome old P → ForSome new P
+still old new same holds disk is = holds disk (sym same ∙ is)
+
+-- where nothing else is told, each file stands or not as before
+pub keeps_told : (name : Name) (old new : Option DiskState) → new ≡ old → KeepsOthers name old new
+keeps_told name old new same before now was is other apart =
+    subst (IsKept other before) (some_same before now (sym was ∙ sym same ∙ is))
+    (((λ none. none, λ none. none), (λ none. none, λ none. none)))
+
+-- no file but the new log comes or goes, where nothing was changed before it was made
+pub keeps_making : (next given : ℕ) → given ≡ next → (old mid new : Option DiskState) → mid ≡ old
+    → KeepsOthers (names.Log given) mid new → KeepsOthers (names.Log next) old new
+keeps_making next given same old mid new quiet keeps before now was is =
+    subst (λ (n : ℕ). KeepsOthers (names.Log n) mid new) same keeps before now (quiet ∙ was) is
 
 module _ {D H : Type 0} (g : Ghosts D) (core : Core H) where
   -- the active log couldn't be held

@@ -1,11 +1,13 @@
 -- What a flush keeps so that an engine may go on: the files that stand, and the numbers.
-use Rattle.std.specs.Prelude.{◌≡◌, ◌≢◌, ◌≤◌, ◌<◌, ℕ, ◌+◌, Bool, true, false, List, [], ◌∷◌, length, Option, None, Some, Result, Ok, IsSome, refl}
+use Rattle.std.specs.Prelude.{◌≡◌, ◌≢◌, ◌≤◌, ◌<◌, ℕ, ◌+◌, Bool, true, false, List, [], ◌∷◌, length, Option, None, Some, Result, Ok, Err, IsErrAnd, IsErrOf, IsSome, refl}
 use Rattle.std.specs.FinMap.{get}
 use Rattle.std.specs.Option.{ForSome}
-use Rattle.std.proofs.Common.{sym, ap, subst, arith}
+use Rattle.std.proofs.Common.{sym, ap, subst, ◌∙◌, arith}
 use Rattle.vl_back.specs.FlushEdits.{flush_switch, head_of, switch_of}
 use Rattle.vl_back.specs.Writing.{IsKept, KeepsOthers, WhileWriting, written}
 use Rattle.vl_back.specs.declared.back.Back.{Back}
+use Rattle.vl_back.specs.declared.stage_fail.StageFail.TheVariants as why
+use Rattle.vl_back.specs.declared.stage_fail.StageFail.{StageFail}
 use Rattle.vl_back.specs.declared.staging.StagedFlush.{StagedFlush}
 use Rattle.vl_disk.specs.Calls.{ChangesNothing}
 use Rattle.vl_disk.specs.Disk.{IsChangedBy, Stands}
@@ -24,6 +26,20 @@ use Rattle.vl_manifest.specs.declared.edit.Edit.TheVariants.{Add, Head, Next}
 use Rattle.vl_manifest.specs.declared.state.ManifestState.{ManifestState}
 use Rattle.vl_manifest.specs.declared.version_builder.VersionBuilder.{VersionBuilder}
 use Rattle.vl_manifest.specs.declared.waiting.Waiting.{Waiting}
+
+-- ---- why it isn't staged
+
+-- a fault that is handed on is lawful where the one that came was
+pub handed_on : {A B : Type 0} (fail : StageFail) (result : Result B StageFail) → IsErrAnd result (λ f. f ≡ fail)
+    → (IsErrOf {T = A} (Err fail) why.NotLawful → ⊥) → IsErrOf result why.NotLawful → ⊥
+handed_on fail (Ok x) and never is = cc
+handed_on {A} fail (Err f) and never is = never (ap of (sym and ∙ same f why.NotLawful is))
+  where
+    of : StageFail → Result A StageFail
+    of f = Err f
+
+    same : {B : Type 0} (a b : StageFail) → IsErrOf {T = B} (Err a) b → a ≡ b
+    same a b e = cc
 
 -- ---- the next table
 
@@ -123,6 +139,19 @@ module _ {H : Type 0} (before after : Core H) (disk now : DiskState) (fit : IsFi
     where
       halts : after.front.halted ≡ Some name → after.front.halted ≡ None → ⊥
       halts some none = cc
+
+-- where what is told is as before, so are the files
+pub kept_itself : (name : Name) (old new : Option DiskState) → new ≡ old → KeepsOthers name old new
+kept_itself name old new same before now was is other apart =
+    subst (λ (disk : DiskState). IsKept other before disk) (one before now (sym was ∙ sym same ∙ is))
+    ((λ none. none, λ none. none), (λ none. none, λ none. none))
+  where
+    one : (a b : DiskState) → Some a ≡ Some b → a ≡ b
+    one a b e = cc
+
+-- and so they are kept from what was told before a call that changed nothing
+pub kept_from : (name : Name) (old mid new : Option DiskState) → mid ≡ old → KeepsOthers name mid new → KeepsOthers name old new
+kept_from name old mid new same kept = subst (λ (told : Option DiskState). KeepsOthers name told new) same kept
 
 -- where nothing is told before, nothing is then
 pub still_told : {P Q : DiskState → Type 0} (name : Name) (old new : Option DiskState) → ForSome old P → KeepsOthers name old new

@@ -1,19 +1,21 @@
 -- What a flush is answered, by the ruling on it: where no table is made, and where one is to be made, whatever that came to.
-use Rattle.std.specs.Prelude.{◌≡◌, ℕ, List, Option, None, Some, Result, Ok, Err, refl}
+use Rattle.std.specs.Prelude.{◌≡◌, ℕ, List, Option, None, Some, Result, Ok, Err, OnOk, refl}
 use Rattle.std.specs.Option.{option_map}
 use Rattle.std.proofs.Common.{sym, ap, subst, ◌∙◌}
 use Rattle.vl_back.specs.Deciding.{MayFlush, flush_decision}
 use Rattle.vl_back.specs.declared.decision.Decision.TheVariants as decisions
 use Rattle.vl_back.specs.declared.decision.Decision.{Decision}
 use Rattle.vl_disk.specs.Calls.{ChangesNothing}
+use Rattle.vl_disk.specs.Disk.{IsChangedBy}
 use Rattle.vl_disk.specs.DiskState.{DiskState}
+use Rattle.vl_disk.specs.Faults.{after_calls}
 use Rattle.vl_disk.specs.declared.name.Name.{Name}
 use Rattle.vl_disk.specs.declared.watched.Watched.{Ghosts}
 use Rattle.vl_engine.proofs.Carrying.{IsWatched, carries_leaving, carries_no_memory, extends_itself}
 use Rattle.vl_engine.proofs.Committing.{decides_answered, decides_failed, decides_short}
 use Rattle.vl_engine.proofs.FlushSteps.{carries_flushed, carries_unflushed, files_held, fronts_flushed, fronts_unflushed, numbers_held, stands_flushed, stands_unflushed}
 use Rattle.vl_engine.specs.Carries.{Carries}
-use Rattle.vl_engine.specs.Flushing.{FlushesAs, StopsFlushing, flush_effects}
+use Rattle.vl_engine.specs.Flushing.{FlushesAs, IsFlushWritten, StopsFlushing, flush_effects, flush_written}
 use Rattle.vl_engine.specs.Represents.{Fronts, Represents, StandsFor, file_of}
 use Rattle.vl_engine.specs.Stepping.{AreLogFiles, HasNumbers, StepLeavesDisk, step_outcome}
 use Rattle.vl_engine.specs.declared.fails.StepFail.TheVariants as fails
@@ -91,6 +93,29 @@ module _ {D H : Type 0} (g : Ghosts D) (bytes : H → Option (List ℕ)) (before
   stopped_by (Err (fails.Disk at)) did name failed =
       let same : at ≡ name = cc in
       subst (StopsFlushing before.back.state.next_table before.back.manifest.number (g.calls old) (g.calls new)) same did.stops
+
+  pub written_by : (result : Result (Option ℕ) StepFail) → FlushesAs g bytes old new before after result
+      → (number : ℕ) → result ≡ Ok (Some number) → IsFlushWritten before number (g.told old) (g.told new)
+  written_by (Ok (Some made)) did number is =
+      let same : made ≡ number = cc in
+      record {
+        number_is = sym same ∙ did.0;
+        staged = did.1.staged;
+        of = did.1.of;
+        changed = subst (λ (told : Option DiskState). IsChangedBy (flush_written before did.1.staged) told (g.told new))
+            did.1.writes.before.told did.1.changed;
+      }
+  written_by (Ok None) did number is = absurd did
+  written_by (Err (fails.Halted at)) did number is = absurd did
+  written_by (Err (fails.Exhausted counter)) did number is = absurd did
+  written_by (Err fails.NoMemory) did number is = absurd cc
+  written_by (Err (fails.Disk at)) did number is = absurd cc
+
+  pub calls_by : (result : Result (Option ℕ) StepFail) → FlushesAs g bytes old new before after result
+      → OnOk result (g.calls new ≡ after_calls (flush_effects result).calls (g.calls old))
+  calls_by (Ok (Some number)) did = did.1.calls ∙ ap (after_calls 5) did.1.writes.before.calls
+  calls_by (Ok None) did = absurd did
+  calls_by (Err why) did = tt
 
   module _ (h : History) (l : Layout) (none : before.front.halted ≡ None) (may : MayFlush before.back)
       (decided : flush_decision before.back ≡ decisions.Go) where

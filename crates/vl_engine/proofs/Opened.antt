@@ -1,8 +1,10 @@
 -- What an engine that was just opened stands for, and represents.
-use Rattle.std.specs.Prelude.{◌≡◌, ◌≤◌, ℕ, ◌+◌, ◌-◌, ◌^◌, min, max, List, [], map, reverse, Option, None, Some, IsSome, refl}
+use Rattle.std.specs.Prelude.{◌≡◌, ◌≤◌, ℕ, ◌+◌, ◌-◌, ◌^◌, min, max, List, [], ◌∷◌, ◌++◌, map, reverse, Option, None, Some, IsSome, Vec, refl}
 use Rattle.std.specs.FinMap.{get}
+use Rattle.std.specs.Global.{Global}
 use Rattle.std.specs.Option.{option_map}
 use Rattle.std.proofs.Common.{sym, ap, subst, ◌∙◌, arith}
+use Rattle.std.proofs.lemmas.List.{map-append, reverse-append}
 use Rattle.vl_disk.specs.Calls.{ChangesNothing}
 use Rattle.vl_disk.specs.Crash.{Image, Unchanged}
 use Rattle.vl_disk.specs.Disk.{Stands}
@@ -13,7 +15,7 @@ use Rattle.vl_disk.specs.declared.name.Name.TheVariants as names
 use Rattle.vl_disk.specs.declared.watched.Watched.{Ghosts}
 use Rattle.vl_engine.specs.Begun.{base_begun}
 use Rattle.vl_engine.specs.Fit.{IsFitFor}
-use Rattle.vl_engine.specs.Opening.{AreLeveled, IsBackAtStart, IsDurable, recovered, state_then}
+use Rattle.vl_engine.specs.Opening.{AreLeveled, IsBackAtStart, IsCoreOf, IsDurable, each_level, recovered, state_then}
 use Rattle.vl_engine.specs.Represents.{Fronts, Represents, StandsFor, file_of}
 use Rattle.vl_engine.specs.Shown.{LeavesBetween, Shown}
 use Rattle.vl_engine.specs.declared.kept.Core.{Core}
@@ -21,7 +23,7 @@ use Rattle.vl_engine.specs.laws.BegunHolds.{begins_as, plan_as, repaired_base, r
 use Rattle.vl_engine.specs.laws.BegunLaws.{one_opening}
 use Rattle.vl_engine.specs.laws.BegunTidy.{begun_tidy}
 use Rattle.vl_engine.specs.laws.FrontLaws.{front_known, front_started}
-use Rattle.vl_engine.specs.laws.LaidBegun.{begun_has}
+use Rattle.vl_engine.specs.laws.LaidBegun.{begun_has, leveled_tables}
 use Rattle.vl_engine.specs.laws.ShownLaws.{between_itself, opening_shown}
 use Rattle.vl_engine.specs.laws.StartLaws.{before_found, newest_twice}
 use Rattle.vl_front.specs.Front.{Knows}
@@ -31,6 +33,8 @@ use Rattle.vl_layout.specs.declared.segment.Segment.{Segment}
 use Rattle.vl_manifest.specs.declared.manifest_log.ManifestLog.{ManifestLog}
 use Rattle.vl_manifest.specs.declared.state.ManifestState.{ManifestState}
 use Rattle.vl_manifest.specs.declared.waiting.Waiting.{Waiting}
+use Rattle.vl_memtable.specs.Contents.{Contents}
+use Rattle.vl_memtable.specs.declared.frozen_log.FrozenLog.{FrozenLog}
 use Rattle.vl_model.specs.History.{History, last_number}
 use Rattle.vl_model.specs.Limits.{max_room}
 use Rattle.vl_oracle.specs.LiveTickets.{LiveTickets}
@@ -43,14 +47,18 @@ use Rattle.vl_recover.specs.laws.opening.OneFinding.{same_greatest, same_logs, s
 use Rattle.vl_recover.specs.laws.opening.OpeningLaws.{some_same}
 use Rattle.vl_recover.specs.laws.repairing.RepairingStart.{Begins}
 use Rattle.vl_recover.specs.opening.Answers.{Finds, Opened, held_log, logs_then, opened_from}
+use Rattle.vl_recover.specs.opening.FoundTables.{found_level, found_list}
 use Rattle.vl_recover.specs.opening.HeldFiles.{AreHeldLogs, AreReadTables, AreWaiting, IsReadyToGoOn, but_last, tables_of}
-use Rattle.vl_recover.specs.opening.Opening.{Opening}
+use Rattle.vl_recover.specs.opening.Opening.{FoundTable, Opening}
 use Rattle.vl_recover.specs.opening.Plans.{Greatest, active_log, new_state}
-use Rattle.vl_recover.specs.opening.Results.{opened_of}
+use Rattle.vl_recover.specs.opening.Results.{frozen_log, opened_of}
 use Rattle.vl_recover.specs.opening.Walk.{StandingLog}
 use Rattle.vl_recover.specs.repairing.Repairing.{IsPlan, Plan, repaired}
 use Rattle.vl_recover.specs.repairing.Steps.{MakesSome}
 use Rattle.vl_seglog.specs.declared.active.ActiveLog.{ActiveLog}
+use Rattle.vl_seglog.specs.declared.sealed.SealedLog.{SealedLog}
+use Rattle.vl_table.specs.declared.table.Table.{Table}
+use Rattle.vl_version.specs.declared.levels.Levels.{Levels}
 
 -- ---- what was found
 
@@ -71,6 +79,34 @@ same_opened image a b =
       active = active_log g o.state logs;
     }
 
+-- memtables are those of logs, and so they are turned round
+newest_same : (fs : List FrozenLog) (ss : List Segment) → map frozen_log fs ≡ map held_log ss
+    → map frozen_log (reverse fs) ≡ map held_log (newest_first ss)
+newest_same [] [] same = refl
+newest_same [] (s ∷ ss) same = absurd cc
+newest_same (f ∷ fs) [] same = absurd cc
+newest_same (f ∷ fs) (s ∷ ss) same =
+    let here : frozen_log f ≡ held_log s = cc in
+    let later : map frozen_log fs ≡ map held_log ss = cc in
+    ap (map frozen_log) (reverse-append (f ∷ []) fs)
+    ∙ map-append frozen_log (reverse fs) (f ∷ [])
+    ∙ (λ i. newest_same fs ss later i ++ here i ∷ [])
+    ∙ sym (map-append held_log (newest_first ss) (s ∷ []))
+
+module _ {H : Type 0} where
+  deeper_same : (levels : List (Vec (Table H) Global))
+      → map found_list (map (λ (v : Vec (Table H) Global). v.items) levels) ≡ map found_level levels
+  deeper_same [] = refl
+  deeper_same (v ∷ levels) = ap (λ (ls : List (List FoundTable)). found_level v ∷ ls) (deeper_same levels)
+
+  -- levels that are made of tables have what was found of these
+  leveled_found : (levels : List (Vec (Table H) Global)) (made : Levels H) → AreLeveled levels made
+      → map found_list (each_level made) ≡ map found_level levels
+  leveled_found [] made is = absurd is
+  leveled_found (v ∷ levels) made is =
+      (λ i. found_level (is.0 i) ∷ map found_list (is.1 i))
+      ∙ ap (λ (ls : List (List FoundTable)). found_level v ∷ ls) (deeper_same levels)
+
 -- ---- what an engine makes of it
 
 -- The engine is made of the parts that an opening found.
@@ -85,7 +121,7 @@ pub record IsMadeOf {D H : Type 0} (parts : Parts D H) (room : ℕ) (core : Core
   pub manifest : core.back.manifest ≡ parts.manifest
   pub version_number : core.back.version_number ≡ 0
   pub waiting : core.back.waiting.items ≡ parts.waiting.items
-  pub active : core.version.active.entries ≡ []
+  pub active : core.version.active ≡ record { entries = []; lengths = [] }
   pub frozen : core.version.behind.frozen.items ≡ reverse parts.frozen.items
   pub leveled : AreLeveled parts.levels.items core.version.behind.levels
   pub logs : core.version.behind.logs.items ≡ parts.sealed.items
@@ -151,6 +187,28 @@ module _ {D H : Type 0} (parts : Parts D H) (room : ℕ) (core : Core H) (made :
       version_number = made.version_number;
     }
 
+    number_found : parts.number ≡ found.opening.number
+    number_found = ap (λ (o : Opened). o.number) is
+
+    -- What it keeps is what was found.
+    pub opened_core : (bytes : H → Option (List ℕ)) → parts.active.length ≡ 16
+        → AreReadTables bytes read (tables_of parts.levels.items) → AreHeldLogs bytes found parts.sealed.items
+        → IsCoreOf bytes found room core
+    opened_core bytes short tables logs = record {
+      oracle = made.last ∙ ap (λ (n : ℕ). record { last = n; tickets = [] }) number_found;
+      knows = λ h last. made.knows h (last ∙ sym number_found);
+      log = made.log ∙ (λ i. record { number = active_number i; length = short i });
+      room_is = made.room_is;
+      halted = made.halted;
+      active = made.active;
+      frozen = ap (map frozen_log) made.frozen
+          ∙ newest_same parts.frozen.items found.opening.logs (ap (λ (o : Opened). o.frozen) is);
+      levels = leveled_found parts.levels.items core.version.behind.levels made.leveled ∙ ap (λ (o : Opened). o.levels) is;
+      tables = subst (AreReadTables bytes read)
+          (leveled_tables bytes read parts.levels.items core.version.behind.levels made.leveled) tables;
+      sealed = subst (λ (logs : List (SealedLog H)). AreHeldLogs bytes found logs) (sym made.logs) logs;
+    }
+
     module _ (bytes : H → Option (List ℕ)) (short : parts.active.length ≡ 16) (roomy : room ≤ max_room) (h : History)
         (shown : Shown read h (last_number h)) where
       abbrev its_layout : Layout
@@ -184,8 +242,9 @@ module _ {D H : Type 0} (parts : Parts D H) (room : ℕ) (core : Core H) (made :
           → StandsFor bytes core h (layout_at_start room (recovered found shown))
       opened_stands tables logs = record {
         fronts = opened_fronts;
-        has = begun_has bytes found h shown room core.version parts.frozen.items parts.levels.items parts.sealed.items made.active
-            made.frozen made.leveled made.logs (ap (λ (o : Opened). o.frozen) is) (ap (λ (o : Opened). o.levels) is) tables logs;
+        has = begun_has bytes found h shown room core.version parts.frozen.items parts.levels.items parts.sealed.items
+            (ap (λ (held : Contents). held.entries) made.active) made.frozen made.leveled made.logs (ap (λ (o : Opened). o.frozen) is)
+            (ap (λ (o : Opened). o.levels) is) tables logs;
         tidy = begun_tidy found h shown room;
       }
 

@@ -34,6 +34,7 @@ held_live back told h l live held =
         led = b.led;
         keep = b.keep;
         since = b.since;
+        gone = b.gone;
         covered = b.covered;
         format = b.format;
       };

@@ -1,16 +1,15 @@
 -- What an engine's next calls ask of its disk is so behind a rotation, also where that failed.
-use Rattle.std.specs.Prelude.{◌≡◌, ◌≢◌, ◌≤◌, ℕ, ◌+◌, List, Option, None, Some, IsSome, is_some, refl}
+use Rattle.std.specs.Prelude.{◌≡◌, ◌≢◌, ◌≤◌, ℕ, ◌+◌, Option, None, Some, IsSome, is_some, refl}
 use Rattle.std.specs.FinMap.{get}
 use Rattle.std.specs.Option.{ForSome, option_map}
 use Rattle.std.proofs.Common.{sym, ap, subst, ◌∙◌, arith}
 use Rattle.vl_back.specs.Writing.{KeepsOthers}
-use Rattle.vl_back.specs.declared.back.Back.{Back}
 use Rattle.vl_disk.specs.Disk.{IsChangedBy, IsFree, Stands}
-use Rattle.vl_disk.specs.DiskState.{DiskState, File, settled}
+use Rattle.vl_disk.specs.DiskState.{DiskState, File}
 use Rattle.vl_disk.specs.MadeFile.{made}
 use Rattle.vl_disk.specs.declared.name.Name.TheVariants as names
 use Rattle.vl_disk.specs.declared.name.Name.{Name}
-use Rattle.vl_engine.specs.Fit.{IsFitFor, IsFitForSteps}
+use Rattle.vl_engine.specs.Fit.{IsFitFor}
 use Rattle.vl_engine.specs.Rotating.{IsNextBack, IsSameBack, next_header, next_name}
 use Rattle.vl_engine.specs.declared.kept.Core.{Core}
 use Rattle.vl_front.specs.declared.front.Front.{Front}

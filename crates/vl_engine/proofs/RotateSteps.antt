@@ -1,8 +1,7 @@
 -- What a rotation comes to, at each of its exits, by the ruling on it.
-use Rattle.std.specs.Prelude.{◌≡◌, ◌≤◌, ◌<◌, ℕ, ◌+◌, List, [], ◌∷◌, ◌++◌, Option, None, Some, refl}
-use Rattle.std.specs.Option.{ForSome, option_map, unwrap_or}
+use Rattle.std.specs.Prelude.{◌≡◌, ◌≤◌, ◌<◌, ℕ, ◌+◌, List, [], Option, None, Some, refl}
+use Rattle.std.specs.Option.{option_map, unwrap_or}
 use Rattle.std.proofs.Common.{sym, ap, subst, ◌∙◌, arith, ⊎_elim}
-use Rattle.vl_back.specs.declared.back.Back.{Back}
 use Rattle.vl_disk.specs.Calls.{ChangesNothing}
 use Rattle.vl_disk.specs.Crash.{Unchanged}
 use Rattle.vl_disk.specs.Disk.{IsChangedBy}
@@ -271,9 +270,6 @@ module _ {D H : Type 0} (g : Ghosts D) (watched : IsWatched g) (bytes : H → Op
         told_then : g.told new ≡ Some state_then
         told_then = changed ∙ ap (option_map (made (next_name before) (next_header before))) told_mid
             ∙ ap (λ (n : ℕ). Some (made (names.Log n) (log_header log_format n) held.state)) held.back_is.next_log
-
-        waits_then : Waiting
-        waits_then = record { number = before.front.log.number; covered = before.front.oracle.last }
 
         held_then : IsHeld after.back (g.told new) h (rotated l)
         held_then = record {

@@ -1,9 +1,10 @@
 -- What beginning a new log comes to, by the ruling on a rotation.
-use Rattle.std.specs.Prelude.{◌≡◌, ℕ, List, Option, None, Some, Result, Ok, Err, refl}
+use Rattle.std.specs.Prelude.{◌≡◌, ℕ, List, Option, None, Some, Result, Ok, Err, IfOk, refl}
 use Rattle.std.proofs.Common.{sym, ap, subst, ◌∙◌}
 use Rattle.vl_back.specs.declared.back.Back.{Back}
 use Rattle.vl_disk.specs.Calls.{ChangesNothing}
 use Rattle.vl_disk.specs.DiskState.{DiskState}
+use Rattle.vl_disk.specs.Faults.{after_calls}
 use Rattle.vl_disk.specs.declared.name.Name.{Name}
 use Rattle.vl_disk.specs.declared.watched.Watched.{Ghosts}
 use Rattle.vl_engine.proofs.Carrying.{IsWatched, carries_leaving}
@@ -11,13 +12,13 @@ use Rattle.vl_engine.proofs.Committing.{decides_answered, decides_failed, decide
 use Rattle.vl_engine.proofs.RotateSteps.{CanRotate, active_held, can_rotate, carries_rotated, carries_short, carries_unrotated, fronts_rotated, fronts_same, fronts_unrotated, ruled_halted, ruled_idle, ruled_log, ruled_made, ruled_version, running_so, stands_rotated, stands_same, stands_unrotated}
 use Rattle.vl_engine.specs.Carries.{Carries}
 use Rattle.vl_engine.specs.Represents.{Fronts, IsHeld, Represents, StandsFor, file_of}
-use Rattle.vl_engine.specs.Rotating.{HasActive, IsRefusedSo, MayBegin, RotatesAs, StopsRotating, rotate_effects}
+use Rattle.vl_engine.specs.Rotating.{HasActive, IsRefusedSo, MayBegin, RotatesAs, StopsRotating, rotate_calls, rotate_effects}
 use Rattle.vl_engine.specs.Stepping.{HasNumbers, StepFailed, StepLeavesDisk, step_outcome}
 use Rattle.vl_engine.specs.declared.fails.StepFail.TheVariants as fails
 use Rattle.vl_engine.specs.declared.fails.StepFail.{StepFail}
 use Rattle.vl_engine.specs.declared.kept.Core.{Core}
 use Rattle.vl_engine.specs.laws.RotateRulings.{rotate_made}
-use Rattle.vl_layout.specs.Decides.{Answered, Decides, Outcome, as_before, no_effects}
+use Rattle.vl_layout.specs.Decides.{Answered, Decides, Effects, Failed, NoMemory, Outcome, as_before, no_effects}
 use Rattle.vl_layout.specs.Ruling.{Exhausted, Halted, Idle, Ruling, StepAnswer, Stepped, leaving}
 use Rattle.vl_layout.specs.Rulings.Rotate.{rotate_ruling}
 use Rattle.vl_layout.specs.Tidy.{IsTrueLog}
@@ -110,6 +111,13 @@ refused_no_disk core (Err (fails.Exhausted counter)) why failed = failed
 refused_no_disk core (Err fails.NoMemory) why failed = failed
 refused_no_disk core (Err (fails.Disk name)) why failed = why
 
+-- no call was made
+pub refused_calls : {H : Type 0} (core : Core H) (count : ℕ) (result : Result (Option ℕ) StepFail) → IsRefusedSo core result
+    → IfOk result (λ sealed. count ≡ after_calls (rotate_calls sealed) count)
+refused_calls core count (Ok (Some number)) why = absurd why
+refused_calls core count (Ok None) why = refl
+refused_calls core count (Err why) refused = tt
+
 pub can_by : {H : Type 0} (core : Core H) (h : History) (l : Layout) → Fronts core h l
     → (l.halted ≡ None → HasNumbers core.back l) → MayBegin core → CanRotate l
 can_by core h l is has may =
@@ -127,6 +135,12 @@ module _ {D H : Type 0} (g : Ghosts D) (bytes : H → Option (List ℕ)) (before
   untouched_by (Err fails.NoMemory) did leaves = did.1
   untouched_by (Err (fails.Disk name)) did leaves = absurd leaves
 
+  pub calls_by : (result : Result (Option ℕ) StepFail) → RotatesAs g bytes old new before after result
+      → IfOk result (λ sealed. g.calls new ≡ after_calls (rotate_calls sealed) (g.calls old))
+  calls_by (Ok (Some number)) did = did.1.calls ∙ ap (after_calls 3) did.1.begins.calls
+  calls_by (Ok None) did = absurd did
+  calls_by (Err why) did = tt
+
   pub stopped_by : (result : Result (Option ℕ) StepFail) → RotatesAs g bytes old new before after result
       → (name : Name) → result ≡ Err (fails.Disk name)
       → StopsRotating before.front.log.number before.back.next_log (g.calls old) (g.calls new) name
@@ -140,6 +154,13 @@ module _ {D H : Type 0} (g : Ghosts D) (bytes : H → Option (List ℕ)) (before
       subst (StopsRotating before.front.log.number before.back.next_log (g.calls old) (g.calls new)) same did.stops
 
   module _ (h : History) (l : Layout) where
+    -- a new log was begun, and the one with this number sealed
+    abbrev begun_outcome : ℕ → Outcome StepAnswer
+    begun_outcome number = Answered (Stepped number)
+
+    abbrev begun_effects : Effects
+    begun_effects = record no_effects { calls = 3 }
+
     -- the ruling is that on a new log
     abbrev Ruled : (Ruling StepAnswer → Type 0) → Type 0
     Ruled P = IsTrueLog l.active → CanRotate l → P (rotate_made l h) → P (rotate_ruling l h)
@@ -152,7 +173,7 @@ module _ {D H : Type 0} (g : Ghosts D) (bytes : H → Option (List ℕ)) (before
           → (result : Result (Option ℕ) StepFail) → RotatesAs g bytes old new before after result
           → Decides (Fronts after) h l (rotate_ruling l h) (as_before l l) (step_outcome result) (rotate_effects result)
       fronts_by is next true_log (Ok (Some number)) did =
-          ruled_so (λ (r : Ruling StepAnswer). Decides (Fronts after) h l r (as_before l l) (Answered (Stepped number)) (record no_effects { calls = 3 }))
+          ruled_so (λ (r : Ruling StepAnswer). Decides (Fronts after) h l r (as_before l l) (begun_outcome number) begun_effects)
           true_log can
           (decides_answered (Fronts after) h l (rotate_made l h) (as_before l l) (Stepped number) (record no_effects { calls = 3 })
           (ap Stepped (did.0 ∙ is.number)) refl (fronts_rotated before after h l did.1.front did.1.back next is))
@@ -169,7 +190,7 @@ module _ {D H : Type 0} (g : Ghosts D) (bytes : H → Option (List ℕ)) (before
           → HasActive l state → (result : Result (Option ℕ) StepFail) → RotatesAs g bytes old new before after result
           → Decides (StandsFor bytes after) h l (rotate_ruling l h) (as_before l l) (step_outcome result) (rotate_effects result)
       stands_by state told is next active (Ok (Some number)) did =
-          ruled_so (λ (r : Ruling StepAnswer). Decides (StandsFor bytes after) h l r (as_before l l) (Answered (Stepped number)) (record no_effects { calls = 3 }))
+          ruled_so (λ (r : Ruling StepAnswer). Decides (StandsFor bytes after) h l r (as_before l l) (begun_outcome number) begun_effects)
           is.tidy.true_logs.0 can
           (decides_answered (StandsFor bytes after) h l (rotate_made l h) (as_before l l) (Stepped number)
           (record no_effects { calls = 3 }) (ap Stepped (did.0 ∙ is.fronts.number)) refl
@@ -191,9 +212,9 @@ module _ {D H : Type 0} (g : Ghosts D) (bytes : H → Option (List ℕ)) (before
       carries_by watched is (Ok (Some number)) did =
           let stands = is.stands in
           let held = is.held can.running in
-          ruled_so (λ (r : Ruling StepAnswer). Carries g bytes old new after h l r (as_before l l) (Answered (Stepped number)) (record no_effects { calls = 3 }))
+          ruled_so (λ (r : Ruling StepAnswer). Carries g bytes old new after h l r (as_before l l) (begun_outcome number) begun_effects)
           stands.tidy.true_logs.0 can
-          (subst (λ (n : ℕ). Carries g bytes old new after h l (rotate_made l h) (as_before l l) (Answered (Stepped n)) (record no_effects { calls = 3 }))
+          (subst (λ (n : ℕ). Carries g bytes old new after h l (rotate_made l h) (as_before l l) (begun_outcome n) begun_effects)
           (sym (did.0 ∙ stands.fronts.number))
           (carries_rotated g watched bytes before after h l old new is can did.1.begins did.1.changed did.1.calls did.1.back
           (stands_rotated bytes before after h l stands can (g.told old) held.state held.told_is
@@ -203,11 +224,11 @@ module _ {D H : Type 0} (g : Ghosts D) (bytes : H → Option (List ℕ)) (before
       carries_by watched is (Err (fails.Halted name)) did = absurd did
       carries_by watched is (Err (fails.Exhausted counter)) did = absurd did
       carries_by watched is (Err fails.NoMemory) did =
-          ruled_so (λ (r : Ruling StepAnswer). Carries g bytes old new after h l r (as_before l l) (step_outcome (Err fails.NoMemory)) no_effects)
+          ruled_so (λ (r : Ruling StepAnswer). Carries g bytes old new after h l r (as_before l l) NoMemory no_effects)
           is.stands.tidy.true_logs.0 can
           (carries_short g watched bytes before after h l old new is can did.0 did.1)
       carries_by watched is (Err (fails.Disk name)) did =
-          ruled_so (λ (r : Ruling StepAnswer). Carries g bytes old new after h l r (as_before l l) (step_outcome (Err (fails.Disk name))) no_effects)
+          ruled_so (λ (r : Ruling StepAnswer). Carries g bytes old new after h l r (as_before l l) (Failed (file_of name)) no_effects)
           is.stands.tidy.true_logs.0 can
           (carries_unrotated g watched bytes before after h l old new is can did.begins name no_effects
           (stands_unrotated bytes before after h l is.stands name did.version

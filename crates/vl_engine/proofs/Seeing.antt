@@ -4,7 +4,7 @@ use Rattle.std.specs.FinMap.{get}
 use Rattle.std.specs.Option.{option_map}
 use Rattle.std.proofs.Common.{ap, refl, sym, subst, ◌∙◌}
 use Rattle.vl_disk.specs.declared.name.Name.{Name}
-use Rattle.vl_engine.specs.Reading.{IsFound, IsSound, ReadFailed, value_under, written_value}
+use Rattle.vl_engine.specs.Reading.{IsFound, IsHandedOn, IsSound, IsTagged, ReadFailed, value_under, written_value}
 use Rattle.vl_engine.specs.Refusing.{as_failed_read}
 use Rattle.vl_engine.specs.Sees.{Sees, SeesAlone, ShowsAt}
 use Rattle.vl_engine.specs.declared.fails.ReadFail.{ReadFail}
@@ -87,6 +87,29 @@ handed_on T U why sound (Err e) failed =
 pub on_error : (T E P : Type 0) (result : Result T E) → P → OnErr result P
 on_error T E P (Ok answer) holds = tt
 on_error T E P (Err why) holds = holds
+
+-- ---- answers over tables that may not be true
+
+-- What a version answers is handed on, where it fails,
+pub fault_handed : {T : Type 0} (answers : Result T VersionFault → Type 0) (fault : VersionFault) → answers (Err fault)
+    → (result : Result T ReadFail) → IsErrAnd result (λ why. why ≡ as_failed_read fault) → IsHandedOn answers result
+fault_handed answers fault met (Ok answer) failed = absurd failed
+fault_handed answers faults.NoMemory met (Err e) failed = subst (λ (e : ReadFail). IsHandedOn answers (Err e)) (sym failed) tt
+fault_handed answers (faults.Disk name) met (Err e) failed = subst (λ (e : ReadFail). IsHandedOn answers (Err e)) (sym failed) met
+fault_handed answers (faults.Damaged name place) met (Err e) failed =
+    subst (λ (e : ReadFail). IsHandedOn answers (Err e)) (sym failed) met
+
+-- and it is the fault that was matched.
+pub fault_met : {T : Type 0} (answers : Result T VersionFault → Type 0) (result : Result T VersionFault) (fault known : VersionFault)
+    → answers result → result ≡ Err fault → fault ≡ known → answers (Err known)
+fault_met answers result fault known met is at =
+    subst (λ (f : VersionFault). answers (Err f)) at (subst answers is met)
+
+-- A failure has no tag.
+pub fail_tagged : (why : ReadFail) (result : Result (Option (Stored × ℕ)) ReadFail) → IsErrAnd result (λ e. e ≡ why)
+    → IsTagged (Err why) result
+fail_tagged why (Ok answer) failed = absurd failed
+fail_tagged why (Err e) failed = ap Err failed
 
 -- ---- what the reader keeps
 

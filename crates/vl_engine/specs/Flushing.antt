@@ -110,6 +110,14 @@ pub record IsTableMade {D H : Type 0} (g : Ghosts D) (bytes : H → Option (List
   pub back : IsNextBack before.back after.back staged
   pub version : IsNextVersion bytes before.version after.version table
 
+-- The disk has the table of the oldest memtable's entries, and the frame of the switch that names it at the manifest's end,
+-- and nothing else of it was changed. The table has the next number.
+pub record IsFlushWritten {H : Type 0} (core : Core H) (number : ℕ) (old new : Option DiskState) : Type 0 where
+  pub number_is : number ≡ core.back.state.next_table
+  pub staged : StagedFlush
+  pub of : IsStagedOf core staged
+  pub changed : IsChangedBy (flush_written core staged) old new
+
 -- it failed at this file, which halts
 pub record IsTableUnmade {D H : Type 0} (g : Ghosts D) (old new : D) (before after : Core H) (name : Name) : Type 0 where
   pub staged : StagedFlush

@@ -48,6 +48,7 @@ pub record IsBase (b : Base) (l : Layout) (h : History) : Type 0 where
   pub led : (n : ℕ) → IsAmong (led_into (found_levels l.levels)) n → IsFramedAmong (sealed l) n
   pub keep : b.state.keep ≡ l.keep
   pub since : b.state.since ≡ l.since
+  pub gone : b.state.gone ≡ l.gone
   pub covered : b.state.covered ≡ l.covered
   pub format : l.active.format ≡ log_format
 

@@ -9,20 +9,24 @@ use Rattle.vl_disk.specs.declared.watched.Watched.{Ghosts}
 use Rattle.vl_engine.specs.Begun.{recovered_as}
 use Rattle.vl_engine.specs.Shown.{Shown}
 use Rattle.vl_engine.specs.declared.engine.Engine.{Engine}
-use Rattle.vl_layout.specs.Start.{Recovered}
+use Rattle.vl_engine.specs.declared.kept.Core.{Core}
+use Rattle.vl_front.specs.Front.{Knows}
+use Rattle.vl_layout.specs.Start.{Recovered, newest_first}
 use Rattle.vl_manifest.specs.declared.state.ManifestState.{ManifestState}
-use Rattle.vl_model.specs.History.{History}
+use Rattle.vl_model.specs.History.{History, last_number}
 use Rattle.vl_recover.specs.crash.Alike.{IsLeft, OpensLike}
 use Rattle.vl_recover.specs.crash.Meanwhile.{IsAsLong}
 use Rattle.vl_recover.specs.crash.Starts.{MayOpen}
 use Rattle.vl_recover.specs.declared.fails.OpenError.{OpenError}
 use Rattle.vl_recover.specs.declared.fails.OpenError.TheVariants as why
 use Rattle.vl_recover.specs.declared.fails.OpenFail.{OpenFail}
-use Rattle.vl_recover.specs.opening.Answers.{AnswersBy, Finds, logs_then, used_up}
-use Rattle.vl_recover.specs.opening.HeldFiles.{AreWaiting, but_last}
+use Rattle.vl_recover.specs.opening.Answers.{AnswersBy, Finds, held_log, logs_then, used_up}
+use Rattle.vl_recover.specs.opening.FoundTables.{found_list}
+use Rattle.vl_recover.specs.opening.HeldFiles.{AreHeldLogs, AreReadTables, AreWaiting, but_last}
 use Rattle.vl_recover.specs.opening.Plans.{active_log, new_state}
-use Rattle.vl_recover.specs.opening.Results.{counted, recovery_by}
+use Rattle.vl_recover.specs.opening.Results.{counted, frozen_log, recovery_by}
 use Rattle.vl_table.specs.declared.table.Table.{Table}
+use Rattle.vl_version.specs.Sources.{tables_in}
 use Rattle.vl_version.specs.declared.levels.Levels.{Levels}
 
 -- the disk behind an opening: in the engine, or handed back. The type of an engine names all that its disk has.
@@ -106,3 +110,32 @@ abbrev pub AreLeveled : {H : Type 0} → List (Vec (Table H) Global) → Levels 
 AreLeveled [] levels = ⊥
 AreLeveled {H} (tables ∷ others) levels =
     (levels.newest ≡ tables) × (levels.deeper.items ≡ map (λ (v : Vec (Table H) Global). v.items) others)
+
+-- the tables of each level, those of level 0 first
+abbrev pub each_level : {H : Type 0} → Levels H → List (List (Table H))
+each_level levels = levels.newest.items ∷ levels.deeper.items
+
+-- ---- what the engine keeps then
+
+-- What an engine keeps that was just opened is what was found. So it is also where reads show no history: an opening checks no
+-- blocks of tables, and these may be damaged.
+pub record IsCoreOf {H : Type 0} (bytes : H → Option (List ℕ)) {read : Image} (found : Finds read) (room : ℕ) (core : Core H)
+    : Type 0 where
+  -- the last commit is the last one that was found, and nothing is live
+  pub oracle : core.front.oracle ≡ record { last = found.opening.number; tickets = [] }
+  -- it knows each history that ends with that commit: nothing is remembered of later ones
+  pub knows : (h : History) → last_number h ≡ found.opening.number → Knows core.front h
+  -- the active log has only its header, and the room that was given
+  pub log : core.front.log ≡ record { number = active_log found.greatest found.opening.state found.logs; length = 16 }
+  pub room_is : core.front.room ≡ room
+  -- it isn't halted
+  pub halted : core.front.halted ≡ None
+  -- the memtable that takes commits is empty
+  pub active : core.version.active ≡ record { entries = []; lengths = [] }
+  -- the frozen ones are those of the logs that were found with frames, the newest first
+  pub frozen : map frozen_log core.version.behind.frozen.items ≡ map held_log (newest_first found.opening.logs)
+  -- its tables are those that were found, level by level, held as reads give them
+  pub levels : map found_list (each_level core.version.behind.levels) ≡ found.opening.levels
+  pub tables : AreReadTables bytes read (tables_in core.version)
+  -- and its sealed logs are those that stay, but for the one that takes commits
+  pub sealed : AreHeldLogs bytes found core.version.behind.logs.items

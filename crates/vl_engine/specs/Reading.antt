@@ -14,15 +14,23 @@ use Rattle.vl_model.specs.Reads.{rows_of}
 use Rattle.vl_model.specs.declared.change.Change.{Change}
 use Rattle.vl_model.specs.declared.way.Way.{Way}
 use Rattle.vl_seglog.specs.Sealed.{IsHere, IsSmall}
+use Rattle.vl_table.specs.Kept.{Files}
+use Rattle.vl_table.specs.KeptBlocks.{ReadsOf}
+use Rattle.vl_table.specs.declared.block_reader.BlockReader.{BlockReader}
 use Rattle.vl_txn.specs.Reads.{scan_of}
 use Rattle.vl_txn.specs.Refusals.{refused_bound}
 use Rattle.vl_txn.specs.declared.key_fail.KeyFail.{KeyFail}
 use Rattle.vl_txn.specs.declared.key_fail.KeyFail.TheVariants.{EmptyKey, KeyTooLong}
+use Rattle.vl_version.specs.Answers.{Fills, Gives}
 use Rattle.vl_version.specs.Near.{AreNear}
-use Rattle.vl_version.specs.Sources.{in_memory, tables_in}
+use Rattle.vl_version.specs.Over.{LooksOver}
+use Rattle.vl_version.specs.Sources.{AreTold, in_memory, stored_in, tables_in}
+use Rattle.vl_version.specs.declared.fault.ReadFault.{ReadFault as VersionFault}
+use Rattle.vl_version.specs.declared.fault.ReadFault.TheVariants as failed
 use Rattle.vl_version.specs.declared.found.Found.{Found}
 use Rattle.vl_version.specs.declared.found.Found.TheVariants as found
 use Rattle.vl_version.specs.declared.version.Version.{Version}
+use Rattle.vl_version.specs.levels.LevelsLooked.{AreLaidOut}
 
 -- ---- refusals
 
@@ -111,6 +119,11 @@ value_under own h number key = value_left (value_at h number key) (get own key)
 abbrev pub with_its_tag : Option Stored → Option (Stored × ℕ)
 with_its_tag value = option_map (λ (v : Stored). (v, v.tag)) value
 
+-- an answer with a tag is that without it
+abbrev pub IsTagged : Result (Option Stored) ReadFail → Result (Option (Stored × ℕ)) ReadFail → Type 0
+IsTagged (Ok value) result = result ≡ Ok (with_its_tag value)
+IsTagged (Err why) result = result ≡ Err why
+
 abbrev pub tagged_under : Writes → History → ℕ → List ℕ → Option (Stored × ℕ)
 tagged_under own h number key = with_its_tag (value_under own h number key)
 
@@ -124,6 +137,59 @@ abbrev pub IsFound : Option Stored → List ℕ → List ℕ → Found → Type 
 IsFound value old new found.None = (value ≡ None) × (new ≡ old)
 IsFound value old new (found.Here len) = IsHere value old new len
 IsFound value old new (found.Small len) = IsSmall value old new len
+
+-- ---- answers over tables that may not be true
+
+-- A version lies over these files, whatever stands in them: its reader keeps blocks of them, its tables are laid out, and its
+-- logs are told.
+pub record LiesOver {H R : Type 0} (bytes : H → Option (List ℕ)) (files : Files) (version : Version H) (reader : BlockReader R)
+    : Type 0 where
+  pub reads : ReadsOf bytes files reader (tables_in version)
+  pub tables : AreLaidOut version.behind.levels
+  pub logs : AreTold bytes version.behind.logs.items
+
+-- What a version answers is handed on, and so are its faults. A refused key and want of memory are free.
+abbrev pub IsHandedOn : {T : Type 0} → (Result T VersionFault → Type 0) → Result T ReadFail → Type 0
+IsHandedOn answers (Ok answer) = answers (Ok answer)
+IsHandedOn answers (Err why.EmptyKey) = Unit {0}
+IsHandedOn answers (Err why.KeyTooLong) = Unit {0}
+IsHandedOn answers (Err why.NoMemory) = Unit {0}
+IsHandedOn answers (Err (why.Disk name)) = answers (Err (failed.Disk name))
+IsHandedOn answers (Err (why.Damaged name place)) = answers (Err (failed.Damaged name place))
+
+-- so are those of a read without memory
+abbrev pub IsHandedInto : {T : Type 0} → (Result T VersionFault → Type 0) → Result T ReadFault → Type 0
+IsHandedInto answers (Ok answer) = answers (Ok answer)
+IsHandedInto answers (Err fault.EmptyKey) = Unit {0}
+IsHandedInto answers (Err fault.KeyTooLong) = Unit {0}
+IsHandedInto answers (Err (fault.Disk name)) = answers (Err (failed.Disk name))
+IsHandedInto answers (Err (fault.Damaged name place)) = answers (Err (failed.Damaged name place))
+
+module _ {H : Type 0} (bytes : H → Option (List ℕ)) (version : Version H) (key : List ℕ) (number : ℕ) where
+  -- A key is looked up in memory and in each table that may have what counts, up to the first that fails. So no answer hides a
+  -- damaged block that had to be read, and none tells of damage elsewhere.
+  abbrev pub LooksUp : Result (Option Stored) ReadFail → Type 0
+  LooksUp result = IsHandedOn (LooksOver bytes version key number (Gives (stored_in bytes version.behind.logs.items))) result
+
+  -- the same, and then the value's tag is put beside it
+  pub record LooksUpTagged (result : Result (Option (Stored × ℕ)) ReadFail) : Type 0 where
+    pub untagged : Result (Option Stored) ReadFail
+    pub looks : LooksUp untagged
+    pub tagged : IsTagged untagged result
+
+  -- the same where the value is read into the caller's bytes
+  abbrev pub LooksUpInto : List ℕ → List ℕ → Result Found ReadFault → Type 0
+  LooksUpInto old new result =
+      IsHandedInto (LooksOver bytes version key number (λ winner. Fills (stored_in bytes version.behind.logs.items) winner old new)) result
+
+-- A key that is written is answered by what was written. No file is read for it.
+abbrev pub IsOwn : {T : Type 0} → T → Result T ReadFail → Type 0
+IsOwn own (Ok answer) = answer ≡ own
+IsOwn own (Err why.EmptyKey) = Unit {0}
+IsOwn own (Err why.KeyTooLong) = Unit {0}
+IsOwn own (Err why.NoMemory) = Unit {0}
+IsOwn own (Err (why.Disk name)) = ⊥
+IsOwn own (Err (why.Damaged name place)) = ⊥
 
 -- ---- what stays
 

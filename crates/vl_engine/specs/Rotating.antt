@@ -35,6 +35,11 @@ rotate_effects (Ok (Some number)) = record no_effects { calls = 3 }
 rotate_effects (Ok None) = no_effects
 rotate_effects (Err why) = no_effects
 
+-- the same, by the number of the log that was sealed
+abbrev pub rotate_calls : Option ℕ → ℕ
+rotate_calls (Some number) = 3
+rotate_calls None = 0
+
 -- ---- whether it may
 
 -- Nothing stands against a new log: the engine isn't halted, a commit stands in the active one, and numbers are left.

@@ -35,7 +35,8 @@ pub fn refusal<H>(core: &Core<H>) -> Option<Result<Option<u32>, StepFail>>
 }
 
 /// Holds the active log, and gives the version behind its rotation. The disk is as before, but for room that was made for
-/// the new log.
+/// the hold and for the new log. That room is made first, so that a hold can only fail by the disk; the version's memory is
+/// taken behind it, since it shares the held log.
 pub fn stage_rotation<D: Disk>(
     alloc: Global,
     disk: &mut D,
@@ -50,13 +51,16 @@ pub fn stage_rotation<D: Disk>(
         number: core.front.log.number,
         length: core.front.log.length,
     };
-    let sealed = match log.seal(disk) {
-        Ok(sealed) => sealed,
-        Err(why) => return Err(why),
+    let Ok(()) = disk.ready(Name::Log(log.number), 0) else {
+        return Err(DiskFail::NoMemory);
     };
     let next = Name::Log(core.back.next_log);
     let Ok(()) = disk.ready(next, LOG_HEADER_BYTES as u64) else {
         return Err(DiskFail::NoMemory);
+    };
+    let sealed = match log.seal(disk) {
+        Ok(sealed) => sealed,
+        Err(why) => return Err(why),
     };
     match core.version.rotated(alloc, core.front.log.length, sealed) {
         Ok(version) => Ok(version),

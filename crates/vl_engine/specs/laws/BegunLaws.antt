@@ -391,6 +391,7 @@ module _ {read : Image} (found : Finds read) (h : History) (shown : Shown read h
     led = begun_led;
     keep = refl;
     since = refl;
+    gone = refl;
     covered = refl;
     format = refl;
   }

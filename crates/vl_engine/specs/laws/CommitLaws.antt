@@ -101,6 +101,7 @@ module _ (b : Base) (l : Layout) (h : History) (t : Transaction) (base : IsBase 
     covered = base.covered;
     keep = base.keep;
     since = base.since;
+    gone = base.gone;
   }
 
   module _ (disk : DiskState) (holds : Holds b l disk)

@@ -280,7 +280,7 @@ module _ (b : Base) (l : Layout) (h : History) (s : Segment) (f : List Edit) (st
     (makes : next_state f b.state ≡ Some state)
     (levels : state.levels ≡ (l.next_table ∷ numbers_of level) ∷ map numbers_of deeper)
     (covers : state.covered ≡ covered_by s.frames b.state.covered)
-    (kept : state.keep ≡ b.state.keep) (since : state.since ≡ b.state.since)
+    (kept : state.keep ≡ b.state.keep) (since : state.since ≡ b.state.since) (gone : state.gone ≡ b.state.gone)
     (led : (n : ℕ) → IsAmong (led_into (found_levels (flushed l s).levels)) n → IsFramedAmong (sealed (flushed l s)) n) where
   abbrev pub flushed_base : Base
   flushed_base = switched_base b f state (before_then b.before)
@@ -304,6 +304,7 @@ module _ (b : Base) (l : Layout) (h : History) (s : Segment) (f : List Edit) (st
         (past_goes l.active (last_number h) b.before b.state.covered s waiting.0 waiting.1 base.goes));
     keep = kept ∙ base.keep;
     since = since ∙ base.since;
+    gone = gone ∙ base.gone;
     covered = covers ∙ ap (covered_by s.frames) base.covered;
     format = base.format;
   }

@@ -184,7 +184,8 @@ module _ (b : Base) (l : Layout) (h : History) (s : Segment) (disk : DiskState) 
   base_then = flush_base b l h s (edits_of l s) can.state base can.waits can.level can.deeper can.are can.makes
       (ap (λ (x : ManifestState). x.levels) state_is)
       (ap (λ (x : ManifestState). x.covered) state_is ∙ ap (covered_by s.frames) (sym base.covered))
-      (ap (λ (x : ManifestState). x.keep) state_is) (ap (λ (x : ManifestState). x.since) state_is) led_then
+      (ap (λ (x : ManifestState). x.keep) state_is) (ap (λ (x : ManifestState). x.since) state_is)
+      (ap (λ (x : ManifestState). x.gone) state_is) led_then
 
   -- ---- the table is made
 

@@ -212,7 +212,7 @@ module _ {H : Type 0} (bytes : H → Option (List ℕ)) (read : Image) where
   all_flat (v ∷ levels) = ap (λ (ts : List (Table H)). v.items ++ ts) (all_flat levels)
 
   -- the levels that are made of them
-  leveled_tables : (levels : List (Vec (Table H) Global)) (made : Levels H) → AreLeveled levels made
+  pub leveled_tables : (levels : List (Vec (Table H) Global)) (made : Levels H) → AreLeveled levels made
       → held.tables_of levels ≡ tables_of made
   leveled_tables [] made is = absurd is
   leveled_tables (v ∷ levels) made is =

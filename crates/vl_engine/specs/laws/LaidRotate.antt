@@ -4,14 +4,13 @@ use Rattle.std.specs.Prelude.{◌≡◌, ◌<◌, ℕ, ◌==◌, Bool, true, fal
 use Rattle.std.specs.List.{AllByRecursion, AllZip}
 use Rattle.std.proofs.Common.{sym, ap, subst, ◌∙◌, arith}
 use Rattle.std.proofs.lemmas.Bool.Decides.{nat_tests}
-use Rattle.vl_engine.specs.Laid.{HasLayout, HasLog, IsLogOf, IsMemtableOf, IsTableOf}
-use Rattle.vl_engine.specs.Pointed.{bytes_of_log, layout_logs, segment_at, stored_among}
+use Rattle.vl_engine.specs.Laid.{HasLayout, HasLog, IsLogOf, IsMemtableOf}
+use Rattle.vl_engine.specs.Pointed.{bytes_of_log, layout_logs, segment_at}
 use Rattle.vl_engine.specs.laws.FlushTidy.{IsThere, IsWider, all_alike, tidy_with}
-use Rattle.vl_engine.specs.laws.LaidLaws.{memtable_near, memtables_near, sources_far}
-use Rattle.vl_engine.specs.laws.LedLaws.{AreFarTo, IsFarTo}
+use Rattle.vl_engine.specs.laws.LaidLaws.{sources_far}
+use Rattle.vl_engine.specs.laws.LedLaws.{AreFarTo}
 use Rattle.vl_engine.specs.laws.SegmentLaws.{not_among}
 use Rattle.vl_engine.specs.laws.SharedLaws.{below_shared, logs_shared, order_shared, same_tables, tables_shared, told_shared}
-use Rattle.vl_layout.specs.Logs.{memtable}
 use Rattle.vl_layout.specs.Rulings.Rotate.{rotated}
 use Rattle.vl_layout.specs.Sources.{sources, tables}
 use Rattle.vl_layout.specs.Tidy.{IsTidy, log_numbers, sealed}
@@ -20,10 +19,9 @@ use Rattle.vl_layout.specs.declared.segment.Segment.{Segment}
 use Rattle.vl_layout.specs.laws.LayoutShows.{sources-rotated}
 use Rattle.vl_memtable.specs.Contents.{Contents}
 use Rattle.vl_memtable.specs.declared.frozen_log.FrozenLog.{FrozenLog}
-use Rattle.vl_model.specs.Formats.{log_format}
 use Rattle.vl_model.specs.History.{History}
 use Rattle.vl_model.specs.Numbers as numbers
-use Rattle.vl_model.specs.Winners.{resolved}
+use Rattle.vl_model.specs.Winners.{Logs, resolved}
 use Rattle.vl_model.specs.declared.entry.Entry.{Entry}
 use Rattle.vl_seglog.specs.declared.sealed.SealedLog.{SealedLog}
 use Rattle.vl_version.specs.Rotating.{IsRotated}
@@ -45,20 +43,23 @@ front_wider a ss none n log at = by (a.number == n) refl
 
 -- ---- tidy
 
+-- entries lead with some logs where they lead with others
+abbrev LeadAlike : Logs → Logs → List Entry → Type 0
+LeadAlike logs others es = AllByRecursion (λ (e : Entry). resolved logs e.key e.body ≡ resolved others e.key e.body) es
+
+turned : (logs others : Logs) (es : List Entry) → LeadAlike logs others es → LeadAlike others logs es
+turned logs others [] all = tt
+turned logs others (e ∷ es) all = (sym all.0, turned logs others es all.1)
+
 module _ (l : Layout) (h : History) (tidy : IsTidy (layout_logs l) l h) where
   wider : IsWider (sealed l) (sealed (rotated l))
   wider = front_wider l.active (sealed l) tidy.distinct.0
 
-  turned : (es : List Entry)
-      → AllByRecursion (λ (e : Entry). resolved (stored_among (sealed l)) e.key e.body ≡ resolved (stored_among (sealed (rotated l))) e.key e.body) es
-      → AllByRecursion (λ (e : Entry). resolved (stored_among (sealed (rotated l))) e.key e.body ≡ resolved (stored_among (sealed l)) e.key e.body) es
-  turned [] all = tt
-  turned (e ∷ es) all = (sym all.0, turned es all.1)
-
   -- What is tidy with the logs of before is so with the log that was active among them.
   pub rotated_tidy : IsTidy (layout_logs l) (rotated l) h → IsTidy (layout_logs (rotated l)) (rotated l) h
   rotated_tidy still = tidy_with (layout_logs l) (layout_logs (rotated l)) (rotated l) h still
-      (turned (sources (rotated l)) (all_alike (sealed l) (sealed (rotated l)) wider (sources (rotated l))
+      (turned (layout_logs l) (layout_logs (rotated l)) (sources (rotated l))
+      (all_alike (sealed l) (sealed (rotated l)) wider (sources (rotated l))
       (subst (λ (es : List Entry). AreFarTo (IsThere (sealed l)) es) (sym (sources-rotated l)) (sources_far l h tidy))))
 
 -- ---- what a version has
@@ -125,9 +126,7 @@ module _ {H : Type 0} (bytes : H → Option (List ℕ)) where
     below_it : AllByRecursion (λ (x : SealedLog H). x.number < log.number) version.behind.logs.items
     below_it = subst (λ (n : ℕ). AllByRecursion (λ (x : SealedLog H). x.number < n) version.behind.logs.items) (sym number) has.below
 
-    all_logs : List (SealedLog H)
-    all_logs = version.behind.logs.items ++ log ∷ []
-
+    -- the version's logs are shared, with that one behind them
     same : AreSameLogs bytes (version.behind.logs.items ++ log ∷ []) after.behind.logs.items
     same = is.logs
 

@@ -155,6 +155,7 @@ rotate_base b l h base tidy some = record {
   led = λ n among. front_stays l.active (sealed l) n tidy.distinct.0 (base.led n among);
   keep = base.keep;
   since = base.since;
+  gone = base.gone;
   covered = base.covered;
   format = refl;
 }

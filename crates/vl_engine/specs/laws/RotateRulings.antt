@@ -1,12 +1,12 @@
 -- The ruling on a rotation, test by test.
-use Rattle.std.specs.Prelude.{◌≡◌, ◌≤◌, ◌<◌, ℕ, ◌+◌, Bool, true, false, if◌then◌else◌, List, [], ◌∷◌, Option, None, Some, refl}
+use Rattle.std.specs.Prelude.{◌≡◌, ◌≤◌, ◌<◌, ℕ, Bool, true, false, if◌then◌else◌, List, [], ◌∷◌, Option, None, Some, refl}
 use Rattle.std.proofs.Common.{sym, ap, ◌∙◌, arith}
 use Rattle.std.proofs.lemmas.Bool.Decides.{nat_tests}
 use Rattle.std.proofs.lemmas.List.Sums.{sum_by-cons}
 use Rattle.vl_layout.specs.Logs.{log_length}
 use Rattle.vl_layout.specs.Ruling.{Exhausted, Halted, Idle, Ruling, StepAnswer, Stepped, has_no_number, has_no_version, leaving}
 use Rattle.vl_layout.specs.Rulings.Rotate.{rotate_of, rotate_ruling, rotate_unless, rotated}
-use Rattle.vl_layout.specs.Start.{has_frames}
+use Rattle.vl_layout.specs.Start.{has_frames, is_any}
 use Rattle.vl_layout.specs.Tidy.{IsTrueLog}
 use Rattle.vl_layout.specs.declared.file_name.FileName.{FileName}
 use Rattle.vl_layout.specs.declared.layout.Layout.{Layout}
@@ -62,7 +62,7 @@ module _ (l : Layout) (h : History) (true_log : IsTrueLog l.active) (running : l
 
     -- it has frames
     pub is_filled : has_frames l.active ≡ true
-    is_filled = ap (λ (fs : List LogFrame). has_frames (record { format = l.active.format; number = l.active.number; length = l.active.length; frames = fs })) some.are
+    is_filled = ap (λ (fs : List LogFrame). is_any fs) some.are
 
     -- by whether a number is left, and whether a version's is
     abbrev by_numbers : (used_log used_version : Bool) → Ruling StepAnswer

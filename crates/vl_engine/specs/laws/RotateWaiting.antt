@@ -1,7 +1,7 @@
 -- Behind a rotation the log that was active waits for its flush too, behind which all commits are covered.
-use Rattle.std.specs.Prelude.{◌≡◌, ◌≤◌, ℕ, ◌+◌, ◌==◌, max, Bool, true, false, if◌then◌else◌, List, [], ◌∷◌, ◌++◌, map, Result, Ok, Err, refl}
+use Rattle.std.specs.Prelude.{◌≡◌, ℕ, ◌+◌, ◌==◌, max, Bool, true, false, if◌then◌else◌, List, [], ◌∷◌, ◌++◌, map, Result, Ok, Err, refl}
 use Rattle.std.specs.List.{filter}
-use Rattle.std.proofs.Common.{sym, ap, subst, ◌∙◌, arith}
+use Rattle.std.proofs.Common.{sym, ap, ◌∙◌, arith}
 use Rattle.std.proofs.lemmas.Bool.Decides.{nat_tests}
 use Rattle.vl_engine.specs.Held.{Base, IsBase, logs_from}
 use Rattle.vl_engine.specs.Represents.{IsBack}
@@ -19,7 +19,7 @@ use Rattle.vl_model.specs.declared.log_frame.LogFrame.{LogFrame}
 use Rattle.vl_recover.specs.crash.Held.{GoOn, log_as_held}
 use Rattle.vl_recover.specs.opening.HeldFiles.{AreWaiting}
 use Rattle.vl_recover.specs.opening.Stages.{on_ok}
-use Rattle.vl_recover.specs.opening.Walk.{LogDamage, counted, counted_frame, counted_whole, in_log, walked}
+use Rattle.vl_recover.specs.opening.Walk.{counted, counted_whole, in_log, walked}
 
 -- the last commit of these logs, or the number that was covered before
 abbrev pub covered_all : List Segment → ℕ → ℕ

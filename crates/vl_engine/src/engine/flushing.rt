@@ -1,11 +1,13 @@
-ghost use Rattle.std.specs.Prelude.{◌≡◌, Err, None, Some};
+ghost use Rattle.std.specs.Prelude.{◌≡◌, ℕ, Err, None, Ok, OnOk, Some};
 ghost use Rattle.vl_back.specs.Deciding.{MayFlush};
+ghost use Rattle.vl_back.specs.Writing.{KeepsOthers};
 ghost use Rattle.vl_disk.specs.Calls.{ChangesNothing};
 ghost use Rattle.vl_disk.specs.DiskState.{DiskState};
-ghost use Rattle.vl_disk.specs.Faults.{HasCause};
+ghost use Rattle.vl_disk.specs.Faults.{HasCause, after_calls};
+ghost use Rattle.vl_disk.specs.declared.name.Name.TheVariants as names;
 ghost use Rattle.vl_disk.specs.declared.name.Name.{Name};
 ghost use Rattle.vl_engine.specs.Carries.{Carries};
-ghost use Rattle.vl_engine.specs.Flushing.{FlushesAs, StopsFlushing, flush_effects};
+ghost use Rattle.vl_engine.specs.Flushing.{FlushesAs, IsFlushWritten, StopsFlushing, flush_effects};
 ghost use Rattle.vl_engine.specs.Represents.{Fronts, Represents, StandsFor};
 ghost use Rattle.vl_engine.specs.Stepping.{AreLogFiles, HasNumbers, StepFailed, StepLeavesDisk, step_outcome};
 ghost use Rattle.vl_engine.specs.declared.fails.StepFail.TheVariants as fails;
@@ -42,6 +44,15 @@ impl<D: Disk> Engine<D> {
         // Where no table was made and the disk didn't fail, it was left alone, at each moment.
         ensures untouched { StepLeavesDisk result → ChangesNothing D.Watched self.old.disk self.new.disk ⊥ }
 
+        // However it ends, the files but that of the table stand as before, and none but that may have come.
+        ensures files { KeepsOthers (names.Table self.old.core.back.state.next_table) (D.told self.old.disk) (D.told self.new.disk) }
+
+        // Where a table was made, it has the entries of the memtable that was frozen for longest, the manifest has the frame that
+        // names it, and the disk is as before else, after five changing calls.
+        ensures written { (number : ℕ) → result ≡ Ok (Some number)
+            → IsFlushWritten self.old.core number (D.told self.old.disk) (D.told self.new.disk) }
+        ensures calls { OnOk result (D.calls self.new.disk ≡ after_calls (flush_effects result).calls (D.calls self.old.disk)) }
+
         // A fault of the disk is counted, and nothing else raises the count. The last changing call that was made failed, and
         // is on the file that is named: the table, or behind it the manifest.
         ensures cause { HasCause (D.faults self.old.disk) (D.faults self.new.disk) (StepFailed result) }
@@ -65,6 +76,7 @@ impl<D: Disk> Engine<D> {
         requires may { MayFlush self.old.core.back }
         requires running { self.old.core.front.halted ≡ None }
         ensures cause { HasCause (D.faults self.old.disk) (D.faults self.new.disk) (StepFailed result) }
+        ensures files { KeepsOthers (names.Table self.old.core.back.state.next_table) (D.told self.old.disk) (D.told self.new.disk) }
         ensures as_flushed { FlushesAs D.Watched D.Held.bytes self.old.disk self.new.disk self.old.core self.new.core result }
     {
         let Ok(ready) = ready_flush(self.alloc, &mut self.disk, &self.core) else {

@@ -7,7 +7,7 @@ ghost use Rattle.vl_disk.specs.Moments.{HoldsThroughout};
 ghost use Rattle.vl_disk.specs.Started.{IsRead};
 ghost use Rattle.vl_disk.specs.declared.name.Name.{Name};
 ghost use Rattle.vl_engine.specs.Carries.{CrashesShow, Tells};
-ghost use Rattle.vl_engine.specs.Opening.{AnswersOpening, AreLeveled, IsAsBefore, IsBackAtStart, IsDiskFault, IsDurable, IsFault, disk_behind, reader_faults, recovered, why_of};
+ghost use Rattle.vl_engine.specs.Opening.{AnswersOpening, AreLeveled, IsAsBefore, IsBackAtStart, IsCoreOf, IsDiskFault, IsDurable, IsFault, disk_behind, reader_faults, recovered, why_of};
 ghost use Rattle.vl_engine.specs.Represents.{Represents, StandsFor};
 ghost use Rattle.vl_engine.specs.Shown.{Shown};
 ghost use Rattle.vl_layout.specs.Start.{layout_at_start};
@@ -48,6 +48,10 @@ impl<D: Disk> Engine<D> {
             → MayOpen state → IsRead read state → (shown : Shown read h (last_number h))
             → IfOk result (λ engine. Represents D.Held.bytes engine.core (D.told engine.disk) h
             (layout_at_start room (recovered found shown))) }
+
+        // What it keeps is what reads give, also where they show no history since blocks of tables are damaged.
+        ensures core { (state : DiskState) (read : Image) (found : Finds read) → D.told disk ≡ Some state → IsRead read state
+            → IfOk result (λ engine. IsCoreOf D.Held.bytes found room engine.core) }
         ensures back { (state : DiskState) (read : Image) (found : Finds read) → D.told disk ≡ Some state → IsRead read state
             → IfOk result (λ engine. IsBackAtStart found engine.core.back) }
 

@@ -1,11 +1,13 @@
-ghost use Rattle.std.specs.Prelude.{◌≡◌, ℕ, Err, None, Some};
+ghost use Rattle.std.specs.Prelude.{◌≡◌, ℕ, Err, IfOk, None, Some};
+ghost use Rattle.vl_back.specs.Writing.{KeepsOthers};
 ghost use Rattle.vl_disk.specs.Calls.{ChangesNothing};
 ghost use Rattle.vl_disk.specs.DiskState.{DiskState};
-ghost use Rattle.vl_disk.specs.Faults.{HasCause};
+ghost use Rattle.vl_disk.specs.Faults.{HasCause, after_calls};
 ghost use Rattle.vl_disk.specs.declared.name.Name.{Name};
+ghost use Rattle.vl_disk.specs.declared.name.Name.TheVariants as names;
 ghost use Rattle.vl_engine.specs.Carries.{Carries};
 ghost use Rattle.vl_engine.specs.Represents.{Fronts, Represents, StandsFor};
-ghost use Rattle.vl_engine.specs.Rotating.{HasActive, MayBegin, RotatesAs, StopsRotating, rotate_effects};
+ghost use Rattle.vl_engine.specs.Rotating.{HasActive, MayBegin, RotatesAs, StopsRotating, rotate_calls, rotate_effects};
 ghost use Rattle.vl_engine.specs.Stepping.{HasNumbers, StepFailed, StepLeavesDisk, step_outcome};
 ghost use Rattle.vl_engine.specs.declared.fails.StepFail.TheVariants as fails;
 ghost use Rattle.vl_layout.specs.Decides.{Decides, as_before};
@@ -44,12 +46,21 @@ impl<D: Disk> Engine<D> {
         // Where no log was begun and the disk didn't fail, it was left alone, at each moment.
         ensures untouched { StepLeavesDisk result → ChangesNothing D.Watched self.old.disk self.new.disk ⊥ }
 
+        // However it ends, no file but the new log comes or goes. Where a log was begun, three more calls changed a file.
+        ensures files { KeepsOthers (names.Log self.old.core.back.next_log) (D.told self.old.disk) (D.told self.new.disk) }
+        ensures calls { IfOk result (λ sealed. D.calls self.new.disk ≡ after_calls (rotate_calls sealed) (D.calls self.old.disk)) }
+
         // A fault of the disk is counted, and nothing else raises the count. It came at the active log, before the disk was
         // changed, or while the new one was made.
         ensures cause { HasCause (D.faults self.old.disk) (D.faults self.new.disk) (StepFailed result) }
         ensures stopped { (name : Name) → result ≡ Err (fails.Disk name)
             → StopsRotating self.old.core.front.log.number self.old.core.back.next_log (D.calls self.old.disk) (D.calls self.new.disk)
             name }
+
+        // The disk fails only where a log may be begun: the engine wasn't halted, a commit stood in the active log, and numbers
+        // were left. So a fault of the disk never comes in place of the answer that a halted engine, an empty log or used up
+        // numbers are due.
+        ensures failed { StepFailed result → MayBegin self.old.core }
     {
         match refusal(&self.core) {
             Some(answer) => answer,
@@ -62,6 +73,7 @@ impl<D: Disk> Engine<D> {
         requires { MayBegin self.old.core }
         ensures cause { HasCause (D.faults self.old.disk) (D.faults self.new.disk) (StepFailed result) }
         ensures as_rotated { RotatesAs D.Watched D.Held.bytes self.old.disk self.new.disk self.old.core self.new.core result }
+        ensures files { KeepsOthers (names.Log self.old.core.back.next_log) (D.told self.old.disk) (D.told self.new.disk) }
     {
         let Ok(()) = self.core.back.make_room() else {
             return Err(StepFail::NoMemory);

@@ -1,13 +1,17 @@
-ghost use Rattle.std.specs.Prelude.{◌≡◌, ◌≤◌, ◌++◌, ◌∷◌, [], List, IfOk, None, OnErr, OnOk};
+ghost use Rattle.std.specs.Prelude.{◌≡◌, ◌≤◌, ◌++◌, ◌∷◌, [], List, IfOk, None, OnErr, OnOk, Some};
 ghost use Rattle.std.specs.FinMap.{get};
 ghost use Rattle.std.specs.Option.{option_map};
 ghost use Rattle.vl_disk.specs.Faults.{HasCause};
-ghost use Rattle.vl_engine.specs.Reading.{IsInMemory, IsRefusedBy, IsSound, NotesNothing, OnlyNotes, ReadFailed, refused_bounds, rows_under, tagged_under, value_under, written_value};
+ghost use Rattle.vl_engine.specs.Reading.{IsInMemory, IsOwn, IsRefusedBy, IsSound, LiesOver, LooksUp, LooksUpTagged, NotesNothing, OnlyNotes, ReadFailed, refused_bounds, rows_under, tagged_under, value_under, with_its_tag, written_value};
 ghost use Rattle.vl_engine.specs.Sees.{Sees};
 ghost use Rattle.vl_model.specs.History.{History, value_at};
 ghost use Rattle.vl_model.specs.Reads.{KeyRead, Read};
+ghost use Rattle.vl_model.specs.declared.change.Change.{Change};
+ghost use Rattle.vl_table.specs.Kept.{Files};
+ghost use Rattle.vl_table.specs.KeptBlocks.{ReadsOf};
 ghost use Rattle.vl_txn.specs.Reads.{AddsSpan, after_get, scan_of, with_get, with_scan};
 ghost use Rattle.vl_txn.specs.Refusals.{refused_key};
+ghost use Rattle.vl_version.specs.Sources.{tables_in};
 
 use crate::{ReadFail, Rows, Txn};
 use std::alloc::AllocError;
@@ -43,6 +47,13 @@ impl<H: HeldFile, R: Reader<Held = H> + Drop> Txn<H, R> {
         ensures cause { HasCause (R.faults self.old.reader.reader) (R.faults self.new.reader.reader) (ReadFailed result) }
         ensures near { IsInMemory self.old.version → ReadFailed result → ⊥ }
         ensures sound { (h : History) (reads : List Read) → Sees H.bytes self.old h reads → IsSound result }
+
+        // Also where the tables aren't true, no damage is hidden or made up; and a key that is written is answered from there.
+        ensures looks { (files : Files) → LiesOver H.bytes files self.old.version self.old.reader
+            → get self.old.writes key.now ≡ None → LooksUp H.bytes self.old.version key.now self.old.number result }
+        ensures own { (change : Change) → get self.old.writes key.now ≡ Some change → IsOwn (written_value change) result }
+        ensures blocks { (files : Files) → ReadsOf H.bytes files self.old.reader (tables_in self.old.version)
+            → ReadsOf H.bytes files self.new.reader (tables_in self.new.version) }
     {
         check_key(key)?;
         match own_value(&self.writes, key)? {
@@ -65,6 +76,11 @@ impl<H: HeldFile, R: Reader<Held = H> + Drop> Txn<H, R> {
         ensures cause { HasCause (R.faults self.old.reader.reader) (R.faults self.new.reader.reader) (ReadFailed result) }
         ensures near { IsInMemory self.old.version → ReadFailed result → ⊥ }
         ensures sound { (h : History) (reads : List Read) → Sees H.bytes self.old h reads → IsSound result }
+        ensures looks { (files : Files) → LiesOver H.bytes files self.old.version self.old.reader
+            → get self.old.writes key.now ≡ None → LooksUpTagged H.bytes self.old.version key.now self.old.number result }
+        ensures own { (change : Change) → get self.old.writes key.now ≡ Some change → IsOwn (with_its_tag (written_value change)) result }
+        ensures blocks { (files : Files) → ReadsOf H.bytes files self.old.reader (tables_in self.old.version)
+            → ReadsOf H.bytes files self.new.reader (tables_in self.new.version) }
     {
         Ok(self.get(key)?.map(tagged_value))
     }
@@ -87,6 +103,8 @@ impl<H: HeldFile, R: Reader<Held = H> + Drop> Txn<H, R> {
         ensures cause { HasCause (R.faults self.old.reader.reader) (R.faults self.new.reader.reader) (ReadFailed result) }
         ensures near { IsInMemory self.old.version → ReadFailed result → ⊥ }
         ensures sound { (h : History) (reads : List Read) → Sees H.bytes self.old h reads → IsSound result }
+        ensures blocks { (files : Files) → ReadsOf H.bytes files self.old.reader (tables_in self.old.version)
+            → ReadsOf H.bytes files self.new.reader (tables_in self.new.version) }
     {
         check_bound(low)?;
         check_bound(high)?;
@@ -122,6 +140,10 @@ impl<H: HeldFile, R: Reader<Held = H> + Drop> Txn<H, R> {
         ensures cause { HasCause (R.faults self.old.reader.reader) (R.faults self.new.reader.reader) (ReadFailed result) }
         ensures near { IsInMemory self.old.version → ReadFailed result → ⊥ }
         ensures sound { (h : History) (reads : List Read) → Sees H.bytes self.old h reads → IsSound result }
+        ensures looks { (files : Files) → LiesOver H.bytes files self.old.version self.old.reader
+            → LooksUp H.bytes self.old.version key.now self.old.number result }
+        ensures blocks { (files : Files) → ReadsOf H.bytes files self.old.reader (tables_in self.old.version)
+            → ReadsOf H.bytes files self.new.reader (tables_in self.new.version) }
     {
         let value = self
             .version

@@ -1,10 +1,13 @@
 ghost use Rattle.std.specs.Prelude.{◌≡◌, ◌≤◌, IfOk, IsErr, None};
 ghost use Rattle.std.specs.FinMap.{empty};
 ghost use Rattle.vl_disk.specs.Faults.{HasCause};
-ghost use Rattle.vl_engine.specs.Reading.{IsFound, IsInMemory, IsRefusedBy, IsRefusedInto, IsSound, IsSoundInto, OnlyReads, ReadFailed, ReadIntoFailed, refused_bounds, rows_under, with_its_tag};
+ghost use Rattle.vl_engine.specs.Reading.{IsFound, IsInMemory, IsRefusedBy, IsRefusedInto, IsSound, IsSoundInto, LiesOver, LooksUp, LooksUpInto, LooksUpTagged, OnlyReads, ReadFailed, ReadIntoFailed, refused_bounds, rows_under, with_its_tag};
 ghost use Rattle.vl_engine.specs.Sees.{SeesAlone};
 ghost use Rattle.vl_model.specs.History.{History, value_at};
+ghost use Rattle.vl_table.specs.Kept.{Files};
+ghost use Rattle.vl_table.specs.KeptBlocks.{ReadsOf};
 ghost use Rattle.vl_txn.specs.Refusals.{refused_key};
+ghost use Rattle.vl_version.specs.Sources.{tables_in};
 
 use crate::txn::tagged_value;
 use crate::{Found, ReadFail, ReadFault, Rows, View};
@@ -31,6 +34,12 @@ impl<H: HeldFile, R: Reader<Held = H> + Drop> View<H, R> {
         ensures cause { HasCause (R.faults self.old.reader.reader) (R.faults self.new.reader.reader) (ReadFailed result) }
         ensures near { IsInMemory self.old.version → ReadFailed result → ⊥ }
         ensures sound { (h : History) → SeesAlone H.bytes self.old h → IsSound result }
+
+        // Also where the tables aren't true, no damage is hidden or made up.
+        ensures looks { (files : Files) → LiesOver H.bytes files self.old.version self.old.reader
+            → LooksUp H.bytes self.old.version key.now self.old.number result }
+        ensures blocks { (files : Files) → ReadsOf H.bytes files self.old.reader (tables_in self.old.version)
+            → ReadsOf H.bytes files self.new.reader (tables_in self.new.version) }
     {
         check_key(key)?;
         Ok(
@@ -49,6 +58,12 @@ impl<H: HeldFile, R: Reader<Held = H> + Drop> View<H, R> {
         ensures cause { HasCause (R.faults self.old.reader.reader) (R.faults self.new.reader.reader) (ReadFailed result) }
         ensures near { IsInMemory self.old.version → ReadFailed result → ⊥ }
         ensures sound { (h : History) → SeesAlone H.bytes self.old h → IsSound result }
+
+        // Also where the tables aren't true, no damage is hidden or made up.
+        ensures looks { (files : Files) → LiesOver H.bytes files self.old.version self.old.reader
+            → LooksUpTagged H.bytes self.old.version key.now self.old.number result }
+        ensures blocks { (files : Files) → ReadsOf H.bytes files self.old.reader (tables_in self.old.version)
+            → ReadsOf H.bytes files self.new.reader (tables_in self.new.version) }
     {
         Ok(self.get(key)?.map(tagged_value))
     }
@@ -65,6 +80,12 @@ impl<H: HeldFile, R: Reader<Held = H> + Drop> View<H, R> {
         ensures cause { HasCause (R.faults self.old.reader.reader) (R.faults self.new.reader.reader) (ReadIntoFailed result) }
         ensures near { IsInMemory self.old.version → ReadIntoFailed result → ⊥ }
         ensures sound { (h : History) → SeesAlone H.bytes self.old h → IsSoundInto result }
+
+        // Also where the tables aren't true, no damage is hidden or made up.
+        ensures looks { (files : Files) → LiesOver H.bytes files self.old.version self.old.reader
+            → LooksUpInto H.bytes self.old.version key.now self.old.number out.old out.new result }
+        ensures blocks { (files : Files) → ReadsOf H.bytes files self.old.reader (tables_in self.old.version)
+            → ReadsOf H.bytes files self.new.reader (tables_in self.new.version) }
     {
         check_key(key)?;
         let result = self
@@ -89,6 +110,8 @@ impl<H: HeldFile, R: Reader<Held = H> + Drop> View<H, R> {
         ensures cause { HasCause (R.faults self.old.reader.reader) (R.faults self.new.reader.reader) (ReadFailed result) }
         ensures near { IsInMemory self.old.version → ReadFailed result → ⊥ }
         ensures sound { (h : History) → SeesAlone H.bytes self.old h → IsSound result }
+        ensures blocks { (files : Files) → ReadsOf H.bytes files self.old.reader (tables_in self.old.version)
+            → ReadsOf H.bytes files self.new.reader (tables_in self.new.version) }
     {
         check_bound(low)?;
         check_bound(high)?;

@@ -1,5 +1,5 @@
 use Rattle.std.proofs.Common.{◌≡◌, ap, arith, refl, ◌∙◌, ℕ}
-use Rattle.vl_engine.proofs.Begins.{begins_making, begins_nothing, made_so, next_back, next_version, none_known, same_back, still_numbered, stops_making, then_numbered}
+use Rattle.vl_engine.proofs.Begins.{begins_making, begins_nothing, keeps_making, keeps_told, made_so, next_back, next_version, none_known, same_back, still_numbered, stops_making, then_numbered}
 use Rattle.vl_engine.proofs.Fitting.{fit_halted}
 use Rattle.vl_engine.proofs.RotateFit.{fit_rotated, stands_still}
 use Rattle.vl_engine.specs.Rotating.{IsNextBack, IsSameBack, at_hold}
@@ -18,6 +18,9 @@ returns-in-Err-Failed-clause-as_rotated g c =
       back = same_back before.back c.make_room.new.self c.in-Ok.ensures.others c.in-Ok.ensures.waiting;
       version = refl;
     }
+
+pub returns-in-Err-Failed-clause-files : goal.returns-in-Err-Failed-clause-files
+returns-in-Err-Failed-clause-files g c = keeps_told _ _ _ c.stage_rotation.ensures.no_change.told
 
 -- at the new log
 pub invariant_of-self-in-Err : goal.invariant_of-self-in-Err
@@ -55,6 +58,15 @@ returns-in-Err-clause-as_rotated g c =
       back = same;
       version = refl;
     }
+
+pub returns-in-Err-clause-files : goal.returns-in-Err-clause-files
+returns-in-Err-clause-files g c =
+    let before = c.args.self.now.core in
+    let told = g.D.Watched.told in
+    let same : IsSameBack before.back c.make_room.new.self =
+    same_back before.back c.make_room.new.self c.in-Ok.ensures.others c.in-Ok.ensures.waiting in
+    keeps_making before.back.next_log c.make_room.new.self.next_log same.next_log (told c.args.self.now.disk)
+    (told c.stage_rotation.new.disk) (told c.make_log.new.disk) c.in-Ok-stage_rotation.ensures.no_change.told c.in-Err.ensures.files
 
 -- it was begun
 pub invariant_of-self-2 : goal.invariant_of-self-2
@@ -111,3 +123,13 @@ returns-clause-as_rotated g c =
             c.in-Ok-stage_rotation.ensures.version;
       },
     )
+
+pub returns-clause-files : goal.returns-clause-files
+returns-clause-files g c =
+    let before = c.args.self.now.core in
+    let told = g.D.Watched.told in
+    let same : IsSameBack before.back c.make_room.new.self =
+    same_back before.back c.make_room.new.self c.in-Ok.ensures.others c.in-Ok.ensures.waiting in
+    keeps_making before.back.next_log c.make_room.new.self.next_log same.next_log (told c.args.self.now.disk)
+    (told c.stage_rotation.new.disk) (told c.make_log.new.disk) c.in-Ok-stage_rotation.ensures.no_change.told
+    c.in_default-make_log.ensures.files

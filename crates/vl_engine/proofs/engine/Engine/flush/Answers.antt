@@ -1,6 +1,8 @@
 use Rattle.std.proofs.Common.{arith, refl, sym}
+use Rattle.vl_disk.specs.declared.name.Name.TheVariants as names
 use Rattle.vl_engine.proofs.Committing.{decides_leaving}
-use Rattle.vl_engine.proofs.Flushed.{carries_by, carries_leaving_flush, fronts_by, ruled_exhausted, ruled_halted, ruled_idle, runs_on, stands_by, stopped_by, untouched_by}
+use Rattle.vl_engine.proofs.Flushed.{calls_by, carries_by, carries_leaving_flush, fronts_by, ruled_exhausted, ruled_halted, ruled_idle, runs_on, stands_by, stopped_by, untouched_by, written_by}
+use Rattle.vl_engine.proofs.FlushKeeps.{kept_itself}
 use Rattle.vl_engine.proofs.FlushSteps.{numbers_held}
 use Rattle.vl_engine.proofs.Untouched.{alone}
 use Rattle.vl_engine.specs.Represents.{Fronts, StandsFor, file_of}
@@ -32,6 +34,17 @@ returns-in-Some-clause-carries g c h l is =
 
 pub returns-in-Some-clause-untouched : goal.returns-in-Some-clause-untouched
 returns-in-Some-clause-untouched g c leaves = alone g.D.Watched _ _ refl
+
+pub returns-in-Some-clause-files : goal.returns-in-Some-clause-files
+returns-in-Some-clause-files g c =
+    kept_itself (names.Table c.args.self.now.core.back.state.next_table) (g.D.Watched.told c.args.self.now.disk)
+    (g.D.Watched.told c.args.self.now.disk) refl
+
+pub returns-in-Some-clause-written : goal.returns-in-Some-clause-written
+returns-in-Some-clause-written g c number made = absurd cc
+
+pub returns-in-Some-clause-calls : goal.returns-in-Some-clause-calls
+returns-in-Some-clause-calls g c = tt
 
 pub returns-in-Some-clause-cause : goal.returns-in-Some-clause-cause
 returns-in-Some-clause-cause g c = record { later = omega arith; rose = λ failed. absurd failed; steady = λ fine. refl }
@@ -65,6 +78,17 @@ returns-in-Idle-clause-carries g c h l is =
 
 pub returns-in-Idle-clause-untouched : goal.returns-in-Idle-clause-untouched
 returns-in-Idle-clause-untouched g c leaves = alone g.D.Watched _ _ refl
+
+pub returns-in-Idle-clause-files : goal.returns-in-Idle-clause-files
+returns-in-Idle-clause-files g c =
+    kept_itself (names.Table c.args.self.now.core.back.state.next_table) (g.D.Watched.told c.args.self.now.disk)
+    (g.D.Watched.told c.args.self.now.disk) refl
+
+pub returns-in-Idle-clause-written : goal.returns-in-Idle-clause-written
+returns-in-Idle-clause-written g c number made = absurd cc
+
+pub returns-in-Idle-clause-calls : goal.returns-in-Idle-clause-calls
+returns-in-Idle-clause-calls g c = refl
 
 pub returns-in-Idle-clause-cause : goal.returns-in-Idle-clause-cause
 returns-in-Idle-clause-cause g c = record { later = omega arith; rose = λ failed. absurd failed; steady = λ fine. refl }
@@ -100,6 +124,17 @@ returns-in-Exhausted-clause-carries g c h l is =
 
 pub returns-in-Exhausted-clause-untouched : goal.returns-in-Exhausted-clause-untouched
 returns-in-Exhausted-clause-untouched g c leaves = alone g.D.Watched _ _ refl
+
+pub returns-in-Exhausted-clause-files : goal.returns-in-Exhausted-clause-files
+returns-in-Exhausted-clause-files g c =
+    kept_itself (names.Table c.args.self.now.core.back.state.next_table) (g.D.Watched.told c.args.self.now.disk)
+    (g.D.Watched.told c.args.self.now.disk) refl
+
+pub returns-in-Exhausted-clause-written : goal.returns-in-Exhausted-clause-written
+returns-in-Exhausted-clause-written g c number made = absurd cc
+
+pub returns-in-Exhausted-clause-calls : goal.returns-in-Exhausted-clause-calls
+returns-in-Exhausted-clause-calls g c = tt
 
 pub returns-in-Exhausted-clause-cause : goal.returns-in-Exhausted-clause-cause
 returns-in-Exhausted-clause-cause g c = record { later = omega arith; rose = λ failed. absurd failed; steady = λ fine. refl }
@@ -139,6 +174,19 @@ pub returns-in-Go-clause-untouched : goal.returns-in-Go-clause-untouched
 returns-in-Go-clause-untouched g c leaves =
     untouched_by g.D.Watched g.D.Held.HeldFile.bytes c.args.self.now.core c.make_table.new.self.core c.args.self.now.disk
     c.make_table.new.self.disk c.make_table.result c.make_table.ensures.as_flushed leaves
+
+pub returns-in-Go-clause-files : goal.returns-in-Go-clause-files
+returns-in-Go-clause-files g c = c.make_table.ensures.files
+
+pub returns-in-Go-clause-written : goal.returns-in-Go-clause-written
+returns-in-Go-clause-written g c number made =
+    written_by g.D.Watched g.D.Held.HeldFile.bytes c.args.self.now.core c.make_table.new.self.core c.args.self.now.disk
+    c.make_table.new.self.disk c.make_table.result c.make_table.ensures.as_flushed number made
+
+pub returns-in-Go-clause-calls : goal.returns-in-Go-clause-calls
+returns-in-Go-clause-calls g c =
+    calls_by g.D.Watched g.D.Held.HeldFile.bytes c.args.self.now.core c.make_table.new.self.core c.args.self.now.disk
+    c.make_table.new.self.disk c.make_table.result c.make_table.ensures.as_flushed
 
 pub returns-in-Go-clause-stopped : goal.returns-in-Go-clause-stopped
 returns-in-Go-clause-stopped g c name failed =

@@ -1,7 +1,7 @@
 use Rattle.std.proofs.Common.{List, ap, arith, refl, sym, ◌∙◌, ℕ}
 use Rattle.std.specs.Prelude.{Some}
 use Rattle.vl_disk.specs.declared.name.Name.TheVariants as names
-use Rattle.vl_engine.proofs.FlushKeeps.{changed_by, failed_then, fit_flushed, fit_unflushed, next_then, still_told, stops_by, writes_by}
+use Rattle.vl_engine.proofs.FlushKeeps.{changed_by, failed_then, fit_flushed, fit_unflushed, kept_from, next_then, still_told, stops_by, writes_by}
 use Rattle.vl_engine.specs.Fit.{IsFitFor}
 use Rattle.vl_engine.specs.Known.{are_known}
 use Rattle.vl_manifest.specs.declared.manifest_log.ManifestLog.{ManifestLog}
@@ -13,6 +13,20 @@ pub write_and_switch-requires-clause-free : goal.write_and_switch-requires-claus
 write_and_switch-requires-clause-free g c disk told =
     ((c.args.self.now.ready disk (sym c.in-Ok.ensures.no_change.told ∙ told)).steps c.requires.running).tables
     c.args.self.now.core.back.state.next_table (omega arith)
+
+-- the other files
+
+pub returns-in-Ok-write_and_switch-clause-files : goal.returns-in-Ok-write_and_switch-clause-files
+returns-in-Ok-write_and_switch-clause-files g c =
+    kept_from (names.Table c.args.self.now.core.back.state.next_table) (g.D.Watched.told c.args.self.now.disk)
+    (g.D.Watched.told c.ready_flush.new.disk) (g.D.Watched.told c.write_and_switch.new.disk) c.in-Ok.ensures.no_change.told
+    c.in-Ok-write_and_switch.ensures.files
+
+pub returns-in-Err-clause-files : goal.returns-in-Err-clause-files
+returns-in-Err-clause-files g c =
+    kept_from (names.Table c.args.self.now.core.back.state.next_table) (g.D.Watched.told c.args.self.now.disk)
+    (g.D.Watched.told c.ready_flush.new.disk) (g.D.Watched.told c.write_and_switch.new.disk) c.in-Ok.ensures.no_change.told
+    c.in-Err.ensures.files
 
 -- it is made
 

@@ -1,6 +1,6 @@
 use Rattle.std.proofs.Common.{refl, ap, subst, sym, ◌∙◌}
 use Rattle.std.specs.Prelude.{max}
-use Rattle.vl_engine.proofs.Opened.{opened_back, opened_fit, opened_numbered, opened_represents, opened_stands, opening_through, opens_still}
+use Rattle.vl_engine.proofs.Opened.{opened_back, opened_core, opened_fit, opened_numbered, opened_represents, opened_stands, opening_through, opens_still}
 use Rattle.vl_engine.proofs.engine.Engine.open.Goals as goal
 use Rattle.vl_engine.specs.Known.{are_known}
 use Rattle.vl_engine.specs.Opening.{AreLeveled}
@@ -50,7 +50,7 @@ invariant_of-result g c = record {
         manifest = refl;
         version_number = refl;
         waiting = refl;
-        active = ap (λ (held : Contents). held.entries) c.new.ensures.active;
+        active = c.new.ensures.active;
         frozen = c.new.ensures.frozen;
         leveled = subst (AreLeveled c.in-Ok-recover.parts.levels.items) (sym c.new.ensures.levels) c.with_levels-leveled.ensures;
         logs = c.new.ensures.logs;
@@ -78,13 +78,46 @@ invariant_of-result g c = record {
         manifest = refl;
         version_number = refl;
         waiting = refl;
-        active = ap (λ (held : Contents). held.entries) c.new.ensures.active;
+        active = c.new.ensures.active;
         frozen = c.new.ensures.frozen;
         leveled = subst (AreLeveled c.in-Ok-recover.parts.levels.items) (sym c.new.ensures.levels) c.with_levels-leveled.ensures;
         logs = c.new.ensures.logs;
       }) c.in-Ok-recover.ensures.numbered;
   known = ap (λ (held : Contents). are_known c.new-2.result.oracle.last held.entries) c.new.ensures.active;
 }
+
+pub returns-clause-core : goal.returns-clause-core
+returns-clause-core g c state read found told is_read =
+    let (other, unused, opened) = c.in-Ok-recover.ensures.answer state read told is_read in
+    opened_core c.in-Ok-recover.parts c.args.room
+    (record {
+      version = c.new.result;
+      front = c.new-2.result;
+      back = record {
+        manifest = c.in-Ok-recover.parts.manifest;
+        state = c.in-Ok-recover.parts.state;
+        next_log = c.max-next_log.result;
+        version_number = 0;
+        waiting = c.in-Ok-recover.parts.waiting;
+      };
+    })
+    (record {
+      last = c.new-2.ensures.oracle;
+      knows = c.new-2.ensures.knows;
+      log = c.new-2.ensures.log.0;
+      room_is = c.new-2.ensures.log.1 ∙ c.in-Ok-recover.ensures.room;
+      halted = c.new-2.ensures.log.2;
+      state = refl;
+      next_log = c.max-next_log.ensures ∙ ap (max c.in-Ok-recover.parts.state.next_log) c.saturating_add.ensures;
+      manifest = refl;
+      version_number = refl;
+      waiting = refl;
+      active = c.new.ensures.active;
+      frozen = c.new.ensures.frozen;
+      leveled = subst (AreLeveled c.in-Ok-recover.parts.levels.items) (sym c.new.ensures.levels) c.with_levels-leveled.ensures;
+      logs = c.new.ensures.logs;
+    }) read found other opened g.D.Held.HeldFile.bytes c.in-Ok-recover.ensures.active
+    (c.in-Ok-recover.ensures.tables state read told is_read) (c.in-Ok-recover.ensures.logs state read found told is_read)
 
 pub returns-clause-stands : goal.returns-clause-stands
 returns-clause-stands g c state read found h told is_read shown =
@@ -112,7 +145,7 @@ returns-clause-stands g c state read found h told is_read shown =
       manifest = refl;
       version_number = refl;
       waiting = refl;
-      active = ap (λ (held : Contents). held.entries) c.new.ensures.active;
+      active = c.new.ensures.active;
       frozen = c.new.ensures.frozen;
       leveled = subst (AreLeveled c.in-Ok-recover.parts.levels.items) (sym c.new.ensures.levels) c.with_levels-leveled.ensures;
       logs = c.new.ensures.logs;
@@ -146,7 +179,7 @@ returns-clause-back g c state read found told is_read =
       manifest = refl;
       version_number = refl;
       waiting = refl;
-      active = ap (λ (held : Contents). held.entries) c.new.ensures.active;
+      active = c.new.ensures.active;
       frozen = c.new.ensures.frozen;
       leveled = subst (AreLeveled c.in-Ok-recover.parts.levels.items) (sym c.new.ensures.levels) c.with_levels-leveled.ensures;
       logs = c.new.ensures.logs;
@@ -180,7 +213,7 @@ returns-clause-represents g c state read found h told may is_read shown =
       manifest = refl;
       version_number = refl;
       waiting = refl;
-      active = ap (λ (held : Contents). held.entries) c.new.ensures.active;
+      active = c.new.ensures.active;
       frozen = c.new.ensures.frozen;
       leveled = subst (AreLeveled c.in-Ok-recover.parts.levels.items) (sym c.new.ensures.levels) c.with_levels-leveled.ensures;
       logs = c.new.ensures.logs;

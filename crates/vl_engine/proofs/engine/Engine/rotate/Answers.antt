@@ -1,6 +1,7 @@
 use Rattle.std.proofs.Common.{arith, refl, subst, sym}
+use Rattle.vl_engine.proofs.Begins.{keeps_told}
 use Rattle.vl_engine.proofs.RotateSteps.{running_so}
-use Rattle.vl_engine.proofs.Rotated.{can_by, carries_as_refused, carries_by, fronts_as_refused, fronts_by, numbers_held, refused_no_disk, stands_as_refused, stands_by, stopped_by, untouched_by}
+use Rattle.vl_engine.proofs.Rotated.{calls_by, can_by, carries_as_refused, carries_by, fronts_as_refused, fronts_by, numbers_held, refused_calls, refused_no_disk, stands_as_refused, stands_by, stopped_by, untouched_by}
 use Rattle.vl_engine.proofs.Untouched.{alone}
 use Rattle.vl_engine.specs.Stepping.{StepFailed}
 use Rattle.vl_engine.proofs.engine.Engine.rotate.Goals as goal
@@ -37,6 +38,17 @@ pub returns-in-Some-clause-stopped : goal.returns-in-Some-clause-stopped
 returns-in-Some-clause-stopped g c name failed =
     absurd (refused_no_disk c.args.self.now.core c.in-Some.answer c.in-Some.ensures.refused
     (subst StepFailed (sym failed) tt))
+
+pub returns-in-Some-clause-files : goal.returns-in-Some-clause-files
+returns-in-Some-clause-files g c = keeps_told _ _ _ refl
+
+pub returns-in-Some-clause-calls : goal.returns-in-Some-clause-calls
+returns-in-Some-clause-calls g c =
+    refused_calls c.args.self.now.core (g.D.Watched.calls c.args.self.now.disk) c.in-Some.answer c.in-Some.ensures.refused
+
+pub returns-in-Some-clause-failed : goal.returns-in-Some-clause-failed
+returns-in-Some-clause-failed g c failed =
+    absurd (refused_no_disk c.args.self.now.core c.in-Some.answer c.in-Some.ensures.refused failed)
 
 -- the next log is begun
 
@@ -79,3 +91,11 @@ pub returns-in-None-clause-stopped : goal.returns-in-None-clause-stopped
 returns-in-None-clause-stopped g c name failed =
     stopped_by g.D.Watched g.D.Held.HeldFile.bytes c.args.self.now.core c.begin_log.new.self.core c.args.self.now.disk
     c.begin_log.new.self.disk c.begin_log.result c.begin_log.ensures.as_rotated name failed
+
+pub returns-in-None-clause-calls : goal.returns-in-None-clause-calls
+returns-in-None-clause-calls g c =
+    calls_by g.D.Watched g.D.Held.HeldFile.bytes c.args.self.now.core c.begin_log.new.self.core c.args.self.now.disk
+    c.begin_log.new.self.disk c.begin_log.result c.begin_log.ensures.as_rotated
+
+pub returns-in-None-clause-failed : goal.returns-in-None-clause-failed
+returns-in-None-clause-failed g c failed = c.in-None.ensures.may refl

@@ -1,8 +1,10 @@
 use Rattle.std.proofs.Common.{◌≡◌, Option, Some, refl}
 use Rattle.vl_model.specs.Keys.{Stored}
 use Rattle.vl_model.specs.Winners.{resolved_at, winner}
-use Rattle.vl_version.specs.Answers.{IsAstray}
-use Rattle.vl_engine.proofs.Seeing.{fault_near, fault_sound, on_error, sees_get, sees_still}
+use Rattle.vl_version.specs.Answers.{Gives, IsAstray}
+use Rattle.vl_version.specs.Over.{LooksOver}
+use Rattle.vl_version.specs.Sources.{stored_in}
+use Rattle.vl_engine.proofs.Seeing.{fault_handed, fault_near, fault_sound, on_error, sees_get, sees_still}
 use Rattle.vl_engine.specs.laws.ReadLaws.{none_astray, value_led}
 use Rattle.vl_engine.proofs.txn.Txn.look_up.Goals as goal
 
@@ -41,3 +43,22 @@ returns-in_err-note_get-clause-still g c h reads sees =
     on_error _ _ _ c.from_residual-in_err-note_get.result
     (sees_still g.H.HeldFile.bytes c.args.self.now _ h reads sees refl refl (c.in_ok-value.ensures.kept sees.files sees.reader)
     c.in_err-note_get.ensures.err)
+
+pub returns-clause-looks : goal.returns-clause-looks
+returns-clause-looks g c files over = c.in_ok-value.ensures.looks files over.reads over.tables over.logs
+
+pub returns-in_err-value-clause-looks : goal.returns-in_err-value-clause-looks
+returns-in_err-value-clause-looks g c files over =
+    let v = c.args.self.now.version in
+    fault_handed (LooksOver g.H.HeldFile.bytes v c.args.key.now c.args.self.now.number (Gives (stored_in g.H.HeldFile.bytes v.behind.logs.items)))
+    c.in_err-value.field-0.0 (c.in_err-value.ensures.looks files over.reads over.tables over.logs)
+    c.from_residual.result c.from_residual.ensures.1
+
+pub returns-clause-blocks : goal.returns-clause-blocks
+returns-clause-blocks g c files reads = record { kept = c.in_ok-value.ensures.kept files reads; told = reads.told }
+
+pub returns-in_err-value-clause-blocks : goal.returns-in_err-value-clause-blocks
+returns-in_err-value-clause-blocks g c files reads = record { kept = c.in_err-value.ensures.kept files reads; told = reads.told }
+
+pub returns-in_err-note_get-clause-blocks : goal.returns-in_err-note_get-clause-blocks
+returns-in_err-note_get-clause-blocks g c files reads = record { kept = c.in_ok-value.ensures.kept files reads; told = reads.told }

@@ -1,8 +1,10 @@
 use Rattle.std.proofs.Common.{◌≡◌, Option, Some, refl}
 use Rattle.vl_model.specs.Keys.{Stored}
 use Rattle.vl_model.specs.Winners.{resolved_at, winner}
-use Rattle.vl_version.specs.Answers.{IsAstray}
-use Rattle.vl_engine.proofs.Seeing.{fault_near, fault_sound, sees_alone_still}
+use Rattle.vl_version.specs.Answers.{Gives, IsAstray}
+use Rattle.vl_version.specs.Over.{LooksOver}
+use Rattle.vl_version.specs.Sources.{stored_in}
+use Rattle.vl_engine.proofs.Seeing.{fault_handed, fault_near, fault_sound, sees_alone_still}
 use Rattle.vl_engine.specs.laws.ReadLaws.{none_astray, value_led}
 use Rattle.vl_engine.proofs.view.View.get.Goals as goal
 
@@ -33,3 +35,19 @@ pub returns-in_err-get-clause-near : goal.returns-in_err-get-clause-near
 returns-in_err-get-clause-near g c alone =
     fault_near (Option Stored) _ c.in_err-get.field-0.0 (c.in_err-get.ensures.near alone.tables alone.near)
     c.from_residual-in_err-get.result c.from_residual-in_err-get.ensures.1
+
+pub returns-clause-looks : goal.returns-clause-looks
+returns-clause-looks g c files over = c.in_ok-get.ensures.looks files over.reads over.tables over.logs
+
+pub returns-in_err-get-clause-looks : goal.returns-in_err-get-clause-looks
+returns-in_err-get-clause-looks g c files over =
+    let v = c.args.self.now.version in
+    fault_handed (LooksOver g.H.HeldFile.bytes v c.args.key.now c.args.self.now.number (Gives (stored_in g.H.HeldFile.bytes v.behind.logs.items)))
+    c.in_err-get.field-0.0 (c.in_err-get.ensures.looks files over.reads over.tables over.logs)
+    c.from_residual-in_err-get.result c.from_residual-in_err-get.ensures.1
+
+pub returns-clause-blocks : goal.returns-clause-blocks
+returns-clause-blocks g c files reads = record { kept = c.in_ok-get.ensures.kept files reads; told = reads.told }
+
+pub returns-in_err-get-clause-blocks : goal.returns-in_err-get-clause-blocks
+returns-in_err-get-clause-blocks g c files reads = record { kept = c.in_err-get.ensures.kept files reads; told = reads.told }

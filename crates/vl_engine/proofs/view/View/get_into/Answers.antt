@@ -1,10 +1,13 @@
-use Rattle.std.proofs.Common.{Result, refl, subst}
+use Rattle.std.proofs.Common.{Option, Result, refl, subst}
+use Rattle.vl_model.specs.declared.entry.Entry.{Entry}
 use Rattle.vl_model.specs.Winners.{winner}
-use Rattle.vl_version.specs.Answers.{IsAnswer, IsAstray, IsFound}
+use Rattle.vl_version.specs.Answers.{Fills, IsAnswer, IsAstray, IsFound}
 use Rattle.vl_version.specs.Faults.{Failed}
+use Rattle.vl_version.specs.Over.{LooksOver}
+use Rattle.vl_version.specs.Sources.{stored_in}
 use Rattle.vl_version.specs.declared.fault.ReadFault.{ReadFault}
 use Rattle.vl_version.specs.declared.found.Found.{Found}
-use Rattle.vl_engine.proofs.Seeing.{found_led, sees_alone_still, undamaged, unfailed}
+use Rattle.vl_engine.proofs.Seeing.{fault_met, found_led, sees_alone_still, undamaged, unfailed}
 use Rattle.vl_engine.specs.laws.ReadLaws.{none_astray}
 use Rattle.vl_engine.proofs.view.View.get_into.Goals as goal
 
@@ -43,3 +46,31 @@ pub returns-in-Err-Disk-clause-near : goal.returns-in-Err-Disk-clause-near
 returns-in-Err-Disk-clause-near g c alone failed =
     unfailed Found c.in-Err-Disk.field-0 c.in-Err-Disk.name (rw c.in-Err-Disk.is at c.in-Err-Disk.field-0-is)
     (subst (λ (r : Result Found ReadFault). Failed r → ⊥) c.in-Err-Disk.is (c.get_into-result.ensures.near alone.tables alone.near))
+
+pub returns-in-Ok-clause-looks : goal.returns-in-Ok-clause-looks
+returns-in-Ok-clause-looks g c files over = c.in-Ok.ensures.looks files over.reads over.tables over.logs
+
+pub returns-in-Ok-clause-blocks : goal.returns-in-Ok-clause-blocks
+returns-in-Ok-clause-blocks g c files reads = record { kept = c.get_into-result.ensures.kept files reads; told = reads.told }
+
+pub returns-in-Err-Disk-clause-looks : goal.returns-in-Err-Disk-clause-looks
+returns-in-Err-Disk-clause-looks g c files over =
+    let v = c.args.self.now.version in
+    fault_met (LooksOver g.H.HeldFile.bytes v c.args.key.now c.args.self.now.number
+    (λ (winner : Option Entry). Fills (stored_in g.H.HeldFile.bytes v.behind.logs.items) winner c.args.out.now c.get_into-result.new.out))
+    c.get_into-result.result c.in-Err-Disk.field-0 _ (c.get_into-result.ensures.looks files over.reads over.tables over.logs)
+    c.in-Err-Disk.is (rw c.in-Err-Disk.is at c.in-Err-Disk.field-0-is)
+
+pub returns-in-Err-Disk-clause-blocks : goal.returns-in-Err-Disk-clause-blocks
+returns-in-Err-Disk-clause-blocks g c files reads = record { kept = c.get_into-result.ensures.kept files reads; told = reads.told }
+
+pub returns-in-Err-Damaged-clause-looks : goal.returns-in-Err-Damaged-clause-looks
+returns-in-Err-Damaged-clause-looks g c files over =
+    let v = c.args.self.now.version in
+    fault_met (LooksOver g.H.HeldFile.bytes v c.args.key.now c.args.self.now.number
+    (λ (winner : Option Entry). Fills (stored_in g.H.HeldFile.bytes v.behind.logs.items) winner c.args.out.now c.get_into-result.new.out))
+    c.get_into-result.result c.in-Err-Damaged.field-0 _ (c.get_into-result.ensures.looks files over.reads over.tables over.logs)
+    c.in-Err-Damaged.is (rw c.in-Err-Damaged.is at c.in-Err-Damaged.field-0-is)
+
+pub returns-in-Err-Damaged-clause-blocks : goal.returns-in-Err-Damaged-clause-blocks
+returns-in-Err-Damaged-clause-blocks g c files reads = record { kept = c.get_into-result.ensures.kept files reads; told = reads.told }
