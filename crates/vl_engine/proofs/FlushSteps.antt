@@ -325,8 +325,11 @@ module _ {D H : Type 0} (g : Ghosts D) (watched : IsWatched g) (bytes : H → Op
           (Stepped l.next_table) (record { calls = 5; gone = [] }) refl refl (record { stands = stands; held = λ _. held_then });
       called = λ a said. calls ∙ ap (after_calls 5) writes.before.calls;
       through = λ _. goes_so;
-      again = λ _. (final b l h s held.state held.is_base tidy held.holds can, told_then,
-          now_may_open (final b l h s held.state held.is_base tidy held.holds can) told_then);
+      again = λ _. (
+        final b l h s held.state held.is_base tidy held.holds can,
+        told_then,
+        now_may_open (final b l h s held.state held.is_base tidy held.holds can) told_then,
+      );
     }
 
   -- The logs of what is held can be spelled.

@@ -108,7 +108,6 @@ module _ {H : Type 0} (bytes : H → Option (List ℕ)) where
     tables_then : tables_in after ≡ table ∷ tables_of made.next.levels
     tables_then = ap (λ (ts : List (Table H)). ts ++ all_tables after.behind.levels.deeper.items) made.newest
         ∙ ap (λ (ls : List (List (Table H))). (table ∷ made.next.levels.newest.items) ++ all_tables ls) deeper_is
-
       where
         deeper_is : after.behind.levels.deeper.items ≡ made.next.levels.deeper.items
         deeper_is = ap (λ d. d.items) made.deeper

@@ -101,8 +101,11 @@ module _ (format log : ℕ) where
   frames_some place [] have any = absurd cc
   frames_some place (f ∷ fs) have any =
       let first = frame_some place f have.0.lawful in
-      omega (arith, first,
-      length-append (logged_entries format log (place + frame_length format f) fs) (frame_entries format log place f))
+      omega (
+        arith,
+        first,
+        length-append (logged_entries format log (place + frame_length format f) fs) (frame_entries format log place f),
+      )
 
 put_some : (e : Entry) (es : List Entry) → 1 ≤ length (put e es)
 put_some e [] = omega arith

@@ -155,8 +155,7 @@ module _ (n : ℕ) (whole : List ℕ) (edits : List Edit) (taken : ℕ) where
       ap (drop (at - length whole)) (sym (drop_at whole (take taken more) (length whole) refl))
       ∙ drop-drop (at - length whole) (length whole) (whole ++ take taken more)
       ∙ ap (λ (k : ℕ). drop k (whole ++ take taken more)) split ∙ spelled in
-      let long : 1 ≤ length some = omega (arith, frame_is_some (edits_grammar manifest_format) n at item, ap length is) in
-      (
+      let long : 1 ≤ length some = omega (arith, frame_is_some (edits_grammar manifest_format) n at item, ap length is) in (
         0,
         record { place = length whole; bytes = more },
         omega arith,
@@ -263,9 +262,12 @@ module _ (b : Base) (edits : List Edit) (state : ManifestState) (before : List S
         (λ m less. nowhere_kept name mid now same (Manifest m)
         (above_kept b edits state before base.numbered has mid holds.base now same m less) (holds.base.above m less)))
         kept
-        (λ read is. (h, last_number h,
-        switching_shows b edits state before base.numbered has mid holds.base h l next base tidy holds.files base_next tidy_next
-        files_next now during read (left_of read is)))
+        (λ read is. (
+          h,
+          last_number h,
+          switching_shows b edits state before base.numbered has mid holds.base h l next base tidy holds.files base_next tidy_next
+              files_next now during read (left_of read is),
+        ))
 
   -- At each moment of a switch a store may be opened on the disk, if it stops there.
   pub switching_opens_again : Holds (switched_base b edits state before) next (switched b.manifest.number fresh mid)

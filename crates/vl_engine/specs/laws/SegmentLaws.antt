@@ -33,8 +33,8 @@ other_logs n (s ∷ ss) none = by (other_logs n ss) (s.number == n) refl none
     by later true at never = absurd (let both : true ≡ false = never in cc)
     by later false at never = (
       λ e. absurd (let same : s.number ≡ n = log_same s.number n e in
-      let one : (s.number == n) ≡ true = grind (arith, nat_tests, same) in
-      let both : true ≡ false = sym one ∙ at in cc),
+          let one : (s.number == n) ≡ true = grind (arith, nat_tests, same) in
+          let both : true ≡ false = sym one ∙ at in cc),
       later never,
     )
 

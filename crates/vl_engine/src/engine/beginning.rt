@@ -8,9 +8,12 @@ ghost use Rattle.vl_layout.specs.Rulings.Begin.{begin_ruling};
 ghost use Rattle.vl_layout.specs.Rulings.View.{view_ruling};
 ghost use Rattle.vl_layout.specs.declared.layout.Layout.{Layout};
 ghost use Rattle.vl_model.specs.History.{History};
+ghost use Rattle.vl_table.specs.Kept.{Files};
+ghost use Rattle.vl_table.specs.KeptBlocks.{AreKept};
 
 use crate::{BeginFail, Engine, Txn, View};
 use vl_disk::Disk;
+use vl_manifest::ManifestState;
 use vl_table::{BlockReader, KEPT_BLOCKS};
 use vl_txn::{Reads, Writes};
 
@@ -32,6 +35,10 @@ impl<D: Disk> Engine<D> {
         ensures fresh { IfOk result IsNew }
         // Where all of the engine's version is in memory, so is its own, and no read of it asks a file.
         ensures memory { IsInMemory self.old.core.version → IfOk result (λ txn. IsInMemory txn.version) }
+
+        // Its version is the engine's, and its reader keeps no block that doesn't stand, whatever the files.
+        ensures version { IfOk result (λ txn. txn.version ≡ self.old.core.version) }
+        ensures blocks { (files : Files) → IfOk result (λ txn. AreKept files txn.reader) }
 
         // The disk isn't asked, and what steps need stays.
         ensures disk { self.new.disk ≡ self.old.disk }
@@ -67,13 +74,23 @@ impl<D: Disk> Engine<D> {
         ensures sees { (h : History) (l : Layout) → StandsFor D.Held.bytes self.old.core h l
             → IfOk result (λ view. SeesAlone D.Held.bytes view h) }
         ensures memory { IsInMemory self.old.core.version → IfOk result (λ view. IsInMemory view.version) }
+
+        // Its version is the engine's, and its reader keeps no block that doesn't stand, whatever the files.
+        ensures version { IfOk result (λ view. view.version ≡ self.old.core.version) }
+        ensures blocks { (files : Files) → IfOk result (λ view. AreKept files view.reader) }
         ensures disk { self.new.disk ≡ self.old.disk }
         ensures back { self.new.core.back ≡ self.old.core.back }
     {
         let Ok(reader) = self.disk.reader(self.alloc) else {
             return Err(BeginFail::NoMemory);
         };
-        let reader = BlockReader::new(self.alloc, reader, KEPT_BLOCKS)?;
+        // Where there are no tables there is no block to keep: the least room is enough.
+        let blocks = if has_tables(&self.core.back.state) {
+            KEPT_BLOCKS
+        } else {
+            1
+        };
+        let reader = BlockReader::new(self.alloc, reader, blocks)?;
         let version = self.core.version.share()?;
         match self.core.front.begin() {
             Ok(ticket) => Ok(View {
@@ -86,4 +103,14 @@ impl<D: Disk> Engine<D> {
             Err(why) => Err(why),
         }
     }
+}
+
+// Whether a level has a table.
+fn has_tables(state: &ManifestState) -> bool {
+    for tables in state.levels.as_slice() {
+        if !tables.as_slice().is_empty() {
+            return true;
+        }
+    }
+    false
 }

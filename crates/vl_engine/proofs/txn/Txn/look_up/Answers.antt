@@ -50,7 +50,8 @@ returns-clause-looks g c files over = c.in_ok-value.ensures.looks files over.rea
 pub returns-in_err-value-clause-looks : goal.returns-in_err-value-clause-looks
 returns-in_err-value-clause-looks g c files over =
     let v = c.args.self.now.version in
-    fault_handed (LooksOver g.H.HeldFile.bytes v c.args.key.now c.args.self.now.number (Gives (stored_in g.H.HeldFile.bytes v.behind.logs.items)))
+    fault_handed
+    (LooksOver g.H.HeldFile.bytes v c.args.key.now c.args.self.now.number (Gives (stored_in g.H.HeldFile.bytes v.behind.logs.items)))
     c.in_err-value.field-0.0 (c.in_err-value.ensures.looks files over.reads over.tables over.logs)
     c.from_residual.result c.from_residual.ensures.1
 

@@ -42,7 +42,8 @@ returns-clause-looks g c files over = c.in_ok-get.ensures.looks files over.reads
 pub returns-in_err-get-clause-looks : goal.returns-in_err-get-clause-looks
 returns-in_err-get-clause-looks g c files over =
     let v = c.args.self.now.version in
-    fault_handed (LooksOver g.H.HeldFile.bytes v c.args.key.now c.args.self.now.number (Gives (stored_in g.H.HeldFile.bytes v.behind.logs.items)))
+    fault_handed
+    (LooksOver g.H.HeldFile.bytes v c.args.key.now c.args.self.now.number (Gives (stored_in g.H.HeldFile.bytes v.behind.logs.items)))
     c.in_err-get.field-0.0 (c.in_err-get.ensures.looks files over.reads over.tables over.logs)
     c.from_residual-in_err-get.result c.from_residual-in_err-get.ensures.1
 
