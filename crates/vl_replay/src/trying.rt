@@ -1,5 +1,5 @@
 //! A script over a disk that stops, and the store that is opened on what a crash then leaves.
-ghost use Rattle.std.specs.Prelude.{◌≡◌, ◌≢◌, ◌↔◌, ℕ, List, [], None, Some, IfErr, IfOk, IsErr, IsTrue, OnOk};
+ghost use Rattle.std.specs.Prelude.{◌≡◌, ◌≢◌, ◌↔◌, ℕ, List, [], Some, IfErr, IfOk, IsErr, IsTrue, OnOk};
 ghost use Rattle.vl_disk.specs.Faults.{HasCause};
 ghost use Rattle.vl_mem.specs.CrashImage.{crash_image};
 ghost use Rattle.vl_mem.specs.MemDisk.{state_of};

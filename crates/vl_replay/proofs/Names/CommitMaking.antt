@@ -15,7 +15,7 @@ use Rattle.vl_layout.specs.AtAnswer.{Beginning}
 use Rattle.vl_layout.specs.Decides.{Answered, Decides, Effects, Otherwise, Outcome, as_before}
 use Rattle.vl_layout.specs.Ruling.{Ruling, ended, leaving, logged}
 use Rattle.vl_layout.specs.Rulings.Commit as commit
-use Rattle.vl_layout.specs.Rulings.Commit.{CommitAnswer, Transaction as ATxn, commit_checked, commit_ended, commit_frame, commit_lost, commit_ruling, commit_running, commit_unless, committed}
+use Rattle.vl_layout.specs.Rulings.Commit.{CommitAnswer, Transaction as ATxn, commit_checked, commit_ended, commit_frame, commit_lost, commit_ruling, commit_unless, committed}
 use Rattle.vl_layout.specs.Store.Commits.{history_in, with_changes}
 use Rattle.vl_layout.specs.Store.Lines as store_lines
 use Rattle.vl_layout.specs.Store.Lines.{Name}

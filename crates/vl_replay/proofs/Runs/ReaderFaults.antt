@@ -17,7 +17,6 @@ use Rattle.vl_replay.specs.Opening.{ending_unopened, why_refused}
 use Rattle.vl_replay.specs.Start.{FailsAtTables}
 use Rattle.vl_replay.specs.Steps.{EndsFor, FinishesBy}
 use Rattle.vl_replay.specs.declared.ending.Ending.{Ending}
-use Rattle.vl_replay.specs.declared.ending.Ending.TheVariants.{DiskFault}
 use Rattle.vl_replay.specs.declared.fails.Refusal.{Refusal}
 use Rattle.vl_replay.proofs.Runs.OpenedRuns.{counts_disk}
 use Rattle.vl_replay.proofs.Runs.Refusals.{fault_for, fault_of, no_fault}

@@ -1,5 +1,5 @@
 -- The two openings of a trial: that of the empty disk that stops, and that of what a crash leaves.
-use Rattle.std.proofs.Common.{◌≡◌, ⊎_elim, ℕ, ◌-◌, ◌^◌, ◌≤◌, List, [], length, Some, None, Result, Ok, Err, refl, sym, ◌∙◌, ap, subst, arith}
+use Rattle.std.proofs.Common.{◌≡◌, ⊎_elim, ℕ, ◌-◌, ◌^◌, ◌≤◌, List, [], length, Some, Result, Ok, Err, refl, sym, ◌∙◌, ap, subst, arith}
 use Rattle.std.specs.Prelude.{IfOk, IfErr}
 use Rattle.std.specs.FinMap.{empty, get-empty}
 use Rattle.vl_replay.specs.Text.{reopened_text}
@@ -18,8 +18,7 @@ use Rattle.vl_mem.specs.MemDisk.{changes_of, faults_of, reads_of, state_of, told
 use Rattle.vl_mem.specs.contracts.mem_disk.MemDiskWatched.TheImpl as memory
 use Rattle.vl_mem.specs.declared.mem_disk.MemDisk.{MemDisk}
 use Rattle.vl_model.specs.History.{History, contents_at}
-use Rattle.vl_model.specs.laws.HistoryLaws.{contents_at-standing_at}
-use Rattle.vl_recover.specs.opening.Answers.{AnswersBy, Finds, calls_to_open}
+use Rattle.vl_recover.specs.opening.Answers.{AnswersBy, Finds}
 use Rattle.vl_recover.specs.crash.Meanwhile.{IsMeanwhile}
 use Rattle.vl_recover.specs.opening.Results.{counted, recovery_by, opened_of}
 use Rattle.vl_recover.specs.opening.Answers.{opened_from}
@@ -37,7 +36,6 @@ use Rattle.vl_mem.specs.CrashImage.{crash_image}
 use Rattle.vl_model.specs.History.{last_number}
 use Rattle.vl_replay.specs.Reopens.{Reopens}
 use Rattle.vl_replay.specs.Replaying.{StandsFor, disk_of}
-use Rattle.vl_replay.specs.Sequential.{State, history_of}
 use Rattle.vl_replay.specs.Start.{OpensUpTo, StartsIn}
 use Rattle.vl_engine.specs.Opening.{IsDurable}
 use Rattle.vl_replay.specs.laws.StartLaws.{empty_stay, finds_nothing, no_commits, opens_up_to, started_durable, starts_empty}
@@ -50,7 +48,7 @@ use Rattle.vl_replay.specs.declared.ending.Ending.TheVariants.{NoMemory}
 use Rattle.vl_replay.specs.declared.fails.Refusal.{Refusal}
 use Rattle.vl_replay.specs.declared.fails.Refusal.TheVariants as refusals
 use Rattle.vl_replay.specs.declared.replayer.Replayer.{Replayer}
-use Rattle.vl_replay.proofs.Openings.NumbersLeft.{reopens_not_refused, reopens_starts}
+use Rattle.vl_replay.proofs.Openings.NumbersLeft.{reopens_not_refused}
 use Rattle.vl_replay.proofs.Trials.OpeningStopped.{opening_reopens}
 use Rattle.vl_replay.proofs.Openings.Recovering.{opened_have, opened_number}
 use Rattle.vl_replay.proofs.Runs.ReaderFaults.{disk_cause}

@@ -6,7 +6,6 @@ use Rattle.std.specs.List.{AllByRecursion}
 use Rattle.std.specs.Option.{option_map}
 use Rattle.std.proofs.Math.Seq.{take-append-add}
 use Rattle.std.proofs.lemmas.List.{length-take, map-append, take-take, take_all, take_at}
-use Rattle.vl_model.specs.Formats.{log_format}
 use Rattle.vl_disk.specs.Changes.{changed_elsewhere, changed_there}
 use Rattle.vl_disk.specs.Crash.{Image, MayLeave}
 use Rattle.vl_disk.specs.DiskState.{DiskState, File, IsLawful, appended, lengthened, synced, synced_file}
@@ -17,7 +16,6 @@ use Rattle.vl_disk.specs.declared.name.Name.{Name}
 use Rattle.vl_disk.specs.declared.name.Name.TheVariants.{Log}
 use Rattle.vl_frame.specs.laws.RunLaws.{frame_is_some, one_front}
 use Rattle.vl_frame.specs.Runs.{HasFrame, StandsNone, item_frame}
-use Rattle.vl_layout.specs.Logs.{new_segment}
 use Rattle.vl_layout.specs.Tidy.{sealed}
 use Rattle.vl_layout.specs.declared.layout.Layout.{Layout}
 use Rattle.vl_layout.specs.declared.segment.Segment.{Segment}

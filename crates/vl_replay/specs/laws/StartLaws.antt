@@ -1,6 +1,6 @@
 -- In which states runs begin: over an empty disk, and behind another run. And of which disks all of the store is durable.
 use Rattle.std.specs.Prelude.{◌≡◌, ◌≢◌, ◌<◌, ◌≤◌, ◌+◌, ◌^◌, ℕ, List, [], ◌∷◌, ◌++◌, length, map, Option, None, Some, Ok, Contains, IsSome, T, refl, true, false}
-use Rattle.std.specs.FinMap.{FinMap, empty, empty_of_len, entries, len-entries, entries-from_sorted, entries_sorted, from_sorted, get, get-empty, is_sorted, same_entries_map}
+use Rattle.std.specs.FinMap.{empty, empty_of_len, entries, len-entries, entries-from_sorted, entries_sorted, from_sorted, get, get-empty, is_sorted, same_entries_map}
 use Rattle.std.specs.List.{AllByRecursion}
 use Rattle.std.specs.Option.{option_map}
 use Rattle.std.specs.Ordering.{nat_cmp}

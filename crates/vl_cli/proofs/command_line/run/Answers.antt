@@ -1,4 +1,4 @@
-use Rattle.std.proofs.Common.{◌≡◌, ◌≢◌, ◌<◌, ◌≤◌, ⊎_elim, inl, inr, ℕ, List, Option, None, Some, refl, sym, ap, subst, ◌∙◌, arith}
+use Rattle.std.proofs.Common.{◌≡◌, ◌≢◌, ◌<◌, ◌≤◌, ⊎_elim, inl, inr, ℕ, Option, None, Some, refl, sym, ap, subst, ◌∙◌, arith}
 use Rattle.vl_mem.specs.declared.outcome.Outcome.{Outcome}
 use Rattle.vl_layout.specs.Store.Commits.{AreProper}
 use Rattle.vl_replay.specs.Trial.{EndsTrial, begun}
