@@ -11,7 +11,7 @@ use Rattle.vl_replay.specs.Runs.{outside}
 use Rattle.vl_replay.specs.Trying.{trial_of}
 use Rattle.vl_replay.specs.declared.ending.Ending.{Ending}
 use Rattle.vl_replay.specs.declared.ending.Ending.TheVariants.{BadWords}
-use Rattle.vl_cli.specs.Run.{AreNotPlain, AskFor, EndsBy, FailedToRead, StatusOfAnswers, StatusOfTrial, TellsOfInput}
+use Rattle.vl_cli.specs.Run.{AreNotPlain, AskFor, EndsBy, FailedAtTables, FailedToRead, StatusOfAnswers, StatusOfTrial, TellsOfInput}
 use Rattle.vl_cli.specs.declared.command_line.words.Command.{Command}
 use Rattle.vl_cli.specs.declared.command_line.words.Command.TheVariants.{Replay, Trial}
 
@@ -45,5 +45,6 @@ pub record ServedOver {S K D : Type 0} (s : source.Ghosts S) (k : sink.Ghosts K)
   pub no_usage_line : (command : Command) → AskFor words command → status ≢ 2
   -- status 3 comes only by a fault of the disk or of a read, and all others but 7 only without a fault of the disk
   pub disk_fault : status ≡ 3
-      → Rose (g.faults made) (g.faults left) ⊎ FailedToRead (streams s k source sink) (streams s k source' sink')
+      → Rose (g.faults made) (g.faults left)
+      ⊎ (FailedToRead (streams s k source sink) (streams s k source' sink') ⊎ FailedAtTables g k source source' made left sink sink')
   pub no_disk_fault : status ≢ 3 → status ≢ 7 → g.faults left ≡ g.faults made

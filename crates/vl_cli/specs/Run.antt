@@ -8,7 +8,7 @@ use Rattle.vl_io.specs.declared.sink.Sink as sink
 use Rattle.vl_replay.specs.Endings.{status_of}
 use Rattle.vl_replay.specs.Reading.{Streams, ReadsInput}
 use Rattle.vl_replay.specs.Runs.{Outside}
-use Rattle.vl_replay.specs.Start.{AnswersInput}
+use Rattle.vl_replay.specs.Start.{AnswersInput, FailsAtTables}
 use Rattle.vl_replay.specs.Steps.{FinishesBy, EndsWithoutOpening}
 use Rattle.vl_replay.specs.Trial.{EndsTrial, Trial}
 use Rattle.vl_replay.specs.declared.ending.Ending.{Ending}
@@ -56,6 +56,11 @@ MetDamage old new =
 -- disk's fault was put last.
 abbrev pub FailedToRead : (old new : Streams) → Type 0
 FailedToRead old new = (input : List ℕ) → old.left ≡ Some input → ReadsInput input old new ReaderFault
+
+-- A run ended at its opening since reads of tables failed, before any line was read.
+abbrev pub FailedAtTables : {S D K : Type 0} → Ghosts D → sink.Ghosts K → (source source' : S) (disk disk' : D) (sink sink' : K) → Type 0
+FailedAtTables g k source source' disk disk' sink sink' =
+    (source' ≡ source) × ((ending : Ending) × FailsAtTables g k disk disk' sink sink' ending)
 
 -- A trial has the status of its ending, and printed what such a trial prints.
 abbrev pub StatusOfTrial : Trial → (held held' left : Option (List ℕ)) → (status : ℕ) → Type 0

@@ -21,7 +21,7 @@ ghost use Rattle.vl_replay.specs.declared.fails.Refusal.{Refusal};
 ghost use Rattle.vl_replay.specs.Trial.{begun};
 ghost use Rattle.vl_replay.specs.Trying.{trial_of};
 ghost use Rattle.vl_mem.specs.declared.outcome.Outcome.{Outcome};
-ghost use Rattle.vl_cli.specs.Run.{AreNotPlain, AskFor, EndsBy, FailedToRead, MetDamage, StatusOfAnswers, StatusOfTrial, StatusWithoutOpening, TellsOfInput};
+ghost use Rattle.vl_cli.specs.Run.{AreNotPlain, AskFor, EndsBy, FailedAtTables, FailedToRead, MetDamage, StatusOfAnswers, StatusOfTrial, StatusWithoutOpening, TellsOfInput};
 ghost use Rattle.vl_cli.specs.declared.command_line.words.Command.{Command as Commands};
 
 use crate::command_line::words::{Command, command_in};
@@ -81,12 +81,14 @@ pub fn run<S: Source, K: Sink, D: Disk>(
     ensures untouched { (stop : ℕ) (outcome : Outcome) → AskFor (map string_bytes words.now) (Command.Trial stop outcome)
         → result.disk ≡ disk }
 
-    // Status 3 comes only by a fault of the disk, or where a line's read of an open store's file failed, of which the disk counts
-    // no fault. All other statuses but 7 come only without a fault of the disk. A trial never comes to 3: its stop is not reported.
+    // Status 3 comes only by a fault of the disk, or where a read of a file failed, of which the disk counts no fault: a line's read
+    // of an open store's file, or an opening's read of a table. All other statuses but 7 come only without a fault of the disk. A
+    // trial never comes to 3: its stop is not reported.
     ensures no_fault_in_trial { (stop : ℕ) (outcome : Outcome) → AskFor (map string_bytes words.now) (Command.Trial stop outcome)
         → result.status ≢ 3 }
     ensures disk_fault { result.status ≡ 3 → Rose (D.faults disk) (D.faults result.disk)
-        ⊎ FailedToRead (streams S.Source K.Sink source.old sink.old) (streams S.Source K.Sink source.new sink.new) }
+        ⊎ (FailedToRead (streams S.Source K.Sink source.old sink.old) (streams S.Source K.Sink source.new sink.new)
+        ⊎ FailedAtTables D.Watched K.Sink source.old source.new disk result.disk sink.old sink.new) }
     ensures no_disk_fault { result.status ≢ 3 → result.status ≢ 7
         → D.faults result.disk ≡ D.faults disk }
 

@@ -4,6 +4,7 @@ pub mod Ends
 pub mod Extending
 pub mod Lines
 pub mod OpenedRuns
+pub mod ReaderFaults
 pub mod ReadingOn
 pub mod Refusals
 pub mod Stepping

@@ -13,8 +13,8 @@ use Rattle.vl_replay.specs.declared.fails.Refusal.TheVariants as refusals
 use Rattle.vl_replay.specs.declared.replayer.Replayer.{Replayer}
 
 -- the disk behind an opening: in the store, or handed back. The type of a store names all that its disk has.
-abbrev pub disk_behind : {D Held Reader Writer : Type 0} {watched : _} {held : _} {cloned : _} {read : _} {write : _}
-    → Result (Replayer D Held Reader Writer watched held cloned read write) (OpenFail D) → D
+abbrev pub disk_behind : {D Held Reader Writer R : Type 0} {watched : _} {held : _} {cloned : _} {read : _} {write : _}
+    → Result (Replayer D Held Reader Writer watched held cloned read write) (OpenFail D R) → D
 disk_behind (Ok replayer) = replayer.engine.disk
 disk_behind (Err fail) = fail.disk
 

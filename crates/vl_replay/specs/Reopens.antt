@@ -1,11 +1,11 @@
 -- What the image of a crash opens as, behind a stop.
-use Rattle.std.specs.Prelude.{◌≡◌, ◌≢◌, ◌≤◌, ℕ, Bool, true, false, List, None}
+use Rattle.std.specs.Prelude.{◌≡◌, ◌≢◌, ◌≤◌, ℕ, Bool, true, false, List, [], None}
 use Rattle.std.specs.FinMap.{get}
 use Rattle.vl_disk.specs.Crash.{Image}
 use Rattle.vl_disk.specs.DiskState.{DiskState}
 use Rattle.vl_disk.specs.Name.{file_number}
 use Rattle.vl_disk.specs.declared.name.Name.{Name}
-use Rattle.vl_engine.specs.Shown.{Shown}
+use Rattle.vl_engine.specs.Shown.{Shown, tables_among}
 use Rattle.vl_mem.specs.declared.outcome.Outcome.{Outcome}
 use Rattle.vl_mem.specs.declared.outcome.Outcome.TheVariants.{Lost, Kept, Halved}
 use Rattle.vl_model.specs.History.{History}
@@ -32,12 +32,13 @@ commits_of (sync_failed commits second is) = commits
 abbrev pub NamesUpTo : ℕ → Image → Type 0
 NamesUpTo greatest image = (name : Name) → get image name ≢ None → file_number name ≤ greatest
 
--- The image opens showing the history at this number.
+-- The image opens showing the history at this number, without tables.
 pub record Reopens (image : Image) (h : History) (m : ℕ) : Type 0 where
   pub shown : Shown image h m
+  pub untabled : tables_among shown.levels ≡ []
   -- a number is left for each file that an opening makes
   pub found : Finds image
   pub unused : used_up found ≡ None
   -- and these are the files that it removes
   pub strays : List Name
-  pub are_strays : AreStrayNames image found.opening.state.head strays
+  pub are_strays : AreStrayNames image found.opening strays

@@ -1,9 +1,16 @@
 -- What the loop sees of a replayer: for which state it stands, its disk, and whether it takes lines.
-use Rattle.std.specs.Prelude.{◌≡◌, ℕ, List, Option, None, Result, IfOk, IfErr}
+use Rattle.std.specs.Prelude.{◌≡◌, ℕ, List, [], Option, None, Result, IfOk, IfErr}
+use Rattle.vl_back.specs.declared.back.Back.{Back}
 use Rattle.vl_disk.specs.Faults.{after_calls}
 use Rattle.vl_engine.specs.Represents as engine
 use Rattle.vl_engine.specs.declared.kept.Core.{Core}
+use Rattle.vl_layout.specs.Sources.{tables}
+use Rattle.vl_layout.specs.Start.{newest_first}
 use Rattle.vl_layout.specs.Store.Things.{Step}
+use Rattle.vl_layout.specs.declared.layout.Layout.{Layout}
+use Rattle.vl_manifest.specs.declared.manifest_log.ManifestLog.{ManifestLog}
+use Rattle.vl_manifest.specs.declared.state.ManifestState.{ManifestState}
+use Rattle.vl_recover.specs.opening.HeldFiles.{AreWaiting}
 use Rattle.vl_replay.specs.Sequential.{IsTold, State, history_of}
 use Rattle.vl_replay.specs.Standing.{Stand}
 use Rattle.vl_replay.specs.declared.fails.Halt.{Halt}
@@ -13,16 +20,24 @@ use Rattle.vl_script.specs.declared.answer.Answer.{Answer}
 use Rattle.vl_replay.specs.declared.replayer.Replayer.{Replayer}
 use Rattle.vl_replay.specs.laws.Laws.{IsSound}
 
+-- What steps on files need: the manifest that is appended to, what it says, the next log's number, and the logs that wait for
+-- their flush.
+pub record IsBackOf (back : Back) (file : ManifestLog) (manifest : ManifestState) (l : Layout) : Type 0 where
+  pub file_is : back.manifest ≡ file
+  pub state : back.state ≡ manifest
+  pub next_log : back.next_log ≡ l.next_log
+  pub waiting : AreWaiting l.covered back.waiting.items (newest_first l.frozen)
+
 -- The engine stands for the state's layout and history, and its names for what they stand for there.
 pub record StandsIn {H R : Type 0} (bytes : H → Option (List ℕ)) (core : Core H) (opens : List (Open H R)) (s : State)
     : Type 0 where
   pub engine : engine.StandsFor bytes core (history_of s) s.store.layout
   pub names : Stand bytes opens s.store.things (history_of s) s.store.layout
   pub sound : IsSound s
-  -- it isn't halted, and its manifest says what the state's says
+  -- it has no tables and isn't halted, and what steps on files need is the state's
+  pub untabled : tables s.store.layout ≡ []
   pub running : s.store.layout.halted ≡ None
-  pub manifest : core.back.state ≡ s.manifest
-  pub next_log : core.back.next_log ≡ s.store.layout.next_log
+  pub back : IsBackOf core.back s.manifest_file s.manifest s.store.layout
 
 -- The type of a replayer names all that its disk has.
 abbrev pub disk_of : {D Held Reader Writer : Type 0} {watched : _} {held : _} {cloned : _} {read : _} {write : _}

@@ -8,6 +8,7 @@ use Rattle.vl_layout.specs.Store.Lines as store
 use Rattle.vl_layout.specs.Store.Reading.{rows_told}
 use Rattle.vl_layout.specs.Store.Things as things
 use Rattle.vl_layout.specs.Store.Things.{Step}
+use Rattle.vl_manifest.specs.declared.manifest_log.ManifestLog.{ManifestLog}
 use Rattle.vl_manifest.specs.declared.state.ManifestState.{ManifestState}
 use Rattle.vl_model.specs.History.{History}
 use Rattle.vl_model.specs.Keys.{Row, untagged}
@@ -17,10 +18,12 @@ use Rattle.vl_script.specs.declared.line.Line.TheVariants as lines
 use Rattle.vl_script.specs.declared.answer.Answer.{Answer}
 use Rattle.vl_script.specs.declared.answer.Answer.TheVariants as answers
 
--- the store, what its manifest says, how many changing calls the disk was asked for, and a number that none of its files passes
+-- the store, what its manifest says, the manifest's number and length, how many changing calls the disk was asked for, and a
+-- number that none of its files passes
 pub record State : Type 0 where
   pub store : things.State
   pub manifest : ManifestState
+  pub manifest_file : ManifestLog
   pub calls : ℕ
   pub files : ℕ
 

@@ -3,6 +3,7 @@ use Rattle.std.specs.Prelude.{◌≡◌, ◌+◌, ℕ, Bool, true, false, Result
 use Rattle.std.specs.Option.{option_map}
 use Rattle.std.specs.Bool.{⊤}
 use Rattle.std.specs.Ordering.{eq_by_cmp}
+use Rattle.vl_engine.specs.Reading.{IsInMemory}
 use Rattle.vl_engine.specs.Represents.{IsLive}
 use Rattle.vl_engine.specs.declared.txn.Txn.{Txn}
 use Rattle.vl_engine.specs.Sees.{Sees, SeesAlone, asked, asked_view}
@@ -42,20 +43,21 @@ ticket_of (AView v b) = v.ticket
 ticket_of (AJob job made) = 0
 ticket_of (APass pass batch) = 0
 
--- A transaction is the one of the store: it made the same reads and writes, which it sees; and it is live. So it is with a
--- view.
+-- A transaction is the one of the store: it made the same reads and writes, which it sees; it is live, and reads no file. So it is
+-- with a view.
 pub record IsTransaction {H R : Type 0} (bytes : H → Option (List ℕ)) (txn : Txn H R) (t : ATxn) (h : History) (l : Layout)
     : Type 0 where
   pub same : asked txn t.reads ≡ t
   pub sees : Sees bytes txn h t.reads
   pub live : IsLive l txn.ticket txn.number
+  pub near : IsInMemory txn.version
 
 -- nothing, on both sides, or the same
 abbrev pub Corresponds : {H R : Type 0} → (H → Option (List ℕ)) → History → Layout → Option (Thing H R) → Option store.Thing → Type 0
 Corresponds bytes h l None None = Unit {0}
 Corresponds bytes h l (Some (Transaction txn)) (Some (ATransaction t b)) = IsTransaction bytes txn t h l
 Corresponds bytes h l (Some (View view)) (Some (AView v b)) =
-    (asked_view view ≡ v) × SeesAlone bytes view h × IsLive l view.ticket view.number
+    (asked_view view ≡ v) × SeesAlone bytes view h × IsLive l view.ticket view.number × IsInMemory view.version
 Corresponds bytes h l x y = ⊥
 
 -- no name is there twice

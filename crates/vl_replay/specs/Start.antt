@@ -1,5 +1,5 @@
 -- The state in which a run begins: that of the store that its disk opens as.
-use Rattle.std.specs.Prelude.{◌≡◌, ◌≤◌, ◌+◌, ℕ, List, [], length, None, Some}
+use Rattle.std.specs.Prelude.{◌≡◌, ◌≤◌, ◌+◌, ℕ, List, [], ◌∷◌, length, None, Some}
 use Rattle.std.specs.List.{AllByRecursion}
 use Rattle.std.proofs.Common.{subst, sym}
 use Rattle.vl_disk.specs.Crash.{Image}
@@ -8,16 +8,22 @@ use Rattle.vl_disk.specs.Faults.{after_calls}
 use Rattle.vl_disk.specs.Started.{IsRead}
 use Rattle.vl_disk.specs.declared.name.Name.{Name as FileName}
 use Rattle.vl_disk.specs.declared.watched.Watched.{Ghosts}
+use Rattle.vl_io.specs.declared.sink.Sink as sink
 use Rattle.vl_engine.specs.Opening.{IsDurable, recovered, state_then}
 use Rattle.vl_engine.specs.Shown.{Shown}
+use Rattle.vl_layout.specs.Sources.{tables}
 use Rattle.vl_layout.specs.Start.{layout_at_start}
 use Rattle.vl_layout.specs.Store.Commits.{AreProper}
 use Rattle.vl_layout.specs.Store.Lines.{Name}
 use Rattle.vl_layout.specs.Store.Proper.{AreNamedOnce, HasRisingWrites, IsProper}
 use Rattle.vl_layout.specs.Store.Things.{Thing}
+use Rattle.vl_manifest.specs.Manifest.{manifest_bytes}
+use Rattle.vl_manifest.specs.States.{whole_edits}
+use Rattle.vl_manifest.specs.declared.manifest_log.ManifestLog.{ManifestLog}
 use Rattle.vl_model.specs.History.{last_number}
 use Rattle.vl_model.specs.Limits.{max_room}
 use Rattle.vl_recover.specs.opening.Answers.{AreStrayNames, Finds, calls_to_open, used_up}
+use Rattle.vl_recover.specs.opening.Opening.{NamesNoTable}
 use Rattle.vl_recover.specs.opening.Plans.{active_log, new_state}
 use Rattle.vl_recover.specs.crash.Starts.{MayOpen}
 use Rattle.vl_replay.specs.Durable.{DiskEnds, IsAsBefore, Tells}
@@ -27,8 +33,10 @@ use Rattle.vl_replay.specs.laws.Laws.{StaysExplained, exchanges_from-explained}
 use Rattle.vl_replay.specs.Runs.{Course, EndsRun, Outside, script_of}
 use Rattle.vl_replay.specs.Sequential.{State, history_of}
 use Rattle.vl_replay.specs.Stopped.{AreNumberedUpTo, GivesUpTo}
+use Rattle.vl_replay.specs.Steps.{FinishesBy}
 use Rattle.vl_replay.specs.Stored.{IsStopped, IsStored}
 use Rattle.vl_replay.specs.declared.ending.Ending.{Ending}
+use Rattle.vl_replay.specs.declared.ending.Ending.TheVariants.{DiskFault}
 
 -- An opening of a disk on which this is found makes a store of which no file passes this number.
 pub record OpensUpTo {read : Image} (files : ℕ) (disk : DiskState) (found : Finds read) : Type 0 where
@@ -39,6 +47,13 @@ pub record OpensUpTo {read : Image} (files : ℕ) (disk : DiskState) (found : Fi
   pub log : active_log found.greatest found.opening.state found.logs ≤ files
   -- and that manifest gives at most the next one
   pub next : GivesUpTo files (new_state found.greatest found.opening.state)
+
+-- the manifest that is made then: its number, and its length with the frame that says all
+abbrev pub file_then : {read : Image} → Finds read → ManifestLog
+file_then found = record {
+  number = found.greatest.manifest + 1;
+  length = length (manifest_bytes (found.greatest.manifest + 1) (whole_edits (state_then found) ∷ []));
+}
 
 -- A run over this disk begins in this state: the disk opens as a store, whose logs show the state's history, which has
 -- no commits yet but those of the logs.
@@ -53,14 +68,16 @@ pub record StartsIn {D : Type 0} (g : Ghosts D) (disk : D) (s : State) : Type 0 
   -- they show the history, which is gone on with from its last number,
   pub shown : Shown read (history_of s) (last_number (history_of s))
   pub proper : AreProper s.store.commits
-  -- over the layout with which an engine begins
-  pub layout : s.store.layout ≡ layout_at_start max_room (recovered found)
+  -- over the layout with which an engine begins, which has no tables
+  pub layout : s.store.layout ≡ layout_at_start max_room (recovered found shown)
+  pub untabled : tables s.store.layout ≡ []
   pub manifest : s.manifest ≡ state_then found
+  pub manifest_file : s.manifest_file ≡ file_then found
   -- no name stands for anything yet
   pub things : s.store.things ≡ []
   -- opening asks for so many changing calls
   pub strays : List FileName
-  pub are_strays : AreStrayNames read found.opening.state.head strays
+  pub are_strays : AreStrayNames read found.opening strays
   pub calls : s.calls ≡ after_calls (calls_to_open found (length strays)) (g.calls disk)
   -- and `files` is a number, any such one, that no file of the store passes
   pub files : OpensUpTo s.files state found
@@ -83,6 +100,15 @@ abbrev pub AnswersInput : {D : Type 0} → Ghosts D → (old new : Outside D) �
 AnswersInput g old new ending = (start : State) (input : List ℕ)
     → StartsIn g old.disk start → old.left ≡ Some input
     → EndsRun g (DiskEndsFromStart g old.disk new.disk) (script_of start 0 input) old new ending
+
+-- A run ended at its opening since a read of a table failed, of which the disk counts no fault.
+pub record FailsAtTables {D K : Type 0} (g : Ghosts D) (k : sink.Ghosts K) (old new : D) (sink sink' : K) (ending : Ending)
+    : Type 0 where
+  -- its current manifest names tables, where the disk tells its bytes
+  pub tables : (state : DiskState) (read : Image) → g.told old ≡ Some state → IsRead read state → NamesNoTable read → ⊥
+  pub steady : g.faults new ≡ g.faults old
+  -- the line of a disk's fault was put, or the sink failed there
+  pub printed : FinishesBy k sink sink' DiskFault ending
 
 -- ---- what is read in such a run is explained
 

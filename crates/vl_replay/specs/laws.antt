@@ -3,3 +3,4 @@ pub mod Explained
 pub mod Growing
 pub mod Laws
 pub mod StartLaws
+pub mod Untabled

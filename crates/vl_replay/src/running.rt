@@ -1,5 +1,5 @@
 //! Whole runs of a script.
-ghost use Rattle.std.specs.Prelude.{◌≡◌, ◌≢◌, ◌+◌, ◌<◌, ◌++◌, ℕ, List, Some, None, length};
+ghost use Rattle.std.specs.Prelude.{◌≡◌, ◌≢◌, ◌⊎◌, ◌+◌, ◌<◌, ℕ, List, Some, None, length};
 ghost use Rattle.vl_disk.specs.Crash.{Image};
 ghost use Rattle.vl_disk.specs.DiskState.{DiskState};
 ghost use Rattle.vl_disk.specs.Started.{IsRead};
@@ -13,7 +13,7 @@ ghost use Rattle.vl_replay.specs.Runs.{Script, script_of, outside, EndsRun};
 ghost use Rattle.vl_replay.specs.Durable.{HoldsState, DiskEndsFrom};
 ghost use Rattle.vl_replay.specs.Stored.{IsStopped, IsStored};
 ghost use Rattle.vl_engine.specs.Shown.{Shown};
-ghost use Rattle.vl_replay.specs.Start.{AnswersInput, StartsIn, StaysOpenable};
+ghost use Rattle.vl_replay.specs.Start.{AnswersInput, FailsAtTables, StartsIn, StaysOpenable};
 ghost use Rattle.vl_replay.specs.Opening.{IsRefused};
 ghost use Rattle.vl_replay.specs.declared.fails.Refusal.{Refusal};
 ghost use Rattle.vl_replay.specs.Reading.{AnswersText, HasRead, ReadsInput, ReadsOn, Streams, streams};
@@ -136,7 +136,9 @@ pub fn replay<S: Source, K: Sink, D: Disk>(
         (outside S.Source K.Sink source.new sink.new result.disk) result.ending }
     ensures source_faults { CountsFaultsOf TheSource (Some result.ending) (S.faults source.old) (S.faults source.new) }
     ensures sink_faults { CountsFaultsOf TheSink (Some result.ending) (K.faults sink.old) (K.faults sink.new) }
-    ensures disk_faults { CountsFaultsOf TheDisk (Some result.ending) (D.faults disk) (D.faults result.disk) }
+    // Of a fault the disk tells, but where the opening's read of a table failed.
+    ensures disk_faults { CountsFaultsOf TheDisk (Some result.ending) (D.faults disk) (D.faults result.disk)
+        ⊎ (FailsAtTables D.Watched K.Sink disk result.disk sink.old sink.new result.ending × (source.new ≡ source.old)) }
     ensures not_the_words { result.ending ≢ Ending.BadWords }
     // It says how it ended.
     ensures reported { result.ending ≢ Ending.Stopped }
@@ -162,7 +164,7 @@ pub fn replay<S: Source, K: Sink, D: Disk>(
 {
     match Replayer::new(alloc, disk) {
         Ok(replayer) => answer_lines(alloc, source, sink, replayer, OnFault::Report),
-        Err(OpenFail { why, disk }) => {
+        Err(OpenFail { why, disk, .. }) => {
             let ending = end_unopened(alloc, sink, why);
             Ended { ending, disk }
         }

@@ -1,5 +1,5 @@
 //! A script over a disk that stops, and the store that is opened on what a crash then leaves.
-ghost use Rattle.std.specs.Prelude.{◌≡◌, ◌≢◌, ◌↔◌, ℕ, List, [], None, Some, IfErr, IfOk, IsErr, IsTrue, OnOk};
+ghost use Rattle.std.specs.Prelude.{◌≡◌, ◌≢◌, ◌↔◌, ℕ, List, [], Some, IfErr, IfOk, IsErr, IsTrue, OnOk};
 ghost use Rattle.vl_disk.specs.Faults.{HasCause};
 ghost use Rattle.vl_mem.specs.CrashImage.{crash_image};
 ghost use Rattle.vl_mem.specs.MemDisk.{state_of};
@@ -19,7 +19,7 @@ use crate::running::answer_lines;
 use std::alloc::Global;
 use vl_disk::Failed;
 use vl_io::{Sink, Source};
-use vl_mem::{MemDisk, Outcome};
+use vl_mem::{MemDisk, MemReader, Outcome};
 use vl_model::MAX_ROOM;
 use vl_recover::{OpenError, OpenFail, recover};
 
@@ -80,7 +80,7 @@ fn run_to_stop<S: Source, K: Sink>(
 {
     match begin(alloc, stop) {
         Ok(replayer) => answer_lines(alloc, source, sink, replayer, OnFault::Stop),
-        Err(OpenFail { why, disk }) => {
+        Err(OpenFail { why, disk, .. }) => {
             if is_fault(&why) {
                 return Ended {
                     ending: Ending::Stopped,
@@ -101,7 +101,7 @@ fn is_fault(why: &OpenError) -> bool
 }
 
 // Opens a store on an empty disk that stops behind so many changing calls.
-fn begin(alloc: Global, stop: u32) -> Result<Replayer<MemDisk>, OpenFail<MemDisk>>
+fn begin(alloc: Global, stop: u32) -> Result<Replayer<MemDisk>, OpenFail<MemDisk, MemReader>>
     ensures opened { IfOk result (λ replayer. IsOnTrial stop (StandsFor all_told replayer) (disk_of replayer)) }
     ensures goes_on { IfOk result TakesLines }
     ensures stopped { IfErr result (λ fail. StopsOpening stop fail.why fail.disk) }
@@ -163,6 +163,12 @@ fn reopen<K: Sink>(alloc: Global, sink: &mut K, disk: MemDisk, outcome: Outcome)
             Ok(text) => finish(sink, &text, Ending::Complete),
             Err(_) => finish(sink, NO_MEMORY, Ending::NoMemory),
         },
-        Err(OpenFail { why, .. }) => end_unopened(alloc, sink, why),
+        Err(OpenFail { why, .. }) => {
+            // No call of this disk is to fail, so what couldn't be read found no memory.
+            if is_fault(&why) {
+                return finish(sink, NO_MEMORY, Ending::NoMemory);
+            }
+            end_unopened(alloc, sink, why)
+        }
     }
 }

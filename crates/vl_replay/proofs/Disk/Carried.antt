@@ -5,8 +5,10 @@ use Rattle.vl_disk.specs.DiskState.{DiskState}
 use Rattle.vl_disk.specs.Faults.{after_calls}
 use Rattle.vl_disk.specs.declared.watched.Watched.{Ghosts}
 use Rattle.vl_engine.specs.Held.{Base, Holds, IsBase}
-use Rattle.vl_engine.specs.Shown.{Shown, no_logs}
+use Rattle.vl_engine.specs.Pointed.{layout_logs}
+use Rattle.vl_engine.specs.Shown.{Shown}
 use Rattle.vl_engine.specs.declared.kept.Core.{Core}
+use Rattle.vl_layout.specs.Sources.{tables}
 use Rattle.vl_layout.specs.Store.Commits.{Commits, history_in}
 use Rattle.vl_layout.specs.Store.Things.{Step}
 use Rattle.vl_layout.specs.Tidy.{IsTidy}
@@ -16,7 +18,7 @@ use Rattle.vl_model.specs.History.{History}
 use Rattle.vl_replay.specs.Durable.{CarriesOut, HoldsState, LeadsTo}
 use Rattle.vl_replay.specs.Replaying.{MakesStep, OnlyNoMemory, state_by}
 use Rattle.vl_replay.specs.Sequential.{State, history_of}
-use Rattle.vl_replay.specs.Stored.{IsStopped, IsStored, base_of}
+use Rattle.vl_replay.specs.Stored.{IsStopped, IsStored}
 use Rattle.vl_replay.specs.declared.fails.Halt.{Halt}
 use Rattle.vl_replay.specs.declared.replayer.open.Open.{Open}
 use Rattle.vl_replay.specs.laws.Growing.{Keeps}
@@ -29,29 +31,42 @@ use Rattle.vl_replay.proofs.Disk.Shown.{shown_stays, stored_exactly}
 -- what lives is held by no disk
 live_base : (b : Base) (l : Layout) (live : List Live) (h : History) → IsBase b l h → IsBase b (record l { live = live }) h
 live_base b l live h is = record {
+  numbered = is.numbered;
+  made = is.made;
   goes = is.goes;
+  levels = is.levels;
   frozen = is.frozen;
-  bare = is.bare;
+  led = is.led;
   keep = is.keep;
   since = is.since;
+  gone = is.gone;
   covered = is.covered;
   format = is.format;
 }
 
 live_holds : (b : Base) (l : Layout) (live : List Live) (disk : DiskState) → Holds b l disk → Holds b (record l { live = live }) disk
-live_holds b l live disk held = record { store = held.store; lawful = held.lawful }
+live_holds b l live disk held = record {
+  base = held.base;
+  files = record { logs = held.files.logs; tables = held.files.tables; flushed = held.files.flushed };
+  durable = held.durable;
+  lawful = held.lawful;
+}
 
 -- the same disk holds the state behind the line
-pub stored_on : (s : State) (x : Step) → Keeps s.store x → IsTidy no_logs x.state.layout (history_in x.state.commits) → (disk : DiskState)
+pub stored_on : (s : State) (x : Step) → Keeps s.store x
+    → IsTidy (layout_logs x.state.layout) x.state.layout (history_in x.state.commits) → (disk : DiskState)
     → IsStored s disk → IsStored (state_by s x) disk
 stored_on s x keeps tidy disk stored = record {
-  before = stored.before;
-  is_base = subst (λ (p : Commits). IsBase (base_of s stored.before) x.state.layout (history_in p)) (sym keeps.commits)
-      (subst (λ (m : Layout). IsBase (base_of s stored.before) m (history_of s)) (sym keeps.layout)
-      (live_base (base_of s stored.before) s.store.layout x.state.layout.live (history_of s) stored.is_base));
-  holds = subst (λ (m : Layout). Holds (base_of s stored.before) m disk) (sym keeps.layout)
-      (live_holds (base_of s stored.before) s.store.layout x.state.layout.live disk stored.holds);
+  base = stored.base;
+  manifest = stored.manifest;
+  manifest_file = stored.manifest_file;
+  is_base = subst (λ (p : Commits). IsBase stored.base x.state.layout (history_in p)) (sym keeps.commits)
+      (subst (λ (m : Layout). IsBase stored.base m (history_of s)) (sym keeps.layout)
+      (live_base stored.base s.store.layout x.state.layout.live (history_of s) stored.is_base));
+  holds = subst (λ (m : Layout). Holds stored.base m disk) (sym keeps.layout)
+      (live_holds stored.base s.store.layout x.state.layout.live disk stored.holds);
   tidy = tidy;
+  untabled = ap tables keeps.layout ∙ stored.untabled;
   next_table = stored.next_table ∙ sym (ap (λ (m : Layout). m.next_table) keeps.layout);
   numbered = stored.numbered;
   next = stored.next;
@@ -59,7 +74,7 @@ stored_on s x keeps tidy disk stored = record {
 
 -- what is tidy in memory is tidy
 its_tidy : {H R : Type 0} (bytes : H → Option (List ℕ)) (core : Core H) (os : List (Open H R)) (s : State) (x : Step) (result : Result Answer Halt)
-    → MakesStep bytes core os s x result → OnOk result (IsTidy no_logs x.state.layout (history_in x.state.commits))
+    → MakesStep bytes core os s x result → OnOk result (IsTidy (layout_logs x.state.layout) x.state.layout (history_in x.state.commits))
 its_tidy bytes core os s x (Ok answer) makes = makes.1.engine.tidy
 its_tidy bytes core os s x (Err halt) makes = tt
 
@@ -73,8 +88,8 @@ module _ {D H R : Type 0} (g : Ghosts D) (watched : IsWatched g) (bytes : H → 
   quiet_leads disk held =
       let (state, told, stored) = held.there in
       record {
-        answered = on_ok (IsTidy no_logs x.state.layout (history_in x.state.commits)) (HoldsState g IsStored (state_by s x) disk) result
-            (λ (tidy : IsTidy no_logs x.state.layout (history_in x.state.commits)). record {
+        answered = on_ok (IsTidy (layout_logs x.state.layout) x.state.layout (history_in x.state.commits)) (HoldsState g IsStored (state_by s x) disk) result
+            (λ (tidy : IsTidy (layout_logs x.state.layout) x.state.layout (history_in x.state.commits)). record {
               calls = held.calls ∙ sym (ap (λ (n : ℕ). after_calls n s.calls) keeps.calls);
               there = (state, told, stored_on s x keeps tidy state stored);
             })

@@ -1,5 +1,5 @@
 -- What a commit does to a disk that holds the state before it, by what the engine carried out.
-use Rattle.std.proofs.Common.{◌≡◌, ℕ, ◌+◌, List, length, refl, ap, sym, ◌∙◌, subst, arith}
+use Rattle.std.proofs.Common.{◌≡◌, ℕ, ◌+◌, List, [], length, refl, ap, sym, ◌∙◌, subst, arith}
 use Rattle.std.specs.Prelude.{Option, None, Some, Ok, Err, Result, OnOk, IsErrAnd, IsTrue, T}
 use Rattle.std.specs.FinMap.{entries, entries_sorted, is_sorted}
 use Rattle.std.specs.Option.{option_map}
@@ -12,9 +12,10 @@ use Rattle.vl_engine.specs.Carries.{Carries, SameFiles}
 use Rattle.vl_engine.specs.Held.{Base, Holds, IsBase}
 use Rattle.vl_engine.specs.Represents as engine
 use Rattle.vl_engine.specs.Sees.{asked}
-use Rattle.vl_engine.specs.Shown.{Shown, no_logs}
+use Rattle.vl_engine.specs.Pointed.{layout_logs}
+use Rattle.vl_engine.specs.Shown.{Shown}
 use Rattle.vl_engine.specs.Writing.{StopsWriting, at_append, at_sync, written}
-use Rattle.vl_engine.specs.declared.kept.Back.{Back}
+use Rattle.vl_back.specs.declared.back.Back.{Back}
 use Rattle.vl_engine.specs.declared.kept.Core.{Core}
 use Rattle.vl_engine.specs.declared.txn.Txn.{Txn}
 use Rattle.vl_engine.specs.laws.CommitLaws.{commit_base, commit_holds}
@@ -24,6 +25,7 @@ use Rattle.vl_layout.specs.Decides.{Answered, Effects, NoMemory as OutOfMemory, 
 use Rattle.vl_layout.specs.Ruling.{Ruling}
 use Rattle.vl_layout.specs.Rulings.Commit as commit
 use Rattle.vl_layout.specs.Rulings.Commit.{CommitAnswer, Transaction as ATxn, commit_frame, commit_lost, commit_ruling, commit_unless, committed}
+use Rattle.vl_layout.specs.Sources.{tables}
 use Rattle.vl_layout.specs.Store.Commits.{history_in}
 use Rattle.vl_layout.specs.Store.Lines.{Done, Name}
 use Rattle.vl_layout.specs.Store.Reading.{commit_by, committed_by}
@@ -47,7 +49,7 @@ use Rattle.vl_replay.specs.Replaying.{StandsIn, state_by}
 use Rattle.vl_replay.specs.Sequential.{State, history_of}
 use Rattle.vl_replay.specs.Standing.{IsTransaction}
 use Rattle.vl_replay.specs.Stopped.{AreNumberedUpTo, Commits, GivesUpTo, append_failed, frame_behind, log_of, sync_failed}
-use Rattle.vl_replay.specs.Stored.{IsStopped, IsStored, base_of}
+use Rattle.vl_replay.specs.Stored.{IsStopped, IsStored}
 use Rattle.vl_replay.specs.declared.fails.Halt.{Halt}
 use Rattle.vl_replay.specs.declared.fails.Halt.TheVariants as why
 use Rattle.vl_replay.specs.declared.replayer.open.Open.{Open}
@@ -105,6 +107,14 @@ module _ (s : State) (name : Name) (t : ATxn) (b : Beginning) where
   by_halted (commit.Conflict key n) = refl
   by_halted (commit.Full long frame) = refl
 
+  by_tables : (a : CommitAnswer) → tables (ruling_of l h t a).layout ≡ tables l
+  by_tables (commit.At n) = refl
+  by_tables commit.Nothing = refl
+  by_tables (commit.Halted file) = refl
+  by_tables (commit.Exhausted c) = refl
+  by_tables (commit.Conflict key n) = refl
+  by_tables (commit.Full long frame) = refl
+
 -- one that changes nothing keeps all
 pub only_keeps : (s : store.State) (x : Step) (answer : store_lines.Answer) → x ≡ only answer s → Keeps s x
 only_keeps s x answer is = subst (Keeps s) (sym is) (record { commits = refl; layout = refl; calls = refl })
@@ -122,26 +132,24 @@ carries_short g old new s after (Err halt) out carries =
 
 -- a disk that holds a base of this layout holds the state behind the step
 pub stored_as : (s : State) (x : Step) (now : DiskState) (base : Base) (k : History) (m : Layout) → base.state ≡ s.manifest
-    → x.state.layout ≡ m → history_in x.state.commits ≡ k → IsBase base m k → Holds base m now → IsTidy no_logs m k
-    → base.state.next_table ≡ m.next_table → AreNumberedUpTo s.files now → GivesUpTo s.files s.manifest
-    → IsStored (state_by s x) now
-stored_as s x now base k m manifest layout history is holds tidy next_table numbered next = record {
-  before = base.before;
-  is_base = subst (λ (p : Layout). IsBase its p (history_in x.state.commits)) (sym layout)
-      (subst (λ (q : History). IsBase its m q) (sym history)
-      (subst (λ (f : ManifestState). IsBase (record { state = f; before = base.before }) m k) manifest is));
-  holds = subst (λ (p : Layout). Holds its p now) (sym layout)
-      (subst (λ (f : ManifestState). Holds (record { state = f; before = base.before }) m now) manifest holds);
-  tidy = subst (λ (p : Layout). IsTidy no_logs p (history_in x.state.commits)) (sym layout)
-      (subst (λ (q : History). IsTidy no_logs m q) (sym history) tidy);
+    → base.manifest ≡ s.manifest_file → x.state.layout ≡ m → history_in x.state.commits ≡ k → IsBase base m k → Holds base m now
+    → IsTidy (layout_logs m) m k → tables m ≡ [] → base.state.next_table ≡ m.next_table → AreNumberedUpTo s.files now
+    → GivesUpTo s.files s.manifest → IsStored (state_by s x) now
+stored_as s x now base k m manifest file layout history is holds tidy untabled next_table numbered next = record {
+  base = base;
+  manifest = manifest;
+  manifest_file = file;
+  is_base = subst (λ (p : Layout). IsBase base p (history_in x.state.commits)) (sym layout)
+      (subst (λ (q : History). IsBase base m q) (sym history) is);
+  holds = subst (λ (p : Layout). Holds base p now) (sym layout) holds;
+  tidy = subst (λ (p : Layout). IsTidy (layout_logs p) p (history_in x.state.commits)) (sym layout)
+      (subst (λ (q : History). IsTidy (layout_logs m) m q) (sym history) tidy);
+  untabled = ap tables layout ∙ untabled;
   next_table = sym (ap (λ (f : ManifestState). f.next_table) manifest) ∙ next_table
       ∙ sym (ap (λ (p : Layout). p.next_table) layout);
   numbered = numbered;
   next = next;
 }
-  where
-    its : Base
-    its = base_of s base.before
 
 -- where the same files stand, none has a greater number
 numbered_still : (n : ℕ) (old new : Option DiskState) (disk now : DiskState) → SameFiles old new → old ≡ Some disk
@@ -187,6 +195,9 @@ module _ {D H R : Type 0} (g : Ghosts D) (bytes : H → Option (List ℕ)) (befo
   still_running : r.layout.halted ≡ None
   still_running = ap (λ (x : Ruling CommitAnswer). x.layout.halted) ruling_is ∙ by_halted s name t b r.answer ∙ stands.running
 
+  still_untabled : tables r.layout ≡ []
+  still_untabled = ap (λ (x : Ruling CommitAnswer). tables x.layout) ruling_is ∙ by_tables s name t b r.answer ∙ stands.untabled
+
   -- ---- what the engine represents
 
   represents_before : HoldsState g IsStored s old → engine.Represents bytes before (g.told old) (history_of s) s.store.layout
@@ -197,9 +208,15 @@ module _ {D H R : Type 0} (g : Ghosts D) (bytes : H → Option (List ℕ)) (befo
         held = λ running. record {
           state = disk;
           told_is = told;
-          base = base_of s stored.before;
+          base = stored.base;
           is_base = stored.is_base;
-          back_is = record { state = stands.manifest; next_log = stands.next_log; next_table = stored.next_table };
+          back_is = record {
+            manifest = stands.back.file_is ∙ sym stored.manifest_file;
+            state = stands.back.state ∙ sym stored.manifest;
+            next_log = stands.back.next_log;
+            next_table = ap (λ (f : ManifestState). f.next_table) stored.manifest ∙ stored.next_table;
+            waiting = stands.back.waiting;
+          };
           holds = stored.holds;
         };
       }
@@ -207,15 +224,16 @@ module _ {D H R : Type 0} (g : Ghosts D) (bytes : H → Option (List ℕ)) (befo
   module _ (files : SameFiles (g.told old) (g.told new)) (held : HoldsState g IsStored s old) where
     -- a step that leaves what the engine represents leaves a disk that holds it
     stored_then : (x : Step) (k : History) (m : Layout) → x.state.layout ≡ m → history_in x.state.commits ≡ k
-        → m.halted ≡ None → engine.Represents bytes after (g.told new) k m → Tells g new (IsStored (state_by s x))
-    stored_then x k m layout history running represents =
+        → m.halted ≡ None → tables m ≡ [] → engine.Represents bytes after (g.told new) k m → Tells g new (IsStored (state_by s x))
+    stored_then x k m layout history running untabled represents =
         let (disk, told, stored) = held.there in
         let its = represents.held running in (
           its.state,
           its.told_is,
           stored_as s x its.state its.base k m
-              (sym its.back_is.state ∙ ap (λ (p : Back). p.state) back ∙ stands.manifest)
-              layout history its.is_base its.holds represents.stands.tidy its.back_is.next_table
+              (sym its.back_is.state ∙ ap (λ (p : Back). p.state) back ∙ stands.back.state)
+              (sym its.back_is.manifest ∙ ap (λ (p : Back). p.manifest) back ∙ stands.back.file_is)
+              layout history its.is_base its.holds represents.stands.tidy untabled its.back_is.next_table
               (numbered_still s.files (g.told old) (g.told new) disk its.state files told its.told_is stored.numbered)
               stored.next,
         )
@@ -224,7 +242,7 @@ module _ {D H R : Type 0} (g : Ghosts D) (bytes : H → Option (List ℕ)) (befo
     commits_kept : engine.Represents bytes after (g.told new) (history_of s) s.store.layout → HoldsCommits g IsStored s new
     commits_kept represents =
         let x = only Done s.store in
-        (state_by s x, refl, stored_then x (history_of s) s.store.layout refl refl stands.running represents)
+        (state_by s x, refl, stored_then x (history_of s) s.store.layout refl refl stands.running stands.untabled represents)
 
   -- ---- what it came to
 
@@ -270,7 +288,7 @@ module _ {D H R : Type 0} (g : Ghosts D) (bytes : H → Option (List ℕ)) (befo
         record {
           calls = carried.called a answered ∙ ap (λ (n : ℕ). after_calls n (g.calls old)) (sym its_calls)
               ∙ ap (after_calls (committing s name t b).calls) held.calls;
-          there = stored_then files held (committing s name t b) r.history r.layout its_layout its_history still_running
+          there = stored_then files held (committing s name t b) r.history r.layout its_layout its_history still_running still_untabled
               (carried.decides.answered a answered).1;
         }
 
@@ -345,7 +363,7 @@ module _ {D H R : Type 0} (g : Ghosts D) (bytes : H → Option (List ℕ)) (befo
           s.store.layout.active.frames (commit_frame (history_of s) t.writes) =
           ap (λ (n : ℕ). frame_at s.store.layout.active.format s.store.layout.active.number n (commit_frame (history_of s) t.writes))
           stored.tidy.true_logs.0 in
-          let b' = base_of s stored.before in
+          let b' = stored.base in
           record {
             old = disk;
             held = stored;
@@ -353,15 +371,16 @@ module _ {D H R : Type 0} (g : Ghosts D) (bytes : H → Option (List ℕ)) (befo
             has = has;
             frame = whole;
             frame_is = refl;
-            done = stored_as s (committing s name t b) (written (log_of s) whole disk) b' next.history next.layout refl
-                (its_layout ∙ ap (λ (x : Ruling CommitAnswer). x.layout) may.accepted)
+            done = stored_as s (committing s name t b) (written (log_of s) whole disk) b' next.history next.layout stored.manifest
+                stored.manifest_file (its_layout ∙ ap (λ (x : Ruling CommitAnswer). x.layout) may.accepted)
                 (its_history ∙ ap (λ (x : Ruling CommitAnswer). x.history) may.accepted)
                 (commit_base b' s.store.layout (history_of s) t stored.is_base stored.tidy)
                 (subst (λ (piece : List ℕ). Holds b' next.layout (written (log_of s) piece disk)) (sym where_is)
                 (commit_holds b' s.store.layout (history_of s) t stored.is_base stored.tidy disk stored.holds has))
-                (subst (λ (x : Ruling CommitAnswer). IsTidy no_logs x.layout x.history) may.accepted
-                (commit_tidy no_logs s.store.layout (history_of s) stored.tidy t rising))
-                stored.next_table
+                (subst (λ (x : Ruling CommitAnswer). IsTidy (layout_logs s.store.layout) x.layout x.history) may.accepted
+                (commit_tidy (layout_logs s.store.layout) s.store.layout (history_of s) stored.tidy t rising))
+                stored.untabled
+                (ap (λ (f : ManifestState). f.next_table) stored.manifest ∙ stored.next_table)
                 (changed_numbered s.files (log_of s) _ (appended (log_of s) whole (length whole) disk)
                 (changed_numbered s.files (log_of s) _ disk stored.numbered))
                 stored.next;

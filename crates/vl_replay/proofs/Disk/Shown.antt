@@ -4,13 +4,14 @@ use Rattle.vl_engine.specs.laws.HeldLaws.{held_opens_again, held_shown}
 use Rattle.vl_engine.specs.laws.ShownLaws.{shown_later}
 use Rattle.vl_replay.specs.Durable.{LeavesItsHistory, StaysShown}
 use Rattle.vl_replay.specs.Sequential.{history_of}
-use Rattle.vl_replay.specs.Stored.{IsStored, base_of}
+use Rattle.vl_replay.specs.Stored.{IsStored}
 
 pub stored_exactly : LeavesItsHistory IsStored Shown
 stored_exactly = record {
   leaves = λ s disk stored image left.
-      held_shown (base_of s stored.before) s.store.layout (history_of s) stored.is_base stored.tidy disk stored.holds image left.left;
-  may_open = λ s disk stored. held_opens_again (base_of s stored.before) s.store.layout disk stored.holds;
+      held_shown stored.base s.store.layout (history_of s) stored.is_base stored.tidy disk stored.holds image left.left;
+  may_open = λ s disk stored.
+      held_opens_again stored.base s.store.layout (history_of s) stored.is_base disk stored.tidy.levels stored.holds;
 }
 
 pub shown_stays : StaysShown Shown

@@ -2,9 +2,10 @@
 use Rattle.std.proofs.Common.{◌≡◌, ℕ, Bool, true, false, cond, List, [], ◌∷◌, ◌++◌, length, refl, ap, sym, ◌∙◌, subst}
 use Rattle.std.specs.Prelude.{Option, None, Some, Ok, nat_le}
 use Rattle.std.specs.Option.{is_some}
+use Rattle.vl_engine.specs.Reading.{IsInMemory}
 use Rattle.vl_engine.specs.Represents as engine
 use Rattle.vl_engine.specs.Sees.{IsNew, Sees, SeesAlone, asked_view}
-use Rattle.vl_engine.specs.declared.kept.Back.{Back}
+use Rattle.vl_back.specs.declared.back.Back.{Back}
 use Rattle.vl_engine.specs.declared.kept.Core.{Core}
 use Rattle.vl_engine.specs.declared.txn.Txn.{Txn}
 use Rattle.vl_engine.specs.declared.view.View.{View as EngineView}
@@ -25,7 +26,7 @@ use Rattle.vl_layout.specs.Tickets.{free_ticket, tickets_of}
 use Rattle.vl_layout.specs.declared.layout.Layout.{Layout}
 use Rattle.vl_model.specs.History.{History, last_number}
 use Rattle.vl_model.specs.Limits.{max_live}
-use Rattle.vl_replay.specs.Replaying.{MakesStep, StandsIn, state_by}
+use Rattle.vl_replay.specs.Replaying.{IsBackOf, MakesStep, StandsIn, state_by}
 use Rattle.vl_replay.specs.Sequential.{IsTold, State, history_of}
 use Rattle.vl_replay.specs.Standing.{Corresponds, IsTaken, Stand, open_in, ticket_of}
 use Rattle.vl_replay.specs.declared.replayer.open.Open.{Open}
@@ -38,6 +39,7 @@ use Rattle.vl_script.specs.declared.line.Line.TheVariants as lines
 use Rattle.vl_replay.proofs.Disk.Betweens.{extends_itself}
 use Rattle.vl_replay.proofs.Names.Ending.{begins_transaction, begins_view, ends_so}
 use Rattle.vl_replay.proofs.Names.Making.{itself, its, only_makes}
+use Rattle.vl_replay.proofs.Names.Quiet.{IsAlike, back_alike, untabled_alike}
 use Rattle.vl_replay.proofs.Names.Reading.{no_thing}
 
 begun_ticket : (a b n m : ℕ) → Begun a n ≡ Begun b m → a ≡ b
@@ -61,14 +63,15 @@ module _ {H R : Type 0} (bytes : H → Option (List ℕ)) (before after : Core H
   -- what a step that isn't halted leaves
   pub stands_as : (new : List (Open H R)) (x : Step) → engine.StandsFor bytes after (history_in x.state.commits) x.state.layout
       → Stand bytes new x.state.things (history_in x.state.commits) x.state.layout → IsSound (state_by s x)
-      → x.state.layout.halted ≡ l.halted → x.state.layout.next_log ≡ l.next_log → StandsIn bytes after new (state_by s x)
-  stands_as new x there names sound running next = record {
+      → IsAlike l x.state.layout → StandsIn bytes after new (state_by s x)
+  stands_as new x there names sound alike = record {
     engine = there;
     names = names;
     sound = sound;
-    running = running ∙ stands.running;
-    manifest = ap (λ (b : Back). b.state) back ∙ stands.manifest;
-    next_log = ap (λ (b : Back). b.next_log) back ∙ stands.next_log ∙ sym next;
+    untabled = untabled_alike l x.state.layout alike stands.untabled;
+    running = alike.halted ∙ stands.running;
+    back = subst (λ (b : Back). IsBackOf b s.manifest_file s.manifest x.state.layout) (sym back)
+        (back_alike before.back s.manifest_file s.manifest l x.state.layout alike stands.back);
   }
 
   -- one that changes nothing
@@ -76,7 +79,7 @@ module _ {H R : Type 0} (bytes : H → Option (List ℕ)) (before after : Core H
       → IsTold told answer → engine.StandsFor bytes after h l → Stand bytes new s.store.things h l → MakesStep bytes after new s x (Ok told)
   kept_makes new x told answer same is there names =
       subst (λ (y : Step). MakesStep bytes after new s y (Ok told)) (sym same)
-      (is, stands_as new (only answer s.store) there names stands.sound refl refl)
+      (is, stands_as new (only answer s.store) there names stands.sound (record { levels = refl; halted = refl; next_log = refl; covered = refl; frozen = refl }))
 
   module _ (name : Name) (thing : Beginning → ℕ → ℕ → store.Thing) (sound : IsSound (state_by s (begin_as s.store name thing (thing_of s.store name)))) where
     abbrev ticket : ℕ
@@ -114,7 +117,8 @@ module _ {H R : Type 0} (bytes : H → Option (List ℕ)) (before after : Core H
         of false is there sound = (
           ap store_lines.Number (begun_number own ticket number (last_number h) is),
           stands_as (os ++ record { name = name; thing = new } ∷ []) (by_ruling false) there
-              (names (beginning_of (by_room false).layout h) (begun_ticket own ticket number (last_number h) is) (begun_number own ticket number (last_number h) is)) sound refl refl,
+              (names (beginning_of (by_room false).layout h) (begun_ticket own ticket number (last_number h) is) (begun_number own ticket number (last_number h) is)) sound
+              (record { levels = refl; halted = refl; next_log = refl; covered = refl; frozen = refl }),
         )
 
     pub too_many_makes : (free : open_in os name ≡ None)
@@ -126,24 +130,26 @@ module _ {H R : Type 0} (bytes : H → Option (List ℕ)) (before after : Core H
       where
         of : (b : Bool) → begin.TooMany ≡ (by_room b).answer → engine.StandsFor bytes after (by_room b).history (by_room b).layout
             → MakesStep bytes after os s (by_ruling b) (Ok answers.TooMany)
-        of true is there = (refl, stands_as os (only store_lines.TooMany s.store) there stands.names stands.sound refl refl)
+        of true is there = (refl, stands_as os (only store_lines.TooMany s.store) there stands.names stands.sound (record { levels = refl; halted = refl; next_log = refl; covered = refl; frozen = refl }))
         of false is there = absurd cc
 
   -- ---- begins of either kind
 
   pub transaction_makes : (name : Name) (free : open_in os name ≡ None) (txn : Txn H R) → IsNew txn → Sees bytes txn h []
+      → IsInMemory txn.version
       → Decides (engine.StandsFor bytes after) h l (begin_ruling l h) (as_before l l) (Answered (Begun txn.ticket txn.number)) no_effects
       → MakesStep bytes after (os ++ record { name = name; thing = Transaction txn } ∷ []) s (begin_as s.store name a_transaction (thing_of s.store name)) (Ok (answers.Number txn.number))
-  transaction_makes name free txn new sees decides =
+  transaction_makes name free txn new sees near decides =
       begin_makes name a_transaction (state_after-sound s (lines.Begin name) stands.sound) free (Transaction txn) txn.ticket txn.number
-      (λ b own number. begins_transaction bytes h l os s.store.things stands.names name free stands.engine.fronts.front.lived txn b own number new sees) decides
+      (λ b own number. begins_transaction bytes h l os s.store.things stands.names name free stands.engine.fronts.front.lived txn b own number new sees near) decides
 
   pub view_makes : (name : Name) (free : open_in os name ≡ None) (view : EngineView H R) → SeesAlone bytes view h
+      → IsInMemory view.version
       → Decides (engine.StandsFor bytes after) h l (begin_ruling l h) (as_before l l) (Answered (Begun view.ticket view.number)) no_effects
       → MakesStep bytes after (os ++ record { name = name; thing = View view } ∷ []) s (begin_as s.store name a_view (thing_of s.store name)) (Ok (answers.Number view.number))
-  view_makes name free view sees decides =
+  view_makes name free view sees near decides =
       begin_makes name a_view (state_after-sound s (lines.View name) stands.sound) free (View view) view.ticket view.number
-      (λ b own number. begins_view bytes h l os s.store.things stands.names name free stands.engine.fronts.front.lived view b own number sees) decides
+      (λ b own number. begins_view bytes h l os s.store.things stands.names name free stands.engine.fronts.front.lived view b own number sees near) decides
 
   -- ---- ends
 
@@ -159,12 +165,12 @@ module _ {H R : Type 0} (bytes : H → Option (List ℕ)) (before after : Core H
     ended_stands thing taken x there on answer sound =
         let y : Step = record { answer = answer; state = without_thing s.store (ended (ticket_of x) l) name; calls = 0 } in
         stands_as left y on
-        (ends_so bytes h h l (ended (ticket_of x) l) os left s.store.things stands.names name thing taken x there (extends_itself h) refl) sound refl refl
+        (ends_so bytes h h l (ended (ticket_of x) l) os left s.store.things stands.names name thing taken x there (extends_itself h) refl) sound (record { levels = refl; halted = refl; next_log = refl; covered = refl; frozen = refl })
 
     pub view_ends : (view : EngineView H R) → IsTaken os left name (Some (View view)) → engine.StandsFor bytes after h (ended view.ticket l)
         → MakesStep bytes after left s dropping (Ok answers.Done)
     view_ends view taken on =
-        let (b, there, sees, live) = its bytes before os s stands left name view taken in
+        let (b, there, sees, live, near) = its bytes before os s stands left name view taken in
         let same : dropping ≡ drop_by s.store name (Some (AView (asked_view view) b)) = ap (drop_by s.store name) there in
         subst (λ (y : Step). MakesStep bytes after left s y (Ok answers.Done)) (sym same) (
           refl,

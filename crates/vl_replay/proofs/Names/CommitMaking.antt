@@ -15,7 +15,7 @@ use Rattle.vl_layout.specs.AtAnswer.{Beginning}
 use Rattle.vl_layout.specs.Decides.{Answered, Decides, Effects, Otherwise, Outcome, as_before}
 use Rattle.vl_layout.specs.Ruling.{Ruling, ended, leaving, logged}
 use Rattle.vl_layout.specs.Rulings.Commit as commit
-use Rattle.vl_layout.specs.Rulings.Commit.{CommitAnswer, Transaction as ATxn, commit_checked, commit_ended, commit_frame, commit_lost, commit_ruling, commit_running, commit_unless, committed}
+use Rattle.vl_layout.specs.Rulings.Commit.{CommitAnswer, Transaction as ATxn, commit_checked, commit_ended, commit_frame, commit_lost, commit_ruling, commit_unless, committed}
 use Rattle.vl_layout.specs.Store.Commits.{history_in, with_changes}
 use Rattle.vl_layout.specs.Store.Lines as store_lines
 use Rattle.vl_layout.specs.Store.Lines.{Name}
@@ -166,7 +166,7 @@ module _ {H R : Type 0} (bytes : H → Option (List ℕ)) (before after : Core H
           (subst (λ (k : History). engine.StandsFor bytes after k next) (sym more) (stands_of (commit.At n) decides))
           (subst (λ (k : History). Stand bytes left (without_name name s.store.things) k next) (sym more)
           (ends_so bytes h longer l next os left s.store.things stands.names name (Transaction txn) taken (ATransaction t b) there (extends_one h longer (from_sorted t.writes) refl) refl))
-          (sound_by (commit.At n) same) refl refl)
+          (sound_by (commit.At n) same) (record { levels = refl; halted = refl; next_log = refl; covered = refl; frozen = refl }))
         where
           number : (n : ℕ) → commit.At n ≡ commit.At (last_number h + 1) → n ≡ last_number h + 1
           number n e = cc
@@ -190,7 +190,7 @@ module _ {H R : Type 0} (bytes : H → Option (List ℕ)) (before after : Core H
 
       back_names : (new : Txn H R) → new ≡ txn → Stand bytes (behind new) s.store.things h l
       back_names new same = subst (λ (x : Txn H R). Stand bytes (behind x) s.store.things h l) (sym same)
-          (txn_back bytes before os s stands left name txn taken txn refl)
+          (txn_back bytes before os s stands left name txn taken txn refl (λ reads sees. sees))
 
       pub exhausted_makes : (new : Txn H R) → new ≡ txn → (c : Counter) → AnsweredBy (commit.Exhausted c)
           → MakesStep bytes after (behind new) s committing (Ok (answers.Exhausted c))
@@ -198,7 +198,7 @@ module _ {H R : Type 0} (bytes : H → Option (List ℕ)) (before after : Core H
           let same = same_of (commit.Exhausted c) decides in
           makes_by (commit.Exhausted c) same (behind new) (answers.Exhausted c) refl
           (stands_as bytes before after os s stands back (behind new) (by (commit.Exhausted c)) (stands_of (commit.Exhausted c) decides) (back_names new it)
-          (sound_by (commit.Exhausted c) same) refl refl)
+          (sound_by (commit.Exhausted c) same) (record { levels = refl; halted = refl; next_log = refl; covered = refl; frozen = refl }))
 
       pub full_makes : (new : Txn H R) → new ≡ txn → (long frame : ℕ) → AnsweredBy (commit.Full long frame)
           → MakesStep bytes after (behind new) s committing (Ok answers.Full)
@@ -206,7 +206,7 @@ module _ {H R : Type 0} (bytes : H → Option (List ℕ)) (before after : Core H
           let same = same_of (commit.Full long frame) decides in
           makes_by (commit.Full long frame) same (behind new) answers.Full refl
           (stands_as bytes before after os s stands back (behind new) (by (commit.Full long frame)) (stands_of (commit.Full long frame) decides) (back_names new it)
-          (sound_by (commit.Full long frame) same) refl refl)
+          (sound_by (commit.Full long frame) same) (record { levels = refl; halted = refl; next_log = refl; covered = refl; frozen = refl }))
 
       -- an engine that stands for what isn't halted isn't halted
       pub never_halted : (file : FileName) → AnsweredBy (commit.Halted file) → ⊥

@@ -2,6 +2,7 @@
 use Rattle.std.proofs.Common.{◌≡◌, ℕ, List, [], ◌∷◌, ◌++◌, length, refl, ap, sym, ◌∙◌, subst, arith}
 use Rattle.std.specs.Prelude.{Option, None, Some}
 use Rattle.std.specs.FinMap.{empty, entries, len-empty, len-entries}
+use Rattle.vl_engine.specs.Reading.{IsInMemory}
 use Rattle.vl_engine.specs.Represents.{IsLive}
 use Rattle.vl_engine.specs.Sees.{IsNew, Sees, SeesAlone, ShowsAt}
 use Rattle.vl_engine.specs.declared.txn.Txn.{Txn}
@@ -52,7 +53,7 @@ live_of bytes h l (Some (Transaction txn)) (ATransaction t b) is =
 live_of bytes h l (Some (Transaction txn)) (AView v b) is = absurd is
 live_of bytes h l (Some (Transaction txn)) (AJob job made) is = absurd is
 live_of bytes h l (Some (Transaction txn)) (APass pass batch) is = absurd is
-live_of bytes h l (Some (View view)) (AView v b) (same, sees, live) =
+live_of bytes h l (Some (View view)) (AView v b) (same, sees, live, near) =
     (view.number, subst (λ (w : _). IsLive l w view.number) (ap (λ w. w.ticket) same) live)
 live_of bytes h l (Some (View view)) (ATransaction t b) is = absurd is
 live_of bytes h l (Some (View view)) (AJob job made) is = absurd is
@@ -69,8 +70,6 @@ shows_later bytes version h k number more shows =
       logs = shows.logs;
       has = shows.has;
       shows = shows_at_later shows.logs shows.entries_of h k number more shows.known shows.shows;
-      without_tables = shows.without_tables;
-      alone = shows.alone;
       readable = omega (arith, first, shows.readable);
       known = omega (arith, longer, shows.known);
     }
@@ -79,8 +78,18 @@ sees_later : {H R : Type 0} (bytes : H → Option (List ℕ)) (txn : Txn H R) (h
     → Sees bytes txn h reads → Sees bytes txn k reads
 sees_later bytes txn h k reads more sees = record {
   version = shows_later bytes txn.version h k txn.number more sees.version;
+  files = sees.files;
+  reader = sees.reader;
   notes = sees.notes;
   explained = explained-extends h k more txn.number sees.version.known reads sees.explained;
+}
+
+alone_later : {H R : Type 0} (bytes : H → Option (List ℕ)) (view : EngineView H R) (h k : History) → Extends h k
+    → SeesAlone bytes view h → SeesAlone bytes view k
+alone_later bytes view h k more sees = record {
+  version = shows_later bytes view.version h k view.number more sees.version;
+  files = sees.files;
+  reader = sees.reader;
 }
 
 module _ {H R : Type 0} (bytes : H → Option (List ℕ)) (h k : History) (l m : Layout) (more : Extends h k)
@@ -98,15 +107,17 @@ module _ {H R : Type 0} (bytes : H → Option (List ℕ)) (h k : History) (l m :
     same = is.same;
     sees = sees_later bytes txn h k t.reads more is.sees;
     live = lives txn.ticket txn.number (subst (λ (u : ATxn). ticket_lives u.ticket) (sym is.same) (on (ATransaction t b) refl)) is.live;
+    near = is.near;
   }
   still_stands (Some (Transaction txn)) (Some (AView v b)) on is = absurd is
   still_stands (Some (Transaction txn)) (Some (AJob job made)) on is = absurd is
   still_stands (Some (Transaction txn)) (Some (APass pass batch)) on is = absurd is
   still_stands (Some (View view)) None on is = absurd is
-  still_stands (Some (View view)) (Some (AView v b)) on (same, sees, live) = (
+  still_stands (Some (View view)) (Some (AView v b)) on (same, sees, live, near) = (
     same,
-    shows_later bytes view.version h k view.number more sees,
+    alone_later bytes view h k more sees,
     lives view.ticket view.number (subst (λ (w : LayoutView). ticket_lives w.ticket) (sym same) (on (AView v b) refl)) live,
+    near,
   )
   still_stands (Some (View view)) (Some (ATransaction t b)) on is = absurd is
   still_stands (Some (View view)) (Some (AJob job made)) on is = absurd is
@@ -146,21 +157,25 @@ module _ {H R : Type 0} (bytes : H → Option (List ℕ)) (h : History) (l : Lay
       begun_was_free l h lived number (subst (λ (t : ℕ). IsLive l t number) (sym same ∙ own) lives))
 
   pub begins_transaction : (txn : Txn H R) (b : Beginning) → txn.ticket ≡ ticket → txn.number ≡ last_number h → IsNew txn → Sees bytes txn h []
+      → IsInMemory txn.version
       → Stand bytes (os ++ record { name = name; thing = Transaction txn } ∷ [])
       (named name (ATransaction (record { ticket = ticket; number = last_number h; reads = []; writes = [] }) b) ts) h next
-  begins_transaction txn b own number new sees = begins_so (Transaction txn) _ refl (record {
+  begins_transaction txn b own number new sees near = begins_so (Transaction txn) _ refl (record {
     same = ap (λ (n : ℕ). record { ticket = n; number = txn.number; reads = []; writes = entries txn.writes }) own
         ∙ ap (λ (n : ℕ). record { ticket = ticket; number = n; reads = []; writes = entries txn.writes }) number
         ∙ ap (λ (w : Changes). record { ticket = ticket; number = last_number h; reads = []; writes = w }) (ap (λ (w : Writes). entries w) new.writes ∙ no_entries);
     sees = sees;
     live = subst (λ (n : ℕ). IsLive next n txn.number) (sym own) (subst (IsLive next ticket) (sym number) (begun_lives l h lived));
+    near = near;
   })
 
   pub begins_view : (view : EngineView H R) (b : Beginning) → view.ticket ≡ ticket → view.number ≡ last_number h → SeesAlone bytes view h
+      → IsInMemory view.version
       → Stand bytes (os ++ record { name = name; thing = View view } ∷ [])
       (named name (AView (record { ticket = ticket; number = last_number h }) b) ts) h next
-  begins_view view b own number sees = begins_so (View view) _ refl (
+  begins_view view b own number sees near = begins_so (View view) _ refl (
     ap (λ (n : ℕ). record { ticket = n; number = view.number }) own ∙ ap (λ (n : ℕ). record { ticket = ticket; number = n }) number,
     sees,
     subst (λ (n : ℕ). IsLive next n view.number) (sym own) (subst (IsLive next ticket) (sym number) (begun_lives l h lived)),
+    near,
   )

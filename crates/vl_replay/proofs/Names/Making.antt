@@ -2,7 +2,7 @@
 use Rattle.std.proofs.Common.{◌≡◌, ℕ, List, [], ◌∷◌, ◌++◌, refl, ap, sym, ◌∙◌, subst}
 use Rattle.std.specs.Prelude.{Option, None, Some, Ok, Err, Result, IfOk, OnOk}
 use Rattle.std.specs.Bool.{⊤}
-use Rattle.vl_engine.specs.Reading.{NotesNothing, OnlyReads, OnlyWrites}
+use Rattle.vl_engine.specs.Reading.{IsInMemory, NotesNothing, OnlyReads, OnlyWrites}
 use Rattle.vl_engine.specs.Represents.{IsLive}
 use Rattle.vl_engine.specs.Sees.{Sees, SeesAlone, asked, asked_view}
 use Rattle.vl_engine.specs.declared.kept.Core.{Core}
@@ -49,26 +49,27 @@ both P Q S (Err halt) weaker p q = tt
 -- ---- what only its reader changed
 
 module _ {H R : Type 0} (bytes : H → Option (List ℕ)) (h : History) (l : Layout) where
-  pub view_only : (old new : EngineView H R) (y : Option store.Thing) → OnlyReads old new → Corresponds bytes h l (Some (View old)) y
+  pub view_only : (old new : EngineView H R) (y : Option store.Thing) → OnlyReads old new
+      → (SeesAlone bytes old h → SeesAlone bytes new h) → Corresponds bytes h l (Some (View old)) y
       → Corresponds bytes h l (Some (View new)) y
-  view_only old new None keeps is = absurd is
-  view_only old new (Some (ATransaction t b)) keeps is = absurd is
-  view_only old new (Some (store.AJob job made)) keeps is = absurd is
-  view_only old new (Some (store.APass pass batch)) keeps is = absurd is
-  view_only old new (Some (AView v b)) keeps (same, sees, live) = (
+  view_only old new None keeps still is = absurd is
+  view_only old new (Some (ATransaction t b)) keeps still is = absurd is
+  view_only old new (Some (store.AJob job made)) keeps still is = absurd is
+  view_only old new (Some (store.APass pass batch)) keeps still is = absurd is
+  view_only old new (Some (AView v b)) keeps still (same, sees, live, near) = (
     ap (λ (x : EngineView H R). asked_view x) keeps ∙ same,
-    subst (λ (x : EngineView H R). SeesAlone bytes x h) (sym keeps) sees,
+    still sees,
     subst (λ (x : EngineView H R). IsLive l x.ticket x.number) (sym keeps) live,
+    subst (λ (x : EngineView H R). IsInMemory x.version) (sym keeps) near,
   )
 
-  same_sees : (old new : Txn H R) (reads : List Read) → Sees bytes old h reads → Sees bytes (record old { reader = new.reader }) h reads
-  same_sees old new reads sees = record { version = sees.version; notes = sees.notes; explained = sees.explained }
-
-  pub txn_only : (old new : Txn H R) (t : ATxn) → NotesNothing old new → IsTransaction bytes old t h l → IsTransaction bytes new t h l
-  txn_only old new t keeps is = record {
+  pub txn_only : (old new : Txn H R) (t : ATxn) → NotesNothing old new → (Sees bytes old h t.reads → Sees bytes new h t.reads)
+      → IsTransaction bytes old t h l → IsTransaction bytes new t h l
+  txn_only old new t keeps still is = record {
     same = ap (λ (x : Txn H R). asked x t.reads) keeps ∙ is.same;
-    sees = subst (λ (x : Txn H R). Sees bytes x h t.reads) (sym keeps) (same_sees old new t.reads is.sees);
+    sees = still is.sees;
     live = subst (λ (x : Txn H R). IsLive l x.ticket x.number) (sym keeps) is.live;
+    near = subst (λ (x : Txn H R). IsInMemory x.version) (sym keeps) is.near;
   }
 
   -- A name is put back for what stands for the same.
@@ -110,9 +111,9 @@ module _ {H R : Type 0} (bytes : H → Option (List ℕ)) (core : Core H) (os : 
     engine = stands.engine;
     names = names;
     sound = stands.sound;
+    untabled = stands.untabled;
     running = stands.running;
-    manifest = stands.manifest;
-    next_log = stands.next_log;
+    back = stands.back;
   }
 
   pub only_makes : (new : List (Open H R)) (x : Step) (told : Answer) (answer : store_lines.Answer) → x ≡ only answer s.store
@@ -140,21 +141,23 @@ module _ {H R : Type 0} (bytes : H → Option (List ℕ)) (core : Core H) (os : 
 
       -- the view that it stands for
       pub its : (b : Beginning) × (thing_of s.store name ≡ Some (AView (asked_view view) b)) × SeesAlone bytes view h × IsLive l view.ticket view.number
+          × IsInMemory view.version
       its = its_view bytes h l view (thing_of s.store name) there_view
 
-      pub view_back : (new : EngineView H R) → OnlyReads view new → Stand bytes (left ++ record { name = name; thing = View new } ∷ []) ts h l
-      view_back new keeps =
-          let (b, is, sees, live) = its in
+      pub view_back : (new : EngineView H R) → OnlyReads view new → (SeesAlone bytes view h → SeesAlone bytes new h)
+          → Stand bytes (left ++ record { name = name; thing = View new } ∷ []) ts h l
+      view_back new keeps still =
+          let (b, is, sees, live, near) = its in
           back_again bytes h l os left ts name (View view) (View new) (AView (asked_view view) b) stands.names taken is
-          (subst (Corresponds bytes h l (Some (View new))) is (view_only bytes h l view new (thing_of s.store name) keeps there_view))
+          (subst (Corresponds bytes h l (Some (View new))) is (view_only bytes h l view new (thing_of s.store name) keeps still there_view))
 
       -- a view isn't written
       pub read_only_makes : (x : Option store.Thing → Step) → ((v : LayoutView) (b : Beginning) → x (Some (AView v b)) ≡ only store_lines.ReadOnly s.store)
           → MakesStep bytes core (left ++ record { name = name; thing = View view } ∷ []) s (x (thing_of s.store name)) (Ok answers.ReadOnly)
       read_only_makes x is =
-          let (b, there, sees, live) = its in
+          let (b, there, sees, live, near) = its in
           only_makes (left ++ record { name = name; thing = View view } ∷ []) (x (thing_of s.store name)) answers.ReadOnly store_lines.ReadOnly
-          (ap x there ∙ is (asked_view view) b) refl (view_back view refl)
+          (ap x there ∙ is (asked_view view) b) refl (view_back view refl (λ sees. sees))
 
     module _ (txn : Txn H R) (taken : IsTaken os left name (Some (Transaction txn))) where
       there_txn : Corresponds bytes h l (Some (Transaction txn)) (thing_of s.store name)
@@ -164,10 +167,12 @@ module _ {H R : Type 0} (bytes : H → Option (List ℕ)) (core : Core H) (os : 
       pub itself : (t : ATxn) × (b : Beginning) × (thing_of s.store name ≡ Some (ATransaction t b)) × IsTransaction bytes txn t h l
       itself = its_transaction bytes h l txn (thing_of s.store name) there_txn
 
-      pub txn_back : (new : Txn H R) → NotesNothing txn new → Stand bytes (left ++ record { name = name; thing = Transaction new } ∷ []) ts h l
-      txn_back new keeps =
+      pub txn_back : (new : Txn H R) → NotesNothing txn new → ((reads : List Read) → Sees bytes txn h reads → Sees bytes new h reads)
+          → Stand bytes (left ++ record { name = name; thing = Transaction new } ∷ []) ts h l
+      txn_back new keeps still =
           let (t, b, there, is) = itself in
-          back_again bytes h l os left ts name (Transaction txn) (Transaction new) (ATransaction t b) stands.names taken there (txn_only bytes h l txn new t keeps is)
+          back_again bytes h l os left ts name (Transaction txn) (Transaction new) (ATransaction t b) stands.names taken there
+          (txn_only bytes h l txn new t keeps (still t.reads) is)
 
       -- what a write leaves
       write_sound : (key : List ℕ) (change : Change) → IsSound (state_by s (write_by s.store name key change (thing_of s.store name)))

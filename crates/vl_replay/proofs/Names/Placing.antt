@@ -114,9 +114,9 @@ module _ {H R : Type 0} where
         engine = stands.engine;
         names = stand_as x.state.things _ _ stands.names;
         sound = stands.sound;
+        untabled = stands.untabled;
         running = stands.running;
-        manifest = stands.manifest;
-        next_log = stands.next_log;
+        back = stands.back;
       },
     )
     makes_as core s x (Err halt) makes = tt

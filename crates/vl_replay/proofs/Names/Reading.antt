@@ -3,7 +3,7 @@ use Rattle.std.proofs.Common.{◌≡◌, ℕ, true, List, [], ◌∷◌, ◌++�
 use Rattle.std.specs.Prelude.{Option, None, Some}
 use Rattle.std.specs.FinMap.{find, get, get-entries}
 use Rattle.std.specs.Option.{is_some}
-use Rattle.vl_engine.specs.Reading.{OnlyNotes, value_under}
+use Rattle.vl_engine.specs.Reading.{IsInMemory, OnlyNotes, value_under}
 use Rattle.vl_engine.specs.Represents.{IsLive}
 use Rattle.vl_engine.specs.Sees.{Sees, SeesAlone, asked, asked_view}
 use Rattle.vl_engine.specs.declared.txn.Txn.{Txn}
@@ -52,8 +52,9 @@ module _ {H R : Type 0} (bytes : H → Option (List ℕ)) (h : History) (l : Lay
 
   pub its_view : (view : EngineView H R) (y : Option store.Thing) → Corresponds bytes h l (Some (View view)) y
       → (b : Beginning) × (y ≡ Some (AView (asked_view view) b)) × SeesAlone bytes view h × IsLive l view.ticket view.number
+      × IsInMemory view.version
   its_view view None is = absurd is
-  its_view view (Some (AView v b)) (same, sees, live) = (b, ap (λ (w : _). Some (AView w b)) (sym same), sees, live)
+  its_view view (Some (AView v b)) (same, sees, live, near) = (b, ap (λ (w : _). Some (AView w b)) (sym same), sees, live, near)
   its_view view (Some (ATransaction t b)) is = absurd is
   its_view view (Some (AJob job made)) is = absurd is
   its_view view (Some (APass pass batch)) is = absurd is
@@ -121,6 +122,7 @@ module _ {H R : Type 0} (bytes : H → Option (List ℕ)) (s : store.State) (pro
             same = only_notes_asked txn new t.reads keeps ∙ is.same;
             sees = subst (Sees bytes new h) (on_true (is_some (get txn.writes key)) t.reads (t.reads ++ KeyRead key (value_at h txn.number key) ∷ []) (ap is_some own)) sees;
             live = subst (λ (x : Txn H R). IsLive s.layout x.ticket x.number) (sym keeps) is.live;
+            near = subst (λ (x : Txn H R). IsInMemory x.version) (sym keeps) is.near;
           })),
     )
     by_own None own = (
@@ -130,6 +132,7 @@ module _ {H R : Type 0} (bytes : H → Option (List ℕ)) (s : store.State) (pro
         sees = subst (Sees bytes new h) (on_false (is_some (get txn.writes key)) t.reads (t.reads ++ KeyRead key (value_at h txn.number key) ∷ []) (ap is_some own)
             ∙ ap (λ (v : Option Stored). t.reads ++ KeyRead key v ∷ []) (sym value)) sees;
         live = subst (λ (x : Txn H R). IsLive s.layout x.ticket x.number) (sym keeps) is.live;
+        near = subst (λ (x : Txn H R). IsInMemory x.version) (sym keeps) is.near;
       }),
     )
       where

@@ -67,13 +67,14 @@ module _ {H R : Type 0} (bytes : H → Option (List ℕ)) (core : Core H) (os : 
 
   module _ {V : Type 0} (items : V → List Row) (tell : V → Answer) (as_rows : (rows : V) → IsTold (tell rows) (store_lines.Rows (rows_told (items rows)))) where
     pub view_scan_makes : (view new : EngineView H R) → IsTaken os left name (Some (View view)) → OnlyReads view new
+        → ((k : History) → SeesAlone bytes view k → SeesAlone bytes new k)
         → (result : Result V ReadFail) → IsRefusedBy (refused_bounds low high) result
         → ((k : History) → SeesAlone bytes view k → IfOk result (λ rows. items rows ≡ rows_under empty k view.number low high limit way))
         → MakesStep bytes core (left ++ record { name = name; thing = View new } ∷ []) s scanning (told_by tell result)
-    view_scan_makes view new taken keeps result refused rows_are_so = of result refused (let (b, there, sees, live) = its bytes core os s stands left name view taken in rows_are_so h sees)
+    view_scan_makes view new taken keeps still result refused rows_are_so = of result refused (let (b, there, sees, live, near) = its bytes core os s stands left name view taken in rows_are_so h sees)
       where
         step_is : scanning ≡ view_step view.number within
-        step_is = let (b, there, sees, live) = its bytes core os s stands left name view taken in ap (scan_by s.store way name low high limit) there
+        step_is = let (b, there, sees, live, near) = its bytes core os s stands left name view taken in ap (scan_by s.store way name low high limit) there
 
         store_rows : scanned_rows s.store way low high limit [] view.number ≡ rows_under empty h view.number low high limit way
         store_rows = rows_are s.store stands.sound.proper.commits way low high limit [] view.number tt
@@ -81,7 +82,7 @@ module _ {H R : Type 0} (bytes : H → Option (List ℕ)) (core : Core H) (os : 
 
         invalid : (why : KeyFail) → refused_bounds low high ≡ Some why → MakesStep bytes core (left ++ record { name = name; thing = View new } ∷ []) s scanning (Ok answers.Invalid)
         invalid why is = only_makes bytes core os s stands (left ++ record { name = name; thing = View new } ∷ []) scanning answers.Invalid store_lines.Invalid (step_is ∙ ap (view_step view.number) (unfit why is)) refl
-            (view_back bytes core os s stands left name view taken new keeps)
+            (view_back bytes core os s stands left name view taken new keeps (still h))
 
         of : (result : Result V ReadFail) → IsRefusedBy (refused_bounds low high) result → IfOk result (λ rows. items rows ≡ rows_under empty h view.number low high limit way)
             → MakesStep bytes core (left ++ record { name = name; thing = View new } ∷ []) s scanning (told_by tell result)
@@ -89,7 +90,7 @@ module _ {H R : Type 0} (bytes : H → Option (List ℕ)) (core : Core H) (os : 
             only_makes bytes core os s stands (left ++ record { name = name; thing = View new } ∷ []) scanning (tell rows) (store_lines.Rows (rows_told (scanned_rows s.store way low high limit [] view.number)))
             (step_is ∙ ap (view_step view.number) (fit refused))
             (as_rows rows ∙ ap (λ (rs : List Row). store_lines.Rows (rows_told rs)) (is ∙ sym store_rows))
-            (view_back bytes core os s stands left name view taken new keeps)
+            (view_back bytes core os s stands left name view taken new keeps (still h))
         of (Err unread.EmptyKey) refused is = invalid EmptyKey refused
         of (Err unread.KeyTooLong) refused is = invalid KeyTooLong refused
         of (Err unread.NoMemory) refused is = tt
@@ -98,26 +99,29 @@ module _ {H R : Type 0} (bytes : H → Option (List ℕ)) (core : Core H) (os : 
 
     pub txn_scan_makes : (txn new : Txn H R) → IsTaken os left name (Some (Transaction txn)) → OnlyNotes txn new
         → (result : Result V ReadFail) → IsRefusedBy (refused_bounds low high) result → OnErr result (NotesNothing txn new)
+        → ((k : History) (reads : List Read) → Sees bytes txn k reads → OnErr result (Sees bytes new k reads))
         → ((k : History) (reads : List Read) → Sees bytes txn k reads → IfOk result (λ rows. items rows ≡ rows_under txn.writes k txn.number low high limit way))
         → ((k : History) (reads : List Read) → Sees bytes txn k reads
         → IfOk result (λ rows. Sees bytes new k (noting.with_scan reads (noting.scan_of low high limit way (items rows) txn.writes))))
         → MakesStep bytes core (left ++ record { name = name; thing = Transaction new } ∷ []) s scanning (told_by tell result)
-    txn_scan_makes txn new taken keeps result refused kept rows_are_so sees = of result refused kept rows_are_so sees
+    txn_scan_makes txn new taken keeps result refused kept still rows_are_so sees = of result refused kept still rows_are_so sees
       where
         invalid : (why : KeyFail) → refused_bounds low high ≡ Some why → NotesNothing txn new
+            → ((k : History) (reads : List Read) → Sees bytes txn k reads → Sees bytes new k reads)
             → MakesStep bytes core (left ++ record { name = name; thing = Transaction new } ∷ []) s scanning (Ok answers.Invalid)
-        invalid why refused same =
+        invalid why refused same still =
             let (t, b, there, is) = itself bytes core os s stands left name txn taken in
             only_makes bytes core os s stands (left ++ record { name = name; thing = Transaction new } ∷ []) scanning answers.Invalid store_lines.Invalid
             (ap (scan_by s.store way name low high limit) there ∙ on_false within _ (only store_lines.Invalid s.store) (unfit why refused)) refl
-            (txn_back bytes core os s stands left name txn taken new same)
+            (txn_back bytes core os s stands left name txn taken new same (still h))
 
         of : (result : Result V ReadFail) → IsRefusedBy (refused_bounds low high) result → OnErr result (NotesNothing txn new)
+            → ((k : History) (reads : List Read) → Sees bytes txn k reads → OnErr result (Sees bytes new k reads))
             → ((k : History) (reads : List Read) → Sees bytes txn k reads → IfOk result (λ rows. items rows ≡ rows_under txn.writes k txn.number low high limit way))
             → ((k : History) (reads : List Read) → Sees bytes txn k reads
             → IfOk result (λ rows. Sees bytes new k (noting.with_scan reads (noting.scan_of low high limit way (items rows) txn.writes))))
             → MakesStep bytes core (left ++ record { name = name; thing = Transaction new } ∷ []) s scanning (told_by tell result)
-        of (Ok rows) refused kept rows_are_so sees =
+        of (Ok rows) refused kept still rows_are_so sees =
             let (t, b, there, is) = itself bytes core os s stands left name txn taken in
             let answer = scan_answer bytes s.store stands.sound.proper.commits os left stands.names name txn new taken way low high limit (fit refused) keeps t b there is (items rows)
             (rows_are_so h t.reads is.sees) (sees h t.reads is.sees) in
@@ -127,8 +131,8 @@ module _ {H R : Type 0} (bytes : H → Option (List ℕ)) (core : Core H) (os : 
               quiet_stands bytes core os (left ++ record { name = name; thing = Transaction new } ∷ []) s scanning (scan_quiet s.store way name low high limit (thing_of s.store name)) stands names
                   (state_after-sound s (lines.Scan name low high limit way) stands.sound),
             )
-        of (Err unread.EmptyKey) refused kept rows_are_so sees = invalid EmptyKey refused kept
-        of (Err unread.KeyTooLong) refused kept rows_are_so sees = invalid KeyTooLong refused kept
-        of (Err unread.NoMemory) refused kept rows_are_so sees = tt
-        of (Err (unread.Disk file)) refused kept rows_are_so sees = tt
-        of (Err (unread.Damaged file place)) refused kept rows_are_so sees = tt
+        of (Err unread.EmptyKey) refused kept still rows_are_so sees = invalid EmptyKey refused kept still
+        of (Err unread.KeyTooLong) refused kept still rows_are_so sees = invalid KeyTooLong refused kept still
+        of (Err unread.NoMemory) refused kept still rows_are_so sees = tt
+        of (Err (unread.Disk file)) refused kept still rows_are_so sees = tt
+        of (Err (unread.Damaged file place)) refused kept still rows_are_so sees = tt

@@ -2,7 +2,7 @@
 use Rattle.std.proofs.Common.{◌≡◌, ℕ, true, ◌&&◌, List, [], ◌∷◌, ◌++◌, length, refl, ap, sym, ◌∙◌, subst}
 use Rattle.std.specs.Prelude.{Option, Some, nat_le}
 use Rattle.std.specs.FinMap.{entries, entries-from_sorted, entries_sorted, from_sorted, same_entries_map}
-use Rattle.vl_engine.specs.Reading.{OnlyNotes, rows_under}
+use Rattle.vl_engine.specs.Reading.{IsInMemory, OnlyNotes, rows_under}
 use Rattle.vl_engine.specs.Represents.{IsLive}
 use Rattle.vl_engine.specs.Sees.{Sees, asked}
 use Rattle.vl_engine.specs.declared.txn.Txn.{Txn}
@@ -80,4 +80,5 @@ module _ {H R : Type 0} (bytes : H → Option (List ℕ)) (s : store.State) (pro
         same = ap (λ (x : Txn H R). asked x noted) keeps ∙ ap (λ (u : ATxn). record u { reads = noted }) is.same;
         sees = subst (Sees bytes new (history_in s.commits)) (sym noted_is) sees;
         live = subst (λ (x : Txn H R). IsLive s.layout x.ticket x.number) (sym keeps) is.live;
+        near = subst (λ (x : Txn H R). IsInMemory x.version) (sym keeps) is.near;
       }))

@@ -5,7 +5,7 @@ use Rattle.std.specs.Bool.{⊤}
 use Rattle.std.specs.FinMap.{entries, entries-insert, insert, len-entries, put}
 use Rattle.std.specs.Cmp.Lexicographic.{nat_list_cmp_total}
 use Rattle.std.proofs.lemmas.Bool.Decides.{nat_tests}
-use Rattle.vl_engine.specs.Reading.{OnlyWrites}
+use Rattle.vl_engine.specs.Reading.{IsInMemory, OnlyWrites}
 use Rattle.vl_engine.specs.Represents.{IsLive}
 use Rattle.vl_engine.specs.Sees.{Sees, asked}
 use Rattle.vl_engine.specs.declared.txn.Txn.{Txn}
@@ -112,6 +112,7 @@ module _ {H R : Type 0} (bytes : H → Option (List ℕ)) (s : store.State) (os 
     same = asked_then writes same;
     sees = sees;
     live = subst (λ (x : Txn H R). IsLive s.layout x.ticket x.number) (sym keeps) is.live;
+    near = subst (λ (x : Txn H R). IsInMemory x.version) (sym keeps) is.near;
   }
 
   made_names : new.writes ≡ insert txn.writes key change → Stand bytes behind (made s name key change t b).state.things (history_in s.commits) s.layout

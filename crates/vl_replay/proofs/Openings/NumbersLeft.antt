@@ -1,5 +1,5 @@
 -- An image whose files have small numbers opens with numbers left, if it opens: what is found there, and how a run over it begins.
-use Rattle.std.proofs.Common.{◌≡◌, ◌⊎◌, ⊎_elim, inl, inr, ℕ, ◌+◌, ◌*◌, ◌<◌, ◌≤◌, List, [], ◌∷◌, ◌++◌, length, get_or, Option, Some, None, Ok, false, refl, sym, ◌∙◌, ap, subst, arith}
+use Rattle.std.proofs.Common.{◌≡◌, ◌⊎◌, ⊎_elim, inl, inr, ℕ, ◌+◌, ◌*◌, ◌<◌, ◌≤◌, List, [], ◌∷◌, ◌++◌, length, get_or, Option, Some, None, Ok, true, false, refl, sym, ◌∙◌, ap, subst, arith}
 use Rattle.std.specs.Prelude.{◌≢◌, ◌==◌, zero, suc, Bool, if◌then◌else◌, AllPairs, Contains, IsSome}
 use Rattle.std.specs.FinMap.{get}
 use Rattle.std.specs.Option.{option_map}
@@ -24,7 +24,7 @@ use Rattle.vl_model.specs.declared.counter.Counter.TheVariants as counters
 use Rattle.vl_model.specs.declared.log_frame.LogFrame.{LogFrame}
 use Rattle.vl_recover.specs.opening.Answers.{AreStrayNames, Finds, IsStrayName, calls_to_open, used_up}
 use Rattle.vl_recover.specs.laws.opening.OneFinding.{opened_not}
-use Rattle.vl_recover.specs.opening.Opening.{Opening, Opens}
+use Rattle.vl_recover.specs.opening.Opening.{IsAmong, IsNamed, Opening, Opens, led_into}
 use Rattle.vl_recover.specs.laws.opening.OpeningLaws.{opened, some_none}
 use Rattle.vl_recover.specs.opening.Plans.{IsGreatest, log_behind, log_made, new_state, passes}
 use Rattle.vl_recover.specs.opening.Walk.{StandingLog}
@@ -32,6 +32,7 @@ use Rattle.vl_replay.specs.Opening.{IsRefused}
 use Rattle.vl_replay.specs.Reopens.{NamesUpTo, Reopens}
 use Rattle.vl_replay.specs.Start.{OpensUpTo, StartsIn}
 use Rattle.vl_replay.specs.laws.StartLaws.{past, reopened_store, starts_shown}
+use Rattle.vl_replay.specs.laws.Untabled.{found_none, in_levels}
 use Rattle.vl_replay.specs.Stopped.{AreNumberedUpTo}
 use Rattle.vl_engine.specs.Shown.{Shown}
 use Rattle.vl_replay.specs.declared.fails.Refusal.{Refusal}
@@ -137,7 +138,7 @@ module _ (n : ℕ) (image : Image) (names : NamesUpTo n image) where
         greatest = record { log = log.0; table = table.0; manifest = manifest.0 };
         are_greatest = record { log = log.1; table = table.1; manifest = manifest.1 };
         logs = is.standing;
-        standing = is.by.standing;
+        standing = is.stands;
       }
 
 -- ---- its strays
@@ -214,21 +215,55 @@ module _ (P : Name → Type 0) (decide : (name : Name) → P name ⊎ (P name �
             },
           )
 
-module _ (n : ℕ) (image : Image) (names : NamesUpTo n image) (head : ℕ) where
+-- whether it is one of these numbers, and whether a level names it
+among_or_not : (ns : List ℕ) (n : ℕ) → IsAmong ns n ⊎ (IsAmong ns n → ⊥)
+among_or_not [] n = inr (λ is. is)
+among_or_not (m ∷ ms) n = ⊎_elim
+    (λ (is : IsAmong ms n). inl (inr is))
+    (λ (not : IsAmong ms n → ⊥). here not (m == n) refl)
+    (among_or_not ms n)
+  where
+    here : (IsAmong ms n → ⊥) → (b : Bool) → (m == n) ≡ b → IsAmong (m ∷ ms) n ⊎ (IsAmong (m ∷ ms) n → ⊥)
+    here other true is = let same : m ≡ n = grind (arith, nat_tests, is) in inl (inl same)
+    here other false is = inr (λ among. ⊎_elim
+        (λ (same : m ≡ n). absurd (let apart : (m ≡ n → ⊥) = grind (arith, nat_tests, is) in apart same))
+        (λ (later : IsAmong ms n). other later)
+        among)
+
+named_or_not : (levels : List (List ℕ)) (n : ℕ) → IsNamed levels n ⊎ (IsNamed levels n → ⊥)
+named_or_not [] n = inr (λ is. is)
+named_or_not (ns ∷ levels) n = ⊎_elim
+    (λ (is : IsAmong ns n). inl (inl is))
+    (λ (not : IsAmong ns n → ⊥). ⊎_elim
+    (λ (is : IsNamed levels n). inl (inr is))
+    (λ (none : IsNamed levels n → ⊥). inr (λ named. ⊎_elim
+    (λ (is : IsAmong ns n). not is)
+    (λ (is : IsNamed levels n). none is)
+    named))
+    (named_or_not levels n))
+    (among_or_not ns n)
+
+module _ (n : ℕ) (image : Image) (names : NamesUpTo n image) (o : Opening) where
   -- the name of a file that the new manifest doesn't need
   abbrev IsStray : Name → Type 0
-  IsStray name = IsSome (get image name) × IsStrayName head name
+  IsStray name = IsSome (get image name) × IsStrayName o name
 
   not_none : (o : Option (List ℕ)) → IsSome o → o ≢ None
   not_none None some = λ e. cc
   not_none (Some bytes) some = some_none bytes
 
-  stray_or_not : (name : Name) → IsStrayName head name ⊎ (IsStrayName head name → ⊥)
+  stray_or_not : (name : Name) → IsStrayName o name ⊎ (IsStrayName o name → ⊥)
   stray_or_not (Log number) = ⊎_elim
-      (λ (less : number < head). inl less)
-      (λ (le : head ≤ number). inr (λ less. omega (arith, less, le)))
-      (cases_lt number head)
-  stray_or_not (Table number) = inl tt
+      (λ (less : number < o.state.head). ⊎_elim
+      (λ (is : IsAmong (led_into o.levels) number). inr (λ stray. stray.1 is))
+      (λ (not : IsAmong (led_into o.levels) number → ⊥). inl (less, not))
+      (among_or_not (led_into o.levels) number))
+      (λ (le : o.state.head ≤ number). inr (λ stray. let less = stray.0 in omega (arith, less, le)))
+      (cases_lt number o.state.head)
+  stray_or_not (Table number) = ⊎_elim
+      (λ (is : IsNamed o.state.levels number). inr (λ stray. stray is))
+      (λ (not : IsNamed o.state.levels number → ⊥). inl not)
+      (named_or_not o.state.levels number)
   stray_or_not (Manifest number) = inl tt
 
   decide_stray : (name : Name) → IsStray name ⊎ (IsStray name → ⊥)
@@ -237,8 +272,8 @@ module _ (n : ℕ) (image : Image) (names : NamesUpTo n image) (head : ℕ) wher
       of : (o : Option (List ℕ)) → get image name ≡ o → IsStray name ⊎ (IsStray name → ⊥)
       of None is = inr (λ stray. not_none (get image name) stray.0 is)
       of (Some bytes) is = ⊎_elim
-          (λ (yes : IsStrayName head name). inl (subst IsSome (sym is) refl, yes))
-          (λ (no : IsStrayName head name → ⊥). inr (λ stray. no stray.1))
+          (λ (yes : IsStrayName o name). inl (subst IsSome (sym is) refl, yes))
+          (λ (no : IsStrayName o name → ⊥). inr (λ stray. no stray.1))
           (stray_or_not name)
 
   numbered_within : (name : Name) → file_number name ≤ n → name_number name < 3 * n + 3
@@ -247,7 +282,7 @@ module _ (n : ℕ) (image : Image) (names : NamesUpTo n image) (head : ℕ) wher
   numbered_within (Manifest m) le = omega (arith, le)
 
   -- Its strays are these.
-  pub strays_by : (strays : List Name) × AreStrayNames image head strays
+  pub strays_by : (strays : List Name) × AreStrayNames image o strays
   strays_by =
       let (strays, picked) = pick IsStray decide_stray (3 * n + 3) in (
         strays,
@@ -262,21 +297,29 @@ module _ (n : ℕ) (image : Image) (names : NamesUpTo n image) (head : ℕ) wher
 
 -- ---- it opens again
 
--- An image that shows a history, and leaves numbers to each finding, opens with what is found.
+-- An image that shows a history, leaves numbers to each finding and opens without tables opens with what is found.
 pub reopens_by : (n : ℕ) (image : Image) → NamesUpTo n image → (h : History) (m : ℕ) → Shown image h m
-    → ((found : Finds image) → used_up found ≡ None) → Reopens image h m
-reopens_by n image names h m shown left =
+    → ((found : Finds image) → used_up found ≡ None)
+    → ((o : Opening) → Opens image (Ok o) → in_levels o.levels ≡ []) → Reopens image h m
+reopens_by n image names h m shown left bare =
     let found = finds_by n image names shown.opening shown.opens in
-    let strays = strays_by n image names found.opening.state.head in
-    record { shown = shown; found = found; unused = left found; strays = strays.0; are_strays = strays.1 }
+    let strays = strays_by n image names found.opening in
+    record {
+      shown = shown;
+      untabled = found_none shown.levels (ap in_levels (sym shown.found) ∙ bare shown.opening shown.opens);
+      found = found;
+      unused = left found;
+      strays = strays.0;
+      are_strays = strays.1;
+    }
 
 module _ {D : Type 0} (g : Ghosts D) (disk : D) (image : Image) (state : DiskState) (h : History) (m : ℕ)
     (told : g.told disk ≡ Some state) (started : Started image state) (again : Reopens image h m) where
   -- A run over the disk that is started from it begins with what the history has at its number,
   pub reopens_starts : (files : ℕ) → OpensUpTo files state again.found
-      → StartsIn g disk (reopened_store again.found h m (after_calls (calls_to_open again.found (length again.strays)) (g.calls disk)) files)
+      → StartsIn g disk (reopened_store again.found h m again.shown (after_calls (calls_to_open again.found (length again.strays)) (g.calls disk)) files)
   reopens_starts files up_to = starts_shown g disk state image again.found again.strays h m files told (started_read image state started)
-      again.unused again.are_strays again.shown up_to
+      again.unused again.are_strays again.shown again.untabled up_to
 
   -- and isn't refused.
   pub reopens_not_refused : (read : Image) → IsRead read state → (refusal : Refusal) → IsRefused read refusal → ⊥

@@ -1,5 +1,5 @@
 -- The entries of the logs that were opened, source by source, and what stands there.
-use Rattle.std.proofs.Common.{◌≡◌, ℕ, ◌<◌, ◌+◌, List, [], ◌∷◌, ◌++◌, length, drop, get_or, map, refl, ap, sym, ◌∙◌, subst, arith}
+use Rattle.std.proofs.Common.{◌≡◌, ℕ, ◌<◌, ◌+◌, List, [], ◌∷◌, ◌++◌, length, drop, get_or, map, refl, ap, sym, ◌∙◌, subst}
 use Rattle.std.specs.Prelude.{Some}
 use Rattle.std.specs.List.{AllByRecursion, flat_map}
 use Rattle.std.proofs.lemmas.Grind.{flat_map-append}
@@ -17,7 +17,7 @@ use Rattle.vl_memtable.specs.declared.frozen_log.FrozenLog.{FrozenLog}
 use Rattle.vl_run.specs.Order.{along}
 use Rattle.vl_replay.specs.Contents.{GiveEntries}
 use Rattle.vl_replay.specs.Opened.{HaveAt, entries_in}
-use Rattle.vl_engine.specs.Shown.{no_logs}
+use Rattle.vl_replay.specs.ShownRows.{unfollowed}
 
 -- ---- source by source
 
@@ -68,4 +68,4 @@ pub winners_have : (number : ℕ) (frozen : List FrozenLog) (h : History) (left 
     → HaveAt frozen h number
     → WinnersHave (contents_at h number) number (flat_map (λ (fs : List Entry). fs) left)
 winners_have number frozen h left give have key =
-    ap (resolved_at no_logs) (give.winners key number) ∙ have key ∙ sym (ap Some (get-contents_at h number key))
+    ap (resolved_at unfollowed) (give.winners key number) ∙ have key ∙ sym (ap Some (get-contents_at h number key))

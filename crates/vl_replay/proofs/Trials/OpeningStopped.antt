@@ -20,12 +20,10 @@ use Rattle.vl_frame.specs.laws.RunLaws.{frame_is_some}
 use Rattle.vl_frame.specs.Runs.{item_frame}
 use Rattle.vl_manifest.specs.Formats.{gone_format}
 use Rattle.vl_manifest.specs.Grammar.{edits_grammar}
-use Rattle.vl_manifest.specs.Manifest.{IsReadable, SaysState, manifest_bytes}
-use Rattle.vl_manifest.specs.Tables.{SaysWithoutTables}
-use Rattle.vl_manifest.specs.laws.MadeLaws.{SaysAsRead, bare_manifest}
-use Rattle.vl_manifest.specs.laws.ManifestLaws.{one_saying}
+use Rattle.vl_manifest.specs.Manifest.{IsReadable, ManifestSays, SaysState, manifest_bytes}
+use Rattle.vl_manifest.specs.laws.MadeLaws.{SaysAsRead, bare_has_frame}
+use Rattle.vl_manifest.specs.laws.ManifestLaws.{manifest_reads, one_saying, whole_said}
 use Rattle.vl_manifest.specs.laws.StateLaws.{IsInRange}
-use Rattle.vl_manifest.specs.laws.TableLaws.{told_bare}
 use Rattle.vl_manifest.specs.States.{as_read, fresh_state, whole_edits}
 use Rattle.vl_manifest.specs.declared.state.ManifestState.{ManifestState}
 use Rattle.vl_mem.specs.laws.CrashChance.{IsTornByPieces, IsTornInOnePiece, SpellsWhatStands, crash_without_chance, lengthened_torn, untorn_file}
@@ -48,11 +46,12 @@ use Rattle.vl_recover.specs.opening.Opening.{Bare, Heading, Headless, IsHeaded, 
 use Rattle.vl_recover.specs.laws.opening.OpeningLaws.{opened, some_none, some_same}
 use Rattle.vl_recover.specs.opening.Plans.{Greatest}
 use Rattle.vl_recover.specs.laws.repairing.StageLaws.{ok_err, ok_same}
-use Rattle.vl_recover.specs.laws.crash.Torn.{torn_manifest}
+use Rattle.vl_recover.specs.laws.crash.Torn.{CanWrite, torn_manifest}
 use Rattle.vl_recover.specs.opening.Walk.{StandingLog}
 use Rattle.vl_seglog.specs.Frames.{frames_grammar, log_header}
 use Rattle.vl_replay.specs.Reopens.{NamesUpTo, Reopens}
-use Rattle.vl_replay.specs.laws.StartLaws.{finds_nothing, not_there, shown_nothing, started_durable}
+use Rattle.vl_replay.specs.laws.StartLaws.{empty_stay, finds_nothing, not_there, shown_nothing, started_durable}
+use Rattle.vl_replay.specs.laws.Untabled.{in_levels, named_none}
 use Rattle.vl_replay.specs.Stopped.{AreNumberedUpTo}
 use Rattle.vl_replay.proofs.Openings.NumbersLeft.{names_left, numbers_left, reopens_by}
 use Rattle.vl_engine.specs.laws.ShownLaws.{opening_shown}
@@ -92,9 +91,9 @@ abbrev first_plan : Plan
 first_plan = record { manifest = 1; piece = piece; last = NoLast; log = Some 1; strays = [] }
 
 -- nothing is stray in the empty image
-none_stray : (head : ℕ) (strays : List Name) → AreStrayNames empty head strays → strays ≡ []
-none_stray head [] are = refl
-none_stray head (name ∷ strays) are = absurd (not_there name ((are.all name).0 (0, omega arith, refl)).0)
+none_stray : (o : Opening) (strays : List Name) → AreStrayNames empty o strays → strays ≡ []
+none_stray o [] are = refl
+none_stray o (name ∷ strays) are = absurd (not_there name ((are.all name).0 (0, omega arith, refl)).0)
 
 -- and the plan is this one
 is_first_plan : (repairing : Repairing empty) → repairing.plan ≡ first_plan
@@ -106,7 +105,7 @@ is_first_plan repairing =
     ∙ ap (λ (logs : List StandingLog). plan_from finds_nothing.greatest finds_nothing.opening.state logs repairing.plan.strays)
     (same_logs empty a finds_nothing)
     ∙ ap (λ (strays : List Name). plan_from finds_nothing.greatest finds_nothing.opening.state [] strays)
-    (none_stray a.opening.state.head repairing.plan.strays repairing.is.strays)
+    (none_stray a.opening repairing.plan.strays repairing.is.strays)
 
 -- ---- while a file is made on a disk that was just started
 
@@ -209,6 +208,10 @@ fresh_range = record {
   gone = omega arith;
 }
 
+-- and it can be written
+can_write : CanWrite 1 fresh_state
+can_write = record { fits = omega arith; range = fresh_range; has = bare_has_frame fresh_state refl fresh_range }
+
 -- it says the same in each format, since its tables cover nothing
 fresh_as_read : (format : ℕ) → as_read format fresh_state ≡ fresh_state
 fresh_as_read format = by (nat_le gone_format format)
@@ -256,19 +259,19 @@ module _ (now : DiskState) (small : IsSmall now) (manifest : IsFirstManifest now
       by (in_making file part stands) = ⊎_elim
           (λ (not : IsReadable 1 bytes → ⊥). absurd (not readable))
           (λ (said : SaysAsRead 1 bytes fresh_state).
-          subst (SaysState 1 bytes) (fresh_as_read said.format) said.says.says)
-          (torn_manifest 1 fresh_state (omega arith) fresh_range refl file part bytes
+          subst (SaysState 1 bytes) (fresh_as_read said.format) said.says)
+          (torn_manifest 1 fresh_state can_write file part bytes
           (subst (λ (x : Option (List ℕ)). IsLeftOne (Manifest 1) (Some file) (get now.removed (Manifest 1)) x) is
           (subst (λ (x : Option File). IsLeftOne (Manifest 1) x (get now.removed (Manifest 1)) (get image (Manifest 1))) stands
           (left_one now image left (Manifest 1)))).no_chance)
       by (is_made stands) =
           let same : piece ≡ bytes = some_same piece bytes (sym (left_settled now image (Manifest 1) piece stands left.left) ∙ is) in
           subst (λ (b : List ℕ). SaysState 1 b fresh_state) same
-          (bare_manifest fresh_state refl 1 fresh_range (omega arith)).says
+          (whole_said 1 fresh_state piece fresh_range (manifest_reads 1 (whole_edits fresh_state ∷ []) (omega arith) (bare_has_frame fresh_state refl fresh_range, tt)))
 
   -- so each opening of it begins with the fresh state
   opens_fresh : (o : Opening) → Opens image (Ok o) → fresh_state ≡ o.state
-  opens_fresh o opens = (let is = opened image o opens in by is.heading is.by.headed is.by.says)
+  opens_fresh o opens = (let is = opened image o opens in by is.heading is.headed is.says)
     where
       said_so : (n : ℕ) (said : Result ManifestState ℕ) → ◌≡◌ {A = Result ManifestState Refusal} (Ok o.state) (of_manifest n said)
           → said ≡ Ok o.state
@@ -281,11 +284,10 @@ module _ (now : DiskState) (small : IsSmall now) (manifest : IsFirstManifest now
           let one : 1 ≡ n = manifest_one n bytes headed.here.stands in
           let here : get image (Manifest 1) ≡ Some bytes = subst (λ (k : ℕ). get image (Manifest k) ≡ Some bytes) (sym one) headed.here.stands in
           let readable : IsReadable 1 bytes = subst (λ (k : ℕ). IsReadable k bytes) (sym one) headed.here.readable in
-          let says_o : SaysWithoutTables 1 bytes (Ok o.state) = subst (SaysWithoutTables 1 bytes) (said_so n said is)
-          (subst (λ (k : ℕ). SaysWithoutTables k bytes said) (sym one) says) in
+          let says_o : ManifestSays 1 bytes (Ok o.state) = subst (ManifestSays 1 bytes) (said_so n said is)
+          (subst (λ (k : ℕ). ManifestSays k bytes said) (sym one) says) in
           ok_same {E = ℕ} fresh_state o.state
-          (one_saying 1 bytes (Ok fresh_state) (Ok o.state) (manifest_says bytes here readable)
-          (told_bare 1 bytes o.state says_o).says)
+          (one_saying 1 bytes (Ok fresh_state) (Ok o.state) (manifest_says bytes here readable) says_o)
       by Headless headed says = absurd (ok_err o.state _ says)
       by (Newest format) headed says = absurd (ok_err o.state _ says)
 
@@ -293,10 +295,12 @@ module _ (now : DiskState) (small : IsSmall now) (manifest : IsFirstManifest now
   small_reopens : Reopens image no_history 0
   small_reopens = reopens_by 1 image names no_history 0
       (opening_shown empty_disk now empty no_history 0
-      (λ image left. (started_durable empty empty_disk started_empty).as_read empty image is_read left) shown_nothing as_of image left)
+      (λ image left. (started_durable empty empty_disk started_empty empty_stay).as_read empty image is_read left) shown_nothing as_of image left)
       (λ found. let fresh = opens_fresh found.opening found.opens in
       numbers_left 1 (omega arith) image names found
       (subst (λ (s : ManifestState). s.head ≤ 2) fresh (omega arith)) (subst (λ (s : ManifestState). s.next_log ≤ 2) fresh (omega arith)))
+      (λ o opens. named_none false image o.state.levels o.levels
+      (subst (λ (s : ManifestState). in_levels s.levels ≡ []) (opens_fresh o opens) refl) (opened image o opens).levels)
     where
       is_read : IsRead empty empty_disk
       is_read = started_read empty empty_disk started_empty
@@ -306,8 +310,13 @@ module _ (now : DiskState) (small : IsSmall now) (manifest : IsFirstManifest now
 -- whatever a crash leaves meanwhile opens as an empty image does
 first_opening : (now : DiskState) → IsMeanwhile empty empty_disk now → OpensAsOf empty_disk now
 first_opening now (as_before is) = subst (OpensAsOf empty_disk) (sym is) (one.as_before empty_disk)
-first_opening now (at_repairing repairing during) = repairing_opens empty_disk now repairing.found repairing.plan empty_lawful
-    (started_may_open empty empty_disk started_empty) (started_read empty empty_disk started_empty) repairing.unused repairing.is during
+first_opening now (at_repairing repairing during) = repairing_opens empty_disk now repairing.found repairing.plan (record {
+  lawful = empty_lawful;
+  may = started_may_open empty empty_disk started_empty empty_stay;
+  is_read = started_read empty empty_disk started_empty;
+  left = repairing.unused;
+  has = repairing.has;
+}) repairing.is during
 
 -- what the disk is then
 record IsFirst (now : DiskState) : Type 0 where

@@ -1,5 +1,5 @@
 -- The two openings of a trial: that of the empty disk that stops, and that of what a crash leaves.
-use Rattle.std.proofs.Common.{◌≡◌, ⊎_elim, ℕ, ◌-◌, ◌^◌, ◌≤◌, List, [], length, Some, None, Result, Ok, Err, refl, sym, ◌∙◌, ap, subst, arith}
+use Rattle.std.proofs.Common.{◌≡◌, ⊎_elim, ℕ, ◌-◌, ◌^◌, ◌≤◌, List, [], length, Some, Result, Ok, Err, refl, sym, ◌∙◌, ap, subst, arith}
 use Rattle.std.specs.Prelude.{IfOk, IfErr}
 use Rattle.std.specs.FinMap.{empty, get-empty}
 use Rattle.vl_replay.specs.Text.{reopened_text}
@@ -18,10 +18,9 @@ use Rattle.vl_mem.specs.MemDisk.{changes_of, faults_of, reads_of, state_of, told
 use Rattle.vl_mem.specs.contracts.mem_disk.MemDiskWatched.TheImpl as memory
 use Rattle.vl_mem.specs.declared.mem_disk.MemDisk.{MemDisk}
 use Rattle.vl_model.specs.History.{History, contents_at}
-use Rattle.vl_model.specs.laws.HistoryLaws.{contents_at-standing_at}
-use Rattle.vl_recover.specs.opening.Answers.{AnswersBy, Finds, calls_to_open}
+use Rattle.vl_recover.specs.opening.Answers.{AnswersBy, Finds}
 use Rattle.vl_recover.specs.crash.Meanwhile.{IsMeanwhile}
-use Rattle.vl_recover.specs.opening.Results.{HasFailed, recovery_by, opened_of}
+use Rattle.vl_recover.specs.opening.Results.{counted, recovery_by, opened_of}
 use Rattle.vl_recover.specs.opening.Answers.{opened_from}
 use Rattle.vl_recover.specs.declared.fails.OpenFail.{OpenFail}
 use Rattle.vl_recover.specs.declared.fails.OpenError.{OpenError}
@@ -31,16 +30,15 @@ use Rattle.vl_replay.specs.Durable.{HoldsState, Tells}
 use Rattle.vl_replay.specs.Endings.{no_memory_line}
 use Rattle.vl_replay.specs.Opened.{HaveAt}
 use Rattle.vl_replay.specs.Opening.{IsRefused, disk_behind, ending_unopened}
-use Rattle.vl_engine.specs.Opening.{AnswersOpening, IsFault, why_of}
+use Rattle.vl_engine.specs.Opening.{AnswersOpening, IsDiskFault, IsFault, reader_faults, why_of}
 use Rattle.std.specs.Prelude.{Option as Maybe}
 use Rattle.vl_mem.specs.CrashImage.{crash_image}
 use Rattle.vl_model.specs.History.{last_number}
 use Rattle.vl_replay.specs.Reopens.{Reopens}
 use Rattle.vl_replay.specs.Replaying.{StandsFor, disk_of}
-use Rattle.vl_replay.specs.Sequential.{State, history_of}
 use Rattle.vl_replay.specs.Start.{OpensUpTo, StartsIn}
 use Rattle.vl_engine.specs.Opening.{IsDurable}
-use Rattle.vl_replay.specs.laws.StartLaws.{finds_nothing, no_commits, opens_up_to, started_durable, starts_empty}
+use Rattle.vl_replay.specs.laws.StartLaws.{empty_stay, finds_nothing, no_commits, opens_up_to, started_durable, starts_empty}
 use Rattle.vl_replay.specs.Steps.{EndsUnopened, Finishes, FinishesBy}
 use Rattle.vl_replay.specs.Stored.{IsStored}
 use Rattle.vl_replay.specs.Trial.{begun}
@@ -50,9 +48,10 @@ use Rattle.vl_replay.specs.declared.ending.Ending.TheVariants.{NoMemory}
 use Rattle.vl_replay.specs.declared.fails.Refusal.{Refusal}
 use Rattle.vl_replay.specs.declared.fails.Refusal.TheVariants as refusals
 use Rattle.vl_replay.specs.declared.replayer.Replayer.{Replayer}
-use Rattle.vl_replay.proofs.Openings.NumbersLeft.{reopens_not_refused, reopens_starts}
+use Rattle.vl_replay.proofs.Openings.NumbersLeft.{reopens_not_refused}
 use Rattle.vl_replay.proofs.Trials.OpeningStopped.{opening_reopens}
 use Rattle.vl_replay.proofs.Openings.Recovering.{opened_have, opened_number}
+use Rattle.vl_replay.proofs.Runs.ReaderFaults.{disk_cause}
 use Rattle.vl_replay.proofs.Runs.Refusals.{opened_not_refused}
 
 some_list : (a b : List ℕ) → Some a ≡ Some b → a ≡ b
@@ -73,19 +72,20 @@ module _ (stop : ℕ) (disk : MemDisk) (told : told_by disk ≡ Some empty_disk)
       (starts_empty memory.ghosts disk empty_disk told (get-empty name_cmp) (get-empty name_cmp))
 
   pub durable : Tells memory.ghosts disk IsDurable
-  durable = (empty_disk, told, started_durable empty empty_disk started_empty)
+  durable = (empty_disk, told, started_durable empty empty_disk started_empty empty_stay)
 
   pub counts_small : (changes_of disk).listed.calls ≤ 2 ^ 64 - 1
   counts_small = omega (arith, none)
 
   pub opened : {Held Reader Writer : Type 0} {watched : _} {held : _} {cloned : _} {read : _} {write : _}
-      (r : Result (Replayer MemDisk Held Reader Writer watched held cloned read write) (OpenFail MemDisk))
-      → HasCause (faults_of disk) (faults_of (disk_behind r)) (IsFault (why_of r))
+      {R : Type 0} (faults : R → ℕ)
+      (r : Result (Replayer MemDisk Held Reader Writer watched held cloned read write) (OpenFail MemDisk R))
+      → reader_faults faults r ≡ 0 → HasCause (faults_of disk) (faults_of (disk_behind r)) (IsDiskFault (reader_faults faults r) (why_of r))
       → HoldsThroughout memory.ghosts disk (disk_behind r) (IsMeanwhile empty empty_disk)
       → (bytes : Held → Maybe (List ℕ)) → IfOk r (λ replayer. StandsFor bytes replayer begun)
       → IfOk r (λ replayer. HoldsState memory.ghosts IsStored begun (disk_of replayer))
       → IfOk r (λ replayer. IsOnTrial stop (StandsFor bytes replayer) (disk_of replayer))
-  opened (Ok replayer) cause meanwhile bytes stands holds =
+  opened faults (Ok replayer) unread cause meanwhile bytes stands holds =
       let past_then = meanwhile.time.as_planned (Some stop) past in
       let sound_then : faults_of (disk_of replayer) ≡ 0 = cause.steady (λ by. by) ∙ sound in
       let counts = counted_past (disk_of replayer) (Some stop) past_then in
@@ -96,16 +96,18 @@ module _ (stop : ℕ) (disk : MemDisk) (told : told_by disk ≡ Some empty_disk)
         sound = sound_then;
         opened = omega (arith, counts.at_least, sound_then, holds.calls);
       }
-  opened (Err fail) cause meanwhile bytes stands holds = tt
+  opened faults (Err fail) unread cause meanwhile bytes stands holds = tt
 
   pub stopped : {Held Reader Writer : Type 0} {watched : _} {held : _} {cloned : _} {read : _} {write : _}
-      (r : Result (Replayer MemDisk Held Reader Writer watched held cloned read write) (OpenFail MemDisk))
-      → HasCause (faults_of disk) (faults_of (disk_behind r)) (IsFault (why_of r))
+      {R : Type 0} (faults : R → ℕ)
+      (r : Result (Replayer MemDisk Held Reader Writer watched held cloned read write) (OpenFail MemDisk R))
+      → reader_faults faults r ≡ 0 → HasCause (faults_of disk) (faults_of (disk_behind r)) (IsDiskFault (reader_faults faults r) (why_of r))
       → HoldsThroughout memory.ghosts disk (disk_behind r) (IsMeanwhile empty empty_disk)
       → AnswersOpening empty (why_of r) → (changes_of (disk_behind r)).listed.calls ≤ begun.calls
       → IfErr r (λ fail. StopsOpening stop fail.why fail.disk)
-  stopped (Ok replayer) cause meanwhile answers few = tt
-  stopped (Err fail) cause meanwhile answers few = of fail.why cause answers
+  stopped faults (Ok replayer) unread cause meanwhile answers few = tt
+  stopped faults (Err fail) unread cause meanwhile answers few =
+      of fail.why (disk_cause (faults_of disk) (faults_of fail.disk) (counted faults fail.reader) fail.why unread cause) answers
     where
       not_refused : (refusal : Refusal) → IsRefused empty refusal → ⊥
       not_refused = opened_not_refused empty finds_nothing refl
@@ -128,45 +130,28 @@ module _ (stop : ℕ) (disk : MemDisk) (told : told_by disk ≡ Some empty_disk)
 
 -- ---- the opening of what a crash leaves
 
--- a disk of which nothing is to fail doesn't fail
-pub never_failed : (old new : MemDisk) (P : DiskState → Type 0) (failed : Type 0) → changes_of old ≡ new_changes [] → reads_of old ≡ new_plan []
-    → HoldsThroughout memory.ghosts old new P → HasCause (faults_of old) (faults_of new) failed → failed → ⊥
-never_failed old new P failed changes reads meanwhile cause fails =
-    let none : faults_of new ≡ 0 = counted_past new None (meanwhile.time.as_planned None (never_fails old changes reads)) in
-    let rose = cause.rose fails in
-    omega (arith, none, rose)
-
--- what reads give of the disk before
-pub is_fault_too : (reason : OpenError) → IsFault (Some reason) → HasFailed (recovery_by reason)
-is_fault_too why.NotAStore by = absurd by
-is_fault_too (why.NewerFormat format) by = absurd by
-is_fault_too (why.Damaged name place) by = absurd by
-is_fault_too (why.Exhausted counter) by = absurd by
-is_fault_too why.NoMemory by = absurd by
-is_fault_too (why.Disk name) by = tt
-
 module _ (image : Image) (h : History) (m : ℕ) (disk : MemDisk) (started : Started image (state_of disk)) (again : Reopens image h m) where
   pub lawful_up : (files : ℕ) × OpensUpTo files (state_of disk) again.found
   lawful_up = opens_up_to (state_of disk) again.found (told_lawful disk.events.items disk.kept.sound (state_of disk) refl)
 
   -- its number and contents are printed
-  pub text_is : (parts : Parts MemDisk) (other : Finds image) → opened_of parts ≡ opened_from other
+  pub text_is : {H : Type 0} (parts : Parts MemDisk H) (other : Finds image) → opened_of parts ≡ opened_from other
       → (text : List ℕ) → ((k : History) → HaveAt parts.frozen.items k parts.number → text ≡ reopened_text parts.number (contents_at k parts.number))
       → text ≡ reopened_text m (contents_at h m)
   text_is parts other opened text said =
-      let number = opened_number image again.found parts other opened h m again.shown in
-      said h (subst (HaveAt parts.frozen.items h) (sym number) (opened_have image again.found parts other opened h m again.shown))
+      let number = opened_number image again.found parts other opened h m again.shown again.untabled in
+      said h (subst (HaveAt parts.frozen.items h) (sym number) (opened_have image again.found parts other opened h m again.shown again.untabled))
       ∙ ap (λ (n : ℕ). reopened_text n (contents_at h n)) number
 
   -- where it isn't opened, memory ran out
   pub only_memory : (reason : OpenError) → ((state : DiskState) (read : Image) → told_by disk ≡ Some state → IsRead read state → AnswersBy read (recovery_by reason))
-      → (HasFailed (recovery_by reason) → ⊥) → reason ≡ why.NoMemory
+      → (IsFault (Some reason) → ⊥) → reason ≡ why.NoMemory
   only_memory reason answers sound = of reason (answers (state_of disk) image refl (started_read image (state_of disk) started)) sound
     where
       not_refused : (refusal : Refusal) → IsRefused image refusal → ⊥
       not_refused = reopens_not_refused memory.ghosts disk image (state_of disk) h m refl started again image (started_read image (state_of disk) started)
 
-      of : (reason : OpenError) → AnswersBy image (recovery_by reason) → (HasFailed (recovery_by reason) → ⊥) → reason ≡ why.NoMemory
+      of : (reason : OpenError) → AnswersBy image (recovery_by reason) → (IsFault (Some reason) → ⊥) → reason ≡ why.NoMemory
       of why.NotAStore answer fine = absurd (not_refused refusals.NotAStore answer)
       of (why.NewerFormat format) answer fine = absurd (not_refused (refusals.NewerFormat format) answer)
       of (why.Damaged name place) answer fine = absurd (not_refused (refusals.Damaged name place) answer)

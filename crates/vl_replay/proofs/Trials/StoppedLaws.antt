@@ -6,7 +6,6 @@ use Rattle.std.specs.List.{AllByRecursion}
 use Rattle.std.specs.Option.{option_map}
 use Rattle.std.proofs.Math.Seq.{take-append-add}
 use Rattle.std.proofs.lemmas.List.{length-take, map-append, take-take, take_all, take_at}
-use Rattle.vl_model.specs.Formats.{log_format}
 use Rattle.vl_disk.specs.Changes.{changed_elsewhere, changed_there}
 use Rattle.vl_disk.specs.Crash.{Image, MayLeave}
 use Rattle.vl_disk.specs.DiskState.{DiskState, File, IsLawful, appended, lengthened, synced, synced_file}
@@ -17,23 +16,24 @@ use Rattle.vl_disk.specs.declared.name.Name.{Name}
 use Rattle.vl_disk.specs.declared.name.Name.TheVariants.{Log}
 use Rattle.vl_frame.specs.laws.RunLaws.{frame_is_some, one_front}
 use Rattle.vl_frame.specs.Runs.{HasFrame, StandsNone, item_frame}
-use Rattle.vl_layout.specs.Logs.{new_segment}
+use Rattle.vl_layout.specs.Tidy.{sealed}
+use Rattle.vl_layout.specs.declared.layout.Layout.{Layout}
 use Rattle.vl_layout.specs.declared.segment.Segment.{Segment}
+use Rattle.vl_layout.specs.declared.table.Table as laid
 use Rattle.vl_manifest.specs.declared.state.ManifestState.{ManifestState}
 use Rattle.vl_mem.specs.CrashImage.{crash_image, left_of}
 use Rattle.vl_mem.specs.laws.CrashLaws.{crash_left, image_left}
 use Rattle.vl_mem.specs.declared.outcome.Outcome.{Outcome}
 use Rattle.vl_mem.specs.declared.outcome.Outcome.TheVariants.{Lost, Kept, Halved}
-use Rattle.vl_model.specs.History.{last_number}
+use Rattle.vl_model.specs.History.{History, last_number}
 use Rattle.vl_model.specs.Limits.{max_file_number}
 use Rattle.vl_model.specs.declared.log_frame.LogFrame.{LogFrame}
 use Rattle.vl_recover.specs.opening.Walk.{standing_log}
-use Rattle.vl_recover.specs.laws.crash.AppendLaws.{last_held, manifest_kept, standing_with, walked_with}
-use Rattle.vl_recover.specs.crash.Held.{HoldsStore}
-use Rattle.vl_recover.specs.laws.opening.HeldLaws.{held_current, held_opens, held_says}
-use Rattle.vl_recover.specs.crash.Held.{GoOn, log_as_held, opening_held}
-use Rattle.vl_recover.specs.opening.Opening.{Led, Opening, Opens, Refusal, StandingLogs}
-use Rattle.vl_recover.specs.laws.opening.OpeningLaws.{opens_by, single_opening, some_none}
+use Rattle.vl_recover.specs.laws.crash.AppendLaws.{last_held, manifest_kept, needs_beside, standing_with, walked_with}
+use Rattle.vl_recover.specs.crash.Held.{GoOn, HoldsStore, View, log_as_held, opening_held}
+use Rattle.vl_recover.specs.laws.opening.HeldLaws.{held_current, held_opens, held_says, needs_image, needs_led}
+use Rattle.vl_recover.specs.opening.Opening.{IsAmong, Led, Opening, Opens, Refusal, StandingLogs, led_into}
+use Rattle.vl_recover.specs.laws.opening.OpeningLaws.{is_opened, single_opening, some_none}
 use Rattle.vl_recover.specs.laws.repairing.StageLaws.{ok_same}
 use Rattle.vl_recover.specs.laws.crash.TornFrames.{frame_behind, torn_log}
 use Rattle.vl_recover.specs.opening.Walk.{StandingLog, filled, walked, with_frames}
@@ -43,9 +43,12 @@ use Rattle.vl_seglog.specs.laws.LogReadingLaws.{SaysFrames, reads_with_tail}
 use Rattle.vl_replay.specs.Reopens.{NamesUpTo, Reopens, commits_of, state_left}
 use Rattle.vl_replay.specs.Sequential.{State, history_of}
 use Rattle.vl_replay.specs.Stopped.{AreNumberedUpTo, Commits, GivesUpTo, append_failed, sync_failed, with_taken}
-use Rattle.vl_replay.specs.Stored.{IsStopped, IsStored, base_of}
-use Rattle.vl_engine.specs.Held.{logs_from}
-use Rattle.vl_engine.specs.laws.HeldLaws.{held_shown}
+use Rattle.vl_replay.specs.Stored.{IsStopped, IsStored}
+use Rattle.vl_replay.specs.laws.Untabled.{in_levels, led_nowhere, none_found}
+use Rattle.vl_engine.specs.Files.{HasTable, found_levels}
+use Rattle.vl_engine.specs.Held.{Base, logs_from}
+use Rattle.vl_engine.specs.laws.HeldLaws.{held_entries_show, store_held}
+use Rattle.vl_engine.specs.laws.ShownLaws.{shown_by}
 use Rattle.vl_engine.specs.Shown.{Shown}
 use Rattle.vl_engine.specs.Writing.{written}
 use Rattle.vl_replay.proofs.Openings.NumbersLeft.{names_left, numbered_changed, numbers_left, reopens_by}
@@ -87,8 +90,9 @@ filled_with a b number header frames (q ∷ logs) =
 -- ---- images of a disk whose log took a part of a frame
 
 -- of a disk that holds a store, and a frame for its last log
-module _ (state : ManifestState) (before : List Segment) (last : Segment) (f : LogFrame) (disk : DiskState)
-    (holds : HoldsStore state (before ++ last ∷ []) disk) (has : HasFrame (frames_grammar last.format) f) where
+module _ (state : ManifestState) (view : View) (before : List Segment) (last : Segment) (f : LogFrame) (disk : DiskState)
+    (holds : HoldsStore state view (before ++ last ∷ []) disk) (unled : IsAmong (led_into view.levels) last.number → ⊥)
+    (has : HasFrame (frames_grammar last.format) f) where
   abbrev frame : List ℕ
   frame = frame_behind last.format last.number last.frames f
 
@@ -106,7 +110,7 @@ module _ (state : ManifestState) (before : List Segment) (last : Segment) (f : L
   -- An image that has only a part of the frame opens with the logs before it.
   part_opens : (number : ℕ) → GoOn state.covered (before ++ last ∷ []) number → (taken : ℕ) (image : Image) → MayLeave (torn taken) image
       → (k : ℕ) → k < length frame → get image (Log last.number) ≡ Some (log ++ take k frame)
-      → Opens image (Ok (opening_held state (before ++ last ∷ []) number))
+      → Opens image (Ok (opening_held state view (before ++ last ∷ []) number))
   part_opens number goes taken image may k less is =
       let elsewhere = changed_elsewhere (Log last.number) disk (lengthened frame taken) in
       let held = manifest_kept last.number state disk (torn taken) elsewhere holds.manifest in
@@ -123,13 +127,18 @@ module _ (state : ManifestState) (before : List Segment) (last : Segment) (f : L
       (subst (λ (l : List StandingLog). walked state.covered l ≡ Ok number) split goes) in
       let filled_same : filled logs ≡ filled (map log_as_held (before ++ last ∷ [])) =
       filled_with found (log_as_held last) refl refl refl (map log_as_held before) ∙ ap filled (sym split) in
-      subst (λ (l : List Segment). Opens image (Ok (record { state = state; logs = l; number = number }))) filled_same
-      (opens_by image (Led held.number held.bytes) state logs number (record {
+      let needs = needs_beside state view last.number disk (torn taken) unled elsewhere holds.needs in
+      is_opened image (opening_held state view (before ++ last ∷ []) number) (record {
+        heading = Led held.number held.bytes;
         headed = held_current state (torn taken) held image may;
         says = held_says state (torn taken) held;
-        standing = standing;
+        levels = needs_image state view (torn taken) image needs may;
+        led = needs_led state view (torn taken) image needs may;
+        standing = logs;
+        stands = standing;
         walk = walk;
-      }))
+        logs_are = sym filled_same;
+      })
 
   -- the log with so many bytes of what it took
   part_of : (taken n : ℕ) → take (length log + n) (log ++ take taken frame) ≡ log ++ take n (take taken frame)
@@ -186,13 +195,13 @@ module _ (state : ManifestState) (before : List Segment) (last : Segment) (f : L
     left outcome taken = crash_left outcome (torn taken) (appended_lawful disk lawful (Log last.number) frame taken)
 
     -- and opens with the logs before the frame where nothing of it was taken, where it is lost, and where half of it is left
-    none_opens : (outcome : Outcome) → Opens (crash_image outcome (torn 0)) (Ok (opening_held state (before ++ last ∷ []) number))
+    none_opens : (outcome : Outcome) → Opens (crash_image outcome (torn 0)) (Ok (opening_held state view (before ++ last ∷ []) number))
     none_opens outcome = part_opens number goes 0 (crash_image outcome (torn 0)) (left outcome 0) 0 frame_some (none_left outcome)
 
-    lost_opens : Opens (crash_image Lost (torn (length frame))) (Ok (opening_held state (before ++ last ∷ []) number))
+    lost_opens : Opens (crash_image Lost (torn (length frame))) (Ok (opening_held state view (before ++ last ∷ []) number))
     lost_opens = part_opens number goes (length frame) (crash_image Lost (torn (length frame))) (left Lost (length frame)) 0 frame_some (lost_left (length frame))
 
-    half_opens : Opens (crash_image Halved (torn (length frame))) (Ok (opening_held state (before ++ last ∷ []) number))
+    half_opens : Opens (crash_image Halved (torn (length frame))) (Ok (opening_held state view (before ++ last ∷ []) number))
     half_opens = part_opens number goes (length frame) (crash_image Halved (torn (length frame))) (left Halved (length frame)) half half_less half_left
 
 -- What is kept of a disk whose last sync failed is what it would have had behind it.
@@ -211,35 +220,65 @@ kept_left name disk = read_left (crash_image Kept disk) (synced name disk) (reco
 
 -- ---- images of a disk that holds a state, and of one on which a commit was stopped
 
--- the image opens as the store that the disk holds of the state
-abbrev pub OpensAsHeld : (s : State) (disk : DiskState) → IsStored s disk → Image → Type 0
-OpensAsHeld s disk stored image =
-    Opens image (Ok (opening_held s.manifest (logs_from (base_of s stored.before) s.store.layout) (last_number (history_of s))))
+-- what is read of a state's tables, of which there are none
+abbrev pub view_in : State → Image → View
+view_in s image = record { image = image; levels = found_levels s.store.layout.levels }
 
--- then it shows the state's history
-pub held_shows : (s : State) (disk : DiskState) (stored : IsStored s disk) (image : Image) → OpensAsHeld s disk stored image
-    → Shown image (history_of s) (last_number (history_of s))
-held_shows s disk stored image opens =
-    let left = crash_left Kept disk stored.holds.lawful in
-    let shown = held_shown (base_of s stored.before) s.store.layout (history_of s) stored.is_base stored.tidy disk stored.holds (crash_image Kept disk) left in
-    let same : shown.opening ≡ opening_held s.manifest (logs_from (base_of s stored.before) s.store.layout) (last_number (history_of s)) =
-    ok_same {E = Refusal} shown.opening _ (single_opening (crash_image Kept disk) (Ok shown.opening) _ shown.opens
-    (held_opens s.manifest (logs_from (base_of s stored.before) s.store.layout) (last_number (history_of s)) disk stored.holds.store stored.is_base.goes (crash_image Kept disk) left)) in
-    record {
-      opening = shown.opening;
-      opens = subst (λ (o : Opening). Opens image (Ok o)) (sym same) opens;
-      number = shown.number;
-      logs = shown.logs;
-      some = shown.some;
-      since = shown.since;
-      last = shown.last;
-    }
+module _ (s : State) (disk : DiskState) (stored : IsStored s disk) where
+  abbrev b : Base
+  b = stored.base
 
--- Whatever a crash leaves of the disk opens so.
-pub stored_opens : (s : State) (disk : DiskState) (stored : IsStored s disk) (image : Image) → MayLeave disk image
-    → OpensAsHeld s disk stored image
-stored_opens s disk stored image may =
-    held_opens s.manifest (logs_from (base_of s stored.before) s.store.layout) (last_number (history_of s)) disk stored.holds.store stored.is_base.goes image may
+  abbrev l : Layout
+  l = s.store.layout
+
+  abbrev h : History
+  h = history_of s
+
+  -- the image opens as the store that the disk holds of the state
+  abbrev pub OpensAsHeld : Image → Type 0
+  OpensAsHeld image =
+      Opens image (Ok (opening_held stored.base.state (view_in s image) (logs_from stored.base s.store.layout) (last_number (history_of s))))
+
+  -- no table leads into a log
+  pub unled : (n : ℕ) → IsAmong (led_into (found_levels l.levels)) n → ⊥
+  unled = led_nowhere (found_levels l.levels) (none_found l.levels stored.untabled)
+
+  -- then it shows the state's history,
+  pub held_shows : (image : Image) → OpensAsHeld image → Shown image (history_of s) (last_number (history_of s))
+  held_shows image opens =
+      let tidy = stored.tidy in
+      let base = stored.is_base in
+      shown_by image b.state (logs_from b l) (view_in s image) l.levels (sealed l) h (last_number h) refl opens
+      (subst (λ (ts : List laid.Table). AllByRecursion (HasTable image) ts) (sym stored.untabled) tt)
+      (λ n among. absurd (unled n among))
+      tidy.placed
+      (subst (λ (k : ℕ). 1 ≤ k) (sym base.keep) tidy.some)
+      (subst (λ (n : ℕ). n ≤ last_number h) (sym base.since) tidy.since)
+      tidy.last
+      (held_entries_show b l h base tidy)
+
+  -- and it has no tables.
+  pub held_bare : (image : Image) → OpensAsHeld image → (o : Opening) → Opens image (Ok o) → in_levels o.levels ≡ []
+  held_bare image opens o other =
+      let same : o ≡ opening_held b.state (view_in s image) (logs_from b l) (last_number h) =
+      ok_same {E = Refusal} o _ (single_opening image (Ok o) _ other opens) in
+      ap (λ (x : Opening). in_levels x.levels) same ∙ none_found l.levels stored.untabled
+
+  -- the store as the disk holds it, seen through an image that a crash leaves
+  abbrev image_kept : Image
+  image_kept = crash_image Kept disk
+
+  abbrev may_kept : MayLeave disk image_kept
+  may_kept = crash_left Kept disk stored.holds.lawful
+
+  pub its_store : HoldsStore stored.base.state (view_in s (crash_image Kept disk)) (logs_from stored.base s.store.layout) disk
+  its_store = store_held b l h stored.is_base disk stored.holds image_kept may_kept stored.tidy.levels
+
+  -- Whatever a crash leaves of the disk opens so.
+  pub stored_opens : (image : Image) → MayLeave disk image → OpensAsHeld image
+  stored_opens image may =
+      held_opens b.state (view_in s image) (logs_from b l) disk
+      (store_held b l h stored.is_base disk stored.holds image may stored.tidy.levels) (last_number h) stored.is_base.goes image may
 
 module _ (before after : State) (commits : Commits IsStored before after) where
   abbrev old : DiskState
@@ -261,21 +300,24 @@ module _ (before after : State) (commits : Commits IsStored before after) where
   append_failed_opens : (outcome : Outcome) → OpensAsHeld before old stored (crash_image outcome (with_taken commits 0))
   append_failed_opens outcome = subst
       (λ (frame : List ℕ). OpensAsHeld before old stored (crash_image outcome (appended (Log number) frame 0 old))) same_frame
-      (none_opens before.manifest stored.before (before.store.layout.active) commits.item old stored.holds.store commits.has
+      (none_opens stored.base.state (view_in before (crash_image Kept old)) stored.base.before (before.store.layout.active) commits.item old
+      (its_store before old stored) (unled before old stored number) commits.has
       stored.holds.lawful (last_number (history_of before)) stored.is_base.goes outcome)
 
   -- and where its sync failed too, if what wasn't durable was lost,
   sync_failed_lost : OpensAsHeld before old stored (crash_image Lost (with_taken commits (length commits.frame)))
   sync_failed_lost = subst
       (λ (frame : List ℕ). OpensAsHeld before old stored (crash_image Lost (appended (Log number) frame (length frame) old))) same_frame
-      (lost_opens before.manifest stored.before (before.store.layout.active) commits.item old stored.holds.store commits.has
+      (lost_opens stored.base.state (view_in before (crash_image Kept old)) stored.base.before (before.store.layout.active) commits.item old
+      (its_store before old stored) (unled before old stored number) commits.has
       stored.holds.lawful (last_number (history_of before)) stored.is_base.goes)
 
   -- or half of it.
   sync_failed_halved : OpensAsHeld before old stored (crash_image Halved (with_taken commits (length commits.frame)))
   sync_failed_halved = subst
       (λ (frame : List ℕ). OpensAsHeld before old stored (crash_image Halved (appended (Log number) frame (length frame) old))) same_frame
-      (half_opens before.manifest stored.before (before.store.layout.active) commits.item old stored.holds.store commits.has
+      (half_opens stored.base.state (view_in before (crash_image Kept old)) stored.base.before (before.store.layout.active) commits.item old
+      (its_store before old stored) (unled before old stored number) commits.has
       stored.holds.lawful (last_number (history_of before)) stored.is_base.goes)
 
   -- If all of it was kept, it opens as the store after.
@@ -293,14 +335,15 @@ module _ (n : ℕ) (fits : n + 2 ≤ max_file_number) (s : State) (disk : DiskSt
       → Reopens image (history_of s) (last_number (history_of s))
   held_reopens image opens names =
       reopens_by n image names (history_of s) (last_number (history_of s)) (held_shows s disk stored image opens) (λ found.
-      let last = last_held s.manifest.head stored.before (s.store.layout.active) disk stored.holds.store.logs_are in
+      let last = last_held stored.base.state.head stored.base.before (s.store.layout.active) disk stored.holds.files.logs in
       let within : s.store.layout.active.number ≤ n = numbered.standing (Log s.store.layout.active.number) (λ none. some_none _ (sym last.stands ∙ none)) in
-      let same : found.opening ≡ opening_held s.manifest (logs_from (base_of s stored.before) s.store.layout) (last_number (history_of s)) =
+      let same : found.opening ≡ opening_held stored.base.state (view_in s image) (logs_from stored.base s.store.layout) (last_number (history_of s)) =
       ok_same {E = Refusal} found.opening _ (single_opening image (Ok found.opening) _ found.opens opens) in
-      let state : found.opening.state ≡ s.manifest = ap (λ (o : Opening). o.state) same in
+      let state : found.opening.state ≡ stored.base.state = ap (λ (o : Opening). o.state) same in
       numbers_left n fits image names found
       (subst (λ (x : ManifestState). x.head ≤ n + 1) (sym state) (let from = last.from in omega (arith, from, within)))
-      (subst (λ (x : ManifestState). x.next_log ≤ n + 1) (sym state) gives))
+      (subst (λ (x : ManifestState). x.next_log ≤ n + 1) (sym (state ∙ stored.manifest)) gives))
+      (held_bare s disk stored image opens)
 
   -- So does the image of a disk that holds a state.
   pub stored_reopens : (outcome : Outcome) → Reopens (crash_image outcome disk) (history_of s) (last_number (history_of s))

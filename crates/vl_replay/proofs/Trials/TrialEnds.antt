@@ -10,7 +10,6 @@ use Rattle.vl_mem.specs.MemDisk.{state_of}
 use Rattle.vl_mem.specs.declared.mem_disk.MemDisk.{MemDisk}
 use Rattle.vl_mem.specs.declared.outcome.Outcome.{Outcome}
 use Rattle.vl_model.specs.History.{last_number}
-use Rattle.vl_recover.specs.opening.Results.{HasFailed, recovery_by}
 use Rattle.vl_recover.specs.declared.fails.OpenError.{OpenError}
 use Rattle.vl_recover.specs.declared.fails.OpenError.TheVariants as why
 use Rattle.vl_replay.specs.Endings.{Culprit, CountsFaultsOf, culprit_of, status_of, no_memory_line, read_fault_line}
@@ -28,7 +27,6 @@ use Rattle.vl_replay.specs.declared.ending.Ending.TheVariants.{Complete, BadLine
 use Rattle.vl_replay.proofs.Runs.Ends.{or_cut, takes_both, takes_nothing}
 use Rattle.vl_replay.proofs.Trials.TrialLines.{chosen_false, is_past}
 use Rattle.vl_replay.proofs.Runs.Refusals.{fault_for}
-use Rattle.vl_replay.proofs.Trials.Reopening.{is_fault_too}
 
 -- ---- the last piece, behind all answers
 
@@ -97,10 +95,10 @@ module _ (t : Trial) (held mid : Option (List ℕ)) (taken : Takes held mid (ans
 
 -- its status is that of a fault only where the disk failed
 pub not_by_disk : {K : Type 0} (k : sink.Ghosts K) (old new : K) (reason : OpenError) (result : Ending) → EndsUnopened k old new reason result
-    → (HasFailed (recovery_by reason) → ⊥) → status_of result ≢ 3
+    → (IsFault (Some reason) → ⊥) → status_of result ≢ 3
 not_by_disk k old new reason result (how, for, (line, line_is, finishes)) sound =
     or_cut k old new line (ending_unopened how) result (λ (e : Ending). status_of e ≢ 3) finishes
-    (λ by. sound (is_fault_too reason (fault_for reason how for (of how by)))) (λ e. cc)
+    (λ by. sound (fault_for reason how for (of how by))) (λ e. cc)
   where
     of : (how : OpenError) → status_of (ending_unopened how) ≡ 3 → IsFault (Some how)
     of why.NotAStore e = cc

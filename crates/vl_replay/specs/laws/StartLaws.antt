@@ -1,6 +1,6 @@
 -- In which states runs begin: over an empty disk, and behind another run. And of which disks all of the store is durable.
-use Rattle.std.specs.Prelude.{◌≡◌, ◌≢◌, ◌<◌, ◌≤◌, ◌+◌, ◌^◌, ℕ, List, [], ◌∷◌, length, map, Option, None, Some, Ok, Contains, IsSome, T, refl, true, false}
-use Rattle.std.specs.FinMap.{FinMap, empty, empty_of_len, entries, len-entries, entries-from_sorted, entries_sorted, from_sorted, get, get-empty, is_sorted, same_entries_map}
+use Rattle.std.specs.Prelude.{◌≡◌, ◌≢◌, ◌<◌, ◌≤◌, ◌+◌, ◌^◌, ℕ, List, [], ◌∷◌, ◌++◌, length, map, Option, None, Some, Ok, Contains, IsSome, T, refl, true, false}
+use Rattle.std.specs.FinMap.{empty, empty_of_len, entries, len-entries, entries-from_sorted, entries_sorted, from_sorted, get, get-empty, is_sorted, same_entries_map}
 use Rattle.std.specs.List.{AllByRecursion}
 use Rattle.std.specs.Option.{option_map}
 use Rattle.std.specs.Ordering.{nat_cmp}
@@ -13,28 +13,35 @@ use Rattle.vl_disk.specs.Started.{IsRead, Started, read_left, started_left}
 use Rattle.vl_disk.specs.declared.name.Name.{Name}
 use Rattle.vl_disk.specs.declared.name.Name.TheVariants.{Log, Manifest, Table}
 use Rattle.vl_disk.specs.declared.watched.Watched.{Ghosts}
+use Rattle.vl_engine.specs.Files.{found_levels}
 use Rattle.vl_engine.specs.Opening.{IsDurable, recovered, state_then}
+use Rattle.vl_engine.specs.Pointed.{stored_among}
 use Rattle.vl_engine.specs.Reopened.{reopened}
-use Rattle.vl_engine.specs.Shown.{Shown}
-use Rattle.vl_engine.specs.laws.HeldLaws.{held_durable, held_opens_again}
-use Rattle.vl_engine.specs.laws.ReopenedShown.{none_show, shown_reopened}
-use Rattle.vl_layout.specs.Start.{fresh_layout, layout_at_start}
+use Rattle.vl_engine.specs.Shown.{EntriesShow, Shown, entries_among, logs_entries, tables_among}
+use Rattle.vl_engine.specs.laws.HeldLaws.{has_stays, held_durable, held_opens_again}
+use Rattle.vl_engine.specs.laws.ReopenedShown.{entries_show_reopened, none_show}
+use Rattle.vl_layout.specs.Start.{layout_at_start, no_tables}
 use Rattle.vl_layout.specs.Store.Commits.{AreProper, Changes, Commits, history_in}
 use Rattle.vl_layout.specs.Store.Dispatch.{new_store}
-use Rattle.vl_manifest.specs.States.{fresh_state}
+use Rattle.vl_manifest.specs.Manifest.{manifest_bytes}
+use Rattle.vl_manifest.specs.States.{fresh_state, whole_edits}
 use Rattle.vl_model.specs.History.{History, Past, last_number, no_history}
 use Rattle.vl_model.specs.Keys.{Writes, key_cmp}
-use Rattle.vl_model.specs.Limits.{max_room}
+use Rattle.vl_model.specs.Limits.{max_commit_number, max_room}
 use Rattle.vl_recover.specs.laws.crash.AlikeLaws.{like_same}
 use Rattle.vl_recover.specs.crash.Alike.{OpensLike}
 use Rattle.vl_recover.specs.opening.Answers.{AreStrayNames, Finds, calls_to_open, used_up}
+use Rattle.vl_recover.specs.crash.Starts.{AllStay}
 use Rattle.vl_recover.specs.laws.opening.HeldLaws.{started_may_open}
-use Rattle.vl_recover.specs.opening.Opening.{Bare}
+use Rattle.vl_recover.specs.laws.opening.OpeningLaws.{single_opening}
+use Rattle.vl_recover.specs.laws.repairing.StageLaws.{ok_same}
+use Rattle.vl_recover.specs.opening.Opening.{Bare, IsAmong, Opening, Opens, Refusal, led_into}
 use Rattle.vl_recover.specs.opening.Plans.{active_log, new_state}
 use Rattle.vl_replay.specs.Sequential.{State, history_of}
-use Rattle.vl_replay.specs.Start.{OpensUpTo, StartsIn}
+use Rattle.vl_replay.specs.Start.{OpensUpTo, StartsIn, file_then}
 use Rattle.vl_replay.specs.Stopped.{AreNumberedUpTo}
-use Rattle.vl_replay.specs.Stored.{IsStored, base_of}
+use Rattle.vl_replay.specs.Stored.{IsStored}
+use Rattle.vl_replay.specs.laws.Untabled.{in_levels, led_nowhere, none_named}
 
 -- ---- an empty disk
 
@@ -44,6 +51,10 @@ abbrev pub empty_store : ℕ → State
 empty_store calls = record {
   store = new_store max_room;
   manifest = new_state (record { log = 0; table = 0; manifest = 0 }) fresh_state;
+  manifest_file = record {
+    number = 1;
+    length = length (manifest_bytes 1 (whole_edits (new_state (record { log = 0; table = 0; manifest = 0 }) fresh_state) ∷ []));
+  };
   calls = calls;
   files = 1;
 }
@@ -68,10 +79,19 @@ not_there name there = of (get (empty {K = Name} {X = List ℕ} {R = name_cmp}) 
 pub past : 1 ≤ 0 → ⊥
 past le = omega (arith, le)
 
+pub one_some : 1 ≤ 1
+one_some = omega arith
+
+pub none_past : 0 ≤ 0
+none_past = omega arith
+
+pub none_last : 0 ≤ max_commit_number
+none_last = omega arith
+
 -- it opens as a store without logs, at number 0
 abbrev pub finds_nothing : Finds empty
 finds_nothing = record {
-  opening = record { state = fresh_state; logs = []; number = 0 };
+  opening = record { state = fresh_state; levels = found_levels no_tables; logs = []; number = 0 };
   opens = (
     fresh_state,
     (
@@ -83,7 +103,11 @@ finds_nothing = record {
       },
       refl,
     ),
-    ([], λ m _. nothing (Log m), refl),
+    (
+      found_levels no_tables,
+      none_named false empty no_tables refl,
+      (tt, refl, ([], λ m _. nothing (Log m), refl)),
+    ),
   );
   greatest = record { log = 0; table = 0; manifest = 0 };
   are_greatest = record {
@@ -95,8 +119,8 @@ finds_nothing = record {
   standing = λ m _. nothing (Log m);
 }
 
-no_strays : (head : ℕ) → AreStrayNames empty head []
-no_strays head = record {
+no_strays : (o : Opening) → AreStrayNames empty o []
+no_strays o = record {
   all = λ name. (λ among. absurd (none_among name among), λ is. absurd (not_there name is.0));
   once = λ i j d below within. absurd (behind j within);
 }
@@ -112,15 +136,44 @@ pub no_commits : history_in (new_store max_room).commits ≡ no_history
 no_commits = ap (λ (base : Past). record { first = 0; base = base; commits = [] })
     (empty_of_len (from_sorted []) (len-entries (from_sorted []) ∙ ap length (entries-from_sorted nat_cmp [] tt)))
 
-pub shown_nothing : Shown empty no_history 0
+-- it shows nothing, without tables
+abbrev pub shown_nothing : Shown empty no_history 0
 shown_nothing = record {
   opening = finds_nothing.opening;
   opens = finds_nothing.opens;
   number = refl;
-  logs = none_show;
-  some = omega arith;
-  since = omega arith;
-  last = omega arith;
+  levels = no_tables;
+  found = refl;
+  tables = tt;
+  sealed = [];
+  led = λ n among. absurd among;
+  placed = tt;
+  entries = none_show (stored_among []);
+  some = one_some;
+  since = none_past;
+  last = none_last;
+}
+
+-- what is shown of a history is shown of the same one
+abbrev pub shown_same : {image : Image} (h k : History) (m n : ℕ) → h ≡ k → m ≡ n → Shown image h m → Shown image k n
+shown_same h k m n same at shown = record {
+  opening = shown.opening;
+  opens = shown.opens;
+  number = shown.number ∙ at;
+  levels = shown.levels;
+  found = shown.found;
+  tables = shown.tables;
+  sealed = shown.sealed;
+  led = shown.led;
+  placed = shown.placed;
+  entries =
+      subst (λ (g : History). EntriesShow shown.opening.state.keep shown.opening.state.since (stored_among shown.sealed)
+      (logs_entries shown.opening.logs ++ entries_among shown.levels) g n) same
+      (subst (λ (k : ℕ). EntriesShow shown.opening.state.keep shown.opening.state.since (stored_among shown.sealed)
+      (logs_entries shown.opening.logs ++ entries_among shown.levels) h k) at shown.entries);
+  some = shown.some;
+  since = subst (λ (k : ℕ). shown.opening.state.since ≤ k) at shown.since;
+  last = subst (λ (k : ℕ). k ≤ max_commit_number) at shown.last;
 }
 
 -- A run over a disk on which nothing stands begins in it, after six changing calls. What was removed there may have greater
@@ -135,13 +188,16 @@ starts_bare g disk state files told bare some numbered = record {
   is_read = record { each = λ name. nothing name ∙ sym (ap (option_map (λ (file : File). file.bytes)) (bare name)) };
   found = finds_nothing;
   unused = refl;
-  shown = subst (λ (h : History). Shown empty h (last_number h)) (sym no_commits) shown_nothing;
+  shown = shown_same no_history (history_in (new_store max_room).commits) 0 (last_number (history_in (new_store max_room).commits))
+      (sym no_commits) (ap last_number (sym no_commits)) shown_nothing;
   proper = record { numbers = tt; base = tt; commits = tt };
   layout = refl;
+  untabled = refl;
   manifest = refl;
+  manifest_file = refl;
   things = refl;
   strays = [];
-  are_strays = no_strays 1;
+  are_strays = no_strays finds_nothing.opening;
   calls = refl;
   files = record { numbered = numbered; manifest = some; log = some; next = omega (arith, some) };
 }
@@ -187,6 +243,9 @@ plain_is h =
     (same_entries_map (from_sorted (entries h.base)) h.base (entries-from_sorted _ (entries h.base) (entries_sorted h.base)))
     ∙ ap (λ (cs : List Writes). record { first = h.first; base = h.base; commits = cs }) (same_commits h.commits)
 
+pub reopened_last : (h : History) (m : ℕ) → last_number (reopened h m) ≡ m
+reopened_last h m = omega arith
+
 rising_base : (cs : List (ℕ × Writes)) → AllByRecursion (λ (c : ℕ × Changes). T (is_sorted key_cmp c.1)) (map (λ (c : ℕ × Writes). (c.0, entries c.1)) cs)
 rising_base [] = tt
 rising_base (c ∷ cs) = (entries_sorted c.1, rising_base cs)
@@ -202,11 +261,39 @@ plain_proper h = record {
   commits = rising_commits h.commits;
 }
 
+-- what the history has up to a number is shown of it as it is gone on with from there
+abbrev pub shown_again : {read : Image} (h : History) (m : ℕ) → Shown read h m
+    → Shown read (history_in (plain (reopened h m))) (last_number (history_in (plain (reopened h m))))
+shown_again h m shown =
+    let same : reopened h m ≡ history_in (plain (reopened h m)) = sym (plain_is (reopened h m)) in
+    shown_same (reopened h m) (history_in (plain (reopened h m))) m (last_number (history_in (plain (reopened h m)))) same
+    (sym (reopened_last h m) ∙ ap last_number same) (record {
+      opening = shown.opening;
+      opens = shown.opens;
+      number = shown.number;
+      levels = shown.levels;
+      found = shown.found;
+      tables = shown.tables;
+      sealed = shown.sealed;
+      led = shown.led;
+      placed = shown.placed;
+      entries = entries_show_reopened shown.opening.state.keep shown.opening.state.since (stored_among shown.sealed)
+          (logs_entries shown.opening.logs ++ entries_among shown.levels) h m shown.entries;
+      some = shown.some;
+      since = shown.since;
+      last = shown.last;
+    })
+
 -- the store that is opened then
-abbrev pub reopened_store : {read : Image} → Finds read → History → ℕ → (calls files : ℕ) → State
-reopened_store found h m calls files = record {
-  store = record { commits = plain (reopened h m); layout = layout_at_start max_room (recovered found); things = [] };
+abbrev pub reopened_store : {read : Image} → Finds read → (h : History) (m : ℕ) → Shown read h m → (calls files : ℕ) → State
+reopened_store found h m shown calls files = record {
+  store = record {
+    commits = plain (reopened h m);
+    layout = layout_at_start max_room (recovered found (shown_again h m shown));
+    things = [];
+  };
   manifest = state_then found;
+  manifest_file = file_then found;
   calls = calls;
   files = files;
 }
@@ -233,41 +320,59 @@ opens_up_to disk found lawful =
     of name None some is = absurd (some refl)
     of name (Some file) some is = omega (arith, (is file refl).1)
 
--- A run over a disk whose reads show a history at a number, as whatever a run left does, begins with what the history has
--- there.
+-- A run over a disk whose reads show a history at a number, without tables, as whatever a run left does, begins with what the
+-- history has there.
 pub starts_shown : {D : Type 0} (g : Ghosts D) (disk : D) (state : DiskState) (read : Image) (found : Finds read)
     (strays : List Name) (h : History) (m files : ℕ) → g.told disk ≡ Some state → IsRead read state → used_up found ≡ None
-    → AreStrayNames read found.opening.state.head strays → Shown read h m → OpensUpTo files state found
-    → StartsIn g disk (reopened_store found h m (after_calls (calls_to_open found (length strays)) (g.calls disk)) files)
-starts_shown g disk state read found strays h m files told is_read left are_strays shown up_to = record {
+    → AreStrayNames read found.opening strays → (shown : Shown read h m) → tables_among shown.levels ≡ []
+    → OpensUpTo files state found
+    → StartsIn g disk (reopened_store found h m shown (after_calls (calls_to_open found (length strays)) (g.calls disk)) files)
+starts_shown g disk state read found strays h m files told is_read left are_strays shown untabled up_to = record {
   state = state;
   told = told;
   read = read;
   is_read = is_read;
   found = found;
   unused = left;
-  shown = let same = plain_is (reopened h m) in
-      subst (λ (k : History). Shown read k (last_number k)) (sym same)
-      (subst (Shown read (reopened h m)) (sym (reopened_last h m)) (shown_reopened read h m shown));
+  shown = shown_again h m shown;
   proper = plain_proper (reopened h m);
   layout = refl;
+  untabled = untabled;
   manifest = refl;
+  manifest_file = refl;
   things = refl;
   strays = strays;
   are_strays = are_strays;
   calls = refl;
   files = up_to;
 }
-  where
-    reopened_last : (h : History) (m : ℕ) → last_number (reopened h m) ≡ m
-    reopened_last h m = omega arith
 
 -- ---- durable stores
 
--- All of the store is durable on a disk that was just started,
-pub started_durable : (image : Image) (disk : DiskState) → Started image disk → IsDurable disk
-started_durable image disk started = record {
-  may_open = started_may_open image disk started;
+-- Where an image opens, the logs that its tables lead into stay as they are at an opening.
+abbrev pub LedStay : Image → Type 0
+LedStay image = (o : Opening) → Opens image (Ok o) → AllStay image (led_into o.levels)
+
+-- So it is of one that shows a history, and of one that opens without tables.
+pub shown_stay : (image : Image) (h : History) (m : ℕ) → Shown image h m → LedStay image
+shown_stay image h m shown o opens n bytes reading among stands reads =
+    let same : o ≡ shown.opening =
+    ok_same {E = Refusal} o shown.opening (single_opening image (Ok o) (Ok shown.opening) opens shown.opens) in
+    has_stays image shown.sealed n (shown.led n (subst (λ (x : Opening). IsAmong (led_into x.levels) n) same among)) bytes reading stands reads
+
+pub untabled_stay : (image : Image) → ((o : Opening) → Opens image (Ok o) → in_levels o.levels ≡ []) → LedStay image
+untabled_stay image bare o opens n bytes reading among = absurd (led_nowhere o.levels (bare o opens) n among)
+
+-- an empty one is such
+pub empty_stay : LedStay empty
+empty_stay = untabled_stay empty (λ o opens.
+    ap (λ (x : Opening). in_levels x.levels) (ok_same {E = Refusal} o finds_nothing.opening
+    (single_opening empty (Ok o) (Ok finds_nothing.opening) opens finds_nothing.opens)))
+
+-- All of the store is durable on a disk that was just started from one,
+pub started_durable : (image : Image) (disk : DiskState) → Started image disk → LedStay image → IsDurable disk
+started_durable image disk started stay = record {
+  may_open = started_may_open image disk started stay;
   as_read = λ read left is_read is_left.
       let same : read ≡ left = started_left image disk started read (read_left read disk is_read)
       ∙ sym (started_left image disk started left is_left.left) in
@@ -277,6 +382,7 @@ started_durable image disk started = record {
 -- and on one that holds a state, as a run without a fault leaves it.
 pub stored_durable : (s : State) (disk : DiskState) → IsStored s disk → IsDurable disk
 stored_durable s disk stored = record {
-  may_open = held_opens_again (base_of s stored.before) s.store.layout disk stored.holds;
-  as_read = held_durable (base_of s stored.before) s.store.layout (history_of s) disk stored.is_base stored.holds;
+  may_open = held_opens_again stored.base s.store.layout (history_of s) stored.is_base disk stored.tidy.levels stored.holds;
+  as_read = λ read image is left. held_durable stored.base s.store.layout (history_of s) stored.is_base disk stored.tidy.levels
+      stored.holds read image is left.left;
 }

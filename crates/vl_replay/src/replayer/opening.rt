@@ -5,10 +5,11 @@ ghost use Rattle.vl_disk.specs.DiskState.{DiskState};
 ghost use Rattle.vl_disk.specs.Faults.{HasCause};
 ghost use Rattle.vl_disk.specs.Moments.{HoldsThroughout};
 ghost use Rattle.vl_disk.specs.Started.{IsRead};
-ghost use Rattle.vl_engine.specs.Opening.{AnswersOpening, IsDurable, IsFault, why_of};
+ghost use Rattle.vl_engine.specs.Opening.{AnswersOpening, IsDiskFault, IsDurable, IsFault, reader_faults, why_of};
 ghost use Rattle.vl_engine.specs.Shown.{Shown};
 ghost use Rattle.vl_recover.specs.crash.Meanwhile.{FaultsAt, IsMeanwhile};
 ghost use Rattle.vl_recover.specs.crash.Starts.{MayOpen};
+ghost use Rattle.vl_recover.specs.opening.Opening.{NamesNoTable};
 ghost use Rattle.vl_recover.specs.opening.Results.{recovery_by};
 ghost use Rattle.vl_replay.specs.Durable.{CrashesShow, HoldsState, IsAsBefore, StillTells, Tells};
 ghost use Rattle.vl_replay.specs.Opening.{IsRefused, disk_behind};
@@ -26,7 +27,7 @@ use vl_model::MAX_ROOM;
 
 impl<D: Disk> Replayer<D> {
     /// Opens the store on a disk, or makes one where nothing stands. Each log may have 1,073,741,824 bytes.
-    pub fn new(alloc: Global, disk: D) -> Result<Self, OpenFail<D>>
+    pub fn new(alloc: Global, disk: D) -> Result<Self, OpenFail<D, D::Reader>>
         // It stands for the store that the disk opens as, and the disk holds it.
         ensures store { (s : State) → StartsIn D.Watched disk s
             → IfOk result (λ replayer. StandsFor D.Held.bytes replayer s) }
@@ -49,7 +50,12 @@ impl<D: Disk> Replayer<D> {
             → IsErr result × IsAsBefore D.Watched disk (disk_behind result) }
         ensures left_alone { (IsFault (why_of result) → ⊥) → IsErr result
             → IsAsBefore D.Watched disk (disk_behind result) }
-        ensures cause { HasCause (D.faults disk) (D.faults (disk_behind result)) (IsFault (why_of result)) }
+
+        // A fault is counted by the disk, or by the reader that is handed back, which is asked only where tables are named.
+        ensures cause { HasCause (D.faults disk) (D.faults (disk_behind result))
+            (IsDiskFault (reader_faults D.Reader.faults result) (why_of result)) }
+        ensures unread { (state : DiskState) (read : Image) → D.told disk ≡ Some state → IsRead read state
+            → NamesNoTable read → reader_faults D.Reader.faults result ≡ 0 }
 
         // A fault is named by the file at which it came.
         ensures at { (state : DiskState) (read : Image) → D.told disk ≡ Some state → IsRead read state

@@ -1,4 +1,4 @@
-use Rattle.std.proofs.Common.{◌≡◌, ◌≢◌, ◌<◌, ◌≤◌, ⊎_elim, inl, inr, ℕ, List, Option, None, Some, refl, sym, ap, subst, ◌∙◌, arith}
+use Rattle.std.proofs.Common.{◌≡◌, ◌≢◌, ◌<◌, ◌≤◌, ⊎_elim, inl, inr, ℕ, Option, None, Some, refl, sym, ap, subst, ◌∙◌, arith}
 use Rattle.vl_mem.specs.declared.outcome.Outcome.{Outcome}
 use Rattle.vl_layout.specs.Store.Commits.{AreProper}
 use Rattle.vl_replay.specs.Trial.{EndsTrial, begun}
@@ -6,11 +6,11 @@ use Rattle.vl_replay.specs.Trying.{trial_of}
 use Rattle.vl_cli.specs.declared.command_line.words.Command.{Command}
 use Rattle.vl_cli.specs.declared.command_line.words.Command.TheVariants.{Replay, Trial}
 use Rattle.vl_script.specs.Script.{lines_of}
-use Rattle.vl_replay.specs.Endings.{TheSource, TheSink, status_of, usage_line}
+use Rattle.vl_replay.specs.Endings.{CountsFaultsOf, TheDisk, TheSource, TheSink, status_of, usage_line}
 use Rattle.vl_disk.specs.Faults.{Rose}
 use Rattle.vl_disk.specs.declared.name.Name.{Name}
 use Rattle.vl_replay.specs.Reading.{ReadsInput, streams}
-use Rattle.vl_replay.specs.Start.{all_explained, explained_from}
+use Rattle.vl_replay.specs.Start.{FailsAtTables, all_explained, explained_from}
 use Rattle.vl_replay.specs.declared.ending.Ending.TheVariants.{Damaged, ReaderFault, Refused}
 use Rattle.vl_replay.specs.declared.fails.Refusal.{Refusal}
 use Rattle.vl_cli.proofs.Words.{disk_steady, rose_or_unread, source_status, sink_status, is_refused, is_bad_words, rose_by, steady_by, refused_status, refused_rose, refused_steady}
@@ -77,14 +77,28 @@ returns-in-Some-Replay-clause-disk_fault g c is =
     let ending = c.replay-ending.result.ending in
     let old = streams g.S.Source g.K.Sink c.args.source.now c.args.sink.now in
     let new = streams g.S.Source g.K.Sink c.replay-ending.new.source c.replay-ending.new.sink in
+    let before = g.D.Watched.faults c.args.disk in
+    let now = g.D.Watched.faults c.replay-ending.result.disk in
     ⊎_elim
-    (λ (rose : Rose (g.D.Watched.faults c.args.disk) (g.D.Watched.faults c.replay-ending.result.disk)). inl rose)
-    (λ (unread : ending ≡ ReaderFault). inr (λ input told. subst (ReadsInput input old new) unread (c.replay-ending.ensures.input input told)))
-    (rose_or_unread ending _ _ c.replay-ending.ensures.disk_faults (sym c.status-status.ensures ∙ is))
+    (λ (counts : CountsFaultsOf TheDisk (Some ending) before now). ⊎_elim
+    (λ (rose : Rose before now). inl rose)
+    (λ (unread : ending ≡ ReaderFault). inr (inl (λ input told. subst (ReadsInput input old new) unread (c.replay-ending.ensures.input input told))))
+    (rose_or_unread ending before now counts (sym c.status-status.ensures ∙ is)))
+    (λ (tables : FailsAtTables g.D.Watched g.K.Sink c.args.disk c.replay-ending.result.disk c.args.sink.now c.replay-ending.new.sink ending
+    × (c.replay-ending.new.source ≡ c.args.source.now)). inr (inr (tables.1, (ending, tables.0))))
+    c.replay-ending.ensures.disk_faults
 
 pub returns-in-Some-Replay-clause-no_disk_fault : goal.returns-in-Some-Replay-clause-no_disk_fault
 returns-in-Some-Replay-clause-no_disk_fault g c other whole =
-    disk_steady c.replay-ending.result.ending _ _ c.replay-ending.ensures.disk_faults (λ e. other (c.status-status.ensures ∙ e)) (λ e. whole (c.status-status.ensures ∙ e))
+    let ending = c.replay-ending.result.ending in
+    let before = g.D.Watched.faults c.args.disk in
+    let now = g.D.Watched.faults c.replay-ending.result.disk in
+    ⊎_elim
+    (λ (counts : CountsFaultsOf TheDisk (Some ending) before now).
+    disk_steady ending before now counts (λ e. other (c.status-status.ensures ∙ e)) (λ e. whole (c.status-status.ensures ∙ e)))
+    (λ (tables : FailsAtTables g.D.Watched g.K.Sink c.args.disk c.replay-ending.result.disk c.args.sink.now c.replay-ending.new.sink ending
+    × (c.replay-ending.new.source ≡ c.args.source.now)). tables.0.steady)
+    c.replay-ending.ensures.disk_faults
 
 pub returns-in-Some-Replay-clause-refused : goal.returns-in-Some-Replay-clause-refused
 returns-in-Some-Replay-clause-refused g c plain is =

@@ -1,10 +1,10 @@
-use Rattle.std.proofs.Common.{◌≡◌, ap, refl, subst, sym}
+use Rattle.std.proofs.Common.{◌≡◌, ⊎_elim, inl, inr, ℕ, ap, refl, subst, sym}
 use Rattle.vl_disk.specs.Faults.{Rose}
 use Rattle.vl_recover.specs.opening.Answers.{AnswersBy}
 use Rattle.vl_recover.specs.opening.Results.{recovery_by}
 use Rattle.vl_recover.specs.declared.fails.OpenError.{OpenError}
 use Rattle.vl_replay.specs.Durable.{Tells}
-use Rattle.vl_replay.specs.Endings.{culprit_of}
+use Rattle.vl_replay.specs.Endings.{CountsFaultsOf, TheDisk, culprit_of}
 use Rattle.vl_replay.specs.declared.ending.Ending.{Ending}
 use Rattle.vl_replay.specs.declared.ending.Ending.TheVariants.{DiskFault, Stopped}
 use Rattle.vl_replay.specs.laws.Laws.{keeps_up_at_first}
@@ -13,11 +13,14 @@ use Rattle.vl_replay.specs.Reading.{streams}
 use Rattle.vl_replay.specs.Replaying.{disk_of}
 use Rattle.vl_replay.specs.Runs.{script_of, outside}
 use Rattle.vl_engine.specs.Opening.{IsDurable}
+use Rattle.vl_replay.specs.Start.{FailsAtTables}
 use Rattle.vl_replay.specs.Stored.{IsStopped, IsStored}
 use Rattle.vl_engine.specs.Shown.{Shown}
 use Rattle.std.specs.Prelude.{Some, true, false}
 use Rattle.vl_replay.proofs.Disk.Shown.{shown_stays, stored_exactly}
-use Rattle.vl_replay.proofs.Runs.OpenedRuns.{ends_opened, ends_refused, refused, refused_nothing, refused_as, refused_line, not_for_words, not_silent, out_of_memory, counts_sink, counts_source, counts_disk}
+use Rattle.vl_replay.proofs.Openings.Begun.{begun_untabled}
+use Rattle.vl_replay.proofs.Runs.OpenedRuns.{ends_opened, ends_refused, refused, refused_nothing, refused_as, refused_line, not_for_words, not_silent, out_of_memory, counts_sink, counts_source}
+use Rattle.vl_replay.proofs.Runs.ReaderFaults.{disk_cause, disk_or_tables}
 use Rattle.vl_replay.proofs.Runs.ReadingOn.{unopened_reads_nothing}
 use Rattle.vl_replay.proofs.Runs.Refusals.{fault_for, fault_of, first_for, no_fault, opened_not_refused, refused_for, refused_or_first}
 use Rattle.vl_replay.proofs.running.replay.Goals as goal
@@ -39,13 +42,16 @@ returns-in-Ok-clause-refuses g c state read refusal told is_read is_refused = ab
     not_err : false ≡ true → ⊥
     not_err e = cc
 
-pub returns-in-Err-clause-runs : goal.returns-in-Err-clause-runs
-returns-in-Err-clause-runs g c s input starts told =
+pub returns-clause-runs : goal.returns-clause-runs
+returns-clause-runs g c s input starts told =
     let ended = c.end_unopened-ending in
     let reason = c.in-Err.field-0.why in
     let how = ended.ensures.0 in
     let script = script_of s 0 input in
     let by_disk = Rose (g.D.Watched.faults c.args.disk) (g.D.Watched.faults c.in-Err.field-0.disk) in
+    let counted = disk_cause (g.D.Watched.faults c.args.disk) (g.D.Watched.faults c.in-Err.field-0.disk) _ reason
+    (c.in-Err.ensures.unread starts.state starts.read starts.told starts.is_read (begun_untabled g.D.Watched c.args.disk s starts))
+    c.in-Err.ensures.cause in
     ends_refused g.D.Watched (record { only_now = g.met.D.Disk.only_now; counts_now = g.met.D.Disk.counts_now }) IsStored Shown IsStopped shown_stays stored_exactly
     (Tells g.D.Watched c.args.disk IsDurable) script
     (outside g.S.Source g.K.Sink c.args.source.now c.args.sink.now c.args.disk) (outside g.S.Source g.K.Sink c.args.source.now ended.new.sink c.in-Err.field-0.disk)
@@ -53,29 +59,37 @@ returns-in-Err-clause-runs g c s input starts told =
     (refused g.K.Sink c.args.sink.now ended.new.sink (Rose (g.S.Source.faults c.args.source.now) (g.S.Source.faults c.args.source.now)) by_disk script (g.S.Source.left c.args.source.now) how ended.result
     (λ refusal is. opened_not_refused starts.read starts.found starts.unused refusal
     (subst (λ (w : OpenError). AnswersBy starts.read (recovery_by w)) (refused_for reason how refusal ended.ensures.1 is) (c.in-Err.ensures.answer starts.state starts.read starts.told starts.is_read)))
-    (λ fault. c.in-Err.ensures.cause.rose (fault_for reason how ended.ensures.1 fault)) ended.ensures.2)
+    (λ fault. counted.rose (fault_for reason how ended.ensures.1 fault)) ended.ensures.2)
     (keeps_up_at_first input (g.S.Source.asked c.args.source.now) (g.met.S.Source.since_asked c.args.source.now input told))
     (c.in-Err.ensures.through s starts) (λ p. let told = c.in-Err.ensures.tells p.0 p.1 in (told.0, told.1, c.in-Err.ensures.again p.0 told.0 p.1 p.2.may_open told.1))
-    (λ sound. c.in-Err.ensures.left_alone (λ fault. sound (c.in-Err.ensures.cause.rose fault)) refl)
+    (λ sound. c.in-Err.ensures.left_alone (λ fault. sound (counted.rose fault)) refl)
     (λ out. c.in-Err.ensures.left_alone (λ fault. out_of_memory g.K.Sink c.args.sink.now ended.new.sink how ended.result ended.ensures.2 out (fault_of reason how ended.ensures.1 fault)) refl)
 
-pub returns-in-Err-clause-source_faults : goal.returns-in-Err-clause-source_faults
-returns-in-Err-clause-source_faults g c = counts_source g.K.Sink _ _ c.end_unopened-ending.ensures.0 c.end_unopened-ending.result c.end_unopened-ending.ensures.2 _
+pub returns-clause-source_faults : goal.returns-clause-source_faults
+returns-clause-source_faults g c = counts_source g.K.Sink _ _ c.end_unopened-ending.ensures.0 c.end_unopened-ending.result c.end_unopened-ending.ensures.2 _
 
-pub returns-in-Err-clause-sink_faults : goal.returns-in-Err-clause-sink_faults
-returns-in-Err-clause-sink_faults g c = counts_sink g.K.Sink _ _ c.end_unopened-ending.ensures.0 c.end_unopened-ending.result c.end_unopened-ending.ensures.2
+pub returns-clause-sink_faults : goal.returns-clause-sink_faults
+returns-clause-sink_faults g c = counts_sink g.K.Sink _ _ c.end_unopened-ending.ensures.0 c.end_unopened-ending.result c.end_unopened-ending.ensures.2
 
-pub returns-in-Err-clause-disk_faults : goal.returns-in-Err-clause-disk_faults
-returns-in-Err-clause-disk_faults g c =
+pub returns-clause-disk_faults : goal.returns-clause-disk_faults
+returns-clause-disk_faults g c =
     let ended = c.end_unopened-ending in
-    counts_disk g.K.Sink _ _ ended.ensures.0 ended.result ended.ensures.2 _ _ (IsFault (Some c.in-Err.field-0.why))
-    (fault_of c.in-Err.field-0.why ended.ensures.0 ended.ensures.1) (fault_for c.in-Err.field-0.why ended.ensures.0 ended.ensures.1) c.in-Err.ensures.cause
+    ⊎_elim
+    (λ (counted : CountsFaultsOf TheDisk (Some ended.result) (g.D.Watched.faults c.args.disk) (g.D.Watched.faults c.in-Err.field-0.disk)). inl counted)
+    (λ (tables : FailsAtTables g.D.Watched g.K.Sink c.args.disk c.in-Err.field-0.disk c.args.sink.now ended.new.sink ended.result). inr (tables, refl))
+    (disk_or_tables g.D.Watched g.K.Sink c.args.disk c.in-Err.field-0.disk c.args.sink.now ended.new.sink _ c.in-Err.field-0.why
+    ended.ensures.0 ended.result ended.ensures.1 ended.ensures.2 c.in-Err.ensures.cause c.in-Err.ensures.unread)
 
-pub returns-in-Err-clause-not_the_words : goal.returns-in-Err-clause-not_the_words
-returns-in-Err-clause-not_the_words g c = not_for_words g.K.Sink _ _ c.end_unopened-ending.ensures.0 c.end_unopened-ending.result c.end_unopened-ending.ensures.2
+pub returns-in-Ok-clause-disk_faults : goal.returns-in-Ok-clause-disk_faults
+returns-in-Ok-clause-disk_faults g c =
+    inl (subst (λ (n : ℕ). CountsFaultsOf TheDisk (Some c.answer_lines.result.ending) n (g.D.Watched.faults c.answer_lines.result.disk))
+    (c.in-Ok.ensures.cause.steady (λ by. by)) c.answer_lines.ensures.disk_faults)
 
-pub returns-in-Err-clause-refused : goal.returns-in-Err-clause-refused
-returns-in-Err-clause-refused g c refusal is =
+pub returns-clause-not_the_words : goal.returns-clause-not_the_words
+returns-clause-not_the_words g c = not_for_words g.K.Sink _ _ c.end_unopened-ending.ensures.0 c.end_unopened-ending.result c.end_unopened-ending.ensures.2
+
+pub returns-clause-refused : goal.returns-clause-refused
+returns-clause-refused g c refusal is =
     let ended = c.end_unopened-ending in
     let reason = c.in-Err.field-0.why in
     let how = ended.ensures.0 in
@@ -88,8 +102,8 @@ returns-in-Err-clause-refused g c refusal is =
       refl,
     )
 
-pub returns-in-Err-clause-refuses : goal.returns-in-Err-clause-refuses
-returns-in-Err-clause-refuses g c state read refusal told is_read is_refused =
+pub returns-clause-refuses : goal.returns-clause-refuses
+returns-clause-refuses g c state read refusal told is_read is_refused =
     let ended = c.end_unopened-ending in
     let reason = c.in-Err.field-0.why in
     let how = ended.ensures.0 in (
@@ -106,13 +120,13 @@ pub returns-in-Ok-clause-again : goal.returns-in-Ok-clause-again
 returns-in-Ok-clause-again g c s input starts told may =
     ((c.answer_lines.ensures.runs s input (c.in-Ok.ensures.store s starts) told).disk (c.in-Ok.ensures.holds s starts may)).again
 
-pub returns-in-Err-clause-again : goal.returns-in-Err-clause-again
-returns-in-Err-clause-again g c s input starts told (state, is, may) =
+pub returns-clause-again : goal.returns-clause-again
+returns-clause-again g c s input starts told (state, is, may) =
     let now = c.in-Err.ensures.tells state is in
     (now.0, now.1, c.in-Err.ensures.again state now.0 is may now.1)
 
-pub returns-in-Err-clause-input : goal.returns-in-Err-clause-input
-returns-in-Err-clause-input g c input told =
+pub returns-clause-input : goal.returns-clause-input
+returns-clause-input g c input told =
     let ended = c.end_unopened-ending in
     unopened_reads_nothing g.K.Sink c.args.sink.now ended.new.sink ended.ensures.0 ended.result ended.ensures.2 input
     (streams g.S.Source g.K.Sink c.args.source.now c.args.sink.now) (streams g.S.Source g.K.Sink c.args.source.now ended.new.sink) (λ taken. taken)
@@ -130,5 +144,5 @@ returns-in-Ok-clause-reported g c silent =
     not_both : {e : Ending} → Stopped ≡ e → e ≡ DiskFault → ⊥
     not_both a b = cc
 
-pub returns-in-Err-clause-reported : goal.returns-in-Err-clause-reported
-returns-in-Err-clause-reported g c = not_silent g.K.Sink _ _ c.end_unopened-ending.ensures.0 c.end_unopened-ending.result c.end_unopened-ending.ensures.2
+pub returns-clause-reported : goal.returns-clause-reported
+returns-clause-reported g c = not_silent g.K.Sink _ _ c.end_unopened-ending.ensures.0 c.end_unopened-ending.result c.end_unopened-ending.ensures.2

@@ -40,7 +40,7 @@ returns-in-View-clause-makes g c s stands =
     (ap (λ (k : List ℕ). get_by s.store c.args.name (tell_of c.args.with_tag) k (thing_of s.store c.args.name))
     c.as_slice-in-View.ensures) c.told.ensures
     (view_read_makes bytes core os s stands (without_open c.args.name os) c.args.name c.in-View.view c.get.new.self
-    taken c.get.ensures.keeps
+    taken c.get.ensures.keeps c.get.ensures.still
     c.as_slice-in-View.result.now c.args.with_tag c.get.result c.get.ensures.refused c.get.ensures.value)
 
 pub returns-in-View-clause-sound : goal.returns-in-View-clause-sound
@@ -51,8 +51,8 @@ returns-in-View-clause-sound g c s stands =
     let taken = out_of_place bytes core os s stands c.deref.result.now c.deref.ensures.value c.as_slice.result.now
     c.args.name c.as_slice.ensures
     c.in-Some.at (sym c.place.ensures ∙ c.in-Some.is) c.index_mut.result.now c.index_mut.ensures.value _ c.in-View.is in
-    let (b, there, sees, live) = its bytes core os s stands (without_open c.args.name os) c.args.name c.in-View.view taken in
-    call_sound (told_value c.args.with_tag) c.get.result c.told.result c.told.ensures (c.get.ensures.sound (history_of s) sees)
+    let (b, there, sees, live, near) = its bytes core os s stands (without_open c.args.name os) c.args.name c.in-View.view taken in
+    call_sound (told_value c.args.with_tag) c.get.result c.told.result c.told.ensures (c.get.ensures.sound (history_of s) sees) (c.get.ensures.near near)
 
 pub returns-clause-makes : goal.returns-clause-makes
 returns-clause-makes g c s stands =
@@ -72,7 +72,7 @@ returns-clause-makes g c s stands =
     (txn_read_makes bytes core os s stands (without_open c.args.name os) c.args.name c.in-Transaction.txn
     c.get-in-Transaction.new.self taken c.get-in-Transaction.ensures.keeps
     c.as_slice-in-Transaction.result.now c.args.with_tag c.get-in-Transaction.result
-    c.get-in-Transaction.ensures.refused c.get-in-Transaction.ensures.kept
+    c.get-in-Transaction.ensures.refused c.get-in-Transaction.ensures.kept c.get-in-Transaction.ensures.still
     c.get-in-Transaction.ensures.value c.get-in-Transaction.ensures.sees)
 
 pub returns-clause-sound : goal.returns-clause-sound
@@ -86,3 +86,4 @@ returns-clause-sound g c s stands =
     let (t, b, there, is) = itself bytes core os s stands (without_open c.args.name os) c.args.name c.in-Transaction.txn taken in
     call_sound (told_value c.args.with_tag) c.get-in-Transaction.result c.told-in-Transaction.result
     c.told-in-Transaction.ensures (c.get-in-Transaction.ensures.sound (history_of s) t.reads is.sees)
+    (c.get-in-Transaction.ensures.near is.near)

@@ -43,7 +43,7 @@ returns-in-View-clause-makes g c s stands =
     (λ (high : List ℕ). step c.args.low high) c.as_slice-in-View-2.ensures) c.told_rows.ensures
     (view_scan_makes bytes core os s stands (without_open c.args.name os) c.args.name c.args.way
     c.as_slice-in-View.result.now c.as_slice-in-View-2.result.now c.args.limit
-    (λ rows. rows.items) (λ rows. answers.Rows rows) (λ rows. refl) c.in-View.view c.scan.new.self taken c.scan.ensures.keeps
+    (λ rows. rows.items) (λ rows. answers.Rows rows) (λ rows. refl) c.in-View.view c.scan.new.self taken c.scan.ensures.keeps c.scan.ensures.still
     c.scan.result c.scan.ensures.refused c.scan.ensures.rows)
 
 pub returns-in-View-clause-sound : goal.returns-in-View-clause-sound
@@ -54,9 +54,9 @@ returns-in-View-clause-sound g c s stands =
     let taken = out_of_place bytes core os s stands c.deref.result.now c.deref.ensures.value c.as_slice.result.now
     c.args.name c.as_slice.ensures
     c.in-Some.at (sym c.place.ensures ∙ c.in-Some.is) c.index_mut.result.now c.index_mut.ensures.value _ c.in-View.is in
-    let (b, there, sees, live) = its bytes core os s stands (without_open c.args.name os) c.args.name c.in-View.view taken in
+    let (b, there, sees, live, near) = its bytes core os s stands (without_open c.args.name os) c.args.name c.in-View.view taken in
     call_sound (λ rows. answers.Rows rows) c.scan.result c.told_rows.result c.told_rows.ensures (c.scan.ensures.sound
-    (history_of s) sees)
+    (history_of s) sees) (c.scan.ensures.near near)
 
 pub returns-clause-makes : goal.returns-clause-makes
 returns-clause-makes g c s stands =
@@ -79,7 +79,7 @@ returns-clause-makes g c s stands =
     c.as_slice-in-Transaction.result.now c.as_slice-in-Transaction-2.result.now c.args.limit
     (λ rows. rows.items) (λ rows. answers.Rows rows) (λ rows. refl) c.in-Transaction.txn
     c.scan-in-Transaction.new.self taken c.scan-in-Transaction.ensures.keeps
-    c.scan-in-Transaction.result c.scan-in-Transaction.ensures.refused c.scan-in-Transaction.ensures.kept
+    c.scan-in-Transaction.result c.scan-in-Transaction.ensures.refused c.scan-in-Transaction.ensures.kept c.scan-in-Transaction.ensures.still
     c.scan-in-Transaction.ensures.rows c.scan-in-Transaction.ensures.sees)
 
 pub returns-clause-sound : goal.returns-clause-sound
@@ -93,3 +93,4 @@ returns-clause-sound g c s stands =
     let (t, b, there, is) = itself bytes core os s stands (without_open c.args.name os) c.args.name c.in-Transaction.txn taken in
     call_sound (λ rows. answers.Rows rows) c.scan-in-Transaction.result c.told_rows-in-Transaction.result
     c.told_rows-in-Transaction.ensures (c.scan-in-Transaction.ensures.sound (history_of s) t.reads is.sees)
+    (c.scan-in-Transaction.ensures.near is.near)

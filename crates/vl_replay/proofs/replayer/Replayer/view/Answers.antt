@@ -1,6 +1,7 @@
 -- Where the name is free, what begins stands for it.
 use Rattle.std.proofs.Common.{refl, ap}
 use Rattle.std.specs.Prelude.{Ok}
+use Rattle.vl_engine.specs.laws.VersionLaws.{laid_in_memory}
 use Rattle.vl_layout.specs.Store.Reading.{a_view, begin_as}
 use Rattle.vl_layout.specs.Store.Things.{thing_of}
 use Rattle.vl_replay.specs.Sequential.{history_of}
@@ -30,6 +31,7 @@ returns-in-Ok-clause-makes g c s stands =
     c.in_ok-put-in-Ok.ensures refl (ap (λ n. Ok (answers.Number n)) c.number-number.ensures)
     (view_makes bytes core c.view.new.self.core os s stands c.view.ensures.back c.args.name free c.in-Ok.view
     (c.in-Ok.ensures.sees (history_of s) s.store.layout stands.engine)
+    (c.in-Ok.ensures.memory (laid_in_memory bytes core.version s.store.layout stands.engine.has stands.untabled))
     (c.in-Ok.ensures.stands (history_of s) s.store.layout stands.engine))
 
 pub returns-in-Err-TooMany-clause-makes : goal.returns-in-Err-TooMany-clause-makes
