@@ -5,7 +5,7 @@
 mod refusals;
 mod stock;
 
-use crate::refusals::{not_committed, not_opened};
+use crate::refusals::{go_on, not_opened};
 use crate::stock::{add, change, make_room, rows};
 use anyhow::{Result, bail};
 use std::env;
@@ -67,7 +67,10 @@ fn overtake<D: Disk>(rt: &HostRuntime, store: &mut Engine<D>) -> Result<()> {
             let fruit = str::from_utf8(key.as_slice())?;
             println!(rt; "10 apples came too late: commit {number} changed {fruit}")?;
         }
-        Err(fail) => return Err(not_committed(store, fail)),
+        Err(fail) => {
+            go_on(store, fail)?;
+            bail!("no conflict was found")
+        }
         Ok(_) => bail!("no conflict was found"),
     }
     let number = change(alloc, store, "apples", 10)?;

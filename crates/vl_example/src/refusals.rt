@@ -1,6 +1,7 @@
 //! What a refusal of the store means to a service.
 
-use anyhow::{Error, anyhow};
+use crate::stock::make_room;
+use anyhow::{Error, Result, anyhow};
 use vlstore::{CommitFail, Disk, Engine, OpenError, StepFail};
 
 /// Why a store wasn't opened, and what may be done.
@@ -17,26 +18,28 @@ pub fn not_opened(why: OpenError) -> Error {
     }
 }
 
-/// Why a transaction wasn't committed, and what may be done. One that was handed back is given up.
-pub fn not_committed<D: Disk>(
+/// Does what a refusal of a commit asks for, so that the change can begin anew; or says why it can't. A transaction that was handed
+/// back is given up.
+pub fn go_on<D: Disk>(
     store: &mut Engine<D>,
     fail: CommitFail<D::Held, D::Reader>,
-) -> Error {
+) -> Result<()> {
     match fail {
-        CommitFail::Halted { name } => anyhow!("the disk failed at {name:?}: open again"),
-        CommitFail::Disk { name } => anyhow!("the disk failed at {name:?}: open again"),
-        CommitFail::Conflict { number, .. } => anyhow!("commit {number} came first: try again"),
-        CommitFail::Exhausted(txn) => {
-            store.forget(txn);
-            anyhow!("no commit number is left")
-        }
+        CommitFail::Conflict { .. } => Ok(()),
         CommitFail::Full { txn, .. } => {
             store.forget(txn);
-            anyhow!("the log is full: rotate it")
+            make_room(store)?;
+            Ok(())
+        }
+        CommitFail::Halted { name } => Err(anyhow!("the disk failed at {name:?}: open again")),
+        CommitFail::Disk { name } => Err(anyhow!("the disk failed at {name:?}: open again")),
+        CommitFail::Exhausted(txn) => {
+            store.forget(txn);
+            Err(anyhow!("no commit number is left"))
         }
         CommitFail::NoMemory(txn) => {
             store.forget(txn);
-            anyhow!("no memory: try again")
+            Err(anyhow!("no memory: try again"))
         }
     }
 }

@@ -1,9 +1,9 @@
 //! The stock: under each fruit's name how many there are, as text.
 
-use crate::refusals::{not_committed, not_done};
+use crate::refusals::{go_on, not_done};
 use anyhow::{Result, bail};
 use std::alloc::Global;
-use vlstore::{CommitFail, Disk, Done, Engine, HeldFile, Reader, Rows, Txn, Way};
+use vlstore::{Disk, Done, Engine, HeldFile, Reader, Rows, Txn, Way};
 
 /// How often a change is begun anew.
 const TRIES: u32 = 10;
@@ -43,13 +43,8 @@ pub fn change<D: Disk>(
         }
         match store.commit(txn) {
             Ok(Done::At(number)) => return Ok(number),
-            Err(CommitFail::Conflict { .. }) => {}
-            Err(CommitFail::Full { txn, .. }) => {
-                store.forget(txn);
-                make_room(store)?;
-            }
-            Err(fail) => return Err(not_committed(store, fail)),
             Ok(Done::Nothing) => bail!("nothing was written"),
+            Err(fail) => go_on(store, fail)?,
         }
     }
     bail!("others always came first")
