@@ -20,10 +20,7 @@ pub fn not_opened(why: OpenError) -> Error {
 
 /// Does what a refusal of a commit asks for, so that the change can begin anew; or says why it can't. A transaction that was handed
 /// back is given up.
-pub fn go_on<D: Disk>(
-    store: &mut Engine<D>,
-    fail: CommitFail<D::Held, D::Reader>,
-) -> Result<()> {
+pub fn go_on<D: Disk>(store: &mut Engine<D>, fail: CommitFail<D::Held, D::Reader>) -> Result<()> {
     match fail {
         CommitFail::Conflict { .. } => Ok(()),
         CommitFail::Full { txn, .. } => {
