@@ -4,6 +4,7 @@ pub mod Begins
 pub mod Carrying
 pub mod Committing
 pub mod Filing
+pub mod Fitted
 pub mod Fitting
 pub mod FlushKeeps
 pub mod FlushLawful
@@ -21,5 +22,6 @@ pub mod Ruled
 pub mod Seeing
 pub mod Staged
 pub mod Standing
+pub mod Stepped
 pub mod Untouched
 pub mod Written
