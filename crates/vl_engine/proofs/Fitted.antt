@@ -41,7 +41,7 @@ use Rattle.vl_model.specs.Reads.{Read}
 
 -- ---- a commit that was decided to be written
 
-module _ {D H R : Type 0} (g : Ghosts D) (bytes : H → Option (List ℕ)) (old new : D) (before after : Core H) (h : History) (l : Layout)
+module _ {D H : Type 0} (g : Ghosts D) (bytes : H → Option (List ℕ)) (old new : D) (before after : Core H) (h : History) (l : Layout)
     (ticket number : ℕ) (reads : List Read) (writes : Writes) (back : after.back ≡ before.back) where
   abbrev t : Transaction
   t = record { ticket = ticket; number = number; reads = reads; writes = entries writes }
@@ -52,7 +52,7 @@ module _ {D H R : Type 0} (g : Ghosts D) (bytes : H → Option (List ℕ)) (old 
   abbrev otherwise : Otherwise
   otherwise = as_before l (commit_lost l t)
 
-  module _ (write : committed l h t ≡ ruling) (stood : ForSome (g.told old) (IsFitFor before)) (is : StandsFor bytes before h l)
+  module _ {R : Type 0} (write : committed l h t ≡ ruling) (stood : ForSome (g.told old) (IsFitFor before)) (is : StandsFor bytes before h l)
       (fits : Fits (g.told old) before h l) where
     pub written_by : (result : Result Done (CommitFail H R)) → WritesAs g old new before after ticket writes result
         → Decides (Fits (g.told new) after) h l ruling otherwise (commit_outcome result) (commit_effects result)

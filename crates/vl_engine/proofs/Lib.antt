@@ -10,6 +10,7 @@ pub mod FlushKeeps
 pub mod FlushLawful
 pub mod FlushSteps
 pub mod Flushed
+pub mod Fulfilled
 pub mod Halted
 pub mod Knowing
 pub mod Merged
