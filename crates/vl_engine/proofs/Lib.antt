@@ -4,6 +4,7 @@ pub mod Begins
 pub mod Carrying
 pub mod Committing
 pub mod Filing
+pub mod FitsAtStart
 pub mod Fitted
 pub mod Fitting
 pub mod FlushKeeps
@@ -12,6 +13,7 @@ pub mod FlushSteps
 pub mod Flushed
 pub mod Fulfilled
 pub mod Halted
+pub mod Headed
 pub mod Knowing
 pub mod Merged
 pub mod Opened

@@ -84,7 +84,7 @@ none_covers : (fs : List LogFrame) (n : ℕ) → is_any fs ≡ false → covered
 none_covers [] n none = refl
 none_covers (f ∷ fs) n none = absurd cc
 
-filled_cover : (ss : List Segment) (n : ℕ) → covered_all (filter has_frames ss) n ≡ covered_all ss n
+pub filled_cover : (ss : List Segment) (n : ℕ) → covered_all (filter has_frames ss) n ≡ covered_all ss n
 filled_cover [] n = refl
 filled_cover (s ∷ ss) n = by (filled_cover ss) (has_frames s) refl
   where
@@ -97,7 +97,7 @@ last_turned : (ss : List Segment) (s : Segment) → newest_first (ss ++ s ∷ []
 last_turned [] s = refl
 last_turned (t ∷ ss) s = ap (λ (rest : List Segment). rest ++ t ∷ []) (last_turned ss s)
 
-twice_turned : (ss : List Segment) → newest_first (newest_first ss) ≡ ss
+pub twice_turned : (ss : List Segment) → newest_first (newest_first ss) ≡ ss
 twice_turned [] = refl
 twice_turned (s ∷ ss) = last_turned (newest_first ss) s ∙ ap (λ (rest : List Segment). s ∷ rest) (twice_turned ss)
 
