@@ -29,7 +29,7 @@ use Rattle.vl_recover.specs.opening.Plans.{active_log, active_of, last_number, l
 use Rattle.vl_recover.specs.opening.Walk.{StandingLog, content_end, format_of, keeps_header}
 use Rattle.vl_recover.specs.repairing.Repairing.{Cut, Headed, IsPlan, Kept, Plan, Rewritten, behind_last, behind_log, behind_strays, headed, last_of, plan_of, repaired, repairing_of, with_last, with_log, with_manifest}
 use Rattle.vl_seglog.specs.Frames.{frames_end, frames_grammar, log_header}
-use Rattle.vl_seglog.specs.LogReading.{AreBehind, IsLogFormat, LogReading, ReadsLog, SaysFormat, end_of, is_whole}
+use Rattle.vl_seglog.specs.LogReading.{AreBehind, IsLogFormat, ReadsLog, SaysFormat, end_of, is_whole}
 use Rattle.vl_seglog.specs.laws.LogReadingLaws.{log_apart}
 
 -- ---- the bytes of one file

@@ -11,7 +11,6 @@ pub mod FlushKeeps
 pub mod FlushLawful
 pub mod FlushSteps
 pub mod Flushed
-pub mod Fulfilled
 pub mod Halted
 pub mod Headed
 pub mod Knowing

@@ -50,9 +50,9 @@ impl<D: Disk> Engine<D> {
             → IfOk result (λ engine. Represents D.Held.bytes engine.core (D.told engine.disk) h
             (layout_at_start room (recovered found shown))) }
 
-        // What steps on files ask is so where a store may be opened.
+        // What steps on files ask is so.
         ensures fits { (state : DiskState) (read : Image) (found : Finds read) (h : History) → D.told disk ≡ Some state
-            → MayOpen state → IsRead read state → (shown : Shown read h (last_number h))
+            → IsRead read state → (shown : Shown read h (last_number h))
             → IfOk result (λ engine. Fits (D.told engine.disk) engine.core h (layout_at_start room (recovered found shown))) }
 
         // What it keeps is what reads give, also where they show no history since blocks of tables are damaged.
