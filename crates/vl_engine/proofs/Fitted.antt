@@ -52,8 +52,8 @@ module _ {D H : Type 0} (g : Ghosts D) (bytes : H → Option (List ℕ)) (old ne
   abbrev otherwise : Otherwise
   otherwise = as_before l (commit_lost l t)
 
-  module _ {R : Type 0} (write : committed l h t ≡ ruling) (stood : ForSome (g.told old) (IsFitFor before)) (is : StandsFor bytes before h l)
-      (fits : Fits (g.told old) before h l) where
+  module _ {R : Type 0} (write : committed l h t ≡ ruling) (stood : ForSome (g.told old) (IsFitFor before))
+      (is : StandsFor bytes before h l) (fits : Fits (g.told old) before h l) where
     pub written_by : (result : Result Done (CommitFail H R)) → WritesAs g old new before after ticket writes result
         → Decides (Fits (g.told new) after) h l ruling otherwise (commit_outcome result) (commit_effects result)
     written_by (Ok (done.At given)) (given_is, wrote) =

@@ -15,7 +15,7 @@ use Rattle.vl_disk.specs.declared.name.Name.{Name}
 use Rattle.vl_disk.specs.laws.NameMap.{get_inserted_other, get_removed_other}
 use Rattle.vl_engine.specs.Files.{IsLogFile}
 use Rattle.vl_engine.specs.laws.KeptLaws.{log_manifest}
-use Rattle.vl_engine.specs.laws.StartLaws.{IsAsRead, made_next}
+use Rattle.vl_engine.specs.laws.StartLaws.{IsAsRead}
 use Rattle.vl_frame.specs.Runs.{HasFrame}
 use Rattle.vl_layout.specs.Start.{has_frames, is_any}
 use Rattle.vl_layout.specs.declared.segment.Segment.{Segment}
@@ -146,9 +146,14 @@ module _ (image : Image) (s : ManifestState) (disk : DiskState)
       (there, omega (arith, above, next.from))
 
 -- a log that is made has a number that may be given
+behind_above : (s : ManifestState) (fs : List LogFrame) (k : ℕ) → log_behind s fs ≡ Some k → s.next_log ≤ k
+behind_above s [] k is = absurd cc
+behind_above s (f ∷ fs) k is = let same : s.next_log ≡ k = cc in omega (arith, same)
+
 made_above : (s : ManifestState) (logs : List StandingLog) (k : ℕ) → log_made s logs ≡ Some k → s.next_log ≤ k
 made_above s [] k is = let same : max s.head s.next_log ≡ k = cc in omega (arith, same)
-made_above s (q ∷ qs) k is = let same = made_next s q qs k is in omega (arith, same)
+made_above s (q ∷ []) k is = behind_above s q.reading.frames k is
+made_above s (q ∷ p ∷ ps) k is = made_above s (p ∷ ps) k is
 
 module _ {read : Image} (found : Finds read) (start : DiskState) (is_read : IsRead read start) (plan : Plan) (is : IsPlan found plan)
     where
