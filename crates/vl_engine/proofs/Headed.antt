@@ -1,9 +1,9 @@
 -- What steps on files ask is so behind an opening, whatever stood on the disk: the log that takes commits has its header alone.
-use Rattle.std.specs.Prelude.{◌≡◌, ◌≢◌, ◌≤◌, ◌<◌, ℕ, ◌+◌, ◌==◌, ◌||◌, ◌++◌, max, suc, Bool, true, false, if◌then◌else◌, List, [], ◌∷◌, length, take, Option, None, Some, IsSome, Contains, unwrap_or, refl}
+use Rattle.std.specs.Prelude.{◌≡◌, ◌≢◌, ◌≤◌, ℕ, ◌+◌, ◌==◌, ◌||◌, ◌++◌, max, suc, Bool, true, false, if◌then◌else◌, List, [], ◌∷◌, length, take, Option, None, Some, IsSome, Contains, unwrap_or, refl}
 use Rattle.std.specs.FinMap.{get}
 use Rattle.std.specs.List.{AllByRecursion, filter}
 use Rattle.std.specs.Option.{option_map}
-use Rattle.std.proofs.Common.{sym, ap, subst, ◌∙◌, append-nil, arith}
+use Rattle.std.proofs.Common.{sym, ap, subst, ◌∙◌, arith}
 use Rattle.std.proofs.lemmas.Bool.Decides.{nat_tests}
 use Rattle.std.proofs.lemmas.List.{take_all}
 use Rattle.vl_disk.specs.Changes.{changed_there}
@@ -28,7 +28,7 @@ use Rattle.vl_recover.specs.opening.Opening.{StandingLogs}
 use Rattle.vl_recover.specs.opening.Plans.{active_log, active_of, last_number, log_behind, log_made, new_state}
 use Rattle.vl_recover.specs.opening.Walk.{StandingLog, content_end, format_of, keeps_header}
 use Rattle.vl_recover.specs.repairing.Repairing.{Cut, Headed, IsPlan, Kept, Plan, Rewritten, behind_last, behind_log, behind_strays, headed, last_of, plan_of, repaired, repairing_of, with_last, with_log, with_manifest}
-use Rattle.vl_seglog.specs.Frames.{frames_end, frames_grammar, log_header}
+use Rattle.vl_seglog.specs.Frames.{frames_grammar, log_header}
 use Rattle.vl_seglog.specs.LogReading.{AreBehind, IsLogFormat, ReadsLog, SaysFormat, end_of, is_whole}
 use Rattle.vl_seglog.specs.laws.LogReadingLaws.{log_apart}
 
@@ -156,59 +156,59 @@ made_above s (q ∷ []) k is = behind_above s q.reading.frames k is
 made_above s (q ∷ p ∷ ps) k is = made_above s (p ∷ ps) k is
 
 module _ {read : Image} (found : Finds read) (start : DiskState) (is_read : IsRead read start) (plan : Plan) (is : IsPlan found plan)
-    where
-  abbrev new : ManifestState
-  new = new_state found.greatest found.opening.state
+  where
+    abbrev new : ManifestState
+    new = new_state found.greatest found.opening.state
 
-  abbrev planned : Plan
-  planned = plan_of found plan.strays
+    abbrev planned : Plan
+    planned = plan_of found plan.strays
 
-  -- a stray is no log from head on, and stands
-  no_stray : (k : ℕ) → found.opening.state.head ≤ k → (other : Name) → Contains plan.strays other → names.Log k ≢ other
-  no_stray k above other among same =
-      let stray : IsStrayName found.opening (names.Log k) =
-      subst (IsStrayName found.opening) (sym same) (((is.strays.all other).0 among).1) in
-      let low = stray.0 in omega (arith, low, above)
+    -- a stray is no log from head on, and stands
+    no_stray : (k : ℕ) → found.opening.state.head ≤ k → (other : Name) → Contains plan.strays other → names.Log k ≢ other
+    no_stray k above other among same =
+        let stray : IsStrayName found.opening (names.Log k) =
+        subst (IsStrayName found.opening) (sym same) (((is.strays.all other).0 among).1) in
+        let low = stray.0 in omega (arith, low, above)
 
-  nor_new : (k : ℕ) → get read (names.Log k) ≡ None → (other : Name) → Contains plan.strays other → names.Log k ≢ other
-  nor_new k none other among same =
-      missing (get read (names.Log k)) none
-      (subst (λ (n : Name). IsSome (get read n)) (sym same) (((is.strays.all other).0 among).0))
-    where
-      missing : (o : Option (List ℕ)) → o ≡ None → IsSome o → ⊥
-      missing None e some = cc
-      missing (Some bytes) e some = cc
+    nor_new : (k : ℕ) → get read (names.Log k) ≡ None → (other : Name) → Contains plan.strays other → names.Log k ≢ other
+    nor_new k none other among same =
+        missing (get read (names.Log k)) none
+        (subst (λ (n : Name). IsSome (get read n)) (sym same) (((is.strays.all other).0 among).0))
+      where
+        missing : (o : Option (List ℕ)) → o ≡ None → IsSome o → ⊥
+        missing None e some = cc
+        missing (Some bytes) e some = cc
 
-  stood : (k : ℕ) (bytes : List ℕ) → get read (names.Log k) ≡ Some bytes
-      → Has (names.Log k) bytes (with_manifest planned start)
-  stood k bytes stands =
-      ap (option_map (λ (f : File). f.bytes)) (get_inserted_other start.standing (names.Manifest planned.manifest)
-      (settled planned.piece) (names.Log k) (log_manifest k planned.manifest))
-      ∙ sym (is_read.each (names.Log k)) ∙ stands
+    stood : (k : ℕ) (bytes : List ℕ) → get read (names.Log k) ≡ Some bytes
+        → Has (names.Log k) bytes (with_manifest planned start)
+    stood k bytes stands =
+        ap (option_map (λ (f : File). f.bytes)) (get_inserted_other start.standing (names.Manifest planned.manifest)
+        (settled planned.piece) (names.Log k) (log_manifest k planned.manifest))
+        ∙ sym (is_read.each (names.Log k)) ∙ stands
 
-  by_log : (log : Option ℕ) → log_made new found.logs ≡ log → planned.log ≡ log
-      → Has (names.Log (active_of log found.logs)) (log_header log_format (active_of log found.logs)) (with_log planned start)
-      × ((other : Name) → Contains plan.strays other → names.Log (active_of log found.logs) ≢ other)
-  by_log (Some k) made_is log_is = (
-    subst (λ (o : Option ℕ). Has (names.Log k) (log_header log_format k) (behind_log o (with_last planned start))) (sym log_is)
-        (ap (option_map (λ (f : File). f.bytes)) (made_there (names.Log k) (log_header log_format k) (with_last planned start))),
-    nor_new k (found.are_greatest.log.none_above k (let above = made_above new found.logs k made_is in omega (arith, above))),
-  )
-  by_log None made_is log_is =
-      let (there, above) = last_headed read new (with_manifest planned start) stood 0 found.opening.state.head found.logs
-      found.standing made_is in (
-        subst (λ (o : Option ℕ). Has (names.Log (last_number 0 found.logs)) (log_header log_format (last_number 0 found.logs))
-        (behind_log o (with_last planned start))) (sym log_is) there,
-        no_stray (last_number 0 found.logs) above,
-      )
+    by_log : (log : Option ℕ) → log_made new found.logs ≡ log → planned.log ≡ log
+        → Has (names.Log (active_of log found.logs)) (log_header log_format (active_of log found.logs)) (with_log planned start)
+        × ((other : Name) → Contains plan.strays other → names.Log (active_of log found.logs) ≢ other)
+    by_log (Some k) made_is log_is = (
+      subst (λ (o : Option ℕ). Has (names.Log k) (log_header log_format k) (behind_log o (with_last planned start))) (sym log_is)
+          (ap (option_map (λ (f : File). f.bytes)) (made_there (names.Log k) (log_header log_format k) (with_last planned start))),
+      nor_new k (found.are_greatest.log.none_above k (let above = made_above new found.logs k made_is in omega (arith, above))),
+    )
+    by_log None made_is log_is =
+        let (there, above) = last_headed read new (with_manifest planned start) stood 0 found.opening.state.head found.logs
+        found.standing made_is in (
+          subst (λ (o : Option ℕ). Has (names.Log (last_number 0 found.logs)) (log_header log_format (last_number 0 found.logs))
+              (behind_log o (with_last planned start))) (sym log_is) there,
+          no_stray (last_number 0 found.logs) above,
+        )
 
-  pub active_headed : Has (names.Log (active_log found.greatest found.opening.state found.logs))
-      (log_header log_format (active_log found.greatest found.opening.state found.logs)) (repaired plan start)
-  active_headed =
-      let number = active_log found.greatest found.opening.state found.logs in
-      let (there, apart) = by_log (log_made new found.logs) refl refl in
-      subst (λ (p : Plan). Has (names.Log number) (log_header log_format number) (repaired p start)) (sym is.is)
-      (ap (option_map (λ (f : File). f.bytes)) (strays_leave plan.strays (names.Log number) (with_log planned start) apart) ∙ there)
+    pub active_headed : Has (names.Log (active_log found.greatest found.opening.state found.logs))
+        (log_header log_format (active_log found.greatest found.opening.state found.logs)) (repaired plan start)
+    active_headed =
+        let number = active_log found.greatest found.opening.state found.logs in
+        let (there, apart) = by_log (log_made new found.logs) refl refl in
+        subst (λ (p : Plan). Has (names.Log number) (log_header log_format number) (repaired p start)) (sym is.is)
+        (ap (option_map (λ (f : File). f.bytes)) (strays_leave plan.strays (names.Log number) (with_log planned start) apart) ∙ there)
 
 -- ---- the logs before it
 

@@ -1,5 +1,5 @@
 -- What steps on files ask, behind each call.
-use Rattle.std.specs.Prelude.{◌≡◌, ℕ, ◌+◌, ◌++◌, max, Bool, true, false, List, [], ◌∷◌, drop, length, take, Option, None, Some, IsSome, unwrap_or, refl}
+use Rattle.std.specs.Prelude.{◌≡◌, ℕ, ◌+◌, ◌++◌, max, Bool, true, false, List, [], ◌∷◌, drop, length, Option, None, Some, IsSome, unwrap_or, refl}
 use Rattle.std.specs.FinMap.{entries, from_sorted, get}
 use Rattle.std.specs.List.{AllByRecursion}
 use Rattle.std.specs.Option.{option_map}
@@ -19,7 +19,7 @@ use Rattle.vl_engine.specs.Files.{IsLogFile}
 use Rattle.vl_engine.specs.Flushing.{IsTableMade, flush_written}
 use Rattle.vl_engine.specs.Pointed.{bytes_of_log}
 use Rattle.vl_engine.specs.Represents.{StandsFor}
-use Rattle.vl_engine.specs.Rotating.{HasActive, HasBegun, IsSameBack, next_header, next_name}
+use Rattle.vl_engine.specs.Rotating.{HasBegun, IsSameBack, next_header, next_name}
 use Rattle.vl_engine.specs.Stepping.{Fits, HasNumbers, MayStep, covered_all}
 use Rattle.vl_engine.specs.declared.kept.Core.{Core}
 use Rattle.vl_engine.specs.Staging.{next_frame}
@@ -256,43 +256,45 @@ module _ {D H : Type 0} (g : Ghosts D) (bytes : H → Option (List ℕ)) (before
     (back : after.back ≡ before.back) (stood : Stands (log_of before.front) may.state)
     (next_is : next_frame before.front writes ≡ commit_frame h (entries writes))
     (frame_is : frame_of before.front writes ≡ frame_at log_format l.active.number l.active.length (commit_frame h (entries writes)))
-    where
-  abbrev frame : LogFrame
-  frame = commit_frame h (entries writes)
+  where
+    abbrev frame : LogFrame
+    frame = commit_frame h (entries writes)
 
-  abbrev then : Layout
-  then = logged frame (ended ticket l)
+    abbrev then : Layout
+    then = logged frame (ended ticket l)
 
-  -- it stands where the log's frames end
-  frame_here : frame_of before.front writes ≡ frame_behind l.active.format l.active.number l.active.frames frame
-  frame_here = frame_is
-      ∙ ap (λ (n : ℕ). frame_at n l.active.number l.active.length frame) (sym is.fronts.format)
-      ∙ ap (λ (n : ℕ). frame_at l.active.format l.active.number n frame) is.tidy.true_logs.0
+    -- it stands where the log's frames end
+    frame_here : frame_of before.front writes ≡ frame_behind l.active.format l.active.number l.active.frames frame
+    frame_here = frame_is
+        ∙ ap (λ (n : ℕ). frame_at n l.active.number l.active.length frame) (sym is.fronts.format)
+        ∙ ap (λ (n : ℕ). frame_at l.active.format l.active.number n frame) is.tidy.true_logs.0
 
-  pub written_may : IsWritten g old new before after ticket writes
-      → MayStep (g.told new) after.back (with_commit h (from_sorted (entries writes))) then
-  written_may did = record {
-    numbers = subst (λ (b : Back). HasNumbers b then) (sym back)
-        (record { next_log = may.numbers.next_log; next_table = may.numbers.next_table; waiting = may.numbers.waiting });
-    files = (
-      record {
-        readable = may.files.0.readable;
-        have = all_more (HasFrame (frames_grammar l.active.format)) l.active.frames (frame ∷ []) may.files.0.have
-            (subst (λ (n : ℕ). HasFrame (frames_grammar n) frame) (sym is.fronts.format)
-            (subst (λ (f : LogFrame). HasFrame (frames_grammar log_format) f) next_is did.hands.has), tt);
-      },
-      may.files.1,
-    );
-    covers = covered_more_by l.active.frames (last_number h + 1) (entries writes) (covered_all (newest_first l.frozen) l.covered)
-        ∙ ap (λ (n : ℕ). max n (last_number h + 1)) may.covers ∙ one_more h (from_sorted (entries writes));
-    state = written (log_of before.front) (frame_of before.front writes) may.state;
-    told_is = did.changed ∙ ap (option_map (written (log_of before.front) (frame_of before.front writes)))
-        (did.hands.before.told ∙ may.told_is);
-    active = ap (λ (n : ℕ). (file_at (written (log_of before.front) (frame_of before.front writes) may.state) (names.Log n)).bytes)
-        (sym is.fronts.number)
-        ∙ file_longer (log_of before.front) (frame_of before.front writes) may.state stood
-        ∙ ap (λ (n : ℕ). (file_at may.state (names.Log n)).bytes ++ frame_of before.front writes) is.fronts.number
-        ∙ ap (λ (bs : List ℕ). bs ++ frame_of before.front writes) may.active
-        ∙ ap (λ (bs : List ℕ). bytes_of_log l.active ++ bs) frame_here
-        ∙ sym (log_bytes-more l.active.format l.active.number l.active.frames frame);
-  }
+    pub written_may : IsWritten g old new before after ticket writes
+        → MayStep (g.told new) after.back (with_commit h (from_sorted (entries writes))) then
+    written_may did = record {
+      numbers = subst (λ (b : Back). HasNumbers b then) (sym back)
+          (record { next_log = may.numbers.next_log; next_table = may.numbers.next_table; waiting = may.numbers.waiting });
+      files = (
+        record {
+          readable = may.files.0.readable;
+          have = all_more (HasFrame (frames_grammar l.active.format)) l.active.frames (frame ∷ []) may.files.0.have (
+            subst (λ (n : ℕ). HasFrame (frames_grammar n) frame) (sym is.fronts.format)
+                (subst (λ (f : LogFrame). HasFrame (frames_grammar log_format) f) next_is did.hands.has),
+            tt,
+          );
+        },
+        may.files.1,
+      );
+      covers = covered_more_by l.active.frames (last_number h + 1) (entries writes) (covered_all (newest_first l.frozen) l.covered)
+          ∙ ap (λ (n : ℕ). max n (last_number h + 1)) may.covers ∙ one_more h (from_sorted (entries writes));
+      state = written (log_of before.front) (frame_of before.front writes) may.state;
+      told_is = did.changed ∙ ap (option_map (written (log_of before.front) (frame_of before.front writes)))
+          (did.hands.before.told ∙ may.told_is);
+      active = ap (λ (n : ℕ). (file_at (written (log_of before.front) (frame_of before.front writes) may.state) (names.Log n)).bytes)
+          (sym is.fronts.number)
+          ∙ file_longer (log_of before.front) (frame_of before.front writes) may.state stood
+          ∙ ap (λ (n : ℕ). (file_at may.state (names.Log n)).bytes ++ frame_of before.front writes) is.fronts.number
+          ∙ ap (λ (bs : List ℕ). bs ++ frame_of before.front writes) may.active
+          ∙ ap (λ (bs : List ℕ). bytes_of_log l.active ++ bs) frame_here
+          ∙ sym (log_bytes-more l.active.format l.active.number l.active.frames frame);
+    }
