@@ -8,6 +8,7 @@ use Rattle.vl_engine.specs.Represents.{IsLive}
 use Rattle.vl_engine.specs.declared.txn.Txn.{Txn}
 use Rattle.vl_engine.specs.Sees.{Sees, SeesAlone, asked, asked_view}
 use Rattle.vl_layout.specs.Rulings.Commit.{Transaction as ATxn}
+use Rattle.vl_layout.specs.Sources.{tables}
 use Rattle.vl_layout.specs.Store.Lines.{Name}
 use Rattle.vl_layout.specs.Store.Things as store
 use Rattle.vl_layout.specs.Store.Things.{AJob, APass, ATransaction, AView, thing_in}
@@ -43,21 +44,22 @@ ticket_of (AView v b) = v.ticket
 ticket_of (AJob job made) = 0
 ticket_of (APass pass batch) = 0
 
--- A transaction is the one of the store: it made the same reads and writes, which it sees; it is live, and reads no file. So it is
--- with a view.
+-- A transaction is the one of the store: it made the same reads and writes, which it sees; it is live, and reads no file where the
+-- layout has no tables. So it is with a view.
 pub record IsTransaction {H R : Type 0} (bytes : H → Option (List ℕ)) (txn : Txn H R) (t : ATxn) (h : History) (l : Layout)
     : Type 0 where
   pub same : asked txn t.reads ≡ t
   pub sees : Sees bytes txn h t.reads
   pub live : IsLive l txn.ticket txn.number
-  pub near : IsInMemory txn.version
+  pub near : tables l ≡ [] → IsInMemory txn.version
 
 -- nothing, on both sides, or the same
 abbrev pub Corresponds : {H R : Type 0} → (H → Option (List ℕ)) → History → Layout → Option (Thing H R) → Option store.Thing → Type 0
 Corresponds bytes h l None None = Unit {0}
 Corresponds bytes h l (Some (Transaction txn)) (Some (ATransaction t b)) = IsTransaction bytes txn t h l
 Corresponds bytes h l (Some (View view)) (Some (AView v b)) =
-    (asked_view view ≡ v) × SeesAlone bytes view h × IsLive l view.ticket view.number × IsInMemory view.version
+    (asked_view view ≡ v) × SeesAlone bytes view h × IsLive l view.ticket view.number
+    × (tables l ≡ [] → IsInMemory view.version)
 Corresponds bytes h l x y = ⊥
 
 -- no name is there twice
