@@ -26,6 +26,8 @@ use Rattle.vl_layout.specs.Store.Lines as store_lines
 use Rattle.vl_layout.specs.Store.Reading.{answer_of, answer_with_tag}
 use Rattle.vl_engine.specs.declared.fails.ReadFail.{ReadFail}
 use Rattle.vl_engine.specs.declared.fails.ReadFail.TheVariants as unread
+use Rattle.vl_engine.specs.declared.fails.StepFail.{StepFail}
+use Rattle.vl_engine.specs.declared.fails.StepFail.TheVariants as undone
 use Rattle.vl_model.specs.Keys.{Stored}
 use Rattle.vl_txn.specs.declared.set_fail.SetFail.{SetFail}
 use Rattle.vl_txn.specs.declared.set_fail.SetFail.TheVariants.{EmptyKey, KeyTooLong, NoMemory, TooBig, ValueTooLong}
@@ -125,3 +127,15 @@ told_by tell (Err unread.KeyTooLong) = Ok answers.Invalid
 told_by tell (Err unread.NoMemory) = Err halts.NoMemory
 told_by tell (Err (unread.Disk name)) = Err (halts.Read name)
 told_by tell (Err (unread.Damaged name place)) = Err (halts.Damaged name place)
+
+-- ---- what steps on files are told
+
+-- The number of the log that was sealed, or of the table that was made. An engine is halted only behind a fault, at which its
+-- replayer halts too.
+abbrev pub told_step : Result (Option ℕ) StepFail → Result Answer Halt
+told_step (Ok (Some number)) = Ok (answers.Number number)
+told_step (Ok None) = Ok answers.Idle
+told_step (Err (undone.Exhausted counter)) = Ok (answers.Exhausted counter)
+told_step (Err undone.NoMemory) = Err halts.NoMemory
+told_step (Err (undone.Disk name)) = Err (halts.Disk name)
+told_step (Err (undone.Halted name)) = Err (halts.Read name)

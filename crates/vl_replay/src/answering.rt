@@ -32,14 +32,14 @@ fn execute_line<D: Disk>(
     text: &[u8],
 ) -> Result<Option<Vec<u8>>, Halt>
     requires { TakesLines replayer.old }
-    ensures answers { (s : State) → StandsFor D.Held.bytes replayer.old s
-        → IfOk result (λ out. IsAnswered s text.now (StandsFor D.Held.bytes replayer.new) (option_map (λ text. text.items) out)) }
-    ensures carries { (s : State) → StandsFor D.Held.bytes replayer.old s
+    ensures answers { (s : State) → StandsFor D.Watched D.Held.bytes replayer.old s
+        → IfOk result (λ out. IsAnswered s text.now (StandsFor D.Watched D.Held.bytes replayer.new) (option_map (λ text. text.items) out)) }
+    ensures carries { (s : State) → StandsFor D.Watched D.Held.bytes replayer.old s
         → CarriesOut D.Watched IsStored Shown IsStopped (disk_of replayer.old) (disk_of replayer.new) s
         (state_behind s (exchange_at s text.now)) result }
     ensures cause { HasCause (D.faults (disk_of replayer.old)) (D.faults (disk_of replayer.new)) (HaltsByDisk result) }
     // What a store has that tells its bytes can be read.
-    ensures readable { (s : State) → StandsFor D.Held.bytes replayer.old s
+    ensures readable { (s : State) → StandsFor D.Watched D.Held.bytes replayer.old s
         → HaltsByRead result → ⊥ }
     ensures met { HaltsByRead result → IsLine text.now }
     ensures reads { IfOk result (λ out. ReadsText text.now (option_map (λ text. text.items) out)) }
@@ -83,12 +83,12 @@ pub fn answer<K: Sink, D: Disk>(
     on_fault: OnFault,
 ) -> Option<Ending>
     requires { TakesLines replayer.old }
-    ensures printed { (script : Script) → StandsFor D.Held.bytes replayer.old script.start
+    ensures printed { (script : Script) → StandsFor D.Watched D.Held.bytes replayer.old script.start
         → answered ≡ line_number script.before
         → IsNext script text.now
         → PrintsStep (Rose (D.faults (disk_of replayer.old)) (D.faults (disk_of replayer.new))) script text.now
-        (StandsFor D.Held.bytes replayer.new) result (K.held sink.old) (K.held sink.new) }
-    ensures moves { (s : State) → StandsFor D.Held.bytes replayer.old s
+        (StandsFor D.Watched D.Held.bytes replayer.new) result (K.held sink.old) (K.held sink.new) }
+    ensures moves { (s : State) → StandsFor D.Watched D.Held.bytes replayer.old s
         → HoldsState D.Watched IsStored s (disk_of replayer.old)
         → DiskSteps D.Watched IsStored Shown IsStopped (disk_of replayer.old) (disk_of replayer.new) s
         (state_behind s (exchange_at s text.now)) result }
@@ -98,9 +98,9 @@ pub fn answer<K: Sink, D: Disk>(
     ensures not_the_files { (refusal : Refusal) → result ≢ Some (Ending.Refused refusal) }
     ensures not_the_words { result ≢ Some Ending.BadWords }
     // What a store has that tells its bytes can be read, and it stands for a state then, wherever the run goes on.
-    ensures readable { (s : State) → StandsFor D.Held.bytes replayer.old s → result ≢ Some Ending.ReaderFault }
-    ensures stands { (s : State) → StandsFor D.Held.bytes replayer.old s → result ≡ None
-        → (t : State) × StandsFor D.Held.bytes replayer.new t }
+    ensures readable { (s : State) → StandsFor D.Watched D.Held.bytes replayer.old s → result ≢ Some Ending.ReaderFault }
+    ensures stands { (s : State) → StandsFor D.Watched D.Held.bytes replayer.old s → result ≡ None
+        → (t : State) × StandsFor D.Watched D.Held.bytes replayer.new t }
     ensures reads { AnswersText text.now answered result (K.held sink.old) (K.held sink.new) }
     ensures as_meant { EndsAs on_fault result }
     ensures goes_on { result ≡ None → TakesLines replayer.new }

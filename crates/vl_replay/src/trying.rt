@@ -3,6 +3,7 @@ ghost use Rattle.std.specs.Prelude.{◌≡◌, ◌≢◌, ◌↔◌, ℕ, List, 
 ghost use Rattle.vl_disk.specs.Faults.{HasCause};
 ghost use Rattle.vl_mem.specs.CrashImage.{crash_image};
 ghost use Rattle.vl_mem.specs.MemDisk.{state_of};
+ghost use Rattle.vl_mem.specs.contracts.mem_disk.MemDiskWatched.TheImpl as memory;
 ghost use Rattle.vl_model.specs.History.{History};
 ghost use Rattle.vl_replay.specs.Endings.{TheSink, TheSource, CountsFaultsOf, culprit_of, status_of};
 ghost use Rattle.vl_engine.specs.Opening.{IsFault};
@@ -102,7 +103,7 @@ fn is_fault(why: &OpenError) -> bool
 
 // Opens a store on an empty disk that stops behind so many changing calls.
 fn begin(alloc: Global, stop: u32) -> Result<Replayer<MemDisk>, OpenFail<MemDisk, MemReader>>
-    ensures opened { IfOk result (λ replayer. IsOnTrial stop (StandsFor all_told replayer) (disk_of replayer)) }
+    ensures opened { IfOk result (λ replayer. IsOnTrial stop (StandsFor memory.ghosts all_told replayer) (disk_of replayer)) }
     ensures goes_on { IfOk result TakesLines }
     ensures stopped { IfErr result (λ fail. StopsOpening stop fail.why fail.disk) }
 {
