@@ -10,6 +10,7 @@ ghost use Rattle.vl_replay.specs.Endings.{TheDisk, TheSink, TheSource, CountsFau
 ghost use Rattle.std.specs.Option.{option_map};
 ghost use Rattle.vl_disk.specs.Faults.{Rose};
 ghost use Rattle.vl_replay.specs.Runs.{Script, script_of, outside, EndsRun};
+ghost use Rattle.vl_replay.specs.Failing.{HasTables, IsTableRead};
 ghost use Rattle.vl_replay.specs.Durable.{HoldsState, DiskEndsFrom};
 ghost use Rattle.vl_replay.specs.Stored.{IsStopped, IsStored};
 ghost use Rattle.vl_engine.specs.Shown.{Shown};
@@ -61,7 +62,8 @@ impl<D: Disk> Progress<D> {
             (D.faults (disk_of self.old.replayer)) (D.faults (disk_of self.new.replayer)) }
         ensures not_the_files { (refusal : Refusal) → result ≢ Some (Ending.Refused refusal) }
         ensures not_the_words { result ≢ Some Ending.BadWords }
-        ensures readable { (s : State) → StandsFor D.Watched D.Held.bytes self.old.replayer s → result ≢ Some Ending.ReaderFault }
+        ensures readable { (s : State) → StandsFor D.Watched D.Held.bytes self.old.replayer s
+            → result ≡ Some Ending.ReaderFault → HasTables s }
         ensures stands { (s : State) → StandsFor D.Watched D.Held.bytes self.old.replayer s → result ≡ None
             → (t : State) × StandsFor D.Watched D.Held.bytes self.new.replayer t }
         ensures reads { (input : List ℕ) (begin : Streams)
@@ -102,7 +104,8 @@ impl<D: Disk> Progress<D> {
         ensures not_the_source { option_map culprit_of result ≢ Some TheSource }
         ensures not_the_files { (refusal : Refusal) → result ≢ Some (Ending.Refused refusal) }
         ensures not_the_words { result ≢ Some Ending.BadWords }
-        ensures readable { (s : State) → StandsFor D.Watched D.Held.bytes self.old.replayer s → result ≢ Some Ending.ReaderFault }
+        ensures readable { (s : State) → StandsFor D.Watched D.Held.bytes self.old.replayer s
+            → result ≡ Some Ending.ReaderFault → IsTableRead (exchange_at s self.old.line.items) }
         ensures stands { (s : State) → StandsFor D.Watched D.Held.bytes self.old.replayer s → result ≡ None
             → (t : State) × StandsFor D.Watched D.Held.bytes self.new.replayer t }
         ensures reads { AnswersText self.old.line.items self.old.answered result (K.held sink.old) (K.held sink.new) }
@@ -190,8 +193,6 @@ pub(crate) fn answer_lines<S: Source, K: Sink, D: Disk>(
     ensures disk_faults { CountsFaultsOf TheDisk (Some result.ending) (D.faults (disk_of replayer)) (D.faults result.disk) }
     ensures not_the_files { (refusal : Refusal) → result.ending ≢ Ending.Refused refusal }
     ensures not_the_words { result.ending ≢ Ending.BadWords }
-    // What a store has that tells its bytes can be read.
-    ensures readable { (s : State) → StandsFor D.Watched D.Held.bytes replayer s → result.ending ≢ Ending.ReaderFault }
     ensures input { (input : List ℕ) → S.left source.old ≡ Some input
         → ReadsInput input (streams S.Source K.Sink source.old sink.old) (streams S.Source K.Sink source.new sink.new)
         result.ending }
