@@ -1,0 +1,6 @@
+mod Choices
+mod DueLaws
+mod Into
+mod LevelAt
+mod Of
+mod Zips

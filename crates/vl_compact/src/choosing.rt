@@ -1,13 +1,15 @@
 //! Which tables a merge begins with.
 
-ghost use Rattle.std.specs.Prelude.{◌≡◌, List, Option, Some};
-ghost use Rattle.std.specs.List.{AllZip, flat_map};
+ghost use Rattle.std.specs.Prelude.{◌≡◌, ◌==◌, List, Option, Some};
+ghost use Rattle.std.specs.List.{AllZip, flat_map, list_any};
 ghost use Rattle.std.specs.Option.{option_copied};
+ghost use Rattle.vl_block.specs.declared.points.Point as of_footer;
 ghost use Rattle.vl_compact.specs.Laid.{AreBoth, AreLevelsOf, AreTablesOf, IsTableOf};
 ghost use Rattle.vl_layout.specs.Levels as layout;
 ghost use Rattle.vl_layout.specs.declared.table.Table as laid;
 
 use std::slice;
+use vl_block::Point;
 use vl_disk::HeldFile;
 use vl_table::Table;
 use vl_version::{Level, Levels};
@@ -107,6 +109,12 @@ fn first_of<H: HeldFile>(tables: &[Table<H>], segment: u32) -> Option<&Table<H>>
 fn has_point<H: HeldFile>(table: &Table<H>, segment: u32) -> bool
     ensures { (t : laid.Table) → IsTableOf H.bytes table.now t → result ≡ layout.has_point segment t }
 {
-    let points = &table.shape().footer.points;
+    leads_into(&table.shape().footer.points, segment)
+}
+
+// Whether one of these points is into a segment.
+fn leads_into(points: &[Point], segment: u32) -> bool
+    ensures { result ≡ list_any (λ (p : of_footer.Point). p.segment == segment) points.now }
+{
     points.iter().any(|point| point.segment == segment)
 }

@@ -42,11 +42,25 @@ pub fn add_meeting<H: HeldFile>(
         → AreTablesOf H.bytes all.new.items (ts ++ filter (meets (Some (range_in range.entry))) us)) }
 {
     for table in tables {
-        if range::meets(range, table) {
-            add(all, table)?;
-        }
+        add_if_met(all, table, range)?;
     }
     Ok(())
+}
+
+// Puts a table, shared, behind others, if it meets a range.
+fn add_if_met<H: HeldFile>(
+    all: &mut Vec<Table<H>>,
+    table: &Table<H>,
+    range: KeyRange<'_>,
+) -> Result<(), AllocError>
+    ensures { OnOk result ((ts : List laid.Table) (t : laid.Table) → AreTablesOf H.bytes all.old.items ts
+        → IsTableOf H.bytes table.now t
+        → AreTablesOf H.bytes all.new.items (ts ++ filter (meets (Some (range_in range.entry))) (t ∷ []))) }
+{
+    if !range::meets(range, table) {
+        return Ok(());
+    }
+    add(all, table)
 }
 
 // Puts a table, shared, behind others.
