@@ -1,6 +1,6 @@
 -- The first table that leads into a segment, in tables end to end.
 use Rattle.std.specs.Prelude.{Bool, true, false, Option, Some, None, if◌then◌else◌}
-use Rattle.std.specs.List.{flat_map}
+use Rattle.std.specs.List.{AllZip, flat_map}
 use Rattle.std.proofs.Common.{◌≡◌, ℕ, List, [], ◌∷◌, ◌++◌, refl, ap, sym, subst, ◌∙◌}
 use Rattle.vl_compact.specs.Laid.{AreBoth}
 use Rattle.vl_layout.specs.Levels.{first_into, has_point}
@@ -58,3 +58,19 @@ module _ {A : Type 0} (R : A → Table → Type 0) where
   past_level segment ts here rest is both =
       ap (λ (l : List (List Table)). first_into segment (flat_map (λ level. level) l)) is
       ∙ into_none segment ts (flat_map (λ level. level) rest) (none_both (first_into segment ts) both)
+
+  -- ---- of all levels
+
+  pub front_into : (segment : ℕ) (front : List A) (xs : List (List A)) (ls : List (List Table)) (a : A) → AllZip (AllZip R) (front ∷ xs) ls
+      → ((ts : List Table) → AllZip R front ts → AreBoth R (Some a) (first_into segment ts))
+      → AreBoth R (Some a) (first_into segment (flat_map (λ level. level) ls))
+  front_into segment front xs [] a zip so = absurd zip
+  front_into segment front xs (l ∷ ls) a zip so = in_level segment a l (l ∷ ls) ls refl (so l zip.0)
+
+  pub behind_into : (segment : ℕ) (front : List A) (xs : List (List A)) (ls : List (List Table)) (o : Option A)
+      → AllZip (AllZip R) (front ∷ xs) ls → ((ts : List Table) → AllZip R front ts → AreBoth R None (first_into segment ts))
+      → ((ds : List (List Table)) → AllZip (AllZip R) xs ds → AreBoth R o (first_into segment (flat_map (λ level. level) ds)))
+      → AreBoth R o (first_into segment (flat_map (λ level. level) ls))
+  behind_into segment front xs [] o zip none so = absurd zip
+  behind_into segment front xs (l ∷ ls) o zip none so =
+      subst (AreBoth R o) (sym (past_level segment l (l ∷ ls) ls refl (none l zip.0))) (so ls zip.1)

@@ -48,3 +48,9 @@ module _ {A B : Type 0} (R : A → B → Type 0) where
   zip_push [] (b ∷ bs) x y all one = absurd all
   zip_push (a ∷ xs) [] x y all one = absurd all
   zip_push (a ∷ xs) (b ∷ bs) x y all one = (all.0, zip_push xs bs x y all.1 one)
+
+  pub zip_length : (xs : List A) (ys : List B) → AllZip R xs ys → length xs ≡ length ys
+  zip_length [] [] zip = refl
+  zip_length [] (b ∷ ys) zip = absurd zip
+  zip_length (a ∷ xs) [] zip = absurd zip
+  zip_length (a ∷ xs) (b ∷ ys) zip = ap suc (zip_length xs ys zip.1)

@@ -56,16 +56,25 @@ fn least<H: HeldFile>(tables: &[Table<H>]) -> Option<&Table<H>>
     best
 }
 
-// Of a table and one behind it the one with the lesser number.
+// Of a table and the one that was found behind it the one with the lesser number.
 fn lesser<'a, H: HeldFile>(table: &'a Table<H>, other: Option<&'a Table<H>>) -> &'a Table<H>
     ensures { (t : laid.Table) (u : Option laid.Table) → IsTableOf H.bytes table.now t
         → AreBoth (IsTableOf H.bytes) (option_copied other.entry) u
         → AreBoth (IsTableOf H.bytes) (Some result.now) (layout.lesser_table t u) }
 {
     match other {
-        Some(other) if other.shape().number < table.shape().number => other,
-        _ => table,
+        Some(other) => lesser_of(table, other),
+        None => table,
     }
+}
+
+fn lesser_of<'a, H: HeldFile>(table: &'a Table<H>, other: &'a Table<H>) -> &'a Table<H>
+    ensures { (t u : laid.Table) → IsTableOf H.bytes table.now t → IsTableOf H.bytes other.now u
+        → AreBoth (IsTableOf H.bytes) (Some result.now) (layout.lesser_table t (Some u)) }
+{
+    let number = table.shape().number;
+    let others = other.shape().number;
+    if others < number { other } else { table }
 }
 
 // The first table in the order of the sources that leads into a segment.
@@ -85,8 +94,9 @@ fn first_deeper<H: HeldFile>(levels: &[Level<H>], segment: u32) -> Option<&Table
         → AreBoth (IsTableOf H.bytes) (option_copied result) (layout.first_into segment (flat_map (λ level. level) ls)) }
 {
     for level in levels {
-        if let Some(table) = first_of(level.as_slice(), segment) {
-            return Some(table);
+        match first_of(level.as_slice(), segment) {
+            Some(table) => return Some(table),
+            None => {}
         }
     }
     None

@@ -1,7 +1,8 @@
 //! The inputs of a merge.
 
-ghost use Rattle.std.specs.Prelude.{◌++◌, ◌∷◌, [], List, OnOk, Some};
+ghost use Rattle.std.specs.Prelude.{◌++◌, ◌∷◌, [], List, OnOk};
 ghost use Rattle.std.specs.List.{filter};
+ghost use Rattle.std.specs.Option.{option_map};
 ghost use Rattle.vl_compact.specs.Laid.{AreTablesOf, IsTableOf};
 ghost use Rattle.vl_compact.specs.Ranges.{range_in};
 ghost use Rattle.vl_layout.specs.Levels.{meets};
@@ -31,15 +32,15 @@ pub fn add_all<H: HeldFile>(all: &mut Vec<Table<H>>, tables: &[Table<H>]) -> Res
     Ok(())
 }
 
-// Puts those of these tables that meet a range, shared, behind others.
+// Puts those of these tables that meet a range, if there is one, shared, behind others.
 pub fn add_meeting<H: HeldFile>(
     all: &mut Vec<Table<H>>,
     tables: &[Table<H>],
-    range: KeyRange<'_>,
+    range: Option<KeyRange<'_>>,
 ) -> Result<(), AllocError>
     ensures { OnOk result ((ts us : List laid.Table) → AreTablesOf H.bytes all.old.items ts
         → AreTablesOf H.bytes tables.now us
-        → AreTablesOf H.bytes all.new.items (ts ++ filter (meets (Some (range_in range.entry))) us)) }
+        → AreTablesOf H.bytes all.new.items (ts ++ filter (meets (option_map range_in range.entry)) us)) }
 {
     for table in tables {
         add_if_met(all, table, range)?;
@@ -51,16 +52,17 @@ pub fn add_meeting<H: HeldFile>(
 fn add_if_met<H: HeldFile>(
     all: &mut Vec<Table<H>>,
     table: &Table<H>,
-    range: KeyRange<'_>,
+    range: Option<KeyRange<'_>>,
 ) -> Result<(), AllocError>
     ensures { OnOk result ((ts : List laid.Table) (t : laid.Table) → AreTablesOf H.bytes all.old.items ts
         → IsTableOf H.bytes table.now t
-        → AreTablesOf H.bytes all.new.items (ts ++ filter (meets (Some (range_in range.entry))) (t ∷ []))) }
+        → AreTablesOf H.bytes all.new.items (ts ++ filter (meets (option_map range_in range.entry)) (t ∷ []))) }
 {
     if !range::meets(range, table) {
         return Ok(());
     }
-    add(all, table)
+    add(all, table)?;
+    Ok(())
 }
 
 // Puts a table, shared, behind others.

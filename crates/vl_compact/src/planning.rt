@@ -78,9 +78,7 @@ fn with_next<H: HeldFile>(
 {
     let mut all = Vec::new(alloc);
     add_all(&mut all, tables)?;
-    if let Some(range) = range_of(tables) {
-        add_meeting(&mut all, next, range)?;
-    }
+    add_meeting(&mut all, next, range_of(tables))?;
     Ok(all)
 }
 

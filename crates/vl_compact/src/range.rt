@@ -1,11 +1,13 @@
 //! From which key on and up to which the keys of some tables are.
 
-ghost use Rattle.std.specs.Prelude.{◌≡◌, List, Some};
+ghost use Rattle.std.specs.Prelude.{◌≡◌, ◌&&◌, List, Some, not};
 ghost use Rattle.std.specs.Option.{option_map};
+ghost use Rattle.std.specs.Ordering.{is_lt};
 ghost use Rattle.vl_compact.specs.Laid.{AreTablesOf, IsTableOf};
 ghost use Rattle.vl_compact.specs.Ranges.{range_in};
 ghost use Rattle.vl_layout.specs.Levels as layout;
 ghost use Rattle.vl_layout.specs.declared.table.Table as laid;
+ghost use Rattle.vl_model.specs.Keys.{key_cmp};
 
 use vl_disk::HeldFile;
 use vl_table::Table;
@@ -63,11 +65,26 @@ fn greater_key<'a>(a: &'a [u8], b: &'a [u8]) -> &'a [u8]
     if a.cmp(&b).is_lt() { b } else { a }
 }
 
-// Whether a table's range and this one have a key in common.
-pub fn meets<H: HeldFile>(range: KeyRange<'_>, table: &Table<H>) -> bool
-    ensures { (t : laid.Table) → IsTableOf H.bytes table.now t → result ≡ layout.meets (Some (range_in range.entry)) t }
+// Whether there is a range, and a table's range and this one have a key in common.
+pub fn meets<H: HeldFile>(range: Option<KeyRange<'_>>, table: &Table<H>) -> bool
+    ensures { (t : laid.Table) → IsTableOf H.bytes table.now t
+        → result ≡ layout.meets (option_map range_in range.entry) t }
 {
-    let footer = &table.shape().footer;
-    !footer.last.as_slice().cmp(&range.least).is_lt()
-        && !range.greatest.cmp(&footer.first.as_slice()).is_lt()
+    match range {
+        Some(range) => {
+            let footer = &table.shape().footer;
+            let first = footer.first.as_slice();
+            let last = footer.last.as_slice();
+            overlaps(range, first, last)
+        }
+        None => false,
+    }
+}
+
+// Whether a range has a key in common with the one from a first to a last key.
+fn overlaps(range: KeyRange<'_>, first: &[u8], last: &[u8]) -> bool
+    ensures { result ≡ (not (is_lt (key_cmp last.now range.entry.least.now))
+        && not (is_lt (key_cmp range.entry.greatest.now first.now))) }
+{
+    !last.cmp(&range.least).is_lt() && !range.greatest.cmp(&first).is_lt()
 }

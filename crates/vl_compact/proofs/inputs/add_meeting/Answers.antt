@@ -1,4 +1,4 @@
-use Rattle.std.specs.Prelude.{Some}
+use Rattle.std.specs.Option.{option_map}
 use Rattle.std.specs.List.{filter}
 use Rattle.std.proofs.Common.{List, ◌+◌, ◌++◌, subst, take}
 use Rattle.vl_compact.proofs.Choices.{kept_next}
@@ -13,12 +13,12 @@ pub loop-table-preserved : goal.loop-table-preserved
 loop-table-preserved g c = λ ts us old are.
     let i = c.loop-table.table-index in
     let at = zip_at (IsTableOf g.H.HeldFile.bytes) c.args.tables.now us i c.table-item.result are c.loop-table-test.true c.table-item.is in
-    let test = meets (Some (range_in c.args.range)) in
+    let test = meets (option_map range_in c.args.range) in
     subst (AreTablesOf g.H.HeldFile.bytes c.add_if_met.new.all.items) (kept_next test ts (take i us) (take (i + 1) us) at.item at.taken)
     (c.in_ok-add_if_met.ensures (ts ++ filter test (take i us)) at.item (c.loop-table.invariant ts us old are) at.is)
 
 pub returns : goal.returns
 returns g c = λ ts us old are.
-    subst (λ (l : List laid.Table). AreTablesOf g.H.HeldFile.bytes c.loop-table.all.items (ts ++ filter (meets (Some (range_in c.args.range))) l))
+    subst (λ (l : List laid.Table). AreTablesOf g.H.HeldFile.bytes c.loop-table.all.items (ts ++ filter (meets (option_map range_in c.args.range)) l))
     (zip_all (IsTableOf g.H.HeldFile.bytes) c.args.tables.now us c.loop-table.table-index are c.loop-table-test.false)
     (c.loop-table.invariant ts us old are)

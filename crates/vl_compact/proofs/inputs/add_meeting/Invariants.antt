@@ -1,5 +1,5 @@
 use Rattle.std.proofs.Common.{List, ◌++◌, take}
-use Rattle.std.specs.Prelude.{Some}
+use Rattle.std.specs.Option.{option_map}
 use Rattle.std.specs.List.{filter}
 use Rattle.vl_compact.specs.Laid.{AreTablesOf}
 use Rattle.vl_compact.specs.Ranges.{range_in}
@@ -10,4 +10,4 @@ use Rattle.vl_compact.proofs.inputs.add_meeting.Given as goal
 abbrev pub invariant-loop-table : goal.invariant-loop-table
 invariant-loop-table g l = (ts us : List laid.Table) → AreTablesOf g.H.HeldFile.bytes l.fn.all.items ts
     → AreTablesOf g.H.HeldFile.bytes l.tables us
-    → AreTablesOf g.H.HeldFile.bytes l.all.items (ts ++ filter (meets (Some (range_in l.range))) (take l.table-index us))
+    → AreTablesOf g.H.HeldFile.bytes l.all.items (ts ++ filter (meets (option_map range_in l.range)) (take l.table-index us))
