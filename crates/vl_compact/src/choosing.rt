@@ -1,6 +1,6 @@
 //! Which tables a merge begins with.
 
-ghost use Rattle.std.specs.Prelude.{◌≡◌, ◌==◌, List, Option, Some};
+ghost use Rattle.std.specs.Prelude.{◌≡◌, ◌<◌, ◌==◌, List, OnSome, Option, Some, length};
 ghost use Rattle.std.specs.List.{AllZip, flat_map, list_any};
 ghost use Rattle.std.specs.Option.{option_copied};
 ghost use Rattle.vl_block.specs.declared.points.Point as of_footer;
@@ -44,7 +44,8 @@ pub fn due_inputs<H: HeldFile>(level: usize, tables: &[Table<H>]) -> &[Table<H>]
 
 // The table with the least number.
 fn least<H: HeldFile>(tables: &[Table<H>]) -> Option<&Table<H>>
-    ensures { (ts : List laid.Table) → AreTablesOf H.bytes tables.now ts
+    ensures some { OnSome result (0 < length tables.now) }
+    ensures least { (ts : List laid.Table) → AreTablesOf H.bytes tables.now ts
         → AreBoth (IsTableOf H.bytes) (option_copied result) (layout.least_table ts) }
 {
     let mut best = None;

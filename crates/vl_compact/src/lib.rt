@@ -4,7 +4,7 @@
 //! level the one with the least number, and those of the next level whose ranges meet theirs. To plan it costs a step for each
 //! table down to the level that is due and the next one, and two comparisons of keys for each table that may be taken; to plan
 //! the drain of a segment, a step for each point of the tables up to the first that leads into it. Nothing is read.
-#![tactic(none)]
+#![tactic(auto)]
 
 mod choosing;
 mod due;

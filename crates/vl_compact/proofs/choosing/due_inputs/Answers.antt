@@ -19,10 +19,13 @@ returns-in-Some g c = λ ts are.
     subst (AreTablesOf g.H.HeldFile.bytes c.from_ref.result.now) (due_one c.args.level ts c.if-level-eq0.false)
     (subst (λ (l : List (Table g.row.H.Denot)). AreTablesOf g.H.HeldFile.bytes l (one_or_none (least_table ts))) (sym c.from_ref.ensures.value)
     (of_some R (λ (o : Option laid.Table). AreTablesOf g.H.HeldFile.bytes (table ∷ []) (one_or_none o)) table (least_table ts)
-    (c.in-Some.ensures ts are) (λ t is. (is, tt))))
+    (c.in-Some.ensures.least ts are) (λ t is. (is, tt))))
 
 pub returns-in-None : goal.returns-in-None
 returns-in-None g c = λ ts are.
     subst (AreTablesOf g.H.HeldFile.bytes [])
-    (sym (ap one_or_none (none_both (IsTableOf g.H.HeldFile.bytes) (least_table ts) (c.in-None.ensures ts are)))
+    (sym (ap one_or_none (none_both (IsTableOf g.H.HeldFile.bytes) (least_table ts) (c.in-None.ensures.least ts are)))
     ∙ due_one c.args.level ts c.if-level-eq0.false) tt
+
+pub from_ref-requires : goal.from_ref-requires
+from_ref-requires g c = let some = c.in-Some.ensures.some in let h = c.type_inv.tables in ?

@@ -21,4 +21,4 @@ returns-in_ok-alone-in-Some g c = λ ls are.
     of_some (IsTableOf g.H.HeldFile.bytes)
     (λ (o : Option laid.Table). IsMerge g.H.HeldFile.bytes (Some _) (option_map (λ t. record { tables = t ∷ []; target = InPlace }) o))
     c.in-Some.table.now (first_into c.args.segment (flat_map (λ level. level) ls)) (c.in-Some.ensures ls are)
-    (λ t is. record { tables = c.in_ok-alone.ensures t is; target = refl })
+    (λ t is. record { tables = c.in_ok-alone-in-Some.ensures t is; target = refl })

@@ -1,3 +1,4 @@
+use Rattle.std.proofs.Common.{◌+◌}
 use Rattle.std.proofs.lemmas.Result.{IfOk-weaker}
 use Rattle.vl_layout.specs.Levels.{due_inputs, level_at}
 use Rattle.vl_compact.proofs.planning.inputs_at.Goals as goal

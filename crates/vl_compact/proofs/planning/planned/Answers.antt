@@ -15,4 +15,4 @@ pub returns-in_ok-inputs_at-in-Some : goal.returns-in_ok-inputs_at-in-Some
 returns-in_ok-inputs_at-in-Some g c = λ ls are.
     subst (λ (o : Option ℕ). IsMerge g.H.HeldFile.bytes (Some _)
     (option_map (λ level. record { tables = inputs_at level ls; target = Level (level + 1) }) o)) (c.in-Some.ensures.due ls are)
-    (record { tables = c.in_ok-inputs_at.ensures ls are; target = refl })
+    (record { tables = c.in_ok-inputs_at-in-Some.ensures ls are; target = refl })
