@@ -8,7 +8,7 @@ use Rattle.std.proofs.Common.{◌≡◌, ℕ, ◌<◌, ◌≤◌, arith, subst, 
 use Rattle.std.proofs.lemmas.List.Elements.{filter-append}
 use Rattle.std.proofs.lemmas.Bool.Decides.{nat_tests}
 use Rattle.vl_compact.specs.Laid.{AreBoth}
-use Rattle.vl_layout.specs.Levels.{due_inputs, greater_key, lesser_key, meets, one_or_none, least_table, lesser_table, range_of, widened, Range}
+use Rattle.vl_layout.specs.Levels.{due_inputs, greater_key, with_next, lesser_key, meets, one_or_none, least_table, lesser_table, range_of, widened, Range}
 use Rattle.vl_layout.specs.declared.table.Table.{Table}
 
 pub least_next : (t : Table) (here rest : List Table) → here ≡ t ∷ rest → least_table here ≡ lesser_table t (least_table rest)
@@ -39,6 +39,14 @@ due_one level ts some = sym (ap (λ (b : Bool). if b then ts else one_or_none (l
   where
     by : (n : ℕ) → (n ≡ 0 → ⊥) → (n == 0) ≡ false
     by n some = grind (arith, nat_tests)
+
+-- nothing meets no range
+nothing_met : (us : List Table) → filter (meets None) us ≡ []
+nothing_met [] = refl
+nothing_met (u ∷ us) = nothing_met us
+
+pub none_next : (us : List Table) → with_next [] us ≡ []
+none_next us = nothing_met us
 
 -- what goes with one that is there is there
 pub of_some : {A : Type 0} (R : A → Table → Type 0) (Q : Option Table → Type 0) (a : A) (o : Option Table) → AreBoth R (Some a) o

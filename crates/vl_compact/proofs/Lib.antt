@@ -2,5 +2,6 @@ mod Choices
 mod DueLaws
 mod Into
 mod LevelAt
+mod MergeLaws
 mod Of
 mod Zips

@@ -1,6 +1,6 @@
 //! Which tables a merge begins with.
 
-ghost use Rattle.std.specs.Prelude.{◌≡◌, ◌<◌, ◌==◌, List, OnSome, Option, Some, length};
+ghost use Rattle.std.specs.Prelude.{◌≡◌, ◌==◌, List, Option, Some};
 ghost use Rattle.std.specs.List.{AllZip, flat_map, list_any};
 ghost use Rattle.std.specs.Option.{option_copied};
 ghost use Rattle.vl_block.specs.declared.points.Point as of_footer;
@@ -8,7 +8,6 @@ ghost use Rattle.vl_compact.specs.Laid.{AreBoth, AreLevelsOf, AreTablesOf, IsTab
 ghost use Rattle.vl_layout.specs.Levels as layout;
 ghost use Rattle.vl_layout.specs.declared.table.Table as laid;
 
-use std::slice;
 use vl_block::Point;
 use vl_disk::HeldFile;
 use vl_table::Table;
@@ -28,24 +27,9 @@ pub fn level_at<H: HeldFile>(levels: &Levels<H>, level: usize) -> &[Table<H>]
     }
 }
 
-// What a level that is due gives: level 0 all its tables, a deeper one the table with the least number.
-pub fn due_inputs<H: HeldFile>(level: usize, tables: &[Table<H>]) -> &[Table<H>]
-    ensures { (ts : List laid.Table) → AreTablesOf H.bytes tables.now ts
-        → AreTablesOf H.bytes result.now (layout.due_inputs level ts) }
-{
-    if level == 0 {
-        return tables;
-    }
-    match least(tables) {
-        Some(table) => slice::from_ref(table),
-        None => &[],
-    }
-}
-
 // The table with the least number.
-fn least<H: HeldFile>(tables: &[Table<H>]) -> Option<&Table<H>>
-    ensures some { OnSome result (0 < length tables.now) }
-    ensures least { (ts : List laid.Table) → AreTablesOf H.bytes tables.now ts
+pub fn least<H: HeldFile>(tables: &[Table<H>]) -> Option<&Table<H>>
+    ensures { (ts : List laid.Table) → AreTablesOf H.bytes tables.now ts
         → AreBoth (IsTableOf H.bytes) (option_copied result) (layout.least_table ts) }
 {
     let mut best = None;

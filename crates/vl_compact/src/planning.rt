@@ -6,10 +6,10 @@ ghost use Rattle.vl_compact.specs.Merges.{IsMerge, drain_in, plan_in};
 ghost use Rattle.vl_layout.specs.Levels as layout;
 ghost use Rattle.vl_layout.specs.declared.table.Table as laid;
 
-use crate::choosing::{due_inputs, first_into, level_at};
+use crate::choosing::{first_into, least, level_at};
 use crate::due::least_due;
 use crate::inputs::{Inputs, add, add_all, add_meeting};
-use crate::range::range_of;
+use crate::range::{range_of, widened};
 use std::alloc::{AllocError, Global};
 use vl_disk::HeldFile;
 use vl_layout::Target;
@@ -53,7 +53,8 @@ pub fn drained<H: HeldFile>(
     }
 }
 
-// What a level that is due gives, and the tables of the next one that meet its range.
+// What a level that is due gives, which is all tables of level 0, or the one with the least number of a deeper level, and the
+// tables of the next level that meet its range.
 fn inputs_at<H: HeldFile>(
     alloc: Global,
     levels: &Levels<H>,
@@ -63,8 +64,15 @@ fn inputs_at<H: HeldFile>(
     ensures { IfOk result (λ tables. (ls : List (List laid.Table)) → AreLevelsOf H.bytes levels.now ls
         → AreTablesOf H.bytes tables.items (layout.inputs_at level ls)) }
 {
-    let tables = due_inputs(level, level_at(levels, level));
-    with_next(alloc, tables, level_at(levels, level + 1))
+    let tables = level_at(levels, level);
+    let next = level_at(levels, level + 1);
+    if level == 0 {
+        return with_next(alloc, tables, next);
+    }
+    match least(tables) {
+        Some(table) => one_with_next(alloc, table, next),
+        None => Ok(Vec::new(alloc)),
+    }
 }
 
 // These tables, and those of the next level that meet their range.
@@ -79,6 +87,20 @@ fn with_next<H: HeldFile>(
     let mut all = Vec::new(alloc);
     add_all(&mut all, tables)?;
     add_meeting(&mut all, next, range_of(tables))?;
+    Ok(all)
+}
+
+// This table, and those of the next level that meet its range.
+fn one_with_next<H: HeldFile>(
+    alloc: Global,
+    table: &Table<H>,
+    next: &[Table<H>],
+) -> Result<Vec<Table<H>>, AllocError>
+    ensures { IfOk result (λ all. (t : laid.Table) (us : List laid.Table) → IsTableOf H.bytes table.now t
+        → AreTablesOf H.bytes next.now us → AreTablesOf H.bytes all.items (layout.with_next (t ∷ []) us)) }
+{
+    let mut all = alone(alloc, table)?;
+    add_meeting(&mut all, next, Some(widened(table, None)))?;
     Ok(all)
 }
 

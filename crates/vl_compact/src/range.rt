@@ -34,7 +34,7 @@ pub fn range_of<H: HeldFile>(tables: &[Table<H>]) -> Option<KeyRange<'_>>
 }
 
 // The range of a table and of those behind it.
-fn widened<'a, H: HeldFile>(table: &'a Table<H>, range: Option<KeyRange<'a>>) -> KeyRange<'a>
+pub fn widened<'a, H: HeldFile>(table: &'a Table<H>, range: Option<KeyRange<'a>>) -> KeyRange<'a>
     ensures { (t : laid.Table) → IsTableOf H.bytes table.now t
         → Some (range_in result) ≡ layout.widened t (option_map range_in range.entry) }
 {

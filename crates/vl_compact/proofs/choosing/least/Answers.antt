@@ -10,7 +10,6 @@ use Rattle.vl_compact.proofs.choosing.least.Goals as goal
 pub loop-at-init : goal.loop-at-init
 loop-at-init g c = record {
   within = omega arith;
-  some = tt;
   best = λ ts are.
       let R = IsTableOf g.H.HeldFile.bytes in
       subst (AreBoth R None) (sym (ap least_table (zip_end R c.args.tables.now ts (length c.args.tables.now) are (omega arith)))) tt;
@@ -19,7 +18,6 @@ loop-at-init g c = record {
 pub loop-at-preserved : goal.loop-at-preserved
 loop-at-preserved g c = record {
   within = omega arith;
-  some = omega arith;
   best = λ ts are.
       let R = IsTableOf g.H.HeldFile.bytes in
       let i = c.loop-at.at - 1 in
@@ -30,11 +28,8 @@ loop-at-preserved g c = record {
       (c.lesser.ensures at.item (least_table (drop c.loop-at.at ts)) at.is (c.loop-at.invariant.best ts are));
 }
 
-pub returns-clause-some : goal.returns-clause-some
-returns-clause-some g c = c.loop-at.invariant.some
-
-pub returns-clause-least : goal.returns-clause-least
-returns-clause-least g c = λ ts are.
+pub returns : goal.returns
+returns g c = λ ts are.
     let R = IsTableOf g.H.HeldFile.bytes in
     let none : c.loop-at.at ≡ 0 = omega arith in
     subst (λ (n : ℕ). AreBoth R (option_copied c.loop-at.best) (least_table (drop n ts))) none (c.loop-at.invariant.best ts are)

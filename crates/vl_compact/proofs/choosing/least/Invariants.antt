@@ -1,5 +1,4 @@
-use Rattle.std.specs.Prelude.{OnSome}
-use Rattle.std.proofs.Common.{◌<◌, ◌≤◌, List, length, drop}
+use Rattle.std.proofs.Common.{◌≤◌, List, length, drop}
 use Rattle.std.specs.Option.{option_copied}
 use Rattle.vl_compact.specs.Laid.{AreBoth, AreTablesOf, IsTableOf}
 use Rattle.vl_layout.specs.Levels.{least_table}
@@ -9,7 +8,6 @@ use Rattle.vl_compact.proofs.choosing.least.Given as goal
 abbrev pub invariant-loop-at : goal.invariant-loop-at
 invariant-loop-at g l = record {
   within : l.at ≤ length l.tables;
-  some : OnSome l.best (0 < length l.tables);
   best : (ts : List laid.Table) → AreTablesOf g.H.HeldFile.bytes l.tables ts
       → AreBoth (IsTableOf g.H.HeldFile.bytes) (option_copied l.best) (least_table (drop l.at ts));
 }

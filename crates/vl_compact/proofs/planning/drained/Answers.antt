@@ -2,8 +2,8 @@ use Rattle.std.specs.Prelude.{Option, Some, None}
 use Rattle.std.specs.List.{flat_map}
 use Rattle.std.specs.Option.{option_map}
 use Rattle.std.proofs.Common.{[], ◌∷◌, refl, ap, sym, subst}
-use Rattle.vl_compact.proofs.Choices.{of_some}
 use Rattle.vl_compact.proofs.Into.{none_both}
+use Rattle.vl_compact.proofs.MergeLaws.{drain_some}
 use Rattle.vl_compact.specs.Laid.{IsTableOf}
 use Rattle.vl_compact.specs.Merges.{IsMerge}
 use Rattle.vl_layout.specs.Levels.{first_into}
@@ -18,7 +18,5 @@ returns-in-None g c = λ ls are.
 
 pub returns-in_ok-alone-in-Some : goal.returns-in_ok-alone-in-Some
 returns-in_ok-alone-in-Some g c = λ ls are.
-    of_some (IsTableOf g.H.HeldFile.bytes)
-    (λ (o : Option laid.Table). IsMerge g.H.HeldFile.bytes (Some _) (option_map (λ t. record { tables = t ∷ []; target = InPlace }) o))
-    c.in-Some.table.now (first_into c.args.segment (flat_map (λ level. level) ls)) (c.in-Some.ensures ls are)
+    drain_some g.H.HeldFile.bytes _ (IsTableOf g.H.HeldFile.bytes) c.in-Some.table.now c.args.segment ls (c.in-Some.ensures ls are)
     (λ t is. record { tables = c.in_ok-alone-in-Some.ensures t is; target = refl })
