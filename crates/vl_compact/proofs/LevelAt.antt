@@ -1,8 +1,7 @@
 -- The tables of one level.
-use Rattle.std.specs.Prelude.{Bool, false, Option, Some, None, ◌==◌, if◌then◌else◌}
-use Rattle.std.specs.Option.{option_copied}
+use Rattle.std.specs.Prelude.{Bool, false, Some, None, ◌==◌, if◌then◌else◌}
 use Rattle.std.specs.List.{AllZip, slice_get}
-use Rattle.std.proofs.Common.{◌≡◌, ℕ, zero, suc, ◌-◌, ◌<◌, List, [], ◌∷◌, refl, ap, sym, subst, ◌∙◌, arith}
+use Rattle.std.proofs.Common.{◌≡◌, ℕ, zero, suc, ◌-◌, List, [], ◌∷◌, refl, ap, sym, subst, ◌∙◌, arith}
 use Rattle.std.proofs.lemmas.Bool.Decides.{nat_tests}
 use Rattle.vl_layout.specs.Levels.{level_at}
 use Rattle.vl_layout.specs.declared.table.Table.{Table}

@@ -4,7 +4,7 @@ use Rattle.std.specs.List.{flat_map}
 use Rattle.std.specs.Option.{option_map}
 use Rattle.std.proofs.Common.{◌≡◌, ℕ, ◌+◌, List, [], ◌∷◌, subst}
 use Rattle.vl_compact.specs.Laid.{AreBoth}
-use Rattle.vl_compact.specs.Merges.{AreInputsOf, IsMerge, Merge, drain_in, plan_in}
+use Rattle.vl_compact.specs.Merges.{AreInputsOf, drain_in, plan_in}
 use Rattle.vl_compact.specs.declared.inputs.Inputs.{Inputs}
 use Rattle.vl_layout.specs.Levels.{due_from, first_into, inputs_at}
 use Rattle.vl_layout.specs.declared.job.Target.TheVariants.{InPlace, Level}

@@ -1,4 +1,4 @@
-use Rattle.std.specs.Prelude.{Option, Some, None}
+use Rattle.std.specs.Prelude.{Some, None}
 use Rattle.std.proofs.Common.{◌+◌, ◌∙◌, ap, sym, subst, drop}
 use Rattle.vl_compact.proofs.Into.{into_here, into_next}
 use Rattle.vl_compact.proofs.Zips.{zip_at, zip_end}

@@ -1,4 +1,3 @@
-use Rattle.std.specs.Prelude.{nat_lt}
 use Rattle.std.proofs.Common.{◌+◌, ◌∙◌, ap, sym, drop}
 use Rattle.vl_compact.proofs.DueLaws.{nothing_over, over_here, over_next}
 use Rattle.vl_compact.proofs.Of.{length_is}

@@ -1,4 +1,3 @@
-use Rattle.std.specs.Prelude.{Some, None}
 use Rattle.std.proofs.Common.{◌≡◌, ◌+◌, ◌∙◌, List, ap, sym, subst, drop, get_or}
 use Rattle.vl_compact.proofs.DueLaws.{due_here, due_next}
 use Rattle.vl_compact.proofs.Zips.{zip_at, zip_end}

@@ -1,5 +1,5 @@
 use Rattle.std.specs.List.{AllZip}
-use Rattle.std.proofs.Common.{◌≤◌, ◌<◌, List, length, ap, sym, subst, arith}
+use Rattle.std.proofs.Common.{List, length, ap, sym, subst, arith}
 use Rattle.vl_compact.proofs.DueLaws.{top_due, top_not}
 use Rattle.vl_compact.specs.Laid.{AreTablesOf, IsTableOf}
 use Rattle.vl_table.specs.declared.table.Table.{Table}

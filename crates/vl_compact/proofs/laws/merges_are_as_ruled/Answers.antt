@@ -1,8 +1,6 @@
 use Rattle.std.specs.Prelude.{ℕ, Option, Some, None, ◌+◌}
-use Rattle.std.specs.List.{flat_map}
 use Rattle.std.specs.Option.{option_map}
-use Rattle.std.proofs.Common.{◌≡◌, ◌∙◌, refl, ap, List, [], ◌∷◌}
-use Rattle.vl_compact.specs.Merges.{Merge, drain_in, plan_in}
+use Rattle.std.proofs.Common.{◌≡◌, ◌∙◌, refl, ap, [], ◌∷◌}
 use Rattle.vl_compact.specs.Ruled.{merge_ruling}
 use Rattle.vl_layout.specs.Levels.{due_from, first_into, inputs_at}
 use Rattle.vl_layout.specs.Rulings.Drain.{drain_of, drain_unless}

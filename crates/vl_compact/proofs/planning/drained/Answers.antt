@@ -1,7 +1,7 @@
-use Rattle.std.specs.Prelude.{Option, Some, None}
+use Rattle.std.specs.Prelude.{Option, None}
 use Rattle.std.specs.List.{flat_map}
 use Rattle.std.specs.Option.{option_map}
-use Rattle.std.proofs.Common.{[], ◌∷◌, refl, ap, sym, subst}
+use Rattle.std.proofs.Common.{[], ◌∷◌, refl, sym, subst}
 use Rattle.vl_compact.proofs.Into.{none_both}
 use Rattle.vl_compact.proofs.MergeLaws.{drain_some}
 use Rattle.vl_compact.specs.Laid.{IsTableOf}
