@@ -210,7 +210,7 @@ module _ {H : Type 0} (bytes : H → Option (List ℕ)) (before after : Core H) 
     pub next_is : Fronts before h l → next_frame before.front writes ≡ commit_frame h (entries writes)
     next_is is = ap (λ (n : ℕ). Committed (n + 1) (entries writes)) is.front.last
 
-    frame_is : Fronts before h l
+    pub frame_is : Fronts before h l
         → frame_of before.front writes ≡ frame_at log_format l.active.number l.active.length (commit_frame h (entries writes))
     frame_is is =
         ap (λ (n : ℕ). frame_at log_format n before.front.log.length (next_frame before.front writes)) is.number
@@ -283,7 +283,7 @@ module _ {H : Type 0} (bytes : H → Option (List ℕ)) (before after : Core H) 
           ∙ ap (λ (n : ℕ). l.active.length + frame_length n (commit_frame h (entries writes))) (sym is.format))
           done.room done.halted back
 
-      answer_is : Fronts before h l → At given ≡ ruling.answer
+      pub answer_is : Fronts before h l → At given ≡ ruling.answer
       answer_is is =
           ap At (given_is ∙ ap (λ (n : ℕ). n + 1) is.front.last) ∙ ap (λ (r : Ruling CommitAnswer). r.answer) write
 

@@ -120,12 +120,12 @@ module _ {D H : Type 0} (g : Ghosts D) (bytes : H → Option (List ℕ)) (before
   module _ (h : History) (l : Layout) (none : before.front.halted ≡ None) (may : MayFlush before.back)
       (decided : flush_decision before.back ≡ decisions.Go) where
     -- the log that is flushed, and the ruling on that
-    record IsRuledOn : Type 0 where
-      log : Segment
-      first : oldest l.frozen ≡ Some log
-      ruled : flush_made l h log ≡ flush_ruling l h
+    pub record IsRuledOn : Type 0 where
+      pub log : Segment
+      pub first : oldest l.frozen ≡ Some log
+      pub ruled : flush_made l h log ≡ flush_ruling l h
 
-    ruled_on : Fronts before h l → HasNumbers before.back l → IsRuledOn
+    pub ruled_on : Fronts before h l → HasNumbers before.back l → IsRuledOn
     ruled_on is has =
         let (s, first) = flush_waits before.back l h (runs_on before h l is none) is.version has may.waits in
         record {

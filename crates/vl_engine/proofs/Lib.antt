@@ -4,12 +4,15 @@ pub mod Begins
 pub mod Carrying
 pub mod Committing
 pub mod Filing
+pub mod FitsAtStart
+pub mod Fitted
 pub mod Fitting
 pub mod FlushKeeps
 pub mod FlushLawful
 pub mod FlushSteps
 pub mod Flushed
 pub mod Halted
+pub mod Headed
 pub mod Knowing
 pub mod Merged
 pub mod Opened
@@ -21,5 +24,6 @@ pub mod Ruled
 pub mod Seeing
 pub mod Staged
 pub mod Standing
+pub mod Stepped
 pub mod Untouched
 pub mod Written

@@ -1,7 +1,7 @@
 -- What a replayer asks of a line.
 use Rattle.std.specs.Prelude.{◌≤◌}
 use Rattle.vl_script.specs.declared.line.Line.{Line}
-use Rattle.vl_script.specs.declared.line.Line.TheVariants.{Begin, View, Get, Set, SetTagged, GetTagged, Scan, Delete, Commit, Drop}
+use Rattle.vl_script.specs.declared.line.Line.TheVariants.{Begin, View, Get, Set, SetTagged, GetTagged, Scan, Delete, Commit, Drop, Rotate, Flush}
 
 -- a scan asks for one row at least, as each does that is a line of the language
 abbrev pub AsksForRow : Line → Type 0
@@ -15,3 +15,5 @@ AsksForRow (Scan name low high limit way) = 1 ≤ limit
 AsksForRow (Delete name key) = Unit {0}
 AsksForRow (Commit name) = Unit {0}
 AsksForRow (Drop name) = Unit {0}
+AsksForRow Rotate = Unit {0}
+AsksForRow Flush = Unit {0}

@@ -16,7 +16,7 @@ pub use Rattle.vl_replay.specs.Between.{Holding}
 use Rattle.vl_replay.specs.Between.{HasPassed, Showing, ShowsBetween, Stopping}
 use Rattle.vl_replay.specs.Endings.{CutsAnswer, IsBetweenLines, TheDisk, culprit_of}
 use Rattle.vl_replay.specs.Runs.{Course}
-use Rattle.vl_replay.specs.Halts.{HaltsByDisk}
+use Rattle.vl_replay.specs.Halts.{HaltsByDisk, HaltsByRead}
 use Rattle.vl_replay.specs.declared.fails.Halt.{Halt}
 use Rattle.vl_replay.specs.declared.fails.Halt.TheVariants as why
 use Rattle.vl_replay.specs.declared.ending.Ending.TheVariants.{NoMemory}
@@ -101,6 +101,8 @@ pub record LeadsTo {D T : Type 0} (g : Ghosts D) (holds : Holding) (shows : Show
   pub answered : OnOk result (HoldsState g holds after new)
   -- where memory ran out it holds the commits before and no more, whatever calls came first;
   pub no_commit : result ≡ Err why.NoMemory → HoldsCommits g holds before new
+  -- where a read failed it still holds the state before, of which nothing was changed;
+  pub unread : HaltsByRead result → HoldsState g holds before new
   -- it tells its bytes, and a store may be opened on them, also where it failed;
   pub tells : Tells g new MayOpen
   -- what a crash meanwhile leaves shows the commits before, or those after it;

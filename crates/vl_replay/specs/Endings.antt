@@ -121,13 +121,14 @@ line_of_piece n AnswerFront = None
 abbrev pub last_line : ℕ → Ending → Option (List ℕ)
 last_line n ending = line_of_piece n (end_of ending).last
 
--- the run ended between two lines: at the input's end, at a bad line, or where no more could be read
+-- the run ended between two lines: at the input's end, at a bad line, where no more could be read, or at a line whose read failed,
+-- which changes nothing
 abbrev pub IsBetweenLines : Culprit → Type 0
 IsBetweenLines NoOne = Unit {0}
 IsBetweenLines TheLine = Unit {0}
 IsBetweenLines TheWords = ⊥
 IsBetweenLines TheDisk = ⊥
-IsBetweenLines TheReader = ⊥
+IsBetweenLines TheReader = Unit {0}
 IsBetweenLines TheFiles = ⊥
 IsBetweenLines (TheBytes name place) = ⊥
 IsBetweenLines Memory = ⊥

@@ -17,7 +17,7 @@ use Rattle.vl_model.specs.declared.way.Way.{Way}
 use Rattle.vl_replay.specs.Sequential.{State, answer_text, answer_to, history_of, state_after}
 use Rattle.vl_script.specs.Script.{line_of}
 use Rattle.vl_script.specs.declared.line.Line.{Line}
-use Rattle.vl_script.specs.declared.line.Line.TheVariants.{Begin, View, Get, Set, SetTagged, GetTagged, Scan, Delete, Commit, Drop}
+use Rattle.vl_script.specs.declared.line.Line.TheVariants.{Begin, View, Get, Set, SetTagged, GetTagged, Scan, Delete, Commit, Drop, Rotate, Flush}
 
 -- a line with its answer, and the states before and after it
 pub record Exchange : Type 0 where
@@ -121,6 +121,8 @@ IsExplainedExchange (Commit name) e =
     → e.answer ≡ Number n
     → IsExplained (history_of e.after) t.number t.reads × IsExplained (history_of e.after) (n - 1) t.reads
 IsExplainedExchange (Drop name) e = Unit {0}
+IsExplainedExchange Rotate e = Unit {0}
+IsExplainedExchange Flush e = Unit {0}
 
 -- so it is in each of these exchanges
 abbrev pub AreExplained : List Exchange → Type 0

@@ -18,3 +18,11 @@ HaltsByRead (Err NoMemory) = ⊥
 HaltsByRead (Err (Disk name)) = ⊥
 HaltsByRead (Err (Read name)) = Unit {0}
 HaltsByRead (Err (Damaged name place)) = Unit {0}
+
+-- a read met damage
+abbrev pub HaltsByDamage : {T : Type 0} → Result T Halt → Type 0
+HaltsByDamage (Ok answer) = ⊥
+HaltsByDamage (Err NoMemory) = ⊥
+HaltsByDamage (Err (Disk name)) = ⊥
+HaltsByDamage (Err (Read name)) = ⊥
+HaltsByDamage (Err (Damaged name place)) = Unit {0}

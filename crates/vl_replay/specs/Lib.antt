@@ -4,6 +4,7 @@ pub mod Contents
 pub mod Durable
 pub mod Endings
 pub mod Exchanges
+pub mod Failing
 pub mod Halts
 pub mod Input
 pub mod laws

@@ -9,6 +9,7 @@ use Rattle.vl_io.specs.declared.sink.Sink as sink
 use Rattle.vl_script.specs.Script.{lines_of}
 use Rattle.vl_replay.specs.Sequential.{State, answer_text}
 use Rattle.vl_replay.specs.Exchanges.{Exchange, exchanges_from, last_state, answers_text, ended_lines, KeepsUp}
+use Rattle.vl_replay.specs.Failing.{IsTableRead}
 use Rattle.vl_replay.specs.Endings.{Culprit, NoOne, TheLine, TheWords, TheDisk, TheReader, TheFiles, TheBytes, Memory, TheSource, TheSink, LastPiece, NoPiece, BadLinePiece, Line, LineFront, AnswerFront, end_of, culprit_of, bad_line, last_line, Evidence}
 use Rattle.vl_replay.specs.declared.ending.Ending.{Ending}
 
@@ -50,8 +51,8 @@ Stops evidence script left m TheLine =
 -- the words were plain
 Stops evidence script left m TheWords = ⊥
 Stops evidence script left m TheDisk = evidence TheDisk
--- all that the store has can be read
-Stops evidence script left m TheReader = ⊥
+-- the next line reads, of a state that has a table
+Stops evidence script left m TheReader = IsTableRead (slice_get (exchanges script) m)
 -- the store was opened
 Stops evidence script left m TheFiles = ⊥
 -- and nothing of it is damaged

@@ -1,6 +1,6 @@
 -- The store as one thread of script lines sees it: what each line is answered, and what it leaves. The store is vl_layout's; of
 -- the disk it counts bytes, changing calls and files.
-use Rattle.std.specs.Prelude.{◌≡◌, ℕ, List, [], map}
+use Rattle.std.specs.Prelude.{◌≡◌, ◌+◌, ℕ, List, [], map}
 use Rattle.vl_disk.specs.Faults.{after_calls}
 use Rattle.vl_layout.specs.Store.Commits.{history_in}
 use Rattle.vl_layout.specs.Store.Dispatch.{step_of}
@@ -8,8 +8,6 @@ use Rattle.vl_layout.specs.Store.Lines as store
 use Rattle.vl_layout.specs.Store.Reading.{rows_told}
 use Rattle.vl_layout.specs.Store.Things as things
 use Rattle.vl_layout.specs.Store.Things.{Step}
-use Rattle.vl_manifest.specs.declared.manifest_log.ManifestLog.{ManifestLog}
-use Rattle.vl_manifest.specs.declared.state.ManifestState.{ManifestState}
 use Rattle.vl_model.specs.History.{History}
 use Rattle.vl_model.specs.Keys.{Row, untagged}
 use Rattle.vl_script.specs.Script.{rows_text, text_of}
@@ -18,12 +16,9 @@ use Rattle.vl_script.specs.declared.line.Line.TheVariants as lines
 use Rattle.vl_script.specs.declared.answer.Answer.{Answer}
 use Rattle.vl_script.specs.declared.answer.Answer.TheVariants as answers
 
--- the store, what its manifest says, the manifest's number and length, how many changing calls the disk was asked for, and a
--- number that none of its files passes
+-- the store, how many changing calls the disk was asked for, and a number that none of its files passes
 pub record State : Type 0 where
   pub store : things.State
-  pub manifest : ManifestState
-  pub manifest_file : ManifestLog
   pub calls : ℕ
   pub files : ℕ
 
@@ -43,6 +38,8 @@ asked (lines.Scan name low high limit way) = store.Scan way name low high limit
 asked (lines.Delete name key) = store.Delete name key
 asked (lines.Commit name) = store.Commit name
 asked (lines.Drop name) = store.Drop name
+asked lines.Rotate = store.Rotate
+asked lines.Flush = store.Flush
 
 -- ---- what a line is answered, and what it leaves
 
@@ -52,9 +49,24 @@ step_to s line = step_of s.store (asked line)
 abbrev pub answer_to : State → Line → store.Answer
 answer_to s line = (step_to s line).answer
 
--- No line of a script changes what the manifest says, or which files stand.
+-- The number that no file passes, where a step on files was answered so: it made a file where it is told a number, that of the
+-- log that it sealed or of the table that it made, and else none.
+abbrev pub files_behind : store.Answer → ℕ → ℕ
+files_behind (store.Number n) files = files + 1
+files_behind answer files = files
+
+-- no other line makes a file
+abbrev pub files_after : Line → store.Answer → ℕ → ℕ
+files_after lines.Rotate answer files = files_behind answer files
+files_after lines.Flush answer files = files_behind answer files
+files_after line answer files = files
+
 abbrev pub state_after : State → Line → State
-state_after s line = record s { store = (step_to s line).state; calls = after_calls (step_to s line).calls s.calls }
+state_after s line = record {
+  store = (step_to s line).state;
+  calls = after_calls (step_to s line).calls s.calls;
+  files = files_after line (answer_to s line) s.files;
+}
 
 -- ---- how an answer is spelled
 
@@ -81,7 +93,7 @@ answer_text store.Nothing = text_of answers.Nothing
 answer_text (store.Conflict key number) = text_of (answers.Conflict key number)
 answer_text (store.Full length frame) = text_of answers.Full
 answer_text (store.Exhausted counter) = text_of (answers.Exhausted counter)
-answer_text store.Idle = []
+answer_text store.Idle = text_of answers.Idle
 answer_text (store.Raced key) = []
 answer_text (store.Rejected segment) = []
 answer_text store.NoRewrite = []
@@ -112,6 +124,7 @@ as_told answers.Nothing = store.Nothing
 as_told (answers.Conflict key number) = store.Conflict key number
 as_told answers.Full = store.Full 0 0
 as_told (answers.Exhausted counter) = store.Exhausted counter
+as_told answers.Idle = store.Idle
 
 -- the same but for the lengths
 abbrev pub without_lengths : store.Answer → store.Answer

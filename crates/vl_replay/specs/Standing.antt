@@ -8,6 +8,7 @@ use Rattle.vl_engine.specs.Represents.{IsLive}
 use Rattle.vl_engine.specs.declared.txn.Txn.{Txn}
 use Rattle.vl_engine.specs.Sees.{Sees, SeesAlone, asked, asked_view}
 use Rattle.vl_layout.specs.Rulings.Commit.{Transaction as ATxn}
+use Rattle.vl_layout.specs.Sources.{tables}
 use Rattle.vl_layout.specs.Store.Lines.{Name}
 use Rattle.vl_layout.specs.Store.Things as store
 use Rattle.vl_layout.specs.Store.Things.{AJob, APass, ATransaction, AView, thing_in}
@@ -25,6 +26,8 @@ use Rattle.vl_layout.specs.Store.Lines as store_lines
 use Rattle.vl_layout.specs.Store.Reading.{answer_of, answer_with_tag}
 use Rattle.vl_engine.specs.declared.fails.ReadFail.{ReadFail}
 use Rattle.vl_engine.specs.declared.fails.ReadFail.TheVariants as unread
+use Rattle.vl_engine.specs.declared.fails.StepFail.{StepFail}
+use Rattle.vl_engine.specs.declared.fails.StepFail.TheVariants as undone
 use Rattle.vl_model.specs.Keys.{Stored}
 use Rattle.vl_txn.specs.declared.set_fail.SetFail.{SetFail}
 use Rattle.vl_txn.specs.declared.set_fail.SetFail.TheVariants.{EmptyKey, KeyTooLong, NoMemory, TooBig, ValueTooLong}
@@ -43,21 +46,22 @@ ticket_of (AView v b) = v.ticket
 ticket_of (AJob job made) = 0
 ticket_of (APass pass batch) = 0
 
--- A transaction is the one of the store: it made the same reads and writes, which it sees; it is live, and reads no file. So it is
--- with a view.
+-- A transaction is the one of the store: it made the same reads and writes, which it sees; it is live, and reads no file where the
+-- layout has no tables. So it is with a view.
 pub record IsTransaction {H R : Type 0} (bytes : H → Option (List ℕ)) (txn : Txn H R) (t : ATxn) (h : History) (l : Layout)
     : Type 0 where
   pub same : asked txn t.reads ≡ t
   pub sees : Sees bytes txn h t.reads
   pub live : IsLive l txn.ticket txn.number
-  pub near : IsInMemory txn.version
+  pub near : tables l ≡ [] → IsInMemory txn.version
 
 -- nothing, on both sides, or the same
 abbrev pub Corresponds : {H R : Type 0} → (H → Option (List ℕ)) → History → Layout → Option (Thing H R) → Option store.Thing → Type 0
 Corresponds bytes h l None None = Unit {0}
 Corresponds bytes h l (Some (Transaction txn)) (Some (ATransaction t b)) = IsTransaction bytes txn t h l
 Corresponds bytes h l (Some (View view)) (Some (AView v b)) =
-    (asked_view view ≡ v) × SeesAlone bytes view h × IsLive l view.ticket view.number × IsInMemory view.version
+    (asked_view view ≡ v) × SeesAlone bytes view h × IsLive l view.ticket view.number
+    × (tables l ≡ [] → IsInMemory view.version)
 Corresponds bytes h l x y = ⊥
 
 -- no name is there twice
@@ -123,3 +127,15 @@ told_by tell (Err unread.KeyTooLong) = Ok answers.Invalid
 told_by tell (Err unread.NoMemory) = Err halts.NoMemory
 told_by tell (Err (unread.Disk name)) = Err (halts.Read name)
 told_by tell (Err (unread.Damaged name place)) = Err (halts.Damaged name place)
+
+-- ---- what steps on files are told
+
+-- The number of the log that was sealed, or of the table that was made. An engine is halted only behind a fault, at which its
+-- replayer halts too.
+abbrev pub told_step : Result (Option ℕ) StepFail → Result Answer Halt
+told_step (Ok (Some number)) = Ok (answers.Number number)
+told_step (Ok None) = Ok answers.Idle
+told_step (Err (undone.Exhausted counter)) = Ok (answers.Exhausted counter)
+told_step (Err undone.NoMemory) = Err halts.NoMemory
+told_step (Err (undone.Disk name)) = Err (halts.Disk name)
+told_step (Err (undone.Halted name)) = Err (halts.Read name)

@@ -1,5 +1,5 @@
 -- The state in which a run begins: that of the store that its disk opens as.
-use Rattle.std.specs.Prelude.{◌≡◌, ◌≤◌, ◌+◌, ℕ, List, [], ◌∷◌, length, None, Some}
+use Rattle.std.specs.Prelude.{◌≡◌, ◌≤◌, ◌+◌, ℕ, List, [], length, None, Some}
 use Rattle.std.specs.List.{AllByRecursion}
 use Rattle.std.proofs.Common.{subst, sym}
 use Rattle.vl_disk.specs.Crash.{Image}
@@ -9,17 +9,13 @@ use Rattle.vl_disk.specs.Started.{IsRead}
 use Rattle.vl_disk.specs.declared.name.Name.{Name as FileName}
 use Rattle.vl_disk.specs.declared.watched.Watched.{Ghosts}
 use Rattle.vl_io.specs.declared.sink.Sink as sink
-use Rattle.vl_engine.specs.Opening.{IsDurable, recovered, state_then}
+use Rattle.vl_engine.specs.Opening.{IsDurable, recovered}
 use Rattle.vl_engine.specs.Shown.{Shown}
-use Rattle.vl_layout.specs.Sources.{tables}
 use Rattle.vl_layout.specs.Start.{layout_at_start}
 use Rattle.vl_layout.specs.Store.Commits.{AreProper}
 use Rattle.vl_layout.specs.Store.Lines.{Name}
 use Rattle.vl_layout.specs.Store.Proper.{AreNamedOnce, HasRisingWrites, IsProper}
 use Rattle.vl_layout.specs.Store.Things.{Thing}
-use Rattle.vl_manifest.specs.Manifest.{manifest_bytes}
-use Rattle.vl_manifest.specs.States.{whole_edits}
-use Rattle.vl_manifest.specs.declared.manifest_log.ManifestLog.{ManifestLog}
 use Rattle.vl_model.specs.History.{last_number}
 use Rattle.vl_model.specs.Limits.{max_room}
 use Rattle.vl_recover.specs.opening.Answers.{AreStrayNames, Finds, calls_to_open, used_up}
@@ -45,15 +41,8 @@ pub record OpensUpTo {read : Image} (files : ℕ) (disk : DiskState) (found : Fi
   -- nor does the manifest that is made, or the log that takes commits then;
   pub manifest : found.greatest.manifest + 1 ≤ files
   pub log : active_log found.greatest found.opening.state found.logs ≤ files
-  -- and that manifest gives at most the next one
+  -- and that manifest gives at most the next ones
   pub next : GivesUpTo files (new_state found.greatest found.opening.state)
-
--- the manifest that is made then: its number, and its length with the frame that says all
-abbrev pub file_then : {read : Image} → Finds read → ManifestLog
-file_then found = record {
-  number = found.greatest.manifest + 1;
-  length = length (manifest_bytes (found.greatest.manifest + 1) (whole_edits (state_then found) ∷ []));
-}
 
 -- A run over this disk begins in this state: the disk opens as a store, whose logs show the state's history, which has
 -- no commits yet but those of the logs.
@@ -68,11 +57,8 @@ pub record StartsIn {D : Type 0} (g : Ghosts D) (disk : D) (s : State) : Type 0 
   -- they show the history, which is gone on with from its last number,
   pub shown : Shown read (history_of s) (last_number (history_of s))
   pub proper : AreProper s.store.commits
-  -- over the layout with which an engine begins, which has no tables
+  -- over the layout with which an engine begins
   pub layout : s.store.layout ≡ layout_at_start max_room (recovered found shown)
-  pub untabled : tables s.store.layout ≡ []
-  pub manifest : s.manifest ≡ state_then found
-  pub manifest_file : s.manifest_file ≡ file_then found
   -- no name stands for anything yet
   pub things : s.store.things ≡ []
   -- opening asks for so many changing calls

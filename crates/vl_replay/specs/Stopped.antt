@@ -1,6 +1,8 @@
--- How far a commit came on a disk that then failed, and failed cleanly. And the numbers that a disk's files have.
+-- How far a commit, or a step on files, came on a disk that then failed, and failed cleanly. And the numbers that a disk's files
+-- have.
 use Rattle.std.specs.Prelude.{◌≡◌, ◌≢◌, ◌≤◌, ℕ, ◌+◌, List, length, None}
 use Rattle.std.specs.FinMap.{get}
+use Rattle.vl_disk.specs.Crash.{Image}
 use Rattle.vl_disk.specs.DiskState.{DiskState, appended}
 use Rattle.vl_disk.specs.Name.{file_number}
 use Rattle.vl_disk.specs.declared.name.Name.{Name}
@@ -9,10 +11,13 @@ use Rattle.vl_engine.specs.Writing.{written}
 use Rattle.vl_frame.specs.Runs.{HasFrame}
 use Rattle.vl_layout.specs.Store.Commits.{Changes, with_changes}
 use Rattle.vl_manifest.specs.declared.state.ManifestState.{ManifestState}
+use Rattle.vl_model.specs.History.{last_number}
 use Rattle.vl_model.specs.declared.log_frame.LogFrame.{LogFrame}
+use Rattle.vl_recover.specs.crash.Alike.{IsLeft}
+use Rattle.vl_recover.specs.opening.Answers.{Finds}
 use Rattle.vl_seglog.specs.Frames.{frame_at, frames_grammar}
-use Rattle.vl_replay.specs.Between.{Holding}
-use Rattle.vl_replay.specs.Sequential.{State}
+use Rattle.vl_replay.specs.Between.{Holding, Showing}
+use Rattle.vl_replay.specs.Sequential.{State, history_of}
 
 -- ---- a commit that is being written
 
@@ -44,15 +49,6 @@ pub record Commits (holds : Holding) (before after : State) : Type 0 where
 abbrev pub with_taken : {holds : Holding} {before after : State} → Commits holds before after → ℕ → DiskState
 with_taken {before} commits taken = appended (log_of before) commits.frame taken commits.old
 
--- What a commit left of a disk that failed, and failed cleanly, behind so many of its two calls.
-pub data IsStoppedIn (holds : Holding) (before after : State) (passed : ℕ) (now : DiskState) : Type 0 where
-  -- its append failed, and the log took nothing of the frame
-  append_failed : (commits : Commits holds before after) → passed ≡ 0 → now ≡ with_taken commits 0
-      → IsStoppedIn holds before after passed now
-  -- its sync failed, and the log took all of the frame
-  sync_failed : (commits : Commits holds before after) → passed ≡ 1 → now ≡ with_taken commits (length commits.frame)
-      → IsStoppedIn holds before after passed now
-
 -- ---- numbers of files
 
 -- no file of the disk, standing or removed, has a greater number
@@ -60,6 +56,32 @@ pub record AreNumberedUpTo (greatest : ℕ) (disk : DiskState) : Type 0 where
   pub standing : (name : Name) → get disk.standing name ≢ None → file_number name ≤ greatest
   pub removed : (name : Name) → get disk.removed name ≢ None → file_number name ≤ greatest
 
--- and the manifest gives no greater one than the next above it
-abbrev pub GivesUpTo : ℕ → ManifestState → Type 0
-GivesUpTo greatest state = state.next_log ≤ greatest + 1
+-- and the manifest gives no greater one than the next above it, to a log or to a table
+pub record GivesUpTo (greatest : ℕ) (state : ManifestState) : Type 0 where
+  pub log : state.next_log ≤ greatest + 1
+  pub table : state.next_table ≤ greatest + 1
+
+-- ---- a step on files that was stopped
+
+-- A rotation or a flush leaves the commits as they were, also where it was stopped.
+pub record StopsStep (shows : Showing) (before after : State) (now : DiskState) : Type 0 where
+  pub same : after.store.commits ≡ before.store.commits
+  -- what a crash then leaves shows them,
+  pub left : (image : Image) → IsLeft now image → shows image (history_of before) (last_number (history_of before))
+  -- no file passes the number that is said of the state after it,
+  pub numbered : AreNumberedUpTo after.files now
+  -- and the manifest that is found on what a crash leaves gives at most the next ones
+  pub next : (image : Image) (found : Finds image) → IsLeft now image → GivesUpTo after.files found.opening.state
+
+-- ---- a line that was stopped
+
+-- What a line left of a disk that failed, and failed cleanly, behind so many of its calls.
+pub data IsStoppedIn (holds : Holding) (shows : Showing) (before after : State) (passed : ℕ) (now : DiskState) : Type 0 where
+  -- a commit's append failed, and the log took nothing of the frame
+  append_failed : (commits : Commits holds before after) → passed ≡ 0 → now ≡ with_taken commits 0
+      → IsStoppedIn holds shows before after passed now
+  -- a commit's sync failed, and the log took all of the frame
+  sync_failed : (commits : Commits holds before after) → passed ≡ 1 → now ≡ with_taken commits (length commits.frame)
+      → IsStoppedIn holds shows before after passed now
+  -- a call of a rotation or of a flush failed
+  step_failed : StopsStep shows before after now → IsStoppedIn holds shows before after passed now

@@ -7,6 +7,7 @@ mod lines;
 pub mod open;
 mod opening;
 mod reading;
+mod stepping;
 mod writing;
 
 use crate::fails::Halt;

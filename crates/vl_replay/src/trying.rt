@@ -3,8 +3,9 @@ ghost use Rattle.std.specs.Prelude.{◌≡◌, ◌≢◌, ◌↔◌, ℕ, List, 
 ghost use Rattle.vl_disk.specs.Faults.{HasCause};
 ghost use Rattle.vl_mem.specs.CrashImage.{crash_image};
 ghost use Rattle.vl_mem.specs.MemDisk.{state_of};
+ghost use Rattle.vl_mem.specs.contracts.mem_disk.MemDiskWatched.TheImpl as memory;
 ghost use Rattle.vl_model.specs.History.{History};
-ghost use Rattle.vl_replay.specs.Endings.{TheSink, TheSource, CountsFaultsOf, culprit_of, status_of};
+ghost use Rattle.vl_replay.specs.Endings.{TheDisk, TheSink, TheSource, CountsFaultsOf, culprit_of, status_of};
 ghost use Rattle.vl_engine.specs.Opening.{IsFault};
 ghost use Rattle.vl_replay.specs.Reopens.{Reopens};
 ghost use Rattle.vl_replay.specs.Replaying.{StandsFor, TakesLines, disk_of};
@@ -36,7 +37,7 @@ pub fn trial<S: Source, K: Sink>(
     // So it is of what is printed, to the byte. No stop is reported as a fault of the disk.
     ensures ends { (input : List ℕ) → S.left source.old ≡ Some input
         → EndsTrial (trial_of stop input outcome) (K.held sink.old) (K.held sink.new) (S.left source.new) result }
-    ensures no_disk_fault { status_of result ≢ 3 }
+    ensures no_disk_fault { culprit_of result ≢ TheDisk }
     ensures not_the_words { result ≢ Ending.BadWords }
     ensures source_faults { CountsFaultsOf TheSource (Some result) (S.faults source.old) (S.faults source.new) }
     ensures sink_faults { CountsFaultsOf TheSink (Some result) (K.faults sink.old) (K.faults sink.new) }
@@ -73,7 +74,6 @@ fn run_to_stop<S: Source, K: Sink>(
     ensures comes { (input : List ℕ) → S.left source.old ≡ Some input
         → ComesTo (trial_of stop input) (K.held sink.old) (K.held sink.new) (S.left source.new) result.disk result.ending }
     ensures no_disk_fault { result.ending ≢ Ending.DiskFault }
-    ensures no_read_fault { result.ending ≢ Ending.ReaderFault }
     ensures not_the_words { result.ending ≢ Ending.BadWords }
     ensures source_faults { CountsFaultsOf TheSource (Some result.ending) (S.faults source.old) (S.faults source.new) }
     ensures sink_faults { CountsFaultsOf TheSink (Some result.ending) (K.faults sink.old) (K.faults sink.new) }
@@ -102,7 +102,7 @@ fn is_fault(why: &OpenError) -> bool
 
 // Opens a store on an empty disk that stops behind so many changing calls.
 fn begin(alloc: Global, stop: u32) -> Result<Replayer<MemDisk>, OpenFail<MemDisk, MemReader>>
-    ensures opened { IfOk result (λ replayer. IsOnTrial stop (StandsFor all_told replayer) (disk_of replayer)) }
+    ensures opened { IfOk result (λ replayer. IsOnTrial stop (StandsFor memory.ghosts all_told replayer) (disk_of replayer)) }
     ensures goes_on { IfOk result TakesLines }
     ensures stopped { IfErr result (λ fail. StopsOpening stop fail.why fail.disk) }
 {

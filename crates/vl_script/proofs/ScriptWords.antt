@@ -7,7 +7,8 @@ use Rattle.std.specs.List.{onto_first, position, position_or_len}
 use Rattle.std.proofs.lemmas.List.Splits.{slice_split_none, slice_split_first}
 use Rattle.std.proofs.lemmas.List.Sums.{fails_before_first}
 use Rattle.std.proofs.lemmas.Bool.Decides.{nat_tests}
-use Rattle.vl_script.specs.Script.{words_of, ident_alone, ident_and_key, set_of, with_number}
+use Rattle.vl_script.specs.declared.line.Line.{Line}
+use Rattle.vl_script.specs.Script.{words_of, alone, ident_alone, ident_and_key, set_of, with_number}
 
 passed_end : (first end : ℕ) → cond (ltb first end) (Some first) None ≡ None → end ≤ first
 passed_end first end e = grind (arith, nat_tests)
@@ -49,6 +50,10 @@ words_behind_begins (Some text) e = words_of_begins text.now
 words_behind_begins None e = cc
 
 module _ (rest : Option (Bor (List ℕ))) (more : is_some rest ≡ true) where
+  -- behind rotate and flush there are no words
+  pub alone_of_more : (line : Line) → alone line (words_behind rest) ≡ None
+  alone_of_more line = rw (words_behind_begins rest more).2 refl
+
   -- behind the one word that begin, view, commit and drop want, there is none
   pub ident_alone_of_more : (name : List ℕ) → ident_alone (name ∷ words_behind rest) ≡ None
   ident_alone_of_more name = rw (words_behind_begins rest more).2 refl

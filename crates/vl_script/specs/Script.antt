@@ -14,10 +14,10 @@ use Rattle.vl_model.specs.declared.way.Way.TheVariants.{Up, Down}
 use Rattle.vl_model.specs.Keys.{Row}
 use Rattle.vl_script.specs.Numbers.{number_of}
 use Rattle.vl_script.specs.declared.line.Line.{Line}
-use Rattle.vl_script.specs.declared.line.Line.TheVariants.{Begin, View, Get, Set, SetTagged, GetTagged, Scan, Delete, Commit, Drop}
+use Rattle.vl_script.specs.declared.line.Line.TheVariants.{Begin, View, Get, Set, SetTagged, GetTagged, Scan, Delete, Commit, Drop, Rotate, Flush}
 use Rattle.vl_script.specs.declared.answer.Answer.{Answer}
 use Rattle.vl_script.specs.declared.answer.Answer.TheVariants.{Done, Number, Found, FoundTagged, NoValue, Rows, Taken, Unknown}
-use Rattle.vl_script.specs.declared.answer.Answer.TheVariants.{ReadOnly, Invalid, TooBig, TooMany, Nothing, Conflict, Full, Exhausted}
+use Rattle.vl_script.specs.declared.answer.Answer.TheVariants.{ReadOnly, Invalid, TooBig, TooMany, Nothing, Conflict, Full, Idle, Exhausted}
 
 -- the longest line, in bytes without its end
 abbrev pub longest_line : ℕ
@@ -57,6 +57,11 @@ infixl 10 ◌>>=◌
 abbrev pub ◌>>=◌ : {A B : Type 0} → Option A → (A → Option B) → Option B
 None >>= f = None
 Some x >>= f = f x
+
+-- no words stand behind rotate and flush
+abbrev pub alone : Line → List (List ℕ) → Option Line
+alone line [] = Some line
+alone line (word ∷ words) = None
 
 -- the words behind begin, view, commit and drop
 abbrev pub ident_alone : List (List ℕ) → Option (List ℕ)
@@ -106,7 +111,9 @@ line_of_words (command ∷ words) =
     else (if bytes_eq command (codes "del") then option_map (λ p. Delete p.0 p.1) (ident_and_key words)
     else (if bytes_eq command (codes "commit") then option_map Commit (ident_alone words)
     else (if bytes_eq command (codes "drop") then option_map Drop (ident_alone words)
-    else None))))))))))
+    else (if bytes_eq command (codes "rotate") then alone Rotate words
+    else (if bytes_eq command (codes "flush") then alone Flush words
+    else None))))))))))))
 
 -- the line that these bytes are, without the line's end
 abbrev pub line_of : List ℕ → Option Line
@@ -153,4 +160,5 @@ text_of TooMany = as_line (codes "toomany")
 text_of Nothing = as_line (codes "nothing")
 text_of (Conflict key number) = as_line (codes "conflict " ++ bytes_text key ++ (32 ∷ []) ++ decimal number)
 text_of Full = as_line (codes "full")
+text_of Idle = as_line (codes "idle")
 text_of (Exhausted counter) = as_line (codes "exhausted " ++ counter_text counter)

@@ -34,6 +34,8 @@ pub enum Answer {
     Conflict { key: Key, number: u64 },
     /// `full`: the log has no room for the commit.
     Full,
+    /// `idle`: there is nothing to seal or to write.
+    Idle,
     /// `exhausted W`: there is no next number of this kind.
     Exhausted { counter: Counter },
 }

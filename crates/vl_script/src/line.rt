@@ -59,4 +59,8 @@ pub enum Line {
     Drop {
         name: Ident,
     },
+    /// `rotate`: seals the log that takes commits, and begins a new one.
+    Rotate,
+    /// `flush`: writes the entries of the log that was sealed first to a table.
+    Flush,
 }

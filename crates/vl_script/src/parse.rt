@@ -2,7 +2,7 @@ ghost use Rattle.std.specs.Prelude.{◌≡◌, ◌∷◌, [], ◌&&◌, ◌<◌,
 ghost use Rattle.std.specs.List.{list_all};
 ghost use Rattle.std.specs.Option.{option_map_or};
 ghost use Rattle.vl_script.specs.Script.{longest_ident, is_ident_byte, ident_of, bytes_of, words_of, line_of};
-ghost use Rattle.vl_script.specs.Script.{ident_alone, ident_and_key, ident_and_two, with_number, set_of, set_tagged_of, scan_of};
+ghost use Rattle.vl_script.specs.Script.{alone, ident_alone, ident_and_key, ident_and_two, with_number, set_of, set_tagged_of, scan_of};
 
 use crate::digits::decode;
 use crate::{Ident, Line, MAX_IDENT_BYTES, MAX_LINE_BYTES, find_byte, parse_number};
@@ -39,6 +39,10 @@ pub fn parse_line(alloc: Global, text: &[u8]) -> Result<Option<Line>, AllocError
         Ok(parse_ident_alone(alloc, rest)?.map(|name| Line::Commit { name }))
     } else if command == b"drop".as_slice() {
         Ok(parse_ident_alone(alloc, rest)?.map(|name| Line::Drop { name }))
+    } else if command == b"rotate".as_slice() {
+        Ok(parse_alone(rest, Line::Rotate))
+    } else if command == b"flush".as_slice() {
+        Ok(parse_alone(rest, Line::Flush))
     } else {
         Ok(None)
     }
@@ -52,6 +56,17 @@ fn next_word(text: &[u8]) -> (&[u8], Option<&[u8]>)
         Some(end) => (&text[..end], Some(&text[end + 1..])),
         None => (text, None),
     }
+}
+
+// A line of its command alone.
+#[tactic(auto, using(crate::proofs::ScriptWords::alone_of_more))]
+fn parse_alone(rest: Option<&[u8]>, line: Line) -> Option<Line>
+    ensures { result ≡ alone line (option_map_or (λ rest. words_of rest.now) rest.entry []) }
+{
+    if rest.is_some() {
+        return None;
+    }
+    Some(line)
 }
 
 #[tactic(auto, using(crate::proofs::ScriptWords::ident_alone_of_more))]

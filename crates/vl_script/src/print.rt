@@ -34,6 +34,7 @@ pub fn print_answer(alloc: Global, text: &mut Vec<u8>, answer: &Answer) -> Resul
         Answer::Nothing => print_line(text, b"nothing", b""),
         Answer::Conflict { key, number } => print_conflict(alloc, text, key, *number),
         Answer::Full => print_line(text, b"full", b""),
+        Answer::Idle => print_line(text, b"idle", b""),
         Answer::Exhausted { counter } => {
             print_line(text, b"exhausted ", counter_name(*counter).as_bytes())
         }

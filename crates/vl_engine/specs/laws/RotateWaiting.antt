@@ -5,6 +5,7 @@ use Rattle.std.proofs.Common.{sym, ap, ◌∙◌, arith}
 use Rattle.std.proofs.lemmas.Bool.Decides.{nat_tests}
 use Rattle.vl_engine.specs.Held.{Base, IsBase, logs_from}
 use Rattle.vl_engine.specs.Represents.{IsBack}
+use Rattle.vl_engine.specs.Stepping.{covered_all}
 use Rattle.vl_back.specs.declared.back.Back.{Back}
 use Rattle.vl_layout.specs.Rulings.Flush.{covered_by}
 use Rattle.vl_layout.specs.Rulings.Rotate.{rotated}
@@ -21,12 +22,7 @@ use Rattle.vl_recover.specs.opening.HeldFiles.{AreWaiting}
 use Rattle.vl_recover.specs.opening.Stages.{on_ok}
 use Rattle.vl_recover.specs.opening.Walk.{counted, counted_whole, in_log, walked}
 
--- the last commit of these logs, or the number that was covered before
-abbrev pub covered_all : List Segment → ℕ → ℕ
-covered_all [] covered = covered
-covered_all (s ∷ ss) covered = covered_all ss (covered_by s.frames covered)
-
-covered_more : (ss : List Segment) (s : Segment) (covered : ℕ)
+pub covered_more : (ss : List Segment) (s : Segment) (covered : ℕ)
     → covered_all (ss ++ s ∷ []) covered ≡ covered_by s.frames (covered_all ss covered)
 covered_more [] s covered = refl
 covered_more (t ∷ ss) s covered = covered_more ss s (covered_by t.frames covered)
@@ -88,7 +84,7 @@ none_covers : (fs : List LogFrame) (n : ℕ) → is_any fs ≡ false → covered
 none_covers [] n none = refl
 none_covers (f ∷ fs) n none = absurd cc
 
-filled_cover : (ss : List Segment) (n : ℕ) → covered_all (filter has_frames ss) n ≡ covered_all ss n
+pub filled_cover : (ss : List Segment) (n : ℕ) → covered_all (filter has_frames ss) n ≡ covered_all ss n
 filled_cover [] n = refl
 filled_cover (s ∷ ss) n = by (filled_cover ss) (has_frames s) refl
   where
@@ -101,7 +97,7 @@ last_turned : (ss : List Segment) (s : Segment) → newest_first (ss ++ s ∷ []
 last_turned [] s = refl
 last_turned (t ∷ ss) s = ap (λ (rest : List Segment). rest ++ t ∷ []) (last_turned ss s)
 
-twice_turned : (ss : List Segment) → newest_first (newest_first ss) ≡ ss
+pub twice_turned : (ss : List Segment) → newest_first (newest_first ss) ≡ ss
 twice_turned [] = refl
 twice_turned (s ∷ ss) = last_turned (newest_first ss) s ∙ ap (λ (rest : List Segment). s ∷ rest) (twice_turned ss)
 
@@ -119,7 +115,7 @@ active_covers b l h base =
 
 -- ---- one more waits
 
-waits_behind : (covered : ℕ) (ws : List Waiting) (ss : List Segment) (w : Waiting) (s : Segment) → AreWaiting covered ws ss
+pub waits_behind : (covered : ℕ) (ws : List Waiting) (ss : List Segment) (w : Waiting) (s : Segment) → AreWaiting covered ws ss
     → w.number ≡ s.number → w.covered ≡ covered_by s.frames (covered_all ss covered)
     → AreWaiting covered (ws ++ w ∷ []) (ss ++ s ∷ [])
 waits_behind covered [] [] w s are number covers = (number, covers, tt)

@@ -3,6 +3,7 @@ ghost use Rattle.vl_engine.specs.Answers.{begin_outcome, view_outcome};
 ghost use Rattle.vl_engine.specs.Reading.{IsInMemory};
 ghost use Rattle.vl_engine.specs.Represents.{Fronts, Represents, StandsFor};
 ghost use Rattle.vl_engine.specs.Sees.{IsNew, Sees, SeesAlone};
+ghost use Rattle.vl_engine.specs.Stepping.{Fits};
 ghost use Rattle.vl_layout.specs.Decides.{Decides, as_before, no_effects};
 ghost use Rattle.vl_layout.specs.Rulings.Begin.{begin_ruling};
 ghost use Rattle.vl_layout.specs.Rulings.View.{view_ruling};
@@ -28,6 +29,12 @@ impl<D: Disk> Engine<D> {
         ensures represents { (h : History) (l : Layout) → Represents D.Held.bytes self.old.core (D.told self.old.disk) h l
             → Decides (Represents D.Held.bytes self.new.core (D.told self.new.disk)) h l (begin_ruling l h) (as_before l l)
             (begin_outcome result) no_effects }
+
+        // What steps on files ask stays.
+        ensures fits { (h : History) (l : Layout) → StandsFor D.Held.bytes self.old.core h l
+            → Fits (D.told self.old.disk) self.old.core h l
+            → Decides (Fits (D.told self.new.disk) self.new.core) h l (begin_ruling l h) (as_before l l) (begin_outcome result)
+            no_effects }
 
         // It sees the history at its last number, and has read and written nothing.
         ensures sees { (h : History) (l : Layout) → StandsFor D.Held.bytes self.old.core h l
@@ -71,6 +78,10 @@ impl<D: Disk> Engine<D> {
         ensures represents { (h : History) (l : Layout) → Represents D.Held.bytes self.old.core (D.told self.old.disk) h l
             → Decides (Represents D.Held.bytes self.new.core (D.told self.new.disk)) h l (view_ruling l h) (as_before l l)
             (view_outcome result) no_effects }
+        ensures fits { (h : History) (l : Layout) → StandsFor D.Held.bytes self.old.core h l
+            → Fits (D.told self.old.disk) self.old.core h l
+            → Decides (Fits (D.told self.new.disk) self.new.core) h l (view_ruling l h) (as_before l l) (view_outcome result)
+            no_effects }
         ensures sees { (h : History) (l : Layout) → StandsFor D.Held.bytes self.old.core h l
             → IfOk result (λ view. SeesAlone D.Held.bytes view h) }
         ensures memory { IsInMemory self.old.core.version → IfOk result (λ view. IsInMemory view.version) }

@@ -9,6 +9,7 @@ ghost use Rattle.vl_engine.specs.Answers.{CommitFailed, IsWritable, LeavesDisk, 
 ghost use Rattle.vl_engine.specs.Carries.{Carries, SameFiles};
 ghost use Rattle.vl_engine.specs.Represents.{Fronts, IsLive, Represents, StandsFor};
 ghost use Rattle.vl_engine.specs.Sees.{Sees, asked};
+ghost use Rattle.vl_engine.specs.Stepping.{Fits};
 ghost use Rattle.vl_engine.specs.Steps.{WritesAs};
 ghost use Rattle.vl_engine.specs.Writing.{StopsWriting};
 ghost use Rattle.vl_front.specs.Decisions.{MayWrite};
@@ -55,6 +56,13 @@ impl<D: Disk> Engine<D> {
             → Represents D.Held.bytes self.old.core (D.told self.old.disk) h l
             → IsLive l txn.ticket txn.number → AreNotesOf reads txn.reads.keys txn.reads.spans
             → Carries D.Watched D.Held.bytes self.old.disk self.new.disk self.new.core h l (commit_ruling l h (asked txn reads))
+            (as_before l (commit_lost l (asked txn reads))) (commit_outcome result) (commit_effects result) }
+
+        // What steps on files ask is so behind it: the active log ends with the commit's frame.
+        ensures fits { (h : History) (l : Layout) (reads : List Read) → StandsFor D.Held.bytes self.old.core h l
+            → Fits (D.told self.old.disk) self.old.core h l
+            → IsLive l txn.ticket txn.number → AreNotesOf reads txn.reads.keys txn.reads.spans
+            → Decides (Fits (D.told self.new.disk) self.new.core) h l (commit_ruling l h (asked txn reads))
             (as_before l (commit_lost l (asked txn reads))) (commit_outcome result) (commit_effects result) }
 
         // What an accepted transaction read, and what it scanned, is so up to its own commit.

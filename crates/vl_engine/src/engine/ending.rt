@@ -1,5 +1,6 @@
 ghost use Rattle.std.specs.Prelude.{◌≡◌};
 ghost use Rattle.vl_engine.specs.Represents.{Fronts, Represents, StandsFor};
+ghost use Rattle.vl_engine.specs.Stepping.{Fits};
 ghost use Rattle.vl_layout.specs.Ruling.{ended};
 ghost use Rattle.vl_layout.specs.declared.layout.Layout.{Layout};
 ghost use Rattle.vl_model.specs.History.{History, last_number};
@@ -15,6 +16,9 @@ impl<D: Disk> Engine<D> {
             → StandsFor D.Held.bytes self.new.core h (ended txn.ticket l) }
         ensures represents { (h : History) (l : Layout) → Represents D.Held.bytes self.old.core (D.told self.old.disk) h l
             → Represents D.Held.bytes self.new.core (D.told self.new.disk) h (ended txn.ticket l) }
+        // What steps on files ask stays.
+        ensures fits { (h : History) (l : Layout) → Fits (D.told self.old.disk) self.old.core h l
+            → Fits (D.told self.new.disk) self.new.core h (ended txn.ticket l) }
         ensures disk { self.new.disk ≡ self.old.disk }
         ensures back { self.new.core.back ≡ self.old.core.back }
     {
@@ -28,6 +32,8 @@ impl<D: Disk> Engine<D> {
             → StandsFor D.Held.bytes self.new.core h (ended view.ticket l) }
         ensures represents { (h : History) (l : Layout) → Represents D.Held.bytes self.old.core (D.told self.old.disk) h l
             → Represents D.Held.bytes self.new.core (D.told self.new.disk) h (ended view.ticket l) }
+        ensures fits { (h : History) (l : Layout) → Fits (D.told self.old.disk) self.old.core h l
+            → Fits (D.told self.new.disk) self.new.core h (ended view.ticket l) }
         ensures disk { self.new.disk ≡ self.old.disk }
         ensures back { self.new.core.back ≡ self.old.core.back }
     {
@@ -41,6 +47,8 @@ impl<D: Disk> Engine<D> {
             → StandsFor D.Held.bytes self.new.core h (ended ticket l) }
         ensures represents { (h : History) (l : Layout) → Represents D.Held.bytes self.old.core (D.told self.old.disk) h l
             → Represents D.Held.bytes self.new.core (D.told self.new.disk) h (ended ticket l) }
+        ensures fits { (h : History) (l : Layout) → Fits (D.told self.old.disk) self.old.core h l
+            → Fits (D.told self.new.disk) self.new.core h (ended ticket l) }
         ensures disk { self.new.disk ≡ self.old.disk }
         ensures back { self.new.core.back ≡ self.old.core.back }
     {

@@ -9,7 +9,7 @@ ghost use Rattle.vl_disk.specs.declared.name.Name.{Name};
 ghost use Rattle.vl_engine.specs.Carries.{Carries};
 ghost use Rattle.vl_engine.specs.Flushing.{FlushesAs, IsFlushWritten, StopsFlushing, flush_effects};
 ghost use Rattle.vl_engine.specs.Represents.{Fronts, Represents, StandsFor};
-ghost use Rattle.vl_engine.specs.Stepping.{AreLogFiles, HasNumbers, StepFailed, StepLeavesDisk, step_outcome};
+ghost use Rattle.vl_engine.specs.Stepping.{AreLogFiles, Fits, HasNumbers, StepFailed, StepLeavesDisk, step_outcome};
 ghost use Rattle.vl_engine.specs.declared.fails.StepFail.TheVariants as fails;
 ghost use Rattle.vl_layout.specs.Decides.{Decides, as_before};
 ghost use Rattle.vl_layout.specs.Rulings.Flush.{flush_ruling};
@@ -40,6 +40,12 @@ impl<D: Disk> Engine<D> {
         ensures carries { (h : History) (l : Layout) → Represents D.Held.bytes self.old.core (D.told self.old.disk) h l
             → Carries D.Watched D.Held.bytes self.old.disk self.new.disk self.new.core h l (flush_ruling l h) (as_before l l)
             (step_outcome result) (flush_effects result) }
+
+        // What steps on files ask is so behind it.
+        ensures fits { (h : History) (l : Layout) → StandsFor D.Held.bytes self.old.core h l
+            → Fits (D.told self.old.disk) self.old.core h l
+            → Decides (Fits (D.told self.new.disk) self.new.core) h l (flush_ruling l h) (as_before l l) (step_outcome result)
+            (flush_effects result) }
 
         // Where no table was made and the disk didn't fail, it was left alone, at each moment.
         ensures untouched { StepLeavesDisk result → ChangesNothing D.Watched self.old.disk self.new.disk ⊥ }

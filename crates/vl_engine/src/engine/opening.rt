@@ -10,6 +10,7 @@ ghost use Rattle.vl_engine.specs.Carries.{CrashesShow, Tells};
 ghost use Rattle.vl_engine.specs.Opening.{AnswersOpening, AreLeveled, IsAsBefore, IsBackAtStart, IsCoreOf, IsDiskFault, IsDurable, IsFault, disk_behind, reader_faults, recovered, why_of};
 ghost use Rattle.vl_engine.specs.Represents.{Represents, StandsFor};
 ghost use Rattle.vl_engine.specs.Shown.{Shown};
+ghost use Rattle.vl_engine.specs.Stepping.{Fits};
 ghost use Rattle.vl_layout.specs.Start.{layout_at_start};
 ghost use Rattle.vl_model.specs.History.{History, last_number};
 ghost use Rattle.vl_model.specs.Limits.{max_room};
@@ -48,6 +49,11 @@ impl<D: Disk> Engine<D> {
             → MayOpen state → IsRead read state → (shown : Shown read h (last_number h))
             → IfOk result (λ engine. Represents D.Held.bytes engine.core (D.told engine.disk) h
             (layout_at_start room (recovered found shown))) }
+
+        // What steps on files ask is so.
+        ensures fits { (state : DiskState) (read : Image) (found : Finds read) (h : History) → D.told disk ≡ Some state
+            → IsRead read state → (shown : Shown read h (last_number h))
+            → IfOk result (λ engine. Fits (D.told engine.disk) engine.core h (layout_at_start room (recovered found shown))) }
 
         // What it keeps is what reads give, also where they show no history since blocks of tables are damaged.
         ensures core { (state : DiskState) (read : Image) (found : Finds read) → D.told disk ≡ Some state → IsRead read state

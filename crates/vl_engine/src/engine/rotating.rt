@@ -8,7 +8,7 @@ ghost use Rattle.vl_disk.specs.declared.name.Name.TheVariants as names;
 ghost use Rattle.vl_engine.specs.Carries.{Carries};
 ghost use Rattle.vl_engine.specs.Represents.{Fronts, Represents, StandsFor};
 ghost use Rattle.vl_engine.specs.Rotating.{HasActive, MayBegin, RotatesAs, StopsRotating, rotate_calls, rotate_effects};
-ghost use Rattle.vl_engine.specs.Stepping.{HasNumbers, StepFailed, StepLeavesDisk, step_outcome};
+ghost use Rattle.vl_engine.specs.Stepping.{Fits, HasNumbers, StepFailed, StepLeavesDisk, step_outcome};
 ghost use Rattle.vl_engine.specs.declared.fails.StepFail.TheVariants as fails;
 ghost use Rattle.vl_layout.specs.Decides.{Decides, as_before};
 ghost use Rattle.vl_layout.specs.Rulings.Rotate.{rotate_ruling};
@@ -42,6 +42,12 @@ impl<D: Disk> Engine<D> {
         ensures carries { (h : History) (l : Layout) → Represents D.Held.bytes self.old.core (D.told self.old.disk) h l
             → Carries D.Watched D.Held.bytes self.old.disk self.new.disk self.new.core h l (rotate_ruling l h) (as_before l l)
             (step_outcome result) (rotate_effects result) }
+
+        // What steps on files ask is so behind it.
+        ensures fits { (h : History) (l : Layout) → StandsFor D.Held.bytes self.old.core h l
+            → Fits (D.told self.old.disk) self.old.core h l
+            → Decides (Fits (D.told self.new.disk) self.new.core) h l (rotate_ruling l h) (as_before l l) (step_outcome result)
+            (rotate_effects result) }
 
         // Where no log was begun and the disk didn't fail, it was left alone, at each moment.
         ensures untouched { StepLeavesDisk result → ChangesNothing D.Watched self.old.disk self.new.disk ⊥ }

@@ -23,7 +23,7 @@ use Rattle.vl_replay.specs.laws.Explained.{IsSound as IsSoundStore, IsSoundThing
 use Rattle.vl_replay.specs.laws.Growing.{Adds, Keeps, begin_keeps, commit_or, drop_keeps, get_keeps, scan_keeps, write_keeps}
 use Rattle.vl_script.specs.Script.{line_of}
 use Rattle.vl_script.specs.declared.line.Line.{Line}
-use Rattle.vl_script.specs.declared.line.Line.TheVariants.{Begin, View, Get, Set, SetTagged, GetTagged, Scan, Delete, Commit, Drop}
+use Rattle.vl_script.specs.declared.line.Line.TheVariants.{Begin, View, Get, Set, SetTagged, GetTagged, Scan, Delete, Commit, Drop, Rotate, Flush}
 
 -- ---- what a line leaves
 
@@ -36,8 +36,14 @@ abbrev pub Committing : State → Line → Type 0
 Committing s line = (t : Transaction) × (b : Beginning) × (name : Name) × (line ≡ Commit name)
     × (thing_of s.store name ≡ Some (ATransaction t b)) × Adds s.store (step_to s line) t
 
--- a line keeps the commits, and the layout but for what lives; or it makes a transaction the next commit
-pub keeps_or : (s : State) (line : Line) → IsSound s → Keeps s.store (step_to s line) ⊎ Committing s line
+-- the line is a step on files, which keeps the commits and what the names stand for
+pub record Stepping (s : State) (line : Line) : Type 0 where
+  pub is : (line ≡ Rotate) ⊎ (line ≡ Flush)
+  pub commits : (step_to s line).state.commits ≡ s.store.commits
+  pub things : (step_to s line).state.things ≡ s.store.things
+
+-- a line keeps the commits, and the layout but for what lives; or it makes a transaction the next commit, or is a step on files
+pub keeps_or : (s : State) (line : Line) → IsSound s → Keeps s.store (step_to s line) ⊎ (Committing s line ⊎ Stepping s line)
 keeps_or s (Begin name) sound = inl (begin_keeps s.store name a_transaction (thing_of s.store name))
 keeps_or s (View name) sound = inl (begin_keeps s.store name a_view (thing_of s.store name))
 keeps_or s (Get name key) sound = inl (get_keeps s.store name answer_of key (thing_of s.store name))
@@ -49,8 +55,10 @@ keeps_or s (Delete name key) sound = inl (write_keeps s.store name key Deleted (
 keeps_or s (Drop name) sound = inl (drop_keeps s.store name (thing_of s.store name) (only_readers s.store sound name))
 keeps_or s (Commit name) sound = elim (commit_or s.store name (thing_of s.store name)) [
   | inl keeps ↦ inl keeps.0
-  | inr (t, b, is, adds) ↦ inr (t, b, name, refl, is, adds)
+  | inr (t, b, is, adds) ↦ inr (inl (t, b, name, refl, is, adds))
 ]
+keeps_or s Rotate sound = inr (inr (record { is = inl refl; commits = refl; things = refl }))
+keeps_or s Flush sound = inr (inr (record { is = inr refl; commits = refl; things = refl }))
 
 -- ---- what is read is explained
 
@@ -73,10 +81,16 @@ kept_sound s line sound commits things = record {
 stays_sound : (s : State) (line : Line) (sound : IsSound s) → Stays s.store sound (step_to s line) → IsSound (state_after s line)
 stays_sound s line sound stays = kept_sound s line sound stays.commits stays.things
 
-commit_sound : (s : State) (name : Name) → IsSound s → Keeps s.store (step_to s (Commit name)) ⊎ Committing s (Commit name)
+commit_sound : (s : State) (name : Name) → IsSound s
+    → Keeps s.store (step_to s (Commit name)) ⊎ (Committing s (Commit name) ⊎ Stepping s (Commit name))
     → IsSound (state_after s (Commit name))
 commit_sound s name sound (inl keeps) = kept_sound s (Commit name) sound keeps.commits (commit_stays s.store sound name (thing_of s.store name))
-commit_sound s name sound (inr (t, b, other, same, is, adds)) = record {
+commit_sound s name sound (inr (inr steps)) = absurd (no_step steps.is)
+  where
+    no_step : (Commit name ≡ Rotate) ⊎ (Commit name ≡ Flush) → ⊥
+    no_step (inl e) = cc
+    no_step (inr e) = cc
+commit_sound s name sound (inr (inl (t, b, other, same, is, adds))) = record {
   proper = step_proper s.store sound.proper (asked (Commit name));
   things = subst (λ (p : Commits). AllSound (history_in p) (step_to s (Commit name)).state.things) (sym adds.commits)
       (later_things s.store sound t (step_to s (Commit name)).state.things (commit_stays s.store sound name (thing_of s.store name)));
@@ -98,6 +112,8 @@ state_after-sound s (Delete name key) sound =
     stays_sound s (Delete name key) sound (write_stays s.store sound name key Deleted (thing_of s.store name) refl)
 state_after-sound s (Drop name) sound = stays_sound s (Drop name) sound (drop_stays s.store sound name (thing_of s.store name) refl)
 state_after-sound s (Commit name) sound = commit_sound s name sound (keeps_or s (Commit name) sound)
+state_after-sound s Rotate sound = kept_sound s Rotate sound refl sound.things
+state_after-sound s Flush sound = kept_sound s Flush sound refl sound.things
 
 -- a commit that is answered by a number adds what its transaction wrote
 adds_of : (s : State) (name : Name) (t : Transaction) (b : Beginning) (n : ℕ) → thing_of s.store name ≡ Some (ATransaction t b)
@@ -121,6 +137,8 @@ exchange_explained stay s (SetTagged name key value tag) sound = tt
 exchange_explained stay s (Set name key value) sound = tt
 exchange_explained stay s (Delete name key) sound = tt
 exchange_explained stay s (Drop name) sound = tt
+exchange_explained stay s Rotate sound = tt
+exchange_explained stay s Flush sound = tt
 exchange_explained stay s (Commit name) sound = λ t b n is e. commit_explained s.store sound stay name t b n (thing_of s.store name) is is (adds_of s name t b n is e) e
 
 exchanges_behind : StaysExplained → (s : State) (texts : List (List ℕ)) (o : Option Line) → IsSound s

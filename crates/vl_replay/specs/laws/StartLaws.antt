@@ -14,17 +14,16 @@ use Rattle.vl_disk.specs.declared.name.Name.{Name}
 use Rattle.vl_disk.specs.declared.name.Name.TheVariants.{Log, Manifest, Table}
 use Rattle.vl_disk.specs.declared.watched.Watched.{Ghosts}
 use Rattle.vl_engine.specs.Files.{found_levels}
-use Rattle.vl_engine.specs.Opening.{IsDurable, recovered, state_then}
+use Rattle.vl_engine.specs.Opening.{IsDurable, recovered}
 use Rattle.vl_engine.specs.Pointed.{stored_among}
 use Rattle.vl_engine.specs.Reopened.{reopened}
-use Rattle.vl_engine.specs.Shown.{EntriesShow, Shown, entries_among, logs_entries, tables_among}
+use Rattle.vl_engine.specs.Shown.{EntriesShow, Shown, entries_among, logs_entries}
 use Rattle.vl_engine.specs.laws.HeldLaws.{has_stays, held_durable, held_opens_again}
 use Rattle.vl_engine.specs.laws.ReopenedShown.{entries_show_reopened, none_show}
 use Rattle.vl_layout.specs.Start.{layout_at_start, no_tables}
 use Rattle.vl_layout.specs.Store.Commits.{AreProper, Changes, Commits, history_in}
 use Rattle.vl_layout.specs.Store.Dispatch.{new_store}
-use Rattle.vl_manifest.specs.Manifest.{manifest_bytes}
-use Rattle.vl_manifest.specs.States.{fresh_state, whole_edits}
+use Rattle.vl_manifest.specs.States.{fresh_state}
 use Rattle.vl_model.specs.History.{History, Past, last_number, no_history}
 use Rattle.vl_model.specs.Keys.{Writes, key_cmp}
 use Rattle.vl_model.specs.Limits.{max_commit_number, max_room}
@@ -38,7 +37,7 @@ use Rattle.vl_recover.specs.laws.repairing.StageLaws.{ok_same}
 use Rattle.vl_recover.specs.opening.Opening.{Bare, IsAmong, Opening, Opens, Refusal, led_into}
 use Rattle.vl_recover.specs.opening.Plans.{active_log, new_state}
 use Rattle.vl_replay.specs.Sequential.{State, history_of}
-use Rattle.vl_replay.specs.Start.{OpensUpTo, StartsIn, file_then}
+use Rattle.vl_replay.specs.Start.{OpensUpTo, StartsIn}
 use Rattle.vl_replay.specs.Stopped.{AreNumberedUpTo}
 use Rattle.vl_replay.specs.Stored.{IsStored}
 use Rattle.vl_replay.specs.laws.Untabled.{in_levels, led_nowhere, none_named}
@@ -48,16 +47,7 @@ use Rattle.vl_replay.specs.laws.Untabled.{in_levels, led_nowhere, none_named}
 -- the state without commits, of which the disk was asked for so many changing calls, and the manifest and the log have
 -- number 1
 abbrev pub empty_store : ℕ → State
-empty_store calls = record {
-  store = new_store max_room;
-  manifest = new_state (record { log = 0; table = 0; manifest = 0 }) fresh_state;
-  manifest_file = record {
-    number = 1;
-    length = length (manifest_bytes 1 (whole_edits (new_state (record { log = 0; table = 0; manifest = 0 }) fresh_state) ∷ []));
-  };
-  calls = calls;
-  files = 1;
-}
+empty_store calls = record { store = new_store max_room; calls = calls; files = 1 }
 
 pub none_some : {X : Type 0} (x : X) → None ≡ Some x → ⊥
 none_some x e = cc
@@ -192,14 +182,11 @@ starts_bare g disk state files told bare some numbered = record {
       (sym no_commits) (ap last_number (sym no_commits)) shown_nothing;
   proper = record { numbers = tt; base = tt; commits = tt };
   layout = refl;
-  untabled = refl;
-  manifest = refl;
-  manifest_file = refl;
   things = refl;
   strays = [];
   are_strays = no_strays finds_nothing.opening;
   calls = refl;
-  files = record { numbered = numbered; manifest = some; log = some; next = omega (arith, some) };
+  files = record { numbered = numbered; manifest = some; log = some; next = record { log = omega (arith, some); table = omega (arith, some) } };
 }
 
 -- so also where nothing ever stood
@@ -292,8 +279,6 @@ reopened_store found h m shown calls files = record {
     layout = layout_at_start max_room (recovered found (shown_again h m shown));
     things = [];
   };
-  manifest = state_then found;
-  manifest_file = file_then found;
   calls = calls;
   files = files;
 }
@@ -302,8 +287,9 @@ reopened_store found h m shown calls files = record {
 pub opens_up_to : {read : Image} (disk : DiskState) (found : Finds read) → IsLawful disk → (files : ℕ) × OpensUpTo files disk found
 opens_up_to disk found lawful =
     let active : ℕ = active_log found.greatest found.opening.state found.logs in
-    let next : ℕ = (new_state found.greatest found.opening.state).next_log in (
-      2 ^ 32 + (found.greatest.manifest + 1) + active + next,
+    let next : ℕ = (new_state found.greatest found.opening.state).next_log in
+    let table : ℕ = (new_state found.greatest found.opening.state).next_table in (
+      2 ^ 32 + (found.greatest.manifest + 1) + active + next + table,
       record {
         numbered = record {
           standing = λ name there. of name (get disk.standing name) there (lawful.numbered name);
@@ -311,23 +297,22 @@ opens_up_to disk found lawful =
         };
         manifest = omega arith;
         log = omega arith;
-        next = omega arith;
+        next = record { log = omega arith; table = omega arith };
       },
     )
   where
     of : (name : Name) (o : Option File) → o ≢ None → ((file : File) → o ≡ Some file → IsNumbered name)
         → file_number name ≤ 2 ^ 32 + (found.greatest.manifest + 1) + active_log found.greatest found.opening.state found.logs + (new_state found.greatest found.opening.state).next_log
+        + (new_state found.greatest found.opening.state).next_table
     of name None some is = absurd (some refl)
     of name (Some file) some is = omega (arith, (is file refl).1)
 
--- A run over a disk whose reads show a history at a number, without tables, as whatever a run left does, begins with what the
--- history has there.
+-- A run over a disk whose reads show a history at a number, as whatever a run left does, begins with what the history has there.
 pub starts_shown : {D : Type 0} (g : Ghosts D) (disk : D) (state : DiskState) (read : Image) (found : Finds read)
     (strays : List Name) (h : History) (m files : ℕ) → g.told disk ≡ Some state → IsRead read state → used_up found ≡ None
-    → AreStrayNames read found.opening strays → (shown : Shown read h m) → tables_among shown.levels ≡ []
-    → OpensUpTo files state found
+    → AreStrayNames read found.opening strays → (shown : Shown read h m) → OpensUpTo files state found
     → StartsIn g disk (reopened_store found h m shown (after_calls (calls_to_open found (length strays)) (g.calls disk)) files)
-starts_shown g disk state read found strays h m files told is_read left are_strays shown untabled up_to = record {
+starts_shown g disk state read found strays h m files told is_read left are_strays shown up_to = record {
   state = state;
   told = told;
   read = read;
@@ -337,9 +322,6 @@ starts_shown g disk state read found strays h m files told is_read left are_stra
   shown = shown_again h m shown;
   proper = plain_proper (reopened h m);
   layout = refl;
-  untabled = untabled;
-  manifest = refl;
-  manifest_file = refl;
   things = refl;
   strays = strays;
   are_strays = are_strays;

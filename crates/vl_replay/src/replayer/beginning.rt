@@ -15,8 +15,8 @@ use vl_script::{Answer, Ident};
 impl<D: Disk> Replayer<D> {
     /// Begins a transaction of this name.
     pub(super) fn begin(&mut self, name: Ident) -> Result<Answer, Halt>
-        ensures makes { (s : State) → StandsFor D.Held.bytes self.old s
-            → MakesStep D.Held.bytes self.new.engine.core self.new.opens.items s
+        ensures makes { (s : State) → StandsFor D.Watched D.Held.bytes self.old s
+            → MakesStep D.Held.bytes (D.told self.new.engine.disk) self.new.engine.core self.new.opens.items s
             (begin_as s.store name a_transaction (thing_of s.store name)) result }
         ensures fails { OnlyNoMemory result }
         ensures disk { self.new.engine.disk ≡ self.old.engine.disk }
@@ -38,8 +38,8 @@ impl<D: Disk> Replayer<D> {
 
     /// Begins a view of this name.
     pub(super) fn view(&mut self, name: Ident) -> Result<Answer, Halt>
-        ensures makes { (s : State) → StandsFor D.Held.bytes self.old s
-            → MakesStep D.Held.bytes self.new.engine.core self.new.opens.items s
+        ensures makes { (s : State) → StandsFor D.Watched D.Held.bytes self.old s
+            → MakesStep D.Held.bytes (D.told self.new.engine.disk) self.new.engine.core self.new.opens.items s
             (begin_as s.store name a_view (thing_of s.store name)) result }
         ensures fails { OnlyNoMemory result }
         ensures disk { self.new.engine.disk ≡ self.old.engine.disk }

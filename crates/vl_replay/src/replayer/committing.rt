@@ -24,15 +24,15 @@ use vl_script::{Answer, Ident};
 impl<D: Disk> Replayer<D> {
     /// Makes the transaction of this name the next commit. Where it lives on it keeps its name.
     pub(super) fn commit(&mut self, name: Ident) -> Result<Answer, Halt>
-        ensures makes { (s : State) → StandsFor D.Held.bytes self.old s
-            → MakesStep D.Held.bytes self.new.engine.core self.new.opens.items s
+        ensures makes { (s : State) → StandsFor D.Watched D.Held.bytes self.old s
+            → MakesStep D.Held.bytes (D.told self.new.engine.disk) self.new.engine.core self.new.opens.items s
             (commit_by s.store name (thing_of s.store name)) result }
-        ensures carries { (s : State) → StandsFor D.Held.bytes self.old s
+        ensures carries { (s : State) → StandsFor D.Watched D.Held.bytes self.old s
             → CarriesOut D.Watched IsStored Shown IsStopped self.old.engine.disk self.new.engine.disk s
             (state_by s (commit_by s.store name (thing_of s.store name))) result }
-        ensures sound { (s : State) → StandsFor D.Held.bytes self.old s → HaltsByRead result → ⊥ }
+        ensures sound { (s : State) → StandsFor D.Watched D.Held.bytes self.old s → HaltsByRead result → ⊥ }
         ensures cause { HasCause (D.faults self.old.engine.disk) (D.faults self.new.engine.disk) (HaltsByDisk result) }
-        ensures named { (s : State) (file : Name) → StandsFor D.Held.bytes self.old s
+        ensures named { (s : State) (file : Name) → StandsFor D.Watched D.Held.bytes self.old s
             → result ≡ Err (halts.Disk file) → file ≡ names.Log s.store.layout.active.number }
         ensures halted { self.new.halted ≡ self.old.halted }
     {

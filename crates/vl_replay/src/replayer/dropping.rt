@@ -13,8 +13,8 @@ use vl_script::{Answer, Ident};
 impl<D: Disk> Replayer<D> {
     /// Ends what the name stands for, and nothing of it stays.
     pub(super) fn end(&mut self, name: Ident) -> Answer
-        ensures makes { (s : State) → StandsFor D.Held.bytes self.old s
-            → MakesStep D.Held.bytes self.new.engine.core self.new.opens.items s
+        ensures makes { (s : State) → StandsFor D.Watched D.Held.bytes self.old s
+            → MakesStep D.Held.bytes (D.told self.new.engine.disk) self.new.engine.core self.new.opens.items s
             (drop_by s.store name (thing_of s.store name)) (Ok result) }
         ensures disk { self.new.engine.disk ≡ self.old.engine.disk }
         ensures halted { self.new.halted ≡ self.old.halted }

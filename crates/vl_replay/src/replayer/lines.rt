@@ -2,11 +2,11 @@
 ghost use Rattle.std.specs.Prelude.{◌≡◌, Err, IfOk, OnOk, Some};
 ghost use Rattle.vl_disk.specs.Faults.{HasCause};
 ghost use Rattle.vl_disk.specs.declared.name.Name.{Name};
-ghost use Rattle.vl_disk.specs.declared.name.Name.TheVariants as names;
 ghost use Rattle.vl_replay.specs.Asking.{AsksForRow};
 ghost use Rattle.vl_engine.specs.Shown.{Shown};
 ghost use Rattle.vl_replay.specs.Durable.{CarriesOut};
-ghost use Rattle.vl_replay.specs.Halts.{HaltsByDisk, HaltsByRead};
+ghost use Rattle.vl_replay.specs.Failing.{FailsAt, ReadsTables};
+ghost use Rattle.vl_replay.specs.Halts.{HaltsByDamage, HaltsByDisk, HaltsByRead};
 ghost use Rattle.vl_replay.specs.Replaying.{MakesStep, StandsFor, TakesLines, disk_of};
 ghost use Rattle.vl_replay.specs.Sequential.{IsTold, State, answer_to, state_after, step_to};
 ghost use Rattle.vl_replay.specs.Stored.{IsStopped, IsStored};
@@ -22,10 +22,10 @@ impl<D: Disk> Replayer<D> {
     /// Answers a line. A line that is given no answer is the last one: each line behind it is halted as it was.
     pub fn line(&mut self, line: Line) -> Result<Answer, Halt>
         requires rows { AsksForRow line }
-        ensures answer { (s : State) → StandsFor D.Held.bytes self.old s
+        ensures answer { (s : State) → StandsFor D.Watched D.Held.bytes self.old s
             → IfOk result (λ answer. IsTold answer (answer_to s line)) }
-        ensures after { (s : State) → StandsFor D.Held.bytes self.old s
-            → OnOk result (StandsFor D.Held.bytes self.new (state_after s line)) }
+        ensures after { (s : State) → StandsFor D.Watched D.Held.bytes self.old s
+            → OnOk result (StandsFor D.Watched D.Held.bytes self.new (state_after s line)) }
 
         // A halt stays: each line behind it is halted so too, and changes nothing.
         ensures halts { (halt : Halts) → result ≡ Err halt → self.new.halted ≡ Some halt }
@@ -34,16 +34,20 @@ impl<D: Disk> Replayer<D> {
             → (result ≡ Err halt) × (self.new ≡ self.old) }
 
         // Over a disk that holds the state: where there is an answer it holds the state behind the line, in which a commit has
-        // made two calls and its log is longer by a frame. However the line ends, a store may be opened on the disk again.
-        ensures carries { TakesLines self.old → (s : State) → StandsFor D.Held.bytes self.old s
+        // made two calls and its log is longer by a frame, a rotation three for a new log, and a flush five for a table and a
+        // longer manifest. However the line ends, a store may be opened on the disk again.
+        ensures carries { TakesLines self.old → (s : State) → StandsFor D.Watched D.Held.bytes self.old s
             → CarriesOut D.Watched IsStored Shown IsStopped (disk_of self.old) (disk_of self.new) s (state_after s line) result }
 
-        // What the store has can be read.
-        ensures sound { TakesLines self.old → (s : State) → StandsFor D.Held.bytes self.old s → HaltsByRead result → ⊥ }
+        // What the store has isn't damaged, and can be read without its reader unless it has tables.
+        ensures sound { TakesLines self.old → (s : State) → StandsFor D.Watched D.Held.bytes self.old s
+            → HaltsByRead result → ReadsTables line s }
+        ensures undamaged { TakesLines self.old → (s : State) → StandsFor D.Watched D.Held.bytes self.old s
+            → HaltsByDamage result → ⊥ }
         ensures cause { TakesLines self.old
             → HasCause (D.faults (disk_of self.old)) (D.faults (disk_of self.new)) (HaltsByDisk result) }
-        ensures named { (s : State) (name : Name) → TakesLines self.old → StandsFor D.Held.bytes self.old s
-            → result ≡ Err (halts.Disk name) → name ≡ names.Log s.store.layout.active.number }
+        ensures named { (s : State) (name : Name) → TakesLines self.old → StandsFor D.Watched D.Held.bytes self.old s
+            → result ≡ Err (halts.Disk name) → FailsAt self.old.engine.core.back.manifest.number line s name }
     {
         if let Some(halt) = self.halted {
             return Err(halt);
@@ -60,14 +64,15 @@ impl<D: Disk> Replayer<D> {
     // Carries a line out, by what it asks for.
     fn carry_out(&mut self, line: Line) -> Result<Answer, Halt>
         requires { AsksForRow line }
-        ensures makes { (s : State) → StandsFor D.Held.bytes self.old s
-            → MakesStep D.Held.bytes self.new.engine.core self.new.opens.items s (step_to s line) result }
-        ensures carries { (s : State) → StandsFor D.Held.bytes self.old s
+        ensures makes { (s : State) → StandsFor D.Watched D.Held.bytes self.old s
+            → MakesStep D.Held.bytes (D.told self.new.engine.disk) self.new.engine.core self.new.opens.items s (step_to s line) result }
+        ensures carries { (s : State) → StandsFor D.Watched D.Held.bytes self.old s
             → CarriesOut D.Watched IsStored Shown IsStopped (disk_of self.old) (disk_of self.new) s (state_after s line) result }
-        ensures sound { (s : State) → StandsFor D.Held.bytes self.old s → HaltsByRead result → ⊥ }
+        ensures sound { (s : State) → StandsFor D.Watched D.Held.bytes self.old s → HaltsByRead result → ReadsTables line s }
+        ensures undamaged { (s : State) → StandsFor D.Watched D.Held.bytes self.old s → HaltsByDamage result → ⊥ }
         ensures cause { HasCause (D.faults (disk_of self.old)) (D.faults (disk_of self.new)) (HaltsByDisk result) }
-        ensures named { (s : State) (name : Name) → StandsFor D.Held.bytes self.old s
-            → result ≡ Err (halts.Disk name) → name ≡ names.Log s.store.layout.active.number }
+        ensures named { (s : State) (name : Name) → StandsFor D.Watched D.Held.bytes self.old s
+            → result ≡ Err (halts.Disk name) → FailsAt self.old.engine.core.back.manifest.number line s name }
         ensures halted { self.new.halted ≡ self.old.halted }
     {
         match line {
@@ -92,6 +97,8 @@ impl<D: Disk> Replayer<D> {
             } => self.scan(name, low, high, limit, way),
             Line::Commit { name } => self.commit(name),
             Line::Drop { name } => Ok(self.end(name)),
+            Line::Rotate => self.rotate(),
+            Line::Flush => self.flush(),
         }
     }
 

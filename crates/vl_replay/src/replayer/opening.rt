@@ -30,7 +30,7 @@ impl<D: Disk> Replayer<D> {
     pub fn new(alloc: Global, disk: D) -> Result<Self, OpenFail<D, D::Reader>>
         // It stands for the store that the disk opens as, and the disk holds it.
         ensures store { (s : State) → StartsIn D.Watched disk s
-            → IfOk result (λ replayer. StandsFor D.Held.bytes replayer s) }
+            → IfOk result (λ replayer. StandsFor D.Watched D.Held.bytes replayer s) }
         ensures goes_on { IfOk result TakesLines }
         ensures holds { (s : State) → StartsIn D.Watched disk s → Tells D.Watched disk MayOpen
             → IfOk result (λ replayer. HoldsState D.Watched IsStored s (disk_of replayer)) }

@@ -1,8 +1,9 @@
 //! Reads through a name.
-ghost use Rattle.std.specs.Prelude.{◌≡◌, ◌≤◌};
+ghost use Rattle.std.specs.Prelude.{◌≡◌, ◌≤◌, []};
+ghost use Rattle.vl_layout.specs.Sources.{tables};
 ghost use Rattle.vl_layout.specs.Store.Reading.{get_by, scan_by};
 ghost use Rattle.vl_layout.specs.Store.Things.{thing_of};
-ghost use Rattle.vl_replay.specs.Halts.{HaltsByDisk};
+ghost use Rattle.vl_replay.specs.Halts.{HaltsByDamage, HaltsByDisk};
 ghost use Rattle.vl_replay.specs.Replaying.{MakesStep, OnlyNoMemory, StandsFor};
 ghost use Rattle.vl_replay.specs.Sequential.{State};
 ghost use Rattle.vl_replay.specs.Standing.{tell_of, told_by, told_value};
@@ -19,10 +20,11 @@ use vl_script::{Answer, Ident};
 impl<D: Disk> Replayer<D> {
     /// Reads a key, and tells its value with its tag or without.
     pub(super) fn read(&mut self, name: Ident, key: Bytes, with_tag: bool) -> Result<Answer, Halt>
-        ensures makes { (s : State) → StandsFor D.Held.bytes self.old s
-            → MakesStep D.Held.bytes self.new.engine.core self.new.opens.items s
+        ensures makes { (s : State) → StandsFor D.Watched D.Held.bytes self.old s
+            → MakesStep D.Held.bytes (D.told self.new.engine.disk) self.new.engine.core self.new.opens.items s
             (get_by s.store name (tell_of with_tag) key (thing_of s.store name)) result }
-        ensures sound { (s : State) → StandsFor D.Held.bytes self.old s → OnlyNoMemory result }
+        ensures near { (s : State) → StandsFor D.Watched D.Held.bytes self.old s → tables s.store.layout ≡ [] → OnlyNoMemory result }
+        ensures undamaged { (s : State) → StandsFor D.Watched D.Held.bytes self.old s → HaltsByDamage result → ⊥ }
         ensures not_the_disk { HaltsByDisk result → ⊥ }
         ensures engine { self.new.engine ≡ self.old.engine }
         ensures halted { self.new.halted ≡ self.old.halted }
@@ -46,10 +48,11 @@ impl<D: Disk> Replayer<D> {
         way: Way,
     ) -> Result<Answer, Halt>
         requires { 1 ≤ limit }
-        ensures makes { (s : State) → StandsFor D.Held.bytes self.old s
-            → MakesStep D.Held.bytes self.new.engine.core self.new.opens.items s
+        ensures makes { (s : State) → StandsFor D.Watched D.Held.bytes self.old s
+            → MakesStep D.Held.bytes (D.told self.new.engine.disk) self.new.engine.core self.new.opens.items s
             (scan_by s.store way name low high limit (thing_of s.store name)) result }
-        ensures sound { (s : State) → StandsFor D.Held.bytes self.old s → OnlyNoMemory result }
+        ensures near { (s : State) → StandsFor D.Watched D.Held.bytes self.old s → tables s.store.layout ≡ [] → OnlyNoMemory result }
+        ensures undamaged { (s : State) → StandsFor D.Watched D.Held.bytes self.old s → HaltsByDamage result → ⊥ }
         ensures not_the_disk { HaltsByDisk result → ⊥ }
         ensures engine { self.new.engine ≡ self.old.engine }
         ensures halted { self.new.halted ≡ self.old.halted }

@@ -27,8 +27,8 @@ impl<D: Disk> Replayer<D> {
         key: Bytes,
         value: Option<(Bytes, u8)>,
     ) -> Result<Answer, Halt>
-        ensures makes { (s : State) → StandsFor D.Held.bytes self.old s
-            → MakesStep D.Held.bytes self.new.engine.core self.new.opens.items s
+        ensures makes { (s : State) → StandsFor D.Watched D.Held.bytes self.old s
+            → MakesStep D.Held.bytes (D.told self.new.engine.disk) self.new.engine.core self.new.opens.items s
             (write_by s.store name key (change_of value) (thing_of s.store name)) result }
         ensures fails { OnlyNoMemory result }
         ensures engine { self.new.engine ≡ self.old.engine }

@@ -1,10 +1,12 @@
 use Rattle.std.proofs.Common.{refl, sym, ◌∙◌}
 use Rattle.std.specs.Prelude.{[]}
 use Rattle.vl_engine.proofs.Committing.{carries_unwritten, decides_leaving}
+use Rattle.vl_engine.proofs.Fitted.{written_by}
 use Rattle.vl_engine.proofs.Ruled.{carries_by, carries_refused_by, decides_by, failed_by, files_by, no_conflict_by, ruling_so, stands_by, stops_by, unwritten_here}
 use Rattle.vl_engine.proofs.Untouched.{alone}
 use Rattle.vl_engine.proofs.engine.Engine.commit.Goals as goal
 use Rattle.vl_engine.specs.Represents.{Fronts, StandsFor, file_of}
+use Rattle.vl_engine.specs.Stepping.{Fits}
 use Rattle.vl_front.specs.declared.decision.Decision.TheVariants as decisions
 use Rattle.vl_layout.specs.Ruling.{ended}
 use Rattle.vl_layout.specs.Rulings.Commit as answers
@@ -32,6 +34,13 @@ returns-in-Halted-clause-stands g c h l reads is lives notes =
     (λ floor remembers below. sym c.in-Halted.is ∙ c.in-Ok.ensures.decided h floor reads remembers below notes))
     (c.end.ensures.stands h l is)
 
+pub returns-in-Halted-clause-fits : goal.returns-in-Halted-clause-fits
+returns-in-Halted-clause-fits g c h l reads is fits lives notes =
+    decides_leaving (Fits (g.D.Watched.told c.end.new.self.disk) c.end.new.self.core) h l _ _ (answers.Halted (file_of c.in-Halted.name)) (ended c.args.txn.ticket l)
+    (ruling_so c.args.self.now.core h l is.fronts c.args.txn.ticket c.args.txn.number reads c.args.txn.writes (decisions.Halted c.in-Halted.name) lives
+    (λ floor remembers below. sym c.in-Halted.is ∙ c.in-Ok.ensures.decided h floor reads remembers below notes))
+    (c.end.ensures.fits h l fits)
+
 pub returns-in-Halted-clause-carries : goal.returns-in-Halted-clause-carries
 returns-in-Halted-clause-carries g c h l reads is lives notes =
     carries_refused_by g.D.Watched (record { only_now = g.met.D.Disk.only_now; counts_now = g.met.D.Disk.counts_now })
@@ -54,6 +63,13 @@ returns-in-Nothing-clause-stands g c h l reads is lives notes =
     (ruling_so c.args.self.now.core h l is.fronts c.args.txn.ticket c.args.txn.number reads c.args.txn.writes decisions.Nothing lives
     (λ floor remembers below. sym c.in-Nothing.is ∙ c.in-Ok.ensures.decided h floor reads remembers below notes))
     (c.end-in-Nothing.ensures.stands h l is)
+
+pub returns-in-Nothing-clause-fits : goal.returns-in-Nothing-clause-fits
+returns-in-Nothing-clause-fits g c h l reads is fits lives notes =
+    decides_leaving (Fits (g.D.Watched.told c.end-in-Nothing.new.self.disk) c.end-in-Nothing.new.self.core) h l _ _ answers.Nothing (ended c.args.txn.ticket l)
+    (ruling_so c.args.self.now.core h l is.fronts c.args.txn.ticket c.args.txn.number reads c.args.txn.writes decisions.Nothing lives
+    (λ floor remembers below. sym c.in-Nothing.is ∙ c.in-Ok.ensures.decided h floor reads remembers below notes))
+    (c.end-in-Nothing.ensures.fits h l fits)
 
 pub returns-in-Nothing-clause-carries : goal.returns-in-Nothing-clause-carries
 returns-in-Nothing-clause-carries g c h l reads is lives notes =
@@ -78,6 +94,13 @@ returns-in-Exhausted-clause-stands g c h l reads is lives notes =
     (λ floor remembers below. sym c.in-Exhausted.is ∙ c.in-Ok.ensures.decided h floor reads remembers below notes))
     is
 
+pub returns-in-Exhausted-clause-fits : goal.returns-in-Exhausted-clause-fits
+returns-in-Exhausted-clause-fits g c h l reads is fits lives notes =
+    decides_leaving (Fits (g.D.Watched.told c.args.self.now.disk) c.args.self.now.core) h l _ _ (answers.Exhausted counters.Commit) l
+    (ruling_so c.args.self.now.core h l is.fronts c.args.txn.ticket c.args.txn.number reads c.args.txn.writes decisions.Exhausted lives
+    (λ floor remembers below. sym c.in-Exhausted.is ∙ c.in-Ok.ensures.decided h floor reads remembers below notes))
+    fits
+
 pub returns-in-Exhausted-clause-carries : goal.returns-in-Exhausted-clause-carries
 returns-in-Exhausted-clause-carries g c h l reads is lives notes =
     carries_refused_by g.D.Watched (record { only_now = g.met.D.Disk.only_now; counts_now = g.met.D.Disk.counts_now })
@@ -101,6 +124,13 @@ returns-in-Conflict-clause-stands g c h l reads is lives notes =
     (λ floor remembers below. sym c.in-Conflict.is ∙ c.in-Ok.ensures.decided h floor reads remembers below notes))
     (c.end-in-Conflict.ensures.stands h l is)
 
+pub returns-in-Conflict-clause-fits : goal.returns-in-Conflict-clause-fits
+returns-in-Conflict-clause-fits g c h l reads is fits lives notes =
+    decides_leaving (Fits (g.D.Watched.told c.end-in-Conflict.new.self.disk) c.end-in-Conflict.new.self.core) h l _ _ (answers.Conflict c.in-Conflict.key c.in-Conflict.number) (ended c.args.txn.ticket l)
+    (ruling_so c.args.self.now.core h l is.fronts c.args.txn.ticket c.args.txn.number reads c.args.txn.writes (decisions.Conflict c.in-Conflict.key c.in-Conflict.number) lives
+    (λ floor remembers below. sym c.in-Conflict.is ∙ c.in-Ok.ensures.decided h floor reads remembers below notes))
+    (c.end-in-Conflict.ensures.fits h l fits)
+
 pub returns-in-Conflict-clause-carries : goal.returns-in-Conflict-clause-carries
 returns-in-Conflict-clause-carries g c h l reads is lives notes =
     carries_refused_by g.D.Watched (record { only_now = g.met.D.Disk.only_now; counts_now = g.met.D.Disk.counts_now })
@@ -123,6 +153,13 @@ returns-in-Full-clause-stands g c h l reads is lives notes =
     (ruling_so c.args.self.now.core h l is.fronts c.args.txn.ticket c.args.txn.number reads c.args.txn.writes (decisions.Full c.in-Full.length c.in-Full.frame) lives
     (λ floor remembers below. sym c.in-Full.is ∙ c.in-Ok.ensures.decided h floor reads remembers below notes))
     is
+
+pub returns-in-Full-clause-fits : goal.returns-in-Full-clause-fits
+returns-in-Full-clause-fits g c h l reads is fits lives notes =
+    decides_leaving (Fits (g.D.Watched.told c.args.self.now.disk) c.args.self.now.core) h l _ _ (answers.Full c.in-Full.length c.in-Full.frame) l
+    (ruling_so c.args.self.now.core h l is.fronts c.args.txn.ticket c.args.txn.number reads c.args.txn.writes (decisions.Full c.in-Full.length c.in-Full.frame) lives
+    (λ floor remembers below. sym c.in-Full.is ∙ c.in-Ok.ensures.decided h floor reads remembers below notes))
+    fits
 
 pub returns-in-Full-clause-carries : goal.returns-in-Full-clause-carries
 returns-in-Full-clause-carries g c h l reads is lives notes =
@@ -150,6 +187,14 @@ returns-in-Write-clause-stands g c h l reads is lives notes =
     (ruling_so c.args.self.now.core h l is.fronts c.args.txn.ticket c.args.txn.number reads c.args.txn.writes decisions.Write lives
     (λ floor remembers below. sym c.in-Write.is ∙ c.in-Ok.ensures.decided h floor reads remembers below notes))
     c.write.result c.write.ensures.as_written is
+
+pub returns-in-Write-clause-fits : goal.returns-in-Write-clause-fits
+returns-in-Write-clause-fits g c h l reads is fits lives notes =
+    written_by g.D.Watched g.D.Held.HeldFile.bytes c.args.self.now.disk c.write.new.self.disk c.args.self.now.core
+    c.write.new.self.core h l c.args.txn.ticket c.args.txn.number reads c.args.txn.writes c.write.ensures.steps
+    (ruling_so c.args.self.now.core h l is.fronts c.args.txn.ticket c.args.txn.number reads c.args.txn.writes decisions.Write lives
+    (λ floor remembers below. sym c.in-Write.is ∙ c.in-Ok.ensures.decided h floor reads remembers below notes))
+    c.args.self.now.ready is fits c.write.result c.write.ensures.as_written
 
 pub returns-in-Write-clause-carries : goal.returns-in-Write-clause-carries
 returns-in-Write-clause-carries g c h l reads is lives notes =

@@ -4,6 +4,7 @@ use Rattle.std.specs.Prelude.{◌==◌}
 use Rattle.vl_engine.proofs.Knowing.{knows_of}
 use Rattle.vl_engine.proofs.Represented.{represents_live}
 use Rattle.vl_engine.proofs.Standing.{fronts_ended, stands_ended}
+use Rattle.vl_engine.proofs.Stepped.{fits_live}
 use Rattle.vl_layout.specs.declared.live.Live.{Live}
 use Rattle.vl_engine.proofs.engine.Engine.end.Goals as goal
 
@@ -20,3 +21,7 @@ pub returns-clause-represents : goal.returns-clause-represents
 returns-clause-represents g c h l is =
     represents_live g.D.Held.HeldFile.bytes c.args.self.now.core _ h l refl _ _ refl
     (filter (λ (x : Live). not (x.ticket == c.args.ticket)) l.live) is (returns-clause-stands g c h l is.stands)
+
+pub returns-clause-fits : goal.returns-clause-fits
+returns-clause-fits g c h l fits =
+    fits_live c.args.self.now.core _ h l _ _ refl refl (filter (λ (x : Live). not (x.ticket == c.args.ticket)) l.live) fits

@@ -1,11 +1,13 @@
 use Rattle.std.proofs.Common.{arith, refl, sym}
 use Rattle.vl_disk.specs.declared.name.Name.TheVariants as names
 use Rattle.vl_engine.proofs.Committing.{decides_leaving}
+use Rattle.vl_engine.proofs.Fitted.{flushed_by}
 use Rattle.vl_engine.proofs.Flushed.{calls_by, carries_by, carries_leaving_flush, fronts_by, ruled_exhausted, ruled_halted, ruled_idle, runs_on, stands_by, stopped_by, untouched_by, written_by}
 use Rattle.vl_engine.proofs.FlushKeeps.{kept_itself}
 use Rattle.vl_engine.proofs.FlushSteps.{numbers_held}
 use Rattle.vl_engine.proofs.Untouched.{alone}
 use Rattle.vl_engine.specs.Represents.{Fronts, StandsFor, file_of}
+use Rattle.vl_engine.specs.Stepping.{Fits}
 use Rattle.vl_layout.specs.Decides.{as_before}
 use Rattle.vl_layout.specs.Ruling.{Exhausted, Halted, Idle}
 use Rattle.vl_layout.specs.Rulings.Flush.{flush_ruling}
@@ -31,6 +33,12 @@ returns-in-Some-clause-carries g c h l is =
     carries_leaving_flush g.D.Watched (record { only_now = g.met.D.Disk.only_now; counts_now = g.met.D.Disk.counts_now })
     g.D.Held.HeldFile.bytes core h l c.args.self.now.disk (Halted (file_of c.in-Some.name))
     (ruled_halted core h l is.stands.fronts c.in-Some.name c.in-Some.is) is
+
+pub returns-in-Some-clause-fits : goal.returns-in-Some-clause-fits
+returns-in-Some-clause-fits g c h l is fits =
+    let core = c.args.self.now.core in
+    decides_leaving (Fits (g.D.Watched.told c.args.self.now.disk) core) h l (flush_ruling l h) (as_before l l) (Halted (file_of c.in-Some.name)) l
+    (ruled_halted core h l is.fronts c.in-Some.name c.in-Some.is) fits
 
 pub returns-in-Some-clause-untouched : goal.returns-in-Some-clause-untouched
 returns-in-Some-clause-untouched g c leaves = alone g.D.Watched _ _ refl
@@ -75,6 +83,13 @@ returns-in-Idle-clause-carries g c h l is =
     g.D.Held.HeldFile.bytes core h l c.args.self.now.disk Idle
     (ruled_idle core h l is.stands.fronts c.in_default.is (numbers_held core.back held.base l held.back_is)
     (sym c.in-Idle.ensures.decided)) is
+
+pub returns-in-Idle-clause-fits : goal.returns-in-Idle-clause-fits
+returns-in-Idle-clause-fits g c h l is fits =
+    let core = c.args.self.now.core in
+    decides_leaving (Fits (g.D.Watched.told c.args.self.now.disk) core) h l (flush_ruling l h) (as_before l l) Idle l
+    (ruled_idle core h l is.fronts c.in_default.is (fits.running (runs_on core h l is.fronts c.in_default.is)).numbers
+    (sym c.in-Idle.ensures.decided)) fits
 
 pub returns-in-Idle-clause-untouched : goal.returns-in-Idle-clause-untouched
 returns-in-Idle-clause-untouched g c leaves = alone g.D.Watched _ _ refl
@@ -122,6 +137,13 @@ returns-in-Exhausted-clause-carries g c h l is =
     (ruled_exhausted core h l is.stands.fronts c.in_default.is (numbers_held core.back held.base l held.back_is)
     c.in-Exhausted.counter (sym c.in-Exhausted.ensures.decided)) is
 
+pub returns-in-Exhausted-clause-fits : goal.returns-in-Exhausted-clause-fits
+returns-in-Exhausted-clause-fits g c h l is fits =
+    let core = c.args.self.now.core in
+    decides_leaving (Fits (g.D.Watched.told c.args.self.now.disk) core) h l (flush_ruling l h) (as_before l l) (Exhausted c.in-Exhausted.counter) l
+    (ruled_exhausted core h l is.fronts c.in_default.is (fits.running (runs_on core h l is.fronts c.in_default.is)).numbers
+    c.in-Exhausted.counter (sym c.in-Exhausted.ensures.decided)) fits
+
 pub returns-in-Exhausted-clause-untouched : goal.returns-in-Exhausted-clause-untouched
 returns-in-Exhausted-clause-untouched g c leaves = alone g.D.Watched _ _ refl
 
@@ -168,6 +190,12 @@ returns-in-Go-clause-carries g c h l is =
     carries_by g.D.Watched g.D.Held.HeldFile.bytes core c.make_table.new.self.core c.args.self.now.disk c.make_table.new.self.disk
     h l c.in_default.is (c.in-Go.ensures.go refl) (sym c.in-Go.ensures.decided)
     (record { only_now = g.met.D.Disk.only_now; counts_now = g.met.D.Disk.counts_now }) is
+    c.make_table.result c.make_table.ensures.as_flushed
+
+pub returns-in-Go-clause-fits : goal.returns-in-Go-clause-fits
+returns-in-Go-clause-fits g c h l is fits =
+    flushed_by g.D.Watched g.D.Held.HeldFile.bytes c.args.self.now.core c.make_table.new.self.core c.args.self.now.disk
+    c.make_table.new.self.disk h l is fits c.in_default.is (c.in-Go.ensures.go refl) (sym c.in-Go.ensures.decided)
     c.make_table.result c.make_table.ensures.as_flushed
 
 pub returns-in-Go-clause-untouched : goal.returns-in-Go-clause-untouched

@@ -1,5 +1,6 @@
 use Rattle.std.proofs.Common.{refl, ap, subst, sym, ◌∙◌}
 use Rattle.std.specs.Prelude.{max}
+use Rattle.vl_engine.proofs.FitsAtStart.{opened_fits}
 use Rattle.vl_engine.proofs.Opened.{opened_back, opened_core, opened_fit, opened_numbered, opened_represents, opened_stands, opening_through, opens_still}
 use Rattle.vl_engine.proofs.engine.Engine.open.Goals as goal
 use Rattle.vl_engine.specs.Known.{are_known}
@@ -223,6 +224,11 @@ returns-clause-represents g c state read found h told may is_read shown =
     (c.in-Ok-recover.ensures.repaired state read told is_read)
     (returns-clause-back g c state read found told is_read) c.in-Ok-recover.ensures.manifest
     (returns-clause-stands g c state read found h told is_read shown)
+
+pub returns-clause-fits : goal.returns-clause-fits
+returns-clause-fits g c state read found h told is_read shown =
+    opened_fits found h shown c.args.room state (g.D.Watched.told c.in-Ok-recover.parts.disk) _ is_read
+    (c.in-Ok-recover.ensures.repaired state read told is_read) (returns-clause-back g c state read found told is_read)
 
 pub returns-clause-through : goal.returns-clause-through
 returns-clause-through g c state read h told durable is_read shown =

@@ -1,5 +1,6 @@
 use Rattle.std.proofs.Common.{arith, refl, subst, sym}
 use Rattle.vl_engine.proofs.Begins.{keeps_told}
+use Rattle.vl_engine.proofs.Fitted.{rotate_refused, rotated_by}
 use Rattle.vl_engine.proofs.RotateSteps.{running_so}
 use Rattle.vl_engine.proofs.Rotated.{calls_by, can_by, carries_as_refused, carries_by, fronts_as_refused, fronts_by, numbers_held, refused_calls, refused_no_disk, stands_as_refused, stands_by, stopped_by, untouched_by}
 use Rattle.vl_engine.proofs.Untouched.{alone}
@@ -23,6 +24,11 @@ pub returns-in-Some-clause-carries : goal.returns-in-Some-clause-carries
 returns-in-Some-clause-carries g c h l is =
     carries_as_refused g.D.Watched (record { only_now = g.met.D.Disk.only_now; counts_now = g.met.D.Disk.counts_now })
     g.D.Held.HeldFile.bytes c.args.self.now.core c.args.self.now.disk h l c.in-Some.answer c.in-Some.ensures.refused is
+
+pub returns-in-Some-clause-fits : goal.returns-in-Some-clause-fits
+returns-in-Some-clause-fits g c h l is fits =
+    rotate_refused g.D.Held.HeldFile.bytes c.args.self.now.core (g.D.Watched.told c.args.self.now.disk) h l c.in-Some.answer
+    c.in-Some.ensures.refused is fits
 
 pub returns-in-Some-clause-untouched : goal.returns-in-Some-clause-untouched
 returns-in-Some-clause-untouched g c leaves = alone g.D.Watched _ _ refl
@@ -80,6 +86,14 @@ returns-in-None-clause-carries g c h l is =
     (can_by core h l is.stands.fronts (numbers_held core.back (g.D.Watched.told c.args.self.now.disk) h l is.held)
     (c.in-None.ensures.may refl))
     (record { only_now = g.met.D.Disk.only_now; counts_now = g.met.D.Disk.counts_now }) is
+    c.begin_log.result c.begin_log.ensures.as_rotated
+
+pub returns-in-None-clause-fits : goal.returns-in-None-clause-fits
+returns-in-None-clause-fits g c h l is fits =
+    let core = c.args.self.now.core in
+    let may = c.in-None.ensures.may refl in
+    rotated_by g.D.Watched g.D.Held.HeldFile.bytes core c.begin_log.new.self.core c.args.self.now.disk c.begin_log.new.self.disk
+    h l is fits (can_by core h l is.fronts (λ running. (fits.running running).numbers) may)
     c.begin_log.result c.begin_log.ensures.as_rotated
 
 pub returns-in-None-clause-untouched : goal.returns-in-None-clause-untouched

@@ -4,6 +4,7 @@ use Rattle.vl_engine.proofs.Fitting.{fit_still}
 use Rattle.vl_engine.proofs.Knowing.{knows_of}
 use Rattle.vl_engine.proofs.Represented.{represents_live}
 use Rattle.vl_engine.proofs.Standing.{fronts_begun, stands_begun}
+use Rattle.vl_engine.proofs.Stepped.{fits_back, fits_live}
 use Rattle.vl_engine.specs.Known.{are_known}
 use Rattle.vl_engine.specs.Reading.{IsInMemory}
 use Rattle.vl_engine.specs.Represents.{Fronts, Represents, StandsFor}
@@ -49,6 +50,15 @@ returns-in-Ok-begin-clause-represents g c h l is =
     (fronts_begun core h l f _ c.in-Ok-begin.ensures.log refl (c.in-Ok-begin.ensures.knows h (knows_of core h l f))
     c.in-Ok-begin.ensures.ok.1 room)))
 
+pub returns-in-Ok-begin-clause-fits : goal.returns-in-Ok-begin-clause-fits
+returns-in-Ok-begin-clause-fits g c h l is fits =
+    let core = c.args.self.now.core in
+    let f = is.fronts in
+    let room = has_room core h l f (λ full. let refused = c.in-Ok-begin.ensures.too_many.1 full in cc) in
+    decides_begun l h _ room _ _ (c.in-Ok-begin.ensures.ok.0 ∙ ticket_is core h l f)
+    (c.last.ensures.last ∙ ap (λ (o : LiveTickets). o.last) c.in-Ok-begin.ensures.ok.1 ∙ f.front.last)
+    (fits_live core _ h l _ _ refl refl (begun l (free_ticket (tickets_of l.live)) (last_number h)).live fits)
+
 pub returns-in-Ok-begin-clause-sees : goal.returns-in-Ok-begin-clause-sees
 returns-in-Ok-begin-clause-sees g c h l is =
     sees_now g.D.Held.HeldFile.bytes c.args.self.now.core h l is _ c.in_ok-version.ensures.shared
@@ -84,6 +94,13 @@ returns-in-Err-clause-represents g c h l is =
     (sym c.in-Err.ensures.err)
     (subst (λ (v : Version g.row.D-Held.Denot). Represents g.D.Held.HeldFile.bytes (record core { version = v }) (g.D.Watched.told c.args.self.now.disk) h l)
     (sym c.share.ensures.same) is))
+
+pub returns-in-Err-clause-fits : goal.returns-in-Err-clause-fits
+returns-in-Err-clause-fits g c h l is fits =
+    let core = c.args.self.now.core in
+    decides_refused l h _ g.row.D-Held.Denot g.row.D-Reader.Denot c.in-Err.why
+    (λ many. is_full core h l is.fronts (c.in-Err.ensures.too_many.0 (cc)))
+    (fits_back core _ h l _ _ refl refl fits)
 
 pub invariant_of-self-2-clause-ready : goal.invariant_of-self-2-clause-ready
 invariant_of-self-2-clause-ready g c state told =

@@ -1,0 +1,78 @@
+//! Rotations and flushes.
+ghost use Rattle.std.specs.Prelude.{◌≡◌, ◌⊎◌, Err};
+ghost use Rattle.vl_disk.specs.Faults.{HasCause};
+ghost use Rattle.vl_disk.specs.declared.name.Name.{Name};
+ghost use Rattle.vl_disk.specs.declared.name.Name.TheVariants as names;
+ghost use Rattle.vl_engine.specs.Shown.{Shown};
+ghost use Rattle.vl_layout.specs.Rulings.Flush.{flush_ruling};
+ghost use Rattle.vl_layout.specs.Rulings.Rotate.{rotate_ruling};
+ghost use Rattle.vl_layout.specs.Store.Dispatch.{step_by};
+ghost use Rattle.vl_replay.specs.Durable.{CarriesOut};
+ghost use Rattle.vl_replay.specs.Halts.{HaltsByDisk, HaltsByRead};
+ghost use Rattle.vl_replay.specs.Replaying.{MakesStep, StandsFor, state_by_step};
+ghost use Rattle.vl_replay.specs.Sequential.{State, history_of};
+ghost use Rattle.vl_replay.specs.Standing.{told_step};
+ghost use Rattle.vl_replay.specs.Stored.{IsStopped, IsStored};
+ghost use Rattle.vl_replay.specs.declared.fails.Halt.TheVariants as halts;
+
+use crate::fails::Halt;
+use crate::replayer::Replayer;
+use vl_disk::Disk;
+use vl_engine::StepFail;
+use vl_script::Answer;
+
+impl<D: Disk> Replayer<D> {
+    /// Seals the log that takes commits and begins a new one, where a commit stands in it.
+    pub(super) fn rotate(&mut self) -> Result<Answer, Halt>
+        ensures makes { (s : State) → StandsFor D.Watched D.Held.bytes self.old s
+            → MakesStep D.Held.bytes (D.told self.new.engine.disk) self.new.engine.core self.new.opens.items s
+            (step_by s.store (rotate_ruling s.store.layout (history_of s))) result }
+        ensures carries { (s : State) → StandsFor D.Watched D.Held.bytes self.old s
+            → CarriesOut D.Watched IsStored Shown IsStopped self.old.engine.disk self.new.engine.disk s
+            (state_by_step s (step_by s.store (rotate_ruling s.store.layout (history_of s)))) result }
+        ensures sound { (s : State) → StandsFor D.Watched D.Held.bytes self.old s → HaltsByRead result → ⊥ }
+        ensures cause { HasCause (D.faults self.old.engine.disk) (D.faults self.new.engine.disk) (HaltsByDisk result) }
+        ensures named { (s : State) (file : Name) → StandsFor D.Watched D.Held.bytes self.old s
+            → result ≡ Err (halts.Disk file)
+            → (file ≡ names.Log s.store.layout.active.number) ⊎ (file ≡ names.Log s.store.layout.next_log) }
+        ensures halted { self.new.halted ≡ self.old.halted }
+    {
+        told(self.engine.rotate())
+    }
+
+    /// Makes a table of the log that was sealed first of those that wait for it, where one does.
+    pub(super) fn flush(&mut self) -> Result<Answer, Halt>
+        ensures makes { (s : State) → StandsFor D.Watched D.Held.bytes self.old s
+            → MakesStep D.Held.bytes (D.told self.new.engine.disk) self.new.engine.core self.new.opens.items s
+            (step_by s.store (flush_ruling s.store.layout (history_of s))) result }
+        ensures carries { (s : State) → StandsFor D.Watched D.Held.bytes self.old s
+            → CarriesOut D.Watched IsStored Shown IsStopped self.old.engine.disk self.new.engine.disk s
+            (state_by_step s (step_by s.store (flush_ruling s.store.layout (history_of s)))) result }
+        ensures sound { (s : State) → StandsFor D.Watched D.Held.bytes self.old s → HaltsByRead result → ⊥ }
+        ensures cause { HasCause (D.faults self.old.engine.disk) (D.faults self.new.engine.disk) (HaltsByDisk result) }
+        ensures named { (s : State) (file : Name) → StandsFor D.Watched D.Held.bytes self.old s
+            → result ≡ Err (halts.Disk file)
+            → (file ≡ names.Table s.store.layout.next_table)
+            ⊎ (file ≡ names.Manifest self.old.engine.core.back.manifest.number) }
+        ensures halted { self.new.halted ≡ self.old.halted }
+    {
+        told(self.engine.flush())
+    }
+}
+
+// How a step on files is answered.
+fn told(stepped: Result<Option<u32>, StepFail>) -> Result<Answer, Halt>
+    ensures { result ≡ told_step stepped }
+{
+    match stepped {
+        Ok(Some(number)) => Ok(Answer::Number {
+            number: u64::from(number),
+        }),
+        Ok(None) => Ok(Answer::Idle),
+        Err(StepFail::Exhausted(counter)) => Ok(Answer::Exhausted { counter }),
+        Err(StepFail::NoMemory) => Err(Halt::NoMemory),
+        Err(StepFail::Disk { name }) => Err(Halt::Disk { name }),
+        // An engine that is halted already: a replayer stops at the first fault, and comes never here.
+        Err(StepFail::Halted { name }) => Err(Halt::Read { name }),
+    }
+}
