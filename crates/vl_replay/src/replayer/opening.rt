@@ -51,11 +51,13 @@ impl<D: Disk> Replayer<D> {
         ensures left_alone { (IsFault (why_of result) → ⊥) → IsErr result
             → IsAsBefore D.Watched disk (disk_behind result) }
 
-        // A fault is counted by the disk, or by the reader that is handed back, which is asked only where tables are named.
+        // A fault is counted by the disk, or by the reader that is handed back, which is asked only where tables are named, and
+        // before anything is changed.
         ensures cause { HasCause (D.faults disk) (D.faults (disk_behind result))
             (IsDiskFault (reader_faults D.Reader.faults result) (why_of result)) }
         ensures unread { (state : DiskState) (read : Image) → D.told disk ≡ Some state → IsRead read state
             → NamesNoTable read → reader_faults D.Reader.faults result ≡ 0 }
+        ensures unmoved { (reader_faults D.Reader.faults result ≡ 0 → ⊥) → IsAsBefore D.Watched disk (disk_behind result) }
 
         // A fault is named by the file at which it came.
         ensures at { (state : DiskState) (read : Image) → D.told disk ≡ Some state → IsRead read state
