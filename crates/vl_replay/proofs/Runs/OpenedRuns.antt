@@ -84,14 +84,14 @@ out_of_memory k old new how result (line, own, finishes) = or_cut k old new line
     of (why.Disk name) e is = cc
 
 module _ {D R : Type 0} (g : Ghosts D) (watched : IsWatched g) (holds : Holding) (shows : Showing) (stops : Stopping)
-    (stays : StaysShown shows) (exactly : LeavesItsHistory holds shows) (P : Type 0) (script : Script) (first end : Outside D)
+    (stays : StaysShown shows) (exactly : LeavesItsHistory holds shows) (P : State → Type 0) (script : Script) (first end : Outside D)
     (faults : R → ℕ) where
   abbrev pub SoFar : Course → Type 0
-  SoFar run = P → DiskEnds g holds shows stops (IsAsBefore g first.disk end.disk) (run.answered ≡ []) first.disk end.disk run
+  SoFar run = P run.first → DiskEnds g holds shows stops (IsAsBefore g first.disk end.disk) (run.answered ≡ []) first.disk end.disk run
 
   -- nothing was opened
   pub ends_refused : (ending : Ending) → AnswersNothing ending → EndsBefore (EvidenceFromStart g faults first end 0) script end.left ending first.held end.held → KeepsUp script.bytes end.asked 0
-      → (P → CrashesShow g shows first.disk end.disk (history_of script.start) (history_of script.start)) → (P → Tells g end.disk MayOpen)
+      → (P script.start → CrashesShow g shows first.disk end.disk (history_of script.start) (history_of script.start)) → (P script.start → Tells g end.disk MayOpen)
       → ((Rose (g.faults first.disk) (g.faults end.disk) → ⊥) → IsAsBefore g first.disk end.disk) → (ending ≡ NoMemory → IsAsBefore g first.disk end.disk)
       → EndsRunBy (EvidenceFromStart g faults first end) SoFar script first end ending
   ends_refused ending (none, none_cut) before kept_up goes tells kept kept_out =
@@ -137,7 +137,7 @@ module _ {D R : Type 0} (g : Ghosts D) (watched : IsWatched g) (holds : Holding)
   )
 
   pub ends_opened : (mid : Outside D) (ending : Ending) → mid.source_faults ≡ first.source_faults → mid.held ≡ first.held → g.faults mid.disk ≡ g.faults first.disk
-      → (P → HoldsState g holds script.start mid.disk) → (P → CrashesShow g shows first.disk mid.disk (history_of script.start) (history_of script.start))
+      → (P script.start → HoldsState g holds script.start mid.disk) → (P script.start → CrashesShow g shows first.disk mid.disk (history_of script.start) (history_of script.start))
       → EndsRun g (DiskEndsFrom g holds shows stops mid.disk end.disk script.start) script mid end ending
       → EndsRunBy (EvidenceFromStart g faults first end) SoFar script first end ending
   ends_opened mid ending same_faults same_held steady opened goes run =
@@ -168,7 +168,7 @@ some_culprit : (a b : Culprit) → Some a ≡ Some b → a ≡ b
 some_culprit a b e = cc
 
 module _ {K : Type 0} (k : sink.Ghosts K) (old new : K) (how : OpenError) (result : Ending) (finishes : FinishesBy k old new (ending_unopened how) result) where
-  of_result : (P : Ending → Type 0) → P (ending_unopened how) → P WriteFault → P result
+  pub of_result : (P : Ending → Type 0) → P (ending_unopened how) → P WriteFault → P result
   of_result P whole cut = or_cut k old new finishes.0 (ending_unopened how) result P finishes.2 whole cut
 
   -- it ended by a refusal, which was why
