@@ -28,7 +28,7 @@ returns-in-Ok-clause-runs g c s input starts told =
     ends_opened g.D.Watched (record { only_now = g.met.D.Disk.only_now; counts_now = g.met.D.Disk.counts_now }) IsStored Shown IsStopped shown_stays stored_exactly
     (λ (t : State). IsTrue t.durable) (script_of s 0 input)
     (outside g.S.Source g.K.Sink c.args.source.now c.args.sink.now c.args.disk) (outside g.S.Source g.K.Sink c.answer_lines.new.source c.answer_lines.new.sink c.answer_lines.result.disk)
-    g.D.Reader.faults
+    g.D.Reader.Reader.faults
     (outside g.S.Source g.K.Sink c.args.source.now c.args.sink.now (disk_of c.in-Ok.replayer)) c.answer_lines.result.ending refl refl (c.in-Ok.ensures.cause.steady (λ by. by))
     (λ all. let durable = starts.durable all in c.in-Ok.ensures.holds s starts (starts.state, starts.told, durable.may_open))
     (λ all. c.in-Ok.ensures.through s starts (starts.state, starts.told, starts.durable all))
@@ -51,25 +51,25 @@ returns-clause-runs g c s input starts told =
     let how = ended.ensures.0 in
     let script = script_of s 0 input in
     let by_disk = Rose (g.D.Watched.faults c.args.disk) (g.D.Watched.faults fail.disk)
-    ⊎ (FailsAtTables g.D.Watched g.D.Reader.faults c.args.disk fail.disk × (0 ≡ 0)) in
-    let shown = by_either g.D.Watched g.D.Reader.faults c.args.disk fail.disk fail.reader reason c.in-Err.ensures.cause c.in-Err.ensures.unread c.in-Err.ensures.unmoved in
+    ⊎ (FailsAtTables g.D.Watched g.D.Reader.Reader.faults c.args.disk fail.disk × (0 ≡ 0)) in
+    let shown = by_either g.D.Watched g.D.Reader.Reader.faults c.args.disk fail.disk fail.reader reason c.in-Err.ensures.cause c.in-Err.ensures.unread c.in-Err.ensures.unmoved in
     ends_refused g.D.Watched (record { only_now = g.met.D.Disk.only_now; counts_now = g.met.D.Disk.counts_now }) IsStored Shown IsStopped shown_stays stored_exactly
     (λ (t : State). IsTrue t.durable) script
     (outside g.S.Source g.K.Sink c.args.source.now c.args.sink.now c.args.disk) (outside g.S.Source g.K.Sink c.args.source.now ended.new.sink fail.disk)
-    g.D.Reader.faults
+    g.D.Reader.Reader.faults
     ended.result (refused_nothing g.K.Sink c.args.sink.now ended.new.sink how ended.result ended.ensures.2)
     (refused g.K.Sink c.args.sink.now ended.new.sink (Rose (g.S.Source.faults c.args.source.now) (g.S.Source.faults c.args.source.now)) by_disk script (g.S.Source.left c.args.source.now) how ended.result
     (λ refusal is. opened_not_refused starts.read starts.found starts.unused refusal
     (subst (λ (w : OpenError). AnswersBy starts.read (recovery_by w)) (refused_for reason how refusal ended.ensures.1 is) (c.in-Err.ensures.answer starts.state starts.read starts.told starts.is_read)))
     (λ fault. ⊎_elim
     (λ (rose : Rose (g.D.Watched.faults c.args.disk) (g.D.Watched.faults fail.disk)). inl rose)
-    (λ (tables : FailsAtTables g.D.Watched g.D.Reader.faults c.args.disk fail.disk). inr (tables, refl))
+    (λ (tables : FailsAtTables g.D.Watched g.D.Reader.Reader.faults c.args.disk fail.disk). inr (tables, refl))
     (shown (fault_for reason how ended.ensures.1 fault))) ended.ensures.2)
     (keeps_up_at_first input (g.S.Source.asked c.args.source.now) (g.met.S.Source.since_asked c.args.source.now input told))
     (λ all. c.in-Err.ensures.through s starts (starts.state, starts.told, starts.durable all))
     (λ all. let now = c.in-Err.ensures.tells starts.state starts.told in
     (now.0, now.1, c.in-Err.ensures.again starts.state now.0 starts.told (starts.durable all).may_open now.1))
-    (left_as_before g.D.Watched g.D.Reader.faults c.args.disk fail.disk fail.reader reason c.in-Err.ensures.cause c.in-Err.ensures.unread c.in-Err.ensures.unmoved
+    (left_as_before g.D.Watched g.D.Reader.Reader.faults c.args.disk fail.disk fail.reader reason c.in-Err.ensures.cause c.in-Err.ensures.unread c.in-Err.ensures.unmoved
     (λ none. c.in-Err.ensures.left_alone none refl))
     (λ out. c.in-Err.ensures.left_alone (λ fault. out_of_memory g.K.Sink c.args.sink.now ended.new.sink how ended.result ended.ensures.2 out (fault_of reason how ended.ensures.1 fault)) refl)
 
@@ -85,8 +85,8 @@ returns-clause-disk_faults g c =
     let fail = c.in-Err.field-0 in
     ⊎_elim
     (λ (counted : CountsFaultsOf TheDisk (Some ended.result) (g.D.Watched.faults c.args.disk) (g.D.Watched.faults fail.disk)). inl counted)
-    (λ (tables : EndsAtTables g.D.Watched g.D.Reader.faults g.K.Sink c.args.disk fail.disk c.args.sink.now ended.new.sink ended.result). inr (tables, refl))
-    (disk_or_tables g.D.Watched g.D.Reader.faults c.args.disk fail.disk fail.reader fail.why c.in-Err.ensures.cause c.in-Err.ensures.unread c.in-Err.ensures.unmoved
+    (λ (tables : EndsAtTables g.D.Watched g.D.Reader.Reader.faults g.K.Sink c.args.disk fail.disk c.args.sink.now ended.new.sink ended.result). inr (tables, refl))
+    (disk_or_tables g.D.Watched g.D.Reader.Reader.faults c.args.disk fail.disk fail.reader fail.why c.in-Err.ensures.cause c.in-Err.ensures.unread c.in-Err.ensures.unmoved
     g.K.Sink c.args.sink.now ended.new.sink ended.ensures.0 ended.result ended.ensures.1 ended.ensures.2)
 
 -- ---- which reader failed
