@@ -75,13 +75,13 @@ pub record StopsStep (shows : Showing) (before after : State) (now : DiskState) 
 
 -- ---- a line that was stopped
 
--- What a line left of a disk that failed, and failed cleanly, behind so many of its calls.
-pub data IsStoppedIn (holds : Holding) (shows : Showing) (before after : State) (passed : ℕ) (now : DiskState) : Type 0 where
+-- What a line left of a disk that failed, and failed cleanly, where so many of its calls passed at least, and so many were made.
+pub data IsStoppedIn (holds : Holding) (shows : Showing) (before after : State) (passed made : ℕ) (now : DiskState) : Type 0 where
   -- a commit's append failed, and the log took nothing of the frame
-  append_failed : (commits : Commits holds before after) → passed ≡ 0 → now ≡ with_taken commits 0
-      → IsStoppedIn holds shows before after passed now
-  -- a commit's sync failed, and the log took all of the frame
-  sync_failed : (commits : Commits holds before after) → passed ≡ 1 → now ≡ with_taken commits (length commits.frame)
-      → IsStoppedIn holds shows before after passed now
+  append_failed : (commits : Commits holds before after) → passed ≡ 0 → made ≡ 1 → now ≡ with_taken commits 0
+      → IsStoppedIn holds shows before after passed made now
+  -- a commit's sync failed behind its append, and the log took all of the frame
+  sync_failed : (commits : Commits holds before after) → passed ≡ 1 → made ≡ 2 → now ≡ with_taken commits (length commits.frame)
+      → IsStoppedIn holds shows before after passed made now
   -- a call of a rotation or of a flush failed
-  step_failed : StopsStep shows before after now → IsStoppedIn holds shows before after passed now
+  step_failed : StopsStep shows before after now → IsStoppedIn holds shows before after passed made now
