@@ -1,5 +1,5 @@
 -- The state in which a run begins: that of the store that its disk opens as.
-use Rattle.std.specs.Prelude.{◌≡◌, ◌⊎◌, ◌≤◌, ◌+◌, ℕ, List, [], length, None, Some}
+use Rattle.std.specs.Prelude.{◌≡◌, ◌⊎◌, ◌≤◌, ◌+◌, ℕ, List, [], length, None, Some, IsTrue}
 use Rattle.std.specs.List.{AllByRecursion}
 use Rattle.std.proofs.Common.{subst, sym}
 use Rattle.vl_disk.specs.Crash.{Image}
@@ -67,18 +67,20 @@ pub record StartsIn {D : Type 0} (g : Ghosts D) (disk : D) (s : State) : Type 0 
   pub strays : List FileName
   pub are_strays : AreStrayNames read found.opening strays
   pub calls : s.calls ≡ after_calls (calls_to_open found (length strays)) (g.calls disk)
-  -- and `files` is a number, any such one, that no file of the store passes
+  -- `files` is a number, any such one, that no file of the store passes
   pub files : OpensUpTo s.files state found
+  -- and where it says so, all of the store is durable
+  pub durable : IsTrue s.durable → IsDurable state
 
 -- A store may be opened on the disk again, where one might before.
 abbrev pub StaysOpenable : {D : Type 0} → Ghosts D → (old new : D) → Type 0
 StaysOpenable g old new = Tells g old MayOpen → Tells g new MayOpen
 
--- What a run did to a disk whose store is durable. Where the store wasn't opened, the disk is as it was, unless it failed; and
--- no line was answered.
+-- What a run did to its disk, if all of the store was durable where it began. Where the store wasn't opened, the disk is as it
+-- was, unless it failed; and no line was answered.
 abbrev pub DiskEndsFromStart : {D : Type 0} → Ghosts D → (old new : D) → Course → Type 0
 DiskEndsFromStart g old new run =
-    Tells g old IsDurable → DiskEnds g IsStored Shown IsStopped (IsAsBefore g old new) (run.answered ≡ []) old new run
+    IsTrue run.first.durable → DiskEnds g IsStored Shown IsStopped (IsAsBefore g old new) (run.answered ≡ []) old new run
 
 -- An opening failed since a read of a table did, which the opening's reader counted.
 pub record FailsAtTables {D R : Type 0} (g : Ghosts D) (faults : R → ℕ) (old new : D) : Type 0 where
