@@ -56,7 +56,7 @@ pub stored_on : (s : State) (x : Step) → Keeps s.store x
     → IsTidy (layout_logs x.state.layout) x.state.layout (history_in x.state.commits) → (disk : DiskState)
     → IsStored s disk → IsStored (state_by s x) disk
 stored_on s x keeps tidy disk stored = record {
-  durable = stored.durable;
+  openable = stored.openable;
   base = stored.base;
   is_base = subst (λ (p : Commits). IsBase stored.base x.state.layout (history_in p)) (sym keeps.commits)
       (subst (λ (m : Layout). IsBase stored.base m (history_of s)) (sym keeps.layout)

@@ -191,7 +191,7 @@ module _ {D H R : Type 0} (g : Ghosts D) (bytes : H → Option (List ℕ)) (befo
   -- ---- what the engine represents
 
   represents_before : HoldsState g IsStored s old → engine.Represents bytes before (g.told old) (history_of s) s.store.layout
-  represents_before held = represents bytes (g.told old) before os s stands held.there.2.durable
+  represents_before held = represents bytes (g.told old) before os s stands held.there.2.openable
 
   module _ (files : SameFiles (g.told old) (g.told new)) (held : HoldsState g IsStored s old) where
     -- a step that leaves what the engine represents leaves a disk that holds it
@@ -203,7 +203,7 @@ module _ {D H R : Type 0} (g : Ghosts D) (bytes : H → Option (List ℕ)) (befo
         let next_log = stored.next_log in
         let given = stored.next.table in
         let next_table = stored.next_table in
-        stored_by bytes after (g.told new) (state_by s x) k m layout history stored.durable running represents
+        stored_by bytes after (g.told new) (state_by s x) k m layout history stored.openable running represents
         (subst (λ (p : Back). p.state.next_log ≤ p.next_log) (sym back) stands.within)
         (omega (arith, log, next_log)) (omega (arith, table, given, next_table))
         (λ now then. numbered_still s.files (g.told old) (g.told new) disk now files told then stored.numbered)
@@ -345,7 +345,7 @@ module _ {D H R : Type 0} (g : Ghosts D) (bytes : H → Option (List ℕ)) (befo
             frame_is = refl;
             done = stored_as (state_by s (committing s name t b)) (written (log_of s) whole disk) b' next.history next.layout
                 (its_layout ∙ ap (λ (x : Ruling CommitAnswer). x.layout) may.accepted)
-                (its_history ∙ ap (λ (x : Ruling CommitAnswer). x.history) may.accepted) stored.durable
+                (its_history ∙ ap (λ (x : Ruling CommitAnswer). x.history) may.accepted) stored.openable
                 (commit_base b' s.store.layout (history_of s) t stored.is_base stored.tidy)
                 (subst (λ (piece : List ℕ). Holds b' next.layout (written (log_of s) piece disk)) (sym where_is)
                 (commit_holds b' s.store.layout (history_of s) t stored.is_base stored.tidy disk stored.holds has))

@@ -16,10 +16,10 @@ use Rattle.vl_replay.specs.Stored.{IsStored}
 
 -- by a base of its layout
 pub stored_as : (t : State) (now : DiskState) (base : Base) (k : History) (m : Layout) → t.store.layout ≡ m → history_of t ≡ k
-    → IsTrue t.durable → IsBase base m k → Holds base m now → IsTidy (layout_logs m) m k → base.state.next_table ≡ m.next_table
+    → IsTrue t.openable → IsBase base m k → Holds base m now → IsTidy (layout_logs m) m k → base.state.next_table ≡ m.next_table
     → AreNumberedUpTo t.files now → GivesUpTo t.files base.state → m.next_log ≤ t.files + 1 → IsStored t now
-stored_as t now base k m layout history durable is holds tidy next_table numbered next next_log = record {
-  durable = durable;
+stored_as t now base k m layout history openable is holds tidy next_table numbered next next_log = record {
+  openable = openable;
   base = base;
   is_base = subst (λ (p : Layout). IsBase base p (history_of t)) (sym layout)
       (subst (λ (q : History). IsBase base m q) (sym history) is);
@@ -34,18 +34,18 @@ stored_as t now base k m layout history durable is holds tidy next_table numbere
 
 -- by what the engine represents, whose manifest gives no number above the next log's
 pub stored_by : {H : Type 0} (bytes : H → Option (List ℕ)) (core : Core H) (told : Option DiskState) (t : State) (k : History)
-    (m : Layout) → t.store.layout ≡ m → history_of t ≡ k → IsTrue t.durable → m.halted ≡ None
+    (m : Layout) → t.store.layout ≡ m → history_of t ≡ k → IsTrue t.openable → m.halted ≡ None
     → engine.Represents bytes core told k m → core.back.state.next_log ≤ core.back.next_log
     → m.next_log ≤ t.files + 1 → m.next_table ≤ t.files + 1 → ((now : DiskState) → told ≡ Some now → AreNumberedUpTo t.files now)
     → (now : DiskState) × (told ≡ Some now) × IsStored t now
-stored_by bytes core told t k m layout history durable running represents within log table numbered =
+stored_by bytes core told t k m layout history openable running represents within log table numbered =
     let its = represents.held running in
     let state : its.base.state.next_log ≡ core.back.state.next_log = ap (λ (x : ManifestState). x.next_log) (sym its.back_is.state) in
     let next : core.back.next_log ≡ m.next_log = its.back_is.next_log in
     let given : its.base.state.next_table ≡ m.next_table = its.back_is.next_table in (
       its.state,
       its.told_is,
-      stored_as t its.state its.base k m layout history durable its.is_base its.holds represents.stands.tidy its.back_is.next_table
+      stored_as t its.state its.base k m layout history openable its.is_base its.holds represents.stands.tidy its.back_is.next_table
           (numbered its.state its.told_is)
           (record { log = omega (arith, state, within, next, log); table = omega (arith, given, table) }) log,
     )

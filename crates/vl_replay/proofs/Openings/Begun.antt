@@ -46,30 +46,30 @@ module _ {D H : Type 0} (g : Ghosts D) (bytes : H → Option (List ℕ)) (disk :
   -- It stands for the state in which a run begins.
   pub opened_stands : {R : Type 0} (opens : List (Open H R)) (seen : Option DiskState) → opens ≡ []
       → engine.StandsFor bytes core (history_of s) its → Fits seen core (history_of s) its
-      → (IsTrue s.durable → engine.Represents bytes core seen (history_of s) its) → StandsIn bytes seen core opens s
+      → (IsTrue s.openable → engine.Represents bytes core seen (history_of s) its) → StandsIn bytes seen core opens s
   opened_stands {R} opens seen none stands fits represents = record {
     engine = subst (λ (l : Layout). engine.StandsFor bytes core (history_of s) l) (sym starts.layout) stands;
     names = subst (λ (os : List (Open H R)). Stand bytes os s.store.things (history_of s) s.store.layout) (sym none)
         (subst (λ (ts : List (Name × store.Thing)). Stand {R = R} bytes [] ts (history_of s) s.store.layout) (sym starts.things)
         (none_stand bytes (history_of s) s.store.layout));
     sound = none_sound s.store (start_proper s starts.proper starts.things) starts.things;
-    held = λ durable. subst (engine.IsHeld core.back seen (history_of s)) (sym starts.layout) ((represents durable).held refl);
+    held = λ openable. subst (engine.IsHeld core.back seen (history_of s)) (sym starts.layout) ((represents openable).held refl);
     running = ap (λ (l : Layout). l.halted) starts.layout;
     fits = subst (λ (l : Layout). Fits seen core (history_of s) l) (sym starts.layout) fits;
     within = next_within;
   }
 
   -- The disk behind it holds that state.
-  pub opened_holds : (now : D) → IsTrue s.durable → engine.Represents bytes core (g.told now) (history_of s) its
+  pub opened_holds : (now : D) → IsTrue s.openable → engine.Represents bytes core (g.told now) (history_of s) its
       → IsRepaired starts.read starts.state (g.told now)
       → g.calls now ≡ after_calls (calls_to_open starts.found (length starts.strays)) (g.calls disk) → HoldsState g IsStored s now
-  opened_holds now durable represents repaired calls =
+  opened_holds now openable represents repaired calls =
       let log = starts.files.log in
       let next = starts.files.next.log in
       let table = starts.files.next.table in
       record {
         calls = calls ∙ sym starts.calls;
-        there = stored_by bytes core (g.told now) s (history_of s) its starts.layout refl durable refl represents next_within
+        there = stored_by bytes core (g.told now) s (history_of s) its starts.layout refl openable refl represents next_within
             (omega (arith, log, next)) table
             (λ state told. opened_numbered g disk s starts state (subst (IsRepaired starts.read starts.state) told repaired));
       }

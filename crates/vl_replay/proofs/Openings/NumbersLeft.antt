@@ -26,6 +26,7 @@ use Rattle.vl_recover.specs.opening.Answers.{AreStrayNames, Finds, IsStrayName, 
 use Rattle.vl_recover.specs.laws.opening.OneFinding.{opened_not}
 use Rattle.vl_recover.specs.opening.Opening.{IsAmong, IsNamed, Opening, Opens, led_into}
 use Rattle.vl_recover.specs.laws.opening.OpeningLaws.{opened, some_none}
+use Rattle.vl_recover.specs.crash.Starts.{MayOpen}
 use Rattle.vl_recover.specs.opening.Plans.{IsGreatest, log_behind, log_made, new_state, passes}
 use Rattle.vl_recover.specs.opening.Walk.{StandingLog}
 use Rattle.vl_replay.specs.Opening.{IsRefused}
@@ -33,7 +34,6 @@ use Rattle.vl_replay.specs.Reopens.{NamesUpTo, Reopens}
 use Rattle.vl_replay.specs.Start.{OpensUpTo, StartsIn}
 use Rattle.vl_replay.specs.laws.StartLaws.{past, reopened_store, starts_shown}
 use Rattle.vl_replay.specs.Stopped.{AreNumberedUpTo}
-use Rattle.vl_engine.specs.Opening.{IsDurable}
 use Rattle.vl_engine.specs.Shown.{Shown}
 use Rattle.vl_replay.specs.declared.fails.Refusal.{Refusal}
 use Rattle.vl_replay.proofs.Openings.Recovering.{refused_not}
@@ -314,10 +314,10 @@ reopens_by n image names h m shown left =
 module _ {D : Type 0} (g : Ghosts D) (disk : D) (image : Image) (state : DiskState) (h : History) (m : ℕ)
     (told : g.told disk ≡ Some state) (started : Started image state) (again : Reopens image h m) where
   -- A run over the disk that is started from it begins with what the history has at its number,
-  pub reopens_starts : (files : ℕ) → OpensUpTo files state again.found → (durable : Bool) → (IsTrue durable → IsDurable state)
-      → StartsIn g disk (reopened_store again.found h m again.shown (after_calls (calls_to_open again.found (length again.strays)) (g.calls disk)) files durable)
-  reopens_starts files up_to durable is_durable = starts_shown g disk state image again.found again.strays h m files told (started_read image state started)
-      again.unused again.are_strays again.shown up_to durable is_durable
+  pub reopens_starts : (files : ℕ) → OpensUpTo files state again.found → (openable : Bool) → (IsTrue openable → MayOpen state)
+      → StartsIn g disk (reopened_store again.found h m again.shown (after_calls (calls_to_open again.found (length again.strays)) (g.calls disk)) files openable)
+  reopens_starts files up_to openable may_open = starts_shown g disk state image again.found again.strays h m files told (started_read image state started)
+      again.unused again.are_strays again.shown up_to openable may_open
 
   -- and isn't refused.
   pub reopens_not_refused : (read : Image) → IsRead read state → (refusal : Refusal) → IsRefused read refusal → ⊥

@@ -35,10 +35,10 @@ returns-in-Ok-clause-makes g c s stands =
     (transaction_makes bytes seen now core c.begin.new.self.core os s stands c.begin.ensures.back c.args.name free c.in-Ok.txn
     c.in-Ok.ensures.fresh (c.in-Ok.ensures.sees (history_of s) s.store.layout stands.engine)
     (λ untabled. c.in-Ok.ensures.memory (laid_in_memory bytes core.version s.store.layout stands.engine.has untabled))
-    (decides_all bytes now s.durable c.begin.new.self.core (history_of s) s.store.layout _ _ _ _
+    (decides_all bytes now s.openable c.begin.new.self.core (history_of s) s.store.layout _ _ _ _
     (c.in-Ok.ensures.stands (history_of s) s.store.layout stands.engine)
     (c.in-Ok.ensures.fits (history_of s) s.store.layout stands.engine stands.fits)
-    (λ durable. c.in-Ok.ensures.represents (history_of s) s.store.layout (represents bytes seen core os s stands durable))))
+    (λ openable. c.in-Ok.ensures.represents (history_of s) s.store.layout (represents bytes seen core os s stands openable))))
 
 pub returns-in-Err-TooMany-clause-makes : goal.returns-in-Err-TooMany-clause-makes
 returns-in-Err-TooMany-clause-makes g c s stands =
@@ -52,8 +52,8 @@ returns-in-Err-TooMany-clause-makes g c s stands =
     too_many_makes bytes seen now core c.begin.new.self.core os s stands
     c.begin.ensures.back c.args.name a_transaction
     (state_after-sound s (lines.Begin c.args.name) stands.sound) free
-    (decides_all bytes now s.durable c.begin.new.self.core (history_of s) s.store.layout _ _ _ _
+    (decides_all bytes now s.openable c.begin.new.self.core (history_of s) s.store.layout _ _ _ _
     (rw c.in-Err-TooMany.field-0-is at (c.in-Err-TooMany.ensures.stands (history_of s) s.store.layout stands.engine))
     (rw c.in-Err-TooMany.field-0-is at (c.in-Err-TooMany.ensures.fits (history_of s) s.store.layout stands.engine stands.fits))
-    (λ durable. rw c.in-Err-TooMany.field-0-is at (c.in-Err-TooMany.ensures.represents (history_of s) s.store.layout
-    (represents bytes seen core os s stands durable))))
+    (λ openable. rw c.in-Err-TooMany.field-0-is at (c.in-Err-TooMany.ensures.represents (history_of s) s.store.layout
+    (represents bytes seen core os s stands openable))))

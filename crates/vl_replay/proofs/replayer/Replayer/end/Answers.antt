@@ -25,7 +25,7 @@ returns-in-Some-View-clause-makes g c s stands =
     (record {
       stands = c.release.ensures.stands (history_of s) s.store.layout stands.engine;
       fits = c.release.ensures.fits (history_of s) s.store.layout stands.fits;
-      held = λ durable. (c.release.ensures.represents (history_of s) s.store.layout (represents bytes seen core os s stands durable)).held;
+      held = λ openable. (c.release.ensures.represents (history_of s) s.store.layout (represents bytes seen core os s stands openable)).held;
     })
 
 pub returns-clause-makes : goal.returns-clause-makes
@@ -42,5 +42,5 @@ returns-clause-makes g c s stands =
     (record {
       stands = c.forget.ensures.stands (history_of s) s.store.layout stands.engine;
       fits = c.forget.ensures.fits (history_of s) s.store.layout stands.fits;
-      held = λ durable. (c.forget.ensures.represents (history_of s) s.store.layout (represents bytes seen core os s stands durable)).held;
+      held = λ openable. (c.forget.ensures.represents (history_of s) s.store.layout (represents bytes seen core os s stands openable)).held;
     })

@@ -50,13 +50,13 @@ returns-in-Ok-clause-store g c s starts =
     c.new.result.items _ c.new.ensures.items
     (c.in-Ok.ensures.stands starts.state starts.read starts.found (history_of s) starts.told starts.is_read starts.shown)
     (c.in-Ok.ensures.fits starts.state starts.read starts.found (history_of s) starts.told starts.is_read starts.shown)
-    (λ durable. c.in-Ok.ensures.represents starts.state starts.read starts.found (history_of s) starts.told
-    (starts.durable durable).may_open starts.is_read starts.shown)
+    (λ openable. c.in-Ok.ensures.represents starts.state starts.read starts.found (history_of s) starts.told
+    (starts.openable openable) starts.is_read starts.shown)
 
 pub returns-in-Ok-clause-holds : goal.returns-in-Ok-clause-holds
-returns-in-Ok-clause-holds g c s starts durable =
+returns-in-Ok-clause-holds g c s starts openable =
     opened_holds g.D.Watched g.D.Held.HeldFile.bytes c.args.disk s starts c.in-Ok.engine.core
-    (c.in-Ok.ensures.back starts.state starts.read starts.found starts.told starts.is_read) c.in-Ok.engine.disk durable
-    (c.in-Ok.ensures.represents starts.state starts.read starts.found (history_of s) starts.told (starts.durable durable).may_open starts.is_read starts.shown)
+    (c.in-Ok.ensures.back starts.state starts.read starts.found starts.told starts.is_read) c.in-Ok.engine.disk openable
+    (c.in-Ok.ensures.represents starts.state starts.read starts.found (history_of s) starts.told (starts.openable openable) starts.is_read starts.shown)
     (c.in-Ok.ensures.repaired starts.state starts.read starts.told starts.is_read)
     (c.in-Ok.ensures.calls starts.state starts.read starts.found starts.strays starts.told starts.is_read starts.are_strays)
