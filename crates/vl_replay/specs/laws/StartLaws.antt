@@ -30,7 +30,7 @@ use Rattle.vl_model.specs.Limits.{max_commit_number, max_room}
 use Rattle.vl_recover.specs.laws.crash.AlikeLaws.{like_same}
 use Rattle.vl_recover.specs.crash.Alike.{OpensLike}
 use Rattle.vl_recover.specs.opening.Answers.{AreStrayNames, Finds, calls_to_open, used_up}
-use Rattle.vl_recover.specs.crash.Starts.{AllStay}
+use Rattle.vl_recover.specs.crash.Starts.{AllStay, MayOpen}
 use Rattle.vl_recover.specs.laws.opening.HeldLaws.{started_may_open}
 use Rattle.vl_recover.specs.laws.opening.OpeningLaws.{single_opening}
 use Rattle.vl_recover.specs.laws.repairing.StageLaws.{ok_same}
