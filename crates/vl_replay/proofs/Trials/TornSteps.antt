@@ -13,6 +13,7 @@ use Rattle.vl_disk.specs.declared.name.Name.{Name}
 use Rattle.vl_disk.specs.declared.name.Name.TheVariants.{Manifest, Table}
 use Rattle.vl_disk.specs.laws.NameMap.{get_inserted, get_inserted_other, get_removed_other, same_or_other}
 use Rattle.vl_back.specs.Writing.{WhileWriting}
+use Rattle.vl_recover.specs.crash.Held.{AllSettled}
 use Rattle.vl_mem.specs.laws.CrashChance.{IsTornByPieces, IsTornInOnePiece, lengthened_torn, untorn_file}
 
 true_false : true ≡ false → ⊥
@@ -156,10 +157,7 @@ module _ (old : DiskState) (settled_old : AllSettled old) (name : Name) (piece :
 -- ---- while a table is made and named
 
 pub flushing_torn : (old now : DiskState) (table : ℕ) (bytes : List ℕ) (manifest : ℕ) (frame : List ℕ) → AllSettled old
-    → WhileMaking (Table table) bytes old now
-    ⊎ (WhileAppending (Manifest manifest) frame (made (Table table) bytes old) now
-    ⊎ WhileSyncing (Manifest manifest) (appended (Manifest manifest) frame (length frame) (made (Table table) bytes old)) now)
-    → IsTornByPieces now
+    → WhileWriting table bytes manifest frame old now → IsTornByPieces now
 flushing_torn old now table bytes manifest frame settled_old during = ⊎_elim
     (making_torn old now (Table table) bytes settled_old)
     (switching_torn (made (Table table) bytes old) (made_settled old (Table table) bytes settled_old) (Manifest manifest) frame now)
