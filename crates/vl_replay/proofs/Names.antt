@@ -6,6 +6,7 @@ pub mod Writing
 pub mod Ending
 pub mod Scanning
 pub mod Quiet
+pub mod Serving
 pub mod Making
 pub mod ReadMaking
 pub mod ScanMaking

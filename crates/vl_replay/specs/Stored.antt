@@ -1,5 +1,5 @@
 -- What a disk holds of a state.
-use Rattle.std.specs.Prelude.{◌≡◌, ◌≤◌, ◌+◌}
+use Rattle.std.specs.Prelude.{◌≡◌, ◌≤◌, ◌+◌, IsTrue}
 use Rattle.vl_disk.specs.DiskState.{DiskState}
 use Rattle.vl_engine.specs.Held.{Base, Holds, IsBase}
 use Rattle.vl_engine.specs.Pointed.{layout_logs}
@@ -11,7 +11,9 @@ use Rattle.vl_replay.specs.Stopped.{AreNumberedUpTo, GivesUpTo, IsStoppedIn}
 
 -- The disk holds the state: its layout, all of it durable, whose entries show its history.
 pub record IsStored (s : State) (disk : DiskState) : Type 0 where
-  -- some manifest, and the logs from its head on before the active one
+  -- all of it was durable where it was opened,
+  pub durable : IsTrue s.durable
+  -- and is so now: some manifest, and the logs from its head on before the active one
   pub base : Base
   pub is_base : IsBase base s.store.layout (history_of s)
   pub holds : Holds base s.store.layout disk
