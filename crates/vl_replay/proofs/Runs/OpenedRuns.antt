@@ -1,5 +1,5 @@
 -- A run that opens its store first, or can't.
-use Rattle.std.proofs.Common.{◌≡◌, ◌≢◌, inl, ℕ, zero, suc, ◌≤◌, List, [], ◌∷◌, take, Option, Some, refl, ap, ◌∙◌, subst, arith}
+use Rattle.std.proofs.Common.{◌≡◌, ◌≢◌, ◌⊎◌, inl, ℕ, zero, suc, ◌≤◌, List, [], ◌∷◌, take, Option, Some, refl, ap, ◌∙◌, subst, arith}
 use Rattle.vl_disk.specs.declared.watched.Watched.{Ghosts}
 use Rattle.vl_disk.specs.Faults.{Rose, HasCause}
 use Rattle.vl_io.specs.declared.sink.Sink as sink
@@ -13,7 +13,8 @@ use Rattle.vl_replay.specs.Exchanges.{Exchange, KeepsUp, last_state}
 use Rattle.vl_model.specs.History.{Extends}
 use Rattle.vl_replay.specs.Between.{Showing, Stopping}
 use Rattle.vl_replay.specs.Endings.{Culprit, TheDisk, TheSink, TheSource, CountsFaultsOf, Evidence, CutsAnswer, IsBetweenLines, culprit_of, last_line}
-use Rattle.vl_replay.specs.Runs.{Script, exchanges, next_number, Stops, Course, Outside, EvidenceOf, EndsRun}
+use Rattle.vl_replay.specs.Runs.{Script, exchanges, next_number, Stops, Course, Outside, EvidenceOf, EndsRun, EndsRunBy}
+use Rattle.vl_replay.specs.Start.{EvidenceFromStart, FailsAtTables}
 use Rattle.vl_replay.specs.Durable.{Holding, IsAsBefore, LeavesItsHistory, StaysShown, Tells, HoldsState, CrashesShow, GoesAlong, DiskEnds, DiskEndsFrom}
 use Rattle.vl_replay.specs.Opening.{ending_unopened, why_refused}
 use Rattle.vl_engine.specs.Opening.{IsFault}
@@ -82,16 +83,17 @@ out_of_memory k old new how result (line, own, finishes) = or_cut k old new line
     of why.NoMemory e is = is
     of (why.Disk name) e is = cc
 
-module _ {D : Type 0} (g : Ghosts D) (watched : IsWatched g) (holds : Holding) (shows : Showing) (stops : Stopping)
-    (stays : StaysShown shows) (exactly : LeavesItsHistory holds shows) (P : Type 0) (script : Script) (first end : Outside D) where
+module _ {D R : Type 0} (g : Ghosts D) (watched : IsWatched g) (holds : Holding) (shows : Showing) (stops : Stopping)
+    (stays : StaysShown shows) (exactly : LeavesItsHistory holds shows) (P : State → Type 0) (script : Script) (first end : Outside D)
+    (faults : R → ℕ) where
   abbrev pub SoFar : Course → Type 0
-  SoFar run = P → DiskEnds g holds shows stops (IsAsBefore g first.disk end.disk) (run.answered ≡ []) first.disk end.disk run
+  SoFar run = P run.first → DiskEnds g holds shows stops (IsAsBefore g first.disk end.disk) (run.answered ≡ []) first.disk end.disk run
 
   -- nothing was opened
-  pub ends_refused : (ending : Ending) → AnswersNothing ending → EndsBefore (EvidenceOf g first end) script end.left ending first.held end.held → KeepsUp script.bytes end.asked 0
-      → (P → CrashesShow g shows first.disk end.disk (history_of script.start) (history_of script.start)) → (P → Tells g end.disk MayOpen)
+  pub ends_refused : (ending : Ending) → AnswersNothing ending → EndsBefore (EvidenceFromStart g faults first end 0) script end.left ending first.held end.held → KeepsUp script.bytes end.asked 0
+      → (P script.start → CrashesShow g shows first.disk end.disk (history_of script.start) (history_of script.start)) → (P script.start → Tells g end.disk MayOpen)
       → ((Rose (g.faults first.disk) (g.faults end.disk) → ⊥) → IsAsBefore g first.disk end.disk) → (ending ≡ NoMemory → IsAsBefore g first.disk end.disk)
-      → EndsRun g SoFar script first end ending
+      → EndsRunBy (EvidenceFromStart g faults first end) SoFar script first end ending
   ends_refused ending (none, none_cut) before kept_up goes tells kept kept_out =
       let h = (history_of script.start) in
       let most = (history_of (last_state script.start (take 1 (exchanges script)))) in
@@ -135,9 +137,9 @@ module _ {D : Type 0} (g : Ghosts D) (watched : IsWatched g) (holds : Holding) (
   )
 
   pub ends_opened : (mid : Outside D) (ending : Ending) → mid.source_faults ≡ first.source_faults → mid.held ≡ first.held → g.faults mid.disk ≡ g.faults first.disk
-      → (P → HoldsState g holds script.start mid.disk) → (P → CrashesShow g shows first.disk mid.disk (history_of script.start) (history_of script.start))
+      → (P script.start → HoldsState g holds script.start mid.disk) → (P script.start → CrashesShow g shows first.disk mid.disk (history_of script.start) (history_of script.start))
       → EndsRun g (DiskEndsFrom g holds shows stops mid.disk end.disk script.start) script mid end ending
-      → EndsRun g SoFar script first end ending
+      → EndsRunBy (EvidenceFromStart g faults first end) SoFar script first end ending
   ends_opened mid ending same_faults same_held steady opened goes run =
       let earlier : g.faults first.disk ≤ g.faults mid.disk = omega (arith, steady) in
       let s = script.start in
@@ -148,9 +150,10 @@ module _ {D : Type 0} (g : Ghosts D) (watched : IsWatched g) (holds : Holding) (
         answered = m;
         printed = run.printed;
         taken = subst (λ (held : Option (List ℕ)). Takes held end.held run.printed) same_held run.taken;
-        ends = ends_weaker (EvidenceOf g mid end) (EvidenceOf g first end)
-            (evidence_weaker (Rose mid.source_faults end.source_faults) (Rose (g.faults mid.disk) (g.faults end.disk)) (Rose first.source_faults end.source_faults) (Rose (g.faults first.disk) (g.faults end.disk))
-            (λ rose. subst (λ (n : ℕ). Rose n end.source_faults) same_faults rose) (λ rose. rose_earlier (g.faults first.disk) (g.faults mid.disk) (g.faults end.disk) earlier rose))
+        ends = ends_weaker (EvidenceOf g mid end) (EvidenceFromStart g faults first end m)
+            (evidence_weaker (Rose mid.source_faults end.source_faults) (Rose (g.faults mid.disk) (g.faults end.disk)) (Rose first.source_faults end.source_faults)
+            (Rose (g.faults first.disk) (g.faults end.disk) ⊎ (FailsAtTables g faults first.disk end.disk × (m ≡ 0)))
+            (λ rose. subst (λ (n : ℕ). Rose n end.source_faults) same_faults rose) (λ rose. inl (rose_earlier (g.faults first.disk) (g.faults mid.disk) (g.faults end.disk) earlier rose)))
             script end.left m ending run.printed run.ends;
         kept_up = run.kept_up;
         disk = λ p.
@@ -165,7 +168,7 @@ some_culprit : (a b : Culprit) → Some a ≡ Some b → a ≡ b
 some_culprit a b e = cc
 
 module _ {K : Type 0} (k : sink.Ghosts K) (old new : K) (how : OpenError) (result : Ending) (finishes : FinishesBy k old new (ending_unopened how) result) where
-  of_result : (P : Ending → Type 0) → P (ending_unopened how) → P WriteFault → P result
+  pub of_result : (P : Ending → Type 0) → P (ending_unopened how) → P WriteFault → P result
   of_result P whole cut = or_cut k old new finishes.0 (ending_unopened how) result P finishes.2 whole cut
 
   -- it ended by a refusal, which was why
