@@ -56,8 +56,11 @@ use Rattle.vl_layout.specs.TidyLevels.{AreLevels}
 use Rattle.vl_layout.specs.declared.layout.Layout.{Layout}
 use Rattle.vl_layout.specs.declared.segment.Segment.{Segment}
 use Rattle.vl_layout.specs.declared.table.Table as laid
+use Rattle.vl_manifest.specs.Current.{IsCurrent}
 use Rattle.vl_manifest.specs.Grammar.{edits_grammar}
+use Rattle.vl_manifest.specs.Manifest.{SaysState}
 use Rattle.vl_manifest.specs.States.{next_state}
+use Rattle.vl_manifest.specs.Switching.{WhileSwitching}
 use Rattle.vl_manifest.specs.declared.edit.Edit.{Edit}
 use Rattle.vl_manifest.specs.declared.manifest_log.ManifestLog.{ManifestLog}
 use Rattle.vl_manifest.specs.declared.state.ManifestState.{ManifestState}
@@ -66,8 +69,14 @@ use Rattle.vl_model.specs.Formats.{manifest_format, table_format}
 use Rattle.vl_model.specs.History.{History}
 use Rattle.vl_model.specs.Placement.{placed}
 use Rattle.vl_model.specs.declared.entry.Entry.{Entry}
+use Rattle.vl_recover.specs.crash.Alike.{IsLeft}
+use Rattle.vl_recover.specs.crash.Held.{HoldsManifest}
 use Rattle.vl_recover.specs.crash.Starts.{MayOpen}
+use Rattle.vl_recover.specs.laws.opening.HeldLaws.{held_state}
+use Rattle.vl_recover.specs.laws.opening.OpeningLaws.{IsOpened, one_heading, opened, single_says}
+use Rattle.vl_recover.specs.laws.repairing.StageLaws.{ok_same}
 use Rattle.vl_recover.specs.opening.HeldFiles.{AreWaiting}
+use Rattle.vl_recover.specs.opening.Opening.{Heading, Led, Opening, Opens, Refusal, Says}
 use Rattle.vl_table.specs.declared.table.Table.{Table}
 
 -- ---- numbers
