@@ -5,6 +5,7 @@ use Rattle.std.proofs.Common.{sym, ap, subst, ◌∙◌}
 use Rattle.vl_back.specs.Deciding.{MayFlush, flush_decision}
 use Rattle.vl_back.specs.declared.decision.Decision.TheVariants as decisions
 use Rattle.vl_back.specs.declared.decision.Decision.{Decision}
+use Rattle.vl_back.specs.declared.staging.StagedFlush.{StagedFlush}
 use Rattle.vl_disk.specs.Calls.{ChangesNothing}
 use Rattle.vl_disk.specs.Disk.{IsChangedBy}
 use Rattle.vl_disk.specs.DiskState.{DiskState}
@@ -17,7 +18,7 @@ use Rattle.vl_engine.proofs.FlushSteps.{carries_flushed, carries_unflushed, file
 use Rattle.vl_engine.specs.Carries.{Carries}
 use Rattle.vl_engine.specs.Flushing.{FlushesAs, IsFlushWritten, IsStagedOf, StopsFlushing, WritesFlush, flush_effects, flush_written}
 use Rattle.vl_engine.specs.Represents.{Fronts, Represents, StandsFor, file_of}
-use Rattle.vl_engine.specs.Stepping.{AreLogFiles, HasNumbers, StepLeavesDisk, step_outcome}
+use Rattle.vl_engine.specs.Stepping.{AreLogFiles, HasNumbers, StepFailed, StepLeavesDisk, step_outcome}
 use Rattle.vl_engine.specs.declared.fails.StepFail.TheVariants as fails
 use Rattle.vl_engine.specs.declared.fails.StepFail.{StepFail}
 use Rattle.vl_engine.specs.declared.kept.Core.{Core}
