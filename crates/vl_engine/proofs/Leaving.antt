@@ -5,7 +5,7 @@ use Rattle.std.specs.Option.{option_map}
 use Rattle.std.proofs.Common.{sym, ap, subst, ◌∙◌, arith, ⊎_elim}
 use Rattle.vl_back.specs.Deciding as deciding
 use Rattle.vl_back.specs.Deciding.{flush_decision}
-use Rattle.vl_back.specs.FlushEdits.{flush_switch, switch_of}
+use Rattle.vl_back.specs.FlushEdits.{flush_switch, head_of, switch_of}
 use Rattle.vl_back.specs.declared.back.Back.{Back}
 use Rattle.vl_back.specs.declared.decision.Decision.{Decision}
 use Rattle.vl_back.specs.declared.decision.Decision.TheVariants.{Go}
@@ -49,18 +49,20 @@ use Rattle.vl_recover.specs.opening.Opening.{Opening}
 
 -- ---- in memory
 
+-- what the last two edits of a flush's frame make of these levels
+abbrev behind : ManifestState → (head covered log next : ℕ) → Option (List (List ℕ)) → Option ManifestState
+behind s head covered log next o =
+    finish (then_applied (all_applied (Head head covered ∷ Next log next ∷ [])) (option_map (with_levels (as_draft s)) o))
+
 -- a flush's frame gives the next log the number that it names
 flush_gives : (s u : ManifestState) (table head covered log next : ℕ) → next_state (flush_edits table head covered log next) s ≡ Some u
     → u.next_log ≡ log
 flush_gives s u table head covered log next is = by s.levels refl
   where
-    abbrev Front : Option (List (List ℕ)) → Option ManifestState
-    Front o = finish (then_applied (all_applied (Head head covered ∷ Next log next ∷ [])) (option_map (with_levels (as_draft s)) o))
-
     none : s.levels ≡ [] → (b : Bool)
         → finish (then_applied (all_applied (Head head covered ∷ Next log next ∷ []))
         (if b then option_map (with_levels (as_draft s)) (put_at 0 0 table s.levels) else None)) ≡ Some u → ⊥
-    none are true e = some_none u (sym (sym (ap Front (ap (put_at 0 0 table) are)) ∙ e))
+    none are true e = some_none u (sym (sym (ap (behind s head covered log next) (ap (put_at 0 0 table) are)) ∙ e))
     none are false e = some_none u (sym e)
 
     by : (ls : List (List ℕ)) → s.levels ≡ ls → u.next_log ≡ log
@@ -75,7 +77,7 @@ staged_gives back active u = by back.waiting.items
     by : (ws : List Waiting) → deciding.flush_of ws back ≡ Go → next_state (switch_of active ws back) back.state ≡ Some u
         → u.next_log ≡ back.next_log
     by [] go is = absurd cc
-    by (w ∷ ws) go is = flush_gives back.state u back.state.next_table _ w.covered back.next_log (back.state.next_table + 1) is
+    by (w ∷ ws) go is = flush_gives back.state u back.state.next_table (head_of active ws) w.covered back.next_log (back.state.next_table + 1) is
 
 module _ {D H : Type 0} (g : Ghosts D) (bytes : H → Option (List ℕ)) (before after : Core H) (old new : D)
     (within : before.back.state.next_log ≤ before.back.next_log) where
