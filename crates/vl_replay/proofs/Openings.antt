@@ -3,6 +3,5 @@ pub mod Begun
 pub mod Numbered
 pub mod NumbersLeft
 pub mod Recovering
-pub mod Rising
 pub mod Starting
 mod TextRows

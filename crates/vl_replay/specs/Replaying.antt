@@ -17,13 +17,13 @@ use Rattle.vl_replay.specs.declared.replayer.Replayer.{Replayer}
 use Rattle.vl_replay.specs.laws.Laws.{IsSound}
 
 -- The engine stands for the state's layout and history, and its names for what they stand for there. So it is over a disk that
--- tells this, which holds the layout where all of the store was durable at first.
+-- tells this, which holds the layout where a store might be opened on it at first.
 pub record StandsIn {H R : Type 0} (bytes : H → Option (List ℕ)) (told : Option DiskState) (core : Core H) (opens : List (Open H R))
     (s : State) : Type 0 where
   pub engine : engine.StandsFor bytes core (history_of s) s.store.layout
   pub names : Stand bytes opens s.store.things (history_of s) s.store.layout
   pub sound : IsSound s
-  pub held : IsTrue s.durable → engine.IsHeld core.back told (history_of s) s.store.layout
+  pub held : IsTrue s.openable → engine.IsHeld core.back told (history_of s) s.store.layout
   -- it isn't halted, and steps on files find what they ask: the next log has a number that the manifest still gives
   pub running : s.store.layout.halted ≡ None
   pub fits : Fits told core (history_of s) s.store.layout

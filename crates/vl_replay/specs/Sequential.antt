@@ -21,8 +21,8 @@ pub record State : Type 0 where
   pub store : things.State
   pub calls : ℕ
   pub files : ℕ
-  -- whether all of the store was durable on the disk on which it was opened
-  pub durable : Bool
+  -- whether a store might be opened on the disk where the run began, also behind a crash; no line changes it
+  pub openable : Bool
 
 abbrev pub history_of : State → History
 history_of s = history_in s.store.commits
@@ -68,7 +68,7 @@ state_after s line = record {
   store = (step_to s line).state;
   calls = after_calls (step_to s line).calls s.calls;
   files = files_after line (answer_to s line) s.files;
-  durable = s.durable;
+  openable = s.openable;
 }
 
 -- ---- how an answer is spelled

@@ -69,18 +69,19 @@ pub record StartsIn {D : Type 0} (g : Ghosts D) (disk : D) (s : State) : Type 0 
   pub calls : s.calls ≡ after_calls (calls_to_open found (length strays)) (g.calls disk)
   -- `files` is a number, any such one, that no file of the store passes
   pub files : OpensUpTo s.files state found
-  -- and where it says so, all of the store is durable
-  pub durable : IsTrue s.durable → IsDurable state
+  -- and where the state says so, a store may be opened on the disk
+  pub openable : IsTrue s.openable → MayOpen state
 
 -- A store may be opened on the disk again, where one might before.
 abbrev pub StaysOpenable : {D : Type 0} → Ghosts D → (old new : D) → Type 0
 StaysOpenable g old new = Tells g old MayOpen → Tells g new MayOpen
 
--- What a run did to its disk, if all of the store was durable where it began. Where the store wasn't opened, the disk is as it
--- was, unless it failed; and no line was answered.
+-- What a run did to a disk whose store is durable, so that a store may be opened on it. Where the store wasn't opened, the disk is
+-- as it was, unless it failed; and no line was answered.
 abbrev pub DiskEndsFromStart : {D : Type 0} → Ghosts D → (old new : D) → Course → Type 0
 DiskEndsFromStart g old new run =
-    IsTrue run.first.durable → DiskEnds g IsStored Shown IsStopped (IsAsBefore g old new) (run.answered ≡ []) old new run
+    IsTrue run.first.openable → Tells g old IsDurable
+    → DiskEnds g IsStored Shown IsStopped (IsAsBefore g old new) (run.answered ≡ []) old new run
 
 -- An opening failed since a read of a table did, which the opening's reader counted.
 pub record FailsAtTables {D R : Type 0} (g : Ghosts D) (faults : R → ℕ) (old new : D) : Type 0 where

@@ -11,9 +11,9 @@ use Rattle.vl_replay.specs.Stopped.{AreNumberedUpTo, GivesUpTo, IsStoppedIn}
 
 -- The disk holds the state: its layout, all of it durable, whose entries show its history.
 pub record IsStored (s : State) (disk : DiskState) : Type 0 where
-  -- all of it was durable where it was opened,
-  pub durable : IsTrue s.durable
-  -- and is so now: some manifest, and the logs from its head on before the active one
+  -- a store might be opened on it at first
+  pub openable : IsTrue s.openable
+  -- some manifest, and the logs from its head on before the active one
   pub base : Base
   pub is_base : IsBase base s.store.layout (history_of s)
   pub holds : Holds base s.store.layout disk

@@ -63,7 +63,7 @@ module _ {H R : Type 0} (bytes : H → Option (List ℕ)) (seen now : Option Dis
 
   -- what the engine is behind a step
   abbrev Serving : History → Layout → Type 0
-  Serving = Serves bytes now s.durable after
+  Serving = Serves bytes now s.openable after
 
   -- what a step that isn't halted leaves
   pub stands_as : (new : List (Open H R)) (x : Step) → Serving (history_in x.state.commits) x.state.layout
@@ -73,7 +73,7 @@ module _ {H R : Type 0} (bytes : H → Option (List ℕ)) (seen now : Option Dis
     engine = there.stands;
     names = names;
     sound = sound;
-    held = λ durable. there.held durable (halted ∙ stands.running);
+    held = λ openable. there.held openable (halted ∙ stands.running);
     running = halted ∙ stands.running;
     fits = there.fits;
     within = subst (λ (b : Back). b.state.next_log ≤ b.next_log) (sym back) stands.within;

@@ -146,14 +146,14 @@ module _ {H R : Type 0} (bytes : H → Option (List ℕ)) (seen now : Option Dis
 
     module _ (otherwise : Otherwise) (effects : Effects) where
       abbrev pub AnsweredBy : CommitAnswer → Type 0
-      AnsweredBy a = Decides (Serves bytes now s.durable after) h l (commit_ruling l h t) otherwise (Answered a) effects
+      AnsweredBy a = Decides (Serves bytes now s.openable after) h l (commit_ruling l h t) otherwise (Answered a) effects
 
       same_of : (a : CommitAnswer) → AnsweredBy a → a ≡ (commit_ruling l h t).answer
       same_of a decides = (decides.answered a refl).0
 
-      stands_of : (a : CommitAnswer) → AnsweredBy a → Serves bytes now s.durable after (ruling_of l h t a).history (ruling_of l h t a).layout
+      stands_of : (a : CommitAnswer) → AnsweredBy a → Serves bytes now s.openable after (ruling_of l h t a).history (ruling_of l h t a).layout
       stands_of a decides =
-          subst (λ (r : Ruling CommitAnswer). Serves bytes now s.durable after r.history r.layout) (answers_ruling l h t a (same_of a decides)) (decides.answered a refl).1
+          subst (λ (r : Ruling CommitAnswer). Serves bytes now s.openable after r.history r.layout) (answers_ruling l h t a (same_of a decides)) (decides.answered a refl).1
 
       pub number_makes : (n : ℕ) → AnsweredBy (commit.At n) → MakesStep bytes now after left s committing (Ok (answers.Number n))
       number_makes n decides =
@@ -164,7 +164,7 @@ module _ {H R : Type 0} (bytes : H → Option (List ℕ)) (seen now : Option Dis
           makes_by (commit.At n) same left (answers.Number n)
           (ap store_lines.Number (number n (same ∙ ap (λ (r : Ruling CommitAnswer). r.answer) (answers_ruling l h t (commit.At n) same))))
           (stands_as bytes seen now before after os s stands back left (by (commit.At n))
-          (subst (λ (k : History). Serves bytes now s.durable after k next) (sym more) (stands_of (commit.At n) decides))
+          (subst (λ (k : History). Serves bytes now s.openable after k next) (sym more) (stands_of (commit.At n) decides))
           (subst (λ (k : History). Stand bytes left (without_name name s.store.things) k next) (sym more)
           (ends_so bytes h longer l next os left s.store.things stands.names name (Transaction txn) taken (ATransaction t b) there (extends_one h longer (from_sorted t.writes) refl) (λ none. none) refl))
           (sound_by (commit.At n) same) refl)

@@ -40,8 +40,8 @@ quiet_stands bytes seen core os new s x quiet stands names sound = record {
   names = subst (λ (p : Commits). Stand bytes new x.state.things (history_in p) x.state.layout) (sym quiet.commits)
       (subst (Stand bytes new x.state.things (history_of s)) (sym quiet.layout) names);
   sound = sound;
-  held = λ durable. subst (λ (p : Commits). engine.IsHeld core.back seen (history_in p) x.state.layout) (sym quiet.commits)
-      (subst (engine.IsHeld core.back seen (history_of s)) (sym quiet.layout) (stands.held durable));
+  held = λ openable. subst (λ (p : Commits). engine.IsHeld core.back seen (history_in p) x.state.layout) (sym quiet.commits)
+      (subst (engine.IsHeld core.back seen (history_of s)) (sym quiet.layout) (stands.held openable));
   running = ap (λ (l : Layout). l.halted) quiet.layout ∙ stands.running;
   fits = subst (λ (p : Commits). Fits seen core (history_in p) x.state.layout) (sym quiet.commits)
       (subst (Fits seen core (history_of s)) (sym quiet.layout) stands.fits);

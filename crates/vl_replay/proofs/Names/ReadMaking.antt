@@ -1,7 +1,8 @@
 -- What reads and scans through a name make.
-use Rattle.std.proofs.Common.{◌≡◌, ℕ, ◌==◌, Bool, true, false, cond, ◌&&◌, not, List, [], ◌∷◌, ◌++◌, length, refl, ap, sym, ◌∙◌, subst}
+use Rattle.std.proofs.Common.{◌≡◌, ℕ, ◌==◌, Bool, true, false, cond, ◌&&◌, not, List, [], ◌∷◌, ◌++◌, length, refl, ap, sym, ◌∙◌, subst, arith}
 use Rattle.std.specs.Prelude.{Option, None, Some, Ok, Err, Result, IfOk, OnOk, OnErr, nat_le}
 use Rattle.vl_disk.specs.DiskState.{DiskState}
+use Rattle.vl_disk.specs.Faults.{HasCause}
 use Rattle.vl_engine.specs.Reading.{IsRefusedBy, IsSound as IsSoundRead, NotesNothing, OnlyNotes, OnlyReads, ReadFailed, either, value_under}
 use Rattle.vl_engine.specs.Sees.{Sees, SeesAlone}
 use Rattle.vl_engine.specs.declared.fails.ReadFail.{ReadFail}
@@ -26,7 +27,8 @@ use Rattle.vl_txn.specs.declared.key_fail.KeyFail.TheVariants.{EmptyKey, KeyTooL
 use Rattle.vl_replay.specs.Replaying.{MakesStep, OnlyNoMemory, StandsIn, state_by}
 use Rattle.vl_replay.specs.Sequential.{State, as_told, history_of, without_lengths}
 use Rattle.vl_replay.specs.Standing.{IsTaken, tell_of, told_by, told_value}
-use Rattle.vl_replay.specs.Halts.{HaltsByDisk}
+use Rattle.vl_replay.specs.Failing.{ReaderFailed}
+use Rattle.vl_replay.specs.Halts.{HaltsByDamage, HaltsByDisk, HaltsByReader}
 use Rattle.vl_replay.specs.declared.fails.Halt.{Halt}
 use Rattle.vl_replay.specs.declared.replayer.open.Open.{Open}
 use Rattle.vl_replay.specs.declared.replayer.open.Thing.TheVariants.{Transaction, View}
@@ -103,6 +105,35 @@ call_sound tell read result is sound near = subst (λ (r : Result Answer Halt). 
 
 pub call_not_by_disk : {V : Type 0} (tell : V → Answer) (read : Result V ReadFail) (result : Result Answer Halt) → result ≡ told_by tell read → HaltsByDisk result → ⊥
 call_not_by_disk tell read result is halts = not_by_disk tell read (subst (λ (r : Result Answer Halt). HaltsByDisk r) is halts)
+
+-- no damage is told where none was met,
+undamaged_told : {V : Type 0} (tell : V → Answer) (result : Result V ReadFail) → IsSoundRead result → HaltsByDamage (told_by tell result) → ⊥
+undamaged_told tell (Ok value) sound halts = halts
+undamaged_told tell (Err unread.EmptyKey) sound halts = halts
+undamaged_told tell (Err unread.KeyTooLong) sound halts = halts
+undamaged_told tell (Err unread.NoMemory) sound halts = halts
+undamaged_told tell (Err (unread.Disk name)) sound halts = halts
+undamaged_told tell (Err (unread.Damaged name place)) sound halts = sound tt
+
+pub call_undamaged : {V : Type 0} (tell : V → Answer) (read : Result V ReadFail) (result : Result Answer Halt) → result ≡ told_by tell read → IsSoundRead read
+    → HaltsByDamage result → ⊥
+call_undamaged tell read result is sound halts = undamaged_told tell read sound (subst (λ (r : Result Answer Halt). HaltsByDamage r) is halts)
+
+-- and a reader's fault where its reader failed
+failed_told : {V : Type 0} (tell : V → Answer) (result : Result V ReadFail) → HaltsByReader (told_by tell result) → ReadFailed result
+failed_told tell (Ok value) halts = halts
+failed_told tell (Err unread.EmptyKey) halts = halts
+failed_told tell (Err unread.KeyTooLong) halts = halts
+failed_told tell (Err unread.NoMemory) halts = halts
+failed_told tell (Err (unread.Disk name)) halts = tt
+failed_told tell (Err (unread.Damaged name place)) halts = absurd halts
+
+-- which it counted
+pub call_counted : {V R : Type 0} (tell : V → Answer) (read : Result V ReadFail) (result : Result Answer Halt) → result ≡ told_by tell read
+    → (faults : R → ℕ) (old new : R) → HasCause (faults old) (faults new) (ReadFailed read) → HaltsByReader result → ReaderFailed faults
+call_counted tell read result is faults old new cause halts =
+    let rose = cause.rose (failed_told tell read (subst (λ (r : Result Answer Halt). HaltsByReader r) is halts)) in
+    record { reader = new; some = omega (arith, rose) }
 
 module _ {H R : Type 0} (bytes : H → Option (List ℕ)) (seen : Option DiskState) (core : Core H) (os : List (Open H R)) (s : State) (stands : StandsIn bytes seen core os s)
     (left : List (Open H R)) (name : Name) where
