@@ -3,11 +3,12 @@ use Rattle.vl_disk.specs.Faults.{Rose}
 use Rattle.vl_recover.specs.opening.Answers.{AnswersBy}
 use Rattle.vl_recover.specs.opening.Results.{recovery_by}
 use Rattle.vl_recover.specs.declared.fails.OpenError.{OpenError}
+use Rattle.vl_replay.specs.Durable.{Tells}
 use Rattle.vl_replay.specs.Endings.{CountsFaultsOf, TheDisk, culprit_of}
 use Rattle.vl_replay.specs.declared.ending.Ending.{Ending}
 use Rattle.vl_replay.specs.declared.ending.Ending.TheVariants.{DiskFault, ReaderFault, Stopped}
 use Rattle.vl_replay.specs.laws.Laws.{keeps_up_at_first}
-use Rattle.vl_engine.specs.Opening.{IsFault}
+use Rattle.vl_engine.specs.Opening.{IsDurable, IsFault}
 use Rattle.vl_replay.specs.Reading.{streams}
 use Rattle.vl_replay.specs.Replaying.{disk_of}
 use Rattle.vl_replay.specs.Runs.{script_of, outside}
@@ -17,7 +18,7 @@ use Rattle.vl_replay.specs.Stored.{IsStopped, IsStored}
 use Rattle.vl_engine.specs.Shown.{Shown}
 use Rattle.std.specs.Prelude.{IsTrue, Some, true, false}
 use Rattle.vl_replay.proofs.Disk.Shown.{shown_stays, stored_exactly}
-use Rattle.vl_replay.proofs.Runs.OpenedRuns.{ends_opened, ends_refused, of_result, of_unopened, refused, refused_nothing, refused_as, refused_line, not_for_words, not_silent, out_of_memory, counts_sink, counts_source}
+use Rattle.vl_replay.proofs.Runs.OpenedRuns.{again_openable, ends_opened, ends_refused, of_result, of_unopened, refused, refused_nothing, refused_as, refused_line, not_for_words, not_silent, out_of_memory, counts_sink, counts_source}
 use Rattle.vl_replay.proofs.Runs.ReaderFaults.{by_either, disk_or_tables, left_as_before}
 use Rattle.vl_replay.proofs.Runs.ReadingOn.{unopened_reads_nothing}
 use Rattle.vl_replay.proofs.Runs.Refusals.{fault_for, fault_of, first_for, no_fault, opened_not_refused, refused_for, refused_or_first}
@@ -26,12 +27,11 @@ use Rattle.vl_replay.proofs.running.replay.Goals as goal
 pub returns-in-Ok-clause-runs : goal.returns-in-Ok-clause-runs
 returns-in-Ok-clause-runs g c s input starts told =
     ends_opened g.D.Watched (record { only_now = g.met.D.Disk.only_now; counts_now = g.met.D.Disk.counts_now }) IsStored Shown IsStopped shown_stays stored_exactly
-    (λ (t : State). IsTrue t.durable) (script_of s 0 input)
+    (λ (t : State). IsTrue t.openable) (Tells g.D.Watched c.args.disk IsDurable) (script_of s 0 input)
     (outside g.S.Source g.K.Sink c.args.source.now c.args.sink.now c.args.disk) (outside g.S.Source g.K.Sink c.answer_lines.new.source c.answer_lines.new.sink c.answer_lines.result.disk)
     g.D.Reader.Reader.faults
     (outside g.S.Source g.K.Sink c.args.source.now c.args.sink.now (disk_of c.in-Ok.replayer)) c.answer_lines.result.ending refl refl (c.in-Ok.ensures.cause.steady (λ by. by))
-    (λ all. let durable = starts.durable all in c.in-Ok.ensures.holds s starts (starts.state, starts.told, durable.may_open))
-    (λ all. c.in-Ok.ensures.through s starts (starts.state, starts.told, starts.durable all))
+    (λ openable durable. c.in-Ok.ensures.holds s starts openable) (λ openable durable. c.in-Ok.ensures.through s starts durable)
     (c.answer_lines.ensures.runs s input (c.in-Ok.ensures.store s starts) told)
 
 pub returns-in-Ok-clause-refused : goal.returns-in-Ok-clause-refused
@@ -54,7 +54,7 @@ returns-clause-runs g c s input starts told =
     ⊎ (FailsAtTables g.D.Watched g.D.Reader.Reader.faults c.args.disk fail.disk × (0 ≡ 0)) in
     let shown = by_either g.D.Watched g.D.Reader.Reader.faults c.args.disk fail.disk fail.reader reason c.in-Err.ensures.cause c.in-Err.ensures.unread c.in-Err.ensures.unmoved in
     ends_refused g.D.Watched (record { only_now = g.met.D.Disk.only_now; counts_now = g.met.D.Disk.counts_now }) IsStored Shown IsStopped shown_stays stored_exactly
-    (λ (t : State). IsTrue t.durable) script
+    (λ (t : State). IsTrue t.openable) (Tells g.D.Watched c.args.disk IsDurable) script
     (outside g.S.Source g.K.Sink c.args.source.now c.args.sink.now c.args.disk) (outside g.S.Source g.K.Sink c.args.source.now ended.new.sink fail.disk)
     g.D.Reader.Reader.faults
     ended.result (refused_nothing g.K.Sink c.args.sink.now ended.new.sink how ended.result ended.ensures.2)
@@ -66,9 +66,9 @@ returns-clause-runs g c s input starts told =
     (λ (tables : FailsAtTables g.D.Watched g.D.Reader.Reader.faults c.args.disk fail.disk). inr (tables, refl))
     (shown (fault_for reason how ended.ensures.1 fault))) ended.ensures.2)
     (keeps_up_at_first input (g.S.Source.asked c.args.source.now) (g.met.S.Source.since_asked c.args.source.now input told))
-    (λ all. c.in-Err.ensures.through s starts (starts.state, starts.told, starts.durable all))
-    (λ all. let now = c.in-Err.ensures.tells starts.state starts.told in
-    (now.0, now.1, c.in-Err.ensures.again starts.state now.0 starts.told (starts.durable all).may_open now.1))
+    (λ openable durable. c.in-Err.ensures.through s starts durable)
+    (λ openable durable. let now = c.in-Err.ensures.tells durable.0 durable.1 in
+    (now.0, now.1, c.in-Err.ensures.again durable.0 now.0 durable.1 durable.2.may_open now.1))
     (left_as_before g.D.Watched g.D.Reader.Reader.faults c.args.disk fail.disk fail.reader reason c.in-Err.ensures.cause c.in-Err.ensures.unread c.in-Err.ensures.unmoved
     (λ none. c.in-Err.ensures.left_alone none refl))
     (λ out. c.in-Err.ensures.left_alone (λ fault. out_of_memory g.K.Sink c.args.sink.now ended.new.sink how ended.result ended.ensures.2 out (fault_of reason how ended.ensures.1 fault)) refl)
@@ -140,7 +140,9 @@ returns-clause-refuses g c state read refusal told is_read is_refused =
 
 pub returns-in-Ok-clause-again : goal.returns-in-Ok-clause-again
 returns-in-Ok-clause-again g c s input starts told may =
-    ((c.answer_lines.ensures.runs s input (c.in-Ok.ensures.store s starts) told).disk (c.in-Ok.ensures.holds s starts may)).again
+    let first : State = record s { openable = true } in
+    let begins = again_openable g.D.Watched c.args.disk s starts may in
+    ((c.answer_lines.ensures.runs first input (c.in-Ok.ensures.store first begins) told).disk (c.in-Ok.ensures.holds first begins refl)).again
 
 pub returns-clause-again : goal.returns-clause-again
 returns-clause-again g c s input starts told (state, is, may) =
