@@ -1,5 +1,5 @@
 -- The two openings of a trial: that of the empty disk that stops, and that of what a crash leaves.
-use Rattle.std.proofs.Common.{◌≡◌, ⊎_elim, ℕ, ◌-◌, ◌^◌, ◌≤◌, List, [], length, Some, Result, Ok, Err, refl, sym, ◌∙◌, ap, subst, arith}
+use Rattle.std.proofs.Common.{◌≡◌, ⊎_elim, ℕ, ◌-◌, ◌^◌, ◌≤◌, List, [], length, None, Some, Result, Ok, Err, refl, sym, ◌∙◌, ap, subst, arith}
 use Rattle.std.specs.Prelude.{IfOk, IfErr}
 use Rattle.std.specs.FinMap.{empty, get-empty}
 use Rattle.vl_disk.specs.Crash.{Image}
@@ -52,6 +52,18 @@ some_list a b e = cc
 
 pub bare_read : IsRead empty empty_disk
 bare_read = started_read empty empty_disk started_empty
+
+-- ---- readers that never fail
+
+-- an opening over readers that never fail has none that counted a fault
+pub steady_readers : {E D R : Type 0} (faults : R → ℕ) → ((reader : R) → faults reader ≡ 0) → (r : Result E (OpenFail D R))
+    → reader_faults faults r ≡ 0
+steady_readers faults never (Ok engine) = refl
+steady_readers {R} faults never (Err fail) = of fail.reader
+  where
+    of : (reader : Maybe R) → counted faults reader ≡ 0
+    of None = refl
+    of (Some reader) = never reader
 
 -- ---- the first opening
 

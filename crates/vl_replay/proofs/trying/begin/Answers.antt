@@ -4,8 +4,7 @@ use Rattle.vl_disk.specs.DiskState.{empty_disk}
 use Rattle.vl_mem.specs.contracts.stopping_disk.StoppingDiskWatched.TheImpl as memory
 use Rattle.vl_replay.specs.Trial.{begun}
 use Rattle.vl_replay.specs.Trying.{all_told}
-use Rattle.vl_replay.proofs.Openings.Begun.{begun_untabled}
-use Rattle.vl_replay.proofs.Trials.Reopening.{bare_read, counts_small, durable, opened, starts, stopped, told}
+use Rattle.vl_replay.proofs.Trials.Reopening.{bare_read, counts_small, opened, starts, steady_readers, stopped, told}
 use Rattle.vl_replay.proofs.trying.begin.Goals as goal
 
 pub returns-clause-opened : goal.returns-clause-opened
@@ -16,8 +15,7 @@ returns-clause-opened c =
     let none = c.new-2.ensures.calls in
     let begins = starts c.args.stop disk empty_is stops none in
     let opens = c.new.ensures in
-    opened c.args.stop disk empty_is stops none _ c.new.result (opens.unread begins.state begins.read begins.told begins.is_read
-    (begun_untabled memory.ghosts disk begun begins)) opens.cause (opens.meanwhile empty_disk empty (told c.args.stop disk empty_is stops none) bare_read) all_told
+    opened c.args.stop disk empty_is stops none _ c.new.result (steady_readers _ (λ reader. refl) c.new.result) opens.cause (opens.meanwhile empty_disk empty (told c.args.stop disk empty_is stops none) bare_read) all_told
     (opens.store begun begins)
     (opens.holds begun begins refl)
 
@@ -30,7 +28,6 @@ returns-clause-stopped c =
     let begins = starts c.args.stop disk empty_is stops none in
     let here = told c.args.stop disk empty_is stops none in
     let opens = c.new.ensures in
-    stopped c.args.stop disk empty_is stops none _ c.new.result (opens.unread begins.state begins.read begins.told begins.is_read
-    (begun_untabled memory.ghosts disk begun begins)) opens.cause (opens.meanwhile empty_disk empty here bare_read)
+    stopped c.args.stop disk empty_is stops none _ c.new.result (steady_readers _ (λ reader. refl) c.new.result) opens.cause (opens.meanwhile empty_disk empty here bare_read)
     (opens.answer empty_disk empty here bare_read)
     (opens.at_most begun begins (counts_small c.args.stop disk empty_is stops none))
