@@ -4,6 +4,7 @@ pub mod OpeningStopped
 pub mod Passing
 pub mod Reopening
 pub mod StoppedLaws
+pub mod StoreText
 pub mod TornSteps
 pub mod TrialEnds
 pub mod TrialLines

@@ -30,9 +30,9 @@ use Rattle.vl_mem.specs.CrashImage.{crash_image}
 use Rattle.vl_model.specs.History.{last_number}
 use Rattle.vl_replay.specs.Reopens.{Reopens}
 use Rattle.vl_replay.specs.Replaying.{StandsFor, disk_of}
-use Rattle.vl_replay.specs.Start.{OpensUpTo, StartsIn}
+use Rattle.vl_replay.specs.Start.{StartsIn}
 use Rattle.vl_engine.specs.Opening.{IsDurable}
-use Rattle.vl_replay.specs.laws.StartLaws.{empty_stay, finds_nothing, no_commits, opens_up_to, started_durable, starts_empty}
+use Rattle.vl_replay.specs.laws.StartLaws.{empty_stay, finds_nothing, no_commits, started_durable, starts_empty}
 use Rattle.vl_replay.specs.Steps.{EndsUnopened, Finishes, FinishesBy}
 use Rattle.vl_replay.specs.Stored.{IsStored}
 use Rattle.vl_replay.specs.Trial.{begun}
@@ -69,7 +69,7 @@ steady_readers {R} faults never (Err fail) = of fail.reader
 
 module _ (stop : ℕ) (disk : StoppingDisk) (is : state_on disk ≡ empty_disk) (past : StopsPast disk (Some stop))
     (none : calls_on disk ≡ 0) where
-  told : memory.ghosts.told disk ≡ Some empty_disk
+  pub told : memory.ghosts.told disk ≡ Some empty_disk
   told = ap Some is
 
   sound : faults_on disk ≡ 0
@@ -77,7 +77,8 @@ module _ (stop : ℕ) (disk : StoppingDisk) (is : state_on disk ≡ empty_disk) 
 
   pub starts : StartsIn memory.ghosts disk begun
   starts = subst (λ (n : ℕ). StartsIn memory.ghosts disk (record begun { calls = after_calls 6 n })) none
-      (starts_empty memory.ghosts disk empty_disk told (get-empty name_cmp) (get-empty name_cmp))
+      (starts_empty memory.ghosts disk empty_disk told (get-empty name_cmp) (get-empty name_cmp)
+      (started_durable empty empty_disk started_empty empty_stay).may_open)
 
   pub durable : Tells memory.ghosts disk IsDurable
   durable = (empty_disk, told, started_durable empty empty_disk started_empty empty_stay)
@@ -139,9 +140,6 @@ module _ (stop : ℕ) (disk : StoppingDisk) (is : state_on disk ≡ empty_disk) 
 -- ---- the opening of what a crash leaves
 
 module _ (image : Image) (h : History) (m : ℕ) (disk : StoppingDisk) (started : Started image (state_on disk)) (again : Reopens image h m) where
-  pub lawful_up : (files : ℕ) × OpensUpTo files (state_on disk) again.found
-  lawful_up = opens_up_to (state_on disk) again.found (told_lawful disk.disk.events.items disk.disk.kept.sound (state_on disk) refl)
-
   -- where it isn't opened, memory ran out
   pub only_memory : (reason : OpenError) → ((state : DiskState) (read : Image) → memory.ghosts.told disk ≡ Some state → IsRead read state → AnswersBy read (recovery_by reason))
       → (IsFault (Some reason) → ⊥) → reason ≡ why.NoMemory
