@@ -71,7 +71,7 @@ returns-in-View-clause-undamaged g c s stands =
 
 pub returns-in-View-clause-fault : goal.returns-in-View-clause-fault
 returns-in-View-clause-fault g c =
-    call_counted (told_value c.args.with_tag) c.get.result c.told.result c.told.ensures _ _ _ c.get.ensures.cause
+    call_counted (told_value c.args.with_tag) c.get.result c.told.result c.told.ensures g.D.Reader.Reader.faults _ _ c.get.ensures.cause
 
 pub returns-clause-makes : goal.returns-clause-makes
 returns-clause-makes g c s stands =
@@ -123,4 +123,4 @@ returns-clause-undamaged g c s stands =
 
 pub returns-clause-fault : goal.returns-clause-fault
 returns-clause-fault g c =
-    call_counted (told_value c.args.with_tag) c.get-in-Transaction.result c.told-in-Transaction.result c.told-in-Transaction.ensures _ _ _ c.get-in-Transaction.ensures.cause
+    call_counted (told_value c.args.with_tag) c.get-in-Transaction.result c.told-in-Transaction.result c.told-in-Transaction.ensures g.D.Reader.Reader.faults _ _ c.get-in-Transaction.ensures.cause

@@ -74,7 +74,7 @@ returns-in-View-clause-undamaged g c s stands =
 
 pub returns-in-View-clause-fault : goal.returns-in-View-clause-fault
 returns-in-View-clause-fault g c =
-    call_counted (λ rows. answers.Rows rows) c.scan.result c.told_rows.result c.told_rows.ensures _ _ _ c.scan.ensures.cause
+    call_counted (λ rows. answers.Rows rows) c.scan.result c.told_rows.result c.told_rows.ensures g.D.Reader.Reader.faults _ _ c.scan.ensures.cause
 
 pub returns-clause-makes : goal.returns-clause-makes
 returns-clause-makes g c s stands =
@@ -129,4 +129,4 @@ returns-clause-undamaged g c s stands =
 
 pub returns-clause-fault : goal.returns-clause-fault
 returns-clause-fault g c =
-    call_counted (λ rows. answers.Rows rows) c.scan-in-Transaction.result c.told_rows-in-Transaction.result c.told_rows-in-Transaction.ensures _ _ _ c.scan-in-Transaction.ensures.cause
+    call_counted (λ rows. answers.Rows rows) c.scan-in-Transaction.result c.told_rows-in-Transaction.result c.told_rows-in-Transaction.ensures g.D.Reader.Reader.faults _ _ c.scan-in-Transaction.ensures.cause
