@@ -3,6 +3,7 @@ pub mod AllRows
 pub mod OpeningStopped
 pub mod Passing
 pub mod Reopening
+pub mod ShortKeys
 pub mod StoppedLaws
 pub mod StoreText
 pub mod TornSteps

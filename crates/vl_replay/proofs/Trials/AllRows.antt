@@ -1,9 +1,10 @@
 -- A scan of all rows, read piece by piece: each piece from the last row of the one before on.
-use Rattle.std.proofs.Common.{◌≡◌, ⊎_elim, ℕ, zero, suc, min, ◌+◌, ◌<◌, ◌≤◌, Bool, true, false, cond, ◌&&◌, not, List, [], ◌∷◌, ◌++◌, drop, length, take, Option, None, Some, refl, ap, sym, ◌∙◌, subst, arith}
+use Rattle.std.proofs.Common.{◌≡◌, ⊎_elim, ℕ, zero, suc, min, ◌+◌, ◌-◌, ◌^◌, ◌<◌, ◌≤◌, Bool, true, false, cond, ◌&&◌, not, List, [], ◌∷◌, ◌++◌, drop, length, take, Option, None, Some, refl, ap, sym, ◌∙◌, subst, arith}
 use Rattle.std.proofs.Math.Seq.{take-add}
 use Rattle.std.proofs.lemmas.Bool.{cases_lt}
+use Rattle.std.proofs.lemmas.Bool.Decides.{nat_tests}
 use Rattle.std.proofs.lemmas.List.{length-take, take-append-drop, take-take, take_all}
-use Rattle.std.specs.Prelude.{T}
+use Rattle.std.specs.Prelude.{T, nat_lt}
 use Rattle.std.specs.Cmp.Lexicographic.{nat_list_cmp_total}
 use Rattle.std.specs.FinMap.{entries, entries_sorted}
 use Rattle.std.specs.FinMap.Entries.{below_all, is_sorted}
@@ -152,3 +153,24 @@ next_read all rows more read last row sorted so_far at long is =
     get_front (r ∷ rs) zero i x at = absurd (none_some x at)
     get_front (r ∷ rs) (suc k) zero x at = at
     get_front (r ∷ rs) (suc k) (suc i) x at = get_front rs k i x at
+
+-- ---- how long it is read on
+
+-- as long as all rows that were asked for are read there are more of them, of which a list has room for so many
+abbrev pub read_left : (read long : ℕ) → ℕ
+read_left read long = cond (nat_lt read rows_at_once) 0 (2 ^ 64 + 1 - long)
+
+pub left_smaller : (read next long longer : ℕ) → rows_at_once ≤ read → long < 2 ^ 64 → longer < 2 ^ 64 → longer + 1 ≡ long + next
+    → read_left next longer < read_left read long
+left_smaller read next long longer asked fits fits_longer more =
+    subst (λ (b : Bool). read_left next longer < cond b 0 (2 ^ 64 + 1 - long)) (sym (not_few read asked)) (by (nat_lt next rows_at_once) refl)
+  where
+    not_few : (n : ℕ) → rows_at_once ≤ n → nat_lt n rows_at_once ≡ false
+    not_few n le = grind (arith, nat_tests, le)
+
+    enough : (n : ℕ) → nat_lt n rows_at_once ≡ false → rows_at_once ≤ n
+    enough n is = grind (arith, nat_tests, is)
+
+    by : (b : Bool) → nat_lt next rows_at_once ≡ b → cond b 0 (2 ^ 64 + 1 - longer) < 2 ^ 64 + 1 - long
+    by true is = omega (arith, fits)
+    by false is = let le = enough next is in omega (arith, le, fits, fits_longer, more)
