@@ -18,7 +18,7 @@ use vl_model::Way;
 
 /// What is printed of a store that was just opened: the number of its last commit, and all that stands there. None where no view
 /// of it began, or some of it wasn't read.
-pub fn store_text<D: Disk>(alloc: Global, engine: Engine<D>) -> Option<Vec<u8>>
+pub fn store_text<D: Disk + Drop>(alloc: Global, engine: Engine<D>) -> Option<Vec<u8>>
     ensures { (h : History) (l : Layout) → StandsFor D.Held.bytes engine.core h l
         → ForSome result (λ text. text.items ≡ reopened_text (last_number h) (contents_at h (last_number h))) }
 {
