@@ -14,7 +14,6 @@ pub mod Flushed
 pub mod Halted
 pub mod Headed
 pub mod Knowing
-pub mod Leaving
 pub mod Merged
 pub mod Opened
 pub mod Represented

@@ -6,3 +6,5 @@ pub mod Shown
 pub mod Carried
 pub mod Held
 pub mod Committed
+pub mod Stepped
+pub mod Torn

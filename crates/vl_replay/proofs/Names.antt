@@ -12,6 +12,7 @@ pub mod ReadMaking
 pub mod ScanMaking
 pub mod BeginMaking
 pub mod CommitMaking
+pub mod StepMaking
 pub mod Returning
 pub mod Placing
 pub mod Halts

@@ -10,3 +10,4 @@ pub mod TornSteps
 pub mod TrialEnds
 pub mod TrialLines
 pub mod TrialRun
+pub mod TornSteps
