@@ -23,8 +23,13 @@ pub fn store_text<D: Disk + Drop>(alloc: Global, engine: Engine<D>) -> Option<Ve
         → ForSome result (λ text. text.items ≡ reopened_text (last_number h) (contents_at h (last_number h))) }
 {
     let mut engine = engine;
-    let mut view = engine.view().ok()?;
-    view_text(alloc, &mut view).ok()
+    let Ok(mut view) = engine.view() else {
+        return None;
+    };
+    match view_text(alloc, &mut view) {
+        Ok(text) => Some(text),
+        Err(_) => None,
+    }
 }
 
 // What is printed of a view: the number at which it reads, and all that stands there.

@@ -6,15 +6,19 @@ use Rattle.std.proofs.lemmas.Bool.Decides.{nat_tests}
 use Rattle.std.proofs.lemmas.List.{length-take, take-append-drop, take-take, take_all}
 use Rattle.std.specs.Prelude.{T, nat_lt}
 use Rattle.std.specs.Cmp.Lexicographic.{nat_list_cmp_total}
-use Rattle.std.specs.FinMap.{entries, entries_sorted}
+use Rattle.std.specs.FinMap.{empty, empty_of_len, entries, entries-from_sorted, from_sorted, len-entries}
 use Rattle.std.specs.FinMap.Entries.{below_all, is_sorted}
 use Rattle.std.specs.List.{filter, slice_get}
 use Rattle.std.specs.Ordering.{is_lt, ordering_reverse}
 use Rattle.std.specs.declared.cmp.Ordering.{Ordering}
 use Rattle.std.specs.declared.cmp.Ordering.TheVariants.{Less, Equal, Greater}
 use Rattle.std.proofs.lemmas.Cmp.{tied_itself}
-use Rattle.vl_model.specs.Keys.{Row, key_cmp}
-use Rattle.vl_model.specs.Reads.{is_within}
+use Rattle.vl_engine.specs.Reading.{rows_under}
+use Rattle.vl_model.specs.History.{History, contents_at}
+use Rattle.vl_model.specs.Keys.{Row, Writes, key_cmp}
+use Rattle.vl_model.specs.Reads.{is_within, rows_written}
+use Rattle.vl_model.specs.declared.change.Change.{Change}
+use Rattle.vl_model.specs.declared.way.Way.TheVariants.{Up}
 use Rattle.vl_replay.specs.Contents.{AreRead, rows_at_once}
 
 -- the rows from a key on
@@ -174,3 +178,18 @@ left_smaller read next long longer asked fits fits_longer more =
     by : (b : Bool) → nat_lt next rows_at_once ≡ b → cond b 0 (2 ^ 64 + 1 - longer) < 2 ^ 64 + 1 - long
     by true is = omega (arith, fits)
     by false is = let le = enough next is in omega (arith, le, fits, fits_longer, more)
+
+-- ---- what a view reads
+
+-- no own writes stand over the rows
+no_writes : entries (empty {K = List ℕ} {X = Change} {R = key_cmp}) ≡ []
+no_writes = ap (λ (writes : Writes). entries writes) (sym bare) ∙ entries-from_sorted key_cmp [] tt
+  where
+    bare : from_sorted [] ≡ empty {K = List ℕ} {X = Change} {R = key_cmp}
+    bare = empty_of_len (from_sorted []) (len-entries (from_sorted []) ∙ ap length (entries-from_sorted key_cmp [] tt))
+
+-- so its scans upwards without an upper bound give the first rows from a key on
+pub rows_are : (h : History) (number : ℕ) (low : List ℕ) (limit : ℕ)
+    → rows_under empty h number low [] limit Up ≡ take limit (rows_from low (entries (contents_at h number)))
+rows_are h number low limit =
+    ap (λ (own : List (List ℕ × Change)). take limit (rows_from low (rows_written own (entries (contents_at h number))))) no_writes
