@@ -15,6 +15,7 @@ ghost use Rattle.vl_recover.specs.crash.Held.{HoldsStore, view_of};
 ghost use Rattle.vl_recover.specs.crash.Meanwhile.{FaultsAt, IsAsLong, IsMeanwhile, IsRepaired};
 ghost use Rattle.vl_recover.specs.opening.FoundTables.{all_found};
 ghost use Rattle.vl_recover.specs.opening.HeldFiles.{AreHeldLogs, AreReadTables, AreWaiting, IsReadyToGoOn, tables_of};
+ghost use Rattle.vl_recover.specs.opening.Intact.{IsIntact, LeavesIntact};
 ghost use Rattle.vl_recover.specs.opening.Opening.{NamesNoTable};
 ghost use Rattle.vl_recover.specs.opening.Results.{FailsWithoutFault, IsDiskFault, recovery_of, disk_of, opened_of, read_faults};
 ghost use Rattle.vl_recover.specs.crash.Starts.{MayOpen};
@@ -70,6 +71,13 @@ pub fn recover<D: Disk>(
     // So whatever a crash leaves meanwhile opens as something that it could have left before.
     ensures through { (state : DiskState) → D.told disk ≡ Some state → MayOpen state
         → HoldsThroughout D.Watched disk (disk_of result) (OpensAsOf state) }
+
+    // Where whatever a crash could leave before is intact, so is whatever one leaves meanwhile: a store opens from it, and every
+    // live pointer resolves. And behind the opening it is intact where what reads gave is.
+    ensures stays_intact { (state : DiskState) → D.told disk ≡ Some state → MayOpen state → LeavesIntact state
+        → HoldsThroughout D.Watched disk (disk_of result) LeavesIntact }
+    ensures intact { (state now : DiskState) (read : Image) → D.told disk ≡ Some state → MayOpen state → IsRead read state
+        → IsIntact read → D.told (disk_of result) ≡ Some now → IfOk result (λ parts. LeavesIntact now) }
 
     // And a store may be opened on it again.
     ensures again { (state now : DiskState) → D.told disk ≡ Some state → MayOpen state

@@ -11,6 +11,7 @@ use Rattle.vl_layout.specs.Logs.{memtable}
 use Rattle.vl_layout.specs.Shown.{IsOf}
 use Rattle.vl_layout.specs.Shows.{AreUpTo, Shows}
 use Rattle.vl_layout.specs.Start.{newest_first}
+use Rattle.vl_layout.specs.declared.segment.Segment.{Segment}
 use Rattle.vl_manifest.specs.Levels.{is_in}
 use Rattle.vl_model.specs.Formats.{log_format}
 use Rattle.vl_model.specs.History.{History, Past}
@@ -75,8 +76,8 @@ all_tables levels = flat_map (λ level. level) levels
 -- ---- what they hold
 
 -- the entries of all sources, end to end, the newest first: of the memtables of logs with frames, and of tables
-abbrev pub entries_of : Opening → List (List Entry) → List Entry
-entries_of o tables = flat_map memtable (newest_first o.logs) ++ joined tables
+abbrev pub entries_of : List Segment → List (List Entry) → List Entry
+entries_of logs tables = flat_map memtable (newest_first logs) ++ joined tables
 
 -- a value that a pointer leads to is too long to stand beside its key
 abbrev pub LeadsFar : Logs → List ℕ → Body → Type 0
@@ -89,14 +90,13 @@ LeadsFar logs key (Logged value pointer) = Unit {0}
 abbrev pub history_over : Past → ℕ → History
 history_over base number = record { first = number; base = base; commits = [] }
 
--- The entries of a store that opens so show the history of the versions that they hold. So the body of each resolves in
--- these logs, those of one key and version to the same.
-pub record EntriesResolve (o : Opening) (logs : Logs) (es : List Entry) : Type 0 where
+-- The entries of a store show, at its last number, the history of the versions that they hold, of which so many are kept, since a
+-- number. So the body of each resolves in these logs, and those of one key and version to the same value.
+pub record AllResolve (number keep since : ℕ) (logs : Logs) (es : List Entry) : Type 0 where
   pub base : Past
-  pub versions : AllByRecursion (IsOf (history_over base o.number)) es
-  pub shows : Shows logs es (history_over base o.number)
-      (low (history_over base o.number) o.number o.state.keep o.state.since) o.number
-  pub up_to : AreUpTo o.number es
+  pub versions : AllByRecursion (IsOf (history_over base number)) es
+  pub shows : Shows logs es (history_over base number) (low (history_over base number) number keep since) number
+  pub up_to : AreUpTo number es
   pub far : AllByRecursion (λ (e : Entry). LeadsFar logs e.key e.body) es
 
 -- ---- all of it
@@ -109,7 +109,8 @@ pub record IsIntact (image : Image) : Type 0 where
   pub tables : List (List Entry)
   pub tables_are : AllZip (IsTableOf image) (all_tables opening.levels) tables
   pub whole : (n : ℕ) → IsAmong (led_into opening.levels) n → HasWholeLog image n
-  pub resolve : EntriesResolve opening (image_logs image (led_into opening.levels)) (entries_of opening tables)
+  pub resolve : AllResolve opening.number opening.state.keep opening.state.since (image_logs image (led_into opening.levels))
+      (entries_of opening.logs tables)
 
 -- Whatever a crash leaves of this disk is intact, if no torn bytes spell a frame by chance.
 abbrev pub LeavesIntact : DiskState → Type 0

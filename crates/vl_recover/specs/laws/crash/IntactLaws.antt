@@ -21,7 +21,7 @@ use Rattle.vl_recover.specs.laws.opening.OpeningLaws.{opened, single_opening}
 use Rattle.vl_recover.specs.laws.repairing.RecoveredLaws.{found_goes_on, found_shows}
 use Rattle.vl_recover.specs.laws.repairing.StageLaws.{ok_same}
 use Rattle.vl_recover.specs.opening.Answers.{Finds, logs_then}
-use Rattle.vl_recover.specs.opening.Intact.{EntriesResolve, HasWholeLog, IsIntact, IsTableOf, LeavesIntact, all_tables, entries_of, image_logs, stored_in}
+use Rattle.vl_recover.specs.opening.Intact.{AllResolve, HasWholeLog, IsIntact, IsTableOf, LeavesIntact, all_tables, entries_of, image_logs, stored_in}
 use Rattle.vl_recover.specs.opening.Opening.{FoundTable, IsAmong, IsNamed, NamedLevel, NamedLevels, Opening, Opens, Refusal, key_before, led_into}
 use Rattle.vl_recover.specs.opening.Plans.{new_state}
 
@@ -110,18 +110,15 @@ tables_stay image other levels same (t ∷ ts) (es ∷ tables) named all = (
 
 -- ---- an image that opens like an intact one
 
+-- the entries of an opening that shows as another resolve
 resolve_alike : (p o : Opening) (logs : Logs) (tables : List (List Entry)) → ShowsAs p o
-    → EntriesResolve o logs (entries_of o tables) → EntriesResolve p logs (entries_of p tables)
+    → AllResolve o.number o.state.keep o.state.since logs (entries_of o.logs tables)
+    → AllResolve p.number p.state.keep p.state.since logs (entries_of p.logs tables)
 resolve_alike p o logs tables alike is =
-    subst (λ (x : Opening). EntriesResolve x logs (entries_of x tables)) (sym same)
-    (record { base = is.base; versions = is.versions; shows = is.shows; up_to = is.up_to; far = is.far })
-  where
-    -- the opening that shows as the other, in the state of the first
-    as_p : Opening
-    as_p = record { state = p.state; levels = p.levels; logs = o.logs; number = o.number }
-
-    same : p ≡ as_p
-    same = λ i. record { state = p.state; levels = p.levels; logs = alike.logs i; number = alike.number i }
+    subst (λ (n : ℕ). AllResolve n p.state.keep p.state.since logs (entries_of p.logs tables)) (sym alike.number)
+    (subst (λ (k : ℕ). AllResolve o.number k p.state.since logs (entries_of p.logs tables)) (sym alike.state.keep)
+    (subst (λ (n : ℕ). AllResolve o.number o.state.keep n logs (entries_of p.logs tables)) (sym alike.state.since)
+    (subst (λ (ss : List Segment). AllResolve o.number o.state.keep o.state.since logs (entries_of ss tables)) (sym alike.logs) is)))
 
 -- An image that opens like an intact one is intact.
 pub intact_like : (image other : Image) → OpensLike image other → IsIntact other → IsIntact image
@@ -143,7 +140,8 @@ intact_like image other like intact = by (like intact.opening intact.opens)
           let log = intact.whole n was in
           record { bytes = log.bytes; stands = needed.logs n was ∙ log.stands; reading = log.reading; reads = log.reads; whole = log.whole });
       resolve = resolve_alike p o (image_logs image (led_into p.levels)) intact.tables alike
-          (subst (λ (logs : Logs). EntriesResolve o logs (entries_of o intact.tables)) (sym logs_are) intact.resolve);
+          (subst (λ (logs : Logs). AllResolve o.number o.state.keep o.state.since logs (entries_of o.logs intact.tables))
+          (sym logs_are) intact.resolve);
     }
       where
         logs_are : image_logs image (led_into p.levels) ≡ image_logs other (led_into o.levels)
