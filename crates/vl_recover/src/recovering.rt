@@ -91,7 +91,9 @@ pub fn recover<D: Disk>(
         → FaultsAt read state (D.calls disk) (D.calls (disk_of result)) (recovery_of result) }
     ensures cause { HasCause (D.faults disk) (D.faults (disk_of result))
         (IsDiskFault (read_faults D.Reader.faults result) (recovery_of result)) }
-    // Where no table is named that reader isn't asked.
+    // Where that reader counted a fault nothing was changed either.
+    ensures unmoved { (read_faults D.Reader.faults result ≡ 0 → ⊥) → ChangesNothing D.Watched disk (disk_of result) ⊥ }
+    // Where no table is named it isn't asked.
     ensures unread { (state : DiskState) (read : Image) → D.told disk ≡ Some state → IsRead read state → NamesNoTable read
         → read_faults D.Reader.faults result ≡ 0 }
     ensures room { IfOk result (λ parts. parts.room ≡ room) }

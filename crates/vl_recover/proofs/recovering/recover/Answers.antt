@@ -8,7 +8,7 @@ use Rattle.vl_recover.specs.opening.FoundTables.{all_found}
 use Rattle.vl_recover.specs.opening.Results.{recovery_by}
 use Rattle.vl_recover.proofs.crash.IntactAfter.{intact_after, intact_throughout}
 use Rattle.vl_recover.proofs.crash.Recovered.{as_long, fault_counted, fault_of, frame_failed, frame_is, goes_on_ready, calls_counted, calls_stopped, none_made, disk_repaired, repaired_again, repaired_faults, repaired_meanwhile, repaired_tells, repaired_through, sealed_held, opened_same, read_faults, refused_disk, still_tells, store_held, unchanged_again, unchanged_meanwhile, unchanged_through}
-use Rattle.vl_recover.proofs.opening.Unmoved.{call_as, no_call, then_call}
+use Rattle.vl_recover.proofs.opening.Unmoved.{call_as, no_call, reader_failed, then_call}
 use Rattle.vl_seglog.specs.declared.active.ActiveLog.{ActiveLog}
 use Rattle.vl_recover.proofs.recovering.recover.Goals as goal
 
@@ -282,3 +282,20 @@ returns-in-Ok-repair-clause-intact g c state now read told may is_read whole end
     read is_read is (frame_is c.in-Ok-prepare.ready.0 _ c.in-Ok-prepare.ensures.edits c.in-Ok-repair.ensures.frame) is.finds
     (g.met.D.Disk.lawful _ state told) may now ended
     c.in-Ok-prepare.ready.0.state refl) whole
+
+-- its reader counted a fault
+pub returns-in-Err-clause-unmoved : goal.returns-in-Err-clause-unmoved
+returns-in-Err-clause-unmoved g c some =
+    call_as g.D.Watched _ _ _ ⊥ (reader_failed _ (recovery_by c.in-Err.why) some) (λ none. none) c.in-Err.ensures.no_change
+
+pub returns-in-Err-NoMemory-clause-unmoved : goal.returns-in-Err-NoMemory-clause-unmoved
+returns-in-Err-NoMemory-clause-unmoved g c some = absurd (some c.in-Ok-prepare.ensures.fresh)
+
+pub returns-clause-unmoved : goal.returns-clause-unmoved
+returns-clause-unmoved g c some = absurd (some c.in-Ok-prepare.ensures.fresh)
+
+pub returns-in-Ok-repair-clause-unmoved : goal.returns-in-Ok-repair-clause-unmoved
+returns-in-Ok-repair-clause-unmoved g c some = absurd (some refl)
+
+pub returns-in_default-clause-unmoved : goal.returns-in_default-clause-unmoved
+returns-in_default-clause-unmoved g c some = absurd (some refl)

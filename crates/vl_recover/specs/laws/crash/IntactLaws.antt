@@ -1,9 +1,11 @@
 -- Images that open like an intact one are intact; and what a crash leaves behind an opening opens like what was read.
-use Rattle.std.specs.Prelude.{◌≡◌, ◌⊎◌, ℕ, ◌==◌, ◌||◌, if◌then◌else◌, Bool, true, false, List, [], ◌∷◌, ◌++◌, Option, None, Some, Ok, refl}
+use Rattle.std.specs.Prelude.{◌≡◌, ◌⊎◌, ◌≤◌, ℕ, ◌==◌, ◌||◌, zero, suc, if◌then◌else◌, Bool, true, false, bytes_eq, List, [], ◌∷◌, ◌++◌, take, Option, None, Some, Ok, refl}
 use Rattle.std.specs.FinMap.{get}
 use Rattle.std.specs.List.{AllByRecursion, AllZip}
 use Rattle.std.proofs.Common.{sym, ap, subst, ◌∙◌, arith, inl, inr}
+use Rattle.std.proofs.lemmas.Bool.{true≢false}
 use Rattle.std.proofs.lemmas.Bool.Decides.{nat_tests}
+use Rattle.std.proofs.lemmas.Slice.Eq.{bytes_eq-Decides}
 use Rattle.vl_disk.specs.Crash.{Image, MayLeave}
 use Rattle.vl_disk.specs.DiskState.{DiskState}
 use Rattle.vl_disk.specs.declared.name.Name.{Name}
@@ -11,6 +13,7 @@ use Rattle.vl_disk.specs.declared.name.Name.TheVariants.{Log, Table}
 use Rattle.vl_layout.specs.declared.segment.Segment.{Segment}
 use Rattle.vl_manifest.specs.Levels.{is_in}
 use Rattle.vl_manifest.specs.declared.state.ManifestState.{ManifestState}
+use Rattle.vl_model.specs.Formats.{log_format}
 use Rattle.vl_model.specs.Winners.{Logs}
 use Rattle.vl_model.specs.declared.entry.Entry.{Entry}
 use Rattle.vl_model.specs.declared.pointer.Pointer.{Pointer}
@@ -21,9 +24,13 @@ use Rattle.vl_recover.specs.laws.opening.OpeningLaws.{opened, single_opening}
 use Rattle.vl_recover.specs.laws.repairing.RecoveredLaws.{found_goes_on, found_shows}
 use Rattle.vl_recover.specs.laws.repairing.StageLaws.{ok_same}
 use Rattle.vl_recover.specs.opening.Answers.{Finds, logs_then}
-use Rattle.vl_recover.specs.opening.Intact.{AllResolve, HasWholeLog, IsIntact, IsTableOf, LeavesIntact, all_tables, entries_of, image_logs, stored_in}
+use Rattle.vl_recover.specs.opening.Intact.{AllResolve, HasWholeLog, IsIntact, IsTableOf, LeavesIntact, all_tables, entries_of, format_said, image_logs, stored_by, stored_in}
 use Rattle.vl_recover.specs.opening.Opening.{FoundTable, IsAmong, IsNamed, NamedLevel, NamedLevels, Opening, Opens, Refusal, key_before, led_into}
 use Rattle.vl_recover.specs.opening.Plans.{new_state}
+use Rattle.vl_seglog.specs.Frames.{log_header}
+use Rattle.vl_seglog.specs.LogReading.{HasHeader, IsLogFormat}
+use Rattle.vl_seglog.specs.Stored.{stored_at}
+use Rattle.vl_seglog.specs.laws.LogReadingLaws.{one_header_format}
 
 -- ---- the same logs
 
@@ -34,6 +41,44 @@ in_among n (m ∷ ms) is = by (m == n) (is_in n ms) refl is (in_among n ms)
     by : (here later : Bool) → (m == n) ≡ here → (here || later) ≡ true → (later ≡ true → IsAmong ms n) → (m ≡ n) ⊎ IsAmong ms n
     by true later at is rest = inl (grind (arith, nat_tests, at))
     by false later at is rest = inr (rest is)
+
+pub among_in : (n : ℕ) (ns : List ℕ) → IsAmong ns n → is_in n ns ≡ true
+among_in n [] among = absurd among
+among_in n (m ∷ ms) among = by (m == n) refl among
+  where
+    by : (here : Bool) → (m == n) ≡ here → (m ≡ n) ⊎ IsAmong ms n → (here || is_in n ms) ≡ true
+    by true at is = refl
+    by false at (inl same) = absurd (grind (arith, nat_tests, at, same))
+    by false at (inr rest) = among_in n ms rest
+
+-- The format that a log's header says is found.
+pub format_found : (most number format : ℕ) (bytes : List ℕ) → IsLogFormat format → format ≤ most → most ≤ log_format
+    → HasHeader format number bytes → format_said most number bytes ≡ Some format
+format_found zero number format bytes is within readable has = absurd (let least = is.least in omega (arith, least, within))
+format_found (suc most) number format bytes is within readable has =
+    let decides = bytes_eq-Decides (take 16 bytes) (log_header (suc most) number) in
+    by (bytes_eq (take 16 bytes) (log_header (suc most) number)) decides.0 decides.1
+  where
+    by : (b : Bool) → (b ≡ true → HasHeader (suc most) number bytes) → (HasHeader (suc most) number bytes → b ≡ true)
+        → (if b then Some (suc most) else format_said most number bytes) ≡ Some format
+    by true yes no =
+        ap Some (one_header_format number bytes (suc most) format (record { least = omega arith; greatest = readable }) is
+        (yes refl) has)
+    by false yes no =
+        let other : format ≡ suc most → ⊥ =
+        λ same. true≢false (sym (no (subst (λ (f : ℕ). HasHeader f number bytes) same has))) in
+        format_found most number format bytes is (omega (arith, within, other)) (omega (arith, readable)) has
+
+-- In a log that stands with this header a pointer leads where it leads in its bytes.
+pub stored_found : (image : Image) (logs : List ℕ) (pointer : Pointer) (key : List ℕ) (format : ℕ) (bytes : List ℕ)
+    → IsAmong logs pointer.segment → get image (Log pointer.segment) ≡ Some bytes → IsLogFormat format
+    → HasHeader format pointer.segment bytes → image_logs image logs pointer key ≡ stored_at format bytes pointer key
+stored_found image logs pointer key format bytes among stands is has =
+    ap (λ (b : Bool). if b then stored_in (get image (Log pointer.segment)) pointer key else None)
+    (among_in pointer.segment logs among)
+    ∙ ap (λ (o : Option (List ℕ)). stored_in o pointer key) stands
+    ∙ ap (λ (f : Option ℕ). stored_by f bytes pointer key)
+    (format_found log_format pointer.segment format bytes is is.greatest (omega arith) has)
 
 -- What stands at pointers is the same where these logs have the same bytes.
 pub logs_same : (image other : Image) (logs : List ℕ) → ((n : ℕ) → IsAmong logs n → get image (Log n) ≡ get other (Log n))
