@@ -44,12 +44,12 @@ in_among n (m ∷ ms) is = by (m == n) (is_in n ms) refl is (in_among n ms)
 
 pub among_in : (n : ℕ) (ns : List ℕ) → IsAmong ns n → is_in n ns ≡ true
 among_in n [] among = absurd among
-among_in n (m ∷ ms) among = by (m == n) refl among
+among_in n (m ∷ ms) among = by (m == n) refl among (among_in n ms)
   where
-    by : (here : Bool) → (m == n) ≡ here → (m ≡ n) ⊎ IsAmong ms n → (here || is_in n ms) ≡ true
-    by true at is = refl
-    by false at (inl same) = absurd (grind (arith, nat_tests, at, same))
-    by false at (inr rest) = among_in n ms rest
+    by : (here : Bool) → (m == n) ≡ here → (m ≡ n) ⊎ IsAmong ms n → (IsAmong ms n → is_in n ms ≡ true) → (here || is_in n ms) ≡ true
+    by true at is rest = refl
+    by false at (inl same) rest = absurd (grind (arith, nat_tests, at, same))
+    by false at (inr later) rest = rest later
 
 -- The format that a log's header says is found.
 pub format_found : (most number format : ℕ) (bytes : List ℕ) → IsLogFormat format → format ≤ most → most ≤ log_format
@@ -58,16 +58,18 @@ format_found zero number format bytes is within readable has = absurd (let least
 format_found (suc most) number format bytes is within readable has =
     let decides = bytes_eq-Decides (take 16 bytes) (log_header (suc most) number) in
     by (bytes_eq (take 16 bytes) (log_header (suc most) number)) decides.0 decides.1
+    (λ under. format_found most number format bytes is under (omega (arith, readable)) has)
   where
     by : (b : Bool) → (b ≡ true → HasHeader (suc most) number bytes) → (HasHeader (suc most) number bytes → b ≡ true)
+        → (format ≤ most → format_said most number bytes ≡ Some format)
         → (if b then Some (suc most) else format_said most number bytes) ≡ Some format
-    by true yes no =
+    by true says back lower =
         ap Some (one_header_format number bytes (suc most) format (record { least = omega arith; greatest = readable }) is
-        (yes refl) has)
-    by false yes no =
+        (says refl) has)
+    by false says back lower =
         let other : format ≡ suc most → ⊥ =
-        λ same. true≢false (sym (no (subst (λ (f : ℕ). HasHeader f number bytes) same has))) in
-        format_found most number format bytes is (omega (arith, within, other)) (omega (arith, readable)) has
+        λ same. true≢false (sym (back (subst (λ (f : ℕ). HasHeader f number bytes) same has))) in
+        lower (omega (arith, within, other))
 
 -- In a log that stands with this header a pointer leads where it leads in its bytes.
 pub stored_found : (image : Image) (logs : List ℕ) (pointer : Pointer) (key : List ℕ) (format : ℕ) (bytes : List ℕ)
