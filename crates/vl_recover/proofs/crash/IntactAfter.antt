@@ -1,5 +1,5 @@
 -- What a crash leaves of an opened store is intact.
-use Rattle.std.proofs.Common.{List, subst}
+use Rattle.std.proofs.Common.{subst}
 use Rattle.vl_disk.specs.Crash.{Image}
 use Rattle.vl_disk.specs.DiskState.{DiskState}
 use Rattle.vl_disk.specs.Moments.{HoldsThroughout, holds_weaker}

@@ -17,14 +17,14 @@ use Rattle.vl_model.specs.Formats.{log_format}
 use Rattle.vl_model.specs.Winners.{Logs}
 use Rattle.vl_model.specs.declared.entry.Entry.{Entry}
 use Rattle.vl_model.specs.declared.pointer.Pointer.{Pointer}
-use Rattle.vl_recover.specs.crash.Alike.{IsLeft, OpensAsOf, OpensLike, SameNeeded, ShowsAs}
+use Rattle.vl_recover.specs.crash.Alike.{OpensAsOf, OpensLike, SameNeeded, ShowsAs}
 use Rattle.vl_recover.specs.crash.Held.{DurableAs, HoldsStore, opening_held, view_of}
 use Rattle.vl_recover.specs.laws.opening.HeldLaws.{held_opens, left_settled}
 use Rattle.vl_recover.specs.laws.opening.OpeningLaws.{opened, single_opening}
 use Rattle.vl_recover.specs.laws.repairing.RecoveredLaws.{found_goes_on, found_shows}
 use Rattle.vl_recover.specs.laws.repairing.StageLaws.{ok_same}
 use Rattle.vl_recover.specs.opening.Answers.{Finds, logs_then}
-use Rattle.vl_recover.specs.opening.Intact.{AllResolve, HasWholeLog, IsIntact, IsTableOf, LeavesIntact, all_tables, entries_of, format_said, image_logs, stored_by, stored_in}
+use Rattle.vl_recover.specs.opening.Intact.{AllResolve, IsIntact, IsTableOf, LeavesIntact, all_tables, entries_of, format_said, image_logs, stored_by, stored_in}
 use Rattle.vl_recover.specs.opening.Opening.{FoundTable, IsAmong, IsNamed, NamedLevel, NamedLevels, Opening, Opens, Refusal, key_before, led_into}
 use Rattle.vl_recover.specs.opening.Plans.{new_state}
 use Rattle.vl_seglog.specs.Frames.{log_header}
