@@ -1,13 +1,11 @@
 -- An image that shows a history is intact.
-use Rattle.std.specs.Prelude.{◌≡◌, ◌<◌, ℕ, ◌+◌, ◌-◌, ◌==◌, nat_lt, if◌then◌else◌, Bool, true, false, List, [], ◌∷◌, ◌++◌, length, map, Option, Some, refl}
-use Rattle.std.specs.FinMap.{get}
+use Rattle.std.specs.Prelude.{◌≡◌, ◌<◌, ℕ, ◌==◌, nat_lt, if◌then◌else◌, Bool, true, false, List, [], ◌∷◌, ◌++◌, map, Option, Some, refl}
 use Rattle.std.specs.List.{AllByRecursion, AllZip, flat_map}
 use Rattle.std.specs.Option.{option_map}
 use Rattle.std.proofs.Common.{sym, ap, subst, ◌∙◌, arith}
 use Rattle.std.proofs.lemmas.Bool.Decides.{nat_tests}
 use Rattle.vl_block.specs.Cutting.{joined}
 use Rattle.vl_disk.specs.Crash.{Image}
-use Rattle.vl_disk.specs.declared.name.Name.TheVariants.{Log}
 use Rattle.vl_engine.specs.Files.{HasTable, found_levels, found_of}
 use Rattle.vl_engine.specs.Pointed.{bytes_of_log, segment_at, stored_among, stored_of}
 use Rattle.vl_engine.specs.Reopened.{past_up_to, reopened}
@@ -204,7 +202,7 @@ module _ (image : Image) (h : History) (m : ℕ) (shown : Shown image h m) where
             (entries_far (entries_among shown.levels) (tables_led shown.levels) (placed_joined (tables_among shown.levels) shown.placed));
       }
 
-  each : List (List Entry)
+  abbrev each : List (List Entry)
   each = map table_entries (tables_among shown.levels)
 
   sources_are : es ≡ entries_of shown.opening.logs each
