@@ -148,7 +148,7 @@ table_other : (n m : ℕ) → n < m → names.Table m ≡ names.Table n → ⊥
 table_other n m less e = let same : m ≡ n = cc in omega (arith, less, same)
 
 -- a file that stood stands
-stands_kept : (name : Name) (disk now : DiskState) → IsKept name disk now → Stands name disk → Stands name now
+pub stands_kept : (name : Name) (disk now : DiskState) → IsKept name disk now → Stands name disk → Stands name now
 stands_kept name disk now kept stands = by (get now.standing name) refl
   where
     not_none : get disk.standing name ≡ None → ⊥

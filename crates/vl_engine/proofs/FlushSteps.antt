@@ -180,7 +180,7 @@ module _ {H : Type 0} (bytes : H → Option (List ℕ)) (before after : Core H) 
 
 -- ---- on the disk
 
-same_log : (a b : ManifestLog) → a.number ≡ b.number → a.length ≡ b.length → a ≡ b
+pub same_log : (a b : ManifestLog) → a.number ≡ b.number → a.length ≡ b.length → a ≡ b
 same_log a b number long = ap (λ (n : ℕ). record a { number = n }) number ∙ ap (λ (n : ℕ). record b { length = n }) long
 
 module _ {D H : Type 0} (g : Ghosts D) (watched : IsWatched g) (bytes : H → Option (List ℕ)) (before after : Core H)

@@ -14,6 +14,7 @@ pub mod FlushRulings
 pub mod FlushTidy
 pub mod FrontLaws
 pub mod HeldLaws
+pub mod KeepLaws
 pub mod KeptLaws
 pub mod KnownLaws
 pub mod LaidBegun
