@@ -1,8 +1,8 @@
 -- What a flush keeps so that an engine may go on: the files that stand, and the numbers.
-use Rattle.std.specs.Prelude.{◌≡◌, ◌≢◌, ◌≤◌, ◌<◌, ℕ, ◌+◌, ◌&&◌, not, Bool, true, false, if◌then◌else◌, List, [], ◌∷◌, length, Option, None, Some, Result, Ok, Err, IsErrAnd, IsErrOf, IsSome, refl}
+use Rattle.std.specs.Prelude.{◌≡◌, ◌≢◌, ◌≤◌, ◌<◌, ℕ, ◌+◌, ◌&&◌, not, Bool, true, false, List, [], ◌∷◌, length, Option, None, Some, Result, Ok, Err, IsErrAnd, IsErrOf, IsSome, refl}
 use Rattle.std.specs.FinMap.{get}
 use Rattle.std.specs.Option.{ForSome, option_map}
-use Rattle.std.proofs.Common.{sym, ap, subst, ◌∙◌, arith}
+use Rattle.std.proofs.Common.{cond, sym, ap, subst, ◌∙◌, arith}
 use Rattle.vl_back.specs.FlushEdits.{flush_switch, head_of, switch_of}
 use Rattle.vl_back.specs.Writing.{IsKept, KeepsOthers, WhileWriting, written}
 use Rattle.vl_back.specs.declared.back.Back.{Back}
@@ -118,7 +118,7 @@ module _ (table head covered log next : ℕ) (s u : ManifestState) where
 
   unkept_add : (b : Bool)
       → finish (then_applied (all_applied (Head head covered ∷ Next log next ∷ []))
-      (if b then option_map (with_levels (as_draft s)) (put_at 0 0 table s.levels) else None)) ≡ Some u → KeepsAsMany s u
+      (cond b (option_map (with_levels (as_draft s)) (put_at 0 0 table s.levels)) None)) ≡ Some u → KeepsAsMany s u
   unkept_add true is = unkept_put (put_at 0 0 table s.levels) is
   unkept_add false is = absurd cc
 

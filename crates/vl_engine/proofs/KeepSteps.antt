@@ -1,5 +1,5 @@
 -- What a change of how many versions are kept leaves in memory and on the disk, where it is written and where that fails.
-use Rattle.std.specs.Prelude.{◌≡◌, ◌^◌, ℕ, ◌+◌, ◌-◌, List, [], length, min, Option, None, Some, Result, Ok, Err, IsErrOf, OnErr, Unit, tt, refl}
+use Rattle.std.specs.Prelude.{◌≡◌, ◌≤◌, ◌^◌, ℕ, ◌+◌, ◌-◌, List, [], ◌∷◌, length, min, Option, None, Some, Result, Ok, Err, IsErrOf, OnErr, refl}
 use Rattle.std.specs.Option.{ForSome, option_map}
 use Rattle.std.proofs.Common.{sym, ap, subst, ◌∙◌, arith, ⊎_elim}
 use Rattle.vl_back.specs.declared.back.Back.{Back}

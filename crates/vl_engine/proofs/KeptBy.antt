@@ -1,15 +1,17 @@
 -- What a change of how many versions are kept is answered, by the ruling on it: where nothing is written, and where it is to be
 -- written, whatever that came to.
-use Rattle.std.specs.Prelude.{◌≡◌, ◌≢◌, ◌≤◌, ◌<◌, ◌==◌, ℕ, ◌||◌, Bool, true, false, nat_lt, List, length, Option, None, Some, unwrap_or, Result, Ok, Err, OnOk, if◌then◌else◌, Unit, tt, refl}
+use Rattle.std.specs.Prelude.{◌≡◌, ◌≢◌, ◌≤◌, ◌<◌, ◌==◌, ◌⊎◌, ℕ, ◌||◌, [], ◌∷◌, Bool, true, false, nat_lt, List, length, Option, None, Some, unwrap_or, Result, Ok, Err, OnOk, if◌then◌else◌, refl}
 use Rattle.std.specs.FinMap.{get}
 use Rattle.std.specs.Option.{ForSome, option_map}
-use Rattle.std.proofs.Common.{sym, ap, subst, ◌∙◌, arith}
+use Rattle.std.proofs.Common.{sym, ap, subst, ◌∙◌, arith, inl, inr}
+use Rattle.std.proofs.lemmas.Bool.{cases_lt}
 use Rattle.std.proofs.lemmas.Bool.Decides.{nat_tests}
 use Rattle.vl_back.specs.declared.back.Back.{Back}
 use Rattle.vl_disk.specs.Calls.{ChangesNothing}
 use Rattle.vl_disk.specs.Disk.{IsChangedBy, Stands}
 use Rattle.vl_disk.specs.DiskState.{DiskState, File, appended, file_at, lengthened, new_file}
 use Rattle.vl_disk.specs.Faults.{after_calls}
+use Rattle.vl_disk.specs.Performs.{FailedAt, Performs, StopsAmong, calls_on}
 use Rattle.vl_disk.specs.declared.name.Name.TheVariants as names
 use Rattle.vl_disk.specs.declared.name.Name.{Name}
 use Rattle.vl_disk.specs.declared.watched.Watched.{Ghosts}
@@ -23,7 +25,7 @@ use Rattle.vl_engine.proofs.Standing.{stands_halted}
 use Rattle.vl_engine.proofs.Stepped.{fits_back, fits_halted}
 use Rattle.vl_engine.specs.Carries.{Carries, HasSameFiles, SameFiles}
 use Rattle.vl_engine.specs.Fit.{IsFitFor, IsFitForSteps}
-use Rattle.vl_engine.specs.Keeping.{AreKept, IsKeepWritten, KeepLeavesDisk, KeepsAs, MayKeep, StopsKeeping, keep_calls, keep_effects, keep_outcome, keep_written}
+use Rattle.vl_engine.specs.Keeping.{AreKept, IsKeepWritten, IsStagedKeep, KeepLeavesDisk, KeepsAs, MayKeep, StopsKeeping, WritesKeep, keep_calls, keep_effects, keep_outcome, keep_written, next_since}
 use Rattle.vl_engine.specs.Pointed.{bytes_of_log}
 use Rattle.vl_engine.specs.Represents.{Fronts, Represents, StandsFor, file_of}
 use Rattle.vl_engine.specs.Stepping.{Fits, MayStep}
@@ -39,7 +41,9 @@ use Rattle.vl_layout.specs.Rulings.Keep.{Halted, InvalidRequest, KeepAnswer, Kep
 use Rattle.vl_layout.specs.Start.{newest_first}
 use Rattle.vl_layout.specs.declared.layout.Layout.{Layout}
 use Rattle.vl_manifest.specs.States.{max_keep}
-use Rattle.vl_manifest.specs.Switching.{switched}
+use Rattle.vl_manifest.specs.Switching.{IsStaged, WhileSwitching, switched}
+use Rattle.vl_manifest.specs.declared.edit.Edit.TheVariants.{Keep}
+use Rattle.vl_manifest.specs.declared.staged.StagedEdits.{StagedEdits}
 use Rattle.vl_manifest.specs.declared.state.ManifestState.{ManifestState}
 use Rattle.vl_manifest.specs.declared.waiting.Waiting.{Waiting}
 use Rattle.vl_model.specs.History.{Extends, History}
@@ -101,6 +105,44 @@ module _ {H : Type 0} (before after : Core H) (log : after.front.log ≡ before.
       subst (IsFitFor after) (some_is (change disk) now (sym (changed ∙ ap (option_map change) same) ∙ is))
       (fit_same disk (change disk) (keeps disk) (fit disk refl))
 
+-- ---- the calls
+
+-- of two calls on one file the last that was made failed
+pub fails_among : (name : Name) (before now : ℕ) → StopsAmong 2 before now → FailedAt (calls_on 2 name) before now name
+fails_among name before now (n, some, few, calls) = by (cases_lt 1 n)
+  where
+    by : (1 < n) ⊎ (n ≤ 1) → FailedAt (calls_on 2 name) before now name
+    by (inl two) =
+        let is : n ≡ 2 = omega (arith, two, few) in
+        record { front = name ∷ []; back = []; files_are = refl; calls = calls ∙ ap (λ (k : ℕ). after_calls k before) is }
+    by (inr one) =
+        let is : n ≡ 1 = omega (arith, one, some) in
+        record { front = []; back = name ∷ []; files_are = refl; calls = calls ∙ ap (λ (k : ℕ). after_calls k before) is }
+
+module _ {D H : Type 0} (g : Ghosts D) (core : Core H) (v : ℕ) (staged : StagedEdits) (old mid new : D)
+    (quiet : ChangesNothing g old mid ⊥) where
+  abbrev number : ℕ
+  number = core.back.manifest.number
+
+  abbrev frame : List ℕ
+  frame = staged.frame.items
+
+  abbrev pub writes_by : {T E : Type 0} (result : Result T E)
+      → Performs g (switched number frame) (WhileSwitching number frame) 2 mid new result → WritesKeep g core staged old new
+  writes_by result run = record { mid = mid; before = quiet; time = run.time; tells = run.tells }
+
+  pub stops_by : {T E : Type 0} (fail : E)
+      → Performs {T = T} {E = E} g (switched number frame) (WhileSwitching number frame) 2 mid new (Err fail)
+      → StopsKeeping number (g.calls old) (g.calls new) (names.Manifest number)
+  stops_by fail run =
+      subst (λ (n : ℕ). StopsKeeping number n (g.calls new) (names.Manifest number)) quiet.calls
+      (fails_among (names.Manifest number) (g.calls mid) (g.calls new) run.stops)
+
+  -- what was staged says since when so many are kept
+  pub staged_by : (since : ℕ) → since ≡ next_since core v → IsStaged number core.back.manifest.length (Keep v since ∷ []) staged
+      → IsStagedKeep core v staged
+  staged_by since is of = subst (λ (n : ℕ). IsStaged number core.back.manifest.length (Keep v n ∷ []) staged) is of
+
 -- ---- nothing was written
 
 module _ {H : Type 0} (core : Core H) (h : History) (l : Layout) (v : ℕ) (is : Fronts core h l) where
@@ -127,10 +169,13 @@ none_counted v before same = by (v == before) (grind (arith, nat_tests, same))
     by true is = refl
     by false is = absurd cc
 
+abbrev two_or_none : Bool → ℕ
+two_or_none same = if same then 0 else 2
+
 pub two_counted : (v before : ℕ) → v ≢ before → keep_calls before v ≡ 2
 two_counted v before apart = by (v == before) refl
   where
-    by : (b : Bool) → (v == before) ≡ b → (if b then 0 else 2) ≡ 2
+    by : (b : Bool) → (v == before) ≡ b → two_or_none b ≡ 2
     by true is = absurd (apart (grind (arith, nat_tests, is)))
     by false is = refl
 

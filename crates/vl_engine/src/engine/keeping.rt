@@ -4,6 +4,7 @@ ghost use Rattle.vl_disk.specs.Faults.{HasCause, after_calls};
 ghost use Rattle.vl_disk.specs.declared.name.Name.{Name};
 ghost use Rattle.vl_engine.specs.Carries.{Carries, SameFiles};
 ghost use Rattle.vl_engine.specs.Keeping.{IsKeepWritten, KeepFailed, KeepLeavesDisk, KeepsAs, MayKeep, StopsKeeping, keep_calls, keep_effects, keep_outcome};
+ghost use Rattle.vl_engine.specs.Keeping as keeping;
 ghost use Rattle.vl_engine.specs.Represents.{Fronts, Represents, StandsFor};
 ghost use Rattle.vl_engine.specs.Stepping.{Fits};
 ghost use Rattle.vl_engine.specs.declared.fails.KeepFail.TheVariants as fails;
@@ -12,6 +13,7 @@ ghost use Rattle.vl_layout.specs.Rulings.Keep.{keep_ruling};
 ghost use Rattle.vl_layout.specs.declared.layout.Layout.{Layout};
 ghost use Rattle.vl_model.specs.History.{History};
 
+use crate::kept::Core;
 use crate::{Engine, KeepFail};
 use vl_disk::{Disk, Name};
 use vl_manifest::Edit;
@@ -82,12 +84,7 @@ impl<D: Disk> Engine<D> {
         ensures files { SameFiles (D.told self.old.disk) (D.told self.new.disk) }
         ensures as_kept { KeepsAs D.Watched self.old.disk self.new.disk self.old.core self.new.core versions result }
     {
-        // Older versions may be gone of what is to be kept from now on.
-        let since = if versions > self.core.back.state.keep {
-            self.core.front.oracle.last()
-        } else {
-            self.core.back.state.since
-        };
+        let since = next_since(&self.core, versions);
         let edits = [Edit::Keep { versions, since }];
         let Ok(staged) = self
             .core
@@ -109,5 +106,16 @@ impl<D: Disk> Engine<D> {
                 Err(KeepFail::Disk { name })
             }
         }
+    }
+}
+
+// Since when so many versions are kept: where they are more than before, older ones may be gone already.
+fn next_since<H>(core: &Core<H>, versions: u8) -> u64
+    ensures { result ≡ keeping.next_since core.now versions }
+{
+    if versions > core.back.state.keep {
+        core.front.oracle.last()
+    } else {
+        core.back.state.since
     }
 }
