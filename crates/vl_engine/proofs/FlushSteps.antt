@@ -19,6 +19,7 @@ use Rattle.vl_disk.specs.declared.name.Name.{Name}
 use Rattle.vl_disk.specs.declared.watched.Watched.{Ghosts}
 use Rattle.vl_engine.proofs.Carrying.{IsWatched, looked}
 use Rattle.vl_engine.proofs.Committing.{decides_answered, decides_failed}
+use Rattle.vl_engine.proofs.FlushKeeps.{KeepsAsMany}
 use Rattle.vl_engine.proofs.Represented.{represents_halted}
 use Rattle.vl_engine.proofs.Standing.{stands_halted}
 use Rattle.vl_engine.specs.Carries.{Carries, CrashesShow}
@@ -99,8 +100,9 @@ oldest_file (x ∷ y ∷ ss) s all is = oldest_file (y ∷ ss) s all.1 is
 module _ {H : Type 0} (before after : Core H) (h : History) (l : Layout) where
   -- behind a flush,
   pub fronts_flushed : (s : Segment) → after.front ≡ before.front
-      → after.back.version_number ≡ before.back.version_number + 1 → Fronts before h l → Fronts after h (flushed l s)
-  fronts_flushed s front version is = record {
+      → after.back.version_number ≡ before.back.version_number + 1 → KeepsAsMany before.back.state after.back.state
+      → Fronts before h l → Fronts after h (flushed l s)
+  fronts_flushed s front version same is = record {
     front = subst (λ (f : Front). IsFront f.oracle f.recent.named h (flushed l s)) (sym front) (record {
       last = is.front.last;
       live_are = is.front.live_are;
@@ -115,12 +117,15 @@ module _ {H : Type 0} (before after : Core H) (h : History) (l : Layout) where
     roomy = is.roomy;
     halted = ap (λ (f : Front). option_map file_of f.halted) front ∙ is.halted;
     version = version ∙ ap (λ (n : ℕ). n + 1) is.version;
+    keep = same.keep ∙ is.keep;
+    since = same.since ∙ is.since;
   }
 
   -- and where it failed
   pub fronts_unflushed : (name : Name) → after.front ≡ record before.front { halted = Some name }
-      → after.back.version_number ≡ before.back.version_number → Fronts before h l → Fronts after h (halted_at (file_of name) l)
-  fronts_unflushed name front version is = record {
+      → after.back.version_number ≡ before.back.version_number → KeepsAsMany before.back.state after.back.state
+      → Fronts before h l → Fronts after h (halted_at (file_of name) l)
+  fronts_unflushed name front version same is = record {
     front = subst (λ (f : Front). IsFront f.oracle f.recent.named h (halted_at (file_of name) l)) (sym front) (record {
       last = is.front.last;
       live_are = is.front.live_are;
@@ -135,6 +140,8 @@ module _ {H : Type 0} (before after : Core H) (h : History) (l : Layout) where
     roomy = is.roomy;
     halted = ap (λ (f : Front). option_map file_of f.halted) front;
     version = version ∙ is.version;
+    keep = same.keep ∙ is.keep;
+    since = same.since ∙ is.since;
   }
 
 module _ {H : Type 0} (bytes : H → Option (List ℕ)) (before after : Core H) (h : History) (l : Layout)
@@ -173,7 +180,7 @@ module _ {H : Type 0} (bytes : H → Option (List ℕ)) (before after : Core H) 
 
 -- ---- on the disk
 
-same_log : (a b : ManifestLog) → a.number ≡ b.number → a.length ≡ b.length → a ≡ b
+pub same_log : (a b : ManifestLog) → a.number ≡ b.number → a.length ≡ b.length → a ≡ b
 same_log a b number long = ap (λ (n : ℕ). record a { number = n }) number ∙ ap (λ (n : ℕ). record b { length = n }) long
 
 module _ {D H : Type 0} (g : Ghosts D) (watched : IsWatched g) (bytes : H → Option (List ℕ)) (before after : Core H)

@@ -13,6 +13,8 @@ pub mod FlushSteps
 pub mod Flushed
 pub mod Halted
 pub mod Headed
+pub mod KeepSteps
+pub mod KeptBy
 pub mod Knowing
 pub mod Merged
 pub mod Opened

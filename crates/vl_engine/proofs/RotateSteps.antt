@@ -40,6 +40,7 @@ use Rattle.vl_layout.specs.Tidy.{IsRuledTidy, IsTidy, IsTrueLog}
 use Rattle.vl_layout.specs.declared.layout.Layout.{Layout}
 use Rattle.vl_layout_laws.specs.laws.TidyRulings.{rotate_tidy}
 use Rattle.vl_manifest.specs.declared.waiting.Waiting.{Waiting}
+use Rattle.vl_manifest.specs.declared.state.ManifestState.{ManifestState}
 use Rattle.vl_model.specs.Formats.{log_format}
 use Rattle.vl_model.specs.History.{History}
 use Rattle.vl_model.specs.Limits.{max_file_number, max_version_number}
@@ -83,6 +84,8 @@ module _ {H : Type 0} (before after : Core H) (h : History) (l : Layout) where
     roomy = is.roomy;
     halted = ap (λ (f : Front). option_map file_of f.halted) front ∙ is.halted;
     version = back.version_number ∙ ap (λ (n : ℕ). n + 1) is.version;
+    keep = ap (λ (s : ManifestState). s.keep) back.state ∙ is.keep;
+    since = ap (λ (s : ManifestState). s.since) back.state ∙ is.since;
   }
 
   -- where it failed,
@@ -101,6 +104,8 @@ module _ {H : Type 0} (before after : Core H) (h : History) (l : Layout) where
         roomy = so.roomy;
         halted = so.halted;
         version = back.version_number ∙ is.version;
+        keep = ap (λ (s : ManifestState). s.keep) back.state ∙ is.keep;
+        since = ap (λ (s : ManifestState). s.since) back.state ∙ is.since;
       }
 
   -- and where memory alone changed
@@ -114,6 +119,8 @@ module _ {H : Type 0} (before after : Core H) (h : History) (l : Layout) where
     roomy = is.roomy;
     halted = ap (λ (f : Front). option_map file_of f.halted) same.front ∙ is.halted;
     version = same.back.version_number ∙ is.version;
+    keep = ap (λ (s : ManifestState). s.keep) same.back.state ∙ is.keep;
+    since = ap (λ (s : ManifestState). s.since) same.back.state ∙ is.since;
   }
 
 module _ {H : Type 0} (bytes : H → Option (List ℕ)) (before after : Core H) (h : History) (l : Layout)

@@ -56,6 +56,9 @@ pub record Fronts {H : Type 0} (core : Core H) (h : History) (l : Layout) : Type
   pub roomy : l.room ≤ max_room
   pub halted : option_map file_of core.front.halted ≡ l.halted
   pub version : core.back.version_number ≡ l.version_number
+  -- how many of the newest versions of a key are kept, and since when
+  pub keep : core.back.state.keep ≡ l.keep
+  pub since : core.back.state.since ≡ l.since
 
 -- In memory the engine stands for them: its memtables, tables and logs are the layout's, whose sources show the history.
 pub record StandsFor {H : Type 0} (bytes : H → Option (List ℕ)) (core : Core H) (h : History) (l : Layout)

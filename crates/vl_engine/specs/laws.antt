@@ -15,6 +15,7 @@ pub mod FlushTidy
 pub mod FrontLaws
 pub mod HeldLaws
 pub mod IntactLaws
+pub mod KeepLaws
 pub mod KeptLaws
 pub mod KnownLaws
 pub mod LaidBegun
