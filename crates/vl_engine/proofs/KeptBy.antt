@@ -1,15 +1,13 @@
 -- What a change of how many versions are kept is answered, by the ruling on it: where nothing is written, and where it is to be
 -- written, whatever that came to.
-use Rattle.std.specs.Prelude.{◌≡◌, ◌≢◌, ◌≤◌, ◌<◌, ◌==◌, ◌⊎◌, ℕ, ◌||◌, [], ◌∷◌, Bool, true, false, nat_lt, List, length, Option, None, Some, unwrap_or, Result, Ok, Err, OnOk, if◌then◌else◌, refl}
-use Rattle.std.specs.FinMap.{get}
+use Rattle.std.specs.Prelude.{◌≡◌, ◌≢◌, ◌≤◌, ◌<◌, ◌==◌, ◌⊎◌, ℕ, ◌||◌, [], ◌∷◌, Bool, true, false, nat_lt, List, Option, None, Some, unwrap_or, Result, Ok, Err, OnOk, if◌then◌else◌, refl}
 use Rattle.std.specs.Option.{ForSome, option_map}
 use Rattle.std.proofs.Common.{sym, ap, subst, ◌∙◌, arith, inl, inr}
 use Rattle.std.proofs.lemmas.Bool.{cases_lt}
 use Rattle.std.proofs.lemmas.Bool.Decides.{nat_tests}
-use Rattle.vl_back.specs.declared.back.Back.{Back}
 use Rattle.vl_disk.specs.Calls.{ChangesNothing}
 use Rattle.vl_disk.specs.Disk.{IsChangedBy, Stands}
-use Rattle.vl_disk.specs.DiskState.{DiskState, File, appended, file_at, lengthened, new_file}
+use Rattle.vl_disk.specs.DiskState.{DiskState, File, appended, lengthened, new_file}
 use Rattle.vl_disk.specs.Faults.{after_calls}
 use Rattle.vl_disk.specs.Performs.{FailedAt, Performs, StopsAmong, calls_on}
 use Rattle.vl_disk.specs.declared.name.Name.TheVariants as names
@@ -24,9 +22,8 @@ use Rattle.vl_engine.proofs.KeepSteps as steps
 use Rattle.vl_engine.proofs.Standing.{stands_halted}
 use Rattle.vl_engine.proofs.Stepped.{fits_back, fits_halted}
 use Rattle.vl_engine.specs.Carries.{Carries, HasSameFiles, SameFiles}
-use Rattle.vl_engine.specs.Fit.{IsFitFor, IsFitForSteps}
+use Rattle.vl_engine.specs.Fit.{IsFitFor}
 use Rattle.vl_engine.specs.Keeping.{AreKept, IsKeepWritten, IsStagedKeep, KeepLeavesDisk, KeepsAs, MayKeep, StopsKeeping, WritesKeep, keep_calls, keep_effects, keep_outcome, keep_written, next_since}
-use Rattle.vl_engine.specs.Pointed.{bytes_of_log}
 use Rattle.vl_engine.specs.Represents.{Fronts, Represents, StandsFor, file_of}
 use Rattle.vl_engine.specs.Stepping.{Fits, MayStep}
 use Rattle.vl_engine.specs.declared.fails.KeepFail.TheVariants as fails
@@ -34,7 +31,6 @@ use Rattle.vl_engine.specs.declared.fails.KeepFail.{KeepFail}
 use Rattle.vl_engine.specs.declared.kept.Core.{Core}
 use Rattle.vl_engine.specs.laws.KeepLaws.{keep_halted, keep_invalid, keep_made, keep_other, keep_same}
 use Rattle.vl_engine.specs.laws.KeptLaws.{log_manifest, written_elsewhere}
-use Rattle.vl_front.specs.declared.front.Front.{Front}
 use Rattle.vl_layout.specs.Decides.{Answered, Decides, Effects, Failed, NoMemory, as_before, no_effects}
 use Rattle.vl_layout.specs.Ruling.{Ruling, leaving}
 use Rattle.vl_layout.specs.Rulings.Keep.{Halted, InvalidRequest, KeepAnswer, Kept, keep_ruling, keeping}

@@ -2,20 +2,17 @@
 use Rattle.std.specs.Prelude.{◌≡◌, ◌≤◌, ◌<◌, ◌+◌, ℕ, Bool, true, false, ◌&&◌, not, if◌then◌else◌, List, [], ◌∷◌, Option, None, Some, Ok, Result, Err, refl}
 use Rattle.std.specs.List.{AllByRecursion}
 use Rattle.std.specs.Option.{option_map}
-use Rattle.std.proofs.Common.{sym, ap, subst, ◌∙◌, arith, ⊎_elim}
+use Rattle.std.proofs.Common.{sym, ap, subst, ◌∙◌, arith}
 use Rattle.vl_back.specs.Deciding as deciding
 use Rattle.vl_back.specs.Deciding.{flush_decision}
 use Rattle.vl_back.specs.FlushEdits.{flush_switch, head_of, switch_of}
 use Rattle.vl_back.specs.declared.back.Back.{Back}
-use Rattle.vl_back.specs.declared.decision.Decision.{Decision}
 use Rattle.vl_back.specs.declared.decision.Decision.TheVariants.{Go}
 use Rattle.vl_disk.specs.Changes.{SameElsewhere}
-use Rattle.vl_disk.specs.Crash.{Image, MayLeave}
 use Rattle.vl_disk.specs.DiskState.{DiskState}
 use Rattle.vl_disk.specs.MadeFile.{WhileMaking}
 use Rattle.vl_disk.specs.declared.name.Name.{Name}
 use Rattle.vl_disk.specs.declared.watched.Watched.{Ghosts}
-use Rattle.vl_engine.specs.Flushing as flushing
 use Rattle.vl_engine.specs.Flushing.{FlushesAs}
 use Rattle.vl_engine.specs.Held.{Base, Holds, HoldsBase, IsBase, frames_of}
 use Rattle.vl_engine.specs.Pointed.{layout_logs}
@@ -35,7 +32,6 @@ use Rattle.vl_layout.specs.declared.segment.Segment.{Segment}
 use Rattle.vl_manifest.specs.Levels.{all_tables, is_in, put_at}
 use Rattle.vl_manifest.specs.Manifest.{manifest_bytes}
 use Rattle.vl_manifest.specs.States.{all_applied, as_draft, finish, flush_edits, is_file_number, next_state, then_applied, with_levels}
-use Rattle.vl_manifest.specs.declared.edit.Edit.{Edit}
 use Rattle.vl_manifest.specs.declared.edit.Edit.TheVariants.{Head, Next}
 use Rattle.vl_manifest.specs.declared.state.ManifestState.{ManifestState}
 use Rattle.vl_manifest.specs.declared.waiting.Waiting.{Waiting}

@@ -1,4 +1,3 @@
-use Rattle.std.proofs.Common.{◌≡◌, ℕ}
 use Rattle.vl_engine.proofs.Committing.{decides_leaving}
 use Rattle.vl_engine.proofs.KeptBy.{carries_by, carries_left, carries_same, fits_by, fronts_by, is_invalid, is_some, left_same, ruled_halted, ruled_invalid, stands_by, written_by}
 use Rattle.vl_engine.specs.Keeping.{MayKeep}
