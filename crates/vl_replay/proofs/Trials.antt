@@ -10,4 +10,3 @@ pub mod TornSteps
 pub mod TrialEnds
 pub mod TrialLines
 pub mod TrialRun
-pub mod TornSteps

@@ -44,7 +44,6 @@ use Rattle.vl_replay.specs.declared.fails.Refusal.TheVariants as refusals
 use Rattle.vl_replay.specs.declared.replayer.Replayer.{Replayer}
 use Rattle.vl_replay.proofs.Openings.NumbersLeft.{reopens_not_refused}
 use Rattle.vl_replay.proofs.Trials.OpeningStopped.{opening_reopens}
-use Rattle.vl_replay.proofs.Runs.ReaderFaults.{disk_cause}
 use Rattle.vl_replay.proofs.Runs.Refusals.{opened_not_refused}
 
 some_list : (a b : List ℕ) → Some a ≡ Some b → a ≡ b
@@ -116,12 +115,13 @@ module _ (stop : ℕ) (disk : StoppingDisk) (is : state_on disk ≡ empty_disk) 
       → IfErr r (λ fail. StopsOpening stop fail.why fail.disk)
   stopped faults (Ok replayer) unread cause meanwhile answers few = tt
   stopped faults (Err fail) unread cause meanwhile answers few =
-      of fail.why (disk_cause (faults_on disk) (faults_on fail.disk) (counted faults fail.reader) fail.why unread cause) answers
+      of fail.why cause answers
     where
       not_refused : (refusal : Refusal) → IsRefused empty refusal → ⊥
       not_refused = opened_not_refused empty finds_nothing refl
 
-      of : (reason : OpenError) → HasCause (faults_on disk) (faults_on fail.disk) (IsFault (Some reason)) → AnswersBy empty (recovery_by reason)
+      of : (reason : OpenError) → HasCause (faults_on disk) (faults_on fail.disk) (IsDiskFault (counted faults fail.reader) (Some reason))
+          → AnswersBy empty (recovery_by reason)
           → StopsOpening stop reason fail.disk
       of why.NotAStore by answer = not_refused refusals.NotAStore answer
       of (why.NewerFormat format) by answer = not_refused (refusals.NewerFormat format) answer
@@ -130,7 +130,7 @@ module _ (stop : ℕ) (disk : StoppingDisk) (is : state_on disk ≡ empty_disk) 
       of why.NoMemory by answer = tt
       of (why.Disk name) by answer =
           let exactly = (counted_past fail.disk.disk (Some stop) (meanwhile.time.as_planned (Some stop) past)).exactly (omega (arith, few)) in
-          let rose = by.rose tt in (
+          let rose = by.rose unread in (
             omega (arith, exactly, few, rose, sound),
             λ o. subst (λ (h : History). Reopens (crash_image o (state_on fail.disk)) h (last_number h)) (sym no_commits)
                 (opening_reopens empty bare_read (state_on fail.disk)

@@ -15,6 +15,15 @@ use Rattle.vl_replay.proofs.trying.reopen.Goals as goal
 not_both : true ≡ false → ⊥
 not_both e = cc
 
+pub returns-in-Some-clause-reopens : goal.returns-in-Some-clause-reopens
+returns-in-Some-clause-reopens g c h again =
+    let image = crash_image c.args.outcome (state_on c.args.disk) in
+    let l = layout_at_start max_room (recovered again.found again.shown) in
+    let stands = c.in-Ok-open.ensures.stands (state_on c.in-Ok.disk) image again.found h refl
+    (started_read image (state_on c.in-Ok.disk) c.in-Ok.ensures.started) again.shown in
+    inl (subst (λ (line : List ℕ). Finishes g.K.Sink c.args.sink.now c.finish-in-Some.new.sink line Complete c.finish-in-Some.result)
+    (c.deref.ensures.value ∙ c.in-Some.ensures h l stands c.in-Some.text refl) c.finish-in-Some.ensures)
+
 -- an opening that failed otherwise than by the disk
 pub returns-clause-reopens : goal.returns-clause-reopens
 returns-clause-reopens g c h again =
