@@ -18,6 +18,7 @@ pub mod KeptBy
 pub mod Knowing
 pub mod Merged
 pub mod Opened
+pub mod ReadingPast
 pub mod Represented
 pub mod RotateFit
 pub mod RotateSteps

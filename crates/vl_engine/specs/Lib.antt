@@ -10,6 +10,7 @@ pub mod Known
 pub mod Laid
 pub mod laws
 pub mod Opening
+pub mod Past
 pub mod Pointed
 pub mod Reading
 pub mod Refusing

@@ -28,6 +28,7 @@ pub mod MemtableLaws
 pub mod MemtablePlaces
 pub mod MemtableSpelled
 pub mod OpensAgain
+pub mod PastLaws
 pub mod ReadLaws
 pub mod ReopenedLaws
 pub mod ReopenedShown
