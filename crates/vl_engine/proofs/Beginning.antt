@@ -1,27 +1,35 @@
 -- A begin is answered as the ruling has it.
-use Rattle.std.specs.Prelude.{◌≡◌, ℕ, Bool, true, false, nat_le, if◌then◌else◌, List, length, IfOk, OnErr, Option, Result, Err, Ok}
+use Rattle.std.specs.Prelude.{◌≡◌, ◌≤◌, ℕ, Bool, true, false, nat_le, if◌then◌else◌, List, length, IfOk, OnErr, Option, Result, Err, Ok}
 use Rattle.std.proofs.Common.{sym, ap, subst, ◌∙◌, refl, arith}
 use Rattle.std.proofs.lemmas.List.{length-map}
 use Rattle.std.proofs.lemmas.Bool.Decides.{nat_tests}
 use Rattle.vl_engine.specs.Answers.{view_outcome}
+use Rattle.vl_engine.specs.Past.{IsSpared, ShowsPast, beginning, past_now}
 use Rattle.vl_engine.specs.Pointed.{layout_logs}
 use Rattle.vl_engine.specs.Represents.{Fronts, StandsFor}
 use Rattle.vl_engine.specs.Sees.{SeesAlone, ShowsAt}
 use Rattle.vl_engine.specs.declared.kept.Core.{Core}
+use Rattle.vl_engine.specs.declared.past.Past.{Past}
 use Rattle.vl_engine.specs.declared.view.View.{View}
 use Rattle.vl_engine.specs.laws.LaidLaws.{laid_entries}
-use Rattle.vl_engine.specs.laws.LiveLaws.{same_free_ticket}
+use Rattle.vl_engine.specs.laws.LiveLaws.{same_floor, same_free_ticket}
+use Rattle.vl_engine.specs.laws.PastLaws.{low_exact}
 use Rattle.vl_engine.specs.laws.SeesLaws.{file_in, files_laid, shows_last}
 use Rattle.vl_front.specs.declared.front.Front.{Front}
+use Rattle.vl_layout.specs.AtAnswer.{Beginning, beginning_of}
 use Rattle.vl_layout.specs.Decides.{Answered, Decides, NoMemory, as_before, no_effects}
 use Rattle.vl_layout.specs.Ruling.{Ruling, leaving}
 use Rattle.vl_layout.specs.Rulings.Begin.{BeginAnswer, Begun, TooMany, begin_ruling, begun}
-use Rattle.vl_layout.specs.Sources.{sources}
+use Rattle.vl_layout.specs.Shows.{Shows}
+use Rattle.vl_layout.specs.Sources.{floor, sources}
 use Rattle.vl_layout.specs.Tickets.{free_ticket, tickets_of}
 use Rattle.vl_layout.specs.declared.layout.Layout.{Layout}
 use Rattle.vl_layout.specs.declared.live.Live.{Live}
+use Rattle.vl_layout.specs.laws.LowShows.{floor-up}
 use Rattle.vl_model.specs.History.{History, last_number}
 use Rattle.vl_model.specs.Limits.{max_live}
+use Rattle.vl_model.specs.Numbers.{low_of}
+use Rattle.vl_model.specs.Versions.{low, versions_in}
 use Rattle.vl_oracle.specs.LiveTickets.{LiveTickets}
 use Rattle.vl_oracle.specs.LiveTickets as oracle
 use Rattle.vl_oracle.specs.declared.begin_fail.BeginFail.{BeginFail}
@@ -154,3 +162,40 @@ module _ {H : Type 0} (bytes : H → Option (List ℕ)) (core : Core H) (h : His
     reader = subst (λ (v : Version H). ReadsOf bytes (file_in bytes (tables_in core.version)) view.reader (tables_in v)) (sym same)
         (reads_version view.reader (kept (file_in bytes (tables_in core.version))));
   }
+
+-- ---- how far back
+
+-- What decides on it is the layout's,
+pub began_as : {H : Type 0} (core : Core H) (h : History) (l : Layout) → Fronts core h l → (past : Past) → past ≡ past_now core
+    → beginning past ≡ beginning_of l h
+began_as core h l is past same =
+    let floor_is = same_floor core.front.oracle l h is.front.last is.front.live_are is.front.lived in
+    ap beginning same
+    ∙ ap (λ (n : ℕ). record { floor = n; keep = core.back.state.keep; since = core.back.state.since }) floor_is
+    ∙ ap (λ (n : ℕ). record { floor = floor l h; keep = n; since = core.back.state.since }) is.keep
+    ∙ ap (λ (n : ℕ). record { floor = floor l h; keep = l.keep; since = n }) is.since
+
+-- so that the past is seen from there on, where the sources have what is spared.
+module _ {H : Type 0} (bytes : H → Option (List ℕ)) (core : Core H) (h : History) (l : Layout) (is : StandsFor bytes core h l)
+    (spared : IsSpared h l) (past : Past) (same : past ≡ past_now core) where
+  began : beginning past ≡ beginning_of l h
+  began = began_as core h l is.fronts past same
+
+  past_version : ShowsPast bytes core.version past (last_number h) h
+  past_version = record {
+    entries_of = sources l;
+    logs = layout_logs l;
+    has = laid_entries bytes core.version l is.has h is.tidy;
+    shows = subst (λ (b : Beginning). Shows (layout_logs l) (sources l) h (λ key. low h b.floor b.keep b.since key) (last_number h))
+        (sym began) is.tidy.shows;
+    exact = λ key. subst
+        (λ (b : Beginning). low_of (versions_in (sources l) key) b.floor b.keep b.since ≡ low h b.floor b.keep b.since key)
+        (sym began) (low_exact h l is.tidy.versions spared key);
+    floor = subst (λ (b : Beginning). b.floor ≤ last_number h) (sym began) (floor-up l h);
+  }
+
+  pub past_seen : (version : Version H) (number : ℕ) → version ≡ core.version → number ≡ last_number h
+      → ShowsPast bytes version past number h
+  past_seen version number same_version last =
+      subst (λ (v : Version H). ShowsPast bytes v past number h) (sym same_version)
+      (subst (λ (n : ℕ). ShowsPast bytes core.version past n h) (sym last) past_version)
