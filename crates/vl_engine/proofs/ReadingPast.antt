@@ -1,7 +1,7 @@
 -- What a read of the past is answered, exit by exit.
-use Rattle.std.proofs.Common.{◌≡◌, ◌×◌, ℕ, ◌+◌, ◌≤◌, ◌<◌, Bool, true, false, cond, List, [], refl, ap, sym, ◌∙◌, subst, arith}
+use Rattle.std.proofs.Common.{◌≡◌, ℕ, ◌+◌, ◌≤◌, ◌<◌, Bool, true, false, cond, List, [], refl, ap, sym, ◌∙◌, subst, arith}
 use Rattle.std.proofs.lemmas.Bool.Decides.{nat_tests}
-use Rattle.std.specs.Prelude.{◌==◌, nat_le, nat_lt, if◌then◌else◌, length, min, Option, Some, None, Result, Ok, Err, IsErrAnd}
+use Rattle.std.specs.Prelude.{◌==◌, nat_le, nat_lt, if◌then◌else◌, length, min, Option, Some, None, Result, Ok, Err, IsErrAnd, ⊤}
 use Rattle.vl_disk.specs.Faults.{HasCause}
 use Rattle.vl_disk.specs.declared.name.Name.{Name}
 use Rattle.vl_engine.specs.Past.{AtFailed, IsAnsweredAt, IsWithin, ReadsPast, ShowsPast, as_at_fail, as_failed_at, beginning, if_above}
@@ -21,7 +21,7 @@ use Rattle.vl_model.specs.declared.entry.Entry.{Entry}
 use Rattle.vl_table.specs.Kept.{Files}
 use Rattle.vl_table.specs.KeptBlocks.{AreKept, ReadsOf}
 use Rattle.vl_table.specs.declared.block_reader.BlockReader.{BlockReader}
-use Rattle.vl_txn.specs.Refusals.{refused_key}
+use Rattle.vl_txn.specs.Refusals.{refused_key, unless}
 use Rattle.vl_txn.specs.declared.key_fail.KeyFail.{KeyFail}
 use Rattle.vl_txn.specs.declared.key_fail.KeyFail.TheVariants as keys
 use Rattle.vl_version.specs.Answers.{Gives}
@@ -312,3 +312,11 @@ module _ {H R : Type 0} (bytes : H → Option (List ℕ)) (faults : R → ℕ) (
       where
         apart : (v : Option Stored) → Some v ≡ None → ⊥
         apart v e = cc
+
+-- a key that passes isn't refused
+pub allowed_key : (refusal : Option KeyFail) (u : ⊤) → Ok u ≡ unless refusal → refusal ≡ None
+allowed_key None u is = refl
+allowed_key (Some w) u is = absurd (apart u w is)
+  where
+    apart : (v : ⊤) (f : KeyFail) → Ok v ≡ Err f → ⊥
+    apart v f e = cc

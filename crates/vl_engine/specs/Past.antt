@@ -1,5 +1,5 @@
 -- Reads of the past: from which number on they are answered, and what of a version that needs.
-use Rattle.std.specs.Prelude.{◌≡◌, ◌⊎◌, ◌×◌, ◌≤◌, ◌<◌, ◌+◌, ℕ, true, false, nat_lt, if◌then◌else◌, List, [], Option, None, Some, Result, Ok, Err}
+use Rattle.std.specs.Prelude.{◌≡◌, ◌⊎◌, ◌≤◌, ◌<◌, ◌+◌, ℕ, true, false, nat_lt, if◌then◌else◌, List, [], Option, None, Some, Result, Ok, Err}
 use Rattle.vl_disk.specs.Faults.{HasCause}
 use Rattle.vl_engine.specs.Reading.{IsInMemory}
 use Rattle.vl_engine.specs.declared.fails.AtFail.{AtFail}

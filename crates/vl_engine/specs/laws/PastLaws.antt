@@ -8,7 +8,6 @@ use Rattle.std.specs.Ordering.{eq_by_cmp}
 use Rattle.std.specs.Prelude.{◌==◌, is_some, min, nat_lt, Option, Some, None}
 use Rattle.vl_engine.specs.Past.{AreSpared, IsSpared, ShowsPast, if_above}
 use Rattle.vl_engine.specs.declared.past.Past.{Past}
-use Rattle.vl_engine.specs.laws.SeesLaws.{last-extended}
 use Rattle.vl_layout.specs.Shown.{AreOf, IsOf}
 use Rattle.vl_layout.specs.Shows.{Shows}
 use Rattle.vl_layout.specs.Sources.{floor, sources}
@@ -22,6 +21,7 @@ use Rattle.vl_model.specs.Keys.{Writes, key_cmp}
 use Rattle.vl_model.specs.Numbers.{AreAmong, at_least, greatest_below, has, low_of, next_below, nth_below}
 use Rattle.vl_model.specs.Versions.{Numbered, low, naming, numbered, versions, versions_in}
 use Rattle.vl_model.specs.declared.entry.Entry.{Entry}
+use Rattle.vl_model.specs.laws.HistoryLaws.{last_number-extends}
 use Rattle.vl_model.specs.laws.NumberLaws.{AreRisen, IsFound, greatest-found, greatest-reaches, low-floor, nth-fewer_than, nth-risen}
 use Rattle.vl_model.specs.laws.NumberLaws as laws
 use Rattle.vl_model.specs.laws.VersionLaws.{has-append, versions-extends_as, versions-stay}
@@ -185,7 +185,7 @@ pub past_later : {H : Type 0} (bytes : H → Option (List ℕ)) (version : Versi
     → Extends least most → number ≤ last_number least → ShowsPast bytes version past number least
     → ShowsPast bytes version past number most
 past_later bytes version past number least most extends known is =
-    let later = last-extended least most extends in
+    let later = last_number-extends least most extends in
     let up = is.floor in
     let lows = λ (key : List ℕ). low_stays least most extends past.floor past.keep past.since key up in
     let shows = shows-extends is.logs is.entries_of least most (λ key. low least past.floor past.keep past.since key) number extends known

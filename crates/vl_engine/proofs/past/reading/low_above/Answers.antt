@@ -1,14 +1,15 @@
-use Rattle.std.proofs.Common.{rules, ◌≡◌, min, ℕ, ◌+◌, ◌-◌, ◌*◌, ◌<◌, ◌≤◌, length, ◌/◌, ◌%◌, Bool, true, false, nat_eq, nat_lt, List, [], ◌∷◌, ◌++◌, slice_index_or, slice_set, bit_and, bit_or, Fits, w8, w32, w64, Bor, MutBor}
-use Rattle.vl_engine.specs.Past.{ReadsPast, if_above, past_now}
-use Rattle.vl_model.specs.Numbers.{at_least, low_of}
-use Rattle.vl_model.specs.Versions.{versions_in}
-use Rattle.vl_version.specs.Past.{SeeksVersion}
+use Rattle.std.proofs.Common.{◌≡◌, ◌≤◌, arith}
+use Rattle.std.proofs.lemmas.Bool.Decides.{nat_tests}
+use Rattle.vl_engine.proofs.ReadingPast.{low_failed, low_found}
 use Rattle.vl_engine.proofs.past.reading.low_above.Goals as goal
 
--- src/past/reading.rt:70:18
 pub returns-in_err-oldest : goal.returns-in_err-oldest
-returns-in_err-oldest g c = ?
+returns-in_err-oldest g c =
+    low_failed g.H.HeldFile.bytes g.R.Reader.faults c.args.version.now c.args.key.now c.args.past c.args.at _ _ c.in_err-oldest.field-0.0
+    c.from_residual.result c.from_residual.ensures.1 c.in_err-oldest.ensures
 
--- src/past/reading.rt:53:1
 pub returns : goal.returns
-returns g c = ?
+returns g c =
+    let more : 2 ≤ c.args.past.keep = grind (arith, nat_tests, c.if-past-le1.false) in
+    low_found g.H.HeldFile.bytes g.R.Reader.faults c.args.version.now c.args.key.now c.args.past c.args.at _ _ c.in_ok-oldest.oldest
+    c.least_above.result more c.least_above.ensures c.in_ok-oldest.ensures
