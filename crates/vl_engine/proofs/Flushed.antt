@@ -5,6 +5,7 @@ use Rattle.std.proofs.Common.{sym, ap, subst, ◌∙◌}
 use Rattle.vl_back.specs.Deciding.{MayFlush, flush_decision}
 use Rattle.vl_back.specs.declared.decision.Decision.TheVariants as decisions
 use Rattle.vl_back.specs.declared.decision.Decision.{Decision}
+use Rattle.vl_back.specs.declared.staging.StagedFlush.{StagedFlush}
 use Rattle.vl_disk.specs.Calls.{ChangesNothing}
 use Rattle.vl_disk.specs.Disk.{IsChangedBy}
 use Rattle.vl_disk.specs.DiskState.{DiskState}
@@ -16,9 +17,9 @@ use Rattle.vl_engine.proofs.Committing.{decides_answered, decides_failed, decide
 use Rattle.vl_engine.proofs.FlushKeeps.{KeepsAsMany, as_many, kept_flushed}
 use Rattle.vl_engine.proofs.FlushSteps.{carries_flushed, carries_unflushed, files_held, fronts_flushed, fronts_unflushed, numbers_held, stands_flushed, stands_unflushed}
 use Rattle.vl_engine.specs.Carries.{Carries}
-use Rattle.vl_engine.specs.Flushing.{FlushesAs, IsFlushWritten, IsTableMade, StopsFlushing, flush_effects, flush_written}
+use Rattle.vl_engine.specs.Flushing.{FlushesAs, IsFlushWritten, IsStagedOf, IsTableMade, StopsFlushing, WritesFlush, flush_effects, flush_written}
 use Rattle.vl_engine.specs.Represents.{Fronts, Represents, StandsFor, file_of}
-use Rattle.vl_engine.specs.Stepping.{AreLogFiles, HasNumbers, StepLeavesDisk, step_outcome}
+use Rattle.vl_engine.specs.Stepping.{AreLogFiles, HasNumbers, StepFailed, StepLeavesDisk, step_outcome}
 use Rattle.vl_engine.specs.declared.fails.StepFail.TheVariants as fails
 use Rattle.vl_engine.specs.declared.fails.StepFail.{StepFail}
 use Rattle.vl_engine.specs.declared.kept.Core.{Core}
@@ -82,6 +83,16 @@ module _ {D H : Type 0} (g : Ghosts D) (bytes : H → Option (List ℕ)) (before
   untouched_by (Err (fails.Exhausted counter)) did leaves = absurd did
   untouched_by (Err fails.NoMemory) did leaves = did.1
   untouched_by (Err (fails.Disk name)) did leaves = absurd leaves
+
+  -- where it failed the table was made and named in part
+  pub writes_by : (result : Result (Option ℕ) StepFail) → FlushesAs g bytes old new before after result → StepFailed result
+      → (staged : StagedFlush) × IsStagedOf before staged × WritesFlush g before staged old new
+  writes_by (Ok (Some number)) did failed = absurd failed
+  writes_by (Ok None) did failed = absurd failed
+  writes_by (Err (fails.Halted name)) did failed = absurd failed
+  writes_by (Err (fails.Exhausted counter)) did failed = absurd failed
+  writes_by (Err fails.NoMemory) did failed = absurd failed
+  writes_by (Err (fails.Disk name)) did failed = (did.staged, did.of, did.writes)
 
   pub stopped_by : (result : Result (Option ℕ) StepFail) → FlushesAs g bytes old new before after result
       → (name : Name) → result ≡ Err (fails.Disk name)

@@ -1,14 +1,11 @@
 -- What a change of how many versions are kept leaves in memory and on the disk, where it is written and where that fails.
-use Rattle.std.specs.Prelude.{◌≡◌, ◌≤◌, ◌^◌, ℕ, ◌+◌, ◌-◌, List, [], ◌∷◌, length, min, Option, None, Some, Result, Ok, Err, IsErrOf, OnErr, refl}
-use Rattle.std.specs.Option.{ForSome, option_map}
+use Rattle.std.specs.Prelude.{◌≡◌, ◌≤◌, ◌^◌, ℕ, ◌+◌, ◌-◌, List, [], ◌∷◌, length, min, Option, None, Some, refl}
+use Rattle.std.specs.Option.{option_map}
 use Rattle.std.proofs.Common.{sym, ap, subst, ◌∙◌, arith, ⊎_elim}
-use Rattle.vl_back.specs.declared.back.Back.{Back}
-use Rattle.vl_disk.specs.Calls.{ChangesNothing}
 use Rattle.vl_disk.specs.Disk.{IsChangedBy}
 use Rattle.vl_disk.specs.DiskState.{DiskState}
 use Rattle.vl_disk.specs.Faults.{after_calls}
 use Rattle.vl_disk.specs.Moments.{While, goes_by}
-use Rattle.vl_disk.specs.declared.name.Name.TheVariants as names
 use Rattle.vl_disk.specs.declared.name.Name.{Name}
 use Rattle.vl_disk.specs.declared.watched.Watched.{Ghosts}
 use Rattle.vl_engine.proofs.Carrying.{IsWatched, looked}
@@ -21,7 +18,7 @@ use Rattle.vl_engine.specs.Held.{Base}
 use Rattle.vl_engine.specs.Keeping.{IsNextBack, IsStagedKeep, WhileKeeping, WritesKeep, keep_switch, keep_written}
 use Rattle.vl_engine.specs.Laid.{HasLayout}
 use Rattle.vl_engine.specs.Pointed.{layout_logs}
-use Rattle.vl_engine.specs.Represents.{Fronts, IsBack, IsFront, IsHeld, Represents, StandsFor, file_of}
+use Rattle.vl_engine.specs.Represents.{Fronts, IsFront, IsHeld, Represents, StandsFor, file_of}
 use Rattle.vl_engine.specs.Shown.{LeavesBetween}
 use Rattle.vl_engine.specs.declared.kept.Core.{Core}
 use Rattle.vl_engine.specs.laws.HeldLaws.{held_opens_again}
@@ -41,7 +38,6 @@ use Rattle.vl_manifest.specs.Grammar.{edits_grammar}
 use Rattle.vl_manifest.specs.States.{max_keep}
 use Rattle.vl_manifest.specs.Switching.{WhileSwitching, switched}
 use Rattle.vl_manifest.specs.declared.edit.Edit.TheVariants.{Keep}
-use Rattle.vl_manifest.specs.declared.edit.Edit.{Edit}
 use Rattle.vl_manifest.specs.declared.manifest_log.ManifestLog.{ManifestLog}
 use Rattle.vl_manifest.specs.declared.staged.StagedEdits.{StagedEdits}
 use Rattle.vl_manifest.specs.declared.state.ManifestState.{ManifestState}

@@ -1,15 +1,13 @@
 -- What a change of how many versions are kept is answered, by the ruling on it: where nothing is written, and where it is to be
 -- written, whatever that came to.
-use Rattle.std.specs.Prelude.{◌≡◌, ◌≢◌, ◌≤◌, ◌<◌, ◌==◌, ◌⊎◌, ℕ, ◌||◌, [], ◌∷◌, Bool, true, false, nat_lt, List, length, Option, None, Some, unwrap_or, Result, Ok, Err, OnOk, if◌then◌else◌, refl}
-use Rattle.std.specs.FinMap.{get}
+use Rattle.std.specs.Prelude.{◌≡◌, ◌≢◌, ◌≤◌, ◌<◌, ◌==◌, ◌⊎◌, ℕ, ◌||◌, [], ◌∷◌, Bool, true, false, nat_lt, List, Option, None, Some, unwrap_or, Result, Ok, Err, OnOk, if◌then◌else◌, refl}
 use Rattle.std.specs.Option.{ForSome, option_map}
 use Rattle.std.proofs.Common.{sym, ap, subst, ◌∙◌, arith, inl, inr}
 use Rattle.std.proofs.lemmas.Bool.{cases_lt}
 use Rattle.std.proofs.lemmas.Bool.Decides.{nat_tests}
-use Rattle.vl_back.specs.declared.back.Back.{Back}
 use Rattle.vl_disk.specs.Calls.{ChangesNothing}
 use Rattle.vl_disk.specs.Disk.{IsChangedBy, Stands}
-use Rattle.vl_disk.specs.DiskState.{DiskState, File, appended, file_at, lengthened, new_file}
+use Rattle.vl_disk.specs.DiskState.{DiskState, File, appended, lengthened, new_file}
 use Rattle.vl_disk.specs.Faults.{after_calls}
 use Rattle.vl_disk.specs.Performs.{FailedAt, Performs, StopsAmong, calls_on}
 use Rattle.vl_disk.specs.declared.name.Name.TheVariants as names
@@ -24,9 +22,8 @@ use Rattle.vl_engine.proofs.KeepSteps as steps
 use Rattle.vl_engine.proofs.Standing.{stands_halted}
 use Rattle.vl_engine.proofs.Stepped.{fits_back, fits_halted}
 use Rattle.vl_engine.specs.Carries.{Carries, HasSameFiles, SameFiles}
-use Rattle.vl_engine.specs.Fit.{IsFitFor, IsFitForSteps}
+use Rattle.vl_engine.specs.Fit.{IsFitFor}
 use Rattle.vl_engine.specs.Keeping.{AreKept, IsKeepWritten, IsStagedKeep, KeepLeavesDisk, KeepsAs, MayKeep, StopsKeeping, WritesKeep, keep_calls, keep_effects, keep_outcome, keep_written, next_since}
-use Rattle.vl_engine.specs.Pointed.{bytes_of_log}
 use Rattle.vl_engine.specs.Represents.{Fronts, Represents, StandsFor, file_of}
 use Rattle.vl_engine.specs.Stepping.{Fits, MayStep}
 use Rattle.vl_engine.specs.declared.fails.KeepFail.TheVariants as fails
@@ -34,8 +31,7 @@ use Rattle.vl_engine.specs.declared.fails.KeepFail.{KeepFail}
 use Rattle.vl_engine.specs.declared.kept.Core.{Core}
 use Rattle.vl_engine.specs.laws.KeepLaws.{keep_halted, keep_invalid, keep_made, keep_other, keep_same}
 use Rattle.vl_engine.specs.laws.KeptLaws.{log_manifest, written_elsewhere}
-use Rattle.vl_front.specs.declared.front.Front.{Front}
-use Rattle.vl_layout.specs.Decides.{Answered, Decides, Failed, NoMemory, as_before, no_effects}
+use Rattle.vl_layout.specs.Decides.{Answered, Decides, Effects, Failed, NoMemory, as_before, no_effects}
 use Rattle.vl_layout.specs.Ruling.{Ruling, leaving}
 use Rattle.vl_layout.specs.Rulings.Keep.{Halted, InvalidRequest, KeepAnswer, Kept, keep_ruling, keeping}
 use Rattle.vl_layout.specs.Start.{newest_first}
@@ -178,6 +174,54 @@ two_counted v before apart = by (v == before) refl
     by : (b : Bool) → (v == before) ≡ b → two_or_none b ≡ 2
     by true is = absurd (apart (grind (arith, nat_tests, is)))
     by false is = refl
+
+-- it is no number of versions that are kept
+pub is_invalid : (v : ℕ) → (v ≡ 0) ⊎ ((v ≡ 0 → ⊥) × (16 < v)) → ((v == 0) || nat_lt 16 v) ≡ true
+is_invalid v (inl none) =
+    let is : (v == 0) ≡ true = grind (arith, nat_tests, none) in
+    ap (λ (b : Bool). b || nat_lt 16 v) is
+is_invalid v (inr (some, many)) =
+    let is : nat_lt 16 v ≡ true = grind (arith, nat_tests, many) in
+    or_true (v == 0) (nat_lt 16 v) is
+  where
+    or_true : (a b : Bool) → b ≡ true → (a || b) ≡ true
+    or_true true b is = refl
+    or_true false b is = is
+
+pub is_some : (v : ℕ) → (v ≡ 0 → ⊥) → 1 ≤ v
+is_some v some = by (cases_lt 0 v)
+  where
+    by : (0 < v) ⊎ (v ≤ 0) → 1 ≤ v
+    by (inl more) = omega (arith, more)
+    by (inr none) = absurd (some (omega (arith, none)))
+
+-- It is answered without the disk,
+module _ {D H : Type 0} (g : Ghosts D) (watched : IsWatched g) (bytes : H → Option (List ℕ)) (core : Core H)
+    (h : History) (l : Layout) (v : ℕ) where
+  pub carries_left : (disk : D) (answer : KeepAnswer) → leaving answer h l ≡ keep_ruling l h v
+      → Represents bytes core (g.told disk) h l
+      → Carries g bytes disk disk core h l (keep_ruling l h v) (as_before l l) (Answered answer) no_effects
+  carries_left disk answer ruled is =
+      subst (λ (r : Ruling KeepAnswer). Carries g bytes disk disk core h l r (as_before l l) (Answered answer) no_effects) ruled
+      (carries_leaving g watched bytes core core h l disk answer l (as_before l l) is is)
+
+  -- also where so many are kept already.
+  pub carries_same : (disk : D) → core.front.halted ≡ None → 1 ≤ v → v ≤ max_keep → v ≡ core.back.state.keep
+      → Represents bytes core (g.told disk) h l
+      → Carries g bytes disk disk core h l (keep_ruling l h v) (as_before l l) (Answered Kept)
+      (record no_effects { calls = keep_calls core.back.state.keep v })
+  carries_same disk none some few same is =
+      subst (λ (e : Effects). Carries g bytes disk disk core h l (keep_ruling l h v) (as_before l l) (Answered Kept) e)
+      (none_counted v core.back.state.keep same)
+      (carries_left disk Kept (ruled_same core h l v is.stands.fronts none some few same) is)
+
+pub left_same : {H : Type 0} (S : History → Layout → Type 0) (core : Core H) (h : History) (l : Layout) (v : ℕ)
+    → Fronts core h l → core.front.halted ≡ None → 1 ≤ v → v ≤ max_keep → v ≡ core.back.state.keep → S h l
+    → Decides S h l (keep_ruling l h v) (as_before l l) (Answered Kept) (record no_effects { calls = keep_calls core.back.state.keep v })
+left_same S core h l v is none some few same stands =
+    subst (λ (e : Effects). Decides S h l (keep_ruling l h v) (as_before l l) (Answered Kept) e)
+    (none_counted v core.back.state.keep same)
+    (decides_leaving S h l (keep_ruling l h v) (as_before l l) Kept l (ruled_same core h l v is none some few same) stands)
 
 -- ---- it was to be written
 

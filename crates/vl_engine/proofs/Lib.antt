@@ -16,6 +16,7 @@ pub mod Headed
 pub mod KeepSteps
 pub mod KeptBy
 pub mod Knowing
+pub mod Leaving
 pub mod Merged
 pub mod Opened
 pub mod ReadingPast

@@ -21,7 +21,6 @@ use Rattle.vl_manifest.specs.Switching.{IsStaged, WhileSwitching, switched}
 use Rattle.vl_manifest.specs.declared.edit.Edit.TheVariants.{Keep}
 use Rattle.vl_manifest.specs.declared.edit.Edit.{Edit}
 use Rattle.vl_manifest.specs.declared.staged.StagedEdits.{StagedEdits}
-use Rattle.vl_manifest.specs.declared.state.ManifestState.{ManifestState}
 use Rattle.vl_model.specs.Numbers.{since_kept}
 
 -- ---- what it comes to, as the ruling has it

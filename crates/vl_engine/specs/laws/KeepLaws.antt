@@ -2,11 +2,10 @@
 -- then the disk holds the layout that the ruling leaves.
 use Rattle.std.specs.Prelude.{◌≡◌, ◌≢◌, ◌≤◌, ◌==◌, ℕ, ◌||◌, Bool, true, false, length, nat_lt, if◌then◌else◌, List, [], ◌∷◌, Some, None, refl}
 use Rattle.std.specs.FinMap.{get}
-use Rattle.std.proofs.Common.{sym, ap, subst, ◌∙◌, arith, ⊎_elim}
+use Rattle.std.proofs.Common.{sym, ap, ◌∙◌, arith, ⊎_elim}
 use Rattle.std.proofs.lemmas.Bool.Decides.{nat_tests}
 use Rattle.vl_disk.specs.Crash.{Image}
 use Rattle.vl_disk.specs.DiskState.{DiskState, File, appended, settled}
-use Rattle.vl_disk.specs.declared.name.Name.{Name}
 use Rattle.vl_disk.specs.declared.name.Name.TheVariants as names
 use Rattle.vl_disk.specs.laws.Lawful.{appended_lawful, synced_lawful}
 use Rattle.vl_disk.specs.laws.NameMap.{same_or_other}
@@ -27,12 +26,11 @@ use Rattle.vl_layout.specs.laws.LowShows.{since-up}
 use Rattle.vl_layout_laws.specs.laws.TidySteps.{tidy_keeping}
 use Rattle.vl_manifest.specs.Grammar.{edits_grammar}
 use Rattle.vl_manifest.specs.Manifest.{manifest_bytes}
-use Rattle.vl_manifest.specs.States.{all_applied, as_draft, finish, given_if, is_keep, max_keep, next_state, then_applied}
+use Rattle.vl_manifest.specs.States.{all_applied, as_draft, finish, given_if, max_keep, next_state, then_applied}
 use Rattle.vl_manifest.specs.Switching.{WhileSwitching, switched}
 use Rattle.vl_manifest.specs.declared.edit.Edit.TheVariants.{Keep}
 use Rattle.vl_manifest.specs.declared.edit.Edit.{Edit}
 use Rattle.vl_manifest.specs.declared.state.ManifestState.{ManifestState}
-use Rattle.vl_manifest.specs.declared.version_builder.VersionBuilder.{VersionBuilder}
 use Rattle.vl_manifest.specs.laws.StateLaws.{keep_passes}
 use Rattle.vl_model.specs.Formats.{manifest_format}
 use Rattle.vl_model.specs.History.{History, last_number}

@@ -1,4 +1,4 @@
-use Rattle.std.proofs.Common.{ap, refl, sym, ℕ}
+use Rattle.std.proofs.Common.{ap, refl, ℕ}
 use Rattle.vl_disk.specs.DiskState.{appended}
 use Rattle.vl_disk.specs.declared.name.Name.TheVariants as names
 use Rattle.vl_engine.proofs.KeptBy.{files_in_part, files_switched, fit_by, same_after, same_by, staged_by, stops_by, writes_by}
