@@ -4,16 +4,17 @@ use Rattle.std.proofs.Common.{sym, ap, subst, ◌∙◌, refl, arith}
 use Rattle.std.proofs.lemmas.List.{length-map}
 use Rattle.std.proofs.lemmas.Bool.Decides.{nat_tests}
 use Rattle.vl_engine.specs.Answers.{view_outcome}
-use Rattle.vl_engine.specs.Past.{IsSpared, ShowsPast, beginning, past_now}
+use Rattle.vl_engine.specs.Past.{ShowsPast, beginning, past_now}
 use Rattle.vl_engine.specs.Pointed.{layout_logs}
 use Rattle.vl_engine.specs.Represents.{Fronts, StandsFor}
 use Rattle.vl_engine.specs.Sees.{SeesAlone, ShowsAt}
+use Rattle.vl_engine.specs.Spared.{Spares}
 use Rattle.vl_engine.specs.declared.kept.Core.{Core}
 use Rattle.vl_engine.specs.declared.past.Past.{Past}
 use Rattle.vl_engine.specs.declared.view.View.{View}
 use Rattle.vl_engine.specs.laws.LaidLaws.{laid_entries}
 use Rattle.vl_engine.specs.laws.LiveLaws.{same_floor, same_free_ticket}
-use Rattle.vl_engine.specs.laws.PastLaws.{low_exact}
+use Rattle.vl_engine.specs.laws.SparedLaws.{are_of, low_exact}
 use Rattle.vl_engine.specs.laws.SeesLaws.{file_in, files_laid, shows_last}
 use Rattle.vl_front.specs.declared.front.Front.{Front}
 use Rattle.vl_layout.specs.AtAnswer.{Beginning, beginning_of}
@@ -177,7 +178,7 @@ began_as core h l is past same =
 
 -- so that the past is seen from there on, where the sources have what is spared.
 module _ {H : Type 0} (bytes : H → Option (List ℕ)) (core : Core H) (h : History) (l : Layout) (is : StandsFor bytes core h l)
-    (spared : IsSpared h l) (past : Past) (same : past ≡ past_now core) where
+    (spared : Spares l h) (past : Past) (same : past ≡ past_now core) where
   began : beginning past ≡ beginning_of l h
   began = began_as core h l is.fronts past same
 
@@ -190,7 +191,8 @@ module _ {H : Type 0} (bytes : H → Option (List ℕ)) (core : Core H) (h : His
         (sym began) is.tidy.shows;
     exact = λ key. subst
         (λ (b : Beginning). low_of (versions_in (sources l) key) b.floor b.keep b.since ≡ low h b.floor b.keep b.since key)
-        (sym began) (low_exact h l is.tidy.versions spared key);
+        (sym began) (low_exact h (sources l) (last_number h) (floor l h) l.keep l.since key (floor-up l h)
+        (are_of h (sources l) is.tidy.versions) spared);
     floor = subst (λ (b : Beginning). b.floor ≤ last_number h) (sym began) (floor-up l h);
   }
 

@@ -19,6 +19,7 @@ pub mod Represents
 pub mod Rotating
 pub mod Sees
 pub mod Shown
+pub mod Spared
 pub mod Staging
 pub mod Stepping
 pub mod Steps

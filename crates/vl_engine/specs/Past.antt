@@ -1,5 +1,5 @@
 -- Reads of the past: from which number on they are answered, and what of a version that needs.
-use Rattle.std.specs.Prelude.{◌≡◌, ◌⊎◌, ◌≤◌, ◌<◌, ◌+◌, ℕ, true, false, nat_lt, if◌then◌else◌, List, [], Option, None, Some, Result, Ok, Err}
+use Rattle.std.specs.Prelude.{◌≡◌, ◌≤◌, ◌<◌, ℕ, nat_lt, if◌then◌else◌, List, Option, None, Some, Result, Ok, Err}
 use Rattle.vl_disk.specs.Faults.{HasCause}
 use Rattle.vl_engine.specs.Reading.{IsInMemory}
 use Rattle.vl_engine.specs.declared.fails.AtFail.{AtFail}
@@ -8,13 +8,10 @@ use Rattle.vl_engine.specs.declared.kept.Core.{Core}
 use Rattle.vl_engine.specs.declared.past.Past.{Past}
 use Rattle.vl_layout.specs.AtAnswer.{Ahead, AtAnswer, Beginning, Dropped, EmptyKey, Found, KeyTooLong, at_answer}
 use Rattle.vl_layout.specs.Shows.{Shows}
-use Rattle.vl_layout.specs.Sources.{floor, sources}
-use Rattle.vl_layout.specs.declared.layout.Layout.{Layout}
-use Rattle.vl_layout.specs.laws.FromLow.{Passes}
 use Rattle.vl_model.specs.History.{History, last_number}
 use Rattle.vl_model.specs.Keys.{Stored}
-use Rattle.vl_model.specs.Numbers.{has, low_of, nth_below}
-use Rattle.vl_model.specs.Versions.{low, versions, versions_in}
+use Rattle.vl_model.specs.Numbers.{low_of}
+use Rattle.vl_model.specs.Versions.{low, versions_in}
 use Rattle.vl_model.specs.Winners.{Logs}
 use Rattle.vl_model.specs.declared.entry.Entry.{Entry}
 use Rattle.vl_oracle.specs.LiveTickets.{floor_of}
@@ -28,17 +25,6 @@ use Rattle.vl_version.specs.Sources.{HasEntries, tables_in}
 use Rattle.vl_version.specs.declared.fault.ReadFault.{ReadFault as VersionFault}
 use Rattle.vl_version.specs.declared.fault.ReadFault.TheVariants as fault
 use Rattle.vl_version.specs.declared.version.Version.{Version}
-
--- ---- what the sources hold
-
--- Of all versions of a key some are left. One that isn't left is at most since, or older than as many that are left as are kept.
-abbrev pub AreSpared : (all left : List ℕ) → (floor keep since : ℕ) → Type 0
-AreSpared all left floor keep since =
-    (m : ℕ) → has m all ≡ true → has m left ≡ false → (m ≤ since) ⊎ Passes m (nth_below left (floor + 1) keep)
-
--- So it is with each key's versions in the layout's sources. Merges keep it so, and nothing else drops a version.
-abbrev pub IsSpared : History → Layout → Type 0
-IsSpared h l = (key : List ℕ) → AreSpared (versions h key) (versions_in (sources l) key) (floor l h) l.keep l.since
 
 -- ---- what is seen of the past
 

@@ -41,6 +41,9 @@ pub mod SeesLaws
 pub mod SegmentLaws
 pub mod SharedLaws
 pub mod ShownLaws
+pub mod SparedLaws
+pub mod SparedRulings
+pub mod SparedSteps
 pub mod StartLaws
 pub mod SwitchLaws
 pub mod TableReads

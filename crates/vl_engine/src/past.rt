@@ -1,5 +1,6 @@
 //! How far back something may read.
 
+mod laws;
 mod reading;
 
 pub(crate) use reading::{past_of, read_past};
