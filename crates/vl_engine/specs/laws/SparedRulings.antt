@@ -1,5 +1,5 @@
 -- What each ruling leaves of the sources spares versions as it should.
-use Rattle.std.proofs.Common.{◌≡◌, ℕ, Bool, true, false, List, [], ◌∷◌, length, refl, ap, sym, ◌∙◌, subst, inl}
+use Rattle.std.proofs.Common.{◌≡◌, ℕ, ◌+◌, Bool, true, false, List, [], ◌∷◌, length, refl, ap, sym, ◌∙◌, subst, inl}
 use Rattle.std.specs.Prelude.{T, Option, None, Some, ◌==◌, ◌||◌, nat_le, nat_lt, if◌then◌else◌}
 use Rattle.std.specs.FinMap.{entries-from_sorted, from_sorted, is_sorted}
 use Rattle.vl_engine.specs.Spared.{HasAllVersions, Spares, SparesRuled}
