@@ -8,7 +8,6 @@ use Rattle.vl_engine.specs.Past.{ShowsPast, beginning, past_now}
 use Rattle.vl_engine.specs.Pointed.{layout_logs}
 use Rattle.vl_engine.specs.Represents.{Fronts, StandsFor}
 use Rattle.vl_engine.specs.Sees.{SeesAlone, ShowsAt}
-use Rattle.vl_engine.specs.Spared.{Spares}
 use Rattle.vl_engine.specs.declared.kept.Core.{Core}
 use Rattle.vl_engine.specs.declared.past.Past.{Past}
 use Rattle.vl_engine.specs.declared.view.View.{View}
@@ -136,37 +135,9 @@ pub last_begun : (result : Result ℕ BeginFail) (before after : Front)
 last_begun (Ok ticket) before after ok err = ap (λ (o : LiveTickets). o.last) ok.1
 last_begun (Err why) before after ok err = ap (λ (f : Front). f.oracle.last) err
 
--- ---- what is seen
-
--- Sources that show the history up to its last number are seen there, through a reader that keeps no block of other files.
-module _ {H : Type 0} (bytes : H → Option (List ℕ)) (core : Core H) (h : History) (l : Layout) (is : StandsFor bytes core h l) where
-  sees_version : ShowsAt bytes core.version h (last_number h)
-  sees_version = record {
-    entries_of = sources l;
-    logs = layout_logs l;
-    has = laid_entries bytes core.version l is.has h is.tidy;
-    shows = shows_last (layout_logs l) l h is.tidy.shows;
-    readable = omega arith;
-    known = omega arith;
-  }
-
-  reads_version : {R : Type 0} (reader : BlockReader R) → AreKept (file_in bytes (tables_in core.version)) reader
-      → ReadsOf bytes (file_in bytes (tables_in core.version)) reader (tables_in core.version)
-  reads_version reader kept = record { kept = kept; told = files_laid bytes core.version l is.has is.tidy.levels }
-
-  pub sees_now : {R : Type 0} (view : View H R) → view.version ≡ core.version → view.number ≡ last_number h
-      → ((files : Files) → AreKept files view.reader) → SeesAlone bytes view h
-  sees_now view same last kept = record {
-    version = subst (λ (v : Version H). ShowsAt bytes v h view.number) (sym same)
-        (subst (ShowsAt bytes core.version h) (sym last) sees_version);
-    files = file_in bytes (tables_in core.version);
-    reader = subst (λ (v : Version H). ReadsOf bytes (file_in bytes (tables_in core.version)) view.reader (tables_in v)) (sym same)
-        (reads_version view.reader (kept (file_in bytes (tables_in core.version))));
-  }
-
 -- ---- how far back
 
--- What decides on it is the layout's,
+-- What decides on it is the layout's.
 pub began_as : {H : Type 0} (core : Core H) (h : History) (l : Layout) → Fronts core h l → (past : Past) → past ≡ past_now core
     → beginning past ≡ beginning_of l h
 began_as core h l is past same =
@@ -176,28 +147,49 @@ began_as core h l is past same =
     ∙ ap (λ (n : ℕ). record { floor = floor l h; keep = n; since = core.back.state.since }) is.keep
     ∙ ap (λ (n : ℕ). record { floor = floor l h; keep = l.keep; since = n }) is.since
 
--- so that the past is seen from there on, where the sources have what is spared.
-module _ {H : Type 0} (bytes : H → Option (List ℕ)) (core : Core H) (h : History) (l : Layout) (is : StandsFor bytes core h l)
-    (spared : Spares l h) (past : Past) (same : past ≡ past_now core) where
-  began : beginning past ≡ beginning_of l h
-  began = began_as core h l is.fronts past same
+-- ---- what is seen
 
-  past_version : ShowsPast bytes core.version past (last_number h) h
-  past_version = record {
+-- Sources that show the history up to its last number are seen there, through a reader that keeps no block of other files.
+module _ {H : Type 0} (bytes : H → Option (List ℕ)) (core : Core H) (h : History) (l : Layout) (is : StandsFor bytes core h l) where
+  module _ (past : Past) (same : past ≡ past_now core) where
+    began : beginning past ≡ beginning_of l h
+    began = began_as core h l is.fronts past same
+
+    past_version : ShowsPast bytes core.version past (last_number h) h
+    past_version = record {
+      entries_of = sources l;
+      logs = layout_logs l;
+      has = laid_entries bytes core.version l is.has h is.tidy;
+      shows = subst (λ (b : Beginning). Shows (layout_logs l) (sources l) h (λ key. low h b.floor b.keep b.since key) (last_number h))
+          (sym began) is.tidy.shows;
+      exact = λ key. subst
+          (λ (b : Beginning). low_of (versions_in (sources l) key) b.floor b.keep b.since ≡ low h b.floor b.keep b.since key)
+          (sym began) (low_exact h (sources l) (last_number h) (floor l h) l.keep l.since key (floor-up l h)
+          (are_of h (sources l) is.tidy.versions) is.spared);
+      floor = subst (λ (b : Beginning). b.floor ≤ last_number h) (sym began) (floor-up l h);
+    }
+
+  sees_version : (past : Past) → past ≡ past_now core → ShowsAt bytes core.version past h (last_number h)
+  sees_version past same = record {
     entries_of = sources l;
     logs = layout_logs l;
     has = laid_entries bytes core.version l is.has h is.tidy;
-    shows = subst (λ (b : Beginning). Shows (layout_logs l) (sources l) h (λ key. low h b.floor b.keep b.since key) (last_number h))
-        (sym began) is.tidy.shows;
-    exact = λ key. subst
-        (λ (b : Beginning). low_of (versions_in (sources l) key) b.floor b.keep b.since ≡ low h b.floor b.keep b.since key)
-        (sym began) (low_exact h (sources l) (last_number h) (floor l h) l.keep l.since key (floor-up l h)
-        (are_of h (sources l) is.tidy.versions) spared);
-    floor = subst (λ (b : Beginning). b.floor ≤ last_number h) (sym began) (floor-up l h);
+    shows = shows_last (layout_logs l) l h is.tidy.shows;
+    readable = omega arith;
+    known = omega arith;
+    shows_past = past_version past same;
   }
 
-  pub past_seen : (version : Version H) (number : ℕ) → version ≡ core.version → number ≡ last_number h
-      → ShowsPast bytes version past number h
-  past_seen version number same_version last =
-      subst (λ (v : Version H). ShowsPast bytes v past number h) (sym same_version)
-      (subst (λ (n : ℕ). ShowsPast bytes core.version past n h) (sym last) past_version)
+  reads_version : {R : Type 0} (reader : BlockReader R) → AreKept (file_in bytes (tables_in core.version)) reader
+      → ReadsOf bytes (file_in bytes (tables_in core.version)) reader (tables_in core.version)
+  reads_version reader kept = record { kept = kept; told = files_laid bytes core.version l is.has is.tidy.levels }
+
+  pub sees_now : {R : Type 0} (view : View H R) → view.version ≡ core.version → view.number ≡ last_number h
+      → view.past ≡ past_now core → ((files : Files) → AreKept files view.reader) → SeesAlone bytes view h
+  sees_now view same last past kept = record {
+    version = subst (λ (v : Version H). ShowsAt bytes v view.past h view.number) (sym same)
+        (subst (ShowsAt bytes core.version view.past h) (sym last) (sees_version view.past past));
+    files = file_in bytes (tables_in core.version);
+    reader = subst (λ (v : Version H). ReadsOf bytes (file_in bytes (tables_in core.version)) view.reader (tables_in v)) (sym same)
+        (reads_version view.reader (kept (file_in bytes (tables_in core.version))));
+  }

@@ -1,11 +1,11 @@
 -- Which versions of a key the sources of a store still have, whatever merges dropped.
-use Rattle.std.specs.Prelude.{◌≡◌, ◌⊎◌, ◌≤◌, ℕ, ◌+◌, true, false, List}
+use Rattle.std.specs.Prelude.{◌≡◌, ◌⊎◌, ◌≤◌, ℕ, ◌+◌, true, false, List, []}
 use Rattle.vl_layout.specs.laws.FromLow.{Passes}
 use Rattle.vl_layout.specs.Ruling.{Ruling}
 use Rattle.vl_layout.specs.Sources.{floor, sources}
 use Rattle.vl_layout.specs.declared.layout.Layout.{Layout}
 use Rattle.vl_model.specs.History.{History, last_number}
-use Rattle.vl_model.specs.Numbers.{AreAmong, has, nth_below}
+use Rattle.vl_model.specs.Numbers.{has, nth_below}
 use Rattle.vl_model.specs.Versions.{versions, versions_in}
 use Rattle.vl_model.specs.declared.entry.Entry.{Entry}
 
@@ -28,6 +28,6 @@ Spares l h = IsSpared h (sources l) (last_number h) (floor l h) l.keep l.since
 abbrev pub SparesRuled : {A : Type 0} → Ruling A → Type 0
 SparesRuled r = Spares r.layout r.history
 
--- Where all versions of each key stand in the sources, as behind an opening over just these, none is missing.
-abbrev pub HasAllVersions : Layout → History → Type 0
-HasAllVersions l h = (key : List ℕ) → AreAmong (versions h key) (versions_in (sources l) key)
+-- A layout where nothing lives, so that its floor is the last number.
+abbrev pub at_rest : Layout → Layout
+at_rest l = record l { live = [] }

@@ -1,6 +1,5 @@
 //! How far back something may read.
 
-mod laws;
 mod reading;
 
 pub(crate) use reading::{past_of, read_past};

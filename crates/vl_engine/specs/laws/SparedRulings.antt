@@ -2,7 +2,7 @@
 use Rattle.std.proofs.Common.{◌≡◌, ℕ, ◌+◌, Bool, true, false, List, [], ◌∷◌, length, refl, ap, sym, ◌∙◌, subst, inl}
 use Rattle.std.specs.Prelude.{T, Option, None, Some, ◌==◌, ◌||◌, nat_le, nat_lt, if◌then◌else◌}
 use Rattle.std.specs.FinMap.{entries-from_sorted, from_sorted, is_sorted}
-use Rattle.vl_engine.specs.Spared.{HasAllVersions, Spares, SparesRuled}
+use Rattle.vl_engine.specs.Spared.{Spares, SparesRuled}
 use Rattle.vl_engine.specs.laws.SparedSteps.{spares_begun, spares_committed, spares_ended, spares_flushed, spares_keeping, spares_rotated}
 use Rattle.vl_layout.specs.Ruling.{Ruling, ended, has_no_number, has_no_version, leaving, logged}
 use Rattle.vl_layout.specs.Rulings.Begin.{begin_ruling}
@@ -16,7 +16,6 @@ use Rattle.vl_layout.specs.declared.file_name.FileName.{FileName}
 use Rattle.vl_layout.specs.declared.layout.Layout.{Layout}
 use Rattle.vl_layout.specs.declared.segment.Segment.{Segment}
 use Rattle.vl_layout.specs.declared.table.Table.{Table}
-use Rattle.vl_layout_laws.specs.laws.Lists.{true_false}
 use Rattle.vl_model.specs.Conflicts.{Named, first_conflict}
 use Rattle.vl_model.specs.Frames.{frame_length}
 use Rattle.vl_model.specs.History.{History, last_number, with_commit}
@@ -29,10 +28,6 @@ either : {A : Type 0} (b : Bool) (x y : Ruling A) → SparesRuled x → SparesRu
 either true x y one other = one
 either false x y one other = other
 
--- none is missing
-pub spares_all : (l : Layout) (h : History) → HasAllVersions l h → Spares l h
-spares_all l h all key n le there missing = absurd (true_false (sym (all key n there) ∙ missing))
-
 module _ (l : Layout) (h : History) (spares : Spares l h) where
   -- a begin
   pub begin_spares : SparesRuled (begin_ruling l h)
@@ -40,7 +35,7 @@ module _ (l : Layout) (h : History) (spares : Spares l h) where
 
   -- a commit
   module _ (t : Transaction) (rising : T (is_sorted key_cmp t.writes)) where
-    committed_spares : SparesRuled (committed l h t)
+    pub committed_spares : SparesRuled (committed l h t)
     committed_spares =
         subst (λ (ws : List (List ℕ × Change)). Spares (logged (commit_frame h ws) (ended t.ticket l)) (with_commit h (from_sorted t.writes)))
         (entries-from_sorted key_cmp t.writes rising) (spares_committed l h t.ticket (from_sorted t.writes) spares)

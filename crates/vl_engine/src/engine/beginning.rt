@@ -1,10 +1,9 @@
 ghost use Rattle.std.specs.Prelude.{◌≡◌, [], IfOk};
 ghost use Rattle.vl_engine.specs.Answers.{begin_outcome, view_outcome};
-ghost use Rattle.vl_engine.specs.Past.{ShowsPast, beginning};
+ghost use Rattle.vl_engine.specs.Past.{beginning};
 ghost use Rattle.vl_engine.specs.Reading.{IsInMemory};
 ghost use Rattle.vl_engine.specs.Represents.{Fronts, Represents, StandsFor};
 ghost use Rattle.vl_engine.specs.Sees.{IsNew, Sees, SeesAlone};
-ghost use Rattle.vl_engine.specs.Spared.{Spares};
 ghost use Rattle.vl_engine.specs.Stepping.{Fits};
 ghost use Rattle.vl_layout.specs.AtAnswer.{beginning_of};
 ghost use Rattle.vl_layout.specs.Decides.{Decides, as_before, no_effects};
@@ -44,11 +43,9 @@ impl<D: Disk> Engine<D> {
         ensures sees { (h : History) (l : Layout) → StandsFor D.Held.bytes self.old.core h l
             → IfOk result (λ txn. Sees D.Held.bytes txn h []) }
 
-        // It may read as far back as the layout has it, and where its sources have what is spared it sees the past from there.
+        // It may read as far back as the layout has it.
         ensures began { (h : History) (l : Layout) → StandsFor D.Held.bytes self.old.core h l
             → IfOk result (λ txn. beginning txn.past ≡ beginning_of l h) }
-        ensures past { (h : History) (l : Layout) → StandsFor D.Held.bytes self.old.core h l → Spares l h
-            → IfOk result (λ txn. ShowsPast D.Held.bytes txn.version txn.past txn.number h) }
         ensures fresh { IfOk result IsNew }
         // Where all of the engine's version is in memory, so is its own, and no read of it asks a file.
         ensures memory { IsInMemory self.old.core.version → IfOk result (λ txn. IsInMemory txn.version) }
@@ -97,11 +94,9 @@ impl<D: Disk> Engine<D> {
         ensures sees { (h : History) (l : Layout) → StandsFor D.Held.bytes self.old.core h l
             → IfOk result (λ view. SeesAlone D.Held.bytes view h) }
 
-        // It may read as far back as the layout has it, and where its sources have what is spared it sees the past from there.
+        // It may read as far back as the layout has it.
         ensures began { (h : History) (l : Layout) → StandsFor D.Held.bytes self.old.core h l
             → IfOk result (λ view. beginning view.past ≡ beginning_of l h) }
-        ensures past { (h : History) (l : Layout) → StandsFor D.Held.bytes self.old.core h l → Spares l h
-            → IfOk result (λ view. ShowsPast D.Held.bytes view.version view.past view.number h) }
         ensures memory { IsInMemory self.old.core.version → IfOk result (λ view. IsInMemory view.version) }
 
         // Its version is the engine's, and its reader keeps no block that doesn't stand, whatever the files.

@@ -2,7 +2,7 @@ ghost use Rattle.std.specs.Prelude.{◌≡◌, ◌≤◌, ◌++◌, ◌∷◌, [
 ghost use Rattle.std.specs.FinMap.{get};
 ghost use Rattle.std.specs.Option.{option_map};
 ghost use Rattle.vl_disk.specs.Faults.{HasCause};
-ghost use Rattle.vl_engine.specs.Past.{AtFailed, IsAnsweredAt, IsRefusedAt, ShowsPast, beginning};
+ghost use Rattle.vl_engine.specs.Past.{AtFailed, IsAnsweredAt, IsRefusedAt, beginning};
 ghost use Rattle.vl_engine.specs.Reading.{IsInMemory, IsOwn, IsRefusedBy, IsSound, LiesOver, LooksUp, LooksUpTagged, NotesNothing, OnlyNotes, ReadFailed, refused_bounds, rows_under, tagged_under, value_under, with_its_tag, written_value};
 ghost use Rattle.vl_engine.specs.Sees.{Sees};
 ghost use Rattle.vl_layout.specs.AtAnswer.{at_answer};
@@ -133,7 +133,6 @@ impl<H: HeldFile, R: Reader<Held = H> + Drop> Txn<H, R> {
     /// doesn't change.
     pub fn get_at(&mut self, key: &[u8], number: u64) -> Result<Option<Value>, AtFail>
         ensures answer { (h : History) (reads : List Read) → Sees H.bytes self.old h reads
-            → ShowsPast H.bytes self.old.version self.old.past self.old.number h
             → IsAnsweredAt (at_answer h (beginning self.old.past) self.old.number key.now number) result }
         ensures refused { IsRefusedAt self.old.number key.now number result }
         ensures kept { NotesNothing self.old self.new }

@@ -1,7 +1,7 @@
 ghost use Rattle.std.specs.Prelude.{◌≡◌, ◌≤◌, IfOk, IsErr, None};
 ghost use Rattle.std.specs.FinMap.{empty};
 ghost use Rattle.vl_disk.specs.Faults.{HasCause};
-ghost use Rattle.vl_engine.specs.Past.{AtFailed, IsAnsweredAt, IsRefusedAt, ShowsPast, beginning};
+ghost use Rattle.vl_engine.specs.Past.{AtFailed, IsAnsweredAt, IsRefusedAt, beginning};
 ghost use Rattle.vl_engine.specs.Reading.{IsFound, IsInMemory, IsRefusedBy, IsRefusedInto, IsSound, IsSoundInto, LiesOver, LooksUp, LooksUpInto, LooksUpTagged, OnlyReads, ReadFailed, ReadIntoFailed, refused_bounds, rows_under, with_its_tag};
 ghost use Rattle.vl_engine.specs.Sees.{SeesAlone};
 ghost use Rattle.vl_layout.specs.AtAnswer.{at_answer};
@@ -106,7 +106,6 @@ impl<H: HeldFile, R: Reader<Held = H> + Drop> View<H, R> {
     /// be read, up to that at which the view reads.
     pub fn get_at(&mut self, key: &[u8], number: u64) -> Result<Option<Value>, AtFail>
         ensures answer { (h : History) → SeesAlone H.bytes self.old h
-            → ShowsPast H.bytes self.old.version self.old.past self.old.number h
             → IsAnsweredAt (at_answer h (beginning self.old.past) self.old.number key.now number) result }
         ensures refused { IsRefusedAt self.old.number key.now number result }
         ensures keeps { OnlyReads self.old self.new }

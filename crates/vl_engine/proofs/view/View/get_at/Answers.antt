@@ -3,14 +3,14 @@ use Rattle.vl_engine.proofs.Seeing.{sees_alone_still}
 use Rattle.vl_engine.proofs.view.View.get_at.Goals as goal
 
 pub returns-clause-answer : goal.returns-clause-answer
-returns-clause-answer g c h sees past = c.read_past.ensures.answers sees.files h sees.reader past
+returns-clause-answer g c h sees = c.read_past.ensures.answers sees.files h sees.reader sees.version.shows_past
 
 pub returns-clause-refused : goal.returns-clause-refused
 returns-clause-refused g c = c.read_past.ensures.refused
 
 pub returns-clause-still : goal.returns-clause-still
 returns-clause-still g c h sees =
-    sees_alone_still g.H.HeldFile.bytes c.args.self.now _ h sees refl refl (c.read_past.ensures.kept sees.files sees.reader)
+    sees_alone_still g.H.HeldFile.bytes c.args.self.now _ h sees refl refl refl (c.read_past.ensures.kept sees.files sees.reader)
 
 pub returns-clause-cause : goal.returns-clause-cause
 returns-clause-cause g c = c.read_past.ensures.cause
