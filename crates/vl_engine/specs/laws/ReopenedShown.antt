@@ -10,6 +10,7 @@ use Rattle.vl_engine.specs.Shown.{EntriesShow, Shown, entries_among, logs_entrie
 use Rattle.vl_engine.specs.laws.ReopenedLaws.{low-reopened, value_at-reopened, versions-reopened}
 use Rattle.vl_layout.specs.Shown.{IsOf}
 use Rattle.vl_layout.specs.Shows.{AreUpTo}
+use Rattle.vl_layout_laws.specs.laws.Lists.{true_false}
 use Rattle.vl_model.specs.History.{History, no_history}
 use Rattle.vl_model.specs.Numbers.{has}
 use Rattle.vl_model.specs.Versions.{versions}
@@ -29,6 +30,17 @@ has-filtered m n le (k ∷ ks) there = by (nat_le k m) (k == n) refl refl there 
         ap (λ (t : Bool). t || has n (filter (λ (j : ℕ). nat_le j m) ks)) other ∙ later there
     by false true high at there later = absurd (grind (arith, nat_tests, high, at, le))
     by false false high other there later = later there
+
+from-filtered : (m n : ℕ) (ns : List ℕ) → has n (filter (λ (k : ℕ). nat_le k m) ns) ≡ true → has n ns ≡ true
+from-filtered m n [] there = there
+from-filtered m n (k ∷ ks) there = by (nat_le k m) (k == n) (from-filtered m n ks) there
+  where
+    by : (a b : Bool) → (has n (filter (λ (j : ℕ). nat_le j m) ks) ≡ true → has n ks ≡ true)
+        → has n (cond a (k ∷ filter (λ (j : ℕ). nat_le j m) ks) (filter (λ (j : ℕ). nat_le j m) ks)) ≡ true
+        → (b || has n ks) ≡ true
+    by a true later is = refl
+    by true false later is = later (still (k == n) is)
+    by false false later is = later is
 
 of_reopened : (h : History) (m : ℕ) (es : List Entry) → AllByRecursion (IsOf h) es → AreUpTo m es
     → AllByRecursion (IsOf (reopened h m)) es
@@ -52,6 +64,8 @@ entries_show_reopened keep since logs es h m show = record {
   };
   versions = of_reopened h m es show.versions show.up_to;
   up_to = show.up_to;
+  spared = λ key n le there missing.
+      show.spared key n le (from-filtered m n (versions h key) (subst (λ (ns : List ℕ). has n ns ≡ true) (versions-reopened h m key) there)) missing;
 }
 
 -- An image shows, of the history as it is gone on with from a number, what it shows of the history there.
@@ -84,4 +98,5 @@ none_show logs = record {
   };
   versions = tt;
   up_to = tt;
+  spared = λ key n le there missing. absurd (true_false (sym there));
 }
