@@ -14,5 +14,6 @@ pub mod BeginMaking
 pub mod CommitMaking
 pub mod StepMaking
 pub mod Returning
+pub mod PastMaking
 pub mod Placing
 pub mod Halts

@@ -17,7 +17,7 @@ use Rattle.vl_model.specs.declared.way.Way.{Way}
 use Rattle.vl_replay.specs.Sequential.{State, answer_text, answer_to, history_of, state_after}
 use Rattle.vl_script.specs.Script.{line_of}
 use Rattle.vl_script.specs.declared.line.Line.{Line}
-use Rattle.vl_script.specs.declared.line.Line.TheVariants.{Begin, View, Get, Set, SetTagged, GetTagged, Scan, Delete, Commit, Drop, Rotate, Flush}
+use Rattle.vl_script.specs.declared.line.Line.TheVariants.{Begin, View, Get, Set, SetTagged, GetTagged, GetAt, Scan, Delete, Commit, Drop, Rotate, Flush}
 
 -- a line with its answer, and the states before and after it
 pub record Exchange : Type 0 where
@@ -99,7 +99,12 @@ ScansAt (Some (APass pass batch)) own number = ⊥
 ScansAt (Some (AView v b)) own number = (number ≡ v.number) × (own ≡ [])
 ScansAt (Some (ATransaction t b)) own number = (number ≡ t.number) × (own ≡ t.writes)
 
--- What is read is explained by the history at the reader's own number. What the transaction of an accepted commit has read and
+-- a value was told, or that there is none
+abbrev pub TellsValue : Answer → Type 0
+TellsValue answer = (value : Option Stored) × (answer ≡ answer_of value)
+
+-- What is read is explained by the history at the reader's own number; a value at an older one by the history there, whatever the
+-- reader wrote. What the transaction of an accepted commit has read and
 -- scanned is explained by that, and by the history at the commit's number less one.
 abbrev pub IsExplainedExchange : Line → Exchange → Type 0
 IsExplainedExchange (Begin name) e = Unit {0}
@@ -110,6 +115,8 @@ IsExplainedExchange (Get name key) e =
 IsExplainedExchange (GetTagged name key) e =
     (number : ℕ) → ReadsAt (thing_of e.before.store name) key number
     → e.answer ≡ read_at answer_with_tag (history_of e.before) number key
+IsExplainedExchange (GetAt name key number) e =
+    TellsValue e.answer → e.answer ≡ answer_of (value_at (history_of e.before) number key)
 IsExplainedExchange (Scan name low high limit way) e =
     (number : ℕ) (own : Changes) → ScansAt (thing_of e.before.store name) own number
     → e.answer ≡ rows_at (history_of e.before) number own low high limit way

@@ -14,13 +14,13 @@ use Rattle.vl_model.specs.History.{Extends, History, with_commit}
 use Rattle.vl_model.specs.Keys.{Row, tagged, untagged}
 use Rattle.vl_model.specs.declared.change.Change.TheVariants.{Set as Put, Delete as Deleted}
 use Rattle.vl_replay.specs.Sequential.{IsTold, State, answer_text, answer_to, as_told, history_of, state_after, step_to, told_row, without_lengths}
-use Rattle.vl_replay.specs.laws.Growing.{begin_keeps, commit_or, get_keeps, history_more, scan_keeps, write_keeps}
+use Rattle.vl_replay.specs.laws.Growing.{begin_keeps, commit_or, get_at_keeps, get_keeps, history_more, scan_keeps, write_keeps}
 use Rattle.vl_script.specs.Script.{as_line, row_text, rows_text, text_of}
 use Rattle.std.specs.Fmt.{decimal}
 use Rattle.vl_script.specs.declared.answer.Answer.{Answer}
 use Rattle.vl_script.specs.declared.answer.Answer.TheVariants as answers
 use Rattle.vl_script.specs.declared.line.Line.{Line}
-use Rattle.vl_script.specs.declared.line.Line.TheVariants.{Begin, View, Get, Set, SetTagged, GetTagged, Scan, Delete, Commit, Drop, Rotate, Flush}
+use Rattle.vl_script.specs.declared.line.Line.TheVariants.{Begin, View, Get, Set, SetTagged, GetTagged, GetAt, Scan, Delete, Commit, Drop, Rotate, Flush}
 use Rattle.vl_replay.proofs.Disk.Betweens.{extends_itself}
 
 -- ---- commits
@@ -42,6 +42,7 @@ line_adds s (Begin name) = inl (begin_keeps s.store name a_transaction (thing_of
 line_adds s (View name) = inl (begin_keeps s.store name a_view (thing_of s.store name)).commits
 line_adds s (Get name key) = inl (get_keeps s.store name answer_of key (thing_of s.store name)).commits
 line_adds s (GetTagged name key) = inl (get_keeps s.store name answer_with_tag key (thing_of s.store name)).commits
+line_adds s (GetAt name key number) = inl (get_at_keeps s.store name key number (thing_of s.store name)).commits
 line_adds s (Scan name low high limit way) = inl (scan_keeps s.store way name low high limit (thing_of s.store name)).commits
 line_adds s (Set name key value) = inl (write_keeps s.store name key (Put (untagged value)) (thing_of s.store name)).commits
 line_adds s (SetTagged name key value tag) = inl (write_keeps s.store name key (Put (tagged value tag)) (thing_of s.store name)).commits
@@ -91,6 +92,7 @@ told_text (answers.Number n) = refl
 told_text (answers.Found value) = refl
 told_text (answers.FoundTagged value) = refl
 told_text answers.NoValue = refl
+told_text (answers.Dropped least) = refl
 told_text (answers.Rows rows) = rows_text_alike rows.items
   where
     rows_text_alike : (rows : List Row) → rows_text rows ≡ rows_text (map told_row (rows_told rows))
@@ -128,6 +130,7 @@ told_number told answer n is number = of told (is ∙ ap without_lengths number)
     of (answers.Found value) e = absurd cc
     of (answers.FoundTagged value) e = absurd cc
     of answers.NoValue e = absurd cc
+    of (answers.Dropped least) e = absurd cc
     of (answers.Rows rows) e = absurd cc
     of (answers.Taken name) e = absurd cc
     of (answers.Unknown name) e = absurd cc

@@ -19,11 +19,11 @@ use Rattle.vl_model.specs.Reads.{IsExplained, Read}
 use Rattle.vl_model.specs.declared.change.Change.TheVariants.{Set as Put, Delete as Deleted}
 use Rattle.vl_replay.specs.Exchanges.{exchanged, exchanges_from, and_later, IsExplainedExchange, AreExplained, ended_lines, KeepsUp}
 use Rattle.vl_replay.specs.Sequential.{State, asked, history_of, state_after, step_to}
-use Rattle.vl_replay.specs.laws.Explained.{IsSound as IsSoundStore, IsSoundThing, Stays, commit_explained, commit_stays, drop_stays, get_explained, get_stays, later_things, only_readers, scan_explained, scan_stays, transaction_stays, view_stays, write_stays}
-use Rattle.vl_replay.specs.laws.Growing.{Adds, Keeps, begin_keeps, commit_or, drop_keeps, get_keeps, scan_keeps, write_keeps}
+use Rattle.vl_replay.specs.laws.Explained.{IsSound as IsSoundStore, IsSoundThing, Stays, commit_explained, commit_stays, drop_stays, get_at_explained, get_explained, get_at_stays, get_stays, later_things, only_readers, scan_explained, scan_stays, transaction_stays, view_stays, write_stays}
+use Rattle.vl_replay.specs.laws.Growing.{Adds, Keeps, begin_keeps, commit_or, drop_keeps, get_at_keeps, get_keeps, scan_keeps, write_keeps}
 use Rattle.vl_script.specs.Script.{line_of}
 use Rattle.vl_script.specs.declared.line.Line.{Line}
-use Rattle.vl_script.specs.declared.line.Line.TheVariants.{Begin, View, Get, Set, SetTagged, GetTagged, Scan, Delete, Commit, Drop, Rotate, Flush}
+use Rattle.vl_script.specs.declared.line.Line.TheVariants.{Begin, View, Get, Set, SetTagged, GetTagged, GetAt, Scan, Delete, Commit, Drop, Rotate, Flush}
 
 -- ---- what a line leaves
 
@@ -49,6 +49,7 @@ keeps_or s (View name) sound = inl (begin_keeps s.store name a_view (thing_of s.
 keeps_or s (Get name key) sound = inl (get_keeps s.store name answer_of key (thing_of s.store name))
 keeps_or s (GetTagged name key) sound = inl (get_keeps s.store name answer_with_tag key (thing_of s.store name))
 keeps_or s (Scan name low high limit way) sound = inl (scan_keeps s.store way name low high limit (thing_of s.store name))
+keeps_or s (GetAt name key number) sound = inl (get_at_keeps s.store name key number (thing_of s.store name))
 keeps_or s (Set name key value) sound = inl (write_keeps s.store name key (Put (untagged value)) (thing_of s.store name))
 keeps_or s (SetTagged name key value tag) sound = inl (write_keeps s.store name key (Put (tagged value tag)) (thing_of s.store name))
 keeps_or s (Delete name key) sound = inl (write_keeps s.store name key Deleted (thing_of s.store name))
@@ -100,6 +101,8 @@ pub state_after-sound : (s : State) (line : Line) → IsSound s → IsSound (sta
 state_after-sound s (Begin name) sound = stays_sound s (Begin name) sound (transaction_stays s.store sound name)
 state_after-sound s (View name) sound = stays_sound s (View name) sound (view_stays s.store sound name)
 state_after-sound s (Get name key) sound = stays_sound s (Get name key) sound (get_stays s.store sound name answer_of key (thing_of s.store name) refl)
+state_after-sound s (GetAt name key number) sound =
+    stays_sound s (GetAt name key number) sound (get_at_stays s.store sound name key number (thing_of s.store name))
 state_after-sound s (GetTagged name key) sound =
     stays_sound s (GetTagged name key) sound (get_stays s.store sound name answer_with_tag key (thing_of s.store name) refl)
 state_after-sound s (Scan name low high limit way) sound =
@@ -131,6 +134,7 @@ exchange_explained stay s (Begin name) sound = tt
 exchange_explained stay s (View name) sound = tt
 exchange_explained stay s (Get name key) sound = λ number by. get_explained s.store sound name answer_of key number (thing_of s.store name) by
 exchange_explained stay s (GetTagged name key) sound = λ number by. get_explained s.store sound name answer_with_tag key number (thing_of s.store name) by
+exchange_explained stay s (GetAt name key number) sound = λ told. get_at_explained s.store sound name key number (thing_of s.store name) told
 exchange_explained stay s (Scan name low high limit way) sound =
     λ number own by. scan_explained s.store sound way name low high limit number own (thing_of s.store name) refl by
 exchange_explained stay s (SetTagged name key value tag) sound = tt
