@@ -121,7 +121,7 @@ module _ {D : Type 0} (g : Ghosts D) (watched : IsWatched g) (s : State) (text :
   pub carries_nothing : {T : Type 0} (disk : D) (result : Result T Halt) → IsErr result → (HaltsByDisk result → ⊥) → HoldsState g IsStored s disk → LeadsTo g IsStored Shown IsStopped disk disk s behind result
   carries_nothing disk result err sound held = record {
     answered = on_ok_at_err result _ err;
-    no_commit = λ _. (s, refl, held.there);
+    no_commit = λ _. (s, refl, refl, held.there);
     unread = λ _. held;
     tells = opens_again g watched IsStored Shown IsStopped shown_stays stored_exactly s disk held;
     through = rests_until g watched IsStored Shown IsStopped shown_stays stored_exactly s (history_of behind) (text_extends s text) disk held;
@@ -171,7 +171,7 @@ module _ {D : Type 0} (g : Ghosts D) (watched : IsWatched g) (s : State) (text :
     ends_bad result ending ok sound bad carries =
         let held = of_ok result _ ok carries.answered in
         ends_unchanged g watched IsStored Shown IsStopped shown_stays stored_exactly old new ending s behind carries.through carries.tells
-        (behind, ap (λ (t : State). (history_of t)) (bad_behind s text bad), ap (λ (t : State). t.calls) (bad_behind s text bad), ap (λ (t : State). t.files) (bad_behind s text bad), held) (λ cuts. it_holds g watched IsStored Shown IsStopped shown_stays stored_exactly behind new held) sound
+        (behind, ap (λ (t : State). (history_of t)) (bad_behind s text bad), ap (λ (t : State). without_live t.store.layout) (bad_behind s text bad), ap (λ (t : State). t.calls) (bad_behind s text bad), ap (λ (t : State). t.files) (bad_behind s text bad), held) (λ cuts. it_holds g watched IsStored Shown IsStopped shown_stays stored_exactly behind new held) sound
 
     -- memory ran out
     pub ends_out : {T K : Type 0} (k : sink.Ghosts K) (sink_old sink_new : K) (line : List ℕ) (result : Result T Halt) (ending : Ending) → result ≡ Err why.NoMemory → Finishes k sink_old sink_new line NoMemory ending
