@@ -88,7 +88,7 @@ pub rotate_named : (active next before now : ℕ) (name : FileName) → StopsRot
     → (name ≡ Log active) ⊎ (name ≡ Log next)
 rotate_named active next before now name (at_hold is calls) = inl is
 rotate_named active next before now name (at_new_log failed) =
-    inr (at_each (λ (n : FileName). n ≡ Log next) (calls_on 3 (Log next)) before now name (refl, refl, refl, tt) failed)
+    inr (at_each (λ (n : FileName). n ≡ Log next) (calls_on 3 (Log next)) before now name (refl, (refl, (refl, tt))) failed)
 
 pub rotate_made : (active next before now : ℕ) (name : FileName) → StopsRotating active next before now name
     → (made : ℕ) × (made ≤ 3) × (now ≡ after_calls made before)
@@ -100,7 +100,7 @@ pub flush_named : (table manifest before now : ℕ) (name : FileName) → Failed
     → (name ≡ Table table) ⊎ (name ≡ Manifest manifest)
 flush_named table manifest before now name failed =
     at_each (λ (n : FileName). (n ≡ Table table) ⊎ (n ≡ Manifest manifest)) (flush_files table manifest) before now name
-    (inl refl, inl refl, inl refl, inr refl, inr refl, tt) failed
+    (inl refl, (inl refl, (inl refl, (inr refl, (inr refl, tt))))) failed
 
 pub flush_made : (table manifest before now : ℕ) (name : FileName) → FailedAt (flush_files table manifest) before now name
     → (made : ℕ) × (made ≤ 5) × (now ≡ after_calls made before)

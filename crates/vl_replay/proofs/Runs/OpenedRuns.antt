@@ -1,5 +1,5 @@
 -- A run that opens its store first, or can't.
-use Rattle.std.proofs.Common.{◌≡◌, ◌≢◌, ◌⊎◌, inl, ℕ, zero, suc, ◌≤◌, List, [], ◌∷◌, take, Option, Some, refl, ap, sym, ◌∙◌, subst, arith}
+use Rattle.std.proofs.Common.{◌≡◌, ◌≢◌, ◌⊎◌, inl, ℕ, zero, suc, ◌≤◌, ◌-◌, ◌^◌, List, [], ◌∷◌, take, Option, Some, refl, true, ap, sym, ◌∙◌, subst, arith}
 use Rattle.vl_disk.specs.declared.watched.Watched.{Ghosts}
 use Rattle.vl_disk.specs.DiskState.{DiskState}
 use Rattle.vl_disk.specs.Faults.{Rose, HasCause}
@@ -14,8 +14,8 @@ use Rattle.vl_replay.specs.Exchanges.{Exchange, KeepsUp, last_state}
 use Rattle.vl_model.specs.History.{Extends}
 use Rattle.vl_replay.specs.Between.{Showing, Stopping}
 use Rattle.vl_replay.specs.Endings.{Culprit, TheDisk, TheSink, TheSource, CountsFaultsOf, Evidence, CutsAnswer, IsBetweenLines, culprit_of, last_line}
-use Rattle.vl_replay.specs.Runs.{Script, exchanges, next_number, Stops, Course, Outside, EvidenceOf, EndsRun, EndsRunBy}
-use Rattle.vl_replay.specs.Start.{EvidenceFromStart, FailsAtTables, StartsIn}
+use Rattle.vl_replay.specs.Runs.{Script, exchanges, next_number, Stops, Course, course, Outside, EvidenceOf, EndsRun, EndsRunBy}
+use Rattle.vl_replay.specs.Start.{EvidenceFromStart, FailsAtTables, StartsIn, StoppedAtOpening}
 use Rattle.vl_replay.specs.Durable.{Holding, IsAsBefore, LeavesItsHistory, StaysShown, Tells, HoldsState, CrashesShow, GoesAlong, DiskEnds, DiskEndsFrom}
 use Rattle.vl_replay.specs.Opening.{ending_unopened, why_refused}
 use Rattle.vl_engine.specs.Opening.{IsFault}
@@ -114,14 +114,15 @@ module _ {D R : Type 0} (g : Ghosts D) (watched : IsWatched g) (holds : Holding)
     (stays : StaysShown shows) (exactly : LeavesItsHistory holds shows) (P : State → Type 0) (Q : Type 0) (script : Script) (first end : Outside D)
     (faults : R → ℕ) where
   abbrev pub SoFar : Course → Type 0
-  SoFar run = P run.first → Q → DiskEnds g holds shows stops (IsAsBefore g first.disk end.disk) (run.answered ≡ []) first.disk end.disk run
+  SoFar run = P run.first → Q → DiskEnds g holds shows stops (IsAsBefore g first.disk end.disk) (StoppedAtOpening g first.disk end.disk run) first.disk end.disk run
 
   -- nothing was opened
   pub ends_refused : (ending : Ending) → AnswersNothing ending → EndsBefore (EvidenceFromStart g faults first end 0) script end.left ending first.held end.held → KeepsUp script.bytes end.asked 0
       → (P script.start → Q → CrashesShow g shows first.disk end.disk (history_of script.start) (history_of script.start)) → (P script.start → Q → Tells g end.disk MayOpen)
       → ((Rose (g.faults first.disk) (g.faults end.disk) → ⊥) → IsAsBefore g first.disk end.disk) → (ending ≡ NoMemory → IsAsBefore g first.disk end.disk)
+      → (g.calls first.disk ≤ 2 ^ 64 - 1 → g.calls end.disk ≤ script.start.calls)
       → EndsRunBy (EvidenceFromStart g faults first end) SoFar script first end ending
-  ends_refused ending (none, none_cut) before kept_up goes tells kept kept_out =
+  ends_refused ending (none, none_cut) before kept_up goes tells kept kept_out within =
       let h = (history_of script.start) in
       let most = (history_of (last_state script.start (take 1 (exchanges script)))) in
       record {
@@ -141,7 +142,7 @@ module _ {D R : Type 0} (g : Ghosts D) (watched : IsWatched g) (holds : Holding)
               between_lines = λ between. absurd (none between);
               answer_cut = λ cuts. absurd (none_cut cuts);
               again = tells p q;
-              stopped = λ fault clean. inl refl;
+              stopped = λ fault clean. inl (refl, within);
             };
       }
 
@@ -184,7 +185,7 @@ module _ {D R : Type 0} (g : Ghosts D) (watched : IsWatched g) (holds : Holding)
             script end.left m ending run.printed run.ends;
         kept_up = run.kept_up;
         disk = λ p q.
-            ends_later g watched holds shows stops stays exactly (IsAsBefore g first.disk end.disk) (take m all ≡ []) first.disk mid.disk end.disk ending s s (last_state s (take (suc m) all)) (take m all) (take m all)
+            ends_later g watched holds shows stops stays exactly (IsAsBefore g first.disk end.disk) (StoppedAtOpening g first.disk end.disk (course script m ending)) first.disk mid.disk end.disk ending s s (last_state s (take (suc m) all)) (take m all) (take m all)
             (extends_itself (history_of s)) (extends (suc m)) steady (goes p q) (λ _ along. along_opened mid.disk end.disk s (last_state s (take (suc m) all)) all m (extends 1) (goes p q) steady along) refl
             (run.disk (opened p q));
       }

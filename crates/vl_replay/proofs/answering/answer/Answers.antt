@@ -173,7 +173,7 @@ returns-in-Err-Damaged-clause-as_meant g c =
 pub returns-in-Err-Read-clause-printed : goal.returns-in-Err-Read-clause-printed
 returns-in-Err-Read-clause-printed g c script stands count next left =
     finished g.K.Sink c.args.sink.now c.finish-in-Err-Read.new.sink _ script left ReaderFault c.finish-in-Err-Read.result disk_fault_line refl
-    (unread_stops _ script c.args.text.now left next
+    (unread_stops (OnlyByDisk (Rose (g.D.Watched.faults (disk_of c.args.replayer.now)) (g.D.Watched.faults (disk_of c.execute_line.new.replayer)))) script c.args.text.now left next
     (c.execute_line.ensures.readable script.start stands (by_read c.execute_line.result _ (c.in-Err-Read.is ∙ ap Err c.in-Err-Read.field-0-is))))
     c.finish-in-Err-Read.ensures
 

@@ -72,6 +72,7 @@ returns-clause-runs g c s input starts told =
     (left_as_before g.D.Watched g.D.Reader.Reader.faults c.args.disk fail.disk fail.reader reason c.in-Err.ensures.cause c.in-Err.ensures.unread c.in-Err.ensures.unmoved
     (λ none. c.in-Err.ensures.left_alone none refl))
     (λ out. c.in-Err.ensures.left_alone (λ fault. out_of_memory g.K.Sink c.args.sink.now ended.new.sink how ended.result ended.ensures.2 out (fault_of reason how ended.ensures.1 fault)) refl)
+    (c.in-Err.ensures.at_most s starts)
 
 pub returns-clause-source_faults : goal.returns-clause-source_faults
 returns-clause-source_faults g c = counts_source g.K.Sink _ _ c.end_unopened-ending.ensures.0 c.end_unopened-ending.result c.end_unopened-ending.ensures.2 _
