@@ -6,8 +6,10 @@ use Rattle.vl_engine.specs.Past.{beginning}
 use Rattle.vl_engine.specs.Reading.{IsInMemory}
 use Rattle.vl_engine.specs.Represents.{IsLive}
 use Rattle.vl_engine.specs.Sees.{IsNew, Sees, SeesAlone, ShowsAt}
+use Rattle.vl_engine.specs.declared.past.Past.{Past}
 use Rattle.vl_engine.specs.declared.txn.Txn.{Txn}
 use Rattle.vl_engine.specs.declared.view.View.{View as EngineView}
+use Rattle.vl_engine.specs.laws.PastLaws.{past_later}
 use Rattle.vl_engine.specs.laws.LiveLaws.{begun_lives, begun_was_free, lives_begun, lives_ended}
 use Rattle.vl_engine.specs.laws.SeesLaws.{shows_at_later}
 use Rattle.vl_layout.specs.AtAnswer.{Beginning}
@@ -62,9 +64,9 @@ live_of bytes h l (Some (View view)) (AJob job made) is = absurd is
 live_of bytes h l (Some (View view)) (APass pass batch) is = absurd is
 
 -- What is seen stays seen, whatever is committed later.
-shows_later : {H : Type 0} (bytes : H → Option (List ℕ)) (version : Version H) (h k : History) (number : ℕ) → Extends h k
-    → ShowsAt bytes version h number → ShowsAt bytes version k number
-shows_later bytes version h k number more shows =
+shows_later : {H : Type 0} (bytes : H → Option (List ℕ)) (version : Version H) (past : Past) (h k : History) (number : ℕ) → Extends h k
+    → ShowsAt bytes version past h number → ShowsAt bytes version past k number
+shows_later bytes version past h k number more shows =
     let longer = last-extends h k more in
     let first = more.first in
     record {
@@ -74,12 +76,13 @@ shows_later bytes version h k number more shows =
       shows = shows_at_later shows.logs shows.entries_of h k number more shows.known shows.shows;
       readable = omega (arith, first, shows.readable);
       known = omega (arith, longer, shows.known);
+      shows_past = past_later bytes version past number h k more shows.known shows.shows_past;
     }
 
 sees_later : {H R : Type 0} (bytes : H → Option (List ℕ)) (txn : Txn H R) (h k : History) (reads : List Read) → Extends h k
     → Sees bytes txn h reads → Sees bytes txn k reads
 sees_later bytes txn h k reads more sees = record {
-  version = shows_later bytes txn.version h k txn.number more sees.version;
+  version = shows_later bytes txn.version txn.past h k txn.number more sees.version;
   files = sees.files;
   reader = sees.reader;
   notes = sees.notes;
@@ -89,7 +92,7 @@ sees_later bytes txn h k reads more sees = record {
 alone_later : {H R : Type 0} (bytes : H → Option (List ℕ)) (view : EngineView H R) (h k : History) → Extends h k
     → SeesAlone bytes view h → SeesAlone bytes view k
 alone_later bytes view h k more sees = record {
-  version = shows_later bytes view.version h k view.number more sees.version;
+  version = shows_later bytes view.version view.past h k view.number more sees.version;
   files = sees.files;
   reader = sees.reader;
 }
