@@ -16,7 +16,7 @@ use Rattle.vl_replay.specs.Exchanges.{exchange_at, exchanged, state_behind}
 use Rattle.vl_disk.specs.declared.name.Name.{Name}
 use Rattle.vl_replay.specs.Halts.{HaltsByDamage, HaltsByDisk, HaltsByRead, HaltsByReader}
 use Rattle.vl_replay.specs.Endings.{CutsAnswer, IsBetweenLines, TheDisk, culprit_of, ending_at}
-use Rattle.vl_replay.specs.Durable.{HoldsState, HoldsCommits, LeadsTo, DiskEnds}
+use Rattle.vl_replay.specs.Durable.{HoldsState, HoldsCommits, LeadsTo, DiskEnds, without_live}
 use Rattle.vl_replay.specs.Stored.{IsStopped, IsStored}
 use Rattle.vl_engine.specs.Shown.{Shown}
 use Rattle.vl_replay.specs.Steps.{Finishes}
