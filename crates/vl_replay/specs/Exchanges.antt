@@ -17,7 +17,7 @@ use Rattle.vl_model.specs.declared.way.Way.{Way}
 use Rattle.vl_replay.specs.Sequential.{State, answer_text, answer_to, history_of, state_after}
 use Rattle.vl_script.specs.Script.{line_of}
 use Rattle.vl_script.specs.declared.line.Line.{Line}
-use Rattle.vl_script.specs.declared.line.Line.TheVariants.{Begin, View, Get, Set, SetTagged, GetTagged, GetAt, Scan, Delete, Commit, Drop, Rotate, Flush}
+use Rattle.vl_script.specs.declared.line.Line.TheVariants.{Begin, View, Get, Set, SetTagged, GetTagged, Scan, Delete, Commit, Drop, Rotate, Flush, Keep, GetAt}
 
 -- a line with its answer, and the states before and after it
 pub record Exchange : Type 0 where
@@ -115,8 +115,6 @@ IsExplainedExchange (Get name key) e =
 IsExplainedExchange (GetTagged name key) e =
     (number : ℕ) → ReadsAt (thing_of e.before.store name) key number
     → e.answer ≡ read_at answer_with_tag (history_of e.before) number key
-IsExplainedExchange (GetAt name key number) e =
-    TellsValue e.answer → e.answer ≡ answer_of (value_at (history_of e.before) number key)
 IsExplainedExchange (Scan name low high limit way) e =
     (number : ℕ) (own : Changes) → ScansAt (thing_of e.before.store name) own number
     → e.answer ≡ rows_at (history_of e.before) number own low high limit way
@@ -130,6 +128,9 @@ IsExplainedExchange (Commit name) e =
 IsExplainedExchange (Drop name) e = Unit {0}
 IsExplainedExchange Rotate e = Unit {0}
 IsExplainedExchange Flush e = Unit {0}
+IsExplainedExchange (Keep versions) e = Unit {0}
+IsExplainedExchange (GetAt name key number) e =
+    TellsValue e.answer → e.answer ≡ answer_of (value_at (history_of e.before) number key)
 
 -- so it is in each of these exchanges
 abbrev pub AreExplained : List Exchange → Type 0

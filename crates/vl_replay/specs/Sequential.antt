@@ -36,13 +36,14 @@ asked (lines.Get name key) = store.Get name key
 asked (lines.Set name key value) = store.Set name key value
 asked (lines.SetTagged name key value tag) = store.SetTagged name key value tag
 asked (lines.GetTagged name key) = store.GetTagged name key
-asked (lines.GetAt name key number) = store.GetAt name key number
 asked (lines.Scan name low high limit way) = store.Scan way name low high limit
 asked (lines.Delete name key) = store.Delete name key
 asked (lines.Commit name) = store.Commit name
 asked (lines.Drop name) = store.Drop name
 asked lines.Rotate = store.Rotate
 asked lines.Flush = store.Flush
+asked (lines.Keep versions) = store.Keep versions
+asked (lines.GetAt name key number) = store.GetAt name key number
 
 -- ---- what a line is answered, and what it leaves
 
@@ -117,7 +118,7 @@ as_told (answers.Number n) = store.Number n
 as_told (answers.Found value) = store.Value value.bytes
 as_told (answers.FoundTagged value) = store.ValueTagged value
 as_told answers.NoValue = store.NoValue
-as_told (answers.Dropped least) = store.Dropped least
+as_told (answers.Dropped low) = store.Dropped low
 as_told (answers.Rows rows) = store.Rows (rows_told rows.items)
 as_told (answers.Taken name) = store.Taken name
 as_told (answers.Unknown name) = store.Unknown name

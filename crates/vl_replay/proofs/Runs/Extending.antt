@@ -20,7 +20,7 @@ use Rattle.std.specs.Fmt.{decimal}
 use Rattle.vl_script.specs.declared.answer.Answer.{Answer}
 use Rattle.vl_script.specs.declared.answer.Answer.TheVariants as answers
 use Rattle.vl_script.specs.declared.line.Line.{Line}
-use Rattle.vl_script.specs.declared.line.Line.TheVariants.{Begin, View, Get, Set, SetTagged, GetTagged, GetAt, Scan, Delete, Commit, Drop, Rotate, Flush}
+use Rattle.vl_script.specs.declared.line.Line.TheVariants.{Begin, View, Get, Set, SetTagged, GetTagged, GetAt, Scan, Delete, Commit, Drop, Rotate, Flush, Keep}
 use Rattle.vl_replay.proofs.Disk.Betweens.{extends_itself}
 
 -- ---- commits
@@ -50,6 +50,7 @@ line_adds s (Delete name key) = inl (write_keeps s.store name key Deleted (thing
 line_adds s (Drop name) = inl (drop_commits s.store name (thing_of s.store name))
 line_adds s Rotate = inl refl
 line_adds s Flush = inl refl
+line_adds s (Keep versions) = inl refl
 line_adds s (Commit name) = elim (commit_or s.store name (thing_of s.store name)) [
   | inl (keeps, none) ↦ inl keeps.commits
   | inr (t, b, is, adds) ↦ inr (t.writes, _, adds.commits, adds.answer)
@@ -127,6 +128,30 @@ told_number told answer n is number = of told (is ∙ ap without_lengths number)
     of : (told : Answer) → as_told told ≡ store.Number n → told ≡ answers.Number n
     of (answers.Number m) e = cc
     of answers.Done e = absurd cc
+    of (answers.Found value) e = absurd cc
+    of (answers.FoundTagged value) e = absurd cc
+    of answers.NoValue e = absurd cc
+    of (answers.Dropped least) e = absurd cc
+    of (answers.Rows rows) e = absurd cc
+    of (answers.Taken name) e = absurd cc
+    of (answers.Unknown name) e = absurd cc
+    of answers.ReadOnly e = absurd cc
+    of answers.Invalid e = absurd cc
+    of answers.TooBig e = absurd cc
+    of answers.TooMany e = absurd cc
+    of answers.Nothing e = absurd cc
+    of (answers.Conflict key number) e = absurd cc
+    of answers.Full e = absurd cc
+    of answers.Idle e = absurd cc
+    of (answers.Exhausted counter) e = absurd cc
+
+-- And what is told by `ok` is that.
+pub told_done : (told : Answer) (answer : store.Answer) → IsTold told answer → answer ≡ store.Done → told ≡ answers.Done
+told_done told answer is done = of told (is ∙ ap without_lengths done)
+  where
+    of : (told : Answer) → as_told told ≡ store.Done → told ≡ answers.Done
+    of answers.Done e = refl
+    of (answers.Number m) e = absurd cc
     of (answers.Found value) e = absurd cc
     of (answers.FoundTagged value) e = absurd cc
     of answers.NoValue e = absurd cc
