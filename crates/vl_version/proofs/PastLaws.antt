@@ -1,7 +1,7 @@
 -- The newest version of a key is that of the entry that wins, and the next ones are found below it.
-use Rattle.std.proofs.Common.{◌≡◌, ℕ, ◌+◌, ◌-◌, ◌≤◌, zero, suc, Bool, true, false, cond, ◌&&◌, List, [], ◌∷◌, map, refl, ap, sym, ◌∙◌, subst, arith}
+use Rattle.std.proofs.Common.{◌≡◌, ℕ, ◌+◌, ◌-◌, ◌≤◌, suc, Bool, true, false, cond, ◌&&◌, List, [], ◌∷◌, map, refl, ap, sym, ◌∙◌, subst, arith}
 use Rattle.std.proofs.lemmas.Bool.Decides.{nat_tests}
-use Rattle.std.specs.Prelude.{nat_le, nat_lt, if◌then◌else◌, Option, Some, None, Result, Ok, Err, IsErrAnd}
+use Rattle.std.specs.Prelude.{nat_le, nat_lt, Option, Some, None, Result, Ok, Err, IsErrAnd}
 use Rattle.std.specs.List.{filter}
 use Rattle.std.specs.Option.{option_map}
 use Rattle.std.specs.Ordering.{eq_by_cmp}
@@ -9,14 +9,14 @@ use Rattle.vl_disk.specs.Faults.{HasCause}
 use Rattle.vl_model.specs.Keys.{key_cmp}
 use Rattle.vl_model.specs.Numbers.{greater, greatest_below, next_below, nth_below}
 use Rattle.vl_model.specs.Versions.{versions_in}
-use Rattle.vl_model.specs.Winners.{Logs, counts, newest_of, only_if, winner}
+use Rattle.vl_model.specs.Winners.{counts, newest_of, only_if, winner}
 use Rattle.vl_model.specs.declared.entry.Entry.{Entry}
 use Rattle.vl_table.specs.Kept.{Files}
 use Rattle.vl_table.specs.KeptBlocks.{ReadsOf}
 use Rattle.vl_table.specs.declared.block_reader.BlockReader.{BlockReader}
 use Rattle.vl_version.specs.Faults.{Failed}
 use Rattle.vl_version.specs.Past.{IsVersion, SeeksVersion}
-use Rattle.vl_version.specs.Sources.{HasEntries, tables_in}
+use Rattle.vl_version.specs.Sources.{tables_in}
 use Rattle.vl_version.specs.declared.fault.ReadFault.{ReadFault}
 use Rattle.vl_version.specs.declared.fault.ReadFault.TheVariants.{NoMemory, Disk, Damaged}
 use Rattle.vl_version.specs.declared.version.Version.{Version}

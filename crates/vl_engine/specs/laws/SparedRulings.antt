@@ -1,10 +1,10 @@
 -- What each ruling leaves of the sources spares versions as it should.
-use Rattle.std.proofs.Common.{◌≡◌, ℕ, ◌+◌, Bool, true, false, List, [], ◌∷◌, length, refl, ap, sym, ◌∙◌, subst, inl}
+use Rattle.std.proofs.Common.{◌≡◌, ℕ, ◌+◌, Bool, true, false, List, [], ◌∷◌, length, refl, subst}
 use Rattle.std.specs.Prelude.{T, Option, None, Some, ◌==◌, ◌||◌, nat_le, nat_lt, if◌then◌else◌}
 use Rattle.std.specs.FinMap.{entries-from_sorted, from_sorted, is_sorted}
 use Rattle.vl_engine.specs.Spared.{Spares, SparesRuled}
 use Rattle.vl_engine.specs.laws.SparedSteps.{spares_begun, spares_committed, spares_ended, spares_flushed, spares_keeping, spares_rotated}
-use Rattle.vl_layout.specs.Ruling.{Ruling, ended, has_no_number, has_no_version, leaving, logged}
+use Rattle.vl_layout.specs.Ruling.{Ruling, ended, has_no_number, has_no_version, logged}
 use Rattle.vl_layout.specs.Rulings.Begin.{begin_ruling}
 use Rattle.vl_layout.specs.Rulings.Commit.{Transaction, commit_checked, commit_frame, commit_ruling, commit_running, commit_unless, committed}
 use Rattle.vl_layout.specs.Rulings.Flush.{flush_of, flush_ruling, flush_unless}

@@ -1,13 +1,13 @@
 -- What each step leaves of the sources spares versions as it should.
-use Rattle.std.proofs.Common.{◌≡◌, ⊎_elim, ℕ, ◌+◌, ◌≤◌, Bool, true, false, cond, ◌&&◌, ◌||◌, List, [], ◌∷◌, ◌++◌, length, map, refl, ap, sym, ◌∙◌, subst, arith, length-append, append_assoc}
+use Rattle.std.proofs.Common.{◌≡◌, ℕ, ◌+◌, ◌≤◌, Bool, true, false, cond, ◌&&◌, ◌||◌, List, [], ◌∷◌, ◌++◌, length, map, refl, ap, sym, ◌∙◌, subst, arith}
 use Rattle.std.proofs.lemmas.Bool.Decides.{nat_tests}
-use Rattle.std.specs.Prelude.{Option, None, Some, is_some, ◌==◌, not}
-use Rattle.std.specs.List.{filter, flat_map, list_any}
-use Rattle.std.specs.FinMap.{entries, find, from_sorted, get, get-entries}
+use Rattle.std.specs.Prelude.{Some, is_some, ◌==◌, not}
+use Rattle.std.specs.List.{flat_map, list_any}
+use Rattle.std.specs.FinMap.{entries, find, get, get-entries}
 use Rattle.std.specs.Ordering.{eq_by_cmp}
 use Rattle.vl_layout.specs.Levels.{in_front}
 use Rattle.vl_layout.specs.Logs.{logged_entries, memtable}
-use Rattle.vl_layout.specs.Ruling.{ended, halted_at, logged}
+use Rattle.vl_layout.specs.Ruling.{ended, logged}
 use Rattle.vl_layout.specs.Rulings.Begin.{begun}
 use Rattle.vl_layout.specs.Rulings.Commit.{commit_frame}
 use Rattle.vl_layout.specs.Rulings.Flush.{flushed, flushed_table}
@@ -25,7 +25,7 @@ use Rattle.vl_layout.specs.laws.LowShows.{floor-begun, floor-rises}
 use Rattle.vl_layout.specs.Ruling.{pin_of}
 use Rattle.vl_layout_laws.specs.laws.Keeps.{frozen_parts}
 use Rattle.vl_layout_laws.specs.laws.Lists.{any-append, any-in_order, or_right, true_false}
-use Rattle.vl_model.specs.Entries.{in_order, is_at}
+use Rattle.vl_model.specs.Entries.{is_at}
 use Rattle.vl_model.specs.Frames.{record_length}
 use Rattle.vl_model.specs.History.{Extends, History, last_number, with_commit}
 use Rattle.vl_model.specs.Keys.{Writes, key_cmp}

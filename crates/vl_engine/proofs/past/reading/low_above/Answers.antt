@@ -1,4 +1,4 @@
-use Rattle.std.proofs.Common.{◌≡◌, ◌≤◌, arith}
+use Rattle.std.proofs.Common.{◌≤◌, arith}
 use Rattle.std.proofs.lemmas.Bool.Decides.{nat_tests}
 use Rattle.vl_engine.proofs.ReadingPast.{low_failed, low_found}
 use Rattle.vl_engine.proofs.past.reading.low_above.Goals as goal

@@ -1,4 +1,4 @@
-use Rattle.std.proofs.Common.{◌≡◌, ◌≤◌, arith}
+use Rattle.std.proofs.Common.{◌≤◌, arith}
 use Rattle.std.proofs.lemmas.Bool.Decides.{nat_tests}
 use Rattle.vl_txn.specs.Refusals.{refused_key}
 use Rattle.vl_engine.proofs.ReadingPast.{allowed_key, dropped_past, failed_past, found_past, sought_past}

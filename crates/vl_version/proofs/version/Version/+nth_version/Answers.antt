@@ -1,8 +1,7 @@
-use Rattle.std.proofs.Common.{◌≡◌, ◌≤◌, ◌+◌, ◌-◌, ℕ, List, ap, sym, ◌∙◌, arith}
+use Rattle.std.proofs.Common.{◌≡◌, ◌+◌, ◌-◌, ap, sym, ◌∙◌, arith}
 use Rattle.std.proofs.lemmas.Bool.Decides.{nat_tests}
 use Rattle.vl_model.specs.Numbers.{greatest_below, next_below, nth_below}
 use Rattle.vl_model.specs.Versions.{versions_in}
-use Rattle.vl_model.specs.declared.entry.Entry.{Entry}
 use Rattle.vl_version.proofs.PastLaws.{first_failed, first_none, next_nth, same_wanted, then_second}
 use Rattle.vl_version.proofs.version.Version.+nth_version.Goals as goal
 

@@ -1,7 +1,3 @@
-use Rattle.std.proofs.Common.{◌≡◌, ◌≤◌, ◌+◌, ℕ, ◌-◌, ◌*◌, ◌<◌, length}
-use Rattle.vl_model.specs.Numbers.{greatest_below, nth_below}
-use Rattle.vl_model.specs.Versions.{versions_in}
-use Rattle.vl_version.specs.Past.{SeeksVersion}
 use Rattle.vl_version.proofs.version.Version.+nth_version.Given as goal
 
 -- proposed from what the function passes where it calls itself

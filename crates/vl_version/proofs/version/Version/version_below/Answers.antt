@@ -1,8 +1,7 @@
-use Rattle.std.proofs.Common.{◌≡◌, ◌≤◌, ◌+◌, ◌-◌, ℕ, List, ap, sym, ◌∙◌, arith}
+use Rattle.std.proofs.Common.{◌≡◌, ◌≤◌, ◌+◌, ◌-◌, ℕ, ap, sym, ◌∙◌, arith}
 use Rattle.std.proofs.lemmas.Bool.Decides.{nat_tests}
 use Rattle.vl_model.specs.Numbers.{greatest_below}
 use Rattle.vl_model.specs.Versions.{versions_in}
-use Rattle.vl_model.specs.declared.entry.Entry.{Entry}
 use Rattle.vl_version.proofs.PastLaws.{found_none, none_below, same_below, same_wanted}
 use Rattle.vl_version.proofs.version.Version.version_below.Goals as goal
 
