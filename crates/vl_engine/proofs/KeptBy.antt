@@ -235,13 +235,13 @@ module _ {D H : Type 0} (g : Ghosts D) (before after : Core H) (old new : D) (v 
   untouched_by (Err (fails.Disk name)) did apart leaves = absurd leaves
 
   -- where it failed the switch was written in part
-  pub writes_by : (result : Result (Unit {0}) KeepFail) → KeepsAs g old new before after v result → KeepFailed result
+  pub switched_by : (result : Result (Unit {0}) KeepFail) → KeepsAs g old new before after v result → KeepFailed result
       → (staged : StagedEdits) × IsStagedKeep before v staged × WritesKeep g before staged old new
-  writes_by (Ok done) did failed = absurd failed
-  writes_by (Err (fails.Halted name)) did failed = absurd failed
-  writes_by (Err fails.InvalidRequest) did failed = absurd failed
-  writes_by (Err fails.NoMemory) did failed = absurd failed
-  writes_by (Err (fails.Disk name)) did failed = (did.staged, did.of, did.writes)
+  switched_by (Ok done) did failed = absurd failed
+  switched_by (Err (fails.Halted name)) did failed = absurd failed
+  switched_by (Err fails.InvalidRequest) did failed = absurd failed
+  switched_by (Err fails.NoMemory) did failed = absurd failed
+  switched_by (Err (fails.Disk name)) did failed = (did.staged, did.of, did.writes)
 
   -- The manifest gives the next log no number above that which it gets.
   pub within_by : (result : Result (Unit {0}) KeepFail) → KeepsAs g old new before after v result → (KeepFailed result → ⊥)

@@ -154,11 +154,11 @@ first_drawn a (s ∷ []) n all = all.1.0
 first_drawn a (s ∷ t ∷ ss) n all = first_drawn a (t ∷ ss) n (all.0, all.1.1)
 
 -- Where a current manifest says the one state or the other, an image opens with one of them.
-pub either_state : (number : ℕ) (bytes : List ℕ) (first then : ManifestState) (image : Image) (o : Opening) → Opens image (Ok o)
-    → IsCurrent image number bytes → SaysState number bytes first ⊎ SaysState number bytes then → (o.state ≡ first) ⊎ (o.state ≡ then)
-either_state number bytes first then image o opens current either = by (opened image o opens)
+pub either_state : (number : ℕ) (bytes : List ℕ) (first second : ManifestState) (image : Image) (o : Opening) → Opens image (Ok o)
+    → IsCurrent image number bytes → SaysState number bytes first ⊎ SaysState number bytes second → (o.state ≡ first) ⊎ (o.state ≡ second)
+either_state number bytes first second image o opens current either = by (opened image o opens)
   where
-    by : IsOpened image o → (o.state ≡ first) ⊎ (o.state ≡ then)
+    by : IsOpened image o → (o.state ≡ first) ⊎ (o.state ≡ second)
     by is =
         let heading = one_heading image is.heading (Led number bytes) is.headed current in
         let says = subst (λ (h : Heading). Says h (Ok o.state)) heading is.says in
@@ -166,7 +166,7 @@ either_state number bytes first then image o opens current either = by (opened i
         (λ (said : SaysState number bytes first).
         inl (ok_same {E = Refusal} o.state first
         (single_says (Led number bytes) (Ok o.state) (Ok first) says (Ok first, said, refl))))
-        (λ (said : SaysState number bytes then).
-        inr (ok_same {E = Refusal} o.state then
-        (single_says (Led number bytes) (Ok o.state) (Ok then) says (Ok then, said, refl))))
+        (λ (said : SaysState number bytes second).
+        inr (ok_same {E = Refusal} o.state second
+        (single_says (Led number bytes) (Ok o.state) (Ok second) says (Ok second, said, refl))))
         either
