@@ -68,7 +68,7 @@ halted_at (Err (undone.Disk name)) file is = let same : name ≡ file = cc in ap
 halted_at (Err (undone.Halted name)) file is = absurd cc
 
 -- what is so of each of the files is so of the one that is named
-at_each : (P : FileName → Type 0) (files : List FileName) (before now : ℕ) (name : FileName) → AllByRecursion P files
+pub at_each : (P : FileName → Type 0) (files : List FileName) (before now : ℕ) (name : FileName) → AllByRecursion P files
     → FailedAt files before now name → P name
 at_each P files before now name all failed = pick failed.front (subst (AllByRecursion P) failed.files_are all)
   where
@@ -77,7 +77,7 @@ at_each P files before now name all failed = pick failed.front (subst (AllByRecu
     pick (x ∷ front) each = pick front each.1
 
 -- so many calls were made
-at_most : (files : List FileName) (before now : ℕ) (name : FileName) → FailedAt files before now name
+pub at_most : (files : List FileName) (before now : ℕ) (name : FileName) → FailedAt files before now name
     → (made : ℕ) × (made ≤ length files) × (now ≡ after_calls made before)
 at_most files before now name failed =
     let sum = ap length failed.files_are ∙ length-append failed.front (name ∷ failed.back) in

@@ -213,6 +213,9 @@ module _ (stop : ℕ) (small : stop < 2 ^ 64 - 1) where
   few_after s lines.Flush few within passes =
       let r = flush_ruling s.store.layout (history_of s) in
       few_by s.files s.calls r.calls r.answer (flush_three s.store.layout (history_of s)) few within passes
+  few_after s (lines.Keep versions) few within passes = few_kept s.files s.calls (step_to s (lines.Keep versions)).calls few within
+  few_after s (lines.GetAt name key number) few within passes =
+      few_kept s.files s.calls (step_to s (lines.GetAt name key number)).calls few within
 
   few_exchange : (s : State) (text : List ℕ) (e : Exchange) → exchange_at s text ≡ Some e → HasFewFiles s → s.calls ≤ stop → Passes stop e
       → HasFewFiles e.after
@@ -260,6 +263,8 @@ files_line s (lines.Commit name) = omega arith
 files_line s (lines.Drop name) = omega arith
 files_line s lines.Rotate = files_by (rotate_ruling s.store.layout (history_of s)).answer s.files
 files_line s lines.Flush = files_by (flush_ruling s.store.layout (history_of s)).answer s.files
+files_line s (lines.Keep versions) = omega arith
+files_line s (lines.GetAt name key number) = omega arith
 
 exchange_files : (s : State) (text : List ℕ) (e : Exchange) → exchange_at s text ≡ Some e → e.after.files ≤ s.files + 1
 exchange_files s text e is =
