@@ -198,7 +198,6 @@ module _ (stop : ℕ) (small : stop < 2 ^ 64 - 1) where
   few_after s (lines.View name) few within passes = few_kept s.files s.calls (step_to s (lines.View name)).calls few within
   few_after s (lines.Get name key) few within passes = few_kept s.files s.calls (step_to s (lines.Get name key)).calls few within
   few_after s (lines.GetTagged name key) few within passes = few_kept s.files s.calls (step_to s (lines.GetTagged name key)).calls few within
-  few_after s (lines.GetAt name key number) few within passes = few_kept s.files s.calls (step_to s (lines.GetAt name key number)).calls few within
   few_after s (lines.Set name key value) few within passes = few_kept s.files s.calls (step_to s (lines.Set name key value)).calls few within
   few_after s (lines.SetTagged name key value tag) few within passes =
       few_kept s.files s.calls (step_to s (lines.SetTagged name key value tag)).calls few within
@@ -254,7 +253,6 @@ files_line s (lines.Begin name) = omega arith
 files_line s (lines.View name) = omega arith
 files_line s (lines.Get name key) = omega arith
 files_line s (lines.GetTagged name key) = omega arith
-files_line s (lines.GetAt name key number) = omega arith
 files_line s (lines.Set name key value) = omega arith
 files_line s (lines.SetTagged name key value tag) = omega arith
 files_line s (lines.Scan name low high limit way) = omega arith
