@@ -13,7 +13,7 @@ use Rattle.vl_engine.specs.declared.txn.Txn.{Txn}
 use Rattle.vl_engine.specs.declared.view.View.{View as EngineView}
 use Rattle.vl_layout.specs.AtAnswer.{AtAnswer, Beginning, at_answer, at_answer_by}
 use Rattle.vl_layout.specs.Rulings.Commit.{Transaction as ATxn}
-use Rattle.vl_layout.specs.Store.Commits.{at_answer_in, low_in}
+use Rattle.vl_layout.specs.Store.Commits.{at_answer_in, low_in, value_in}
 use Rattle.vl_layout.specs.Store.Lines.{Name}
 use Rattle.vl_layout.specs.Store.Reading.{get_at_by, told_at}
 use Rattle.vl_layout.specs.Store.Things.{ATransaction, AView, Step, only, thing_of}
@@ -21,6 +21,7 @@ use Rattle.vl_layout.specs.laws.CommitsLaws.{low_in-is, value_in-is}
 use Rattle.vl_model.specs.History.{History, value_at}
 use Rattle.vl_model.specs.Keys.{Stored}
 use Rattle.vl_model.specs.Reads.{Read}
+use Rattle.vl_model.specs.Versions.{low}
 use Rattle.vl_replay.specs.Failing.{ReaderFailed}
 use Rattle.vl_replay.specs.Halts.{HaltsByDamage, HaltsByDisk, HaltsByReader}
 use Rattle.vl_replay.specs.Replaying.{MakesStep, OnlyNoMemory, StandsIn}
@@ -110,8 +111,8 @@ module _ {H R : Type 0} (bytes : H → Option (List ℕ)) (seen : Option DiskSta
   -- as the history has it
   answer_is : (b : Beginning) (own : ℕ) → at_answer_in s.store.commits b own key number ≡ at_answer h b own key number
   answer_is b own =
-      ap (λ (least : ℕ). at_answer_by own least _ key number) (low_in-is s.store.commits stands.sound.proper.commits b.floor b.keep b.since key)
-      ∙ ap (λ (value : Option Stored). at_answer_by own _ value key number) (value_in-is s.store.commits stands.sound.proper.commits number key)
+      ap (λ (least : ℕ). at_answer_by own least (value_in s.store.commits number key) key number) (low_in-is s.store.commits stands.sound.proper.commits b.floor b.keep b.since key)
+      ∙ ap (λ (value : Option Stored). at_answer_by own (low h b.floor b.keep b.since key) value key number) (value_in-is s.store.commits stands.sound.proper.commits number key)
 
   -- it is told so, and nothing is changed
   past_makes : (behind : List (Open H R)) (answer : AtAnswer) → reading ≡ only (told_at answer) s.store
