@@ -2,7 +2,7 @@
 use Rattle.std.specs.Prelude.{◌≡◌, ◌≤◌, ◌^◌, ℕ, ◌+◌, ◌-◌, ◌⊎◌, ◌∷◌, List, [], length, map, min, Option, None, Some, Ok, refl}
 use Rattle.std.specs.List.{AllByRecursion}
 use Rattle.std.specs.Option.{option_map}
-use Rattle.std.proofs.Common.{sym, ap, subst, ◌∙◌, arith, inl, inr, ⊎_elim}
+use Rattle.std.proofs.Common.{sym, ap, subst, ◌∙◌, arith, inl, ⊎_elim}
 use Rattle.vl_back.specs.FlushEdits.{flush_switch}
 use Rattle.vl_back.specs.Tables as staged
 use Rattle.vl_back.specs.Writing.{WhileWriting, written}
