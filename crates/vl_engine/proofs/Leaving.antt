@@ -8,6 +8,7 @@ use Rattle.vl_back.specs.Deciding.{flush_decision}
 use Rattle.vl_back.specs.FlushEdits.{flush_switch, head_of, switch_of}
 use Rattle.vl_back.specs.declared.back.Back.{Back}
 use Rattle.vl_back.specs.declared.decision.Decision.TheVariants.{Go}
+use Rattle.vl_disk.specs.Crash.{Image}
 use Rattle.vl_disk.specs.Changes.{SameElsewhere}
 use Rattle.vl_disk.specs.Crash.{Image}
 use Rattle.vl_disk.specs.DiskState.{DiskState}
