@@ -10,7 +10,6 @@ use Rattle.vl_back.specs.declared.back.Back.{Back}
 use Rattle.vl_back.specs.declared.decision.Decision.TheVariants.{Go}
 use Rattle.vl_disk.specs.Crash.{Image}
 use Rattle.vl_disk.specs.Changes.{SameElsewhere}
-use Rattle.vl_disk.specs.Crash.{Image}
 use Rattle.vl_disk.specs.DiskState.{DiskState}
 use Rattle.vl_disk.specs.MadeFile.{WhileMaking}
 use Rattle.vl_disk.specs.declared.name.Name.{Name}
