@@ -45,8 +45,7 @@ pub record ServedOver {S K D R : Type 0} (s : source.Ghosts S) (k : sink.Ghosts 
       → StatusOfTrial (trial_of stop input outcome) (k.held sink) (k.held sink') (s.left source') status
   pub not_plain : AreNotPlain words → (source' ≡ source) × (left ≡ made) × EndsBy k sink sink' BadWords status
   pub no_usage_line : (command : Command) → AskFor words command → status ≢ 2
-  -- status 3 comes only by a fault of the disk or of a read, which its reader counts, and all others but 7 only without a fault
-  -- of the disk
+  -- status 3 comes only by a fault of the disk or of a read, and all others but 7 only without a fault of the disk
   pub disk_fault : status ≡ 3
       → Rose (g.faults made) (g.faults left)
       ⊎ (FailedToRead (streams s k source sink) (streams s k source' sink') ⊎ FailedAtTables g faults k source source' made left sink sink')

@@ -65,7 +65,7 @@ abbrev pub FailedAtTables : {S D K R : Type 0} → Ghosts D → (faults : R → 
 FailedAtTables g faults k source source' disk disk' sink sink' =
     (source' ≡ source) × ((ending : Ending) × EndsAtTables g faults k disk disk' sink sink' ending)
 
--- Status 3 has a cause that was counted, by the disk or by a reader of its files.
+-- a fault was counted, by the disk or by some reader of its kind
 abbrev pub HasCountedFault : {D R : Type 0} → Ghosts D → (faults : R → ℕ) → (disk disk' : D) → Type 0
 HasCountedFault g faults disk disk' = Rose (g.faults disk) (g.faults disk') ⊎ ReaderFailed faults
 

@@ -82,8 +82,9 @@ pub fn run<S: Source, K: Sink, D: Disk>(
         → result.disk ≡ disk }
 
     // Status 3 comes only by a fault of the disk, or where a read of a file failed, of which the disk counts no fault: a line's read
-    // of an open store's file, or an opening's read of a table. Over a disk on which a run may begin the reader counted that. All
-    // other statuses but 7 come only without a fault of the disk. A trial never comes to 3: its stop is not reported.
+    // of an open store's file, or an opening's read of a table. Over a disk on which a run may begin, the disk or some reader of
+    // its kind has counted a fault then. All other statuses but 7 come only without a fault of the disk. A trial never comes to 3:
+    // its stop is not reported.
     ensures no_fault_in_trial { (stop : ℕ) (outcome : Outcome) → AskFor (map string_bytes words.now) (Command.Trial stop outcome)
         → result.status ≢ 3 }
     ensures disk_fault { result.status ≡ 3 → Rose (D.faults disk) (D.faults result.disk)

@@ -15,5 +15,6 @@ pub mod CommitMaking
 pub mod StepMaking
 pub mod KeepMaking
 pub mod Returning
+pub mod PastMaking
 pub mod Placing
 pub mod Halts

@@ -99,7 +99,12 @@ ScansAt (Some (APass pass batch)) own number = ⊥
 ScansAt (Some (AView v b)) own number = (number ≡ v.number) × (own ≡ [])
 ScansAt (Some (ATransaction t b)) own number = (number ≡ t.number) × (own ≡ t.writes)
 
--- What is read is explained by the history at the reader's own number. What the transaction of an accepted commit has read and
+-- a value was told, or that there is none
+abbrev pub TellsValue : Answer → Type 0
+TellsValue answer = (value : Option Stored) × (answer ≡ answer_of value)
+
+-- What is read is explained by the history at the reader's own number; a value at an older one by the history there, whatever the
+-- reader wrote. What the transaction of an accepted commit has read and
 -- scanned is explained by that, and by the history at the commit's number less one.
 abbrev pub IsExplainedExchange : Line → Exchange → Type 0
 IsExplainedExchange (Begin name) e = Unit {0}
@@ -124,7 +129,8 @@ IsExplainedExchange (Drop name) e = Unit {0}
 IsExplainedExchange Rotate e = Unit {0}
 IsExplainedExchange Flush e = Unit {0}
 IsExplainedExchange (Keep versions) e = Unit {0}
-IsExplainedExchange (GetAt name key number) e = Unit {0}
+IsExplainedExchange (GetAt name key number) e =
+    TellsValue e.answer → e.answer ≡ answer_of (value_at (history_of e.before) number key)
 
 -- so it is in each of these exchanges
 abbrev pub AreExplained : List Exchange → Type 0

@@ -24,6 +24,9 @@ use Rattle.vl_script.specs.declared.answer.Answer.{Answer}
 use Rattle.vl_script.specs.declared.answer.Answer.TheVariants as answers
 use Rattle.vl_layout.specs.Store.Lines as store_lines
 use Rattle.vl_layout.specs.Store.Reading.{answer_of, answer_with_tag}
+use Rattle.vl_engine.specs.Past.{beginning}
+use Rattle.vl_engine.specs.declared.fails.AtFail.{AtFail}
+use Rattle.vl_engine.specs.declared.fails.AtFail.TheVariants as gone
 use Rattle.vl_engine.specs.declared.fails.ReadFail.{ReadFail}
 use Rattle.vl_engine.specs.declared.fails.ReadFail.TheVariants as unread
 use Rattle.vl_engine.specs.declared.fails.KeepFail.{KeepFail}
@@ -58,12 +61,13 @@ pub record IsTransaction {H R : Type 0} (bytes : H → Option (List ℕ)) (txn :
   pub near : tables l ≡ [] → IsInMemory txn.version
 
 -- nothing, on both sides, or the same
+-- It may read as far back as the store's may.
 abbrev pub Corresponds : {H R : Type 0} → (H → Option (List ℕ)) → History → Layout → Option (Thing H R) → Option store.Thing → Type 0
 Corresponds bytes h l None None = Unit {0}
-Corresponds bytes h l (Some (Transaction txn)) (Some (ATransaction t b)) = IsTransaction bytes txn t h l
+Corresponds bytes h l (Some (Transaction txn)) (Some (ATransaction t b)) = IsTransaction bytes txn t h l × (beginning txn.past ≡ b)
 Corresponds bytes h l (Some (View view)) (Some (AView v b)) =
     (asked_view view ≡ v) × SeesAlone bytes view h × IsLive l view.ticket view.number
-    × (tables l ≡ [] → IsInMemory view.version)
+    × (tables l ≡ [] → IsInMemory view.version) × (beginning view.past ≡ b)
 Corresponds bytes h l x y = ⊥
 
 -- no name is there twice
@@ -129,6 +133,17 @@ told_by tell (Err unread.KeyTooLong) = Ok answers.Invalid
 told_by tell (Err unread.NoMemory) = Err halts.NoMemory
 told_by tell (Err (unread.Disk name)) = Err (halts.Read name)
 told_by tell (Err (unread.Damaged name place)) = Err (halts.Damaged name place)
+
+-- what was read at an older number, or why nothing was
+abbrev pub told_past : Result (Option Stored) AtFail → Result Answer Halt
+told_past (Ok value) = Ok (told_value false value)
+told_past (Err gone.EmptyKey) = Ok answers.Invalid
+told_past (Err gone.KeyTooLong) = Ok answers.Invalid
+told_past (Err (gone.Ahead number)) = Ok answers.Invalid
+told_past (Err (gone.Dropped least)) = Ok (answers.Dropped least)
+told_past (Err gone.NoMemory) = Err halts.NoMemory
+told_past (Err (gone.Disk name)) = Err (halts.Read name)
+told_past (Err (gone.Damaged name place)) = Err (halts.Damaged name place)
 
 -- ---- what steps on files are told
 

@@ -2,7 +2,7 @@ ghost use Rattle.std.specs.Prelude.{◌≡◌, ◌+◌, ◌≤◌, ◌++◌, ◌
 ghost use Rattle.std.specs.Prelude.{IsOk, IfOk, OnOk};
 ghost use Rattle.std.specs.Fmt.{decimal};
 ghost use Rattle.vl_script.specs.Script.{bytes_text, counter_text, row_text, rows_text, text_of};
-ghost use Rattle.vl_script.specs.declared.answer.Answer.TheVariants.{Conflict, Found, FoundTagged, Number};
+ghost use Rattle.vl_script.specs.declared.answer.Answer.TheVariants.{Conflict, Done, Found, FoundTagged, Number};
 
 use crate::Answer;
 use std::alloc::{AllocError, Global};
@@ -12,11 +12,12 @@ use vl_model::{Bytes, Counter, Key, Value};
 pub const NUMBER_ROOM: usize = 24;
 
 /// Appends what is printed for an answer: its text, and its line's end. Where memory is missing, some first bytes of it may
-/// have been appended. An answer with a number wants none where the text has `NUMBER_ROOM` left.
+/// have been appended. An answer with a number wants none where the text has `NUMBER_ROOM` left, and `ok` neither.
 pub fn print_answer(alloc: Global, text: &mut Vec<u8>, answer: &Answer) -> Result<(), AllocError>
     ensures text { OnOk result (text.new.items ≡ text.old.items ++ text_of answer.now) }
     ensures room { (number : ℕ) → answer.now ≡ Number number
         → length text.old.items + NUMBER_ROOM ≤ vec_capacity text.old → IsOk result }
+    ensures room_for_ok { answer.now ≡ Done → length text.old.items + NUMBER_ROOM ≤ vec_capacity text.old → IsOk result }
 {
     match answer {
         Answer::Done => print_line(text, b"ok", b""),

@@ -39,6 +39,7 @@ live_base b l live h is = record {
   keep = is.keep;
   since = is.since;
   gone = is.gone;
+  spared = is.spared;
   covered = is.covered;
   format = is.format;
 }

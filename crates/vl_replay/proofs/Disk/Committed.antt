@@ -14,11 +14,13 @@ use Rattle.vl_engine.specs.Represents as engine
 use Rattle.vl_engine.specs.Sees.{asked}
 use Rattle.vl_engine.specs.Pointed.{layout_logs}
 use Rattle.vl_engine.specs.Shown.{Shown}
+use Rattle.vl_engine.specs.Spared.{at_rest}
 use Rattle.vl_engine.specs.Writing.{StopsWriting, at_append, at_sync, written}
 use Rattle.vl_back.specs.declared.back.Back.{Back}
 use Rattle.vl_engine.specs.declared.kept.Core.{Core}
 use Rattle.vl_engine.specs.declared.txn.Txn.{Txn}
 use Rattle.vl_engine.specs.laws.CommitLaws.{commit_base, commit_holds}
+use Rattle.vl_engine.specs.laws.SparedRulings.{committed_spares}
 use Rattle.vl_frame.specs.Runs.{HasFrame}
 use Rattle.vl_layout.specs.AtAnswer.{Beginning}
 use Rattle.vl_layout.specs.Decides.{Answered, Effects, NoMemory as OutOfMemory, Outcome, as_before}
@@ -346,7 +348,8 @@ module _ {D H R : Type 0} (g : Ghosts D) (bytes : H → Option (List ℕ)) (befo
             done = stored_as (state_by s (committing s name t b)) (written (log_of s) whole disk) b' next.history next.layout
                 (its_layout ∙ ap (λ (x : Ruling CommitAnswer). x.layout) may.accepted)
                 (its_history ∙ ap (λ (x : Ruling CommitAnswer). x.history) may.accepted) stored.openable
-                (commit_base b' s.store.layout (history_of s) t stored.is_base stored.tidy)
+                (commit_base b' s.store.layout (history_of s) t stored.is_base stored.tidy
+                (committed_spares (at_rest s.store.layout) (history_of s) stored.is_base.spared t rising))
                 (subst (λ (piece : List ℕ). Holds b' next.layout (written (log_of s) piece disk)) (sym where_is)
                 (commit_holds b' s.store.layout (history_of s) t stored.is_base stored.tidy disk stored.holds has))
                 (subst (λ (x : Ruling CommitAnswer). IsTidy (layout_logs s.store.layout) x.layout x.history) may.accepted

@@ -3,6 +3,7 @@ use Rattle.std.proofs.Common.{◌≡◌, ℕ, Bool, true, false, cond, List, [],
 use Rattle.std.specs.Prelude.{◌≤◌, Option, None, Some, Ok, nat_le}
 use Rattle.std.specs.Option.{is_some}
 use Rattle.vl_disk.specs.DiskState.{DiskState}
+use Rattle.vl_engine.specs.Past.{beginning}
 use Rattle.vl_engine.specs.Reading.{IsInMemory}
 use Rattle.vl_engine.specs.Sees.{IsNew, Sees, SeesAlone, asked_view}
 use Rattle.vl_back.specs.declared.back.Back.{Back}
@@ -11,7 +12,7 @@ use Rattle.vl_engine.specs.declared.txn.Txn.{Txn}
 use Rattle.vl_engine.specs.declared.view.View.{View as EngineView}
 use Rattle.vl_layout.specs.AtAnswer.{Beginning, beginning_of}
 use Rattle.vl_layout.specs.Decides.{Answered, Decides, as_before, no_effects}
-use Rattle.vl_layout.specs.Ruling.{Ruling, ended, leaving}
+use Rattle.vl_layout.specs.Ruling.{Ruling, ended, leaving, pin_of}
 use Rattle.vl_layout.specs.Rulings.Begin as begin
 use Rattle.vl_layout.specs.Rulings.Begin.{BeginAnswer, Begun, begin_ruling, begun}
 use Rattle.vl_layout.specs.Rulings.Commit.{Transaction as ATxn}
@@ -24,6 +25,7 @@ use Rattle.vl_layout.specs.Store.Reading.{a_transaction, a_view, begin_as, begun
 use Rattle.vl_layout.specs.Store.Things as store
 use Rattle.vl_layout.specs.Store.Things.{ATransaction, AView, Step, named, only, thing_of, without_thing}
 use Rattle.vl_layout.specs.Tickets.{free_ticket, tickets_of}
+use Rattle.vl_layout.specs.laws.LowShows.{floor-begun}
 use Rattle.vl_layout.specs.declared.layout.Layout.{Layout}
 use Rattle.vl_model.specs.History.{History, last_number}
 use Rattle.vl_model.specs.Limits.{max_live}
@@ -48,6 +50,13 @@ begun_ticket a b n m e = cc
 
 begun_number : (a b n m : ℕ) → Begun a n ≡ Begun b m → n ≡ m
 begun_number a b n m e = cc
+
+-- what begins may read as far back as the layout had it before
+begun_beginning : (l : Layout) (h : History) → beginning_of (begun l (free_ticket (tickets_of l.live)) (last_number h)) h ≡ beginning_of l h
+begun_beginning l h =
+    let ticket = free_ticket (tickets_of l.live) in
+    ap (λ (f : ℕ). record { floor = f; keep = l.keep; since = l.since })
+    (floor-begun l (begun l ticket (last_number h)) h (record { ticket = ticket; number = last_number h; pin = pin_of l }) refl refl)
 
 pub none_or_some : {T : Type 0} (x : Option T) → is_some x ≡ false → x ≡ None
 none_or_some None is = refl
@@ -107,7 +116,7 @@ module _ {H R : Type 0} (bytes : H → Option (List ℕ)) (seen now : Option Dis
     step_is free = ap (begin_as s.store name thing) (not_there free)
 
     pub begin_makes : (free : open_in os name ≡ None) (new : Thing H R) (own number : ℕ)
-        → ((b : Beginning) → own ≡ ticket → number ≡ last_number h
+        → ((b : Beginning) → b ≡ beginning_of l h → own ≡ ticket → number ≡ last_number h
         → Stand bytes (os ++ record { name = name; thing = new } ∷ []) (named name (thing b ticket (last_number h)) s.store.things) h (begun l ticket (last_number h)))
         → Decides Serving h l (begin_ruling l h) (as_before l l) (Answered (Begun own number)) no_effects
         → MakesStep bytes now after (os ++ record { name = name; thing = new } ∷ []) s (begin_as s.store name thing (thing_of s.store name)) (Ok (answers.Number number))
@@ -122,7 +131,7 @@ module _ {H R : Type 0} (bytes : H → Option (List ℕ)) (seen now : Option Dis
         of false is there sound = (
           ap store_lines.Number (begun_number own ticket number (last_number h) is),
           stands_as (os ++ record { name = name; thing = new } ∷ []) (by_ruling false) there
-              (names (beginning_of (by_room false).layout h) (begun_ticket own ticket number (last_number h) is) (begun_number own ticket number (last_number h) is)) sound
+              (names (beginning_of (by_room false).layout h) (begun_beginning l h) (begun_ticket own ticket number (last_number h) is) (begun_number own ticket number (last_number h) is)) sound
               refl,
         )
 
@@ -141,20 +150,20 @@ module _ {H R : Type 0} (bytes : H → Option (List ℕ)) (seen now : Option Dis
   -- ---- begins of either kind
 
   pub transaction_makes : (name : Name) (free : open_in os name ≡ None) (txn : Txn H R) → IsNew txn → Sees bytes txn h []
-      → (tables l ≡ [] → IsInMemory txn.version)
+      → (tables l ≡ [] → IsInMemory txn.version) → beginning txn.past ≡ beginning_of l h
       → Decides Serving h l (begin_ruling l h) (as_before l l) (Answered (Begun txn.ticket txn.number)) no_effects
       → MakesStep bytes now after (os ++ record { name = name; thing = Transaction txn } ∷ []) s (begin_as s.store name a_transaction (thing_of s.store name)) (Ok (answers.Number txn.number))
-  transaction_makes name free txn new sees near decides =
+  transaction_makes name free txn new sees near began decides =
       begin_makes name a_transaction (state_after-sound s (lines.Begin name) stands.sound) free (Transaction txn) txn.ticket txn.number
-      (λ b own number. begins_transaction bytes h l os s.store.things stands.names name free stands.engine.fronts.front.lived txn b own number new sees near) decides
+      (λ b is own number. begins_transaction bytes h l os s.store.things stands.names name free stands.engine.fronts.front.lived txn b own number new sees near (began ∙ sym is)) decides
 
   pub view_makes : (name : Name) (free : open_in os name ≡ None) (view : EngineView H R) → SeesAlone bytes view h
-      → (tables l ≡ [] → IsInMemory view.version)
+      → (tables l ≡ [] → IsInMemory view.version) → beginning view.past ≡ beginning_of l h
       → Decides Serving h l (begin_ruling l h) (as_before l l) (Answered (Begun view.ticket view.number)) no_effects
       → MakesStep bytes now after (os ++ record { name = name; thing = View view } ∷ []) s (begin_as s.store name a_view (thing_of s.store name)) (Ok (answers.Number view.number))
-  view_makes name free view sees near decides =
+  view_makes name free view sees near began decides =
       begin_makes name a_view (state_after-sound s (lines.View name) stands.sound) free (View view) view.ticket view.number
-      (λ b own number. begins_view bytes h l os s.store.things stands.names name free stands.engine.fronts.front.lived view b own number sees near) decides
+      (λ b is own number. begins_view bytes h l os s.store.things stands.names name free stands.engine.fronts.front.lived view b own number sees near (began ∙ sym is)) decides
 
   -- ---- ends
 
@@ -175,7 +184,7 @@ module _ {H R : Type 0} (bytes : H → Option (List ℕ)) (seen now : Option Dis
     pub view_ends : (view : EngineView H R) → IsTaken os left name (Some (View view)) → Serving h (ended view.ticket l)
         → MakesStep bytes now after left s dropping (Ok answers.Done)
     view_ends view taken on =
-        let (b, there, sees, live, near) = its bytes seen before os s stands left name view taken in
+        let (b, there, sees, live, near, began) = its bytes seen before os s stands left name view taken in
         let same : dropping ≡ drop_by s.store name (Some (AView (asked_view view) b)) = ap (drop_by s.store name) there in
         subst (λ (y : Step). MakesStep bytes now after left s y (Ok answers.Done)) (sym same) (
           refl,
@@ -186,7 +195,7 @@ module _ {H R : Type 0} (bytes : H → Option (List ℕ)) (seen now : Option Dis
     pub transaction_ends : (txn : Txn H R) → IsTaken os left name (Some (Transaction txn)) → Serving h (ended txn.ticket l)
         → MakesStep bytes now after left s dropping (Ok answers.Done)
     transaction_ends txn taken on =
-        let (t, b, there, is) = itself bytes seen before os s stands left name txn taken in
+        let (t, b, there, is, began) = itself bytes seen before os s stands left name txn taken in
         let same : dropping ≡ drop_by s.store name (Some (ATransaction t b)) = ap (drop_by s.store name) there in
         subst (λ (y : Step). MakesStep bytes now after left s y (Ok answers.Done)) (sym same) (
           refl,

@@ -2,11 +2,14 @@
 use Rattle.std.proofs.Common.{◌≡◌, ℕ, List, [], ◌∷◌, ◌++◌, length, refl, ap, sym, ◌∙◌, subst, arith}
 use Rattle.std.specs.Prelude.{Option, None, Some}
 use Rattle.std.specs.FinMap.{empty, entries, len-empty, len-entries}
+use Rattle.vl_engine.specs.Past.{beginning}
 use Rattle.vl_engine.specs.Reading.{IsInMemory}
 use Rattle.vl_engine.specs.Represents.{IsLive}
 use Rattle.vl_engine.specs.Sees.{IsNew, Sees, SeesAlone, ShowsAt}
+use Rattle.vl_engine.specs.declared.past.Past.{Past}
 use Rattle.vl_engine.specs.declared.txn.Txn.{Txn}
 use Rattle.vl_engine.specs.declared.view.View.{View as EngineView}
+use Rattle.vl_engine.specs.laws.PastLaws.{past_later}
 use Rattle.vl_engine.specs.laws.LiveLaws.{begun_lives, begun_was_free, lives_begun, lives_ended}
 use Rattle.vl_engine.specs.laws.SeesLaws.{shows_at_later}
 use Rattle.vl_layout.specs.AtAnswer.{Beginning}
@@ -49,21 +52,21 @@ no_entries = none (entries (empty {K = List ℕ} {X = Change} {R = key_cmp})) (s
 live_of : {H R : Type 0} (bytes : H → Option (List ℕ)) (h : History) (l : Layout) (x : Option (Thing H R)) (y : store.Thing)
     → Corresponds bytes h l x (Some y) → (number : ℕ) × IsLive l (ticket_of y) number
 live_of bytes h l None y is = absurd is
-live_of bytes h l (Some (Transaction txn)) (ATransaction t b) is =
+live_of bytes h l (Some (Transaction txn)) (ATransaction t b) (is, began) =
     (txn.number, subst (λ (u : ATxn). IsLive l u.ticket txn.number) is.same is.live)
 live_of bytes h l (Some (Transaction txn)) (AView v b) is = absurd is
 live_of bytes h l (Some (Transaction txn)) (AJob job made) is = absurd is
 live_of bytes h l (Some (Transaction txn)) (APass pass batch) is = absurd is
-live_of bytes h l (Some (View view)) (AView v b) (same, sees, live, near) =
+live_of bytes h l (Some (View view)) (AView v b) (same, sees, live, near, began) =
     (view.number, subst (λ (w : _). IsLive l w view.number) (ap (λ w. w.ticket) same) live)
 live_of bytes h l (Some (View view)) (ATransaction t b) is = absurd is
 live_of bytes h l (Some (View view)) (AJob job made) is = absurd is
 live_of bytes h l (Some (View view)) (APass pass batch) is = absurd is
 
 -- What is seen stays seen, whatever is committed later.
-shows_later : {H : Type 0} (bytes : H → Option (List ℕ)) (version : Version H) (h k : History) (number : ℕ) → Extends h k
-    → ShowsAt bytes version h number → ShowsAt bytes version k number
-shows_later bytes version h k number more shows =
+shows_later : {H : Type 0} (bytes : H → Option (List ℕ)) (version : Version H) (past : Past) (h k : History) (number : ℕ) → Extends h k
+    → ShowsAt bytes version past h number → ShowsAt bytes version past k number
+shows_later bytes version past h k number more shows =
     let longer = last-extends h k more in
     let first = more.first in
     record {
@@ -73,12 +76,13 @@ shows_later bytes version h k number more shows =
       shows = shows_at_later shows.logs shows.entries_of h k number more shows.known shows.shows;
       readable = omega (arith, first, shows.readable);
       known = omega (arith, longer, shows.known);
+      shows_past = past_later bytes version past number h k more shows.known shows.shows_past;
     }
 
 sees_later : {H R : Type 0} (bytes : H → Option (List ℕ)) (txn : Txn H R) (h k : History) (reads : List Read) → Extends h k
     → Sees bytes txn h reads → Sees bytes txn k reads
 sees_later bytes txn h k reads more sees = record {
-  version = shows_later bytes txn.version h k txn.number more sees.version;
+  version = shows_later bytes txn.version txn.past h k txn.number more sees.version;
   files = sees.files;
   reader = sees.reader;
   notes = sees.notes;
@@ -88,7 +92,7 @@ sees_later bytes txn h k reads more sees = record {
 alone_later : {H R : Type 0} (bytes : H → Option (List ℕ)) (view : EngineView H R) (h k : History) → Extends h k
     → SeesAlone bytes view h → SeesAlone bytes view k
 alone_later bytes view h k more sees = record {
-  version = shows_later bytes view.version h k view.number more sees.version;
+  version = shows_later bytes view.version view.past h k view.number more sees.version;
   files = sees.files;
   reader = sees.reader;
 }
@@ -106,21 +110,22 @@ module _ {H R : Type 0} (bytes : H → Option (List ℕ)) (h k : History) (l m :
   still_stands None (Some (AJob job made)) on is = absurd is
   still_stands None (Some (APass pass batch)) on is = absurd is
   still_stands (Some (Transaction txn)) None on is = absurd is
-  still_stands (Some (Transaction txn)) (Some (ATransaction t b)) on is = record {
+  still_stands (Some (Transaction txn)) (Some (ATransaction t b)) on (is, began) = ((record {
     same = is.same;
     sees = sees_later bytes txn h k t.reads more is.sees;
     live = lives txn.ticket txn.number (subst (λ (u : ATxn). ticket_lives u.ticket) (sym is.same) (on (ATransaction t b) refl)) is.live;
     near = λ none. is.near (bare none);
-  }
+  }), began)
   still_stands (Some (Transaction txn)) (Some (AView v b)) on is = absurd is
   still_stands (Some (Transaction txn)) (Some (AJob job made)) on is = absurd is
   still_stands (Some (Transaction txn)) (Some (APass pass batch)) on is = absurd is
   still_stands (Some (View view)) None on is = absurd is
-  still_stands (Some (View view)) (Some (AView v b)) on (same, sees, live, near) = (
+  still_stands (Some (View view)) (Some (AView v b)) on (same, sees, live, near, began) = (
     same,
     alone_later bytes view h k more sees,
     lives view.ticket view.number (subst (λ (w : LayoutView). ticket_lives w.ticket) (sym same) (on (AView v b) refl)) live,
     λ none. near (bare none),
+    began,
   )
   still_stands (Some (View view)) (Some (ATransaction t b)) on is = absurd is
   still_stands (Some (View view)) (Some (AJob job made)) on is = absurd is
@@ -161,25 +166,26 @@ module _ {H R : Type 0} (bytes : H → Option (List ℕ)) (h : History) (l : Lay
       begun_was_free l h lived number (subst (λ (t : ℕ). IsLive l t number) (sym same ∙ own) lives))
 
   pub begins_transaction : (txn : Txn H R) (b : Beginning) → txn.ticket ≡ ticket → txn.number ≡ last_number h → IsNew txn → Sees bytes txn h []
-      → (tables l ≡ [] → IsInMemory txn.version)
+      → (tables l ≡ [] → IsInMemory txn.version) → beginning txn.past ≡ b
       → Stand bytes (os ++ record { name = name; thing = Transaction txn } ∷ [])
       (named name (ATransaction (record { ticket = ticket; number = last_number h; reads = []; writes = [] }) b) ts) h next
-  begins_transaction txn b own number new sees near = begins_so (Transaction txn) _ refl (record {
+  begins_transaction txn b own number new sees near began = begins_so (Transaction txn) _ refl ((record {
     same = ap (λ (n : ℕ). record { ticket = n; number = txn.number; reads = []; writes = entries txn.writes }) own
         ∙ ap (λ (n : ℕ). record { ticket = ticket; number = n; reads = []; writes = entries txn.writes }) number
         ∙ ap (λ (w : Changes). record { ticket = ticket; number = last_number h; reads = []; writes = w }) (ap (λ (w : Writes). entries w) new.writes ∙ no_entries);
     sees = sees;
     live = subst (λ (n : ℕ). IsLive next n txn.number) (sym own) (subst (IsLive next ticket) (sym number) (begun_lives l h lived));
     near = near;
-  })
+  }), began)
 
   pub begins_view : (view : EngineView H R) (b : Beginning) → view.ticket ≡ ticket → view.number ≡ last_number h → SeesAlone bytes view h
-      → (tables l ≡ [] → IsInMemory view.version)
+      → (tables l ≡ [] → IsInMemory view.version) → beginning view.past ≡ b
       → Stand bytes (os ++ record { name = name; thing = View view } ∷ [])
       (named name (AView (record { ticket = ticket; number = last_number h }) b) ts) h next
-  begins_view view b own number sees near = begins_so (View view) _ refl (
+  begins_view view b own number sees near began = begins_so (View view) _ refl (
     ap (λ (n : ℕ). record { ticket = n; number = view.number }) own ∙ ap (λ (n : ℕ). record { ticket = ticket; number = n }) number,
     sees,
     subst (λ (n : ℕ). IsLive next n view.number) (sym own) (subst (IsLive next ticket) (sym number) (begun_lives l h lived)),
     near,
+    began,
   )

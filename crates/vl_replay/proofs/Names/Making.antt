@@ -3,6 +3,7 @@ use Rattle.std.proofs.Common.{◌≡◌, ℕ, List, [], ◌∷◌, ◌++◌, ref
 use Rattle.std.specs.Prelude.{Option, None, Some, Ok, Err, Result, IfOk, OnOk}
 use Rattle.std.specs.Bool.{⊤}
 use Rattle.vl_disk.specs.DiskState.{DiskState}
+use Rattle.vl_engine.specs.Past.{beginning}
 use Rattle.vl_engine.specs.Reading.{IsInMemory, NotesNothing, OnlyReads, OnlyWrites}
 use Rattle.vl_engine.specs.Represents.{IsLive}
 use Rattle.vl_engine.specs.Sees.{Sees, SeesAlone, asked, asked_view}
@@ -58,11 +59,12 @@ module _ {H R : Type 0} (bytes : H → Option (List ℕ)) (h : History) (l : Lay
   view_only old new (Some (ATransaction t b)) keeps still is = absurd is
   view_only old new (Some (store.AJob job made)) keeps still is = absurd is
   view_only old new (Some (store.APass pass batch)) keeps still is = absurd is
-  view_only old new (Some (AView v b)) keeps still (same, sees, live, near) = (
+  view_only old new (Some (AView v b)) keeps still (same, sees, live, near, began) = (
     ap (λ (x : EngineView H R). asked_view x) keeps ∙ same,
     still sees,
     subst (λ (x : EngineView H R). IsLive l x.ticket x.number) (sym keeps) live,
     λ none. subst (λ (x : EngineView H R). IsInMemory x.version) (sym keeps) (near none),
+    ap (λ (x : EngineView H R). beginning x.past) keeps ∙ began,
   )
 
   pub txn_only : (old new : Txn H R) (t : ATxn) → NotesNothing old new → (Sees bytes old h t.reads → Sees bytes new h t.reads)
@@ -144,13 +146,13 @@ module _ {H R : Type 0} (bytes : H → Option (List ℕ)) (seen : Option DiskSta
 
       -- the view that it stands for
       pub its : (b : Beginning) × (thing_of s.store name ≡ Some (AView (asked_view view) b)) × SeesAlone bytes view h × IsLive l view.ticket view.number
-          × (tables l ≡ [] → IsInMemory view.version)
+          × (tables l ≡ [] → IsInMemory view.version) × (beginning view.past ≡ b)
       its = its_view bytes h l view (thing_of s.store name) there_view
 
       pub view_back : (new : EngineView H R) → OnlyReads view new → (SeesAlone bytes view h → SeesAlone bytes new h)
           → Stand bytes (left ++ record { name = name; thing = View new } ∷ []) ts h l
       view_back new keeps still =
-          let (b, is, sees, live, near) = its in
+          let (b, is, sees, live, near, began) = its in
           back_again bytes h l os left ts name (View view) (View new) (AView (asked_view view) b) stands.names taken is
           (subst (Corresponds bytes h l (Some (View new))) is (view_only bytes h l view new (thing_of s.store name) keeps still there_view))
 
@@ -158,7 +160,7 @@ module _ {H R : Type 0} (bytes : H → Option (List ℕ)) (seen : Option DiskSta
       pub read_only_makes : (x : Option store.Thing → Step) → ((v : LayoutView) (b : Beginning) → x (Some (AView v b)) ≡ only store_lines.ReadOnly s.store)
           → MakesStep bytes seen core (left ++ record { name = name; thing = View view } ∷ []) s (x (thing_of s.store name)) (Ok answers.ReadOnly)
       read_only_makes x is =
-          let (b, there, sees, live, near) = its in
+          let (b, there, sees, live, near, began) = its in
           only_makes (left ++ record { name = name; thing = View view } ∷ []) (x (thing_of s.store name)) answers.ReadOnly store_lines.ReadOnly
           (ap x there ∙ is (asked_view view) b) refl (view_back view refl (λ sees. sees))
 
@@ -168,14 +170,15 @@ module _ {H R : Type 0} (bytes : H → Option (List ℕ)) (seen : Option DiskSta
 
       -- the transaction that it stands for
       pub itself : (t : ATxn) × (b : Beginning) × (thing_of s.store name ≡ Some (ATransaction t b)) × IsTransaction bytes txn t h l
+          × (beginning txn.past ≡ b)
       itself = its_transaction bytes h l txn (thing_of s.store name) there_txn
 
       pub txn_back : (new : Txn H R) → NotesNothing txn new → ((reads : List Read) → Sees bytes txn h reads → Sees bytes new h reads)
           → Stand bytes (left ++ record { name = name; thing = Transaction new } ∷ []) ts h l
       txn_back new keeps still =
-          let (t, b, there, is) = itself in
+          let (t, b, there, is, began) = itself in
           back_again bytes h l os left ts name (Transaction txn) (Transaction new) (ATransaction t b) stands.names taken there
-          (txn_only bytes h l txn new t keeps (still t.reads) is)
+          (txn_only bytes h l txn new t keeps (still t.reads) is, ap (λ (x : Txn H R). beginning x.past) keeps ∙ began)
 
       -- what a write leaves
       write_sound : (key : List ℕ) (change : Change) → IsSound (state_by s (write_by s.store name key change (thing_of s.store name)))
@@ -187,8 +190,8 @@ module _ {H R : Type 0} (bytes : H → Option (List ℕ)) (seen : Option DiskSta
           → (result : Result ⊤ SetFail) → IsWritten txn.writes key change new.writes result
           → MakesStep bytes seen core (left ++ record { name = name; thing = Transaction new } ∷ []) s (write_by s.store name key change (thing_of s.store name)) (told_write result)
       write_makes new key change keeps sees result written =
-          let (t, b, there, is) = itself in
-          let so = writes_so bytes s.store os left stands.names name txn new taken key change keeps t b there is (sees h t.reads is.sees) result written in
+          let (t, b, there, is, began) = itself in
+          let so = writes_so bytes s.store os left stands.names name txn new taken key change keeps t b there is began (sees h t.reads is.sees) result written in
           let behind : List (Open H R) = left ++ record { name = name; thing = Transaction new } ∷ [] in
           let x : Step = write_by s.store name key change (thing_of s.store name) in
           both (λ (answer : Answer). IsTold answer x.answer) (Stand bytes behind x.state.things h l) (StandsIn bytes seen core behind (state_by s x)) (told_write result)

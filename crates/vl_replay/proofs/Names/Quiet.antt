@@ -10,7 +10,7 @@ use Rattle.vl_layout.specs.AtAnswer.{Beginning}
 use Rattle.vl_layout.specs.Rulings.Commit.{Transaction as ATxn}
 use Rattle.vl_layout.specs.Store.Commits.{Commits, history_in}
 use Rattle.vl_layout.specs.Store.Lines.{Answer, Name}
-use Rattle.vl_layout.specs.Store.Reading.{get_by, get_own, is_small_enough, scan_by, write_by}
+use Rattle.vl_layout.specs.Store.Reading.{get_at_by, get_by, get_own, is_small_enough, scan_by, write_by}
 use Rattle.vl_layout.specs.Store.Things as store
 use Rattle.vl_layout.specs.Store.Things.{AJob, APass, ATransaction, AView, Step}
 use Rattle.vl_layout.specs.declared.layout.Layout.{Layout}
@@ -69,6 +69,13 @@ module _ (s : store.State) where
   get_quiet name tell key (Some (AView v b)) = either (is_key_length (length key)) _ _ (quiet _ refl refl) (quiet _ refl refl)
   get_quiet name tell key (Some (ATransaction t b)) =
       either (is_key_length (length key)) _ _ (own_quiet name tell t b key (find key_cmp key t.writes)) (quiet _ refl refl)
+
+  pub get_at_quiet : (name : Name) (key : List ℕ) (number : ℕ) (o : Option store.Thing) → IsQuiet s (get_at_by s name key number o)
+  get_at_quiet name key number None = quiet _ refl refl
+  get_at_quiet name key number (Some (AJob job made)) = quiet _ refl refl
+  get_at_quiet name key number (Some (APass pass batch)) = quiet _ refl refl
+  get_at_quiet name key number (Some (AView v b)) = quiet _ refl refl
+  get_at_quiet name key number (Some (ATransaction t b)) = quiet _ refl refl
 
   pub scan_quiet : (way : Way) (name : Name) (low high : List ℕ) (limit : ℕ) (o : Option store.Thing) → IsQuiet s (scan_by s way name low high limit o)
   scan_quiet way name low high limit None = quiet _ refl refl

@@ -162,10 +162,10 @@ module _ {H R : Type 0} (bytes : H → Option (List ℕ)) (seen : Option DiskSta
     pub view_read_makes : (key : List ℕ) (with_tag : Bool) (result : Result (Option Stored) ReadFail) → IsRefusedBy (refused_key key) result
         → ((k : History) → SeesAlone bytes view k → IfOk result (λ value. value ≡ value_at k view.number key))
         → MakesStep bytes seen core behind s (reading with_tag key) (told_by (told_value with_tag) result)
-    view_read_makes key with_tag result refused value = of result refused (let (b, there, sees, live, near) = its bytes seen core os s stands left name view taken in value h sees)
+    view_read_makes key with_tag result refused value = of result refused (let (b, there, sees, live, near, began) = its bytes seen core os s stands left name view taken in value h sees)
       where
         step_is : reading with_tag key ≡ view_step key with_tag view.number (is_key_length (length key))
-        step_is = let (b, there, sees, live, near) = its bytes seen core os s stands left name view taken in ap (get_by s.store name (tell_of with_tag) key) there
+        step_is = let (b, there, sees, live, near, began) = its bytes seen core os s stands left name view taken in ap (get_by s.store name (tell_of with_tag) key) there
 
         of : (result : Result (Option Stored) ReadFail) → IsRefusedBy (refused_key key) result → IfOk result (λ value. value ≡ value_at h view.number key)
             → MakesStep bytes seen core behind s (reading with_tag key) (told_by (told_value with_tag) result)
@@ -200,7 +200,7 @@ module _ {H R : Type 0} (bytes : H → Option (List ℕ)) (seen : Option DiskSta
             → ((k : History) (reads : List Read) → Sees bytes txn k reads → Sees bytes new k reads)
             → MakesStep bytes seen core behind_it s (reading with_tag key) (told_by (told_value with_tag) (Err unread.EmptyKey))
         invalid why refused same still =
-            let (t, b, there, is) = itself bytes seen core os s stands left name txn taken in
+            let (t, b, there, is, began) = itself bytes seen core os s stands left name txn taken in
             only_makes bytes seen core os s stands behind_it (reading with_tag key) answers.Invalid store_lines.Invalid
             (ap (get_by s.store name (tell_of with_tag) key) there ∙ on_false (is_key_length (length key)) _ (only store_lines.Invalid s.store) (key_unfit key why refused)) refl
             (txn_back bytes seen core os s stands left name txn taken new same (still h))
@@ -211,8 +211,8 @@ module _ {H R : Type 0} (bytes : H → Option (List ℕ)) (seen : Option DiskSta
             → ((k : History) (reads : List Read) → Sees bytes txn k reads → OnOk result (Sees bytes new k (noting.with_get txn.writes reads key (value_at k txn.number key))))
             → MakesStep bytes seen core behind_it s (reading with_tag key) (told_by (told_value with_tag) result)
         of (Ok found) refused kept still value sees =
-            let (t, b, there, is) = itself bytes seen core os s stands left name txn taken in
-            let so = reads_so bytes s.store stands.sound.proper.commits os left stands.names name txn new taken key (key_fits key refused) keeps (tell_of with_tag) t b there is (sees h t.reads is.sees) in (
+            let (t, b, there, is, began) = itself bytes seen core os s stands left name txn taken in
+            let so = reads_so bytes s.store stands.sound.proper.commits os left stands.names name txn new taken key (key_fits key refused) keeps (tell_of with_tag) t b there is began (sees h t.reads is.sees) in (
               told_is with_tag found ∙ ap without_lengths (ap (tell_of with_tag) (value h t.reads is.sees) ∙ sym so.answer),
               quiet_stands bytes seen core os behind_it s (reading with_tag key) (get_quiet s.store name (tell_of with_tag) key (thing_of s.store name)) stands so.names (read_sound with_tag key),
             )

@@ -3,6 +3,7 @@ use Rattle.std.proofs.Common.{◌≡◌, ℕ, true, List, [], ◌∷◌, ◌++�
 use Rattle.std.specs.Prelude.{Option, None, Some}
 use Rattle.std.specs.FinMap.{find, get, get-entries}
 use Rattle.std.specs.Option.{is_some}
+use Rattle.vl_engine.specs.Past.{beginning}
 use Rattle.vl_engine.specs.Reading.{IsInMemory, OnlyNotes, value_under}
 use Rattle.vl_engine.specs.Represents.{IsLive}
 use Rattle.vl_engine.specs.Sees.{Sees, SeesAlone, asked, asked_view}
@@ -44,18 +45,18 @@ named_again ts name x is q = ⊎_elim
 
 module _ {H R : Type 0} (bytes : H → Option (List ℕ)) (h : History) (l : Layout) where
   pub its_transaction : (txn : Txn H R) (y : Option store.Thing) → Corresponds bytes h l (Some (Transaction txn)) y
-      → (t : ATxn) × (b : Beginning) × (y ≡ Some (ATransaction t b)) × IsTransaction bytes txn t h l
+      → (t : ATxn) × (b : Beginning) × (y ≡ Some (ATransaction t b)) × IsTransaction bytes txn t h l × (beginning txn.past ≡ b)
   its_transaction txn None is = absurd is
-  its_transaction txn (Some (ATransaction t b)) is = (t, b, refl, is)
+  its_transaction txn (Some (ATransaction t b)) (is, began) = (t, b, refl, is, began)
   its_transaction txn (Some (AView v b)) is = absurd is
   its_transaction txn (Some (AJob job made)) is = absurd is
   its_transaction txn (Some (APass pass batch)) is = absurd is
 
   pub its_view : (view : EngineView H R) (y : Option store.Thing) → Corresponds bytes h l (Some (View view)) y
       → (b : Beginning) × (y ≡ Some (AView (asked_view view) b)) × SeesAlone bytes view h × IsLive l view.ticket view.number
-      × (tables l ≡ [] → IsInMemory view.version)
+      × (tables l ≡ [] → IsInMemory view.version) × (beginning view.past ≡ b)
   its_view view None is = absurd is
-  its_view view (Some (AView v b)) (same, sees, live, near) = (b, ap (λ (w : _). Some (AView w b)) (sym same), sees, live, near)
+  its_view view (Some (AView v b)) (same, sees, live, near, began) = (b, ap (λ (w : _). Some (AView w b)) (sym same), sees, live, near, began)
   its_view view (Some (ATransaction t b)) is = absurd is
   its_view view (Some (AJob job made)) is = absurd is
   its_view view (Some (APass pass batch)) is = absurd is
@@ -109,7 +110,7 @@ module _ {H R : Type 0} (bytes : H → Option (List ℕ)) (s : store.State) (pro
     pub names : Stand bytes (left ++ record { name = name; thing = Transaction new } ∷ []) (reading tell).state.things h s.layout
 
   module _ (tell : Option Stored → Answer) (t : ATxn) (b : Beginning) (there : thing_in s.things name ≡ Some (ATransaction t b))
-      (is : IsTransaction bytes txn t h s.layout)
+      (is : IsTransaction bytes txn t h s.layout) (began : beginning txn.past ≡ b)
       (sees : Sees bytes new h (with_get txn.writes t.reads key (value_at h txn.number key))) where
     -- the transaction's step by what it has written to the key
     by_own : (o : Option Change) → get txn.writes key ≡ o
@@ -119,22 +120,22 @@ module _ {H R : Type 0} (bytes : H → Option (List ℕ)) (s : store.State) (pro
       refl,
       stand_alike bytes h s.layout (left ++ record { name = name; thing = Transaction new } ∷ []) (named name (ATransaction t b) s.things) s.things
           (named_again s.things name (ATransaction t b) there)
-          (put_back bytes h s.layout os left s.things name (Transaction txn) (Transaction new) (ATransaction t b) (ATransaction t b) stand taken there refl (record {
+          (put_back bytes h s.layout os left s.things name (Transaction txn) (Transaction new) (ATransaction t b) (ATransaction t b) stand taken there refl ((record {
             same = only_notes_asked txn new t.reads keeps ∙ is.same;
             sees = subst (Sees bytes new h) (on_true (is_some (get txn.writes key)) t.reads (t.reads ++ KeyRead key (value_at h txn.number key) ∷ []) (ap is_some own)) sees;
             live = subst (λ (x : Txn H R). IsLive s.layout x.ticket x.number) (sym keeps) is.live;
             near = λ none. subst (λ (x : Txn H R). IsInMemory x.version) (sym keeps) (is.near none);
-          })),
+          }), ap (λ (x : Txn H R). beginning x.past) keeps ∙ began)),
     )
     by_own None own = (
       ap tell value,
-      put_back bytes h s.layout os left s.things name (Transaction txn) (Transaction new) (ATransaction t b) (ATransaction noted b) stand taken there refl (record {
+      put_back bytes h s.layout os left s.things name (Transaction txn) (Transaction new) (ATransaction t b) (ATransaction noted b) stand taken there refl ((record {
         same = only_notes_asked txn new noted.reads keeps ∙ ap (λ (u : ATxn). record u { reads = noted.reads }) is.same;
         sees = subst (Sees bytes new h) (on_false (is_some (get txn.writes key)) t.reads (t.reads ++ KeyRead key (value_at h txn.number key) ∷ []) (ap is_some own)
             ∙ ap (λ (v : Option Stored). t.reads ++ KeyRead key v ∷ []) (sym value)) sees;
         live = subst (λ (x : Txn H R). IsLive s.layout x.ticket x.number) (sym keeps) is.live;
         near = λ none. subst (λ (x : Txn H R). IsInMemory x.version) (sym keeps) (is.near none);
-      }),
+      }), ap (λ (x : Txn H R). beginning x.past) keeps ∙ began),
     )
       where
         -- the number is the transaction's

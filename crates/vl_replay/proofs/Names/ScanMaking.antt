@@ -72,10 +72,10 @@ module _ {H R : Type 0} (bytes : H → Option (List ℕ)) (seen : Option DiskSta
         → (result : Result V ReadFail) → IsRefusedBy (refused_bounds low high) result
         → ((k : History) → SeesAlone bytes view k → IfOk result (λ rows. items rows ≡ rows_under empty k view.number low high limit way))
         → MakesStep bytes seen core (left ++ record { name = name; thing = View new } ∷ []) s scanning (told_by tell result)
-    view_scan_makes view new taken keeps still result refused rows_are_so = of result refused (let (b, there, sees, live, near) = its bytes seen core os s stands left name view taken in rows_are_so h sees)
+    view_scan_makes view new taken keeps still result refused rows_are_so = of result refused (let (b, there, sees, live, near, began) = its bytes seen core os s stands left name view taken in rows_are_so h sees)
       where
         step_is : scanning ≡ view_step view.number within
-        step_is = let (b, there, sees, live, near) = its bytes seen core os s stands left name view taken in ap (scan_by s.store way name low high limit) there
+        step_is = let (b, there, sees, live, near, began) = its bytes seen core os s stands left name view taken in ap (scan_by s.store way name low high limit) there
 
         store_rows : scanned_rows s.store way low high limit [] view.number ≡ rows_under empty h view.number low high limit way
         store_rows = rows_are s.store stands.sound.proper.commits way low high limit [] view.number tt
@@ -111,7 +111,7 @@ module _ {H R : Type 0} (bytes : H → Option (List ℕ)) (seen : Option DiskSta
             → ((k : History) (reads : List Read) → Sees bytes txn k reads → Sees bytes new k reads)
             → MakesStep bytes seen core (left ++ record { name = name; thing = Transaction new } ∷ []) s scanning (Ok answers.Invalid)
         invalid why refused same still =
-            let (t, b, there, is) = itself bytes seen core os s stands left name txn taken in
+            let (t, b, there, is, began) = itself bytes seen core os s stands left name txn taken in
             only_makes bytes seen core os s stands (left ++ record { name = name; thing = Transaction new } ∷ []) scanning answers.Invalid store_lines.Invalid
             (ap (scan_by s.store way name low high limit) there ∙ on_false within _ (only store_lines.Invalid s.store) (unfit why refused)) refl
             (txn_back bytes seen core os s stands left name txn taken new same (still h))
@@ -123,10 +123,10 @@ module _ {H R : Type 0} (bytes : H → Option (List ℕ)) (seen : Option DiskSta
             → IfOk result (λ rows. Sees bytes new k (noting.with_scan reads (noting.scan_of low high limit way (items rows) txn.writes))))
             → MakesStep bytes seen core (left ++ record { name = name; thing = Transaction new } ∷ []) s scanning (told_by tell result)
         of (Ok rows) refused kept still rows_are_so sees =
-            let (t, b, there, is) = itself bytes seen core os s stands left name txn taken in
-            let answer = scan_answer bytes s.store stands.sound.proper.commits os left stands.names name txn new taken way low high limit (fit refused) keeps t b there is (items rows)
+            let (t, b, there, is, began) = itself bytes seen core os s stands left name txn taken in
+            let answer = scan_answer bytes s.store stands.sound.proper.commits os left stands.names name txn new taken way low high limit (fit refused) keeps t b there is began (items rows)
             (rows_are_so h t.reads is.sees) (sees h t.reads is.sees) in
-            let names = scan_names bytes s.store stands.sound.proper.commits os left stands.names name txn new taken way low high limit (fit refused) keeps t b there is (items rows)
+            let names = scan_names bytes s.store stands.sound.proper.commits os left stands.names name txn new taken way low high limit (fit refused) keeps t b there is began (items rows)
             (rows_are_so h t.reads is.sees) (sees h t.reads is.sees) in (
               as_rows rows ∙ sym (ap without_lengths answer),
               quiet_stands bytes seen core os (left ++ record { name = name; thing = Transaction new } ∷ []) s scanning (scan_quiet s.store way name low high limit (thing_of s.store name)) stands names

@@ -2,6 +2,7 @@
 use Rattle.std.proofs.Common.{◌≡◌, ℕ, true, ◌&&◌, List, [], ◌∷◌, ◌++◌, length, refl, ap, sym, ◌∙◌, subst}
 use Rattle.std.specs.Prelude.{Option, Some, nat_le}
 use Rattle.std.specs.FinMap.{entries, entries-from_sorted, entries_sorted, from_sorted, same_entries_map}
+use Rattle.vl_engine.specs.Past.{beginning}
 use Rattle.vl_engine.specs.Reading.{IsInMemory, OnlyNotes, rows_under}
 use Rattle.vl_engine.specs.Represents.{IsLive}
 use Rattle.vl_engine.specs.Sees.{Sees, asked}
@@ -34,7 +35,7 @@ module _ {H R : Type 0} (bytes : H → Option (List ℕ)) (s : store.State) (pro
     (taken : IsTaken os left name (Some (Transaction txn))) (way : Way) (low high : List ℕ) (limit : ℕ)
     (fits : (nat_le (length low) max_key_bytes && nat_le (length high) max_key_bytes) ≡ true) (keeps : OnlyNotes txn new)
     (t : ATxn) (b : Beginning) (there : thing_in s.things name ≡ Some (ATransaction t b))
-    (is : IsTransaction bytes txn t (history_in s.commits) s.layout) (rows : List Row)
+    (is : IsTransaction bytes txn t (history_in s.commits) s.layout) (began : beginning txn.past ≡ b) (rows : List Row)
     (rows_is : rows ≡ rows_under txn.writes (history_in s.commits) txn.number low high limit way)
     (sees : Sees bytes new (history_in s.commits) (noting.with_scan t.reads (noting.scan_of low high limit way rows txn.writes))) where
   abbrev scanning : Step
@@ -76,9 +77,9 @@ module _ {H R : Type 0} (bytes : H → Option (List ℕ)) (s : store.State) (pro
   pub scan_names : Stand bytes behind scanning.state.things (history_in s.commits) s.layout
   scan_names = subst (λ (x : Step). Stand bytes behind x.state.things (history_in s.commits) s.layout) (sym step_is)
       (put_back bytes (history_in s.commits) s.layout os left s.things name (Transaction txn) (Transaction new) (ATransaction t b)
-      (ATransaction (record t { reads = noted }) b) stand taken there refl (record {
+      (ATransaction (record t { reads = noted }) b) stand taken there refl ((record {
         same = ap (λ (x : Txn H R). asked x noted) keeps ∙ ap (λ (u : ATxn). record u { reads = noted }) is.same;
         sees = subst (Sees bytes new (history_in s.commits)) (sym noted_is) sees;
         live = subst (λ (x : Txn H R). IsLive s.layout x.ticket x.number) (sym keeps) is.live;
         near = λ none. subst (λ (x : Txn H R). IsInMemory x.version) (sym keeps) (is.near none);
-      }))
+      }), ap (λ (x : Txn H R). beginning x.past) keeps ∙ began))

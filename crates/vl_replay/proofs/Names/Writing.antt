@@ -5,6 +5,7 @@ use Rattle.std.specs.Bool.{⊤}
 use Rattle.std.specs.FinMap.{entries, entries-insert, insert, len-entries, put}
 use Rattle.std.specs.Cmp.Lexicographic.{nat_list_cmp_total}
 use Rattle.std.proofs.lemmas.Bool.Decides.{nat_tests}
+use Rattle.vl_engine.specs.Past.{beginning}
 use Rattle.vl_engine.specs.Reading.{IsInMemory, OnlyWrites}
 use Rattle.vl_engine.specs.Represents.{IsLive}
 use Rattle.vl_engine.specs.Sees.{Sees, asked}
@@ -87,7 +88,7 @@ module _ {H R : Type 0} (bytes : H → Option (List ℕ)) (s : store.State) (os 
     (stand : Stand bytes os s.things (history_in s.commits) s.layout) (name : Name) (txn new : Txn H R)
     (taken : IsTaken os left name (Some (Transaction txn))) (key : List ℕ) (change : Change) (keeps : OnlyWrites txn new)
     (t : ATxn) (b : Beginning) (there : thing_in s.things name ≡ Some (ATransaction t b))
-    (is : IsTransaction bytes txn t (history_in s.commits) s.layout) (sees : Sees bytes new (history_in s.commits) t.reads) where
+    (is : IsTransaction bytes txn t (history_in s.commits) s.layout) (began : beginning txn.past ≡ b) (sees : Sees bytes new (history_in s.commits) t.reads) where
   abbrev writing : Step
   writing = write_by s name key change (thing_in s.things name)
 
@@ -115,19 +116,22 @@ module _ {H R : Type 0} (bytes : H → Option (List ℕ)) (s : store.State) (os 
     near = λ none. subst (λ (x : Txn H R). IsInMemory x.version) (sym keeps) (is.near none);
   }
 
+  began_then : beginning new.past ≡ b
+  began_then = ap (λ (x : Txn H R). beginning x.past) keeps ∙ began
+
   made_names : new.writes ≡ insert txn.writes key change → Stand bytes behind (made s name key change t b).state.things (history_in s.commits) s.layout
   made_names made_is =
       let more : entries new.writes ≡ put key_cmp key change t.writes =
       ap (λ (w : Writes). entries w) made_is ∙ entries-insert nat_list_cmp_total txn.writes key change
       ∙ ap (λ (u : ATxn). put key_cmp key change u.writes) is.same in
       put_back bytes (history_in s.commits) s.layout os left s.things name (Transaction txn) (Transaction new) (ATransaction t b)
-      (ATransaction (record t { writes = put key_cmp key change t.writes }) b) stand taken there refl (corresponds _ more)
+      (ATransaction (record t { writes = put key_cmp key change t.writes }) b) stand taken there refl (corresponds _ more, began_then)
 
   refused_names : new.writes ≡ txn.writes → Stand bytes behind s.things (history_in s.commits) s.layout
   refused_names same =
       let own : entries new.writes ≡ t.writes = ap (λ (w : Writes). entries w) same ∙ ap (λ (u : ATxn). u.writes) is.same in
       stand_alike bytes (history_in s.commits) s.layout behind (named name (ATransaction t b) s.things) s.things (named_again s.things name (ATransaction t b) there)
-      (put_back bytes (history_in s.commits) s.layout os left s.things name (Transaction txn) (Transaction new) (ATransaction t b) (ATransaction t b) stand taken there refl (corresponds _ own))
+      (put_back bytes (history_in s.commits) s.layout os left s.things name (Transaction txn) (Transaction new) (ATransaction t b) (ATransaction t b) stand taken there refl (corresponds _ own, began_then))
 
   pub writes_so : (result : Result ⊤ SetFail) → IsWritten txn.writes key change new.writes result → WritesSo result
   writes_so result written = of result written

@@ -7,9 +7,10 @@ use Rattle.std.specs.Str.{bytes_eq}
 use Rattle.vl_model.specs.declared.way.Way.{Way}
 use Rattle.vl_model.specs.declared.way.Way.TheVariants.{Up, Down}
 use Rattle.vl_replay.specs.Asking.{AsksForRow}
-use Rattle.vl_script.specs.Script.{◌>>=◌, alone, ident_alone, ident_and_key, ident_and_two, line_of, line_of_words, longest_line, scan_of, set_of, with_number, words_of}
+use Rattle.vl_script.specs.Script.{◌>>=◌, alone, get_at_of, ident_alone, ident_and_key, ident_and_two, keep_of, line_of, line_of_words, longest_line, named_key, scan_of, set_of, with_number, words_of}
+use Rattle.vl_script.specs.Numbers.{number_of}
 use Rattle.vl_script.specs.declared.line.Line.{Line}
-use Rattle.vl_script.specs.declared.line.Line.TheVariants.{Begin, View, Get, Set, SetTagged, GetTagged, Scan, Delete, Commit, Drop, Rotate, Flush}
+use Rattle.vl_script.specs.declared.line.Line.TheVariants.{Begin, View, Get, Set, SetTagged, GetTagged, GetAt, Scan, Delete, Commit, Drop, Rotate, Flush, Keep}
 
 -- the line asks for one, where there is a line
 record Asks (o : Option Line) : Type 0 where
@@ -53,6 +54,19 @@ sets (name ∷ key ∷ []) = none
 sets (name ∷ key ∷ value ∷ []) = mapped (ident_and_two name key value) (λ w. Set w.0 w.1 w.2) (λ w. tt)
 sets (name ∷ key ∷ value ∷ other ∷ words) = none
 
+olds : (words : List (List ℕ)) → Asks (get_at_of words)
+olds [] = none
+olds (name ∷ []) = none
+olds (name ∷ key ∷ []) = none
+olds (name ∷ key ∷ number ∷ []) = bound (number_of 18446744073709551615 number) (λ n. option_map (λ w. GetAt w.0 w.1 n) (named_key name key))
+    (λ n. mapped (named_key name key) (λ w. GetAt w.0 w.1 n) (λ w. tt))
+olds (name ∷ key ∷ number ∷ other ∷ words) = none
+
+keeps : (words : List (List ℕ)) → Asks (keep_of words)
+keeps [] = none
+keeps (versions ∷ []) = mapped (number_of 255 versions) Keep (λ v. tt)
+keeps (versions ∷ other ∷ words) = none
+
 alones : (line : Line) → AsksForRow line → (words : List (List ℕ)) → Asks (alone line words)
 alones line asks [] = one line asks
 alones line asks (word ∷ words) = none
@@ -66,13 +80,15 @@ asks_in (command ∷ words) =
     (either (bytes_eq command (codes "set")) _ _ (sets words)
     (either (bytes_eq command (codes "setb")) _ _ (mapped (with_number 255 words) (λ w. SetTagged w.0 w.1 w.2 w.3) (λ w. tt))
     (either (bytes_eq command (codes "getb")) _ _ (mapped (ident_and_key words) (λ p. GetTagged p.0 p.1) (λ w. tt))
+    (either (bytes_eq command (codes "getat")) _ _ (olds words)
     (either (bytes_eq command (codes "scan")) _ _ (scans Up words)
     (either (bytes_eq command (codes "rscan")) _ _ (scans Down words)
     (either (bytes_eq command (codes "del")) _ _ (mapped (ident_and_key words) (λ p. Delete p.0 p.1) (λ w. tt))
     (either (bytes_eq command (codes "commit")) _ _ (mapped (ident_alone words) Commit (λ w. tt))
     (either (bytes_eq command (codes "drop")) _ _ (mapped (ident_alone words) Drop (λ w. tt))
     (either (bytes_eq command (codes "rotate")) _ _ (alones Rotate tt words)
-    (either (bytes_eq command (codes "flush")) _ _ (alones Flush tt words) none))))))))))))
+    (either (bytes_eq command (codes "flush")) _ _ (alones Flush tt words)
+    (either (bytes_eq command (codes "keep")) _ _ (keeps words) none))))))))))))))
 
 pub line_asks : (text : List ℕ) (line : Line) → line_of text ≡ Some line → AsksForRow line
 line_asks text line is =

@@ -20,7 +20,7 @@ use Rattle.std.specs.Fmt.{decimal}
 use Rattle.vl_script.specs.declared.answer.Answer.{Answer}
 use Rattle.vl_script.specs.declared.answer.Answer.TheVariants as answers
 use Rattle.vl_script.specs.declared.line.Line.{Line}
-use Rattle.vl_script.specs.declared.line.Line.TheVariants.{Begin, View, Get, Set, SetTagged, GetTagged, Scan, Delete, Commit, Drop, Rotate, Flush, Keep, GetAt}
+use Rattle.vl_script.specs.declared.line.Line.TheVariants.{Begin, View, Get, Set, SetTagged, GetTagged, GetAt, Scan, Delete, Commit, Drop, Rotate, Flush, Keep}
 use Rattle.vl_replay.proofs.Disk.Betweens.{extends_itself}
 
 -- ---- commits
@@ -42,6 +42,7 @@ line_adds s (Begin name) = inl (begin_keeps s.store name a_transaction (thing_of
 line_adds s (View name) = inl (begin_keeps s.store name a_view (thing_of s.store name)).commits
 line_adds s (Get name key) = inl (get_keeps s.store name answer_of key (thing_of s.store name)).commits
 line_adds s (GetTagged name key) = inl (get_keeps s.store name answer_with_tag key (thing_of s.store name)).commits
+line_adds s (GetAt name key number) = inl (get_at_keeps s.store name key number (thing_of s.store name)).commits
 line_adds s (Scan name low high limit way) = inl (scan_keeps s.store way name low high limit (thing_of s.store name)).commits
 line_adds s (Set name key value) = inl (write_keeps s.store name key (Put (untagged value)) (thing_of s.store name)).commits
 line_adds s (SetTagged name key value tag) = inl (write_keeps s.store name key (Put (tagged value tag)) (thing_of s.store name)).commits
@@ -50,7 +51,6 @@ line_adds s (Drop name) = inl (drop_commits s.store name (thing_of s.store name)
 line_adds s Rotate = inl refl
 line_adds s Flush = inl refl
 line_adds s (Keep versions) = inl refl
-line_adds s (GetAt name key number) = inl (get_at_keeps s.store name key number (thing_of s.store name)).commits
 line_adds s (Commit name) = elim (commit_or s.store name (thing_of s.store name)) [
   | inl (keeps, none) ↦ inl keeps.commits
   | inr (t, b, is, adds) ↦ inr (t.writes, _, adds.commits, adds.answer)
@@ -93,6 +93,7 @@ told_text (answers.Number n) = refl
 told_text (answers.Found value) = refl
 told_text (answers.FoundTagged value) = refl
 told_text answers.NoValue = refl
+told_text (answers.Dropped least) = refl
 told_text (answers.Rows rows) = rows_text_alike rows.items
   where
     rows_text_alike : (rows : List Row) → rows_text rows ≡ rows_text (map told_row (rows_told rows))
@@ -130,6 +131,31 @@ told_number told answer n is number = of told (is ∙ ap without_lengths number)
     of (answers.Found value) e = absurd cc
     of (answers.FoundTagged value) e = absurd cc
     of answers.NoValue e = absurd cc
+    of (answers.Dropped least) e = absurd cc
+    of (answers.Rows rows) e = absurd cc
+    of (answers.Taken name) e = absurd cc
+    of (answers.Unknown name) e = absurd cc
+    of answers.ReadOnly e = absurd cc
+    of answers.Invalid e = absurd cc
+    of answers.TooBig e = absurd cc
+    of answers.TooMany e = absurd cc
+    of answers.Nothing e = absurd cc
+    of (answers.Conflict key number) e = absurd cc
+    of answers.Full e = absurd cc
+    of answers.Idle e = absurd cc
+    of (answers.Exhausted counter) e = absurd cc
+
+-- And what is told by `ok` is that.
+pub told_done : (told : Answer) (answer : store.Answer) → IsTold told answer → answer ≡ store.Done → told ≡ answers.Done
+told_done told answer is done = of told (is ∙ ap without_lengths done)
+  where
+    of : (told : Answer) → as_told told ≡ store.Done → told ≡ answers.Done
+    of answers.Done e = refl
+    of (answers.Number m) e = absurd cc
+    of (answers.Found value) e = absurd cc
+    of (answers.FoundTagged value) e = absurd cc
+    of answers.NoValue e = absurd cc
+    of (answers.Dropped least) e = absurd cc
     of (answers.Rows rows) e = absurd cc
     of (answers.Taken name) e = absurd cc
     of (answers.Unknown name) e = absurd cc

@@ -5,8 +5,10 @@ use Rattle.std.specs.Option.{option_map}
 use Rattle.vl_disk.specs.declared.watched.Watched.{Ghosts}
 use Rattle.vl_disk.specs.Faults.{Rose}
 use Rattle.vl_io.specs.declared.sink.Sink as sink
+use Rattle.vl_layout.specs.Store.Lines as store
+use Rattle.vl_replay.specs.laws.Laws.{IsSound}
 use Rattle.vl_script.specs.declared.answer.Answer.{Answer}
-use Rattle.vl_script.specs.declared.answer.Answer.TheVariants.{Number}
+use Rattle.vl_script.specs.declared.answer.Answer.TheVariants.{Done, Number}
 use Rattle.vl_script.specs.declared.line.Line.{Line}
 use Rattle.vl_script.specs.Script.{line_of}
 use Rattle.vl_replay.specs.Sequential.{State, answer_to, state_after, history_of, IsTold}
@@ -26,7 +28,8 @@ use Rattle.vl_replay.specs.declared.ending.OnFault.{OnFault}
 use Rattle.vl_replay.proofs.Runs.Ends.{at_fault, or_cut}
 use Rattle.vl_replay.proofs.Disk.DiskSteps.{IsWatched, text_extends, rests_until, it_holds, its_commits, opens_again, ends_within, ends_unchanged}
 use Rattle.vl_replay.proofs.Disk.Shown.{shown_stays, stored_exactly}
-use Rattle.vl_replay.proofs.Runs.Extending.{line_keeps, told_number}
+use Rattle.vl_replay.proofs.Runs.Extending.{line_keeps, told_done, told_number}
+use Rattle.vl_replay.proofs.Runs.Staying.{layout_stays}
 
 -- ---- results
 
@@ -153,9 +156,13 @@ module _ {D : Type 0} (g : Ghosts D) (watched : IsWatched g) (s : State) (text :
           stopped = λ by. carries.stopped (by_disk by);
         })
 
-    -- the answer to a line that makes no commit found no memory
-    pub kept_without_number : (line : Line) (answer : Answer) → IsTold answer (answer_to s line) → ((n : ℕ) → answer ≡ Number n → ⊥) → HoldsState g IsStored (state_after s line) new → HoldsCommits g IsStored s new
-    kept_without_number line answer is none held = (state_after s line, line_keeps s line (λ n numbered. none n (told_number answer (answer_to s line) n is numbered)), held.there)
+    -- the answer to a line that makes no call found no memory
+    pub kept_without_number : (line : Line) (answer : Answer) → IsSound s → IsTold answer (answer_to s line) → ((n : ℕ) → answer ≡ Number n → ⊥) → (answer ≡ Done → ⊥) → HoldsState g IsStored (state_after s line) new → HoldsCommits g IsStored s new
+    kept_without_number line answer sound is none undone held =
+        (state_after s line, line_keeps s line unnumbered, layout_stays s line sound unnumbered (λ done. undone (told_done answer (answer_to s line) is done)), held.there)
+      where
+        unnumbered : (n : ℕ) → answer_to s line ≡ store.Number n → ⊥
+        unnumbered n numbered = none n (told_number answer (answer_to s line) n is numbered)
 
     -- ---- how a run ends there
 

@@ -351,24 +351,24 @@ module _ (s : State) (disk : DiskState) (stored : IsStored s disk) (fits : s.fil
 
 -- And so does the image of a disk on which a commit was stopped.
 module _ (before after : State) (commits : Commits IsStored before after) (fits : before.files + 2 ≤ max_file_number) where
-  abbrev log : Name
-  log = Log before.store.layout.active.number
+  abbrev its_log : Name
+  its_log = Log before.store.layout.active.number
 
   torn_left : (taken : ℕ) (outcome : Outcome) → MayLeave (with_taken commits taken) (crash_image outcome (with_taken commits taken))
   torn_left taken outcome = crash_left outcome (with_taken commits taken)
-      (appended_lawful commits.old commits.held.holds.lawful log commits.frame taken)
+      (appended_lawful commits.old commits.held.holds.lawful its_log commits.frame taken)
 
   -- its names are among those of the disk before
   names_torn : (taken : ℕ) (outcome : Outcome) → NamesUpTo before.files (crash_image outcome (with_taken commits taken))
   names_torn taken outcome = names_left before.files (with_taken commits taken) (crash_image outcome (with_taken commits taken))
       (torn_left taken outcome)
-      (numbered_changed before.files log (lengthened commits.frame taken) commits.old commits.held.numbered)
+      (numbered_changed before.files its_log (lengthened commits.frame taken) commits.old commits.held.numbered)
 
   torn_reopens : (taken : ℕ) (outcome : Outcome)
       → OpensAsHeld before commits.old commits.held (crash_image outcome (with_taken commits taken))
       → Reopens (crash_image outcome (with_taken commits taken)) (history_of before) (last_number (history_of before))
   torn_reopens taken outcome opens = held_reopens before commits.old commits.held fits (with_taken commits taken)
-      (changed_elsewhere log commits.old (lengthened commits.frame taken)) (crash_image outcome (with_taken commits taken))
+      (changed_elsewhere its_log commits.old (lengthened commits.frame taken)) (crash_image outcome (with_taken commits taken))
       (torn_left taken outcome) opens (names_torn taken outcome)
 
   -- where the append failed,

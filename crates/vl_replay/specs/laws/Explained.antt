@@ -1,6 +1,6 @@
 -- What a script reads is explained by the history at the reader's own number.
-use Rattle.std.proofs.Common.{◌≡◌, ◌⊎◌, ⊎_elim, inl, inr, ℕ, ◌+◌, ◌-◌, ◌≤◌, Bool, true, false, cond, ◌&&◌, not, List, [], ◌∷◌, ◌++◌, length, refl, ap, sym, ◌∙◌, subst, arith, length-append}
-use Rattle.std.specs.Prelude.{Option, Some, None, T, nat_le, if◌then◌else◌}
+use Rattle.std.proofs.Common.{◌≡◌, ◌⊎◌, ⊎_elim, inl, inr, ℕ, ◌+◌, ◌-◌, ◌≤◌, ◌==◌, Bool, true, false, cond, ◌&&◌, not, List, [], ◌∷◌, ◌++◌, length, refl, ap, sym, ◌∙◌, subst, arith, length-append}
+use Rattle.std.specs.Prelude.{Option, Some, None, T, nat_le, nat_lt, if◌then◌else◌}
 use Rattle.std.specs.FinMap.{entries, entries-from_sorted, find, from_sorted, is_sorted, put}
 use Rattle.std.specs.List.{AllByRecursion, filter}
 use Rattle.std.specs.Ordering.{eq_by_cmp}
@@ -13,21 +13,22 @@ use Rattle.vl_model.specs.Reads.{KeyRead, RangeRead, Read, IsExplained, IsExplai
 use Rattle.vl_model.specs.declared.change.Change.{Change}
 use Rattle.vl_model.specs.declared.way.Way.{Way}
 use Rattle.vl_model.specs.laws.ExplainedLaws.{explained-extends}
-use Rattle.vl_layout.specs.AtAnswer.{Beginning, beginning_of}
+use Rattle.vl_layout.specs.AtAnswer as at
+use Rattle.vl_layout.specs.AtAnswer.{AtAnswer, Beginning, beginning_of}
 use Rattle.vl_layout.specs.Ruling.{Ruling, leaving}
 use Rattle.vl_layout.specs.Rulings.Begin as begin
 use Rattle.vl_layout.specs.Rulings.Begin.{BeginAnswer, begin_ruling, begun}
 use Rattle.vl_layout.specs.Rulings.Commit as commit
 use Rattle.vl_layout.specs.Rulings.Commit.{CommitAnswer, Transaction}
-use Rattle.vl_layout.specs.Store.Commits.{AreProper, Changes, history_in, value_in, with_changes}
+use Rattle.vl_layout.specs.Store.Commits.{AreProper, Changes, at_answer_in, history_in, low_in, value_in, with_changes}
 use Rattle.vl_layout.specs.Store.Dispatch.{drop_by}
-use Rattle.vl_layout.specs.Store.Lines.{Answer, Invalid, Name, Number, Rows}
+use Rattle.vl_layout.specs.Store.Lines.{Answer, Dropped, Invalid, Name, Number, Rows}
 use Rattle.vl_layout.specs.Store.Proper.{HasRisingWrites, IsProper}
-use Rattle.vl_layout.specs.Store.Reading.{a_transaction, a_view, begin_as, begun_by, commit_by, committed_by, get_at_by, get_by, get_own, is_small_enough, noted_scan, rows_told, ruled, scan_by, scan_of, scanned_rows, write_by}
+use Rattle.vl_layout.specs.Store.Reading.{a_transaction, a_view, answer_of, begin_as, begun_by, commit_by, committed_by, get_at_by, get_by, get_own, is_small_enough, noted_scan, rows_told, ruled, scan_by, scan_of, scanned_rows, told_at, write_by}
 use Rattle.vl_layout.specs.Store.Things.{Thing, ATransaction, AView, AJob, APass, State, Step, named, only, thing_in, thing_of, without_name}
 use Rattle.vl_layout.specs.Tickets.{free_ticket, tickets_of}
 use Rattle.vl_layout.specs.laws.CommitsLaws.{conflict_in-is, rows_in-are, value_in-is}
-use Rattle.vl_replay.specs.Exchanges.{ReadsAt, ScansAt}
+use Rattle.vl_replay.specs.Exchanges.{ReadsAt, ScansAt, TellsValue}
 use Rattle.vl_replay.specs.laws.Growing.{Adds, IsReader, history_more}
 
 -- ---- what is read, by the history
@@ -284,6 +285,46 @@ module _ (s : State) (sound : IsSound s) where
   get_explained name tell key number (Some (ATransaction t b)) (by, none) =
       get_answer tell name key t b (find key_cmp key t.writes) none (is_key_length (length key))
       ∙ ap (λ (n : ℕ). if is_key_length (length key) then tell (value_at h' n key) else Invalid) (sym by)
+
+  -- a read at an older number: a value is told only where it is that of the history there
+  no_value : (answer : Answer) (value : Option Stored) → answer ≡ Invalid ⊎ ((least : ℕ) × (answer ≡ Dropped least)) → answer ≡ answer_of value → ⊥
+  no_value answer None (inl is) told = absurd (let both = sym is ∙ told in cc)
+  no_value answer (Some v) (inl is) told = absurd (let both = sym is ∙ told in cc)
+  no_value answer None (inr (least, is)) told = absurd (let both = sym is ∙ told in cc)
+  no_value answer (Some v) (inr (least, is)) told = absurd (let both = sym is ∙ told in cc)
+
+  told_value_at : (answer : AtAnswer) (found : Option Stored) → (answer ≡ at.Found found) ⊎ ((told_at answer ≡ Invalid) ⊎ ((least : ℕ) × (told_at answer ≡ Dropped least)))
+      → TellsValue (told_at answer) → told_at answer ≡ answer_of found
+  told_value_at answer found (inl is) told = ap told_at is
+  told_value_at answer found (inr other) (value, told) = absurd (no_value (told_at answer) value other told)
+
+  past_cases : (number least : ℕ) (found : Option Stored) (empty long ahead gone : Bool)
+      → let a : AtAnswer = if empty then at.EmptyKey else (if long then at.KeyTooLong else (if ahead then at.Ahead number else (if gone then at.Dropped least else at.Found found))) in
+      (a ≡ at.Found found) ⊎ ((told_at a ≡ Invalid) ⊎ ((m : ℕ) × (told_at a ≡ Dropped m)))
+  past_cases number least found true long ahead gone = inr (inl refl)
+  past_cases number least found false true ahead gone = inr (inl refl)
+  past_cases number least found false false true gone = inr (inl refl)
+  past_cases number least found false false false true = inr (inr (least, refl))
+  past_cases number least found false false false false = inl refl
+
+  old_explained : (number : ℕ) (key : List ℕ) (n : ℕ) (b : Beginning) → TellsValue (told_at (at_answer_in s.commits b number key n))
+      → told_at (at_answer_in s.commits b number key n) ≡ answer_of (value_at (history_in s.commits) n key)
+  old_explained number key n b told =
+      told_value_at (at_answer_in s.commits b number key n) (value_in s.commits n key)
+      (past_cases number (low_in s.commits b.floor b.keep b.since key) (value_in s.commits n key) (length key == 0) (nat_lt max_key_bytes (length key)) (nat_lt number n)
+      (nat_lt n (low_in s.commits b.floor b.keep b.since key))) told
+      ∙ ap answer_of (value_in-is s.commits sound.proper.commits n key)
+
+  pub get_at_explained : (name : Name) (key : List ℕ) (n : ℕ) (o : Option Thing) → TellsValue (get_at_by s name key n o).answer
+      → (get_at_by s name key n o).answer ≡ answer_of (value_at (history_in s.commits) n key)
+  get_at_explained name key n None (None, told) = absurd cc
+  get_at_explained name key n None (Some v, told) = absurd cc
+  get_at_explained name key n (Some (AJob job made)) (None, told) = absurd cc
+  get_at_explained name key n (Some (AJob job made)) (Some v, told) = absurd cc
+  get_at_explained name key n (Some (APass pass batch)) (None, told) = absurd cc
+  get_at_explained name key n (Some (APass pass batch)) (Some v, told) = absurd cc
+  get_at_explained name key n (Some (AView v b)) told = old_explained v.number key n b told
+  get_at_explained name key n (Some (ATransaction t b)) told = old_explained t.number key n b told
 
   -- a scan
   abbrev rows_at : Way → List ℕ → List ℕ → ℕ → ℕ → Changes → Answer

@@ -19,7 +19,7 @@ use Rattle.vl_model.specs.Reads.{IsExplained, Read}
 use Rattle.vl_model.specs.declared.change.Change.TheVariants.{Set as Put, Delete as Deleted}
 use Rattle.vl_replay.specs.Exchanges.{exchanged, exchanges_from, and_later, IsExplainedExchange, AreExplained, ended_lines, KeepsUp}
 use Rattle.vl_replay.specs.Sequential.{State, asked, history_of, state_after, step_to}
-use Rattle.vl_replay.specs.laws.Explained.{IsSound as IsSoundStore, IsSoundThing, Stays, commit_explained, commit_stays, drop_stays, get_at_stays, get_explained, get_stays, later_things, only_readers, scan_explained, scan_stays, transaction_stays, view_stays, write_stays}
+use Rattle.vl_replay.specs.laws.Explained.{IsSound as IsSoundStore, IsSoundThing, Stays, commit_explained, commit_stays, drop_stays, get_at_explained, get_at_stays, get_explained, get_stays, later_things, only_readers, scan_explained, scan_stays, transaction_stays, view_stays, write_stays}
 use Rattle.vl_replay.specs.laws.Growing.{Adds, Keeps, begin_keeps, commit_or, drop_keeps, get_at_keeps, get_keeps, scan_keeps, write_keeps}
 use Rattle.vl_script.specs.Script.{line_of}
 use Rattle.vl_script.specs.declared.line.Line.{Line}
@@ -158,7 +158,7 @@ exchange_explained stay s (Drop name) sound = tt
 exchange_explained stay s Rotate sound = tt
 exchange_explained stay s Flush sound = tt
 exchange_explained stay s (Keep versions) sound = tt
-exchange_explained stay s (GetAt name key number) sound = tt
+exchange_explained stay s (GetAt name key number) sound = λ told. get_at_explained s.store sound name key number (thing_of s.store name) told
 exchange_explained stay s (Commit name) sound = λ t b n is e. commit_explained s.store sound stay name t b n (thing_of s.store name) is is (adds_of s name t b n is e) e
 
 exchanges_behind : StaysExplained → (s : State) (texts : List (List ℕ)) (o : Option Line) → IsSound s

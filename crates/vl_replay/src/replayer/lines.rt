@@ -83,6 +83,7 @@ impl<D: Disk> Replayer<D> {
             Line::View { name } => self.view(name),
             Line::Get { name, key } => self.read(name, key, false),
             Line::GetTagged { name, key } => self.read(name, key, true),
+            Line::GetAt { name, key, number } => self.get_at(name, key, number),
             Line::Set { name, key, value } => self.write(name, key, Some((value, 0))),
             Line::SetTagged {
                 name,

@@ -1,20 +1,20 @@
 //! Reads through a name.
 ghost use Rattle.std.specs.Prelude.{◌≡◌, ◌≤◌, []};
 ghost use Rattle.vl_layout.specs.Sources.{tables};
-ghost use Rattle.vl_layout.specs.Store.Reading.{get_by, scan_by};
+ghost use Rattle.vl_layout.specs.Store.Reading.{get_at_by, get_by, scan_by};
 ghost use Rattle.vl_layout.specs.Store.Things.{thing_of};
 ghost use Rattle.vl_replay.specs.Failing.{ReaderFailed};
 ghost use Rattle.vl_replay.specs.Halts.{HaltsByDamage, HaltsByDisk, HaltsByReader};
 ghost use Rattle.vl_replay.specs.Replaying.{MakesStep, OnlyNoMemory, StandsFor};
 ghost use Rattle.vl_replay.specs.Sequential.{State};
-ghost use Rattle.vl_replay.specs.Standing.{tell_of, told_by, told_value};
+ghost use Rattle.vl_replay.specs.Standing.{tell_of, told_by, told_past, told_value};
 ghost use Rattle.vl_script.specs.declared.answer.Answer.TheVariants.{Rows as TheRows};
 
 use crate::fails::Halt;
 use crate::replayer::Replayer;
 use crate::replayer::open::{Thing, place};
 use vl_disk::Disk;
-use vl_engine::{ReadFail, Rows};
+use vl_engine::{AtFail, ReadFail, Rows};
 use vl_model::{Bytes, Value, Way};
 use vl_script::{Answer, Ident};
 
@@ -37,6 +37,27 @@ impl<D: Disk> Replayer<D> {
         match &mut self.opens[at].thing {
             Thing::View(view) => told(view.get(key.as_slice()), with_tag),
             Thing::Transaction(txn) => told(txn.get(key.as_slice()), with_tag),
+        }
+    }
+
+    /// Reads a key as it stood at a number.
+    pub(super) fn get_at(&mut self, name: Ident, key: Bytes, number: u64) -> Result<Answer, Halt>
+        ensures makes { (s : State) → StandsFor D.Watched D.Held.bytes self.old s
+            → MakesStep D.Held.bytes (D.told self.new.engine.disk) self.new.engine.core self.new.opens.items s
+            (get_at_by s.store name key number (thing_of s.store name)) result }
+        ensures near { (s : State) → StandsFor D.Watched D.Held.bytes self.old s → tables s.store.layout ≡ [] → OnlyNoMemory result }
+        ensures undamaged { (s : State) → StandsFor D.Watched D.Held.bytes self.old s → HaltsByDamage result → ⊥ }
+        ensures fault { HaltsByReader result → ReaderFailed D.Reader.faults }
+        ensures not_the_disk { HaltsByDisk result → ⊥ }
+        ensures engine { self.new.engine ≡ self.old.engine }
+        ensures halted { self.new.halted ≡ self.old.halted }
+    {
+        let Some(at) = place(&self.opens, name.as_slice()) else {
+            return Ok(Answer::Unknown { name });
+        };
+        match &mut self.opens[at].thing {
+            Thing::View(view) => told_past(view.get_at(key.as_slice(), number)),
+            Thing::Transaction(txn) => told_past(txn.get_at(key.as_slice(), number)),
         }
     }
 
@@ -100,5 +121,20 @@ fn told_rows(read: Result<Rows, ReadFail>) -> Result<Answer, Halt>
         Err(ReadFail::NoMemory) => Err(Halt::NoMemory),
         Err(ReadFail::Disk { name }) => Err(Halt::Read { name }),
         Err(ReadFail::Damaged { name, place }) => Err(Halt::Damaged { name, place }),
+    }
+}
+
+// How a read at an older number is answered.
+fn told_past(read: Result<Option<Value>, AtFail>) -> Result<Answer, Halt>
+    ensures { result ≡ told_past read }
+{
+    match read {
+        Ok(None) => Ok(Answer::NoValue),
+        Ok(Some(value)) => Ok(Answer::Found { value }),
+        Err(AtFail::EmptyKey | AtFail::KeyTooLong | AtFail::Ahead { .. }) => Ok(Answer::Invalid),
+        Err(AtFail::Dropped { low }) => Ok(Answer::Dropped { low }),
+        Err(AtFail::NoMemory) => Err(Halt::NoMemory),
+        Err(AtFail::Disk { name }) => Err(Halt::Read { name }),
+        Err(AtFail::Damaged { name, place }) => Err(Halt::Damaged { name, place }),
     }
 }

@@ -9,25 +9,25 @@ use Rattle.vl_replay.proofs.trying.begin.Goals as goal
 
 pub returns-clause-opened : goal.returns-clause-opened
 returns-clause-opened c =
-    let disk = c.new-2.result in
-    let empty_is = c.new-2.ensures.empty in
-    let stops = c.new-2.ensures.stops in
-    let none = c.new-2.ensures.calls in
+    let disk = c.new.result in
+    let empty_is = c.new.ensures.empty in
+    let stops = c.new.ensures.stops in
+    let none = c.new.ensures.calls in
     let begins = starts c.args.stop disk empty_is stops none in
-    let opens = c.new.ensures in
-    opened c.args.stop disk empty_is stops none _ c.new.result (steady_readers _ (λ reader. refl) c.new.result) opens.cause (opens.meanwhile empty_disk empty (told c.args.stop disk empty_is stops none) bare_read) all_told
+    let opens = c.new-2.ensures in
+    opened c.args.stop disk empty_is stops none _ c.new-2.result (steady_readers _ (λ reader. refl) c.new-2.result) opens.cause (opens.meanwhile empty_disk empty (told c.args.stop disk empty_is stops none) bare_read) all_told
     (opens.store begun begins)
     (opens.holds begun begins refl)
 
 pub returns-clause-stopped : goal.returns-clause-stopped
 returns-clause-stopped c =
-    let disk = c.new-2.result in
-    let empty_is = c.new-2.ensures.empty in
-    let stops = c.new-2.ensures.stops in
-    let none = c.new-2.ensures.calls in
+    let disk = c.new.result in
+    let empty_is = c.new.ensures.empty in
+    let stops = c.new.ensures.stops in
+    let none = c.new.ensures.calls in
     let begins = starts c.args.stop disk empty_is stops none in
     let here = told c.args.stop disk empty_is stops none in
-    let opens = c.new.ensures in
-    stopped c.args.stop disk empty_is stops none _ c.new.result (steady_readers _ (λ reader. refl) c.new.result) opens.cause (opens.meanwhile empty_disk empty here bare_read)
+    let opens = c.new-2.ensures in
+    stopped c.args.stop disk empty_is stops none _ c.new-2.result (steady_readers _ (λ reader. refl) c.new-2.result) opens.cause (opens.meanwhile empty_disk empty here bare_read)
     (opens.answer empty_disk empty here bare_read)
     (opens.at_most begun begins (counts_small c.args.stop disk empty_is stops none))

@@ -11,7 +11,7 @@ use Rattle.vl_replay.specs.Failing.{FailsAt, ReadsTables}
 use Rattle.vl_replay.specs.Replaying.{MakesStep}
 use Rattle.vl_replay.specs.Sequential.{state_after, step_to}
 use Rattle.vl_replay.specs.Stored.{IsStopped, IsStored}
-use Rattle.vl_replay.specs.laws.Growing.{begin_keeps, drop_keeps, get_keeps, scan_keeps, write_keeps}
+use Rattle.vl_replay.specs.laws.Growing.{begin_keeps, drop_keeps, get_at_keeps, get_keeps, scan_keeps, write_keeps}
 use Rattle.vl_replay.specs.laws.Explained.{only_readers}
 use Rattle.vl_script.specs.declared.line.Line.{Line}
 use Rattle.vl_script.specs.declared.line.Line.TheVariants as lines
@@ -143,6 +143,39 @@ returns-in-GetTagged-clause-carries g c s stands =
     c.in-GetTagged.key (thing_of s.store c.in-GetTagged.name)) c.read-in-GetTagged.result
     (c.read-in-GetTagged.ensures.makes s stands) c.read-in-GetTagged.ensures.not_the_disk
     c.args.self.now.engine.disk c.read-in-GetTagged.new.self.engine.disk (ap (λ e. e.disk) c.read-in-GetTagged.ensures.engine))
+
+pub returns-in-GetAt-clause-makes : goal.returns-in-GetAt-clause-makes
+returns-in-GetAt-clause-makes g c s stands =
+    subst (λ (line : Line). MakesStep g.D.Held.HeldFile.bytes (g.D.Watched.told c.get_at.new.self.engine.disk) c.get_at.new.self.engine.core
+    c.get_at.new.self.opens.items s (step_to s line) c.get_at.result)
+    (sym c.in-GetAt.is) (c.get_at.ensures.makes s stands)
+
+pub returns-in-GetAt-clause-sound : goal.returns-in-GetAt-clause-sound
+returns-in-GetAt-clause-sound g c s stands halts =
+    subst (λ (line : Line). ReadsTables line s) (sym c.in-GetAt.is)
+    (λ untabled. not_by_read c.get_at.result (c.get_at.ensures.near s stands untabled) halts)
+
+pub returns-in-GetAt-clause-undamaged : goal.returns-in-GetAt-clause-undamaged
+returns-in-GetAt-clause-undamaged g c s stands = c.get_at.ensures.undamaged s stands
+
+pub returns-in-GetAt-clause-fault : goal.returns-in-GetAt-clause-fault
+returns-in-GetAt-clause-fault g c s stands = c.get_at.ensures.fault
+
+pub returns-in-GetAt-clause-cause : goal.returns-in-GetAt-clause-cause
+returns-in-GetAt-clause-cause g c = no_cause _ _ _ (ap (λ disk. g.D.Watched.faults disk) (ap (λ e. e.disk)
+    c.get_at.ensures.engine)) c.get_at.ensures.not_the_disk
+
+pub returns-in-GetAt-clause-carries : goal.returns-in-GetAt-clause-carries
+returns-in-GetAt-clause-carries g c s stands =
+    subst (λ (line : Line). CarriesOut g.D.Watched IsStored Shown IsStopped c.args.self.now.engine.disk
+    c.get_at.new.self.engine.disk s (state_after s line) c.get_at.result) (sym c.in-GetAt.is)
+    (quiet_carries g.D.Watched (record { only_now = g.met.D.Disk.only_now; counts_now = g.met.D.Disk.counts_now })
+    g.D.Held.HeldFile.bytes
+    (g.D.Watched.told c.get_at.new.self.engine.disk) c.get_at.new.self.engine.core c.get_at.new.self.opens.items s (step_to s (lines.GetAt
+    c.in-GetAt.name c.in-GetAt.key c.in-GetAt.number)) (get_at_keeps s.store c.in-GetAt.name c.in-GetAt.key
+    c.in-GetAt.number (thing_of s.store c.in-GetAt.name)) c.get_at.result
+    (c.get_at.ensures.makes s stands) c.get_at.ensures.not_the_disk
+    c.args.self.now.engine.disk c.get_at.new.self.engine.disk (ap (λ e. e.disk) c.get_at.ensures.engine))
 
 pub returns-in-Set-clause-makes : goal.returns-in-Set-clause-makes
 returns-in-Set-clause-makes g c s stands =
@@ -315,6 +348,9 @@ returns-in-Get-clause-named g c s file stands is = not_at c.read.result c.read.e
 pub returns-in-GetTagged-clause-named : goal.returns-in-GetTagged-clause-named
 returns-in-GetTagged-clause-named g c s file stands is = not_at c.read-in-GetTagged.result
     c.read-in-GetTagged.ensures.not_the_disk file is
+
+pub returns-in-GetAt-clause-named : goal.returns-in-GetAt-clause-named
+returns-in-GetAt-clause-named g c s file stands is = not_at c.get_at.result c.get_at.ensures.not_the_disk file is
 
 pub returns-in-Set-clause-named : goal.returns-in-Set-clause-named
 returns-in-Set-clause-named g c s file stands is = not_at c.write.result (not_by_disk c.write.result c.write.ensures.fails) file is

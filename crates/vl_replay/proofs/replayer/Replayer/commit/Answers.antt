@@ -47,7 +47,7 @@ returns-in-Ok-At-clause-makes g c s stands =
     let txn = c.in-Some-Transaction.txn in
     let taken = taken_out bytes seen core os left s stands c.as_slice.result.now c.args.name c.as_slice.ensures _ _
     c.in-Some-Transaction.field-0-is c.in-Some-Transaction.ensures in
-    let (t, b, there, is) = itself bytes seen core os s stands left c.args.name txn taken in
+    let (t, b, there, is, began) = itself bytes seen core os s stands left c.args.name txn taken in
     number_makes bytes seen now core then os s stands c.commit.ensures.steps left c.args.name txn taken t b there is _ _
     c.in-Ok-At.number
     (decided_so txn bytes (Serves bytes now s.openable then) (history_of s) s.store.layout t is _ _ (rulings.At c.in-Ok-At.number)
@@ -70,7 +70,7 @@ returns-in-Ok-Nothing-clause-makes g c s stands =
     let txn = c.in-Some-Transaction.txn in
     let taken = taken_out bytes seen core os left s stands c.as_slice.result.now c.args.name c.as_slice.ensures _ _
     c.in-Some-Transaction.field-0-is c.in-Some-Transaction.ensures in
-    let (t, b, there, is) = itself bytes seen core os s stands left c.args.name txn taken in
+    let (t, b, there, is, began) = itself bytes seen core os s stands left c.args.name txn taken in
     nothing_makes bytes seen now core then os s stands c.commit.ensures.steps left c.args.name txn taken t b there is _ _
     (decided_so txn bytes (Serves bytes now s.openable then) (history_of s) s.store.layout t is _ _ rulings.Nothing
     (outcome_done txn _ _ c.in-Ok-Nothing.field-0-is)
@@ -92,7 +92,7 @@ returns-in-Err-Conflict-clause-makes g c s stands =
     let txn = c.in-Some-Transaction.txn in
     let taken = taken_out bytes seen core os left s stands c.as_slice.result.now c.args.name c.as_slice.ensures _ _
     c.in-Some-Transaction.field-0-is c.in-Some-Transaction.ensures in
-    let (t, b, there, is) = itself bytes seen core os s stands left c.args.name txn taken in
+    let (t, b, there, is, began) = itself bytes seen core os s stands left c.args.name txn taken in
     conflict_makes bytes seen now core then os s stands c.commit.ensures.steps left c.args.name txn taken t b there is _ _
     c.in-Err-Conflict.key c.in-Err-Conflict.number
     (decided_so txn bytes (Serves bytes now s.openable then) (history_of s) s.store.layout t is _ _ (rulings.Conflict c.in-Err-Conflict.key c.in-Err-Conflict.number)
@@ -115,7 +115,7 @@ returns-in-Err-Exhausted-clause-makes g c s stands =
     let txn = c.in-Some-Transaction.txn in
     let taken = taken_out bytes seen core os left s stands c.as_slice.result.now c.args.name c.as_slice.ensures _ _
     c.in-Some-Transaction.field-0-is c.in-Some-Transaction.ensures in
-    let (t, b, there, is) = itself bytes seen core os s stands left c.args.name txn taken in
+    let (t, b, there, is, began) = itself bytes seen core os s stands left c.args.name txn taken in
     returns_so bytes now then _ c.put-in-Err-Exhausted.new.opens.items s
     (commit_by s.store c.args.name (thing_of s.store c.args.name))
     (commit_by s.store c.args.name (thing_of s.store c.args.name))
@@ -144,7 +144,7 @@ returns-in-Err-Full-clause-makes g c s stands =
     let txn = c.in-Some-Transaction.txn in
     let taken = taken_out bytes seen core os left s stands c.as_slice.result.now c.args.name c.as_slice.ensures _ _
     c.in-Some-Transaction.field-0-is c.in-Some-Transaction.ensures in
-    let (t, b, there, is) = itself bytes seen core os s stands left c.args.name txn taken in
+    let (t, b, there, is, began) = itself bytes seen core os s stands left c.args.name txn taken in
     returns_so bytes now then _ c.put-in-Err-Full.new.opens.items s
     (commit_by s.store c.args.name (thing_of s.store c.args.name))
     (commit_by s.store c.args.name (thing_of s.store c.args.name))
@@ -173,7 +173,7 @@ returns-clause-sound g c s stands halts =
     let txn = c.in-Some-Transaction.txn in
     let taken = taken_out bytes seen core os left s stands c.as_slice.result.now c.args.name c.as_slice.ensures _ _
     c.in-Some-Transaction.field-0-is c.in-Some-Transaction.ensures in
-    let (t, b, there, is) = itself bytes seen core os s stands left c.args.name txn taken in
+    let (t, b, there, is, began) = itself bytes seen core os s stands left c.args.name txn taken in
     never_halted bytes seen now core then os s stands c.commit.ensures.steps left c.args.name txn taken t b there is _ _ _
     (decided_so txn bytes (Serves bytes now s.openable then) (history_of s) s.store.layout t is _ _ (rulings.Halted (engine.file_of c.in-Err-Halted.file))
     (outcome_fail txn _ _ c.in-Err-Halted.field-0-is)
@@ -227,7 +227,7 @@ returns-in-Ok-At-clause-carries g c s stands =
     let txn = c.in-Some-Transaction.txn in
     let taken = taken_out bytes seen core os left s stands c.as_slice.result.now c.args.name c.as_slice.ensures _ _
     c.in-Some-Transaction.field-0-is c.in-Some-Transaction.ensures in
-    let (t, b, there, is) = itself bytes seen core os s stands left c.args.name txn taken in
+    let (t, b, there, is, began) = itself bytes seen core os s stands left c.args.name txn taken in
     answered_carries g.D.Watched bytes core then c.args.self.now.engine.disk c.commit.new.self.disk os s stands
     c.commit.ensures.steps c.args.name txn t b there is _ _
     (λ represents. c.in-Ok-At.ensures.carries (history_of s) s.store.layout t.reads represents is.live is.sees.notes)
@@ -245,7 +245,7 @@ returns-in-Ok-Nothing-clause-carries g c s stands =
     let txn = c.in-Some-Transaction.txn in
     let taken = taken_out bytes seen core os left s stands c.as_slice.result.now c.args.name c.as_slice.ensures _ _
     c.in-Some-Transaction.field-0-is c.in-Some-Transaction.ensures in
-    let (t, b, there, is) = itself bytes seen core os s stands left c.args.name txn taken in
+    let (t, b, there, is, began) = itself bytes seen core os s stands left c.args.name txn taken in
     answered_carries g.D.Watched bytes core then c.args.self.now.engine.disk c.commit.new.self.disk os s stands
     c.commit.ensures.steps c.args.name txn t b there is _ _
     (λ represents. c.in-Ok-Nothing.ensures.carries (history_of s) s.store.layout t.reads represents is.live is.sees.notes)
@@ -263,7 +263,7 @@ returns-in-Err-Conflict-clause-carries g c s stands =
     let txn = c.in-Some-Transaction.txn in
     let taken = taken_out bytes seen core os left s stands c.as_slice.result.now c.args.name c.as_slice.ensures _ _
     c.in-Some-Transaction.field-0-is c.in-Some-Transaction.ensures in
-    let (t, b, there, is) = itself bytes seen core os s stands left c.args.name txn taken in
+    let (t, b, there, is, began) = itself bytes seen core os s stands left c.args.name txn taken in
     answered_carries g.D.Watched bytes core then c.args.self.now.engine.disk c.commit.new.self.disk os s stands
     c.commit.ensures.steps c.args.name txn t b there is _ _
     (λ represents. c.in-Err-Conflict.ensures.carries (history_of s) s.store.layout t.reads represents is.live is.sees.notes)
@@ -282,7 +282,7 @@ returns-in-Err-Exhausted-clause-carries g c s stands =
     let txn = c.in-Some-Transaction.txn in
     let taken = taken_out bytes seen core os left s stands c.as_slice.result.now c.args.name c.as_slice.ensures _ _
     c.in-Some-Transaction.field-0-is c.in-Some-Transaction.ensures in
-    let (t, b, there, is) = itself bytes seen core os s stands left c.args.name txn taken in
+    let (t, b, there, is, began) = itself bytes seen core os s stands left c.args.name txn taken in
     answered_carries g.D.Watched bytes core then c.args.self.now.engine.disk c.commit.new.self.disk os s stands
     c.commit.ensures.steps c.args.name txn t b there is _ _
     (λ represents. c.in-Err-Exhausted.ensures.carries (history_of s) s.store.layout t.reads represents is.live is.sees.notes)
@@ -300,7 +300,7 @@ returns-in-Err-Full-clause-carries g c s stands =
     let txn = c.in-Some-Transaction.txn in
     let taken = taken_out bytes seen core os left s stands c.as_slice.result.now c.args.name c.as_slice.ensures _ _
     c.in-Some-Transaction.field-0-is c.in-Some-Transaction.ensures in
-    let (t, b, there, is) = itself bytes seen core os s stands left c.args.name txn taken in
+    let (t, b, there, is, began) = itself bytes seen core os s stands left c.args.name txn taken in
     answered_carries g.D.Watched bytes core then c.args.self.now.engine.disk c.commit.new.self.disk os s stands
     c.commit.ensures.steps c.args.name txn t b there is _ _
     (λ represents. c.in-Err-Full.ensures.carries (history_of s) s.store.layout t.reads represents is.live is.sees.notes)
@@ -319,7 +319,7 @@ returns-in-Err-NoMemory-clause-carries g c s stands =
     let txn = c.in-Some-Transaction.txn in
     let taken = taken_out bytes seen core os left s stands c.as_slice.result.now c.args.name c.as_slice.ensures _ _
     c.in-Some-Transaction.field-0-is c.in-Some-Transaction.ensures in
-    let (t, b, there, is) = itself bytes seen core os s stands left c.args.name txn taken in
+    let (t, b, there, is, began) = itself bytes seen core os s stands left c.args.name txn taken in
     short_carries g.D.Watched bytes core then c.args.self.now.engine.disk c.commit.new.self.disk os s stands
     c.commit.ensures.steps c.args.name txn t b there is _ _
     (λ represents. c.in-Err-NoMemory.ensures.carries (history_of s) s.store.layout t.reads represents is.live is.sees.notes)
@@ -337,7 +337,7 @@ returns-in-Err-Disk-clause-carries g c s stands =
     let txn = c.in-Some-Transaction.txn in
     let taken = taken_out bytes seen core os left s stands c.as_slice.result.now c.args.name c.as_slice.ensures _ _
     c.in-Some-Transaction.field-0-is c.in-Some-Transaction.ensures in
-    let (t, b, there, is) = itself bytes seen core os s stands left c.args.name txn taken in
+    let (t, b, there, is, began) = itself bytes seen core os s stands left c.args.name txn taken in
     failed_carries g.D.Watched bytes core then c.args.self.now.engine.disk c.commit.new.self.disk os s stands
     c.commit.ensures.steps c.args.name txn t b there is _ _
     (λ represents. c.in-Err-Disk.ensures.carries (history_of s) s.store.layout t.reads represents is.live is.sees.notes)
@@ -360,7 +360,7 @@ returns-clause-carries g c s stands =
     let txn = c.in-Some-Transaction.txn in
     let taken = taken_out bytes seen core os left s stands c.as_slice.result.now c.args.name c.as_slice.ensures _ _
     c.in-Some-Transaction.field-0-is c.in-Some-Transaction.ensures in
-    let (t, b, there, is) = itself bytes seen core os s stands left c.args.name txn taken in
+    let (t, b, there, is, began) = itself bytes seen core os s stands left c.args.name txn taken in
     halted_carries g.D.Watched bytes core then c.args.self.now.engine.disk c.commit.new.self.disk os s stands
     c.commit.ensures.steps c.args.name txn t b there is _ _
     (λ represents. c.in-Err-Halted.ensures.carries (history_of s) s.store.layout t.reads represents is.live is.sees.notes)
@@ -403,7 +403,7 @@ returns-in_err-put-in-Err-Exhausted-clause-carries g c s stands =
     let txn = c.in-Some-Transaction.txn in
     let taken = taken_out bytes seen core os left s stands c.as_slice.result.now c.args.name c.as_slice.ensures _ _
     c.in-Some-Transaction.field-0-is c.in-Some-Transaction.ensures in
-    let (t, b, there, is) = itself bytes seen core os s stands left c.args.name txn taken in
+    let (t, b, there, is, began) = itself bytes seen core os s stands left c.args.name txn taken in
     carries_short g.D.Watched _ _ s _ _ c.from_residual-in_err-put-in-Err-Exhausted.ensures.1
     (exhausted_carries g.D.Watched bytes core then c.args.self.now.engine.disk c.commit.new.self.disk os s stands
     c.commit.ensures.steps c.args.name txn t b there is _ _
@@ -423,7 +423,7 @@ returns-in_err-put-in-Err-Full-clause-carries g c s stands =
     let txn = c.in-Some-Transaction.txn in
     let taken = taken_out bytes seen core os left s stands c.as_slice.result.now c.args.name c.as_slice.ensures _ _
     c.in-Some-Transaction.field-0-is c.in-Some-Transaction.ensures in
-    let (t, b, there, is) = itself bytes seen core os s stands left c.args.name txn taken in
+    let (t, b, there, is, began) = itself bytes seen core os s stands left c.args.name txn taken in
     carries_short g.D.Watched _ _ s _ _ c.from_residual-in_err-put-in-Err-Full.ensures.1
     (full_carries g.D.Watched bytes core then c.args.self.now.engine.disk c.commit.new.self.disk os s stands
     c.commit.ensures.steps c.args.name txn t b there is _ _

@@ -56,7 +56,7 @@ returns-in-View-clause-near g c s stands untabled =
     let taken = out_of_place bytes seen core os s stands c.deref.result.now c.deref.ensures.value c.as_slice.result.now
     c.args.name c.as_slice.ensures
     c.in-Some.at (sym c.place.ensures ∙ c.in-Some.is) c.index_mut.result.now c.index_mut.ensures.value _ c.in-View.is in
-    let (b, there, sees, live, near) = its bytes seen core os s stands (without_open c.args.name os) c.args.name c.in-View.view taken in
+    let (b, there, sees, live, near, began) = its bytes seen core os s stands (without_open c.args.name os) c.args.name c.in-View.view taken in
     call_sound (λ rows. answers.Rows rows) c.scan.result c.told_rows.result c.told_rows.ensures (c.scan.ensures.sound (history_of s) sees)
     (c.scan.ensures.near (near untabled))
 
@@ -69,7 +69,7 @@ returns-in-View-clause-undamaged g c s stands =
     let taken = out_of_place bytes seen core os s stands c.deref.result.now c.deref.ensures.value c.as_slice.result.now
     c.args.name c.as_slice.ensures
     c.in-Some.at (sym c.place.ensures ∙ c.in-Some.is) c.index_mut.result.now c.index_mut.ensures.value _ c.in-View.is in
-    let (b, there, sees, live, near) = its bytes seen core os s stands (without_open c.args.name os) c.args.name c.in-View.view taken in
+    let (b, there, sees, live, near, began) = its bytes seen core os s stands (without_open c.args.name os) c.args.name c.in-View.view taken in
     call_undamaged (λ rows. answers.Rows rows) c.scan.result c.told_rows.result c.told_rows.ensures (c.scan.ensures.sound (history_of s) sees)
 
 pub returns-in-View-clause-fault : goal.returns-in-View-clause-fault
@@ -110,7 +110,7 @@ returns-clause-near g c s stands untabled =
     let taken = out_of_place bytes seen core os s stands c.deref.result.now c.deref.ensures.value c.as_slice.result.now
     c.args.name c.as_slice.ensures
     c.in-Some.at (sym c.place.ensures ∙ c.in-Some.is) c.index_mut.result.now c.index_mut.ensures.value _ c.in-Transaction.is in
-    let (t, b, there, is) = itself bytes seen core os s stands (without_open c.args.name os) c.args.name c.in-Transaction.txn taken in
+    let (t, b, there, is, began) = itself bytes seen core os s stands (without_open c.args.name os) c.args.name c.in-Transaction.txn taken in
     call_sound (λ rows. answers.Rows rows) c.scan-in-Transaction.result c.told_rows-in-Transaction.result c.told_rows-in-Transaction.ensures (c.scan-in-Transaction.ensures.sound (history_of s) t.reads is.sees)
     (c.scan-in-Transaction.ensures.near (is.near untabled))
 
@@ -123,7 +123,7 @@ returns-clause-undamaged g c s stands =
     let taken = out_of_place bytes seen core os s stands c.deref.result.now c.deref.ensures.value c.as_slice.result.now
     c.args.name c.as_slice.ensures
     c.in-Some.at (sym c.place.ensures ∙ c.in-Some.is) c.index_mut.result.now c.index_mut.ensures.value _ c.in-Transaction.is in
-    let (t, b, there, is) = itself bytes seen core os s stands (without_open c.args.name os) c.args.name c.in-Transaction.txn taken in
+    let (t, b, there, is, began) = itself bytes seen core os s stands (without_open c.args.name os) c.args.name c.in-Transaction.txn taken in
     call_undamaged (λ rows. answers.Rows rows) c.scan-in-Transaction.result c.told_rows-in-Transaction.result c.told_rows-in-Transaction.ensures
     (c.scan-in-Transaction.ensures.sound (history_of s) t.reads is.sees)
 

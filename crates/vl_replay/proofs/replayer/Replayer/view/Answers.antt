@@ -35,6 +35,7 @@ returns-in-Ok-clause-makes g c s stands =
     (view_makes bytes seen now core c.view.new.self.core os s stands c.view.ensures.back c.args.name free c.in-Ok.view
     (c.in-Ok.ensures.sees (history_of s) s.store.layout stands.engine)
     (λ untabled. c.in-Ok.ensures.memory (laid_in_memory bytes core.version s.store.layout stands.engine.has untabled))
+    (c.in-Ok.ensures.began (history_of s) s.store.layout stands.engine)
     (decides_all bytes now s.openable c.view.new.self.core (history_of s) s.store.layout _ _ _ _
     (c.in-Ok.ensures.stands (history_of s) s.store.layout stands.engine)
     (c.in-Ok.ensures.fits (history_of s) s.store.layout stands.engine stands.fits)
