@@ -38,6 +38,13 @@ const RUNS: &str = "\
     replay .|||begin a;setb a 61 aa 7;getb a 61;get a 61;set a 62 -;getb a 62;getb a 63;commit a;view b;getb b 61;getb b -;setb b 61 01 0;getb q 61;setb q 61 01 0;|ok 0;ok;value aa byte 7;value aa;ok;value - byte 0;none;ok 1;ok 1;value aa byte 7;invalid;readonly;unknown q;unknown q;|0\n\
     replay .|||begin a;drop a;get a 61;view a;drop a;begin a;drop b;|ok 0;ok;unknown a;ok 0;ok;ok 0;unknown b;|0\n\
     replay .|||begin a;set a *4096* 01;get a *4096*;del a *4096*;set a *4097* 01;get a *4097*;del a *4097*;|ok 0;ok;value 01;ok;invalid;invalid;invalid;|0\n\
+    replay .|||rotate;flush;begin t;set t 61 01;commit t;flush;rotate;rotate;flush;flush;view v;get v 61;|idle;idle;ok 0;ok;ok 1;idle;ok 1;idle;ok 1;idle;ok 1;value 01;|0\n\
+    replay .|||begin t;set t 61 *64*;set t 62 *65*;commit t;rotate;flush;view v;get v 61;get v 62;scan v - - 9;|ok 0;ok;ok;ok 1;ok 1;ok 1;ok 1;value *64*;value *65*;rows 2;61 *64*;62 *65*;|0\n\
+    replay .|||begin t;setb t 61 *65* 7;commit t;rotate;flush;view w;getb w 61;|ok 0;ok;ok 1;ok 1;ok 1;ok 1;value *65* byte 7;|0\n\
+    replay .|||begin t;set t 61 *65*;commit t;rotate;flush;view v;begin t;set t 61 *66*;commit t;rotate;flush;get v 61;view w;get w 61;|ok 0;ok;ok 1;ok 1;ok 1;ok 1;ok 1;ok;ok 2;ok 2;ok 2;value *65*;ok 2;value *66*;|0\n\
+    replay .|||begin t;set t 61 *65*;commit t;rotate;flush;begin t;del t 61;commit t;rotate;flush;begin t;set t 62 01;commit t;rotate;flush;begin t;set t 63 01;commit t;rotate;flush;view v;get v 61;get v 62;scan v - - 9;rscan v - - 1;|ok 0;ok;ok 1;ok 1;ok 1;ok 1;ok;ok 2;ok 2;ok 2;ok 2;ok;ok 3;ok 3;ok 3;ok 3;ok;ok 4;ok 4;ok 4;ok 4;none;value 01;rows 2;62 01;63 01;rows 1;63 01;|0\n\
+    replay .|||begin a;get a 61;begin b;set b 61 01;commit b;rotate;flush;set a 62 01;commit a;|ok 0;none;ok 0;ok;ok 1;ok 1;ok 1;ok;conflict 61 1;|0\n\
+    replay .|||begin a;set a 61 01;rotate;flush;commit a;rotate;begin b;set b 62 02;commit b;view v;flush;scan v - - 9;|ok 0;ok;idle;idle;ok 1;ok 1;ok 1;ok;ok 2;ok 2;ok 1;rows 2;61 01;62 02;|0\n\
     replay .|3||begin a;get a 61|ok 0;none;|0\n\
     replay .|2||begin a;get a 61|ok 0;read fault;|6\n\
     replay .||2|begin a;get a 61;|ok 0;|7\n\
@@ -72,6 +79,29 @@ const STOPS: &str = "\
     11|ok 0;ok;ok;ok 1;ok 1;ok;ok 2;ok 2;ok;|reopened 2;rows 1;62 02;|reopened 3;rows 2;62 02;63 -;\n\
     12|ok 0;ok;ok;ok 1;ok 1;ok;ok 2;ok 2;ok;ok 3;|reopened 3;rows 2;62 02;63 -;|reopened 3;rows 2;62 02;63 -;";
 
+/// A commit, which makes the calls 7 and 8, a rotation, 9 to 11, and a flush, 12 to 16.
+const STEPS: &str = "begin t;set t 61 *65*;commit t;rotate;flush;";
+
+/// Trials of them.
+const STEP_STOPS: &str = "\
+    0||reopened 0;rows 0;|reopened 0;rows 0;\n\
+    1||reopened 0;rows 0;|reopened 0;rows 0;\n\
+    2||reopened 0;rows 0;|reopened 0;rows 0;\n\
+    3||reopened 0;rows 0;|reopened 0;rows 0;\n\
+    4||reopened 0;rows 0;|reopened 0;rows 0;\n\
+    5||reopened 0;rows 0;|reopened 0;rows 0;\n\
+    6|ok 0;ok;|reopened 0;rows 0;|reopened 0;rows 0;\n\
+    7|ok 0;ok;|reopened 0;rows 0;|reopened 1;rows 1;61 *65*;\n\
+    8|ok 0;ok;ok 1;|reopened 1;rows 1;61 *65*;|reopened 1;rows 1;61 *65*;\n\
+    9|ok 0;ok;ok 1;|reopened 1;rows 1;61 *65*;|reopened 1;rows 1;61 *65*;\n\
+    10|ok 0;ok;ok 1;|reopened 1;rows 1;61 *65*;|reopened 1;rows 1;61 *65*;\n\
+    11|ok 0;ok;ok 1;ok 1;|reopened 1;rows 1;61 *65*;|reopened 1;rows 1;61 *65*;\n\
+    12|ok 0;ok;ok 1;ok 1;|reopened 1;rows 1;61 *65*;|reopened 1;rows 1;61 *65*;\n\
+    13|ok 0;ok;ok 1;ok 1;|reopened 1;rows 1;61 *65*;|reopened 1;rows 1;61 *65*;\n\
+    14|ok 0;ok;ok 1;ok 1;|reopened 1;rows 1;61 *65*;|reopened 1;rows 1;61 *65*;\n\
+    15|ok 0;ok;ok 1;ok 1;|reopened 1;rows 1;61 *65*;|reopened 1;rows 1;61 *65*;\n\
+    16|ok 0;ok;ok 1;ok 1;ok 1;|reopened 1;rows 1;61 *65*;|reopened 1;rows 1;61 *65*;";
+
 /// Words that aren't plain, between the bars.
 const NOT_PLAIN: &str =
     "|replay|replay -h|replay |replay . .|--help|help|-h .|--help .|trial|trial 1|trial 1 3|trial 1 -\
@@ -84,7 +114,7 @@ const USAGE: &str =
 const NO_LINES: &str =
     " |begin|begin |begin  a| begin a|begin a |begin a b|begin A|begin a_b|begin 123456789abcdefgh|Begin a\
     |begi a|get a|get - -|get a 6|get a 6g|get a |get a 61 62|set a 61|set a 61 01 02|set a 61 01\r|setb a 61 01|setb a 61 01 256|setb a 61 01 07|setb a 61 01 +7|setb a 61 01 7 |getb a|getb a 61 7|del a\
-    |del a |del a 61 62|del a 6|delete a 61|scan a - -|scan a - - 0|scan a - - 65536|scan a - - 01|rscan a - - 1 1|scan a 6 - 1|drop|drop a b|drop A";
+    |del a |del a 61 62|del a 6|delete a 61|scan a - -|scan a - - 0|scan a - - 65536|scan a - - 01|rscan a - - 1 1|scan a 6 - 1|drop|drop a b|drop A|rotate |rotate a| flush|flush 1|Flush";
 
 /// The text that stands for these bytes in a table.
 fn spelled(alloc: Global, text: &str) -> Result<Vec<u8>, Fail> {
@@ -155,9 +185,9 @@ fn runs_print_what_is_listed(rt: HostRuntime) -> Result<(), Fail> {
     Ok(())
 }
 
-#[test]
-fn a_script_is_tried_under_each_stop(rt: HostRuntime) -> Result<(), Fail> {
-    for row in STOPS.split('\n') {
+/// Tries a script under the stops of a table, with each outcome.
+fn each_stop_prints_what_is_listed(rt: HostRuntime, script: &str, stops: &str) -> Result<(), Fail> {
+    for row in stops.split('\n') {
         let mut fields = row.split('|');
         let stop = fields.next().unwrap_or("");
         let answers = fields.next().unwrap_or("");
@@ -167,12 +197,22 @@ fn a_script_is_tried_under_each_stop(rt: HostRuntime) -> Result<(), Fail> {
             let words = format!(in rt.alloc(); "trial {stop} {outcome}")?;
             let wanted = format!(in rt.alloc(); "{answers}{rows}")?;
             let wanted = spelled(rt.alloc(), wanted.as_str())?;
-            let (printed, status) = ran(rt.alloc(), words.as_str(), "", "", COMMITS)?;
+            let (printed, status) = ran(rt.alloc(), words.as_str(), "", "", script)?;
             assert!(rt; printed.as_slice() == wanted.as_slice(), "{words}");
             assert!(rt; status.as_str() == "0", "{words}");
         }
     }
     Ok(())
+}
+
+#[test]
+fn commits_are_tried_under_each_stop(rt: HostRuntime) -> Result<(), Fail> {
+    each_stop_prints_what_is_listed(rt, COMMITS, STOPS)
+}
+
+#[test]
+fn a_rotation_and_a_flush_are_tried_under_each_stop(rt: HostRuntime) -> Result<(), Fail> {
+    each_stop_prints_what_is_listed(rt, STEPS, STEP_STOPS)
 }
 
 #[test]
@@ -232,7 +272,8 @@ fn one_key_more_than_a_transaction_may_write_is_refused(rt: HostRuntime) -> Resu
     Ok(())
 }
 
-/// Over a log with room for 100 bytes, of which the header takes 16 and each of these commits 35, the third finds none.
+/// Over a log with room for 100 bytes, of which the header takes 16 and each of these commits 35, the third finds none. It does
+/// behind a rotation.
 #[test]
 fn a_commit_without_room_is_refused(rt: HostRuntime) -> Result<(), Fail> {
     let alloc = rt.alloc();
@@ -247,20 +288,23 @@ fn a_commit_without_room_is_refused(rt: HostRuntime) -> Result<(), Fail> {
             return Ok(());
         };
         assert!(rt; txn.set(b"a", b"\x01").is_ok());
-        let answer = engine.commit(txn);
-        let wanted = if number < 3 {
-            matches!(answer, Ok(Done::At(given)) if given == number)
-        } else {
-            matches!(
-                answer,
-                Err(CommitFail::Full {
+        match engine.commit(txn) {
+            Ok(Done::At(given)) => {
+                assert!(rt; given == number && number < 3, "commit {number}");
+            }
+            Err(
+                CommitFail::Full {
+                    txn,
                     length: 86,
                     frame: 35,
-                    ..
-                })
-            )
-        };
-        assert!(rt; wanted, "commit {number}");
+                },
+            ) => {
+                assert!(rt; number == 3, "commit {number}");
+                assert!(rt; matches!(engine.rotate(), Ok(Some(1))));
+                assert!(rt; matches!(engine.commit(txn), Ok(Done::At(3))));
+            }
+            _ => assert!(rt; false, "commit {number}"),
+        }
     }
     Ok(())
 }
