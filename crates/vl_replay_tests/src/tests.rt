@@ -185,8 +185,8 @@ fn runs_print_what_is_listed(rt: HostRuntime) -> Result<(), Fail> {
     Ok(())
 }
 
-/// Tries a script under the stops of a table, with each outcome.
-fn each_stop_prints_what_is_listed(rt: HostRuntime, script: &str, stops: &str) -> Result<(), Fail> {
+/// The words of the first trial of a script that doesn't print what the table of its stops has, or ends with another status.
+fn first_wrong(alloc: Global, script: &str, stops: &str) -> Result<Option<String>, Fail> {
     for row in stops.split('\n') {
         let mut fields = row.split('|');
         let stop = fields.next().unwrap_or("");
@@ -194,25 +194,32 @@ fn each_stop_prints_what_is_listed(rt: HostRuntime, script: &str, stops: &str) -
         let lost = fields.next().unwrap_or("");
         let kept = fields.next().unwrap_or("");
         for (outcome, rows) in [("0", lost), ("1", kept), ("2", lost)] {
-            let words = format!(in rt.alloc(); "trial {stop} {outcome}")?;
-            let wanted = format!(in rt.alloc(); "{answers}{rows}")?;
-            let wanted = spelled(rt.alloc(), wanted.as_str())?;
-            let (printed, status) = ran(rt.alloc(), words.as_str(), "", "", script)?;
-            assert!(rt; printed.as_slice() == wanted.as_slice(), "{words}");
-            assert!(rt; status.as_str() == "0", "{words}");
+            let words = format!(in alloc; "trial {stop} {outcome}")?;
+            let wanted = format!(in alloc; "{answers}{rows}")?;
+            let wanted = spelled(alloc, wanted.as_str())?;
+            let (printed, status) = ran(alloc, words.as_str(), "", "", script)?;
+            if printed.as_slice() != wanted.as_slice() || status.as_str() != "0" {
+                return Ok(Some(words));
+            }
         }
     }
-    Ok(())
+    Ok(None)
 }
 
 #[test]
 fn commits_are_tried_under_each_stop(rt: HostRuntime) -> Result<(), Fail> {
-    each_stop_prints_what_is_listed(rt, COMMITS, STOPS)
+    let wrong = first_wrong(rt.alloc(), COMMITS, STOPS)?;
+    let words = wrong.as_ref().map_or("", |it| it.as_str());
+    assert!(rt; wrong.is_none(), "{words}");
+    Ok(())
 }
 
 #[test]
 fn a_rotation_and_a_flush_are_tried_under_each_stop(rt: HostRuntime) -> Result<(), Fail> {
-    each_stop_prints_what_is_listed(rt, STEPS, STEP_STOPS)
+    let wrong = first_wrong(rt.alloc(), STEPS, STEP_STOPS)?;
+    let words = wrong.as_ref().map_or("", |it| it.as_str());
+    assert!(rt; wrong.is_none(), "{words}");
+    Ok(())
 }
 
 #[test]
