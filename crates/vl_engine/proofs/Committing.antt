@@ -123,6 +123,8 @@ module _ {H : Type 0} (bytes : H → Option (List ℕ)) (before after : Core H) 
     roomy = is.roomy;
     halted = ap (λ n. option_map file_of n) same.log.halted ∙ is.halted;
     version = ap (λ (b : Back). b.version_number) back ∙ is.version;
+    keep = ap (λ (b : Back). b.state.keep) back ∙ is.keep;
+    since = ap (λ (b : Back). b.state.since) back ∙ is.since;
   }
 
   pub stands_same : after.version ≡ before.version → StandsFor bytes before h l → StandsFor bytes after h l

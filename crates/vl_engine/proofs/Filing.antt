@@ -47,7 +47,7 @@ none_mapped : {X : Type 0} (change : X → X) (o : Option X) → o ≡ None → 
 none_mapped change o none = ap (option_map change) none
 
 -- a change of one file keeps them
-files_changed : (name : Name) (change : File → File) (disk : DiskState) → HasSameFiles disk (with_file name change disk)
+pub files_changed : (name : Name) (change : File → File) (disk : DiskState) → HasSameFiles disk (with_file name change disk)
 files_changed name change disk q = (standing, (λ none. none, λ none. none))
   where
     after : DiskState

@@ -1,8 +1,8 @@
 -- What a flush keeps so that an engine may go on: the files that stand, and the numbers.
-use Rattle.std.specs.Prelude.{◌≡◌, ◌≢◌, ◌≤◌, ◌<◌, ℕ, ◌+◌, Bool, true, false, List, [], ◌∷◌, length, Option, None, Some, Result, Ok, Err, IsErrAnd, IsErrOf, IsSome, refl}
+use Rattle.std.specs.Prelude.{◌≡◌, ◌≢◌, ◌≤◌, ◌<◌, ℕ, ◌+◌, ◌&&◌, not, Bool, true, false, List, [], ◌∷◌, length, Option, None, Some, Result, Ok, Err, IsErrAnd, IsErrOf, IsSome, refl}
 use Rattle.std.specs.FinMap.{get}
-use Rattle.std.specs.Option.{ForSome}
-use Rattle.std.proofs.Common.{sym, ap, subst, ◌∙◌, arith}
+use Rattle.std.specs.Option.{ForSome, option_map}
+use Rattle.std.proofs.Common.{cond, sym, ap, subst, ◌∙◌, arith}
 use Rattle.vl_back.specs.FlushEdits.{flush_switch, head_of, switch_of}
 use Rattle.vl_back.specs.Writing.{IsKept, KeepsOthers, WhileWriting, written}
 use Rattle.vl_back.specs.declared.back.Back.{Back}
@@ -21,7 +21,8 @@ use Rattle.vl_disk.specs.declared.watched.Watched.{Ghosts}
 use Rattle.vl_engine.specs.Fit.{IsFitFor, IsFitForSteps}
 use Rattle.vl_engine.specs.Flushing.{StopsFlushing, WritesFlush, flush_written}
 use Rattle.vl_engine.specs.declared.kept.Core.{Core}
-use Rattle.vl_manifest.specs.States.{all_applied, applied, are_next, as_draft, finish, flush_edits, given_if, is_head, next_state, then_applied}
+use Rattle.vl_manifest.specs.Levels.{all_tables, is_in, put_at}
+use Rattle.vl_manifest.specs.States.{all_applied, applied, are_next, as_draft, finish, flush_edits, given_if, is_file_number, is_head, next_state, then_applied, with_levels}
 use Rattle.vl_manifest.specs.declared.edit.Edit.TheVariants.{Add, Head, Next}
 use Rattle.vl_manifest.specs.declared.state.ManifestState.{ManifestState}
 use Rattle.vl_manifest.specs.declared.version_builder.VersionBuilder.{VersionBuilder}
@@ -78,6 +79,63 @@ next_then active back u = by back.waiting.items
     by (w ∷ ws) some is = next_said back.state.next_table (head_of active ws) w.covered back.next_log (back.state.next_table + 1)
         u back.state is
 
+-- ---- how many versions are kept
+
+-- so many of the newest versions of a key as before, and since when it is
+pub record KeepsAsMany (before after : ManifestState) : Type 0 where
+  pub keep : after.keep ≡ before.keep
+  pub since : after.since ≡ before.since
+
+pub as_many : {before after : ManifestState} → after ≡ before → KeepsAsMany before after
+as_many same = record { keep = ap (λ (s : ManifestState). s.keep) same; since = ap (λ (s : ManifestState). s.since) same }
+
+module _ (table head covered log next : ℕ) (s u : ManifestState) where
+  unkept : (levels : List (List ℕ)) (b : Bool)
+      → finish (then_applied (all_applied []) (given_if b (record (with_levels (as_draft s) levels) {
+        head = Some (head, covered);
+        next = Some (log, next);
+      }))) ≡ Some u → KeepsAsMany s u
+  unkept levels true is = record {
+    keep = ap (λ (o : ManifestState). o.keep) (sym (same _ u is));
+    since = ap (λ (o : ManifestState). o.since) (sym (same _ u is));
+  }
+    where
+      same : (a b : ManifestState) → Some a ≡ Some b → a ≡ b
+      same a b e = cc
+  unkept levels false is = absurd cc
+
+  unkept_head : (levels : List (List ℕ)) (b : Bool)
+      → finish (then_applied (all_applied (Next log next ∷ []))
+      (given_if b (record (with_levels (as_draft s) levels) { head = Some (head, covered) }))) ≡ Some u → KeepsAsMany s u
+  unkept_head levels true is = unkept levels (are_next log next) is
+  unkept_head levels false is = absurd cc
+
+  unkept_put : (o : Option (List (List ℕ)))
+      → finish (then_applied (all_applied (Head head covered ∷ Next log next ∷ [])) (option_map (with_levels (as_draft s)) o)) ≡ Some u
+      → KeepsAsMany s u
+  unkept_put None is = absurd cc
+  unkept_put (Some levels) is = unkept_head levels (is_head head covered) is
+
+  unkept_add : (b : Bool)
+      → finish (then_applied (all_applied (Head head covered ∷ Next log next ∷ []))
+      (cond b (option_map (with_levels (as_draft s)) (put_at 0 0 table s.levels)) None)) ≡ Some u → KeepsAsMany s u
+  unkept_add true is = unkept_put (put_at 0 0 table s.levels) is
+  unkept_add false is = absurd cc
+
+  -- a flush's switch leaves it so
+  pub kept_said : next_state (flush_edits table head covered log next) s ≡ Some u → KeepsAsMany s u
+  kept_said is = unkept_add (is_file_number table && not (is_in table (all_tables s.levels))) is
+
+pub kept_flushed : (active : ℕ) (back : Back) (u after : ManifestState) → 1 ≤ length back.waiting.items
+    → next_state (flush_switch active back) back.state ≡ Some u → after ≡ u → KeepsAsMany back.state after
+kept_flushed active back u after some made is = subst (KeepsAsMany back.state) (sym is) (by back.waiting.items some made)
+  where
+    by : (ws : List Waiting) → 1 ≤ length ws → next_state (switch_of active ws back) back.state ≡ Some u
+        → KeepsAsMany back.state u
+    by [] some is = absurd (omega (arith, some))
+    by (w ∷ ws) some is = kept_said back.state.next_table (head_of active ws) w.covered back.next_log (back.state.next_table + 1)
+        back.state u is
+
 -- ---- the files
 
 table_log : (n m : ℕ) → names.Log m ≡ names.Table n → ⊥
@@ -90,7 +148,7 @@ table_other : (n m : ℕ) → n < m → names.Table m ≡ names.Table n → ⊥
 table_other n m less e = let same : m ≡ n = cc in omega (arith, less, same)
 
 -- a file that stood stands
-stands_kept : (name : Name) (disk now : DiskState) → IsKept name disk now → Stands name disk → Stands name now
+pub stands_kept : (name : Name) (disk now : DiskState) → IsKept name disk now → Stands name disk → Stands name now
 stands_kept name disk now kept stands = by (get now.standing name) refl
   where
     not_none : get disk.standing name ≡ None → ⊥

@@ -18,7 +18,6 @@ use Rattle.vl_engine.specs.laws.FlushLaws.{edits_of}
 use Rattle.vl_engine.specs.laws.FlushRulings.{flush_waits}
 use Rattle.vl_engine.specs.laws.LaidFlush.{oldest_entries}
 use Rattle.vl_engine.specs.laws.WaitingLaws.{waiting_edits}
-use Rattle.vl_layout.specs.Logs.{memtable}
 use Rattle.vl_layout.specs.Sources.{oldest}
 use Rattle.vl_layout.specs.declared.layout.Layout.{Layout}
 use Rattle.vl_layout.specs.declared.segment.Segment.{Segment}

@@ -1,8 +1,8 @@
 -- What a flush leaves in memory and on the disk, where its table is made and where that fails.
-use Rattle.std.specs.Prelude.{◌≡◌, ◌^◌, ℕ, ◌+◌, ◌-◌, ◌∷◌, List, [], length, map, min, Option, None, Some, refl}
+use Rattle.std.specs.Prelude.{◌≡◌, ◌≤◌, ◌^◌, ℕ, ◌+◌, ◌-◌, ◌⊎◌, ◌∷◌, List, [], length, map, min, Option, None, Some, Ok, refl}
 use Rattle.std.specs.List.{AllByRecursion}
 use Rattle.std.specs.Option.{option_map}
-use Rattle.std.proofs.Common.{sym, ap, subst, ◌∙◌, arith, ⊎_elim}
+use Rattle.std.proofs.Common.{sym, ap, subst, ◌∙◌, arith, inl, inr, ⊎_elim}
 use Rattle.vl_back.specs.FlushEdits.{flush_switch}
 use Rattle.vl_back.specs.Tables as staged
 use Rattle.vl_back.specs.Writing.{WhileWriting, written}
@@ -10,8 +10,10 @@ use Rattle.vl_back.specs.declared.back.Back.{Back}
 use Rattle.vl_back.specs.declared.staging.StagedFlush.{StagedFlush}
 use Rattle.vl_block.specs.Bytes.{IsTable}
 use Rattle.vl_disk.specs.Disk.{IsChangedBy}
+use Rattle.vl_disk.specs.Crash.{Image}
 use Rattle.vl_disk.specs.DiskState.{DiskState}
 use Rattle.vl_disk.specs.Faults.{after_calls}
+use Rattle.vl_disk.specs.MadeFile.{WhileMaking}
 use Rattle.vl_disk.specs.Moments.{While, goes_by}
 use Rattle.vl_disk.specs.Name.{IsNumbered}
 use Rattle.vl_disk.specs.declared.name.Name.TheVariants as names
@@ -19,6 +21,8 @@ use Rattle.vl_disk.specs.declared.name.Name.{Name}
 use Rattle.vl_disk.specs.declared.watched.Watched.{Ghosts}
 use Rattle.vl_engine.proofs.Carrying.{IsWatched, looked}
 use Rattle.vl_engine.proofs.Committing.{decides_answered, decides_failed}
+use Rattle.vl_engine.proofs.FlushKeeps.{KeepsAsMany}
+use Rattle.vl_engine.proofs.Leaving.{base_numbers, first_drawn, making_elsewhere, manifest_held}
 use Rattle.vl_engine.proofs.Represented.{represents_halted}
 use Rattle.vl_engine.proofs.Standing.{stands_halted}
 use Rattle.vl_engine.specs.Carries.{Carries, CrashesShow}
@@ -28,16 +32,17 @@ use Rattle.vl_engine.specs.Held.{Base}
 use Rattle.vl_engine.specs.Pointed.{layout_logs}
 use Rattle.vl_engine.specs.Represents.{Fronts, IsBack, IsFront, IsHeld, Represents, StandsFor, file_of}
 use Rattle.vl_engine.specs.Shown.{LeavesBetween}
-use Rattle.vl_engine.specs.Stepping.{AreLogFiles, HasNumbers}
+use Rattle.vl_engine.specs.Stepping.{AreLogFiles, HasNumbers, LeavesNumbers}
 use Rattle.vl_engine.specs.declared.kept.Core.{Core}
-use Rattle.vl_engine.specs.laws.FlushLaws.{CanFlush, WhileFlushing, base_then, bytes_of, edits_of, final, flush_holds, flush_leaves, later, memtables, state_is}
+use Rattle.vl_engine.specs.laws.FlushBase.{before_then}
+use Rattle.vl_engine.specs.laws.FlushLaws.{CanFlush, WhileFlushing, base_beside, base_mid, base_then, bytes_of, edits_of, files_mid, files_then, final, flush_holds, flush_leaves, later, memtables, mid, state_is, tidy_then}
 use Rattle.vl_engine.specs.laws.FlushRulings.{flush_made}
 use Rattle.vl_engine.specs.laws.FlushTidy.{flush_tidy, stays}
 use Rattle.vl_engine.specs.laws.HeldLaws.{held_opens_again}
 use Rattle.vl_engine.specs.laws.LaidFlush.{laid_flushed, made_table, oldest_entries}
 use Rattle.vl_engine.specs.laws.OpensAgain.{flush_opens_again}
 use Rattle.vl_engine.specs.laws.ShownLaws.{between_itself}
-use Rattle.vl_engine.specs.laws.SwitchLaws.{switch_frame}
+use Rattle.vl_engine.specs.laws.SwitchLaws.{switch_frame, switching_says}
 use Rattle.vl_engine.specs.laws.WaitingLaws.{waiting_dropped, waiting_edits}
 use Rattle.vl_frame.specs.Runs.{HasFrame, item_frame}
 use Rattle.vl_front.specs.declared.front.Front.{Front}
@@ -52,8 +57,11 @@ use Rattle.vl_layout.specs.TidyLevels.{AreLevels}
 use Rattle.vl_layout.specs.declared.layout.Layout.{Layout}
 use Rattle.vl_layout.specs.declared.segment.Segment.{Segment}
 use Rattle.vl_layout.specs.declared.table.Table as laid
+use Rattle.vl_manifest.specs.Current.{IsCurrent}
 use Rattle.vl_manifest.specs.Grammar.{edits_grammar}
+use Rattle.vl_manifest.specs.Manifest.{SaysState}
 use Rattle.vl_manifest.specs.States.{next_state}
+use Rattle.vl_manifest.specs.Switching.{WhileSwitching}
 use Rattle.vl_manifest.specs.declared.edit.Edit.{Edit}
 use Rattle.vl_manifest.specs.declared.manifest_log.ManifestLog.{ManifestLog}
 use Rattle.vl_manifest.specs.declared.state.ManifestState.{ManifestState}
@@ -62,8 +70,14 @@ use Rattle.vl_model.specs.Formats.{manifest_format, table_format}
 use Rattle.vl_model.specs.History.{History}
 use Rattle.vl_model.specs.Placement.{placed}
 use Rattle.vl_model.specs.declared.entry.Entry.{Entry}
+use Rattle.vl_recover.specs.crash.Alike.{IsLeft}
+use Rattle.vl_recover.specs.crash.Held.{HoldsManifest}
 use Rattle.vl_recover.specs.crash.Starts.{MayOpen}
+use Rattle.vl_recover.specs.laws.opening.HeldLaws.{held_state}
+use Rattle.vl_recover.specs.laws.opening.OpeningLaws.{IsOpened, one_heading, opened, single_says}
+use Rattle.vl_recover.specs.laws.repairing.StageLaws.{ok_same}
 use Rattle.vl_recover.specs.opening.HeldFiles.{AreWaiting}
+use Rattle.vl_recover.specs.opening.Opening.{Heading, Led, Opening, Opens, Refusal, Says}
 use Rattle.vl_table.specs.declared.table.Table.{Table}
 
 -- ---- numbers
@@ -99,8 +113,9 @@ oldest_file (x ∷ y ∷ ss) s all is = oldest_file (y ∷ ss) s all.1 is
 module _ {H : Type 0} (before after : Core H) (h : History) (l : Layout) where
   -- behind a flush,
   pub fronts_flushed : (s : Segment) → after.front ≡ before.front
-      → after.back.version_number ≡ before.back.version_number + 1 → Fronts before h l → Fronts after h (flushed l s)
-  fronts_flushed s front version is = record {
+      → after.back.version_number ≡ before.back.version_number + 1 → KeepsAsMany before.back.state after.back.state
+      → Fronts before h l → Fronts after h (flushed l s)
+  fronts_flushed s front version same is = record {
     front = subst (λ (f : Front). IsFront f.oracle f.recent.named h (flushed l s)) (sym front) (record {
       last = is.front.last;
       live_are = is.front.live_are;
@@ -115,12 +130,15 @@ module _ {H : Type 0} (before after : Core H) (h : History) (l : Layout) where
     roomy = is.roomy;
     halted = ap (λ (f : Front). option_map file_of f.halted) front ∙ is.halted;
     version = version ∙ ap (λ (n : ℕ). n + 1) is.version;
+    keep = same.keep ∙ is.keep;
+    since = same.since ∙ is.since;
   }
 
   -- and where it failed
   pub fronts_unflushed : (name : Name) → after.front ≡ record before.front { halted = Some name }
-      → after.back.version_number ≡ before.back.version_number → Fronts before h l → Fronts after h (halted_at (file_of name) l)
-  fronts_unflushed name front version is = record {
+      → after.back.version_number ≡ before.back.version_number → KeepsAsMany before.back.state after.back.state
+      → Fronts before h l → Fronts after h (halted_at (file_of name) l)
+  fronts_unflushed name front version same is = record {
     front = subst (λ (f : Front). IsFront f.oracle f.recent.named h (halted_at (file_of name) l)) (sym front) (record {
       last = is.front.last;
       live_are = is.front.live_are;
@@ -135,6 +153,8 @@ module _ {H : Type 0} (before after : Core H) (h : History) (l : Layout) where
     roomy = is.roomy;
     halted = ap (λ (f : Front). option_map file_of f.halted) front;
     version = version ∙ is.version;
+    keep = same.keep ∙ is.keep;
+    since = same.since ∙ is.since;
   }
 
 module _ {H : Type 0} (bytes : H → Option (List ℕ)) (before after : Core H) (h : History) (l : Layout)
@@ -173,7 +193,7 @@ module _ {H : Type 0} (bytes : H → Option (List ℕ)) (before after : Core H) 
 
 -- ---- on the disk
 
-same_log : (a b : ManifestLog) → a.number ≡ b.number → a.length ≡ b.length → a ≡ b
+pub same_log : (a b : ManifestLog) → a.number ≡ b.number → a.length ≡ b.length → a ≡ b
 same_log a b number long = ap (λ (n : ℕ). record a { number = n }) number ∙ ap (λ (n : ℕ). record b { length = n }) long
 
 module _ {D H : Type 0} (g : Ghosts D) (watched : IsWatched g) (bytes : H → Option (List ℕ)) (before after : Core H)
@@ -335,3 +355,70 @@ module _ {D H : Type 0} (g : Ghosts D) (watched : IsWatched g) (bytes : H → Op
   -- The logs of what is held can be spelled.
   pub files_held : AreLogFiles l
   files_held = memtables b l h s held.state held.is_base tidy held.holds can
+
+  -- ---- what numbers a crash leaves
+
+  holds_manifest : HoldsManifest b.state held.state
+  holds_manifest = manifest_held b l h held.is_base held.state held.holds.base
+
+  -- what is left is current, and says the one state or the other
+  says_either : (now : DiskState) → WhileFlushing b l h s held.state held.is_base tidy held.holds can now → (image : Image) (o : Opening)
+      → IsLeft now image → Opens image (Ok o) → (o.state ≡ b.state) ⊎ (o.state ≡ flush.state)
+  says_either now during image o left opens = ⊎_elim
+      (λ (table : WhileMaking (names.Table l.next_table) (bytes_of l s) held.state now).
+      inl (held_state b.state now
+      (manifest_held b l h held.is_base now (base_beside b l h s held.state held.is_base tidy held.holds can now
+      (making_elsewhere (names.Table l.next_table) (bytes_of l s) held.state now table)))
+      image o left.left opens))
+      (λ (switching : WhileSwitching b.manifest.number (switch_frame b (edits_of l s)) (mid b l h s held.state held.is_base tidy held.holds can) now).
+      by (opened image o opens)
+      (switching_says b (edits_of l s) flush.state (before_then b.before) held.is_base.numbered can.frame
+      (mid b l h s held.state held.is_base tidy held.holds can)
+      (base_mid b l h s held.state held.is_base tidy held.holds can) h l (flushed l s) held.is_base tidy
+      (files_mid b l h s held.state held.is_base tidy held.holds can)
+      (base_then b l h s held.state held.is_base tidy held.holds can)
+      (tidy_then b l h s held.state held.is_base tidy held.holds can)
+      (files_then b l h s held.state held.is_base tidy held.holds can) now switching image left))
+      during
+    where
+      by : IsOpened image o
+          → (bytes : List ℕ) × IsCurrent image b.manifest.number bytes
+          × (SaysState b.manifest.number bytes b.state ⊎ SaysState b.manifest.number bytes flush.state)
+          → (o.state ≡ b.state) ⊎ (o.state ≡ flush.state)
+      by is (bytes, current, either) =
+          let heading = one_heading image is.heading (Led b.manifest.number bytes) is.headed current in
+          let says = subst (λ (h : Heading). Says h (Ok o.state)) heading is.says in
+          ⊎_elim
+          (λ (first : SaysState b.manifest.number bytes b.state).
+          inl (ok_same {E = Refusal} o.state b.state
+          (single_says (Led b.manifest.number bytes) (Ok o.state) (Ok b.state) says (Ok b.state, first, refl))))
+          (λ (then : SaysState b.manifest.number bytes flush.state).
+          inr (ok_same {E = Refusal} o.state flush.state
+          (single_says (Led b.manifest.number bytes) (Ok o.state) (Ok flush.state) says (Ok flush.state, then, refl))))
+          either
+
+  -- neither of which gives a number above the next ones
+  pub leaves_numbers : before.back.state.next_log ≤ before.back.next_log → (now : DiskState) → g.told new ≡ Some now
+      → LeavesNumbers l.next_log (l.next_table + 1) now
+  leaves_numbers within now told image o left opens = ⊎_elim
+      (λ (first : o.state ≡ b.state).
+      base_numbers before.back b l h held.is_base tidy held.state held.holds held.back_is within o first)
+      (λ (then : o.state ≡ flush.state).
+      let is = then ∙ state_is b l h s held.state held.is_base tidy held.holds can in
+      let log = ap (λ (x : ManifestState). x.next_log) is in
+      let table = ap (λ (x : ManifestState). x.next_table) is in
+      let head = ap (λ (x : ManifestState). x.head) is in
+      let first = first_drawn (flushed l s).active (flushed l s).frozen (flushed l s).next_log
+      (tidy_then b l h s held.state held.is_base tidy held.holds can).files.stocked.logs_drawn in
+      (omega (arith, log), omega (arith, table), omega (arith, head, first)))
+      which
+    where
+      which : (o.state ≡ b.state) ⊎ (o.state ≡ flush.state)
+      which = ⊎_elim
+          (λ (early : g.states_since writes.mid (g.moment writes.mid) now).
+          inl (held_state b.state now
+          (subst (HoldsManifest b.state) (sym (watched.only_now writes.mid held.state now told_mid early)) holds_manifest) image o left.left opens))
+          (λ (during : While (g.told writes.mid) (WhileFlushed before flush) now).
+          says_either now (as_laid_out now (during held.state told_mid)) image o left opens)
+          (writes.time.nothing_else (g.moment writes.mid) now (omega arith)
+          (watched.counts_now new now (g.moment writes.mid) told writes.time.later))

@@ -5,6 +5,7 @@ use Rattle.std.proofs.Common.{sym, ap, subst, ◌∙◌}
 use Rattle.vl_back.specs.Deciding.{MayFlush, flush_decision}
 use Rattle.vl_back.specs.declared.decision.Decision.TheVariants as decisions
 use Rattle.vl_back.specs.declared.decision.Decision.{Decision}
+use Rattle.vl_back.specs.declared.staging.StagedFlush.{StagedFlush}
 use Rattle.vl_disk.specs.Calls.{ChangesNothing}
 use Rattle.vl_disk.specs.Disk.{IsChangedBy}
 use Rattle.vl_disk.specs.DiskState.{DiskState}
@@ -13,11 +14,12 @@ use Rattle.vl_disk.specs.declared.name.Name.{Name}
 use Rattle.vl_disk.specs.declared.watched.Watched.{Ghosts}
 use Rattle.vl_engine.proofs.Carrying.{IsWatched, carries_leaving, carries_no_memory, extends_itself}
 use Rattle.vl_engine.proofs.Committing.{decides_answered, decides_failed, decides_short}
+use Rattle.vl_engine.proofs.FlushKeeps.{KeepsAsMany, as_many, kept_flushed}
 use Rattle.vl_engine.proofs.FlushSteps.{carries_flushed, carries_unflushed, files_held, fronts_flushed, fronts_unflushed, numbers_held, stands_flushed, stands_unflushed}
 use Rattle.vl_engine.specs.Carries.{Carries}
-use Rattle.vl_engine.specs.Flushing.{FlushesAs, IsFlushWritten, StopsFlushing, flush_effects, flush_written}
+use Rattle.vl_engine.specs.Flushing.{FlushesAs, IsFlushWritten, IsStagedOf, IsTableMade, StopsFlushing, WritesFlush, flush_effects, flush_written}
 use Rattle.vl_engine.specs.Represents.{Fronts, Represents, StandsFor, file_of}
-use Rattle.vl_engine.specs.Stepping.{AreLogFiles, HasNumbers, StepLeavesDisk, step_outcome}
+use Rattle.vl_engine.specs.Stepping.{AreLogFiles, HasNumbers, StepFailed, StepLeavesDisk, step_outcome}
 use Rattle.vl_engine.specs.declared.fails.StepFail.TheVariants as fails
 use Rattle.vl_engine.specs.declared.fails.StepFail.{StepFail}
 use Rattle.vl_engine.specs.declared.kept.Core.{Core}
@@ -82,6 +84,16 @@ module _ {D H : Type 0} (g : Ghosts D) (bytes : H → Option (List ℕ)) (before
   untouched_by (Err fails.NoMemory) did leaves = did.1
   untouched_by (Err (fails.Disk name)) did leaves = absurd leaves
 
+  -- where it failed the table was made and named in part
+  pub writes_by : (result : Result (Option ℕ) StepFail) → FlushesAs g bytes old new before after result → StepFailed result
+      → (staged : StagedFlush) × IsStagedOf before staged × WritesFlush g before staged old new
+  writes_by (Ok (Some number)) did failed = absurd failed
+  writes_by (Ok None) did failed = absurd failed
+  writes_by (Err (fails.Halted name)) did failed = absurd failed
+  writes_by (Err (fails.Exhausted counter)) did failed = absurd failed
+  writes_by (Err fails.NoMemory) did failed = absurd failed
+  writes_by (Err (fails.Disk name)) did failed = (did.staged, did.of, did.writes)
+
   pub stopped_by : (result : Result (Option ℕ) StepFail) → FlushesAs g bytes old new before after result
       → (name : Name) → result ≡ Err (fails.Disk name)
       → StopsFlushing before.back.state.next_table before.back.manifest.number (g.calls old) (g.calls new) name
@@ -119,6 +131,11 @@ module _ {D H : Type 0} (g : Ghosts D) (bytes : H → Option (List ℕ)) (before
 
   module _ (h : History) (l : Layout) (none : before.front.halted ≡ None) (may : MayFlush before.back)
       (decided : flush_decision before.back ≡ decisions.Go) where
+    -- so many versions are kept as before
+    kept_by : IsTableMade g bytes old new before after → KeepsAsMany before.back.state after.back.state
+    kept_by made = kept_flushed before.front.log.number before.back made.staged.state after.back.state may.waits
+        made.of.is.says made.back.state
+
     -- the log that is flushed, and the ruling on that
     pub record IsRuledOn : Type 0 where
       pub log : Segment
@@ -143,7 +160,7 @@ module _ {D H : Type 0} (g : Ghosts D) (bytes : H → Option (List ℕ)) (before
         (record no_effects { calls = 5 })) on.ruled
         (decides_answered (Fronts after) h l (flush_made l h on.log) (as_before l l) (Stepped number) (record no_effects { calls = 5 })
         (ap Stepped (did.0 ∙ has.next_table)) refl
-        (fronts_flushed before after h l on.log did.1.front did.1.back.version is))
+        (fronts_flushed before after h l on.log did.1.front did.1.back.version (kept_by did.1) is))
     fronts_by is has (Ok None) did = absurd did
     fronts_by is has (Err (fails.Halted name)) did = absurd did
     fronts_by is has (Err (fails.Exhausted counter)) did = absurd did
@@ -151,7 +168,7 @@ module _ {D H : Type 0} (g : Ghosts D) (bytes : H → Option (List ℕ)) (before
         decides_short (Fronts after) h l (flush_ruling l h) l (subst (λ (c : Core H). Fronts c h l) (sym did.0) is)
     fronts_by is has (Err (fails.Disk name)) did =
         decides_failed (Fronts after) h l (flush_ruling l h) l (file_of name) no_effects (runs_on before h l is none)
-        (fronts_unflushed before after h l name did.front did.version_number is)
+        (fronts_unflushed before after h l name did.front did.version_number (as_many did.state) is)
 
     pub stands_by : (state : DiskState) → g.told old ≡ Some state → StandsFor bytes before h l → HasNumbers before.back l
         → AreLogFiles l → (result : Result (Option ℕ) StepFail) → FlushesAs g bytes old new before after result
@@ -164,7 +181,7 @@ module _ {D H : Type 0} (g : Ghosts D) (bytes : H → Option (List ℕ)) (before
         (record no_effects { calls = 5 }) (ap Stepped (did.0 ∙ has.next_table)) refl
         (stands_flushed bytes before after h l is on.log on.first did.1.staged did.1.of has.next_table files
         (g.told did.1.writes.mid) state (did.1.writes.before.told ∙ told) did.1.table did.1.held did.1.version
-        (fronts_flushed before after h l on.log did.1.front did.1.back.version is.fronts)))
+        (fronts_flushed before after h l on.log did.1.front did.1.back.version (kept_by did.1) is.fronts)))
     stands_by state told is has files (Ok None) did = absurd did
     stands_by state told is has files (Err (fails.Halted name)) did = absurd did
     stands_by state told is has files (Err (fails.Exhausted counter)) did = absurd did
@@ -174,7 +191,7 @@ module _ {D H : Type 0} (g : Ghosts D) (bytes : H → Option (List ℕ)) (before
     stands_by state told is has files (Err (fails.Disk name)) did =
         decides_failed (StandsFor bytes after) h l (flush_ruling l h) l (file_of name) no_effects (runs_on before h l is.fronts none)
         (stands_unflushed bytes before after h l is name did.version
-        (fronts_unflushed before after h l name did.front did.version_number is.fronts))
+        (fronts_unflushed before after h l name did.front did.version_number (as_many did.state) is.fronts))
 
     pub carries_by : IsWatched g → Represents bytes before (g.told old) h l → (result : Result (Option ℕ) StepFail)
         → FlushesAs g bytes old new before after result
@@ -194,7 +211,7 @@ module _ {D H : Type 0} (g : Ghosts D) (bytes : H → Option (List ℕ)) (before
         (stands_flushed bytes before after h l is.stands on.log on.first made.staged made.of has.next_table
         (files_held g watched bytes before after h l old new is running on.log on.first made.staged made.of made.writes)
         (g.told made.writes.mid) held.state (made.writes.before.told ∙ held.told_is) made.table made.held made.version
-        (fronts_flushed before after h l on.log made.front made.back.version is.stands.fronts))))
+        (fronts_flushed before after h l on.log made.front made.back.version (kept_by did.1) is.stands.fronts))))
     carries_by watched is (Ok None) did = absurd did
     carries_by watched is (Err (fails.Halted name)) did = absurd did
     carries_by watched is (Err (fails.Exhausted counter)) did = absurd did
@@ -213,4 +230,4 @@ module _ {D H : Type 0} (g : Ghosts D) (bytes : H → Option (List ℕ)) (before
         on.ruled
         (carries_unflushed g watched bytes before after h l old new is running on.log on.first did.staged did.of did.writes name
         no_effects (stands_unflushed bytes before after h l is.stands name did.version
-        (fronts_unflushed before after h l name did.front did.version_number is.stands.fronts)))
+        (fronts_unflushed before after h l name did.front did.version_number (as_many did.state) is.stands.fronts)))

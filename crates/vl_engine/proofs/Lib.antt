@@ -13,7 +13,10 @@ pub mod FlushSteps
 pub mod Flushed
 pub mod Halted
 pub mod Headed
+pub mod KeepSteps
+pub mod KeptBy
 pub mod Knowing
+pub mod Leaving
 pub mod Merged
 pub mod Opened
 pub mod Represented

@@ -235,6 +235,8 @@ module _ {D H : Type 0} (parts : Parts D H) (room : ℕ) (core : Core H) (made :
         roomy = roomy;
         halted = ap (option_map file_of) made.halted;
         version = made.version_number;
+        keep = ap (λ (s : ManifestState). s.keep) (made.state ∙ parts_state);
+        since = ap (λ (s : ManifestState). s.since) (made.state ∙ parts_state);
       }
 
       -- It stands for the history that the opened image shows, and for the layout at its start;

@@ -1,9 +1,9 @@
 -- What a rotation comes to, at each of its exits, by the ruling on it.
-use Rattle.std.specs.Prelude.{◌≡◌, ◌≤◌, ◌<◌, ℕ, ◌+◌, List, [], Option, None, Some, refl}
+use Rattle.std.specs.Prelude.{◌≡◌, ◌≤◌, ◌<◌, ℕ, ◌+◌, List, [], Option, None, Some, Ok, refl}
 use Rattle.std.specs.Option.{option_map, unwrap_or}
 use Rattle.std.proofs.Common.{sym, ap, subst, ◌∙◌, arith, ⊎_elim}
 use Rattle.vl_disk.specs.Calls.{ChangesNothing}
-use Rattle.vl_disk.specs.Crash.{Unchanged}
+use Rattle.vl_disk.specs.Crash.{Image, Unchanged}
 use Rattle.vl_disk.specs.Disk.{IsChangedBy}
 use Rattle.vl_disk.specs.DiskState.{DiskState, File, file_at, new_file}
 use Rattle.vl_disk.specs.Faults.{after_calls}
@@ -15,6 +15,7 @@ use Rattle.vl_disk.specs.declared.name.Name.{Name}
 use Rattle.vl_disk.specs.declared.watched.Watched.{Ghosts}
 use Rattle.vl_engine.proofs.Carrying.{IsWatched, looked}
 use Rattle.vl_engine.proofs.Committing.{decides_answered, decides_failed, decides_short}
+use Rattle.vl_engine.proofs.Leaving.{base_numbers, making_elsewhere, manifest_held}
 use Rattle.vl_engine.proofs.Represented.{represents_halted}
 use Rattle.vl_engine.proofs.Standing.{fronts_halted, stands_halted}
 use Rattle.vl_engine.specs.Carries.{Carries, CrashesShow}
@@ -24,6 +25,7 @@ use Rattle.vl_engine.specs.Pointed.{bytes_of_log, layout_logs}
 use Rattle.vl_engine.specs.Represents.{Fronts, IsFront, IsHeld, Represents, StandsFor, file_of}
 use Rattle.vl_engine.specs.Rotating.{BeginsLog, HasActive, IsNextBack, IsNextVersion, IsSameBack, IsSameCore, next_header, next_name}
 use Rattle.vl_engine.specs.Shown.{LeavesBetween}
+use Rattle.vl_engine.specs.Stepping.{LeavesNumbers}
 use Rattle.vl_engine.specs.declared.kept.Core.{Core}
 use Rattle.vl_engine.specs.laws.HeldLaws.{held_opens_again, held_shown}
 use Rattle.vl_engine.specs.laws.LaidRotate.{laid_rotated, rotated_tidy}
@@ -40,12 +42,17 @@ use Rattle.vl_layout.specs.Tidy.{IsRuledTidy, IsTidy, IsTrueLog}
 use Rattle.vl_layout.specs.declared.layout.Layout.{Layout}
 use Rattle.vl_layout_laws.specs.laws.TidyRulings.{rotate_tidy}
 use Rattle.vl_manifest.specs.declared.waiting.Waiting.{Waiting}
+use Rattle.vl_manifest.specs.declared.state.ManifestState.{ManifestState}
 use Rattle.vl_model.specs.Formats.{log_format}
 use Rattle.vl_model.specs.History.{History}
 use Rattle.vl_model.specs.Limits.{max_file_number, max_version_number}
 use Rattle.vl_model.specs.declared.counter.Counter.TheVariants as counter
+use Rattle.vl_recover.specs.crash.Alike.{IsLeft}
+use Rattle.vl_recover.specs.crash.Held.{HoldsManifest}
 use Rattle.vl_recover.specs.crash.Starts.{MayOpen}
-use Rattle.vl_recover.specs.laws.crash.AppendLaws.{last_held}
+use Rattle.vl_recover.specs.laws.crash.AppendLaws.{last_held, manifest_kept}
+use Rattle.vl_recover.specs.laws.opening.HeldLaws.{held_state}
+use Rattle.vl_recover.specs.opening.Opening.{Opening, Opens}
 use Rattle.vl_recover.specs.opening.HeldFiles.{AreWaiting}
 use Rattle.vl_seglog.specs.Frames.{log_header}
 use Rattle.vl_version.specs.declared.version.Version.{Version}
@@ -83,6 +90,8 @@ module _ {H : Type 0} (before after : Core H) (h : History) (l : Layout) where
     roomy = is.roomy;
     halted = ap (λ (f : Front). option_map file_of f.halted) front ∙ is.halted;
     version = back.version_number ∙ ap (λ (n : ℕ). n + 1) is.version;
+    keep = ap (λ (s : ManifestState). s.keep) back.state ∙ is.keep;
+    since = ap (λ (s : ManifestState). s.since) back.state ∙ is.since;
   }
 
   -- where it failed,
@@ -101,6 +110,8 @@ module _ {H : Type 0} (before after : Core H) (h : History) (l : Layout) where
         roomy = so.roomy;
         halted = so.halted;
         version = back.version_number ∙ is.version;
+        keep = ap (λ (s : ManifestState). s.keep) back.state ∙ is.keep;
+        since = ap (λ (s : ManifestState). s.since) back.state ∙ is.since;
       }
 
   -- and where memory alone changed
@@ -114,6 +125,8 @@ module _ {H : Type 0} (before after : Core H) (h : History) (l : Layout) where
     roomy = is.roomy;
     halted = ap (λ (f : Front). option_map file_of f.halted) same.front ∙ is.halted;
     version = same.back.version_number ∙ is.version;
+    keep = ap (λ (s : ManifestState). s.keep) same.back.state ∙ is.keep;
+    since = ap (λ (s : ManifestState). s.since) same.back.state ∙ is.since;
   }
 
 module _ {H : Type 0} (bytes : H → Option (List ℕ)) (before after : Core H) (h : History) (l : Layout)
@@ -290,6 +303,33 @@ module _ {D H : Type 0} (g : Ghosts D) (watched : IsWatched g) (bytes : H → Op
           };
           holds = rotate_holds held.base l h held.is_base tidy held.state held.holds numbered;
         }
+
+    -- The manifest is as it was, whatever a crash leaves.
+    state_left : (now : DiskState) → WhileMaking (next_name before) (next_header before) held.state now → (image : Image) (o : Opening)
+        → IsLeft now image → Opens image (Ok o) → o.state ≡ held.base.state
+    state_left now during image o left opens =
+        held_state held.base.state now
+        (manifest_kept l.next_log held.base.state held.state now
+        (making_elsewhere (names.Log l.next_log) (log_header log_format l.next_log) held.state now (as_laid_out now during))
+        (manifest_held held.base l h held.is_base held.state held.holds.base))
+        image o left.left opens
+
+    -- So it gives no number above the next ones.
+    pub leaves_numbers : before.back.state.next_log ≤ before.back.next_log → (now : DiskState) → g.told new ≡ Some now
+        → LeavesNumbers l.next_log (l.next_table + 1) now
+    leaves_numbers within now told image o left opens =
+        base_numbers before.back held.base l h held.is_base tidy held.state held.holds held.back_is within o state
+      where
+        state : o.state ≡ held.base.state
+        state = ⊎_elim
+            (λ (early : g.states_since begins.mid (g.moment begins.mid) now).
+            held_state held.base.state now
+            (subst (HoldsManifest held.base.state) (sym (watched.only_now begins.mid held.state now told_mid early))
+            (manifest_held held.base l h held.is_base held.state held.holds.base)) image o left.left opens)
+            (λ (during : While (g.told begins.mid) (WhileMaking (next_name before) (next_header before)) now).
+            state_left now (during held.state told_mid) image o left opens)
+            (begins.time.nothing_else (g.moment begins.mid) now (omega arith)
+            (watched.counts_now new now (g.moment begins.mid) told begins.time.later))
 
 -- ---- the exits without a disk
 

@@ -12,7 +12,7 @@ use Rattle.vl_engine.proofs.Committing.{decides_answered, decides_failed, decide
 use Rattle.vl_engine.proofs.RotateSteps.{CanRotate, active_held, can_rotate, carries_rotated, carries_short, carries_unrotated, fronts_rotated, fronts_same, fronts_unrotated, ruled_halted, ruled_idle, ruled_log, ruled_made, ruled_version, running_so, stands_rotated, stands_same, stands_unrotated}
 use Rattle.vl_engine.specs.Carries.{Carries}
 use Rattle.vl_engine.specs.Represents.{Fronts, IsHeld, Represents, StandsFor, file_of}
-use Rattle.vl_engine.specs.Rotating.{HasActive, IsRefusedSo, MayBegin, RotatesAs, StopsRotating, rotate_calls, rotate_effects}
+use Rattle.vl_engine.specs.Rotating.{BeginsLog, HasActive, IsRefusedSo, MayBegin, RotatesAs, StopsRotating, rotate_calls, rotate_effects}
 use Rattle.vl_engine.specs.Stepping.{HasNumbers, StepFailed, StepLeavesDisk, step_outcome}
 use Rattle.vl_engine.specs.declared.fails.StepFail.TheVariants as fails
 use Rattle.vl_engine.specs.declared.fails.StepFail.{StepFail}
@@ -140,6 +140,16 @@ module _ {D H : Type 0} (g : Ghosts D) (bytes : H → Option (List ℕ)) (before
   calls_by (Ok (Some number)) did = did.1.calls ∙ ap (after_calls 3) did.1.begins.calls
   calls_by (Ok None) did = absurd did
   calls_by (Err why) did = tt
+
+  -- where it failed the new log was made in part
+  pub begins_by : (result : Result (Option ℕ) StepFail) → RotatesAs g bytes old new before after result → StepFailed result
+      → BeginsLog g before old new
+  begins_by (Ok (Some number)) did failed = absurd failed
+  begins_by (Ok None) did failed = absurd failed
+  begins_by (Err (fails.Halted name)) did failed = absurd failed
+  begins_by (Err (fails.Exhausted counter)) did failed = absurd failed
+  begins_by (Err fails.NoMemory) did failed = absurd failed
+  begins_by (Err (fails.Disk name)) did failed = did.begins
 
   pub stopped_by : (result : Result (Option ℕ) StepFail) → RotatesAs g bytes old new before after result
       → (name : Name) → result ≡ Err (fails.Disk name)

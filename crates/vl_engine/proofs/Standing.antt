@@ -62,6 +62,8 @@ module _ {H : Type 0} (core : Core H) (h : History) (l : Layout) (is : Fronts co
           roomy = is.roomy;
           halted = ap (option_map file_of) same.halted ∙ is.halted;
           version = ap (λ (b : Back). b.version_number) back ∙ is.version;
+          keep = ap (λ (b : Back). b.state.keep) back ∙ is.keep;
+          since = ap (λ (b : Back). b.state.since) back ∙ is.since;
         }
 
     -- and an end
@@ -78,6 +80,8 @@ module _ {H : Type 0} (core : Core H) (h : History) (l : Layout) (is : Fronts co
       roomy = is.roomy;
       halted = ap (option_map file_of) same.halted ∙ is.halted;
       version = ap (λ (b : Back). b.version_number) back ∙ is.version;
+      keep = ap (λ (b : Back). b.state.keep) back ∙ is.keep;
+      since = ap (λ (b : Back). b.state.since) back ∙ is.since;
     }
 
   -- behind a commit, whose frame the log got,
@@ -99,6 +103,8 @@ module _ {H : Type 0} (core : Core H) (h : History) (l : Layout) (is : Fronts co
     roomy = is.roomy;
     halted = ap (option_map file_of) halted ∙ is.halted;
     version = ap (λ (b : Back). b.version_number) back ∙ is.version;
+    keep = ap (λ (b : Back). b.state.keep) back ∙ is.keep;
+    since = ap (λ (b : Back). b.state.since) back ∙ is.since;
   }
 
 -- and behind a halt
@@ -122,6 +128,8 @@ fronts_halted core after h l name is live named log room halted back = record {
   roomy = is.roomy;
   halted = ap (option_map file_of) halted;
   version = ap (λ (b : Back). b.version_number) back ∙ is.version;
+  keep = ap (λ (b : Back). b.state.keep) back ∙ is.keep;
+  since = ap (λ (b : Back). b.state.since) back ∙ is.since;
 }
 
 -- ---- and what is read

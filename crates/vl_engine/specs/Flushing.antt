@@ -126,6 +126,7 @@ pub record IsTableUnmade {D H : Type 0} (g : Ghosts D) (old new : D) (before aft
   pub stops : StopsFlushing before.back.state.next_table before.back.manifest.number (g.calls old) (g.calls new) name
   pub front : after.front ≡ record before.front { halted = Some name }
   pub version_number : after.back.version_number ≡ before.back.version_number
+  pub state : after.back.state ≡ before.back.state
   pub version : after.version ≡ before.version
 
 -- so it is with what making a table answers

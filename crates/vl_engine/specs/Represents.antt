@@ -1,5 +1,5 @@
 -- What an engine stands for: a history, and a layout.
-use Rattle.std.specs.Prelude.{◌≡◌, ◌≤◌, ℕ, List, [], ◌∷◌, Option, None, Some}
+use Rattle.std.specs.Prelude.{◌≡◌, ◌≤◌, ℕ, List, Option, None, Some}
 use Rattle.std.specs.FinMap.{find}
 use Rattle.std.specs.Option.{option_map}
 use Rattle.std.specs.Ordering.{nat_cmp}
@@ -12,7 +12,6 @@ use Rattle.vl_engine.specs.Held.{Base, Holds, IsBase}
 use Rattle.vl_engine.specs.Laid.{HasLayout}
 use Rattle.vl_engine.specs.Pointed.{layout_logs}
 use Rattle.vl_engine.specs.declared.kept.Core.{Core}
-use Rattle.vl_layout.specs.Rulings.Flush.{covered_by}
 use Rattle.vl_layout.specs.Sources.{floor}
 use Rattle.vl_layout.specs.Start.{newest_first}
 use Rattle.vl_layout.specs.Tickets.{tickets_of}
@@ -20,7 +19,6 @@ use Rattle.vl_layout.specs.Tidy.{IsTidy}
 use Rattle.vl_layout.specs.declared.file_name.FileName.TheVariants as files
 use Rattle.vl_layout.specs.declared.file_name.FileName.{FileName}
 use Rattle.vl_layout.specs.declared.layout.Layout.{Layout}
-use Rattle.vl_layout.specs.declared.segment.Segment.{Segment}
 use Rattle.vl_layout_laws.specs.Live.{IsLivedIn}
 use Rattle.vl_model.specs.Conflicts.{Named}
 use Rattle.vl_model.specs.Formats.{log_format}
@@ -56,6 +54,9 @@ pub record Fronts {H : Type 0} (core : Core H) (h : History) (l : Layout) : Type
   pub roomy : l.room ≤ max_room
   pub halted : option_map file_of core.front.halted ≡ l.halted
   pub version : core.back.version_number ≡ l.version_number
+  -- how many of the newest versions of a key are kept, and since when
+  pub keep : core.back.state.keep ≡ l.keep
+  pub since : core.back.state.since ≡ l.since
 
 -- In memory the engine stands for them: its memtables, tables and logs are the layout's, whose sources show the history.
 pub record StandsFor {H : Type 0} (bytes : H → Option (List ℕ)) (core : Core H) (h : History) (l : Layout)

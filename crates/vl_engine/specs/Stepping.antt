@@ -1,7 +1,8 @@
 -- Steps on files: what they count, and what they come to as rulings have it.
-use Rattle.std.specs.Prelude.{◌≡◌, ℕ, List, [], ◌∷◌, Option, None, Some, Result, Ok, Err}
+use Rattle.std.specs.Prelude.{◌≡◌, ◌≤◌, ℕ, List, [], ◌∷◌, Option, None, Some, Result, Ok, Err}
 use Rattle.std.specs.List.{AllByRecursion}
 use Rattle.vl_back.specs.declared.back.Back.{Back}
+use Rattle.vl_disk.specs.Crash.{Image}
 use Rattle.vl_disk.specs.DiskState.{DiskState}
 use Rattle.vl_engine.specs.Files.{IsLogFile}
 use Rattle.vl_engine.specs.Represents.{file_of}
@@ -16,7 +17,9 @@ use Rattle.vl_layout.specs.Start.{newest_first}
 use Rattle.vl_layout.specs.declared.layout.Layout.{Layout}
 use Rattle.vl_layout.specs.declared.segment.Segment.{Segment}
 use Rattle.vl_model.specs.History.{History, last_number}
+use Rattle.vl_recover.specs.crash.Alike.{IsLeft}
 use Rattle.vl_recover.specs.opening.HeldFiles.{AreWaiting}
+use Rattle.vl_recover.specs.opening.Opening.{Opening, Opens}
 
 -- ---- what they count
 
@@ -51,6 +54,14 @@ pub record MayStep (told : Option DiskState) (back : Back) (h : History) (l : La
 -- So it is unless the engine is halted. Each call gives it back.
 pub record Fits {H : Type 0} (told : Option DiskState) (core : Core H) (h : History) (l : Layout) : Type 0 where
   pub running : l.halted ≡ None → MayStep told core.back h l
+
+-- ---- what numbers a manifest gives
+
+-- Whatever a crash leaves of the disk, where it opens, gives no number above these to the next log and to the next table, and its
+-- logs begin no later than that log.
+abbrev pub LeavesNumbers : (log table : ℕ) → DiskState → Type 0
+LeavesNumbers log table disk = (image : Image) (o : Opening) → IsLeft disk image → Opens image (Ok o)
+    → (o.state.next_log ≤ log) × (o.state.next_table ≤ table) × (o.state.head ≤ log)
 
 -- ---- what they come to
 

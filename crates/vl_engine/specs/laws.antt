@@ -14,6 +14,8 @@ pub mod FlushRulings
 pub mod FlushTidy
 pub mod FrontLaws
 pub mod HeldLaws
+pub mod IntactLaws
+pub mod KeepLaws
 pub mod KeptLaws
 pub mod KnownLaws
 pub mod LaidBegun

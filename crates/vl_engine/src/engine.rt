@@ -8,6 +8,7 @@ mod beginning;
 mod committing;
 mod ending;
 mod flushing;
+mod keeping;
 mod opening;
 mod rotating;
 

@@ -137,3 +137,20 @@ pub enum StepFail {
     #[error("the disk failed at {name:?}")]
     Disk { name: Name },
 }
+
+/// Why another number of versions isn't kept.
+#[derive(Clone, Copy, Debug, PartialEq, Eq, Error)]
+pub enum KeepFail {
+    /// An earlier step failed at this file, and nothing is changed any more.
+    #[error("halted at {name:?}")]
+    Halted { name: Name },
+    /// From 1 to 16 versions are kept.
+    #[error("no such number of versions is kept")]
+    InvalidRequest,
+    /// Nothing was changed.
+    #[error("no memory")]
+    NoMemory,
+    /// The disk failed at this file, and the engine is halted.
+    #[error("the disk failed at {name:?}")]
+    Disk { name: Name },
+}

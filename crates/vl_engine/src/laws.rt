@@ -1,10 +1,13 @@
 // Laws of what is seen: each is the contract of a function that does nothing.
-ghost use Rattle.std.specs.Prelude.{List};
+ghost use Rattle.std.specs.Prelude.{List, ℕ};
+ghost use Rattle.vl_disk.specs.Crash.{Image};
 ghost use Rattle.vl_engine.specs.Sees.{Sees, SeesAlone};
+ghost use Rattle.vl_engine.specs.Shown.{Shown};
 ghost use Rattle.vl_engine.specs.declared.txn.Txn.{Txn};
 ghost use Rattle.vl_engine.specs.declared.view.View.{View};
 ghost use Rattle.vl_model.specs.History.{Extends, History};
 ghost use Rattle.vl_model.specs.Reads.{Read};
+ghost use Rattle.vl_recover.specs.opening.Intact.{IsIntact};
 
 use vl_disk::{HeldFile, Reader};
 
@@ -14,4 +17,9 @@ pub fn what_is_seen_stays<H: HeldFile, R: Reader<Held = H>>()
         → Sees H.bytes txn least reads → Sees H.bytes txn most reads }
     ensures view { (view : View H R) (least most : History) → Extends least most
         → SeesAlone H.bytes view least → SeesAlone H.bytes view most }
+{}
+
+/// An image that shows a history is intact: a store opens from it, and every live pointer resolves, by the image's own bytes.
+pub fn what_is_shown_is_intact()
+    ensures { (image : Image) (h : History) (m : ℕ) → Shown image h m → IsIntact image }
 {}

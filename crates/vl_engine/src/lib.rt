@@ -19,7 +19,7 @@ mod view;
 mod writing;
 
 pub use engine::{Done, Engine};
-pub use fails::{CommitFail, ReadFail, ReadFault, StepFail};
+pub use fails::{CommitFail, KeepFail, ReadFail, ReadFault, StepFail};
 pub use laws::what_is_seen_stays;
 pub use txn::Txn;
 pub use view::View;

@@ -1,4 +1,5 @@
 -- What a crash leaves.
+pub mod IntactAfter
 pub mod Recovered
 pub mod RepairingAgain
 pub mod RepairingMayOpen

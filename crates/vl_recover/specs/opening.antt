@@ -4,6 +4,7 @@ pub mod Counting
 pub mod Finding
 pub mod FoundTables
 pub mod HeldFiles
+pub mod Intact
 pub mod Leading
 pub mod LogsSoFar
 pub mod Named

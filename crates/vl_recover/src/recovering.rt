@@ -15,6 +15,7 @@ ghost use Rattle.vl_recover.specs.crash.Held.{HoldsStore, view_of};
 ghost use Rattle.vl_recover.specs.crash.Meanwhile.{FaultsAt, IsAsLong, IsMeanwhile, IsRepaired};
 ghost use Rattle.vl_recover.specs.opening.FoundTables.{all_found};
 ghost use Rattle.vl_recover.specs.opening.HeldFiles.{AreHeldLogs, AreReadTables, AreWaiting, IsReadyToGoOn, tables_of};
+ghost use Rattle.vl_recover.specs.opening.Intact.{IsIntact, LeavesIntact};
 ghost use Rattle.vl_recover.specs.opening.Opening.{NamesNoTable};
 ghost use Rattle.vl_recover.specs.opening.Results.{FailsWithoutFault, IsDiskFault, recovery_of, disk_of, opened_of, read_faults};
 ghost use Rattle.vl_recover.specs.crash.Starts.{MayOpen};
@@ -71,6 +72,13 @@ pub fn recover<D: Disk>(
     ensures through { (state : DiskState) → D.told disk ≡ Some state → MayOpen state
         → HoldsThroughout D.Watched disk (disk_of result) (OpensAsOf state) }
 
+    // Where whatever a crash could leave before is intact, so is whatever one leaves meanwhile: a store opens from it, and every
+    // live pointer resolves. And behind the opening it is intact where what reads gave is.
+    ensures stays_intact { (state : DiskState) → D.told disk ≡ Some state → MayOpen state → LeavesIntact state
+        → HoldsThroughout D.Watched disk (disk_of result) LeavesIntact }
+    ensures intact { (state now : DiskState) (read : Image) → D.told disk ≡ Some state → MayOpen state → IsRead read state
+        → IsIntact read → D.told (disk_of result) ≡ Some now → IfOk result (λ parts. LeavesIntact now) }
+
     // And a store may be opened on it again.
     ensures again { (state now : DiskState) → D.told disk ≡ Some state → MayOpen state
         → D.told (disk_of result) ≡ Some now → MayOpen now }
@@ -83,7 +91,9 @@ pub fn recover<D: Disk>(
         → FaultsAt read state (D.calls disk) (D.calls (disk_of result)) (recovery_of result) }
     ensures cause { HasCause (D.faults disk) (D.faults (disk_of result))
         (IsDiskFault (read_faults D.Reader.faults result) (recovery_of result)) }
-    // Where no table is named that reader isn't asked.
+    // Where that reader counted a fault nothing was changed either.
+    ensures unmoved { (read_faults D.Reader.faults result ≡ 0 → ⊥) → ChangesNothing D.Watched disk (disk_of result) ⊥ }
+    // Where no table is named it isn't asked.
     ensures unread { (state : DiskState) (read : Image) → D.told disk ≡ Some state → IsRead read state → NamesNoTable read
         → read_faults D.Reader.faults result ≡ 0 }
     ensures room { IfOk result (λ parts. parts.room ≡ room) }

@@ -4,4 +4,7 @@ pub mod DiskSteps
 pub mod Halting
 pub mod Shown
 pub mod Carried
+pub mod Held
 pub mod Committed
+pub mod Stepped
+pub mod Torn

@@ -6,11 +6,13 @@ pub mod Writing
 pub mod Ending
 pub mod Scanning
 pub mod Quiet
+pub mod Serving
 pub mod Making
 pub mod ReadMaking
 pub mod ScanMaking
 pub mod BeginMaking
 pub mod CommitMaking
+pub mod StepMaking
 pub mod Returning
 pub mod Placing
 pub mod Halts

@@ -4,6 +4,5 @@ pub mod Numbered
 pub mod NumbersLeft
 pub mod OpenedText
 pub mod Recovering
-pub mod Rising
 pub mod Starting
 mod TextRows

@@ -6,3 +6,4 @@ pub mod StoppedLaws
 pub mod TrialEnds
 pub mod TrialLines
 pub mod TrialRun
+pub mod TornSteps

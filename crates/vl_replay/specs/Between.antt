@@ -14,9 +14,10 @@ Holding = State → DiskState → Type 0
 abbrev pub Showing : Type 1
 Showing = Image → History → ℕ → Type 0
 
--- what a line leaves of a disk that fails it cleanly behind so many of its changing calls; the line makes one state the next
+-- what a line leaves of a disk that fails it cleanly, where so many of its changing calls passed at least, and so many were made;
+-- the line makes one state the next
 abbrev pub Stopping : Type 1
-Stopping = (before after : State) → (passed : ℕ) → DiskState → Type 0
+Stopping = (before after : State) → (passed made : ℕ) → DiskState → Type 0
 
 -- Some calls passed: behind them the disk had counted so many changing calls and no fault, and fails when it was to.
 pub record HasPassed {D : Type 0} (g : Ghosts D) (old : D) (calls : ℕ) : Type 0 where

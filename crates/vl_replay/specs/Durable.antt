@@ -1,7 +1,7 @@
 -- What a disk holds while a script is answered, and what a crash leaves of it. `holds` says what a disk holds of a state,
 -- `shows` what an image shows of a history at a number, and `stops` what a line leaves that was stopped: all three are
 -- parameters throughout.
-use Rattle.std.specs.Prelude.{◌≡◌, ◌⊎◌, ℕ, suc, ◌<◌, ◌≤◌, List, [], ◌∷◌, Some, Err, Result, OnOk, IsTrue}
+use Rattle.std.specs.Prelude.{◌≡◌, ◌⊎◌, ℕ, ◌<◌, ◌≤◌, List, [], ◌∷◌, Some, Err, Result, OnOk, IsTrue}
 use Rattle.vl_model.specs.History.{Extends, History, last_number}
 use Rattle.vl_disk.specs.declared.watched.Watched.{Ghosts}
 use Rattle.vl_disk.specs.Faults.{Rose, after_calls}
@@ -81,18 +81,21 @@ CrashesShow g shows old new least most =
 -- disk on which nothing failed before.
 pub record StopsWithin {D : Type 0} (g : Ghosts D) (stops : Stopping) (before after : State) (old new : D)
     : Type 0 where
-  -- so many of the line's calls passed, of more that it makes,
+  -- so many of the line's calls passed at least, of more that it makes,
   pub passed : ℕ
   pub has_passed : HasPassed g old (after_calls passed before.calls)
   pub all : ℕ
   pub more : passed < all
   pub all_counted : after.calls ≡ after_calls all before.calls
-  -- the one behind them failed, and was the last,
-  pub calls : g.calls new ≡ after_calls (suc passed) before.calls
+  -- so many were made, of which the last failed,
+  pub made : ℕ
+  pub least : passed ≤ made
+  pub most : made ≤ all
+  pub calls : g.calls new ≡ after_calls made before.calls
   -- and so much of the line is on the disk
   pub now : DiskState
   pub told : g.told new ≡ Some now
-  pub stopped : stops before after passed now
+  pub stopped : stops before after passed made now
 
 -- A call took a disk from one state to the next, or failed on the way.
 pub record LeadsTo {D T : Type 0} (g : Ghosts D) (holds : Holding) (shows : Showing) (stops : Stopping)

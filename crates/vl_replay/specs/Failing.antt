@@ -1,5 +1,5 @@
 -- At which lines a read of a table may fail, and at which files the disk may fail a line.
-use Rattle.std.specs.Prelude.{◌≡◌, ◌⊎◌, ℕ, [], Option, Some}
+use Rattle.std.specs.Prelude.{◌≡◌, ◌⊎◌, ◌≤◌, ℕ, [], Option, Some}
 use Rattle.vl_disk.specs.declared.name.Name.{Name}
 use Rattle.vl_disk.specs.declared.name.Name.TheVariants.{Log, Manifest, Table}
 use Rattle.vl_layout.specs.Sources.{tables}
@@ -30,6 +30,11 @@ ReadsTables lines.Flush s = ⊥
 -- so it is with the line of this exchange, where there is one
 abbrev pub IsTableRead : Option Exchange → Type 0
 IsTableRead at = (e : Exchange) × (at ≡ Some e) × ReadsTables e.line e.before
+
+-- A reader counted a fault, as each does whose read fails. A disk counts none of these.
+pub record ReaderFailed {R : Type 0} (faults : R → ℕ) : Type 0 where
+  pub reader : R
+  pub some : 1 ≤ faults reader
 
 -- The files at which the disk may fail a line: the log that takes commits; for a rotation that or the next one; and for a flush
 -- the table that it makes, or the manifest, which has this number.

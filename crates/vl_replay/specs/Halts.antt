@@ -26,3 +26,11 @@ HaltsByDamage (Err NoMemory) = ⊥
 HaltsByDamage (Err (Disk name)) = ⊥
 HaltsByDamage (Err (Read name)) = ⊥
 HaltsByDamage (Err (Damaged name place)) = Unit {0}
+
+-- a read failed by its reader
+abbrev pub HaltsByReader : {T : Type 0} → Result T Halt → Type 0
+HaltsByReader (Ok answer) = ⊥
+HaltsByReader (Err NoMemory) = ⊥
+HaltsByReader (Err (Disk name)) = ⊥
+HaltsByReader (Err (Read name)) = Unit {0}
+HaltsByReader (Err (Damaged name place)) = ⊥

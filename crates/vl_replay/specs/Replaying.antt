@@ -1,5 +1,5 @@
 -- What the loop sees of a replayer: for which state it stands, its disk, and whether it takes lines.
-use Rattle.std.specs.Prelude.{◌≡◌, ℕ, List, Option, None, Result, IfOk, IfErr}
+use Rattle.std.specs.Prelude.{◌≡◌, ◌≤◌, ℕ, List, Option, None, Result, IfOk, IfErr, IsTrue}
 use Rattle.vl_disk.specs.DiskState.{DiskState}
 use Rattle.vl_disk.specs.Faults.{after_calls}
 use Rattle.vl_disk.specs.declared.watched.Watched.{Ghosts}
@@ -17,15 +17,17 @@ use Rattle.vl_replay.specs.declared.replayer.Replayer.{Replayer}
 use Rattle.vl_replay.specs.laws.Laws.{IsSound}
 
 -- The engine stands for the state's layout and history, and its names for what they stand for there. So it is over a disk that
--- tells this.
+-- tells this, which holds the layout where a store might be opened on it at first.
 pub record StandsIn {H R : Type 0} (bytes : H → Option (List ℕ)) (told : Option DiskState) (core : Core H) (opens : List (Open H R))
     (s : State) : Type 0 where
   pub engine : engine.StandsFor bytes core (history_of s) s.store.layout
   pub names : Stand bytes opens s.store.things (history_of s) s.store.layout
   pub sound : IsSound s
-  -- it isn't halted, and steps on files find what they ask
+  pub held : IsTrue s.openable → engine.IsHeld core.back told (history_of s) s.store.layout
+  -- it isn't halted, and steps on files find what they ask: the next log has a number that the manifest still gives
   pub running : s.store.layout.halted ≡ None
   pub fits : Fits told core (history_of s) s.store.layout
+  pub within : core.back.state.next_log ≤ core.back.next_log
 
 -- The type of a replayer names all that its disk has.
 abbrev pub disk_of : {D Held Reader Writer : Type 0} {watched : _} {held : _} {cloned : _} {read : _} {write : _}

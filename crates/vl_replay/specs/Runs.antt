@@ -124,14 +124,19 @@ abbrev pub EvidenceOf : {D : Type 0} → Ghosts D → (old new : Outside D) → 
 EvidenceOf g old new =
     Evidence (Rose old.source_faults new.source_faults) (Rose (g.faults old.disk) (g.faults new.disk))
 
--- A run ended so. `disk_ends` says what it did to its disk, by how far it came.
-pub record EndsRun {D : Type 0} (g : Ghosts D) (disk_ends : Course → Type 0)
+-- A run ended so. `evidence` says what shows that a culprit ended it, by how many lines were answered, and `disk_ends` what it
+-- did to its disk, by how far it came.
+pub record EndsRunBy {D : Type 0} (evidence : (answered : ℕ) → Culprit → Type 0) (disk_ends : Course → Type 0)
     (script : Script) (old new : Outside D) (ending : Ending) : Type 0 where
   -- how many lines were answered, and what was printed
   pub answered : ℕ
   pub printed : List ℕ
   pub taken : Takes old.held new.held printed
-  pub ends : EndsSo (EvidenceOf g old new) script new.left answered ending printed
+  pub ends : EndsSo (evidence answered) script new.left answered ending printed
   -- each answer was put whole before the next line was read
   pub kept_up : KeepsUp script.bytes new.asked answered
   pub disk : disk_ends (course script answered ending)
+
+-- so it is with a run over an open store
+abbrev pub EndsRun : {D : Type 0} → Ghosts D → (disk_ends : Course → Type 0) → Script → (old new : Outside D) → Ending → Type 0
+EndsRun g disk_ends script old new ending = EndsRunBy (λ answered. EvidenceOf g old new) disk_ends script old new ending

@@ -1,6 +1,6 @@
 -- The store as one thread of script lines sees it: what each line is answered, and what it leaves. The store is vl_layout's; of
 -- the disk it counts bytes, changing calls and files.
-use Rattle.std.specs.Prelude.{◌≡◌, ◌+◌, ℕ, List, [], map}
+use Rattle.std.specs.Prelude.{◌≡◌, ◌+◌, ℕ, Bool, List, [], map}
 use Rattle.vl_disk.specs.Faults.{after_calls}
 use Rattle.vl_layout.specs.Store.Commits.{history_in}
 use Rattle.vl_layout.specs.Store.Dispatch.{step_of}
@@ -21,6 +21,8 @@ pub record State : Type 0 where
   pub store : things.State
   pub calls : ℕ
   pub files : ℕ
+  -- whether a store might be opened on the disk where the run began, also behind a crash; no line changes it
+  pub openable : Bool
 
 abbrev pub history_of : State → History
 history_of s = history_in s.store.commits
@@ -66,6 +68,7 @@ state_after s line = record {
   store = (step_to s line).state;
   calls = after_calls (step_to s line).calls s.calls;
   files = files_after line (answer_to s line) s.files;
+  openable = s.openable;
 }
 
 -- ---- how an answer is spelled

@@ -1,10 +1,10 @@
 -- The state in which a run begins: that of the store that its disk opens as.
-use Rattle.std.specs.Prelude.{◌≡◌, ◌≤◌, ◌+◌, ℕ, List, [], length, None, Some}
+use Rattle.std.specs.Prelude.{◌≡◌, ◌⊎◌, ◌≤◌, ◌+◌, ℕ, List, [], length, None, Some, IsTrue}
 use Rattle.std.specs.List.{AllByRecursion}
 use Rattle.std.proofs.Common.{subst, sym}
 use Rattle.vl_disk.specs.Crash.{Image}
 use Rattle.vl_disk.specs.DiskState.{DiskState}
-use Rattle.vl_disk.specs.Faults.{after_calls}
+use Rattle.vl_disk.specs.Faults.{Rose, after_calls}
 use Rattle.vl_disk.specs.Started.{IsRead}
 use Rattle.vl_disk.specs.declared.name.Name.{Name as FileName}
 use Rattle.vl_disk.specs.declared.watched.Watched.{Ghosts}
@@ -23,10 +23,12 @@ use Rattle.vl_recover.specs.opening.Opening.{NamesNoTable}
 use Rattle.vl_recover.specs.opening.Plans.{active_log, new_state}
 use Rattle.vl_recover.specs.crash.Starts.{MayOpen}
 use Rattle.vl_replay.specs.Durable.{DiskEnds, IsAsBefore, Tells}
+use Rattle.vl_replay.specs.Endings.{Culprit, Evidence}
 use Rattle.vl_replay.specs.Exchanges.{AreExplained, exchanges_from}
+use Rattle.vl_replay.specs.Failing.{ReaderFailed}
 use Rattle.vl_replay.specs.laws.Explained.{none_sound}
 use Rattle.vl_replay.specs.laws.Laws.{StaysExplained, exchanges_from-explained}
-use Rattle.vl_replay.specs.Runs.{Course, EndsRun, Outside, script_of}
+use Rattle.vl_replay.specs.Runs.{Course, EndsRunBy, Outside, script_of}
 use Rattle.vl_replay.specs.Sequential.{State, history_of}
 use Rattle.vl_replay.specs.Stopped.{AreNumberedUpTo, GivesUpTo}
 use Rattle.vl_replay.specs.Steps.{FinishesBy}
@@ -65,36 +67,51 @@ pub record StartsIn {D : Type 0} (g : Ghosts D) (disk : D) (s : State) : Type 0 
   pub strays : List FileName
   pub are_strays : AreStrayNames read found.opening strays
   pub calls : s.calls ≡ after_calls (calls_to_open found (length strays)) (g.calls disk)
-  -- and `files` is a number, any such one, that no file of the store passes
+  -- `files` is a number, any such one, that no file of the store passes
   pub files : OpensUpTo s.files state found
+  -- and where the state says so, a store may be opened on the disk
+  pub openable : IsTrue s.openable → MayOpen state
 
 -- A store may be opened on the disk again, where one might before.
 abbrev pub StaysOpenable : {D : Type 0} → Ghosts D → (old new : D) → Type 0
 StaysOpenable g old new = Tells g old MayOpen → Tells g new MayOpen
 
--- What a run did to a disk whose store is durable. Where the store wasn't opened, the disk is as it was, unless it failed; and
--- no line was answered.
+-- What a run did to a disk whose store is durable, so that a store may be opened on it. Where the store wasn't opened, the disk is
+-- as it was, unless it failed; and no line was answered.
 abbrev pub DiskEndsFromStart : {D : Type 0} → Ghosts D → (old new : D) → Course → Type 0
 DiskEndsFromStart g old new run =
-    Tells g old IsDurable → DiskEnds g IsStored Shown IsStopped (IsAsBefore g old new) (run.answered ≡ []) old new run
+    IsTrue run.first.openable → Tells g old IsDurable
+    → DiskEnds g IsStored Shown IsStopped (IsAsBefore g old new) (run.answered ≡ []) old new run
+
+-- An opening failed since a read of a table did, which the opening's reader counted.
+pub record FailsAtTables {D R : Type 0} (g : Ghosts D) (faults : R → ℕ) (old new : D) : Type 0 where
+  pub reader : ReaderFailed faults
+  -- the current manifest names tables, where the disk tells its bytes;
+  pub tables : (state : DiskState) (read : Image) → g.told old ≡ Some state → IsRead read state → NamesNoTable read → ⊥
+  -- and the disk counts no fault, and is as it was
+  pub steady : g.faults new ≡ g.faults old
+  pub unchanged : IsAsBefore g old new
+
+-- A run ended so: the line of a disk's fault was put, or the sink failed there.
+abbrev pub EndsAtTables : {D K R : Type 0} → Ghosts D → (faults : R → ℕ) → sink.Ghosts K → (old new : D) → (sink sink' : K) → Ending
+    → Type 0
+EndsAtTables g faults k old new sink sink' ending = FailsAtTables g faults old new × FinishesBy k sink sink' DiskFault ending
+
+-- What shows which of them ended a run that opens its store first: of the source and the disk that a fault was counted. In place of
+-- the disk its opening's reader may have counted one, before the first line.
+abbrev pub EvidenceFromStart : {D R : Type 0} → Ghosts D → (faults : R → ℕ) → (old new : Outside D) → (answered : ℕ) → Culprit → Type 0
+EvidenceFromStart g faults old new answered =
+    Evidence (Rose old.source_faults new.source_faults)
+    (Rose (g.faults old.disk) (g.faults new.disk) ⊎ (FailsAtTables g faults old.disk new.disk × (answered ≡ 0)))
 
 -- A run answered the lines of the input that its source had left, as the sequential store does from the state in which a run
 -- over its disk begins, and ended so. It says what was printed and how many lines were answered, that each answer was put before
 -- the next line was read, and what was done to a disk whose store is durable: each accepted commit is one synced frame of its
 -- log.
-abbrev pub AnswersInput : {D : Type 0} → Ghosts D → (old new : Outside D) → Ending → Type 0
-AnswersInput g old new ending = (start : State) (input : List ℕ)
+abbrev pub AnswersInput : {D R : Type 0} → Ghosts D → (faults : R → ℕ) → (old new : Outside D) → Ending → Type 0
+AnswersInput g faults old new ending = (start : State) (input : List ℕ)
     → StartsIn g old.disk start → old.left ≡ Some input
-    → EndsRun g (DiskEndsFromStart g old.disk new.disk) (script_of start 0 input) old new ending
-
--- A run ended at its opening since a read of a table failed, of which the disk counts no fault.
-pub record FailsAtTables {D K : Type 0} (g : Ghosts D) (k : sink.Ghosts K) (old new : D) (sink sink' : K) (ending : Ending)
-    : Type 0 where
-  -- its current manifest names tables, where the disk tells its bytes
-  pub tables : (state : DiskState) (read : Image) → g.told old ≡ Some state → IsRead read state → NamesNoTable read → ⊥
-  pub steady : g.faults new ≡ g.faults old
-  -- the line of a disk's fault was put, or the sink failed there
-  pub printed : FinishesBy k sink sink' DiskFault ending
+    → EndsRunBy (EvidenceFromStart g faults old new) (DiskEndsFromStart g old.disk new.disk) (script_of start 0 input) old new ending
 
 -- ---- what is read in such a run is explained
 

@@ -11,6 +11,7 @@ use Rattle.vl_engine.specs.Writing.{written}
 use Rattle.vl_frame.specs.Runs.{HasFrame}
 use Rattle.vl_layout.specs.Store.Commits.{Changes, with_changes}
 use Rattle.vl_manifest.specs.declared.state.ManifestState.{ManifestState}
+use Rattle.vl_mem.specs.laws.CrashChance.{IsTornByPieces}
 use Rattle.vl_model.specs.History.{last_number}
 use Rattle.vl_model.specs.declared.log_frame.LogFrame.{LogFrame}
 use Rattle.vl_recover.specs.crash.Alike.{IsLeft}
@@ -70,18 +71,21 @@ pub record StopsStep (shows : Showing) (before after : State) (now : DiskState) 
   pub left : (image : Image) → IsLeft now image → shows image (history_of before) (last_number (history_of before))
   -- no file passes the number that is said of the state after it,
   pub numbered : AreNumberedUpTo after.files now
-  -- and the manifest that is found on what a crash leaves gives at most the next ones
+  -- the manifest that is found on what a crash leaves gives at most the next ones, and has no head above them,
   pub next : (image : Image) (found : Finds image) → IsLeft now image → GivesUpTo after.files found.opening.state
+  pub head : (image : Image) (found : Finds image) → IsLeft now image → found.opening.state.head ≤ after.files + 1
+  -- and what isn't durable is torn by whole pieces
+  pub torn : IsTornByPieces now
 
 -- ---- a line that was stopped
 
--- What a line left of a disk that failed, and failed cleanly, behind so many of its calls.
-pub data IsStoppedIn (holds : Holding) (shows : Showing) (before after : State) (passed : ℕ) (now : DiskState) : Type 0 where
+-- What a line left of a disk that failed, and failed cleanly, where so many of its calls passed at least, and so many were made.
+pub data IsStoppedIn (holds : Holding) (shows : Showing) (before after : State) (passed made : ℕ) (now : DiskState) : Type 0 where
   -- a commit's append failed, and the log took nothing of the frame
-  append_failed : (commits : Commits holds before after) → passed ≡ 0 → now ≡ with_taken commits 0
-      → IsStoppedIn holds shows before after passed now
-  -- a commit's sync failed, and the log took all of the frame
-  sync_failed : (commits : Commits holds before after) → passed ≡ 1 → now ≡ with_taken commits (length commits.frame)
-      → IsStoppedIn holds shows before after passed now
+  append_failed : (commits : Commits holds before after) → passed ≡ 0 → made ≡ 1 → now ≡ with_taken commits 0
+      → IsStoppedIn holds shows before after passed made now
+  -- a commit's sync failed behind its append, and the log took all of the frame
+  sync_failed : (commits : Commits holds before after) → passed ≡ 1 → made ≡ 2 → now ≡ with_taken commits (length commits.frame)
+      → IsStoppedIn holds shows before after passed made now
   -- a call of a rotation or of a flush failed
-  step_failed : StopsStep shows before after now → IsStoppedIn holds shows before after passed now
+  step_failed : StopsStep shows before after now → IsStoppedIn holds shows before after passed made now

@@ -1,5 +1,5 @@
 -- What a disk holds of a state.
-use Rattle.std.specs.Prelude.{◌≡◌, ◌≤◌, ◌+◌}
+use Rattle.std.specs.Prelude.{◌≡◌, ◌≤◌, ◌+◌, IsTrue}
 use Rattle.vl_disk.specs.DiskState.{DiskState}
 use Rattle.vl_engine.specs.Held.{Base, Holds, IsBase}
 use Rattle.vl_engine.specs.Pointed.{layout_logs}
@@ -11,6 +11,8 @@ use Rattle.vl_replay.specs.Stopped.{AreNumberedUpTo, GivesUpTo, IsStoppedIn}
 
 -- The disk holds the state: its layout, all of it durable, whose entries show its history.
 pub record IsStored (s : State) (disk : DiskState) : Type 0 where
+  -- a store might be opened on it at first
+  pub openable : IsTrue s.openable
   -- some manifest, and the logs from its head on before the active one
   pub base : Base
   pub is_base : IsBase base s.store.layout (history_of s)

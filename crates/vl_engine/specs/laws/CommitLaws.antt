@@ -1,6 +1,6 @@
 -- A commit's frame behind the active log of a disk that holds a layout: what a crash leaves meanwhile, and what is held
 -- then. The tables stay, and the logs that they lead into.
-use Rattle.std.specs.Prelude.{◌≡◌, ℕ, ◌+◌, true, List, [], ◌∷◌, ◌++◌, length, Ok, refl}
+use Rattle.std.specs.Prelude.{◌≡◌, ℕ, ◌+◌, List, [], ◌∷◌, ◌++◌, length, Ok, refl}
 use Rattle.std.specs.FinMap.{from_sorted}
 use Rattle.std.proofs.Common.{sym, ap, subst, ◌∙◌, length-append, arith, ⊎_elim}
 use Rattle.vl_disk.specs.Changes.{SameElsewhere}

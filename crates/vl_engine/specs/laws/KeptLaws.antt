@@ -1,5 +1,5 @@
 -- What a disk holds stays where it changes under one name that isn't needed.
-use Rattle.std.specs.Prelude.{◌≡◌, ◌≢◌, ◌⊎◌, ◌≤◌, ℕ, List, [], ◌∷◌, length, refl}
+use Rattle.std.specs.Prelude.{◌≡◌, ◌≢◌, ◌≤◌, ℕ, List, [], ◌∷◌, length, refl}
 use Rattle.std.specs.List.{AllByRecursion}
 use Rattle.std.proofs.Common.{sym, subst, ◌∙◌, arith, ⊎_elim}
 use Rattle.vl_disk.specs.Changes.{SameElsewhere, changed_elsewhere}

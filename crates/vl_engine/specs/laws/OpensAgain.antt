@@ -1,5 +1,5 @@
 -- A store may be opened again on a disk on which a flush stopped, at whatever moment.
-use Rattle.std.specs.Prelude.{◌≡◌, ◌≢◌, ◌⊎◌, ◌≤◌, ◌<◌, ◌-◌, ℕ, ◌+◌, true, false, List, [], ◌∷◌, ◌++◌, drop, length, map, take, Option, None, Some, Ok, refl}
+use Rattle.std.specs.Prelude.{◌≡◌, ◌≢◌, ◌≤◌, ◌<◌, ◌-◌, ℕ, ◌+◌, List, [], ◌∷◌, ◌++◌, drop, length, map, take, Option, None, Some, Ok, refl}
 use Rattle.std.specs.FinMap.{get}
 use Rattle.std.specs.Option.{option_map}
 use Rattle.std.proofs.Common.{sym, ap, subst, ◌∙◌, append_assoc, arith, inl, inr, length-append, ⊎_elim}
@@ -9,7 +9,7 @@ use Rattle.vl_disk.specs.Chance.{NoChanceOne, WasHandedOver, torn_from}
 use Rattle.vl_disk.specs.Changes.{SameElsewhere, changed_there}
 use Rattle.vl_disk.specs.Crash.{Image, WhileAppending, WhileSyncing, last_file}
 use Rattle.vl_disk.specs.DiskState.{DiskState, File, IsLawful, appended, created, lengthened, settled}
-use Rattle.vl_disk.specs.MadeFile.{WhileMaking, durable, empty, in_part, made, not_there}
+use Rattle.vl_disk.specs.MadeFile.{WhileMaking, durable, empty, in_part, not_there}
 use Rattle.vl_disk.specs.Name.{IsNumbered}
 use Rattle.vl_disk.specs.Started.{IsRead, read_left}
 use Rattle.vl_disk.specs.declared.name.Name.{Name}
@@ -24,11 +24,11 @@ use Rattle.vl_engine.specs.laws.FlushLaws.{CanFlush, WhileFlushing, base_beside,
 use Rattle.vl_engine.specs.laws.HeldLaws.{base_says, has_stays, held_opens_again, needed_shows}
 use Rattle.vl_engine.specs.laws.KeptLaws.{log_manifest, log_table, table_manifest}
 use Rattle.vl_engine.specs.laws.FileLaws.{named_among}
-use Rattle.vl_engine.specs.laws.SwitchLaws.{above_kept, later, piece, switched_base, switching_elsewhere, switching_says, switching_shows}
+use Rattle.vl_engine.specs.laws.SwitchLaws.{above_kept, piece, switched_base, switching_elsewhere, switching_says, switching_shows}
 use Rattle.vl_frame.specs.Runs.{HasFrame, item_frame}
 use Rattle.vl_frame.specs.laws.RunLaws.{frame_is_some}
 use Rattle.vl_layout.specs.Rulings.Flush.{flushed}
-use Rattle.vl_layout.specs.Sources.{numbers_of, tables}
+use Rattle.vl_layout.specs.Sources.{numbers_of}
 use Rattle.vl_layout.specs.Tidy.{IsTidy}
 use Rattle.vl_layout.specs.declared.layout.Layout.{Layout}
 use Rattle.vl_layout.specs.declared.segment.Segment.{Segment}

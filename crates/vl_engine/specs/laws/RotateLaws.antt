@@ -1,6 +1,6 @@
 -- A new log is begun behind the logs of a disk that holds a layout: what a crash leaves meanwhile, and what is held then. The
 -- tables stay, and the logs that they lead into.
-use Rattle.std.specs.Prelude.{◌≡◌, ◌≢◌, ◌⊎◌, ◌≤◌, ◌<◌, ℕ, ◌+◌, ◌==◌, Bool, true, false, if◌then◌else◌, List, [], ◌∷◌, ◌++◌, length, map, take, All, Option, None, Some, refl}
+use Rattle.std.specs.Prelude.{◌≡◌, ◌≢◌, ◌≤◌, ◌<◌, ℕ, ◌+◌, ◌==◌, Bool, true, false, if◌then◌else◌, List, [], ◌∷◌, ◌++◌, length, map, All, Option, None, Some, refl}
 use Rattle.std.specs.FinMap.{get}
 use Rattle.std.specs.List.{AllByRecursion, filter}
 use Rattle.std.proofs.Common.{sym, ap, subst, ◌∙◌, arith, ⊎_elim}
@@ -8,7 +8,7 @@ use Rattle.std.proofs.lemmas.Bool.{cases_lt, true≢false}
 use Rattle.std.proofs.lemmas.Bool.Decides.{nat_tests}
 use Rattle.std.proofs.lemmas.List.Elements.{All-cons, All-nil, filter-append}
 use Rattle.vl_disk.specs.Crash.{Image, MayLeave, MayLeaveOne}
-use Rattle.vl_disk.specs.DiskState.{DiskState, File, IsLawful, Piece, appended, created, settled}
+use Rattle.vl_disk.specs.DiskState.{DiskState, File, IsLawful, Piece, created, settled}
 use Rattle.vl_disk.specs.MadeFile.{WhileMaking, durable, empty, in_part, made, not_there}
 use Rattle.vl_disk.specs.Name.{IsNumbered}
 use Rattle.vl_disk.specs.Started.{read_left}

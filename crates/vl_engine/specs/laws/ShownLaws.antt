@@ -12,7 +12,6 @@ use Rattle.vl_engine.specs.Shown.{EntriesShow, HasFramedAmong, Shown, ShowsBetwe
 use Rattle.vl_engine.specs.laws.FileLaws.{all_back, all_front, all_more, segment_number}
 use Rattle.vl_engine.specs.laws.LogEntries.{entries-filled}
 use Rattle.vl_layout.specs.Shown.{IsOf}
-use Rattle.vl_layout.specs.Shows.{Shows}
 use Rattle.vl_layout.specs.Sources.{numbers_of}
 use Rattle.vl_layout.specs.Tidy.{IsPlacedIn}
 use Rattle.vl_layout.specs.declared.segment.Segment.{Segment}

@@ -14,7 +14,6 @@ use Rattle.vl_filter.specs.Filters.{byte_count, filter_body}
 use Rattle.vl_filter.specs.laws.Lengths.{length-filter_body}
 use Rattle.vl_filter.specs.laws.Spelling.{spells}
 use Rattle.vl_frame.specs.Frame.{frame_bytes}
-use Rattle.vl_frame.specs.declared.kinds.FileKind.TheVariants as files
 use Rattle.vl_frame.specs.declared.kinds.FrameKind.TheVariants as kinds
 use Rattle.vl_frame.specs.laws.Laws.{length-frame_bytes}
 use Rattle.vl_model.specs.Formats.{table_format}

@@ -1,4 +1,4 @@
-ghost use Rattle.std.specs.Prelude.{◌≡◌, ℕ, Err, None, Ok, OnOk, Some};
+ghost use Rattle.std.specs.Prelude.{◌≡◌, ◌+◌, ◌≤◌, ℕ, Err, None, Ok, OnOk, Some};
 ghost use Rattle.vl_back.specs.Deciding.{MayFlush};
 ghost use Rattle.vl_back.specs.Writing.{KeepsOthers};
 ghost use Rattle.vl_disk.specs.Calls.{ChangesNothing};
@@ -7,9 +7,10 @@ ghost use Rattle.vl_disk.specs.Faults.{HasCause, after_calls};
 ghost use Rattle.vl_disk.specs.declared.name.Name.TheVariants as names;
 ghost use Rattle.vl_disk.specs.declared.name.Name.{Name};
 ghost use Rattle.vl_engine.specs.Carries.{Carries};
-ghost use Rattle.vl_engine.specs.Flushing.{FlushesAs, IsFlushWritten, StopsFlushing, flush_effects};
+ghost use Rattle.vl_back.specs.declared.staging.StagedFlush.{StagedFlush};
+ghost use Rattle.vl_engine.specs.Flushing.{FlushesAs, IsFlushWritten, StopsFlushing, WritesFlush, flush_effects};
 ghost use Rattle.vl_engine.specs.Represents.{Fronts, Represents, StandsFor};
-ghost use Rattle.vl_engine.specs.Stepping.{AreLogFiles, Fits, HasNumbers, StepFailed, StepLeavesDisk, step_outcome};
+ghost use Rattle.vl_engine.specs.Stepping.{AreLogFiles, Fits, HasNumbers, LeavesNumbers, StepFailed, StepLeavesDisk, step_outcome};
 ghost use Rattle.vl_engine.specs.declared.fails.StepFail.TheVariants as fails;
 ghost use Rattle.vl_layout.specs.Decides.{Decides, as_before};
 ghost use Rattle.vl_layout.specs.Rulings.Flush.{flush_ruling};
@@ -65,6 +66,20 @@ impl<D: Disk> Engine<D> {
         ensures stopped { (name : Name) → result ≡ Err (fails.Disk name)
             → StopsFlushing self.old.core.back.state.next_table self.old.core.back.manifest.number
             (D.calls self.old.disk) (D.calls self.new.disk) name }
+
+        // It fails only where a log waits and numbers are left. By then the table was made and named in part, if at all; and
+        // whatever a crash leaves gives no number above the next ones.
+        ensures failed { StepFailed result → MayFlush self.old.core.back }
+        ensures meanwhile { StepFailed result
+            → (staged : StagedFlush) × WritesFlush D.Watched self.old.core staged self.old.disk self.new.disk }
+        ensures leaves { (h : History) (l : Layout) (now : DiskState)
+            → Represents D.Held.bytes self.old.core (D.told self.old.disk) h l
+            → self.old.core.back.state.next_log ≤ self.old.core.back.next_log → StepFailed result
+            → D.told self.new.disk ≡ Some now → LeavesNumbers l.next_log (l.next_table + 1) now }
+
+        // The manifest gives the next log no number above that which it gets.
+        ensures within { (StepFailed result → ⊥) → self.old.core.back.state.next_log ≤ self.old.core.back.next_log
+            → self.new.core.back.state.next_log ≤ self.new.core.back.next_log }
     {
         if let Some(name) = self.core.front.halted {
             return Err(StepFail::Halted { name });

@@ -82,9 +82,10 @@ impl<D: Disk> Engine<D> {
         // A fault is counted, by the disk or by the reader that is handed back, and named by the file at which it came.
         ensures cause { HasCause (D.faults disk) (D.faults (disk_behind result))
             (IsDiskFault (reader_faults D.Reader.faults result) (why_of result)) }
-        // Where no table is named that reader isn't asked.
+        // Where no table is named that reader isn't asked. Where it counted one nothing is changed.
         ensures unread { (state : DiskState) (read : Image) → D.told disk ≡ Some state → IsRead read state → NamesNoTable read
             → reader_faults D.Reader.faults result ≡ 0 }
+        ensures unmoved { (reader_faults D.Reader.faults result ≡ 0 → ⊥) → IsAsBefore D.Watched disk (disk_behind result) }
         ensures at { (state : DiskState) (read : Image) → D.told disk ≡ Some state → IsRead read state
             → IfErr result (λ fail. FaultsAt read state (D.calls disk) (D.calls (disk_behind result)) (recovery_by fail.why)) }
 

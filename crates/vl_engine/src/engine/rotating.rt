@@ -1,4 +1,4 @@
-ghost use Rattle.std.specs.Prelude.{◌≡◌, ℕ, Err, IfOk, None, Some};
+ghost use Rattle.std.specs.Prelude.{◌≡◌, ◌≤◌, ◌+◌, ℕ, Err, IfOk, None, Some};
 ghost use Rattle.vl_back.specs.Writing.{KeepsOthers};
 ghost use Rattle.vl_disk.specs.Calls.{ChangesNothing};
 ghost use Rattle.vl_disk.specs.DiskState.{DiskState};
@@ -7,8 +7,8 @@ ghost use Rattle.vl_disk.specs.declared.name.Name.{Name};
 ghost use Rattle.vl_disk.specs.declared.name.Name.TheVariants as names;
 ghost use Rattle.vl_engine.specs.Carries.{Carries};
 ghost use Rattle.vl_engine.specs.Represents.{Fronts, Represents, StandsFor};
-ghost use Rattle.vl_engine.specs.Rotating.{HasActive, MayBegin, RotatesAs, StopsRotating, rotate_calls, rotate_effects};
-ghost use Rattle.vl_engine.specs.Stepping.{Fits, HasNumbers, StepFailed, StepLeavesDisk, step_outcome};
+ghost use Rattle.vl_engine.specs.Rotating.{BeginsLog, HasActive, MayBegin, RotatesAs, StopsRotating, rotate_calls, rotate_effects};
+ghost use Rattle.vl_engine.specs.Stepping.{Fits, HasNumbers, LeavesNumbers, StepFailed, StepLeavesDisk, step_outcome};
 ghost use Rattle.vl_engine.specs.declared.fails.StepFail.TheVariants as fails;
 ghost use Rattle.vl_layout.specs.Decides.{Decides, as_before};
 ghost use Rattle.vl_layout.specs.Rulings.Rotate.{rotate_ruling};
@@ -67,6 +67,16 @@ impl<D: Disk> Engine<D> {
         // were left. So a fault of the disk never comes in place of the answer that a halted engine, an empty log or used up
         // numbers are due.
         ensures failed { StepFailed result → MayBegin self.old.core }
+        // By then the new log was made in part, if at all; and whatever a crash leaves gives no number above the next ones.
+        ensures meanwhile { StepFailed result → BeginsLog D.Watched self.old.core self.old.disk self.new.disk }
+        ensures leaves { (h : History) (l : Layout) (now : DiskState)
+            → Represents D.Held.bytes self.old.core (D.told self.old.disk) h l
+            → self.old.core.back.state.next_log ≤ self.old.core.back.next_log → StepFailed result
+            → D.told self.new.disk ≡ Some now → LeavesNumbers l.next_log (l.next_table + 1) now }
+
+        // The manifest gives the next log no number above that which it gets.
+        ensures within { (StepFailed result → ⊥) → self.old.core.back.state.next_log ≤ self.old.core.back.next_log
+            → self.new.core.back.state.next_log ≤ self.new.core.back.next_log }
     {
         match refusal(&self.core) {
             Some(answer) => answer,

@@ -31,6 +31,14 @@ of_disk faults (UsedUp counter) failed = failed
 of_disk faults NoMemory failed = failed
 of_disk faults (Faulted name) failed = tt
 
+-- where the reader has counted some, a fault isn't the disk's
+pub reader_failed : (faults : ℕ) (r : Recovery) → (faults ≡ 0 → ⊥) → IsDiskFault faults r → ⊥
+reader_failed faults (Recovered opened) some failed = failed
+reader_failed faults (Refused why) some failed = failed
+reader_failed faults (UsedUp counter) some failed = failed
+reader_failed faults NoMemory some failed = failed
+reader_failed faults (Faulted name) some failed = some failed
+
 module _ {D : Type 0} (g : Ghosts D) where
   pub no_call : (disk : D) → ChangesNothing g disk disk ⊥
   no_call disk = record {

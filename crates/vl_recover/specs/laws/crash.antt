@@ -6,3 +6,4 @@ pub mod OneName
 pub mod Torn
 pub mod TornFrames
 pub mod Headers
+pub mod IntactLaws

@@ -1,5 +1,5 @@
 -- What a line that isn't a commit does to the disk: nothing, and it holds the state behind the line.
-use Rattle.std.proofs.Common.{◌≡◌, ℕ, List, refl, ap, sym, ◌∙◌, subst}
+use Rattle.std.proofs.Common.{◌≡◌, ◌≤◌, ◌+◌, ℕ, List, refl, ap, sym, ◌∙◌, subst}
 use Rattle.std.specs.Prelude.{Ok, Err, Option, Result, OnOk}
 use Rattle.vl_disk.specs.DiskState.{DiskState}
 use Rattle.vl_disk.specs.Faults.{after_calls}
@@ -8,7 +8,6 @@ use Rattle.vl_engine.specs.Held.{Base, Holds, IsBase}
 use Rattle.vl_engine.specs.Pointed.{layout_logs}
 use Rattle.vl_engine.specs.Shown.{Shown}
 use Rattle.vl_engine.specs.declared.kept.Core.{Core}
-use Rattle.vl_layout.specs.Sources.{tables}
 use Rattle.vl_layout.specs.Store.Commits.{Commits, history_in}
 use Rattle.vl_layout.specs.Store.Things.{Step}
 use Rattle.vl_layout.specs.Tidy.{IsTidy}
@@ -16,7 +15,8 @@ use Rattle.vl_layout.specs.declared.layout.Layout.{Layout}
 use Rattle.vl_layout.specs.declared.live.Live.{Live}
 use Rattle.vl_model.specs.History.{History}
 use Rattle.vl_replay.specs.Durable.{CarriesOut, HoldsState, LeadsTo}
-use Rattle.vl_replay.specs.Replaying.{MakesStep, OnlyNoMemory, state_by}
+use Rattle.vl_replay.specs.Halts.{HaltsByDisk}
+use Rattle.vl_replay.specs.Replaying.{MakesStep, state_by}
 use Rattle.vl_replay.specs.Sequential.{State, history_of}
 use Rattle.vl_replay.specs.Stored.{IsStopped, IsStored}
 use Rattle.vl_replay.specs.declared.fails.Halt.{Halt}
@@ -25,7 +25,6 @@ use Rattle.vl_replay.specs.laws.Growing.{Keeps}
 use Rattle.vl_script.specs.declared.answer.Answer.{Answer}
 use Rattle.vl_replay.proofs.Disk.Betweens.{extends_same}
 use Rattle.vl_replay.proofs.Disk.DiskSteps.{IsWatched, opens_again, rests_until}
-use Rattle.vl_replay.proofs.Disk.Halting.{not_by_disk}
 use Rattle.vl_replay.proofs.Disk.Shown.{shown_stays, stored_exactly}
 
 -- what lives is held by no disk
@@ -57,33 +56,33 @@ pub stored_on : (s : State) (x : Step) → Keeps s.store x
     → IsTidy (layout_logs x.state.layout) x.state.layout (history_in x.state.commits) → (disk : DiskState)
     → IsStored s disk → IsStored (state_by s x) disk
 stored_on s x keeps tidy disk stored = record {
+  openable = stored.openable;
   base = stored.base;
-  manifest = stored.manifest;
-  manifest_file = stored.manifest_file;
   is_base = subst (λ (p : Commits). IsBase stored.base x.state.layout (history_in p)) (sym keeps.commits)
       (subst (λ (m : Layout). IsBase stored.base m (history_of s)) (sym keeps.layout)
       (live_base stored.base s.store.layout x.state.layout.live (history_of s) stored.is_base));
   holds = subst (λ (m : Layout). Holds stored.base m disk) (sym keeps.layout)
       (live_holds stored.base s.store.layout x.state.layout.live disk stored.holds);
   tidy = tidy;
-  untabled = ap tables keeps.layout ∙ stored.untabled;
   next_table = stored.next_table ∙ sym (ap (λ (m : Layout). m.next_table) keeps.layout);
   numbered = stored.numbered;
   next = stored.next;
+  next_log = subst (λ (m : Layout). m.next_log ≤ s.files + 1) (sym keeps.layout) stored.next_log;
 }
 
 -- what is tidy in memory is tidy
-its_tidy : {H R : Type 0} (bytes : H → Option (List ℕ)) (core : Core H) (os : List (Open H R)) (s : State) (x : Step) (result : Result Answer Halt)
-    → MakesStep bytes core os s x result → OnOk result (IsTidy (layout_logs x.state.layout) x.state.layout (history_in x.state.commits))
-its_tidy bytes core os s x (Ok answer) makes = makes.1.engine.tidy
-its_tidy bytes core os s x (Err halt) makes = tt
+its_tidy : {H R : Type 0} (bytes : H → Option (List ℕ)) (seen : Option DiskState) (core : Core H) (os : List (Open H R)) (s : State) (x : Step) (result : Result Answer Halt)
+    → MakesStep bytes seen core os s x result → OnOk result (IsTidy (layout_logs x.state.layout) x.state.layout (history_in x.state.commits))
+its_tidy bytes seen core os s x (Ok answer) makes = makes.1.engine.tidy
+its_tidy bytes seen core os s x (Err halt) makes = tt
 
 on_ok : (P Q : Type 0) (result : Result Answer Halt) → (P → Q) → OnOk result P → OnOk result Q
 on_ok P Q (Ok answer) weaker p = weaker p
 on_ok P Q (Err halt) weaker p = tt
 
-module _ {D H R : Type 0} (g : Ghosts D) (watched : IsWatched g) (bytes : H → Option (List ℕ)) (core : Core H) (os : List (Open H R)) (s : State) (x : Step)
-    (keeps : Keeps s.store x) (result : Result Answer Halt) (makes : MakesStep bytes core os s x result) (only : OnlyNoMemory result) where
+module _ {D H R : Type 0} (g : Ghosts D) (watched : IsWatched g) (bytes : H → Option (List ℕ)) (seen : Option DiskState) (core : Core H) (os : List (Open H R)) (s : State) (x : Step)
+    (keeps : Keeps s.store x) (result : Result Answer Halt) (makes : MakesStep bytes seen core os s x result)
+    (sound : HaltsByDisk result → ⊥) where
   quiet_leads : (disk : D) → HoldsState g IsStored s disk → LeadsTo g IsStored Shown IsStopped disk disk s (state_by s x) result
   quiet_leads disk held =
       let (state, told, stored) = held.there in
@@ -93,12 +92,13 @@ module _ {D H R : Type 0} (g : Ghosts D) (watched : IsWatched g) (bytes : H → 
               calls = held.calls ∙ sym (ap (λ (n : ℕ). after_calls n s.calls) keeps.calls);
               there = (state, told, stored_on s x keeps tidy state stored);
             })
-            (its_tidy bytes core os s x result makes);
+            (its_tidy bytes seen core os s x result makes);
         no_commit = λ out. (s, refl, held.there);
+        unread = λ halts. held;
         tells = opens_again g watched IsStored Shown IsStopped shown_stays stored_exactly s disk held;
         through = rests_until g watched IsStored Shown IsStopped shown_stays stored_exactly s (history_of (state_by s x))
             (extends_same (history_of s) (history_of (state_by s x)) (ap history_in keeps.commits)) disk held;
-        stopped = λ halts. absurd (not_by_disk result only halts);
+        stopped = λ halts. absurd (sound halts);
       }
 
   -- A line that keeps the commits is carried out so.

@@ -1,5 +1,5 @@
 -- What a commit does to a disk that holds the state before it, by what the engine carried out.
-use Rattle.std.proofs.Common.{◌≡◌, ℕ, ◌+◌, List, [], length, refl, ap, sym, ◌∙◌, subst, arith}
+use Rattle.std.proofs.Common.{◌≡◌, ◌≤◌, ℕ, ◌+◌, List, length, refl, ap, sym, ◌∙◌, subst, arith}
 use Rattle.std.specs.Prelude.{Option, None, Some, Ok, Err, Result, OnOk, IsErrAnd, IsTrue, T}
 use Rattle.std.specs.FinMap.{entries, entries_sorted, is_sorted}
 use Rattle.std.specs.Option.{option_map}
@@ -9,7 +9,7 @@ use Rattle.vl_disk.specs.declared.name.Name.{Name as FileName}
 use Rattle.vl_disk.specs.declared.watched.Watched.{Ghosts}
 use Rattle.vl_engine.specs.Answers.{IsWritable}
 use Rattle.vl_engine.specs.Carries.{Carries, SameFiles}
-use Rattle.vl_engine.specs.Held.{Base, Holds, IsBase}
+use Rattle.vl_engine.specs.Held.{Holds}
 use Rattle.vl_engine.specs.Represents as engine
 use Rattle.vl_engine.specs.Sees.{asked}
 use Rattle.vl_engine.specs.Pointed.{layout_logs}
@@ -25,7 +25,6 @@ use Rattle.vl_layout.specs.Decides.{Answered, Effects, NoMemory as OutOfMemory, 
 use Rattle.vl_layout.specs.Ruling.{Ruling}
 use Rattle.vl_layout.specs.Rulings.Commit as commit
 use Rattle.vl_layout.specs.Rulings.Commit.{CommitAnswer, Transaction as ATxn, commit_frame, commit_lost, commit_ruling, commit_unless, committed}
-use Rattle.vl_layout.specs.Sources.{tables}
 use Rattle.vl_layout.specs.Store.Commits.{history_in}
 use Rattle.vl_layout.specs.Store.Lines.{Done, Name}
 use Rattle.vl_layout.specs.Store.Reading.{commit_by, committed_by}
@@ -36,7 +35,6 @@ use Rattle.vl_layout.specs.Tidy.{IsTidy}
 use Rattle.vl_layout.specs.declared.layout.Layout.{Layout}
 use Rattle.vl_layout.specs.laws.CommitsLaws.{conflict_in-is}
 use Rattle.vl_layout_laws.specs.laws.TidyRulings.{commit_tidy}
-use Rattle.vl_manifest.specs.declared.state.ManifestState.{ManifestState}
 use Rattle.vl_model.specs.Formats.{log_format}
 use Rattle.vl_model.specs.History.{History, last_number}
 use Rattle.vl_model.specs.Keys.{key_cmp}
@@ -44,11 +42,11 @@ use Rattle.vl_model.specs.declared.change.Change.{Change}
 use Rattle.vl_model.specs.declared.counter.Counter.{Counter}
 use Rattle.vl_recover.specs.laws.crash.TornFrames as torn
 use Rattle.vl_replay.specs.Durable.{CarriesOut, CrashesShow, HoldsCommits, HoldsState, LeadsTo, StopsWithin, Tells}
-use Rattle.vl_replay.specs.Halts.{HaltsByDisk}
+use Rattle.vl_replay.specs.Halts.{HaltsByDisk, HaltsByRead}
 use Rattle.vl_replay.specs.Replaying.{StandsIn, state_by}
 use Rattle.vl_replay.specs.Sequential.{State, history_of}
 use Rattle.vl_replay.specs.Standing.{IsTransaction}
-use Rattle.vl_replay.specs.Stopped.{AreNumberedUpTo, Commits, GivesUpTo, append_failed, frame_behind, log_of, sync_failed}
+use Rattle.vl_replay.specs.Stopped.{AreNumberedUpTo, Commits, append_failed, frame_behind, log_of, sync_failed}
 use Rattle.vl_replay.specs.Stored.{IsStopped, IsStored}
 use Rattle.vl_replay.specs.declared.fails.Halt.{Halt}
 use Rattle.vl_replay.specs.declared.fails.Halt.TheVariants as why
@@ -56,7 +54,9 @@ use Rattle.vl_replay.specs.declared.replayer.open.Open.{Open}
 use Rattle.vl_replay.specs.laws.Growing.{Keeps, history_more}
 use Rattle.vl_script.specs.declared.answer.Answer.{Answer}
 use Rattle.vl_seglog.specs.Frames.{frame_at, frames_grammar}
+use Rattle.vl_replay.proofs.Disk.Held.{stored_as, stored_by}
 use Rattle.vl_replay.proofs.Names.CommitMaking.{answers_ruling, ruling_of}
+use Rattle.vl_replay.proofs.Names.Serving.{represents}
 use Rattle.vl_replay.proofs.Openings.Numbered.{changed_numbered}
 
 -- ---- a step by the answer on it
@@ -107,13 +107,21 @@ module _ (s : State) (name : Name) (t : ATxn) (b : Beginning) where
   by_halted (commit.Conflict key n) = refl
   by_halted (commit.Full long frame) = refl
 
-  by_tables : (a : CommitAnswer) → tables (ruling_of l h t a).layout ≡ tables l
-  by_tables (commit.At n) = refl
-  by_tables commit.Nothing = refl
-  by_tables (commit.Halted file) = refl
-  by_tables (commit.Exhausted c) = refl
-  by_tables (commit.Conflict key n) = refl
-  by_tables (commit.Full long frame) = refl
+  by_next : (a : CommitAnswer) → (ruling_of l h t a).layout.next_log ≡ l.next_log
+  by_next (commit.At n) = refl
+  by_next commit.Nothing = refl
+  by_next (commit.Halted file) = refl
+  by_next (commit.Exhausted c) = refl
+  by_next (commit.Conflict key n) = refl
+  by_next (commit.Full long frame) = refl
+
+  by_next_table : (a : CommitAnswer) → (ruling_of l h t a).layout.next_table ≡ l.next_table
+  by_next_table (commit.At n) = refl
+  by_next_table commit.Nothing = refl
+  by_next_table (commit.Halted file) = refl
+  by_next_table (commit.Exhausted c) = refl
+  by_next_table (commit.Conflict key n) = refl
+  by_next_table (commit.Full long frame) = refl
 
 -- one that changes nothing keeps all
 pub only_keeps : (s : store.State) (x : Step) (answer : store_lines.Answer) → x ≡ only answer s → Keeps s x
@@ -130,27 +138,6 @@ carries_short g old new s after (Err halt) out carries =
 
 -- ---- what a disk holds then
 
--- a disk that holds a base of this layout holds the state behind the step
-pub stored_as : (s : State) (x : Step) (now : DiskState) (base : Base) (k : History) (m : Layout) → base.state ≡ s.manifest
-    → base.manifest ≡ s.manifest_file → x.state.layout ≡ m → history_in x.state.commits ≡ k → IsBase base m k → Holds base m now
-    → IsTidy (layout_logs m) m k → tables m ≡ [] → base.state.next_table ≡ m.next_table → AreNumberedUpTo s.files now
-    → GivesUpTo s.files s.manifest → IsStored (state_by s x) now
-stored_as s x now base k m manifest file layout history is holds tidy untabled next_table numbered next = record {
-  base = base;
-  manifest = manifest;
-  manifest_file = file;
-  is_base = subst (λ (p : Layout). IsBase base p (history_in x.state.commits)) (sym layout)
-      (subst (λ (q : History). IsBase base m q) (sym history) is);
-  holds = subst (λ (p : Layout). Holds base p now) (sym layout) holds;
-  tidy = subst (λ (p : Layout). IsTidy (layout_logs p) p (history_in x.state.commits)) (sym layout)
-      (subst (λ (q : History). IsTidy (layout_logs m) m q) (sym history) tidy);
-  untabled = ap tables layout ∙ untabled;
-  next_table = sym (ap (λ (f : ManifestState). f.next_table) manifest) ∙ next_table
-      ∙ sym (ap (λ (p : Layout). p.next_table) layout);
-  numbered = numbered;
-  next = next;
-}
-
 -- where the same files stand, none has a greater number
 numbered_still : (n : ℕ) (old new : Option DiskState) (disk now : DiskState) → SameFiles old new → old ≡ Some disk
     → new ≡ Some now → AreNumberedUpTo n disk → AreNumberedUpTo n now
@@ -162,7 +149,7 @@ numbered_still n old new disk now same told then numbered = record {
 -- ---- a transaction that was asked to commit
 
 module _ {D H R : Type 0} (g : Ghosts D) (bytes : H → Option (List ℕ)) (before after : Core H) (old new : D)
-    (os : List (Open H R)) (s : State) (stands : StandsIn bytes before os s) (back : after.back ≡ before.back)
+    (os : List (Open H R)) (s : State) (stands : StandsIn bytes (g.told old) before os s) (back : after.back ≡ before.back)
     (name : Name) (txn : Txn H R) (t : ATxn) (b : Beginning) (there : thing_of s.store name ≡ Some (ATransaction t b))
     (is : IsTransaction bytes txn t (history_of s) s.store.layout) where
   abbrev r : Ruling CommitAnswer
@@ -195,54 +182,37 @@ module _ {D H R : Type 0} (g : Ghosts D) (bytes : H → Option (List ℕ)) (befo
   still_running : r.layout.halted ≡ None
   still_running = ap (λ (x : Ruling CommitAnswer). x.layout.halted) ruling_is ∙ by_halted s name t b r.answer ∙ stands.running
 
-  still_untabled : tables r.layout ≡ []
-  still_untabled = ap (λ (x : Ruling CommitAnswer). tables x.layout) ruling_is ∙ by_tables s name t b r.answer ∙ stands.untabled
+  its_next : r.layout.next_log ≡ s.store.layout.next_log
+  its_next = ap (λ (x : Ruling CommitAnswer). x.layout.next_log) ruling_is ∙ by_next s name t b r.answer
+
+  its_next_table : r.layout.next_table ≡ s.store.layout.next_table
+  its_next_table = ap (λ (x : Ruling CommitAnswer). x.layout.next_table) ruling_is ∙ by_next_table s name t b r.answer
 
   -- ---- what the engine represents
 
   represents_before : HoldsState g IsStored s old → engine.Represents bytes before (g.told old) (history_of s) s.store.layout
-  represents_before held =
-      let (disk, told, stored) = held.there in
-      record {
-        stands = stands.engine;
-        held = λ running. record {
-          state = disk;
-          told_is = told;
-          base = stored.base;
-          is_base = stored.is_base;
-          back_is = record {
-            manifest = stands.back.file_is ∙ sym stored.manifest_file;
-            state = stands.back.state ∙ sym stored.manifest;
-            next_log = stands.back.next_log;
-            next_table = ap (λ (f : ManifestState). f.next_table) stored.manifest ∙ stored.next_table;
-            waiting = stands.back.waiting;
-          };
-          holds = stored.holds;
-        };
-      }
+  represents_before held = represents bytes (g.told old) before os s stands held.there.2.openable
 
   module _ (files : SameFiles (g.told old) (g.told new)) (held : HoldsState g IsStored s old) where
     -- a step that leaves what the engine represents leaves a disk that holds it
     stored_then : (x : Step) (k : History) (m : Layout) → x.state.layout ≡ m → history_in x.state.commits ≡ k
-        → m.halted ≡ None → tables m ≡ [] → engine.Represents bytes after (g.told new) k m → Tells g new (IsStored (state_by s x))
-    stored_then x k m layout history running untabled represents =
+        → m.halted ≡ None → m.next_log ≡ s.store.layout.next_log → m.next_table ≡ s.store.layout.next_table
+        → engine.Represents bytes after (g.told new) k m → Tells g new (IsStored (state_by s x))
+    stored_then x k m layout history running log table represents =
         let (disk, told, stored) = held.there in
-        let its = represents.held running in (
-          its.state,
-          its.told_is,
-          stored_as s x its.state its.base k m
-              (sym its.back_is.state ∙ ap (λ (p : Back). p.state) back ∙ stands.back.state)
-              (sym its.back_is.manifest ∙ ap (λ (p : Back). p.manifest) back ∙ stands.back.file_is)
-              layout history its.is_base its.holds represents.stands.tidy untabled its.back_is.next_table
-              (numbered_still s.files (g.told old) (g.told new) disk its.state files told its.told_is stored.numbered)
-              stored.next,
-        )
+        let next_log = stored.next_log in
+        let given = stored.next.table in
+        let next_table = stored.next_table in
+        stored_by bytes after (g.told new) (state_by s x) k m layout history stored.openable running represents
+        (subst (λ (p : Back). p.state.next_log ≤ p.next_log) (sym back) stands.within)
+        (omega (arith, log, next_log)) (omega (arith, table, given, next_table))
+        (λ now then. numbered_still s.files (g.told old) (g.told new) disk now files told then stored.numbered)
 
     -- where the engine represents what it did, the commits are held
     commits_kept : engine.Represents bytes after (g.told new) (history_of s) s.store.layout → HoldsCommits g IsStored s new
     commits_kept represents =
         let x = only Done s.store in
-        (state_by s x, refl, stored_then x (history_of s) s.store.layout refl refl stands.running stands.untabled represents)
+        (state_by s x, refl, stored_then x (history_of s) s.store.layout refl refl stands.running refl refl represents)
 
   -- ---- what it came to
 
@@ -266,14 +236,16 @@ module _ {D H R : Type 0} (g : Ghosts D) (bytes : H → Option (List ℕ)) (befo
     leads : (result : Result Answer Halt) → HoldsState g IsStored s old
         → OnOk result (HoldsState g IsStored (state_by s (committing s name t b)) new)
         → (result ≡ Err why.NoMemory → HoldsCommits g IsStored s new)
+        → (HaltsByRead result → HoldsState g IsStored s new)
         → (HaltsByDisk result → IsTrue g.fails_cleanly
         → StopsWithin g IsStopped s (state_by s (committing s name t b)) old new)
         → LeadsTo g IsStored Shown IsStopped old new s (state_by s (committing s name t b)) result
-    leads result held answered short stopped =
+    leads result held answered short unread stopped =
         let carried = carried held in
         record {
           answered = answered;
           no_commit = short;
+          unread = unread;
           tells = carried.again stands.running;
           through = subst (λ (k : History). CrashesShow g Shown old new (history_of s) k) (sym its_history)
               (carried.through stands.running);
@@ -288,20 +260,20 @@ module _ {D H R : Type 0} (g : Ghosts D) (bytes : H → Option (List ℕ)) (befo
         record {
           calls = carried.called a answered ∙ ap (λ (n : ℕ). after_calls n (g.calls old)) (sym its_calls)
               ∙ ap (after_calls (committing s name t b).calls) held.calls;
-          there = stored_then files held (committing s name t b) r.history r.layout its_layout its_history still_running still_untabled
+          there = stored_then files held (committing s name t b) r.history r.layout its_layout its_history still_running its_next its_next_table
               (carried.decides.answered a answered).1;
         }
 
     pub answered_carries : (a : CommitAnswer) → outcome ≡ Answered a → (answer : Answer)
         → CarriesOut g IsStored Shown IsStopped old new s (state_by s (committing s name t b)) (Ok answer)
     answered_carries a answered answer held =
-        leads (Ok answer) held (holds_answered a answered held) (λ out. absurd cc) (λ halts. absurd halts)
+        leads (Ok answer) held (holds_answered a answered held) (λ out. absurd cc) (λ halts. absurd halts) (λ halts. absurd halts)
 
     -- The engine handed the transaction back, and there was no memory to put it back under its name.
     pub exhausted_carries : (c : Counter) → outcome ≡ Answered (commit.Exhausted c)
         → CarriesOut {T = Answer} g IsStored Shown IsStopped old new s (state_by s (committing s name t b)) (Err why.NoMemory)
     exhausted_carries c answered held =
-        leads (Err why.NoMemory) held tt (λ out. commits_kept files held (left_by (carried held))) (λ halts. absurd halts)
+        leads (Err why.NoMemory) held tt (λ out. commits_kept files held (left_by (carried held))) (λ halts. absurd halts) (λ halts. absurd halts)
       where
         left_by : Carried → engine.Represents bytes after (g.told new) (history_of s) s.store.layout
         left_by carried =
@@ -312,7 +284,7 @@ module _ {D H R : Type 0} (g : Ghosts D) (bytes : H → Option (List ℕ)) (befo
     pub full_carries : (long frame : ℕ) → outcome ≡ Answered (commit.Full long frame)
         → CarriesOut {T = Answer} g IsStored Shown IsStopped old new s (state_by s (committing s name t b)) (Err why.NoMemory)
     full_carries long frame answered held =
-        leads (Err why.NoMemory) held tt (λ out. commits_kept files held (left_by (carried held))) (λ halts. absurd halts)
+        leads (Err why.NoMemory) held tt (λ out. commits_kept files held (left_by (carried held))) (λ halts. absurd halts) (λ halts. absurd halts)
       where
         left_by : Carried → engine.Represents bytes after (g.told new) (history_of s) s.store.layout
         left_by carried =
@@ -325,12 +297,12 @@ module _ {D H R : Type 0} (g : Ghosts D) (bytes : H → Option (List ℕ)) (befo
         → CarriesOut {T = Answer} g IsStored Shown IsStopped old new s (state_by s (committing s name t b)) (Err why.NoMemory)
     short_carries out_is held =
         leads (Err why.NoMemory) held tt (λ out. commits_kept files held ((carried held).decides.no_memory out_is).0)
-        (λ halts. absurd halts)
+        (λ halts. absurd halts) (λ halts. absurd halts)
 
     -- It was refused since the engine is halted, which never comes.
-    pub halted_carries : (file : FileName)
+    pub halted_carries : (file : FileName) → ⊥
         → CarriesOut {T = Answer} g IsStored Shown IsStopped old new s (state_by s (committing s name t b)) (Err (why.Read file))
-    halted_carries file held = leads (Err (why.Read file)) held tt (λ out. absurd cc) (λ halts. absurd halts)
+    halted_carries file never held = absurd never
 
     -- ---- the disk failed
 
@@ -371,19 +343,18 @@ module _ {D H R : Type 0} (g : Ghosts D) (bytes : H → Option (List ℕ)) (befo
             has = has;
             frame = whole;
             frame_is = refl;
-            done = stored_as s (committing s name t b) (written (log_of s) whole disk) b' next.history next.layout stored.manifest
-                stored.manifest_file (its_layout ∙ ap (λ (x : Ruling CommitAnswer). x.layout) may.accepted)
-                (its_history ∙ ap (λ (x : Ruling CommitAnswer). x.history) may.accepted)
+            done = stored_as (state_by s (committing s name t b)) (written (log_of s) whole disk) b' next.history next.layout
+                (its_layout ∙ ap (λ (x : Ruling CommitAnswer). x.layout) may.accepted)
+                (its_history ∙ ap (λ (x : Ruling CommitAnswer). x.history) may.accepted) stored.openable
                 (commit_base b' s.store.layout (history_of s) t stored.is_base stored.tidy)
                 (subst (λ (piece : List ℕ). Holds b' next.layout (written (log_of s) piece disk)) (sym where_is)
                 (commit_holds b' s.store.layout (history_of s) t stored.is_base stored.tidy disk stored.holds has))
                 (subst (λ (x : Ruling CommitAnswer). IsTidy (layout_logs s.store.layout) x.layout x.history) may.accepted
                 (commit_tidy (layout_logs s.store.layout) s.store.layout (history_of s) stored.tidy t rising))
-                stored.untabled
-                (ap (λ (f : ManifestState). f.next_table) stored.manifest ∙ stored.next_table)
+                stored.next_table
                 (changed_numbered s.files (log_of s) _ (appended (log_of s) whole (length whole) disk)
                 (changed_numbered s.files (log_of s) _ disk stored.numbered))
-                stored.next;
+                stored.next stored.next_log;
             writes = t.writes;
             one_more = ap (λ (x : Step). x.state.commits) step_then;
           }
@@ -402,10 +373,13 @@ module _ {D H R : Type 0} (g : Ghosts D) (bytes : H → Option (List ℕ)) (befo
           all = 2;
           more = omega arith;
           all_counted = all_calls;
+          made = 1;
+          least = omega arith;
+          most = omega arith;
           calls = calls ∙ ap (after_calls 1) held.calls;
           now = appended (log_of s) whole 0 held.there.0;
           told = changed ∙ ap (option_map (appended (log_of s) whole 0)) held.there.1;
-          stopped = append_failed (commits held) refl refl;
+          stopped = append_failed (commits held) refl refl refl;
         }
         stops_within (at_sync changed calls passed) = record {
           passed = 1;
@@ -418,10 +392,13 @@ module _ {D H R : Type 0} (g : Ghosts D) (bytes : H → Option (List ℕ)) (befo
           all = 2;
           more = omega arith;
           all_counted = all_calls;
+          made = 2;
+          least = omega arith;
+          most = omega arith;
           calls = calls ∙ ap (after_calls 2) held.calls;
           now = appended (log_of s) whole (length whole) held.there.0;
           told = changed ∙ ap (option_map (appended (log_of s) whole (length whole))) held.there.1;
-          stopped = sync_failed (commits held) refl refl;
+          stopped = sync_failed (commits held) refl refl refl;
         }
 
         -- the frame is that of the state's log
@@ -447,4 +424,4 @@ module _ {D H R : Type 0} (g : Ghosts D) (bytes : H → Option (List ℕ)) (befo
           (commit_frame (history_of s) (entries txn.writes))) old new)
           → CarriesOut {T = Answer} g IsStored Shown IsStopped old new s (state_by s (committing s name t b)) (Err (why.Disk file))
       failed_carries file stops held =
-          leads (Err (why.Disk file)) held tt (λ out. absurd cc) (λ halts clean. stops_so held (stops clean))
+          leads (Err (why.Disk file)) held tt (λ out. absurd cc) (λ halts. absurd halts) (λ halts clean. stops_so held (stops clean))

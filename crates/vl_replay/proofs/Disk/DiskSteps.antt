@@ -175,6 +175,9 @@ module _ {D : Type 0} (g : Ghosts D) (watched : IsWatched g) (holds : Holding) (
     all = within.all;
     more = within.more;
     all_counted = within.all_counted;
+    made = within.made;
+    least = within.least;
+    most = within.most;
     calls = within.calls;
     now = within.now;
     told = within.told;

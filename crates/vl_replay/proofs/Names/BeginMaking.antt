@@ -1,9 +1,9 @@
 -- What begins and ends make, which change what lives.
 use Rattle.std.proofs.Common.{◌≡◌, ℕ, Bool, true, false, cond, List, [], ◌∷◌, ◌++◌, length, refl, ap, sym, ◌∙◌, subst}
-use Rattle.std.specs.Prelude.{Option, None, Some, Ok, nat_le}
+use Rattle.std.specs.Prelude.{◌≤◌, Option, None, Some, Ok, nat_le}
 use Rattle.std.specs.Option.{is_some}
+use Rattle.vl_disk.specs.DiskState.{DiskState}
 use Rattle.vl_engine.specs.Reading.{IsInMemory}
-use Rattle.vl_engine.specs.Represents as engine
 use Rattle.vl_engine.specs.Sees.{IsNew, Sees, SeesAlone, asked_view}
 use Rattle.vl_back.specs.declared.back.Back.{Back}
 use Rattle.vl_engine.specs.declared.kept.Core.{Core}
@@ -15,6 +15,7 @@ use Rattle.vl_layout.specs.Ruling.{Ruling, ended, leaving}
 use Rattle.vl_layout.specs.Rulings.Begin as begin
 use Rattle.vl_layout.specs.Rulings.Begin.{BeginAnswer, Begun, begin_ruling, begun}
 use Rattle.vl_layout.specs.Rulings.Commit.{Transaction as ATxn}
+use Rattle.vl_layout.specs.Sources.{tables}
 use Rattle.vl_layout.specs.Store.Commits.{history_in}
 use Rattle.vl_layout.specs.Store.Dispatch.{drop_by}
 use Rattle.vl_layout.specs.Store.Lines as store_lines
@@ -26,7 +27,7 @@ use Rattle.vl_layout.specs.Tickets.{free_ticket, tickets_of}
 use Rattle.vl_layout.specs.declared.layout.Layout.{Layout}
 use Rattle.vl_model.specs.History.{History, last_number}
 use Rattle.vl_model.specs.Limits.{max_live}
-use Rattle.vl_replay.specs.Replaying.{IsBackOf, MakesStep, StandsIn, state_by}
+use Rattle.vl_replay.specs.Replaying.{MakesStep, StandsIn, state_by}
 use Rattle.vl_replay.specs.Sequential.{IsTold, State, history_of}
 use Rattle.vl_replay.specs.Standing.{Corresponds, IsTaken, Stand, open_in, ticket_of}
 use Rattle.vl_replay.specs.declared.replayer.open.Open.{Open}
@@ -39,8 +40,8 @@ use Rattle.vl_script.specs.declared.line.Line.TheVariants as lines
 use Rattle.vl_replay.proofs.Disk.Betweens.{extends_itself}
 use Rattle.vl_replay.proofs.Names.Ending.{begins_transaction, begins_view, ends_so}
 use Rattle.vl_replay.proofs.Names.Making.{itself, its, only_makes}
-use Rattle.vl_replay.proofs.Names.Quiet.{IsAlike, back_alike, untabled_alike}
 use Rattle.vl_replay.proofs.Names.Reading.{no_thing}
+use Rattle.vl_replay.proofs.Names.Serving.{Serves}
 
 begun_ticket : (a b n m : ℕ) → Begun a n ≡ Begun b m → a ≡ b
 begun_ticket a b n m e = cc
@@ -52,34 +53,38 @@ pub none_or_some : {T : Type 0} (x : Option T) → is_some x ≡ false → x ≡
 none_or_some None is = refl
 none_or_some (Some y) is = absurd cc
 
-module _ {H R : Type 0} (bytes : H → Option (List ℕ)) (before after : Core H) (os : List (Open H R)) (s : State) (stands : StandsIn bytes before os s)
-    (back : after.back ≡ before.back) where
+module _ {H R : Type 0} (bytes : H → Option (List ℕ)) (seen now : Option DiskState) (before after : Core H) (os : List (Open H R)) (s : State)
+    (stands : StandsIn bytes seen before os s) (back : after.back ≡ before.back) where
   abbrev h : History
   h = history_of s
 
   abbrev l : Layout
   l = s.store.layout
 
+  -- what the engine is behind a step
+  abbrev Serving : History → Layout → Type 0
+  Serving = Serves bytes now s.openable after
+
   -- what a step that isn't halted leaves
-  pub stands_as : (new : List (Open H R)) (x : Step) → engine.StandsFor bytes after (history_in x.state.commits) x.state.layout
+  pub stands_as : (new : List (Open H R)) (x : Step) → Serving (history_in x.state.commits) x.state.layout
       → Stand bytes new x.state.things (history_in x.state.commits) x.state.layout → IsSound (state_by s x)
-      → IsAlike l x.state.layout → StandsIn bytes after new (state_by s x)
-  stands_as new x there names sound alike = record {
-    engine = there;
+      → x.state.layout.halted ≡ l.halted → StandsIn bytes now after new (state_by s x)
+  stands_as new x there names sound halted = record {
+    engine = there.stands;
     names = names;
     sound = sound;
-    untabled = untabled_alike l x.state.layout alike stands.untabled;
-    running = alike.halted ∙ stands.running;
-    back = subst (λ (b : Back). IsBackOf b s.manifest_file s.manifest x.state.layout) (sym back)
-        (back_alike before.back s.manifest_file s.manifest l x.state.layout alike stands.back);
+    held = λ openable. there.held openable (halted ∙ stands.running);
+    running = halted ∙ stands.running;
+    fits = there.fits;
+    within = subst (λ (b : Back). b.state.next_log ≤ b.next_log) (sym back) stands.within;
   }
 
   -- one that changes nothing
   pub kept_makes : (new : List (Open H R)) (x : Step) (told : Answer) (answer : store_lines.Answer) → x ≡ only answer s.store
-      → IsTold told answer → engine.StandsFor bytes after h l → Stand bytes new s.store.things h l → MakesStep bytes after new s x (Ok told)
+      → IsTold told answer → Serving h l → Stand bytes new s.store.things h l → MakesStep bytes now after new s x (Ok told)
   kept_makes new x told answer same is there names =
-      subst (λ (y : Step). MakesStep bytes after new s y (Ok told)) (sym same)
-      (is, stands_as new (only answer s.store) there names stands.sound (record { levels = refl; halted = refl; next_log = refl; covered = refl; frozen = refl }))
+      subst (λ (y : Step). MakesStep bytes now after new s y (Ok told)) (sym same)
+      (is, stands_as new (only answer s.store) there names stands.sound refl)
 
   module _ (name : Name) (thing : Beginning → ℕ → ℕ → store.Thing) (sound : IsSound (state_by s (begin_as s.store name thing (thing_of s.store name)))) where
     abbrev ticket : ℕ
@@ -104,49 +109,49 @@ module _ {H R : Type 0} (bytes : H → Option (List ℕ)) (before after : Core H
     pub begin_makes : (free : open_in os name ≡ None) (new : Thing H R) (own number : ℕ)
         → ((b : Beginning) → own ≡ ticket → number ≡ last_number h
         → Stand bytes (os ++ record { name = name; thing = new } ∷ []) (named name (thing b ticket (last_number h)) s.store.things) h (begun l ticket (last_number h)))
-        → Decides (engine.StandsFor bytes after) h l (begin_ruling l h) (as_before l l) (Answered (Begun own number)) no_effects
-        → MakesStep bytes after (os ++ record { name = name; thing = new } ∷ []) s (begin_as s.store name thing (thing_of s.store name)) (Ok (answers.Number number))
+        → Decides Serving h l (begin_ruling l h) (as_before l l) (Answered (Begun own number)) no_effects
+        → MakesStep bytes now after (os ++ record { name = name; thing = new } ∷ []) s (begin_as s.store name thing (thing_of s.store name)) (Ok (answers.Number number))
     begin_makes free new own number names decides =
         let (is, there) = decides.answered (Begun own number) refl in
-        subst (λ (y : Step). MakesStep bytes after (os ++ record { name = name; thing = new } ∷ []) s y (Ok (answers.Number number))) (sym (step_is free))
+        subst (λ (y : Step). MakesStep bytes now after (os ++ record { name = name; thing = new } ∷ []) s y (Ok (answers.Number number))) (sym (step_is free))
         (of full is there (subst (λ (y : Step). IsSound (state_by s y)) (step_is free) sound))
       where
-        of : (b : Bool) → Begun own number ≡ (by_room b).answer → engine.StandsFor bytes after (by_room b).history (by_room b).layout → IsSound (state_by s (by_ruling b))
-            → MakesStep bytes after (os ++ record { name = name; thing = new } ∷ []) s (by_ruling b) (Ok (answers.Number number))
+        of : (b : Bool) → Begun own number ≡ (by_room b).answer → Serving (by_room b).history (by_room b).layout → IsSound (state_by s (by_ruling b))
+            → MakesStep bytes now after (os ++ record { name = name; thing = new } ∷ []) s (by_ruling b) (Ok (answers.Number number))
         of true is there sound = absurd cc
         of false is there sound = (
           ap store_lines.Number (begun_number own ticket number (last_number h) is),
           stands_as (os ++ record { name = name; thing = new } ∷ []) (by_ruling false) there
               (names (beginning_of (by_room false).layout h) (begun_ticket own ticket number (last_number h) is) (begun_number own ticket number (last_number h) is)) sound
-              (record { levels = refl; halted = refl; next_log = refl; covered = refl; frozen = refl }),
+              refl,
         )
 
     pub too_many_makes : (free : open_in os name ≡ None)
-        → Decides (engine.StandsFor bytes after) h l (begin_ruling l h) (as_before l l) (Answered begin.TooMany) no_effects
-        → MakesStep bytes after os s (begin_as s.store name thing (thing_of s.store name)) (Ok answers.TooMany)
+        → Decides Serving h l (begin_ruling l h) (as_before l l) (Answered begin.TooMany) no_effects
+        → MakesStep bytes now after os s (begin_as s.store name thing (thing_of s.store name)) (Ok answers.TooMany)
     too_many_makes free decides =
         let (is, there) = decides.answered begin.TooMany refl in
-        subst (λ (y : Step). MakesStep bytes after os s y (Ok answers.TooMany)) (sym (step_is free)) (of full is there)
+        subst (λ (y : Step). MakesStep bytes now after os s y (Ok answers.TooMany)) (sym (step_is free)) (of full is there)
       where
-        of : (b : Bool) → begin.TooMany ≡ (by_room b).answer → engine.StandsFor bytes after (by_room b).history (by_room b).layout
-            → MakesStep bytes after os s (by_ruling b) (Ok answers.TooMany)
-        of true is there = (refl, stands_as os (only store_lines.TooMany s.store) there stands.names stands.sound (record { levels = refl; halted = refl; next_log = refl; covered = refl; frozen = refl }))
+        of : (b : Bool) → begin.TooMany ≡ (by_room b).answer → Serving (by_room b).history (by_room b).layout
+            → MakesStep bytes now after os s (by_ruling b) (Ok answers.TooMany)
+        of true is there = (refl, stands_as os (only store_lines.TooMany s.store) there stands.names stands.sound refl)
         of false is there = absurd cc
 
   -- ---- begins of either kind
 
   pub transaction_makes : (name : Name) (free : open_in os name ≡ None) (txn : Txn H R) → IsNew txn → Sees bytes txn h []
-      → IsInMemory txn.version
-      → Decides (engine.StandsFor bytes after) h l (begin_ruling l h) (as_before l l) (Answered (Begun txn.ticket txn.number)) no_effects
-      → MakesStep bytes after (os ++ record { name = name; thing = Transaction txn } ∷ []) s (begin_as s.store name a_transaction (thing_of s.store name)) (Ok (answers.Number txn.number))
+      → (tables l ≡ [] → IsInMemory txn.version)
+      → Decides Serving h l (begin_ruling l h) (as_before l l) (Answered (Begun txn.ticket txn.number)) no_effects
+      → MakesStep bytes now after (os ++ record { name = name; thing = Transaction txn } ∷ []) s (begin_as s.store name a_transaction (thing_of s.store name)) (Ok (answers.Number txn.number))
   transaction_makes name free txn new sees near decides =
       begin_makes name a_transaction (state_after-sound s (lines.Begin name) stands.sound) free (Transaction txn) txn.ticket txn.number
       (λ b own number. begins_transaction bytes h l os s.store.things stands.names name free stands.engine.fronts.front.lived txn b own number new sees near) decides
 
   pub view_makes : (name : Name) (free : open_in os name ≡ None) (view : EngineView H R) → SeesAlone bytes view h
-      → IsInMemory view.version
-      → Decides (engine.StandsFor bytes after) h l (begin_ruling l h) (as_before l l) (Answered (Begun view.ticket view.number)) no_effects
-      → MakesStep bytes after (os ++ record { name = name; thing = View view } ∷ []) s (begin_as s.store name a_view (thing_of s.store name)) (Ok (answers.Number view.number))
+      → (tables l ≡ [] → IsInMemory view.version)
+      → Decides Serving h l (begin_ruling l h) (as_before l l) (Answered (Begun view.ticket view.number)) no_effects
+      → MakesStep bytes now after (os ++ record { name = name; thing = View view } ∷ []) s (begin_as s.store name a_view (thing_of s.store name)) (Ok (answers.Number view.number))
   view_makes name free view sees near decides =
       begin_makes name a_view (state_after-sound s (lines.View name) stands.sound) free (View view) view.ticket view.number
       (λ b own number. begins_view bytes h l os s.store.things stands.names name free stands.engine.fronts.front.lived view b own number sees near) decides
@@ -159,34 +164,34 @@ module _ {H R : Type 0} (bytes : H → Option (List ℕ)) (before after : Core H
 
     -- what has ended, whatever is told of it
     pub ended_stands : (thing : Thing H R) → IsTaken os left name (Some thing) → (x : store.Thing) → thing_of s.store name ≡ Some x
-        → engine.StandsFor bytes after h (ended (ticket_of x) l) → (answer : store_lines.Answer)
+        → Serving h (ended (ticket_of x) l) → (answer : store_lines.Answer)
         → let y : Step = record { answer = answer; state = without_thing s.store (ended (ticket_of x) l) name; calls = 0 } in
-        IsSound (state_by s y) → StandsIn bytes after left (state_by s y)
+        IsSound (state_by s y) → StandsIn bytes now after left (state_by s y)
     ended_stands thing taken x there on answer sound =
         let y : Step = record { answer = answer; state = without_thing s.store (ended (ticket_of x) l) name; calls = 0 } in
         stands_as left y on
-        (ends_so bytes h h l (ended (ticket_of x) l) os left s.store.things stands.names name thing taken x there (extends_itself h) refl) sound (record { levels = refl; halted = refl; next_log = refl; covered = refl; frozen = refl })
+        (ends_so bytes h h l (ended (ticket_of x) l) os left s.store.things stands.names name thing taken x there (extends_itself h) (λ none. none) refl) sound refl
 
-    pub view_ends : (view : EngineView H R) → IsTaken os left name (Some (View view)) → engine.StandsFor bytes after h (ended view.ticket l)
-        → MakesStep bytes after left s dropping (Ok answers.Done)
+    pub view_ends : (view : EngineView H R) → IsTaken os left name (Some (View view)) → Serving h (ended view.ticket l)
+        → MakesStep bytes now after left s dropping (Ok answers.Done)
     view_ends view taken on =
-        let (b, there, sees, live, near) = its bytes before os s stands left name view taken in
+        let (b, there, sees, live, near) = its bytes seen before os s stands left name view taken in
         let same : dropping ≡ drop_by s.store name (Some (AView (asked_view view) b)) = ap (drop_by s.store name) there in
-        subst (λ (y : Step). MakesStep bytes after left s y (Ok answers.Done)) (sym same) (
+        subst (λ (y : Step). MakesStep bytes now after left s y (Ok answers.Done)) (sym same) (
           refl,
           ended_stands (View view) taken (AView (asked_view view) b) there on store_lines.Done
               (subst (λ (y : Step). IsSound (state_by s y)) same (state_after-sound s (lines.Drop name) stands.sound)),
         )
 
-    pub transaction_ends : (txn : Txn H R) → IsTaken os left name (Some (Transaction txn)) → engine.StandsFor bytes after h (ended txn.ticket l)
-        → MakesStep bytes after left s dropping (Ok answers.Done)
+    pub transaction_ends : (txn : Txn H R) → IsTaken os left name (Some (Transaction txn)) → Serving h (ended txn.ticket l)
+        → MakesStep bytes now after left s dropping (Ok answers.Done)
     transaction_ends txn taken on =
-        let (t, b, there, is) = itself bytes before os s stands left name txn taken in
+        let (t, b, there, is) = itself bytes seen before os s stands left name txn taken in
         let same : dropping ≡ drop_by s.store name (Some (ATransaction t b)) = ap (drop_by s.store name) there in
-        subst (λ (y : Step). MakesStep bytes after left s y (Ok answers.Done)) (sym same) (
+        subst (λ (y : Step). MakesStep bytes now after left s y (Ok answers.Done)) (sym same) (
           refl,
           ended_stands (Transaction txn) taken (ATransaction t b) there
-              (subst (λ (u : ATxn). engine.StandsFor bytes after h (ended u.ticket l)) is.same on) store_lines.Done
+              (subst (λ (u : ATxn). Serving h (ended u.ticket l)) is.same on) store_lines.Done
               (subst (λ (y : Step). IsSound (state_by s y)) same (state_after-sound s (lines.Drop name) stands.sound)),
         )
 
@@ -199,12 +204,13 @@ some_there H R bytes h l (Some (Transaction txn)) None used is = absurd is
 some_there H R bytes h l (Some (View view)) None used is = absurd is
 some_there H R bytes h l (Some x) (Some z) used is = (z, refl)
 
-pub taken_makes : {H R : Type 0} (bytes : H → Option (List ℕ)) (core : Core H) (os : List (Open H R)) (s : State) (stands : StandsIn bytes core os s)
+pub taken_makes : {H R : Type 0} (bytes : H → Option (List ℕ)) (seen : Option DiskState) (core : Core H) (os : List (Open H R)) (s : State)
+    (stands : StandsIn bytes seen core os s)
     (name : Name) (thing : Beginning → ℕ → ℕ → store.Thing) → is_some (open_in os name) ≡ true
-    → MakesStep bytes core os s (begin_as s.store name thing (thing_of s.store name)) (Ok (answers.Taken name))
-taken_makes {H} {R} bytes core os s stands name thing used =
+    → MakesStep bytes seen core os s (begin_as s.store name thing (thing_of s.store name)) (Ok (answers.Taken name))
+taken_makes {H} {R} bytes seen core os s stands name thing used =
     let (z, there) = some_there H R bytes (history_of s) s.store.layout (open_in os name) (thing_of s.store name) used (stands.names.each name) in
-    only_makes bytes core os s stands os (begin_as s.store name thing (thing_of s.store name)) (answers.Taken name) (store_lines.Taken name)
+    only_makes bytes seen core os s stands os (begin_as s.store name thing (thing_of s.store name)) (answers.Taken name) (store_lines.Taken name)
     (ap (begin_as s.store name thing) there) refl stands.names
 
 -- ---- by the test of whether it is in use

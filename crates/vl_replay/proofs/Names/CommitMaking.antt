@@ -2,9 +2,9 @@
 use Rattle.std.proofs.Common.{◌≡◌, ℕ, ◌==◌, ◌+◌, Bool, true, false, cond, List, [], ◌∷◌, ◌++◌, length, refl, ap, sym, ◌∙◌, subst}
 use Rattle.std.specs.Prelude.{Option, None, Some, Ok, Err, nat_le}
 use Rattle.std.specs.FinMap.{from_sorted}
+use Rattle.vl_disk.specs.DiskState.{DiskState}
 use Rattle.vl_disk.specs.declared.name.Name.{Name as FileNamed}
 use Rattle.vl_engine.specs.Answers.{CommitFailed, commit_outcome, handed_back}
-use Rattle.vl_engine.specs.Represents as engine
 use Rattle.vl_engine.specs.Sees.{asked}
 use Rattle.vl_engine.specs.declared.engine.Done.{Done}
 use Rattle.vl_engine.specs.declared.fails.CommitFail.{CommitFail}
@@ -44,6 +44,7 @@ use Rattle.vl_replay.proofs.Disk.Betweens.{extends_one}
 use Rattle.vl_replay.proofs.Names.BeginMaking.{ended_stands, stands_as}
 use Rattle.vl_replay.proofs.Names.Ending.{ends_so}
 use Rattle.vl_replay.proofs.Names.Making.{txn_back}
+use Rattle.vl_replay.proofs.Names.Serving.{Serves}
 
 -- ---- a ruling by its answer
 
@@ -114,8 +115,8 @@ module _ (l : Layout) (h : History) (t : ATxn) where
 
 -- ---- steps
 
-module _ {H R : Type 0} (bytes : H → Option (List ℕ)) (before after : Core H) (os : List (Open H R)) (s : State) (stands : StandsIn bytes before os s)
-    (back : after.back ≡ before.back) (left : List (Open H R)) (name : Name) (txn : Txn H R) (taken : IsTaken os left name (Some (Transaction txn))) where
+module _ {H R : Type 0} (bytes : H → Option (List ℕ)) (seen now : Option DiskState) (before after : Core H) (os : List (Open H R)) (s : State)
+    (stands : StandsIn bytes seen before os s) (back : after.back ≡ before.back) (left : List (Open H R)) (name : Name) (txn : Txn H R) (taken : IsTaken os left name (Some (Transaction txn))) where
   abbrev h : History
   h = history_of s
 
@@ -139,22 +140,22 @@ module _ {H R : Type 0} (bytes : H → Option (List ℕ)) (before after : Core H
     sound_by a same = subst (λ (y : Step). IsSound (state_by s y)) (step_by a same) (state_after-sound s (lines.Commit name) stands.sound)
 
     makes_by : (a : CommitAnswer) (same : a ≡ (commit_ruling l h t).answer) (new : List (Open H R)) (told : Answer)
-        → IsTold told (by a).answer → StandsIn bytes after new (state_by s (by a)) → MakesStep bytes after new s committing (Ok told)
+        → IsTold told (by a).answer → StandsIn bytes now after new (state_by s (by a)) → MakesStep bytes now after new s committing (Ok told)
     makes_by a same new told is_told stands_then =
-        subst (λ (y : Step). MakesStep bytes after new s y (Ok told)) (sym (step_by a same)) (is_told, stands_then)
+        subst (λ (y : Step). MakesStep bytes now after new s y (Ok told)) (sym (step_by a same)) (is_told, stands_then)
 
     module _ (otherwise : Otherwise) (effects : Effects) where
       abbrev pub AnsweredBy : CommitAnswer → Type 0
-      AnsweredBy a = Decides (engine.StandsFor bytes after) h l (commit_ruling l h t) otherwise (Answered a) effects
+      AnsweredBy a = Decides (Serves bytes now s.openable after) h l (commit_ruling l h t) otherwise (Answered a) effects
 
       same_of : (a : CommitAnswer) → AnsweredBy a → a ≡ (commit_ruling l h t).answer
       same_of a decides = (decides.answered a refl).0
 
-      stands_of : (a : CommitAnswer) → AnsweredBy a → engine.StandsFor bytes after (ruling_of l h t a).history (ruling_of l h t a).layout
+      stands_of : (a : CommitAnswer) → AnsweredBy a → Serves bytes now s.openable after (ruling_of l h t a).history (ruling_of l h t a).layout
       stands_of a decides =
-          subst (λ (r : Ruling CommitAnswer). engine.StandsFor bytes after r.history r.layout) (answers_ruling l h t a (same_of a decides)) (decides.answered a refl).1
+          subst (λ (r : Ruling CommitAnswer). Serves bytes now s.openable after r.history r.layout) (answers_ruling l h t a (same_of a decides)) (decides.answered a refl).1
 
-      pub number_makes : (n : ℕ) → AnsweredBy (commit.At n) → MakesStep bytes after left s committing (Ok (answers.Number n))
+      pub number_makes : (n : ℕ) → AnsweredBy (commit.At n) → MakesStep bytes now after left s committing (Ok (answers.Number n))
       number_makes n decides =
           let same = same_of (commit.At n) decides in
           let longer : History = with_commit h (from_sorted t.writes) in
@@ -162,27 +163,27 @@ module _ {H R : Type 0} (bytes : H → Option (List ℕ)) (before after : Core H
           let more : history_in (with_changes s.store.commits t.writes) ≡ longer = history_more s.store.commits t.writes in
           makes_by (commit.At n) same left (answers.Number n)
           (ap store_lines.Number (number n (same ∙ ap (λ (r : Ruling CommitAnswer). r.answer) (answers_ruling l h t (commit.At n) same))))
-          (stands_as bytes before after os s stands back left (by (commit.At n))
-          (subst (λ (k : History). engine.StandsFor bytes after k next) (sym more) (stands_of (commit.At n) decides))
+          (stands_as bytes seen now before after os s stands back left (by (commit.At n))
+          (subst (λ (k : History). Serves bytes now s.openable after k next) (sym more) (stands_of (commit.At n) decides))
           (subst (λ (k : History). Stand bytes left (without_name name s.store.things) k next) (sym more)
-          (ends_so bytes h longer l next os left s.store.things stands.names name (Transaction txn) taken (ATransaction t b) there (extends_one h longer (from_sorted t.writes) refl) refl))
-          (sound_by (commit.At n) same) (record { levels = refl; halted = refl; next_log = refl; covered = refl; frozen = refl }))
+          (ends_so bytes h longer l next os left s.store.things stands.names name (Transaction txn) taken (ATransaction t b) there (extends_one h longer (from_sorted t.writes) refl) (λ none. none) refl))
+          (sound_by (commit.At n) same) refl)
         where
           number : (n : ℕ) → commit.At n ≡ commit.At (last_number h + 1) → n ≡ last_number h + 1
           number n e = cc
 
-      pub nothing_makes : AnsweredBy commit.Nothing → MakesStep bytes after left s committing (Ok answers.Nothing)
+      pub nothing_makes : AnsweredBy commit.Nothing → MakesStep bytes now after left s committing (Ok answers.Nothing)
       nothing_makes decides =
           let same = same_of commit.Nothing decides in
           makes_by commit.Nothing same left answers.Nothing refl
-          (ended_stands bytes before after os s stands back left name (Transaction txn) taken (ATransaction t b) there (stands_of commit.Nothing decides) store_lines.Nothing
+          (ended_stands bytes seen now before after os s stands back left name (Transaction txn) taken (ATransaction t b) there (stands_of commit.Nothing decides) store_lines.Nothing
           (sound_by commit.Nothing same))
 
-      pub conflict_makes : (key : List ℕ) (n : ℕ) → AnsweredBy (commit.Conflict key n) → MakesStep bytes after left s committing (Ok (answers.Conflict key n))
+      pub conflict_makes : (key : List ℕ) (n : ℕ) → AnsweredBy (commit.Conflict key n) → MakesStep bytes now after left s committing (Ok (answers.Conflict key n))
       conflict_makes key n decides =
           let same = same_of (commit.Conflict key n) decides in
           makes_by (commit.Conflict key n) same left (answers.Conflict key n) refl
-          (ended_stands bytes before after os s stands back left name (Transaction txn) taken (ATransaction t b) there (stands_of (commit.Conflict key n) decides) (store_lines.Conflict key n)
+          (ended_stands bytes seen now before after os s stands back left name (Transaction txn) taken (ATransaction t b) there (stands_of (commit.Conflict key n) decides) (store_lines.Conflict key n)
           (sound_by (commit.Conflict key n) same))
 
       abbrev behind : Txn H R → List (Open H R)
@@ -190,23 +191,23 @@ module _ {H R : Type 0} (bytes : H → Option (List ℕ)) (before after : Core H
 
       back_names : (new : Txn H R) → new ≡ txn → Stand bytes (behind new) s.store.things h l
       back_names new same = subst (λ (x : Txn H R). Stand bytes (behind x) s.store.things h l) (sym same)
-          (txn_back bytes before os s stands left name txn taken txn refl (λ reads sees. sees))
+          (txn_back bytes seen before os s stands left name txn taken txn refl (λ reads sees. sees))
 
       pub exhausted_makes : (new : Txn H R) → new ≡ txn → (c : Counter) → AnsweredBy (commit.Exhausted c)
-          → MakesStep bytes after (behind new) s committing (Ok (answers.Exhausted c))
+          → MakesStep bytes now after (behind new) s committing (Ok (answers.Exhausted c))
       exhausted_makes new it c decides =
           let same = same_of (commit.Exhausted c) decides in
           makes_by (commit.Exhausted c) same (behind new) (answers.Exhausted c) refl
-          (stands_as bytes before after os s stands back (behind new) (by (commit.Exhausted c)) (stands_of (commit.Exhausted c) decides) (back_names new it)
-          (sound_by (commit.Exhausted c) same) (record { levels = refl; halted = refl; next_log = refl; covered = refl; frozen = refl }))
+          (stands_as bytes seen now before after os s stands back (behind new) (by (commit.Exhausted c)) (stands_of (commit.Exhausted c) decides) (back_names new it)
+          (sound_by (commit.Exhausted c) same) refl)
 
       pub full_makes : (new : Txn H R) → new ≡ txn → (long frame : ℕ) → AnsweredBy (commit.Full long frame)
-          → MakesStep bytes after (behind new) s committing (Ok answers.Full)
+          → MakesStep bytes now after (behind new) s committing (Ok answers.Full)
       full_makes new it long frame decides =
           let same = same_of (commit.Full long frame) decides in
           makes_by (commit.Full long frame) same (behind new) answers.Full refl
-          (stands_as bytes before after os s stands back (behind new) (by (commit.Full long frame)) (stands_of (commit.Full long frame) decides) (back_names new it)
-          (sound_by (commit.Full long frame) same) (record { levels = refl; halted = refl; next_log = refl; covered = refl; frozen = refl }))
+          (stands_as bytes seen now before after os s stands back (behind new) (by (commit.Full long frame)) (stands_of (commit.Full long frame) decides) (back_names new it)
+          (sound_by (commit.Full long frame) same) refl)
 
       -- an engine that stands for what isn't halted isn't halted
       pub never_halted : (file : FileName) → AnsweredBy (commit.Halted file) → ⊥
@@ -229,11 +230,11 @@ module _ {H R : Type 0} (txn : Txn H R) where
   pub failed_so : (f : CommitFail H R) (file : FileNamed) → f ≡ fails.Disk file → CommitFailed (Err f)
   failed_so f file is = subst (λ (x : CommitFail H R). CommitFailed (Err x)) (sym is) tt
 
-  module _ (bytes : H → Option (List ℕ)) (after : Core H) (h : History) (l : Layout) (t : ATxn) (is : IsTransaction bytes txn t h l)
+  module _ (bytes : H → Option (List ℕ)) (stood : History → Layout → Type 0) (h : History) (l : Layout) (t : ATxn) (is : IsTransaction bytes txn t h l)
       (outcome : Outcome CommitAnswer) (effects : Effects) (a : CommitAnswer) (answered : outcome ≡ Answered a) where
     -- it was decided on the transaction of the store
-    pub decided_so : Decides (engine.StandsFor bytes after) h l (commit_ruling l h (asked txn t.reads)) (as_before l (commit_lost l (asked txn t.reads))) outcome effects
-        → Decides (engine.StandsFor bytes after) h l (commit_ruling l h t) (as_before l (commit_lost l t)) (Answered a) effects
+    pub decided_so : Decides stood h l (commit_ruling l h (asked txn t.reads)) (as_before l (commit_lost l (asked txn t.reads))) outcome effects
+        → Decides stood h l (commit_ruling l h t) (as_before l (commit_lost l t)) (Answered a) effects
     decided_so decides =
-        subst (λ (o : Outcome CommitAnswer). Decides (engine.StandsFor bytes after) h l (commit_ruling l h t) (as_before l (commit_lost l t)) o effects) answered
-        (subst (λ (u : ATxn). Decides (engine.StandsFor bytes after) h l (commit_ruling l h u) (as_before l (commit_lost l u)) outcome effects) is.same decides)
+        subst (λ (o : Outcome CommitAnswer). Decides stood h l (commit_ruling l h t) (as_before l (commit_lost l t)) o effects) answered
+        (subst (λ (u : ATxn). Decides stood h l (commit_ruling l h u) (as_before l (commit_lost l u)) outcome effects) is.same decides)

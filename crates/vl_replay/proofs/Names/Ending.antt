@@ -14,6 +14,7 @@ use Rattle.vl_layout_laws.specs.Live.{IsLivedIn}
 use Rattle.vl_layout.specs.Ruling.{ended}
 use Rattle.vl_layout.specs.Rulings.Begin.{begun}
 use Rattle.vl_layout.specs.Rulings.Commit.{Transaction as ATxn}
+use Rattle.vl_layout.specs.Sources.{tables}
 use Rattle.vl_layout.specs.Store.Lines.{Name}
 use Rattle.vl_layout.specs.Store.Things as store
 use Rattle.vl_layout.specs.Store.Things.{AJob, APass, ATransaction, AView, named, thing_in, without_name}
@@ -93,6 +94,8 @@ alone_later bytes view h k more sees = record {
 }
 
 module _ {H R : Type 0} (bytes : H → Option (List ℕ)) (h k : History) (l m : Layout) (more : Extends h k)
+    -- there are tables still, where there were some
+    (bare : tables m ≡ [] → tables l ≡ [])
     -- what lives on
     (ticket_lives : ℕ → Type 0) (lives : (ticket number : ℕ) → ticket_lives ticket → IsLive l ticket number → IsLive m ticket number) where
   pub still_stands : (x : Option (Thing H R)) (y : Option store.Thing) → ((z : store.Thing) → y ≡ Some z → ticket_lives (ticket_of z))
@@ -107,7 +110,7 @@ module _ {H R : Type 0} (bytes : H → Option (List ℕ)) (h k : History) (l m :
     same = is.same;
     sees = sees_later bytes txn h k t.reads more is.sees;
     live = lives txn.ticket txn.number (subst (λ (u : ATxn). ticket_lives u.ticket) (sym is.same) (on (ATransaction t b) refl)) is.live;
-    near = is.near;
+    near = λ none. is.near (bare none);
   }
   still_stands (Some (Transaction txn)) (Some (AView v b)) on is = absurd is
   still_stands (Some (Transaction txn)) (Some (AJob job made)) on is = absurd is
@@ -117,7 +120,7 @@ module _ {H R : Type 0} (bytes : H → Option (List ℕ)) (h k : History) (l m :
     same,
     alone_later bytes view h k more sees,
     lives view.ticket view.number (subst (λ (w : LayoutView). ticket_lives w.ticket) (sym same) (on (AView v b) refl)) live,
-    near,
+    λ none. near (bare none),
   )
   still_stands (Some (View view)) (Some (ATransaction t b)) on is = absurd is
   still_stands (Some (View view)) (Some (AJob job made)) on is = absurd is
@@ -127,11 +130,12 @@ module _ {H R : Type 0} (bytes : H → Option (List ℕ)) (h k : History) (l m :
 
 module _ {H R : Type 0} (bytes : H → Option (List ℕ)) (h k : History) (l m : Layout) (os left : List (Open H R)) (ts : List (Name × store.Thing))
     (stand : Stand bytes os ts h l) (name : Name) (thing : Thing H R) (taken : IsTaken os left name (Some thing))
-    (x : store.Thing) (there : thing_in ts name ≡ Some x) (more : Extends h k) (live : m.live ≡ (ended (ticket_of x) l).live) where
+    (x : store.Thing) (there : thing_in ts name ≡ Some x) (more : Extends h k) (bare : tables m ≡ [] → tables l ≡ [])
+    (live : m.live ≡ (ended (ticket_of x) l).live) where
   -- The name is free, and the others stand on.
   pub ends_so : Stand bytes left (without_name name ts) k m
   ends_so = stands_without bytes ts h k l m os left stand name (Some thing) taken
-      (λ other apart y z at is. still_stands bytes h k l m more (λ (ticket : ℕ). ticket ≡ ticket_of x → ⊥)
+      (λ other apart y z at is. still_stands bytes h k l m more bare (λ (ticket : ℕ). ticket ≡ ticket_of x → ⊥)
       (λ ticket number differs lives. subst (λ (xs : List Live). IsLive (record m { live = xs }) ticket number) (sym live) (lives_ended l (ticket_of x) ticket number differs lives))
       y z (λ u found same. apart (stand.apart other name u x (at ∙ found) there same)) is)
 
@@ -149,7 +153,7 @@ module _ {H R : Type 0} (bytes : H → Option (List ℕ)) (h : History) (l : Lay
   pub begins_so : (new : Thing H R) (x : store.Thing) → ticket_of x ≡ ticket → Corresponds bytes h next (Some new) (Some x)
       → Stand bytes (os ++ record { name = name; thing = new } ∷ []) (named name x ts) h next
   begins_so new x own there = stands_with bytes ts h h l next os os stand name None (taken_none name os stand.once free)
-      (λ other apart y z at is. still_stands bytes h h l next (extends_itself h) (λ (t : ℕ). Unit {0})
+      (λ other apart y z at is. still_stands bytes h h l next (extends_itself h) (λ none. none) (λ (t : ℕ). Unit {0})
       (λ t number on lives. lives_begun l h lived t number lives) y z (λ u found. tt) is)
       new x there
       (λ other y apart at same.
@@ -157,7 +161,7 @@ module _ {H R : Type 0} (bytes : H → Option (List ℕ)) (h : History) (l : Lay
       begun_was_free l h lived number (subst (λ (t : ℕ). IsLive l t number) (sym same ∙ own) lives))
 
   pub begins_transaction : (txn : Txn H R) (b : Beginning) → txn.ticket ≡ ticket → txn.number ≡ last_number h → IsNew txn → Sees bytes txn h []
-      → IsInMemory txn.version
+      → (tables l ≡ [] → IsInMemory txn.version)
       → Stand bytes (os ++ record { name = name; thing = Transaction txn } ∷ [])
       (named name (ATransaction (record { ticket = ticket; number = last_number h; reads = []; writes = [] }) b) ts) h next
   begins_transaction txn b own number new sees near = begins_so (Transaction txn) _ refl (record {
@@ -170,7 +174,7 @@ module _ {H R : Type 0} (bytes : H → Option (List ℕ)) (h : History) (l : Lay
   })
 
   pub begins_view : (view : EngineView H R) (b : Beginning) → view.ticket ≡ ticket → view.number ≡ last_number h → SeesAlone bytes view h
-      → IsInMemory view.version
+      → (tables l ≡ [] → IsInMemory view.version)
       → Stand bytes (os ++ record { name = name; thing = View view } ∷ [])
       (named name (AView (record { ticket = ticket; number = last_number h }) b) ts) h next
   begins_view view b own number sees near = begins_so (View view) _ refl (

@@ -2,6 +2,7 @@
 use Rattle.std.proofs.Common.{◌≡◌, ℕ, List, [], ◌∷◌, ◌++◌, refl, ap, sym, ◌∙◌, subst}
 use Rattle.std.specs.Prelude.{Option, None, Some, Ok, Err, Result, IfOk, OnOk}
 use Rattle.std.specs.Bool.{⊤}
+use Rattle.vl_disk.specs.DiskState.{DiskState}
 use Rattle.vl_engine.specs.Reading.{IsInMemory, NotesNothing, OnlyReads, OnlyWrites}
 use Rattle.vl_engine.specs.Represents.{IsLive}
 use Rattle.vl_engine.specs.Sees.{Sees, SeesAlone, asked, asked_view}
@@ -11,6 +12,7 @@ use Rattle.vl_engine.specs.declared.view.View.{View as EngineView}
 use Rattle.vl_layout.specs.AtAnswer.{Beginning}
 use Rattle.vl_layout.specs.Rulings.Commit.{Transaction as ATxn}
 use Rattle.vl_layout.specs.Rulings.View.{View as LayoutView}
+use Rattle.vl_layout.specs.Sources.{tables}
 use Rattle.vl_layout.specs.Store.Lines as store_lines
 use Rattle.vl_layout.specs.Store.Lines.{Name}
 use Rattle.vl_layout.specs.Store.Reading.{write_by}
@@ -60,7 +62,7 @@ module _ {H R : Type 0} (bytes : H → Option (List ℕ)) (h : History) (l : Lay
     ap (λ (x : EngineView H R). asked_view x) keeps ∙ same,
     still sees,
     subst (λ (x : EngineView H R). IsLive l x.ticket x.number) (sym keeps) live,
-    subst (λ (x : EngineView H R). IsInMemory x.version) (sym keeps) near,
+    λ none. subst (λ (x : EngineView H R). IsInMemory x.version) (sym keeps) (near none),
   )
 
   pub txn_only : (old new : Txn H R) (t : ATxn) → NotesNothing old new → (Sees bytes old h t.reads → Sees bytes new h t.reads)
@@ -69,7 +71,7 @@ module _ {H R : Type 0} (bytes : H → Option (List ℕ)) (h : History) (l : Lay
     same = ap (λ (x : Txn H R). asked x t.reads) keeps ∙ is.same;
     sees = still is.sees;
     live = subst (λ (x : Txn H R). IsLive l x.ticket x.number) (sym keeps) is.live;
-    near = subst (λ (x : Txn H R). IsInMemory x.version) (sym keeps) is.near;
+    near = λ none. subst (λ (x : Txn H R). IsInMemory x.version) (sym keeps) (is.near none);
   }
 
   -- A name is put back for what stands for the same.
@@ -95,7 +97,7 @@ module _ {H R : Type 0} (bytes : H → Option (List ℕ)) (h : History) (l : Lay
 
 -- ---- steps
 
-module _ {H R : Type 0} (bytes : H → Option (List ℕ)) (core : Core H) (os : List (Open H R)) (s : State) (stands : StandsIn bytes core os s) where
+module _ {H R : Type 0} (bytes : H → Option (List ℕ)) (seen : Option DiskState) (core : Core H) (os : List (Open H R)) (s : State) (stands : StandsIn bytes seen core os s) where
   abbrev h : History
   h = history_of s
 
@@ -106,20 +108,21 @@ module _ {H R : Type 0} (bytes : H → Option (List ℕ)) (core : Core H) (os : 
   ts = s.store.things
 
   -- a line that changes nothing
-  pub only_stands : (new : List (Open H R)) (answer : store_lines.Answer) → Stand bytes new ts h l → StandsIn bytes core new (state_by s (only answer s.store))
+  pub only_stands : (new : List (Open H R)) (answer : store_lines.Answer) → Stand bytes new ts h l → StandsIn bytes seen core new (state_by s (only answer s.store))
   only_stands new answer names = record {
     engine = stands.engine;
     names = names;
     sound = stands.sound;
-    untabled = stands.untabled;
+    held = stands.held;
     running = stands.running;
-    back = stands.back;
+    fits = stands.fits;
+    within = stands.within;
   }
 
   pub only_makes : (new : List (Open H R)) (x : Step) (told : Answer) (answer : store_lines.Answer) → x ≡ only answer s.store
-      → IsTold told answer → Stand bytes new ts h l → MakesStep bytes core new s x (Ok told)
+      → IsTold told answer → Stand bytes new ts h l → MakesStep bytes seen core new s x (Ok told)
   only_makes new x told answer same is names =
-      subst (λ (y : Step). MakesStep bytes core new s y (Ok told)) (sym same) (is, only_stands new answer names)
+      subst (λ (y : Step). MakesStep bytes seen core new s y (Ok told)) (sym same) (is, only_stands new answer names)
 
   module _ (left : List (Open H R)) (name : Name) where
     -- the name stands for nothing
@@ -129,7 +132,7 @@ module _ {H R : Type 0} (bytes : H → Option (List ℕ)) (core : Core H) (os : 
         (subst (λ (o : Option (Thing H R)). Corresponds bytes h l o (thing_of s.store name)) taken.found (stands.names.each name))
 
     pub unknown_makes : IsTaken os left name None → (x : Option store.Thing → Step) → x None ≡ only (store_lines.Unknown name) s.store
-        → MakesStep bytes core left s (x (thing_of s.store name)) (Ok (answers.Unknown name))
+        → MakesStep bytes seen core left s (x (thing_of s.store name)) (Ok (answers.Unknown name))
     unknown_makes taken x is =
         let none = nothing_there taken in
         only_makes left (x (thing_of s.store name)) (answers.Unknown name) (store_lines.Unknown name) (ap x none ∙ is) refl
@@ -141,7 +144,7 @@ module _ {H R : Type 0} (bytes : H → Option (List ℕ)) (core : Core H) (os : 
 
       -- the view that it stands for
       pub its : (b : Beginning) × (thing_of s.store name ≡ Some (AView (asked_view view) b)) × SeesAlone bytes view h × IsLive l view.ticket view.number
-          × IsInMemory view.version
+          × (tables l ≡ [] → IsInMemory view.version)
       its = its_view bytes h l view (thing_of s.store name) there_view
 
       pub view_back : (new : EngineView H R) → OnlyReads view new → (SeesAlone bytes view h → SeesAlone bytes new h)
@@ -153,7 +156,7 @@ module _ {H R : Type 0} (bytes : H → Option (List ℕ)) (core : Core H) (os : 
 
       -- a view isn't written
       pub read_only_makes : (x : Option store.Thing → Step) → ((v : LayoutView) (b : Beginning) → x (Some (AView v b)) ≡ only store_lines.ReadOnly s.store)
-          → MakesStep bytes core (left ++ record { name = name; thing = View view } ∷ []) s (x (thing_of s.store name)) (Ok answers.ReadOnly)
+          → MakesStep bytes seen core (left ++ record { name = name; thing = View view } ∷ []) s (x (thing_of s.store name)) (Ok answers.ReadOnly)
       read_only_makes x is =
           let (b, there, sees, live, near) = its in
           only_makes (left ++ record { name = name; thing = View view } ∷ []) (x (thing_of s.store name)) answers.ReadOnly store_lines.ReadOnly
@@ -182,12 +185,12 @@ module _ {H R : Type 0} (bytes : H → Option (List ℕ)) (core : Core H) (os : 
       pub write_makes : (new : Txn H R) (key : List ℕ) (change : Change) → OnlyWrites txn new
           → ((k : History) (reads : List Read) → Sees bytes txn k reads → Sees bytes new k reads)
           → (result : Result ⊤ SetFail) → IsWritten txn.writes key change new.writes result
-          → MakesStep bytes core (left ++ record { name = name; thing = Transaction new } ∷ []) s (write_by s.store name key change (thing_of s.store name)) (told_write result)
+          → MakesStep bytes seen core (left ++ record { name = name; thing = Transaction new } ∷ []) s (write_by s.store name key change (thing_of s.store name)) (told_write result)
       write_makes new key change keeps sees result written =
           let (t, b, there, is) = itself in
           let so = writes_so bytes s.store os left stands.names name txn new taken key change keeps t b there is (sees h t.reads is.sees) result written in
           let behind : List (Open H R) = left ++ record { name = name; thing = Transaction new } ∷ [] in
           let x : Step = write_by s.store name key change (thing_of s.store name) in
-          both (λ (answer : Answer). IsTold answer x.answer) (Stand bytes behind x.state.things h l) (StandsIn bytes core behind (state_by s x)) (told_write result)
-          (λ (names : Stand bytes behind x.state.things h l). quiet_stands bytes core os behind s x (write_quiet s.store name key change (thing_of s.store name)) stands names (write_sound key change))
+          both (λ (answer : Answer). IsTold answer x.answer) (Stand bytes behind x.state.things h l) (StandsIn bytes seen core behind (state_by s x)) (told_write result)
+          (λ (names : Stand bytes behind x.state.things h l). quiet_stands bytes seen core os behind s x (write_quiet s.store name key change (thing_of s.store name)) stands names (write_sound key change))
           so.told so.names

@@ -3,6 +3,7 @@ use Rattle.std.proofs.Common.{◌≡◌, ◌+◌, ℕ, zero, suc, Bool, true, fa
 use Rattle.std.specs.Prelude.{Option, None, Some, Result, Ok, Err, slice_index_or, slice_set}
 use Rattle.std.specs.Option.{option_map}
 use Rattle.std.specs.Ordering.{eq_by_cmp}
+use Rattle.vl_disk.specs.DiskState.{DiskState}
 use Rattle.vl_engine.specs.declared.kept.Core.{Core}
 use Rattle.vl_layout.specs.Store.Lines.{Name}
 use Rattle.vl_layout.specs.Store.Things as store
@@ -107,23 +108,24 @@ module _ {H R : Type 0} where
       apart = stand.apart;
     }
 
-    pub makes_as : (core : Core H) (s : State) (x : Step) (result : Result Answer Halt) → MakesStep bytes core os s x result → MakesStep bytes core new s x result
-    makes_as core s x (Ok answer) (is, stands) = (
+    pub makes_as : (seen : Option DiskState) (core : Core H) (s : State) (x : Step) (result : Result Answer Halt) → MakesStep bytes seen core os s x result → MakesStep bytes seen core new s x result
+    makes_as seen core s x (Ok answer) (is, stands) = (
       is,
       record {
         engine = stands.engine;
         names = stand_as x.state.things _ _ stands.names;
         sound = stands.sound;
-        untabled = stands.untabled;
+        held = stands.held;
         running = stands.running;
-        back = stands.back;
+        fits = stands.fits;
+        within = stands.within;
       },
     )
-    makes_as core s x (Err halt) makes = tt
+    makes_as seen core s x (Err halt) makes = tt
 
 -- ---- in the words of the functions that look a name up, and change what stands there
 
-module _ {H R : Type 0} (bytes : H → Option (List ℕ)) (core : Core H) (os : List (Open H R)) (s : State) (stands : StandsIn bytes core os s)
+module _ {H R : Type 0} (bytes : H → Option (List ℕ)) (seen : Option DiskState) (core : Core H) (os : List (Open H R)) (s : State) (stands : StandsIn bytes seen core os s)
     -- the names as the call had them, and the name as it had it
     (slice : List (Open H R)) (value : slice ≡ os) (q name : Name) (same : q ≡ name) where
   place_is : (found : Option ℕ) → place_of q slice ≡ found → place_of name os ≡ found
@@ -131,9 +133,9 @@ module _ {H R : Type 0} (bytes : H → Option (List ℕ)) (core : Core H) (os : 
 
   -- the name isn't in use
   pub free_returns : place_of q slice ≡ None → (x : Option store.Thing → Step) → x None ≡ only (store_lines.Unknown name) s.store
-      → MakesStep bytes core os s (x (thing_of s.store name)) (Ok (answers.Unknown name))
+      → MakesStep bytes seen core os s (x (thing_of s.store name)) (Ok (answers.Unknown name))
   free_returns is x unknown =
-      unknown_makes bytes core os s stands os name (taken_none name os stands.names.once (place_none name os (place_is None is))) x unknown
+      unknown_makes bytes seen core os s stands os name (taken_none name os stands.names.once (place_none name os (place_is None is))) x unknown
 
   module _ (at : ℕ) (is : place_of q slice ≡ Some at) (o : Open H R) (there : o ≡ slice_index_or os at o) where
     -- what stands there, as if it had been taken out
@@ -146,21 +148,21 @@ module _ {H R : Type 0} (bytes : H → Option (List ℕ)) (core : Core H) (os : 
 
     -- another thing in its place, as if that had been put back
     pub in_place : (new : Thing H R) (x y : Step) (told result : Result Answer Halt) → x ≡ y → result ≡ told
-        → MakesStep bytes core (without_open name os ++ record { name = name; thing = new } ∷ []) s x told
-        → MakesStep bytes core (slice_set os at (record { name = o.name; thing = new })) s y result
+        → MakesStep bytes seen core (without_open name os ++ record { name = name; thing = new } ∷ []) s x told
+        → MakesStep bytes seen core (slice_set os at (record { name = o.name; thing = new })) s y result
     in_place new x y told result same_step same_result makes =
         let p : Open H R = record { name = o.name; thing = new } in
         let named : o.name ≡ name = ap (λ (w : Open H R). w.name) there ∙ place_named name os at (place_is (Some at) is) o in
         let changed = changed_at name os at p named (place_is (Some at) is) stands.names.once in
-        subst (λ (r : Result Answer Halt). MakesStep bytes core (slice_set os at p) s y r) (sym same_result)
-        (subst (λ (z : Step). MakesStep bytes core (slice_set os at p) s z told) same_step
+        subst (λ (r : Result Answer Halt). MakesStep bytes seen core (slice_set os at p) s y r) (sym same_result)
+        (subst (λ (z : Step). MakesStep bytes seen core (slice_set os at p) s z told) same_step
         (makes_as bytes (without_open name os ++ record { name = name; thing = new } ∷ []) (slice_set os at p)
-        (found_alike name os (slice_set os at p) new stands.names.once changed) changed.once core s x told makes))
+        (found_alike name os (slice_set os at p) new stands.names.once changed) changed.once seen core s x told makes))
 
     -- the same thing, as if that had been put back
     pub still_in_place : (thing : Thing H R) → o.thing ≡ thing → (x : Step) (result : Result Answer Halt)
-        → MakesStep bytes core (without_open name os ++ record { name = name; thing = thing } ∷ []) s x result
-        → MakesStep bytes core (slice_set os at (record { name = o.name; thing = o.thing })) s x result
+        → MakesStep bytes seen core (without_open name os ++ record { name = name; thing = thing } ∷ []) s x result
+        → MakesStep bytes seen core (slice_set os at (record { name = o.name; thing = o.thing })) s x result
     still_in_place thing thing_is x result makes =
-        subst (λ (t : Thing H R). MakesStep bytes core (slice_set os at (record { name = o.name; thing = t })) s x result) (sym thing_is)
+        subst (λ (t : Thing H R). MakesStep bytes seen core (slice_set os at (record { name = o.name; thing = t })) s x result) (sym thing_is)
         (in_place thing x x result result refl refl makes)

@@ -2,9 +2,9 @@
 use Rattle.std.proofs.Common.{◌≡◌, ℕ, Bool, true, false, cond, ◌&&◌, not, List, [], length, refl, ap, sym, ◌∙◌, subst}
 use Rattle.std.specs.Prelude.{Option, None, Some, nat_le}
 use Rattle.std.specs.FinMap.{find, put}
-use Rattle.std.specs.List.{flat_map}
-use Rattle.vl_back.specs.declared.back.Back.{Back}
+use Rattle.vl_disk.specs.DiskState.{DiskState}
 use Rattle.vl_engine.specs.Represents as engine
+use Rattle.vl_engine.specs.Stepping.{Fits}
 use Rattle.vl_engine.specs.declared.kept.Core.{Core}
 use Rattle.vl_layout.specs.AtAnswer.{Beginning}
 use Rattle.vl_layout.specs.Rulings.Commit.{Transaction as ATxn}
@@ -13,20 +13,13 @@ use Rattle.vl_layout.specs.Store.Lines.{Answer, Name}
 use Rattle.vl_layout.specs.Store.Reading.{get_by, get_own, is_small_enough, scan_by, write_by}
 use Rattle.vl_layout.specs.Store.Things as store
 use Rattle.vl_layout.specs.Store.Things.{AJob, APass, ATransaction, AView, Step}
-use Rattle.vl_layout.specs.Sources.{tables}
-use Rattle.vl_layout.specs.Start.{newest_first}
 use Rattle.vl_layout.specs.declared.layout.Layout.{Layout}
-use Rattle.vl_layout.specs.declared.segment.Segment.{Segment}
-use Rattle.vl_layout.specs.declared.table.Table.{Table}
-use Rattle.vl_manifest.specs.declared.manifest_log.ManifestLog.{ManifestLog}
-use Rattle.vl_manifest.specs.declared.state.ManifestState.{ManifestState}
 use Rattle.vl_model.specs.Formats.{log_format}
 use Rattle.vl_model.specs.Keys.{Stored, is_key_length, is_value_length, key_cmp, value_bytes}
 use Rattle.vl_model.specs.Limits.{max_key_bytes}
 use Rattle.vl_model.specs.declared.change.Change.{Change}
 use Rattle.vl_model.specs.declared.way.Way.{Way}
-use Rattle.vl_recover.specs.opening.HeldFiles.{AreWaiting}
-use Rattle.vl_replay.specs.Replaying.{IsBackOf, StandsIn, state_by}
+use Rattle.vl_replay.specs.Replaying.{StandsIn, state_by}
 use Rattle.vl_replay.specs.Sequential.{State, history_of}
 use Rattle.vl_replay.specs.Standing.{Stand}
 use Rattle.vl_replay.specs.declared.replayer.open.Open.{Open}
@@ -38,42 +31,24 @@ pub record IsQuiet (s : store.State) (x : Step) : Type 0 where
   pub layout : x.state.layout ≡ s.layout
 
 -- Then the engine stands for what it did.
-pub quiet_stands : {H R : Type 0} (bytes : H → Option (List ℕ)) (core : Core H) (os new : List (Open H R)) (s : State) (x : Step)
-    → IsQuiet s.store x → StandsIn bytes core os s → Stand bytes new x.state.things (history_of s) s.store.layout
-    → IsSound (state_by s x) → StandsIn bytes core new (state_by s x)
-quiet_stands bytes core os new s x quiet stands names sound = record {
+pub quiet_stands : {H R : Type 0} (bytes : H → Option (List ℕ)) (seen : Option DiskState) (core : Core H) (os new : List (Open H R)) (s : State) (x : Step)
+    → IsQuiet s.store x → StandsIn bytes seen core os s → Stand bytes new x.state.things (history_of s) s.store.layout
+    → IsSound (state_by s x) → StandsIn bytes seen core new (state_by s x)
+quiet_stands bytes seen core os new s x quiet stands names sound = record {
   engine = subst (λ (p : Commits). engine.StandsFor bytes core (history_in p) x.state.layout) (sym quiet.commits)
       (subst (engine.StandsFor bytes core (history_of s)) (sym quiet.layout) stands.engine);
   names = subst (λ (p : Commits). Stand bytes new x.state.things (history_in p) x.state.layout) (sym quiet.commits)
       (subst (Stand bytes new x.state.things (history_of s)) (sym quiet.layout) names);
   sound = sound;
-  untabled = ap tables quiet.layout ∙ stands.untabled;
+  held = λ openable. subst (λ (p : Commits). engine.IsHeld core.back seen (history_in p) x.state.layout) (sym quiet.commits)
+      (subst (engine.IsHeld core.back seen (history_of s)) (sym quiet.layout) (stands.held openable));
   running = ap (λ (l : Layout). l.halted) quiet.layout ∙ stands.running;
-  back = subst (IsBackOf core.back s.manifest_file s.manifest) (sym quiet.layout) stands.back;
+  fits = subst (λ (p : Commits). Fits seen core (history_in p) x.state.layout) (sym quiet.commits)
+      (subst (Fits seen core (history_of s)) (sym quiet.layout) stands.fits);
+  within = stands.within;
 }
 
--- ---- layouts that differ only in their active log and in what lives
-
-pub record IsAlike (l m : Layout) : Type 0 where
-  pub levels : m.levels ≡ l.levels
-  pub halted : m.halted ≡ l.halted
-  pub next_log : m.next_log ≡ l.next_log
-  pub covered : m.covered ≡ l.covered
-  pub frozen : m.frozen ≡ l.frozen
-
-pub untabled_alike : (l m : Layout) → IsAlike l m → tables l ≡ [] → tables m ≡ []
-untabled_alike l m alike none = ap (λ (ls : List (List Table)). flat_map (λ (level : List Table). level) ls) alike.levels ∙ none
-
--- What steps on files need is the same.
-pub back_alike : (back : Back) (file : ManifestLog) (manifest : ManifestState) (l m : Layout) → IsAlike l m
-    → IsBackOf back file manifest l → IsBackOf back file manifest m
-back_alike back file manifest l m alike is = record {
-  file_is = is.file_is;
-  state = is.state;
-  next_log = is.next_log ∙ sym alike.next_log;
-  waiting = subst (λ (n : ℕ). AreWaiting n back.waiting.items (newest_first m.frozen)) (sym alike.covered)
-      (subst (λ (ss : List Segment). AreWaiting l.covered back.waiting.items (newest_first ss)) (sym alike.frozen) is.waiting);
-}
+-- ---- which lines do
 
 module _ (s : store.State) where
   quiet : (x : Step) → x.state.commits ≡ s.commits → x.state.layout ≡ s.layout → IsQuiet s x

@@ -1,6 +1,8 @@
 -- What reads and scans through a name make.
-use Rattle.std.proofs.Common.{◌≡◌, ℕ, ◌==◌, Bool, true, false, cond, ◌&&◌, not, List, [], ◌∷◌, ◌++◌, length, refl, ap, sym, ◌∙◌, subst}
+use Rattle.std.proofs.Common.{◌≡◌, ℕ, ◌==◌, Bool, true, false, cond, ◌&&◌, not, List, [], ◌∷◌, ◌++◌, length, refl, ap, sym, ◌∙◌, subst, arith}
 use Rattle.std.specs.Prelude.{Option, None, Some, Ok, Err, Result, IfOk, OnOk, OnErr, nat_le}
+use Rattle.vl_disk.specs.DiskState.{DiskState}
+use Rattle.vl_disk.specs.Faults.{HasCause}
 use Rattle.vl_engine.specs.Reading.{IsRefusedBy, IsSound as IsSoundRead, NotesNothing, OnlyNotes, OnlyReads, ReadFailed, either, value_under}
 use Rattle.vl_engine.specs.Sees.{Sees, SeesAlone}
 use Rattle.vl_engine.specs.declared.fails.ReadFail.{ReadFail}
@@ -25,7 +27,8 @@ use Rattle.vl_txn.specs.declared.key_fail.KeyFail.TheVariants.{EmptyKey, KeyTooL
 use Rattle.vl_replay.specs.Replaying.{MakesStep, OnlyNoMemory, StandsIn, state_by}
 use Rattle.vl_replay.specs.Sequential.{State, as_told, history_of, without_lengths}
 use Rattle.vl_replay.specs.Standing.{IsTaken, tell_of, told_by, told_value}
-use Rattle.vl_replay.specs.Halts.{HaltsByDisk}
+use Rattle.vl_replay.specs.Failing.{ReaderFailed}
+use Rattle.vl_replay.specs.Halts.{HaltsByDamage, HaltsByDisk, HaltsByReader}
 use Rattle.vl_replay.specs.declared.fails.Halt.{Halt}
 use Rattle.vl_replay.specs.declared.replayer.open.Open.{Open}
 use Rattle.vl_replay.specs.declared.replayer.open.Thing.TheVariants.{Transaction, View}
@@ -103,7 +106,36 @@ call_sound tell read result is sound near = subst (λ (r : Result Answer Halt). 
 pub call_not_by_disk : {V : Type 0} (tell : V → Answer) (read : Result V ReadFail) (result : Result Answer Halt) → result ≡ told_by tell read → HaltsByDisk result → ⊥
 call_not_by_disk tell read result is halts = not_by_disk tell read (subst (λ (r : Result Answer Halt). HaltsByDisk r) is halts)
 
-module _ {H R : Type 0} (bytes : H → Option (List ℕ)) (core : Core H) (os : List (Open H R)) (s : State) (stands : StandsIn bytes core os s)
+-- no damage is told where none was met,
+undamaged_told : {V : Type 0} (tell : V → Answer) (result : Result V ReadFail) → IsSoundRead result → HaltsByDamage (told_by tell result) → ⊥
+undamaged_told tell (Ok value) sound halts = halts
+undamaged_told tell (Err unread.EmptyKey) sound halts = halts
+undamaged_told tell (Err unread.KeyTooLong) sound halts = halts
+undamaged_told tell (Err unread.NoMemory) sound halts = halts
+undamaged_told tell (Err (unread.Disk name)) sound halts = halts
+undamaged_told tell (Err (unread.Damaged name place)) sound halts = sound tt
+
+pub call_undamaged : {V : Type 0} (tell : V → Answer) (read : Result V ReadFail) (result : Result Answer Halt) → result ≡ told_by tell read → IsSoundRead read
+    → HaltsByDamage result → ⊥
+call_undamaged tell read result is sound halts = undamaged_told tell read sound (subst (λ (r : Result Answer Halt). HaltsByDamage r) is halts)
+
+-- and a reader's fault where its reader failed
+failed_told : {V : Type 0} (tell : V → Answer) (result : Result V ReadFail) → HaltsByReader (told_by tell result) → ReadFailed result
+failed_told tell (Ok value) halts = halts
+failed_told tell (Err unread.EmptyKey) halts = halts
+failed_told tell (Err unread.KeyTooLong) halts = halts
+failed_told tell (Err unread.NoMemory) halts = halts
+failed_told tell (Err (unread.Disk name)) halts = tt
+failed_told tell (Err (unread.Damaged name place)) halts = absurd halts
+
+-- which it counted
+pub call_counted : {V R : Type 0} (tell : V → Answer) (read : Result V ReadFail) (result : Result Answer Halt) → result ≡ told_by tell read
+    → (faults : R → ℕ) (old new : R) → HasCause (faults old) (faults new) (ReadFailed read) → HaltsByReader result → ReaderFailed faults
+call_counted tell read result is faults old new cause halts =
+    let rose = cause.rose (failed_told tell read (subst (λ (r : Result Answer Halt). HaltsByReader r) is halts)) in
+    record { reader = new; some = omega (arith, rose) }
+
+module _ {H R : Type 0} (bytes : H → Option (List ℕ)) (seen : Option DiskState) (core : Core H) (os : List (Open H R)) (s : State) (stands : StandsIn bytes seen core os s)
     (left : List (Open H R)) (name : Name) where
   abbrev h : History
   h = history_of s
@@ -129,25 +161,25 @@ module _ {H R : Type 0} (bytes : H → Option (List ℕ)) (core : Core H) (os : 
 
     pub view_read_makes : (key : List ℕ) (with_tag : Bool) (result : Result (Option Stored) ReadFail) → IsRefusedBy (refused_key key) result
         → ((k : History) → SeesAlone bytes view k → IfOk result (λ value. value ≡ value_at k view.number key))
-        → MakesStep bytes core behind s (reading with_tag key) (told_by (told_value with_tag) result)
-    view_read_makes key with_tag result refused value = of result refused (let (b, there, sees, live, near) = its bytes core os s stands left name view taken in value h sees)
+        → MakesStep bytes seen core behind s (reading with_tag key) (told_by (told_value with_tag) result)
+    view_read_makes key with_tag result refused value = of result refused (let (b, there, sees, live, near) = its bytes seen core os s stands left name view taken in value h sees)
       where
         step_is : reading with_tag key ≡ view_step key with_tag view.number (is_key_length (length key))
-        step_is = let (b, there, sees, live, near) = its bytes core os s stands left name view taken in ap (get_by s.store name (tell_of with_tag) key) there
+        step_is = let (b, there, sees, live, near) = its bytes seen core os s stands left name view taken in ap (get_by s.store name (tell_of with_tag) key) there
 
         of : (result : Result (Option Stored) ReadFail) → IsRefusedBy (refused_key key) result → IfOk result (λ value. value ≡ value_at h view.number key)
-            → MakesStep bytes core behind s (reading with_tag key) (told_by (told_value with_tag) result)
+            → MakesStep bytes seen core behind s (reading with_tag key) (told_by (told_value with_tag) result)
         of (Ok value) refused is =
-            only_makes bytes core os s stands behind (reading with_tag key) (told_value with_tag value) (tell_of with_tag (value_in s.store.commits view.number key))
+            only_makes bytes seen core os s stands behind (reading with_tag key) (told_value with_tag value) (tell_of with_tag (value_in s.store.commits view.number key))
             (step_is ∙ ap (view_step key with_tag view.number) (key_fits key refused))
             (told_is with_tag value ∙ ap (λ (v : Option Stored). without_lengths (tell_of with_tag v)) (is ∙ sym (value_in-is s.store.commits stands.sound.proper.commits view.number key)))
-            (view_back bytes core os s stands left name view taken new keeps (still h))
+            (view_back bytes seen core os s stands left name view taken new keeps (still h))
         of (Err unread.EmptyKey) refused is =
-            only_makes bytes core os s stands behind (reading with_tag key) answers.Invalid store_lines.Invalid (step_is ∙ ap (view_step key with_tag view.number) (key_unfit key EmptyKey refused)) refl
-            (view_back bytes core os s stands left name view taken new keeps (still h))
+            only_makes bytes seen core os s stands behind (reading with_tag key) answers.Invalid store_lines.Invalid (step_is ∙ ap (view_step key with_tag view.number) (key_unfit key EmptyKey refused)) refl
+            (view_back bytes seen core os s stands left name view taken new keeps (still h))
         of (Err unread.KeyTooLong) refused is =
-            only_makes bytes core os s stands behind (reading with_tag key) answers.Invalid store_lines.Invalid (step_is ∙ ap (view_step key with_tag view.number) (key_unfit key KeyTooLong refused)) refl
-            (view_back bytes core os s stands left name view taken new keeps (still h))
+            only_makes bytes seen core os s stands behind (reading with_tag key) answers.Invalid store_lines.Invalid (step_is ∙ ap (view_step key with_tag view.number) (key_unfit key KeyTooLong refused)) refl
+            (view_back bytes seen core os s stands left name view taken new keeps (still h))
         of (Err unread.NoMemory) refused is = tt
         of (Err (unread.Disk file)) refused is = tt
         of (Err (unread.Damaged file place)) refused is = tt
@@ -161,28 +193,28 @@ module _ {H R : Type 0} (bytes : H → Option (List ℕ)) (core : Core H) (os : 
         → ((k : History) (reads : List Read) → Sees bytes txn k reads → OnErr result (Sees bytes new k reads))
         → ((k : History) (reads : List Read) → Sees bytes txn k reads → IfOk result (λ value. value ≡ value_under txn.writes k txn.number key))
         → ((k : History) (reads : List Read) → Sees bytes txn k reads → OnOk result (Sees bytes new k (noting.with_get txn.writes reads key (value_at k txn.number key))))
-        → MakesStep bytes core behind_it s (reading with_tag key) (told_by (told_value with_tag) result)
+        → MakesStep bytes seen core behind_it s (reading with_tag key) (told_by (told_value with_tag) result)
     txn_read_makes key with_tag result refused kept still value sees = of result refused kept still value sees
       where
         invalid : (why : KeyFail) → refused_key key ≡ Some why → NotesNothing txn new
             → ((k : History) (reads : List Read) → Sees bytes txn k reads → Sees bytes new k reads)
-            → MakesStep bytes core behind_it s (reading with_tag key) (told_by (told_value with_tag) (Err unread.EmptyKey))
+            → MakesStep bytes seen core behind_it s (reading with_tag key) (told_by (told_value with_tag) (Err unread.EmptyKey))
         invalid why refused same still =
-            let (t, b, there, is) = itself bytes core os s stands left name txn taken in
-            only_makes bytes core os s stands behind_it (reading with_tag key) answers.Invalid store_lines.Invalid
+            let (t, b, there, is) = itself bytes seen core os s stands left name txn taken in
+            only_makes bytes seen core os s stands behind_it (reading with_tag key) answers.Invalid store_lines.Invalid
             (ap (get_by s.store name (tell_of with_tag) key) there ∙ on_false (is_key_length (length key)) _ (only store_lines.Invalid s.store) (key_unfit key why refused)) refl
-            (txn_back bytes core os s stands left name txn taken new same (still h))
+            (txn_back bytes seen core os s stands left name txn taken new same (still h))
 
         of : (result : Result (Option Stored) ReadFail) → IsRefusedBy (refused_key key) result → OnErr result (NotesNothing txn new)
             → ((k : History) (reads : List Read) → Sees bytes txn k reads → OnErr result (Sees bytes new k reads))
             → ((k : History) (reads : List Read) → Sees bytes txn k reads → IfOk result (λ value. value ≡ value_under txn.writes k txn.number key))
             → ((k : History) (reads : List Read) → Sees bytes txn k reads → OnOk result (Sees bytes new k (noting.with_get txn.writes reads key (value_at k txn.number key))))
-            → MakesStep bytes core behind_it s (reading with_tag key) (told_by (told_value with_tag) result)
+            → MakesStep bytes seen core behind_it s (reading with_tag key) (told_by (told_value with_tag) result)
         of (Ok found) refused kept still value sees =
-            let (t, b, there, is) = itself bytes core os s stands left name txn taken in
+            let (t, b, there, is) = itself bytes seen core os s stands left name txn taken in
             let so = reads_so bytes s.store stands.sound.proper.commits os left stands.names name txn new taken key (key_fits key refused) keeps (tell_of with_tag) t b there is (sees h t.reads is.sees) in (
               told_is with_tag found ∙ ap without_lengths (ap (tell_of with_tag) (value h t.reads is.sees) ∙ sym so.answer),
-              quiet_stands bytes core os behind_it s (reading with_tag key) (get_quiet s.store name (tell_of with_tag) key (thing_of s.store name)) stands so.names (read_sound with_tag key),
+              quiet_stands bytes seen core os behind_it s (reading with_tag key) (get_quiet s.store name (tell_of with_tag) key (thing_of s.store name)) stands so.names (read_sound with_tag key),
             )
         of (Err unread.EmptyKey) refused kept still value sees = invalid EmptyKey refused kept still
         of (Err unread.KeyTooLong) refused kept still value sees = invalid KeyTooLong refused kept still

@@ -10,6 +10,7 @@ use Rattle.vl_engine.specs.declared.txn.Txn.{Txn}
 use Rattle.vl_engine.specs.declared.view.View.{View as EngineView}
 use Rattle.vl_layout.specs.AtAnswer.{Beginning}
 use Rattle.vl_layout.specs.Rulings.Commit.{Transaction as ATxn}
+use Rattle.vl_layout.specs.Sources.{tables}
 use Rattle.vl_layout.specs.Store.Commits.{history_in, value_in}
 use Rattle.vl_layout.specs.Store.Lines.{Answer, Invalid, Name}
 use Rattle.vl_layout.specs.Store.Reading.{get_by, get_own}
@@ -52,7 +53,7 @@ module _ {H R : Type 0} (bytes : H → Option (List ℕ)) (h : History) (l : Lay
 
   pub its_view : (view : EngineView H R) (y : Option store.Thing) → Corresponds bytes h l (Some (View view)) y
       → (b : Beginning) × (y ≡ Some (AView (asked_view view) b)) × SeesAlone bytes view h × IsLive l view.ticket view.number
-      × IsInMemory view.version
+      × (tables l ≡ [] → IsInMemory view.version)
   its_view view None is = absurd is
   its_view view (Some (AView v b)) (same, sees, live, near) = (b, ap (λ (w : _). Some (AView w b)) (sym same), sees, live, near)
   its_view view (Some (ATransaction t b)) is = absurd is
@@ -122,7 +123,7 @@ module _ {H R : Type 0} (bytes : H → Option (List ℕ)) (s : store.State) (pro
             same = only_notes_asked txn new t.reads keeps ∙ is.same;
             sees = subst (Sees bytes new h) (on_true (is_some (get txn.writes key)) t.reads (t.reads ++ KeyRead key (value_at h txn.number key) ∷ []) (ap is_some own)) sees;
             live = subst (λ (x : Txn H R). IsLive s.layout x.ticket x.number) (sym keeps) is.live;
-            near = subst (λ (x : Txn H R). IsInMemory x.version) (sym keeps) is.near;
+            near = λ none. subst (λ (x : Txn H R). IsInMemory x.version) (sym keeps) (is.near none);
           })),
     )
     by_own None own = (
@@ -132,7 +133,7 @@ module _ {H R : Type 0} (bytes : H → Option (List ℕ)) (s : store.State) (pro
         sees = subst (Sees bytes new h) (on_false (is_some (get txn.writes key)) t.reads (t.reads ++ KeyRead key (value_at h txn.number key) ∷ []) (ap is_some own)
             ∙ ap (λ (v : Option Stored). t.reads ++ KeyRead key v ∷ []) (sym value)) sees;
         live = subst (λ (x : Txn H R). IsLive s.layout x.ticket x.number) (sym keeps) is.live;
-        near = subst (λ (x : Txn H R). IsInMemory x.version) (sym keeps) is.near;
+        near = λ none. subst (λ (x : Txn H R). IsInMemory x.version) (sym keeps) (is.near none);
       }),
     )
       where

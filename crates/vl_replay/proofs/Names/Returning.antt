@@ -1,6 +1,7 @@
 -- What a line's call makes, in the words of the functions that it calls: the name that was taken out, and put back.
 use Rattle.std.proofs.Common.{◌≡◌, ℕ, List, [], ◌∷◌, ◌++◌, sym, subst}
 use Rattle.std.specs.Prelude.{Option, None, Some, Ok, Result}
+use Rattle.vl_disk.specs.DiskState.{DiskState}
 use Rattle.vl_engine.specs.declared.kept.Core.{Core}
 use Rattle.vl_engine.specs.declared.view.View.{View as EngineView}
 use Rattle.vl_layout.specs.AtAnswer.{Beginning}
@@ -20,7 +21,7 @@ use Rattle.vl_script.specs.declared.answer.Answer.{Answer}
 use Rattle.vl_script.specs.declared.answer.Answer.TheVariants as answers
 use Rattle.vl_replay.proofs.Names.Making.{read_only_makes, unknown_makes}
 
-module _ {H R : Type 0} (bytes : H → Option (List ℕ)) (core : Core H) (os left : List (Open H R)) (s : State) (stands : StandsIn bytes core os s)
+module _ {H R : Type 0} (bytes : H → Option (List ℕ)) (seen : Option DiskState) (core : Core H) (os left : List (Open H R)) (s : State) (stands : StandsIn bytes seen core os s)
     -- the name as the call had it, and as the line has it
     (q name : Name) (same : q ≡ name) where
   -- it was taken out
@@ -32,21 +33,21 @@ module _ {H R : Type 0} (bytes : H → Option (List ℕ)) (core : Core H) (os le
   taken_out found thing is taken = subst (λ (x : Thing H R). IsTaken os left name (Some x)) is (taken_as (Some found) taken)
 
   pub unknown_returns : (AreOnce os → IsTaken os left q None) → (x : Option store.Thing → Step) → x None ≡ only (store_lines.Unknown name) s.store
-      → MakesStep bytes core left s (x (thing_of s.store name)) (Ok (answers.Unknown name))
-  unknown_returns taken x is = unknown_makes bytes core os s stands left name (taken_as None taken) x is
+      → MakesStep bytes seen core left s (x (thing_of s.store name)) (Ok (answers.Unknown name))
+  unknown_returns taken x is = unknown_makes bytes seen core os s stands left name (taken_as None taken) x is
 
   pub read_only_returns : (view : EngineView H R) (new : List (Open H R)) (found : Thing H R) → found ≡ View view → (AreOnce os → IsTaken os left q (Some found))
       → new ≡ left ++ record { name = name; thing = View view } ∷ []
       → (x : Option store.Thing → Step) → ((v : LayoutView) (b : Beginning) → x (Some (AView v b)) ≡ only store_lines.ReadOnly s.store)
-      → MakesStep bytes core new s (x (thing_of s.store name)) (Ok answers.ReadOnly)
+      → MakesStep bytes seen core new s (x (thing_of s.store name)) (Ok answers.ReadOnly)
   read_only_returns view new found found_is taken put x is =
-      subst (λ (os' : List (Open H R)). MakesStep bytes core os' s (x (thing_of s.store name)) (Ok answers.ReadOnly)) (sym put)
-      (read_only_makes bytes core os s stands left name view (taken_out found (View view) found_is taken) x is)
+      subst (λ (os' : List (Open H R)). MakesStep bytes seen core os' s (x (thing_of s.store name)) (Ok answers.ReadOnly)) (sym put)
+      (read_only_makes bytes seen core os s stands left name view (taken_out found (View view) found_is taken) x is)
 
 -- over the names that there are then, for the same step, and as the call answers
-pub returns_so : {H R : Type 0} (bytes : H → Option (List ℕ)) (core : Core H) (put new : List (Open H R)) (s : State) (x y : Step) (told result : Result Answer Halt)
-    → new ≡ put → x ≡ y → result ≡ told → MakesStep bytes core put s x told → MakesStep bytes core new s y result
-returns_so {H} {R} bytes core put new s x y told result names same is makes =
-    subst (λ (r : Result Answer Halt). MakesStep bytes core new s y r) (sym is)
-    (subst (λ (z : Step). MakesStep bytes core new s z told) same
-    (subst (λ (os : List (Open H R)). MakesStep bytes core os s x told) (sym names) makes))
+pub returns_so : {H R : Type 0} (bytes : H → Option (List ℕ)) (seen : Option DiskState) (core : Core H) (put new : List (Open H R)) (s : State) (x y : Step) (told result : Result Answer Halt)
+    → new ≡ put → x ≡ y → result ≡ told → MakesStep bytes seen core put s x told → MakesStep bytes seen core new s y result
+returns_so {H} {R} bytes seen core put new s x y told result names same is makes =
+    subst (λ (r : Result Answer Halt). MakesStep bytes seen core new s y r) (sym is)
+    (subst (λ (z : Step). MakesStep bytes seen core new s z told) same
+    (subst (λ (os : List (Open H R)). MakesStep bytes seen core os s x told) (sym names) makes))

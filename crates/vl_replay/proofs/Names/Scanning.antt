@@ -80,5 +80,5 @@ module _ {H R : Type 0} (bytes : H → Option (List ℕ)) (s : store.State) (pro
         same = ap (λ (x : Txn H R). asked x noted) keeps ∙ ap (λ (u : ATxn). record u { reads = noted }) is.same;
         sees = subst (Sees bytes new (history_in s.commits)) (sym noted_is) sees;
         live = subst (λ (x : Txn H R). IsLive s.layout x.ticket x.number) (sym keeps) is.live;
-        near = subst (λ (x : Txn H R). IsInMemory x.version) (sym keeps) is.near;
+        near = λ none. subst (λ (x : Txn H R). IsInMemory x.version) (sym keeps) (is.near none);
       }))

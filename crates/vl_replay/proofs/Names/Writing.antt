@@ -112,7 +112,7 @@ module _ {H R : Type 0} (bytes : H → Option (List ℕ)) (s : store.State) (os 
     same = asked_then writes same;
     sees = sees;
     live = subst (λ (x : Txn H R). IsLive s.layout x.ticket x.number) (sym keeps) is.live;
-    near = subst (λ (x : Txn H R). IsInMemory x.version) (sym keeps) is.near;
+    near = λ none. subst (λ (x : Txn H R). IsInMemory x.version) (sym keeps) (is.near none);
   }
 
   made_names : new.writes ≡ insert txn.writes key change → Stand bytes behind (made s name key change t b).state.things (history_in s.commits) s.layout

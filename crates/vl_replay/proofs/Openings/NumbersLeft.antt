@@ -1,6 +1,6 @@
 -- An image whose files have small numbers opens with numbers left, if it opens: what is found there, and how a run over it begins.
 use Rattle.std.proofs.Common.{◌≡◌, ◌⊎◌, ⊎_elim, inl, inr, ℕ, ◌+◌, ◌*◌, ◌<◌, ◌≤◌, List, [], ◌∷◌, ◌++◌, length, get_or, Option, Some, None, Ok, true, false, refl, sym, ◌∙◌, ap, subst, arith}
-use Rattle.std.specs.Prelude.{◌≢◌, ◌==◌, zero, suc, Bool, if◌then◌else◌, AllPairs, Contains, IsSome}
+use Rattle.std.specs.Prelude.{◌≢◌, ◌==◌, zero, suc, Bool, if◌then◌else◌, AllPairs, Contains, IsSome, IsTrue}
 use Rattle.std.specs.FinMap.{get}
 use Rattle.std.specs.Option.{option_map}
 use Rattle.std.proofs.lemmas.Bool.{cases_lt}
@@ -26,13 +26,13 @@ use Rattle.vl_recover.specs.opening.Answers.{AreStrayNames, Finds, IsStrayName, 
 use Rattle.vl_recover.specs.laws.opening.OneFinding.{opened_not}
 use Rattle.vl_recover.specs.opening.Opening.{IsAmong, IsNamed, Opening, Opens, led_into}
 use Rattle.vl_recover.specs.laws.opening.OpeningLaws.{opened, some_none}
+use Rattle.vl_recover.specs.crash.Starts.{MayOpen}
 use Rattle.vl_recover.specs.opening.Plans.{IsGreatest, log_behind, log_made, new_state, passes}
 use Rattle.vl_recover.specs.opening.Walk.{StandingLog}
 use Rattle.vl_replay.specs.Opening.{IsRefused}
 use Rattle.vl_replay.specs.Reopens.{NamesUpTo, Reopens}
 use Rattle.vl_replay.specs.Start.{OpensUpTo, StartsIn}
 use Rattle.vl_replay.specs.laws.StartLaws.{past, reopened_store, starts_shown}
-use Rattle.vl_replay.specs.laws.Untabled.{found_none, in_levels}
 use Rattle.vl_replay.specs.Stopped.{AreNumberedUpTo}
 use Rattle.vl_engine.specs.Shown.{Shown}
 use Rattle.vl_replay.specs.declared.fails.Refusal.{Refusal}
@@ -297,16 +297,14 @@ module _ (n : ℕ) (image : Image) (names : NamesUpTo n image) (o : Opening) whe
 
 -- ---- it opens again
 
--- An image that shows a history, leaves numbers to each finding and opens without tables opens with what is found.
+-- An image that shows a history and leaves numbers to each finding opens with what is found.
 pub reopens_by : (n : ℕ) (image : Image) → NamesUpTo n image → (h : History) (m : ℕ) → Shown image h m
-    → ((found : Finds image) → used_up found ≡ None)
-    → ((o : Opening) → Opens image (Ok o) → in_levels o.levels ≡ []) → Reopens image h m
-reopens_by n image names h m shown left bare =
+    → ((found : Finds image) → used_up found ≡ None) → Reopens image h m
+reopens_by n image names h m shown left =
     let found = finds_by n image names shown.opening shown.opens in
     let strays = strays_by n image names found.opening in
     record {
       shown = shown;
-      untabled = found_none shown.levels (ap in_levels (sym shown.found) ∙ bare shown.opening shown.opens);
       found = found;
       unused = left found;
       strays = strays.0;
@@ -316,10 +314,10 @@ reopens_by n image names h m shown left bare =
 module _ {D : Type 0} (g : Ghosts D) (disk : D) (image : Image) (state : DiskState) (h : History) (m : ℕ)
     (told : g.told disk ≡ Some state) (started : Started image state) (again : Reopens image h m) where
   -- A run over the disk that is started from it begins with what the history has at its number,
-  pub reopens_starts : (files : ℕ) → OpensUpTo files state again.found
-      → StartsIn g disk (reopened_store again.found h m again.shown (after_calls (calls_to_open again.found (length again.strays)) (g.calls disk)) files)
-  reopens_starts files up_to = starts_shown g disk state image again.found again.strays h m files told (started_read image state started)
-      again.unused again.are_strays again.shown again.untabled up_to
+  pub reopens_starts : (files : ℕ) → OpensUpTo files state again.found → (openable : Bool) → (IsTrue openable → MayOpen state)
+      → StartsIn g disk (reopened_store again.found h m again.shown (after_calls (calls_to_open again.found (length again.strays)) (g.calls disk)) files openable)
+  reopens_starts files up_to openable may_open = starts_shown g disk state image again.found again.strays h m files told (started_read image state started)
+      again.unused again.are_strays again.shown up_to openable may_open
 
   -- and isn't refused.
   pub reopens_not_refused : (read : Image) → IsRead read state → (refusal : Refusal) → IsRefused read refusal → ⊥

@@ -1,5 +1,5 @@
 -- In which states runs begin: over an empty disk, and behind another run. And of which disks all of the store is durable.
-use Rattle.std.specs.Prelude.{◌≡◌, ◌≢◌, ◌<◌, ◌≤◌, ◌+◌, ◌^◌, ℕ, List, [], ◌∷◌, ◌++◌, length, map, Option, None, Some, Ok, Contains, IsSome, T, refl, true, false}
+use Rattle.std.specs.Prelude.{◌≡◌, ◌≢◌, ◌<◌, ◌≤◌, ◌+◌, ◌^◌, ℕ, Bool, List, [], ◌∷◌, ◌++◌, length, map, Option, None, Some, Ok, Contains, IsSome, IsTrue, T, refl, true, false}
 use Rattle.std.specs.FinMap.{empty, empty_of_len, entries, len-entries, entries-from_sorted, entries_sorted, from_sorted, get, get-empty, is_sorted, same_entries_map}
 use Rattle.std.specs.List.{AllByRecursion}
 use Rattle.std.specs.Option.{option_map}
@@ -30,7 +30,7 @@ use Rattle.vl_model.specs.Limits.{max_commit_number, max_room}
 use Rattle.vl_recover.specs.laws.crash.AlikeLaws.{like_same}
 use Rattle.vl_recover.specs.crash.Alike.{OpensLike}
 use Rattle.vl_recover.specs.opening.Answers.{AreStrayNames, Finds, calls_to_open, used_up}
-use Rattle.vl_recover.specs.crash.Starts.{AllStay}
+use Rattle.vl_recover.specs.crash.Starts.{AllStay, MayOpen}
 use Rattle.vl_recover.specs.laws.opening.HeldLaws.{started_may_open}
 use Rattle.vl_recover.specs.laws.opening.OpeningLaws.{single_opening}
 use Rattle.vl_recover.specs.laws.repairing.StageLaws.{ok_same}
@@ -44,10 +44,10 @@ use Rattle.vl_replay.specs.laws.Untabled.{in_levels, led_nowhere, none_named}
 
 -- ---- an empty disk
 
--- the state without commits, of which the disk was asked for so many changing calls, and the manifest and the log have
--- number 1
+-- the state without commits, over a disk on which a store may be opened and that was asked for so many changing calls; the manifest
+-- and the log have number 1
 abbrev pub empty_store : ℕ → State
-empty_store calls = record { store = new_store max_room; calls = calls; files = 1 }
+empty_store calls = record { store = new_store max_room; calls = calls; files = 1; openable = true }
 
 pub none_some : {X : Type 0} (x : X) → None ≡ Some x → ⊥
 none_some x e = cc
@@ -170,8 +170,9 @@ shown_same h k m n same at shown = record {
 -- numbers.
 pub starts_bare : {D : Type 0} (g : Ghosts D) (disk : D) (state : DiskState) (files : ℕ) → g.told disk ≡ Some state
     → ((name : Name) → get state.standing name ≡ None) → 1 ≤ files → AreNumberedUpTo files state
-    → StartsIn g disk (record (empty_store (after_calls 6 (g.calls disk))) { files = files })
-starts_bare g disk state files told bare some numbered = record {
+    → (openable : Bool) → (IsTrue openable → MayOpen state)
+    → StartsIn g disk (record (empty_store (after_calls 6 (g.calls disk))) { files = files; openable = openable })
+starts_bare g disk state files told bare some numbered openable may_open = record {
   state = state;
   told = told;
   read = empty;
@@ -187,16 +188,18 @@ starts_bare g disk state files told bare some numbered = record {
   are_strays = no_strays finds_nothing.opening;
   calls = refl;
   files = record { numbered = numbered; manifest = some; log = some; next = record { log = omega (arith, some); table = omega (arith, some) } };
+  openable = may_open;
 }
 
 -- so also where nothing ever stood
 pub starts_empty : {D : Type 0} (g : Ghosts D) (disk : D) (state : DiskState) → g.told disk ≡ Some state
-    → ((name : Name) → get state.standing name ≡ None) → ((name : Name) → get state.removed name ≡ None)
+    → ((name : Name) → get state.standing name ≡ None) → ((name : Name) → get state.removed name ≡ None) → MayOpen state
     → StartsIn g disk (empty_store (after_calls 6 (g.calls disk)))
-starts_empty g disk state told bare none = starts_bare g disk state 1 told bare (omega arith) (record {
-  standing = λ name there. absurd (there (bare name));
-  removed = λ name there. absurd (there (none name));
-})
+starts_empty g disk state told bare none may_open =
+    starts_bare g disk state 1 told bare (omega arith) (record {
+      standing = λ name there. absurd (there (bare name));
+      removed = λ name there. absurd (there (none name));
+    }) true (λ _. may_open)
 
 -- ---- a disk that shows a history
 
@@ -272,8 +275,8 @@ shown_again h m shown =
     })
 
 -- the store that is opened then
-abbrev pub reopened_store : {read : Image} → Finds read → (h : History) (m : ℕ) → Shown read h m → (calls files : ℕ) → State
-reopened_store found h m shown calls files = record {
+abbrev pub reopened_store : {read : Image} → Finds read → (h : History) (m : ℕ) → Shown read h m → (calls files : ℕ) → Bool → State
+reopened_store found h m shown calls files openable = record {
   store = record {
     commits = plain (reopened h m);
     layout = layout_at_start max_room (recovered found (shown_again h m shown));
@@ -281,6 +284,7 @@ reopened_store found h m shown calls files = record {
   };
   calls = calls;
   files = files;
+  openable = openable;
 }
 
 -- for each lawful disk there is a number that no file of the store passes
@@ -311,8 +315,9 @@ opens_up_to disk found lawful =
 pub starts_shown : {D : Type 0} (g : Ghosts D) (disk : D) (state : DiskState) (read : Image) (found : Finds read)
     (strays : List Name) (h : History) (m files : ℕ) → g.told disk ≡ Some state → IsRead read state → used_up found ≡ None
     → AreStrayNames read found.opening strays → (shown : Shown read h m) → OpensUpTo files state found
-    → StartsIn g disk (reopened_store found h m shown (after_calls (calls_to_open found (length strays)) (g.calls disk)) files)
-starts_shown g disk state read found strays h m files told is_read left are_strays shown up_to = record {
+    → (openable : Bool) → (IsTrue openable → MayOpen state)
+    → StartsIn g disk (reopened_store found h m shown (after_calls (calls_to_open found (length strays)) (g.calls disk)) files openable)
+starts_shown g disk state read found strays h m files told is_read left are_strays shown up_to openable may_open = record {
   state = state;
   told = told;
   read = read;
@@ -327,6 +332,7 @@ starts_shown g disk state read found strays h m files told is_read left are_stra
   are_strays = are_strays;
   calls = refl;
   files = up_to;
+  openable = may_open;
 }
 
 -- ---- durable stores

@@ -5,8 +5,8 @@ ghost use Rattle.vl_disk.specs.declared.name.Name.{Name};
 ghost use Rattle.vl_replay.specs.Asking.{AsksForRow};
 ghost use Rattle.vl_engine.specs.Shown.{Shown};
 ghost use Rattle.vl_replay.specs.Durable.{CarriesOut};
-ghost use Rattle.vl_replay.specs.Failing.{FailsAt, ReadsTables};
-ghost use Rattle.vl_replay.specs.Halts.{HaltsByDamage, HaltsByDisk, HaltsByRead};
+ghost use Rattle.vl_replay.specs.Failing.{FailsAt, ReaderFailed, ReadsTables};
+ghost use Rattle.vl_replay.specs.Halts.{HaltsByDamage, HaltsByDisk, HaltsByRead, HaltsByReader};
 ghost use Rattle.vl_replay.specs.Replaying.{MakesStep, StandsFor, TakesLines, disk_of};
 ghost use Rattle.vl_replay.specs.Sequential.{IsTold, State, answer_to, state_after, step_to};
 ghost use Rattle.vl_replay.specs.Stored.{IsStopped, IsStored};
@@ -39,11 +39,13 @@ impl<D: Disk> Replayer<D> {
         ensures carries { TakesLines self.old → (s : State) → StandsFor D.Watched D.Held.bytes self.old s
             → CarriesOut D.Watched IsStored Shown IsStopped (disk_of self.old) (disk_of self.new) s (state_after s line) result }
 
-        // What the store has isn't damaged, and can be read without its reader unless it has tables.
+        // What the store has isn't damaged, and can be read without its reader unless it has tables. A reader counts its fault.
         ensures sound { TakesLines self.old → (s : State) → StandsFor D.Watched D.Held.bytes self.old s
             → HaltsByRead result → ReadsTables line s }
         ensures undamaged { TakesLines self.old → (s : State) → StandsFor D.Watched D.Held.bytes self.old s
             → HaltsByDamage result → ⊥ }
+        ensures fault { TakesLines self.old → (s : State) → StandsFor D.Watched D.Held.bytes self.old s
+            → HaltsByReader result → ReaderFailed D.Reader.faults }
         ensures cause { TakesLines self.old
             → HasCause (D.faults (disk_of self.old)) (D.faults (disk_of self.new)) (HaltsByDisk result) }
         ensures named { (s : State) (name : Name) → TakesLines self.old → StandsFor D.Watched D.Held.bytes self.old s
@@ -70,6 +72,7 @@ impl<D: Disk> Replayer<D> {
             → CarriesOut D.Watched IsStored Shown IsStopped (disk_of self.old) (disk_of self.new) s (state_after s line) result }
         ensures sound { (s : State) → StandsFor D.Watched D.Held.bytes self.old s → HaltsByRead result → ReadsTables line s }
         ensures undamaged { (s : State) → StandsFor D.Watched D.Held.bytes self.old s → HaltsByDamage result → ⊥ }
+        ensures fault { (s : State) → StandsFor D.Watched D.Held.bytes self.old s → HaltsByReader result → ReaderFailed D.Reader.faults }
         ensures cause { HasCause (D.faults (disk_of self.old)) (D.faults (disk_of self.new)) (HaltsByDisk result) }
         ensures named { (s : State) (name : Name) → StandsFor D.Watched D.Held.bytes self.old s
             → result ≡ Err (halts.Disk name) → FailsAt self.old.engine.core.back.manifest.number line s name }

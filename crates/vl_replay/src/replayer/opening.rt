@@ -1,5 +1,5 @@
 //! Opening the store on a disk.
-ghost use Rattle.std.specs.Prelude.{◌≡◌, ◌≤◌, ◌^◌, ◌-◌, IfErr, IfOk, IsErr, Some};
+ghost use Rattle.std.specs.Prelude.{◌≡◌, ◌≤◌, ◌^◌, ◌-◌, IfErr, IfOk, IsErr, IsTrue, Some};
 ghost use Rattle.vl_disk.specs.Crash.{Image};
 ghost use Rattle.vl_disk.specs.DiskState.{DiskState};
 ghost use Rattle.vl_disk.specs.Faults.{HasCause};
@@ -28,11 +28,11 @@ use vl_model::MAX_ROOM;
 impl<D: Disk> Replayer<D> {
     /// Opens the store on a disk, or makes one where nothing stands. Each log may have 1,073,741,824 bytes.
     pub fn new(alloc: Global, disk: D) -> Result<Self, OpenFail<D, D::Reader>>
-        // It stands for the store that the disk opens as, and the disk holds it.
+        // It stands for the store that the disk opens as, and the disk holds it, where it may be opened again.
         ensures store { (s : State) → StartsIn D.Watched disk s
             → IfOk result (λ replayer. StandsFor D.Watched D.Held.bytes replayer s) }
         ensures goes_on { IfOk result TakesLines }
-        ensures holds { (s : State) → StartsIn D.Watched disk s → Tells D.Watched disk MayOpen
+        ensures holds { (s : State) → StartsIn D.Watched disk s → IsTrue s.openable
             → IfOk result (λ replayer. HoldsState D.Watched IsStored s (disk_of replayer)) }
 
         // What a crash leaves meanwhile shows what was opened.
@@ -51,11 +51,13 @@ impl<D: Disk> Replayer<D> {
         ensures left_alone { (IsFault (why_of result) → ⊥) → IsErr result
             → IsAsBefore D.Watched disk (disk_behind result) }
 
-        // A fault is counted by the disk, or by the reader that is handed back, which is asked only where tables are named.
+        // A fault is counted by the disk, or by the reader that is handed back, which is asked only where tables are named, and
+        // before anything is changed.
         ensures cause { HasCause (D.faults disk) (D.faults (disk_behind result))
             (IsDiskFault (reader_faults D.Reader.faults result) (why_of result)) }
         ensures unread { (state : DiskState) (read : Image) → D.told disk ≡ Some state → IsRead read state
             → NamesNoTable read → reader_faults D.Reader.faults result ≡ 0 }
+        ensures unmoved { (reader_faults D.Reader.faults result ≡ 0 → ⊥) → IsAsBefore D.Watched disk (disk_behind result) }
 
         // A fault is named by the file at which it came.
         ensures at { (state : DiskState) (read : Image) → D.told disk ≡ Some state → IsRead read state

@@ -3,7 +3,8 @@ ghost use Rattle.std.specs.Prelude.{◌≡◌, ◌≤◌, []};
 ghost use Rattle.vl_layout.specs.Sources.{tables};
 ghost use Rattle.vl_layout.specs.Store.Reading.{get_by, scan_by};
 ghost use Rattle.vl_layout.specs.Store.Things.{thing_of};
-ghost use Rattle.vl_replay.specs.Halts.{HaltsByDamage, HaltsByDisk};
+ghost use Rattle.vl_replay.specs.Failing.{ReaderFailed};
+ghost use Rattle.vl_replay.specs.Halts.{HaltsByDamage, HaltsByDisk, HaltsByReader};
 ghost use Rattle.vl_replay.specs.Replaying.{MakesStep, OnlyNoMemory, StandsFor};
 ghost use Rattle.vl_replay.specs.Sequential.{State};
 ghost use Rattle.vl_replay.specs.Standing.{tell_of, told_by, told_value};
@@ -25,6 +26,7 @@ impl<D: Disk> Replayer<D> {
             (get_by s.store name (tell_of with_tag) key (thing_of s.store name)) result }
         ensures near { (s : State) → StandsFor D.Watched D.Held.bytes self.old s → tables s.store.layout ≡ [] → OnlyNoMemory result }
         ensures undamaged { (s : State) → StandsFor D.Watched D.Held.bytes self.old s → HaltsByDamage result → ⊥ }
+        ensures fault { HaltsByReader result → ReaderFailed D.Reader.faults }
         ensures not_the_disk { HaltsByDisk result → ⊥ }
         ensures engine { self.new.engine ≡ self.old.engine }
         ensures halted { self.new.halted ≡ self.old.halted }
@@ -53,6 +55,7 @@ impl<D: Disk> Replayer<D> {
             (scan_by s.store way name low high limit (thing_of s.store name)) result }
         ensures near { (s : State) → StandsFor D.Watched D.Held.bytes self.old s → tables s.store.layout ≡ [] → OnlyNoMemory result }
         ensures undamaged { (s : State) → StandsFor D.Watched D.Held.bytes self.old s → HaltsByDamage result → ⊥ }
+        ensures fault { HaltsByReader result → ReaderFailed D.Reader.faults }
         ensures not_the_disk { HaltsByDisk result → ⊥ }
         ensures engine { self.new.engine ≡ self.old.engine }
         ensures halted { self.new.halted ≡ self.old.halted }

@@ -1,4 +1,4 @@
-use Rattle.std.proofs.Common.{List, [], ◌∷◌, ap, ◌∙◌}
+use Rattle.std.proofs.Common.{List, [], ◌∷◌, ap, refl, ◌∙◌}
 use Rattle.vl_manifest.specs.declared.edit.Edit.{Edit}
 use Rattle.vl_manifest.specs.declared.manifest_log.ManifestLog.{ManifestLog}
 use Rattle.vl_manifest.specs.Manifest.{manifest_bytes}
@@ -6,8 +6,9 @@ use Rattle.vl_recover.specs.laws.opening.OneFinding.{opened_not}
 use Rattle.vl_recover.specs.repairing.PlanViews.{manifest_of, plan_view}
 use Rattle.vl_recover.specs.opening.FoundTables.{all_found}
 use Rattle.vl_recover.specs.opening.Results.{recovery_by}
+use Rattle.vl_recover.proofs.crash.IntactAfter.{intact_after, intact_throughout}
 use Rattle.vl_recover.proofs.crash.Recovered.{as_long, fault_counted, fault_of, frame_failed, frame_is, goes_on_ready, calls_counted, calls_stopped, none_made, disk_repaired, repaired_again, repaired_faults, repaired_meanwhile, repaired_tells, repaired_through, sealed_held, opened_same, read_faults, refused_disk, still_tells, store_held, unchanged_again, unchanged_meanwhile, unchanged_through}
-use Rattle.vl_recover.proofs.opening.Unmoved.{call_as, no_call, then_call}
+use Rattle.vl_recover.proofs.opening.Unmoved.{call_as, no_call, reader_failed, then_call}
 use Rattle.vl_seglog.specs.declared.active.ActiveLog.{ActiveLog}
 use Rattle.vl_recover.proofs.recovering.recover.Goals as goal
 
@@ -248,3 +249,53 @@ returns-clause-stopped g c state read found strays told is_read are =
 pub returns-in_default-clause-through : goal.returns-in_default-clause-through
 returns-in_default-clause-through g c state told may =
     unchanged_through g.D.Watched g.met.D.Disk.only_now _ _ (no_call g.D.Watched c.args.disk) state told
+
+-- what a crash leaves is intact: meanwhile,
+pub returns-in_default-clause-stays_intact : goal.returns-in_default-clause-stays_intact
+returns-in_default-clause-stays_intact g c state told may all =
+    intact_throughout g.D.Watched _ _ state all (returns-in_default-clause-through g c state told may)
+
+pub returns-in-Err-clause-stays_intact : goal.returns-in-Err-clause-stays_intact
+returns-in-Err-clause-stays_intact g c state told may all =
+    intact_throughout g.D.Watched _ _ state all (returns-in-Err-clause-through g c state told may)
+
+pub returns-in-Err-NoMemory-clause-stays_intact : goal.returns-in-Err-NoMemory-clause-stays_intact
+returns-in-Err-NoMemory-clause-stays_intact g c state told may all =
+    intact_throughout g.D.Watched _ _ state all (returns-in-Err-NoMemory-clause-through g c state told may)
+
+pub returns-clause-stays_intact : goal.returns-clause-stays_intact
+returns-clause-stays_intact g c state told may all =
+    intact_throughout g.D.Watched _ _ state all (returns-clause-through g c state told may)
+
+pub returns-in-Ok-repair-clause-stays_intact : goal.returns-in-Ok-repair-clause-stays_intact
+returns-in-Ok-repair-clause-stays_intact g c state told may all =
+    intact_throughout g.D.Watched _ _ state all (returns-in-Ok-repair-clause-through g c state told may)
+
+-- and behind the opening
+pub returns-in-Ok-repair-clause-intact : goal.returns-in-Ok-repair-clause-intact
+returns-in-Ok-repair-clause-intact g c state now read told may is_read whole ends =
+    let ended = rw c.opened.ensures.disk at ends in
+    let is = (c.in-Ok-prepare.ensures.answer state read told is_read).0 in
+    intact_after read c.in-Ok-prepare.ready.0 is now
+    (store_held g.D.Watched g.met.D.Disk.only_now _ _ c.in-Ok-prepare.ensures.no_change state told _ c.in-Ok-prepare.ready.0 _
+    c.in-Ok-repair.ensures.repaired
+    read is_read is (frame_is c.in-Ok-prepare.ready.0 _ c.in-Ok-prepare.ensures.edits c.in-Ok-repair.ensures.frame) is.finds
+    (g.met.D.Disk.lawful _ state told) may now ended
+    c.in-Ok-prepare.ready.0.state refl) whole
+
+-- its reader counted a fault
+pub returns-in-Err-clause-unmoved : goal.returns-in-Err-clause-unmoved
+returns-in-Err-clause-unmoved g c some =
+    call_as g.D.Watched _ _ _ ⊥ (reader_failed _ (recovery_by c.in-Err.why) some) (λ none. none) c.in-Err.ensures.no_change
+
+pub returns-in-Err-NoMemory-clause-unmoved : goal.returns-in-Err-NoMemory-clause-unmoved
+returns-in-Err-NoMemory-clause-unmoved g c some = absurd (some c.in-Ok-prepare.ensures.fresh)
+
+pub returns-clause-unmoved : goal.returns-clause-unmoved
+returns-clause-unmoved g c some = absurd (some c.in-Ok-prepare.ensures.fresh)
+
+pub returns-in-Ok-repair-clause-unmoved : goal.returns-in-Ok-repair-clause-unmoved
+returns-in-Ok-repair-clause-unmoved g c some = absurd (some refl)
+
+pub returns-in_default-clause-unmoved : goal.returns-in_default-clause-unmoved
+returns-in_default-clause-unmoved g c some = absurd (some refl)

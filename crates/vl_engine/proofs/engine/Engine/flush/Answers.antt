@@ -2,12 +2,14 @@ use Rattle.std.proofs.Common.{arith, refl, sym}
 use Rattle.vl_disk.specs.declared.name.Name.TheVariants as names
 use Rattle.vl_engine.proofs.Committing.{decides_leaving}
 use Rattle.vl_engine.proofs.Fitted.{flushed_by}
-use Rattle.vl_engine.proofs.Flushed.{calls_by, carries_by, carries_leaving_flush, fronts_by, ruled_exhausted, ruled_halted, ruled_idle, runs_on, stands_by, stopped_by, untouched_by, written_by}
+use Rattle.vl_engine.proofs.Flushed.{calls_by, carries_by, carries_leaving_flush, fronts_by, ruled_exhausted, ruled_halted, ruled_idle, runs_on, stands_by, stopped_by, untouched_by, writes_by, written_by}
 use Rattle.vl_engine.proofs.FlushKeeps.{kept_itself}
-use Rattle.vl_engine.proofs.FlushSteps.{numbers_held}
+use Rattle.vl_engine.proofs.FlushSteps.{leaves_numbers, numbers_held}
+use Rattle.vl_engine.proofs.Leaving.{flush_within}
 use Rattle.vl_engine.proofs.Untouched.{alone}
 use Rattle.vl_engine.specs.Represents.{Fronts, StandsFor, file_of}
 use Rattle.vl_engine.specs.Stepping.{Fits}
+use Rattle.vl_engine.specs.laws.FlushRulings.{flush_waits}
 use Rattle.vl_layout.specs.Decides.{as_before}
 use Rattle.vl_layout.specs.Ruling.{Exhausted, Halted, Idle}
 use Rattle.vl_layout.specs.Rulings.Flush.{flush_ruling}
@@ -220,3 +222,68 @@ pub returns-in-Go-clause-stopped : goal.returns-in-Go-clause-stopped
 returns-in-Go-clause-stopped g c name failed =
     stopped_by g.D.Watched g.D.Held.HeldFile.bytes c.args.self.now.core c.make_table.new.self.core c.args.self.now.disk
     c.make_table.new.self.disk c.make_table.result c.make_table.ensures.as_flushed name failed
+
+-- ---- numbers, and where it failed
+
+pub returns-in-Some-clause-failed : goal.returns-in-Some-clause-failed
+returns-in-Some-clause-failed g c failed = absurd failed
+
+pub returns-in-Some-clause-meanwhile : goal.returns-in-Some-clause-meanwhile
+returns-in-Some-clause-meanwhile g c failed = absurd failed
+
+pub returns-in-Some-clause-leaves : goal.returns-in-Some-clause-leaves
+returns-in-Some-clause-leaves g c h l now is within failed = absurd failed
+
+pub returns-in-Some-clause-within : goal.returns-in-Some-clause-within
+returns-in-Some-clause-within g c fine within = within
+
+pub returns-in-Idle-clause-failed : goal.returns-in-Idle-clause-failed
+returns-in-Idle-clause-failed g c failed = absurd failed
+
+pub returns-in-Idle-clause-meanwhile : goal.returns-in-Idle-clause-meanwhile
+returns-in-Idle-clause-meanwhile g c failed = absurd failed
+
+pub returns-in-Idle-clause-leaves : goal.returns-in-Idle-clause-leaves
+returns-in-Idle-clause-leaves g c h l now is within failed = absurd failed
+
+pub returns-in-Idle-clause-within : goal.returns-in-Idle-clause-within
+returns-in-Idle-clause-within g c fine within = within
+
+pub returns-in-Exhausted-clause-failed : goal.returns-in-Exhausted-clause-failed
+returns-in-Exhausted-clause-failed g c failed = absurd failed
+
+pub returns-in-Exhausted-clause-meanwhile : goal.returns-in-Exhausted-clause-meanwhile
+returns-in-Exhausted-clause-meanwhile g c failed = absurd failed
+
+pub returns-in-Exhausted-clause-leaves : goal.returns-in-Exhausted-clause-leaves
+returns-in-Exhausted-clause-leaves g c h l now is within failed = absurd failed
+
+pub returns-in-Exhausted-clause-within : goal.returns-in-Exhausted-clause-within
+returns-in-Exhausted-clause-within g c fine within = within
+
+pub returns-in-Go-clause-failed : goal.returns-in-Go-clause-failed
+returns-in-Go-clause-failed g c failed = c.in-Go.ensures.go refl
+
+pub returns-in-Go-clause-meanwhile : goal.returns-in-Go-clause-meanwhile
+returns-in-Go-clause-meanwhile g c failed =
+    let (staged, of, writes) = writes_by g.D.Watched g.D.Held.HeldFile.bytes c.args.self.now.core c.make_table.new.self.core
+    c.args.self.now.disk c.make_table.new.self.disk c.make_table.result c.make_table.ensures.as_flushed failed in
+    (staged, writes)
+
+pub returns-in-Go-clause-leaves : goal.returns-in-Go-clause-leaves
+returns-in-Go-clause-leaves g c h l now is within failed told =
+    let bytes = g.D.Held.HeldFile.bytes in
+    let core = c.args.self.now.core in
+    let running = runs_on core h l is.stands.fronts c.in_default.is in
+    let held = is.held running in
+    let (s, waits) = flush_waits core.back l h running is.stands.fronts.version (numbers_held core.back held.base l held.back_is)
+    (c.in-Go.ensures.go refl).waits in
+    let (staged, of, writes) = writes_by g.D.Watched bytes core c.make_table.new.self.core
+    c.args.self.now.disk c.make_table.new.self.disk c.make_table.result c.make_table.ensures.as_flushed failed in
+    leaves_numbers g.D.Watched (record { only_now = g.met.D.Disk.only_now; counts_now = g.met.D.Disk.counts_now }) bytes core
+    c.make_table.new.self.core h l c.args.self.now.disk c.make_table.new.self.disk is running s waits staged of writes within now told
+
+pub returns-in-Go-clause-within : goal.returns-in-Go-clause-within
+returns-in-Go-clause-within g c fine within =
+    flush_within g.D.Watched g.D.Held.HeldFile.bytes c.args.self.now.core c.make_table.new.self.core c.args.self.now.disk
+    c.make_table.new.self.disk within (sym c.in-Go.ensures.decided) c.make_table.result c.make_table.ensures.as_flushed fine

@@ -124,5 +124,6 @@ returns-in-Err-clause-as_flushed g c =
           c.deref.ensures.value c.in-Ok.ensures.no_change c.in-Err.name c.in-Err.ensures.at;
       front = refl;
       version_number = refl;
+      state = refl;
       version = refl;
     }

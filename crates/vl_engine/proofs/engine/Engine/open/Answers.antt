@@ -24,6 +24,14 @@ returns-in-Err-recover-clause-through g c state read h told durable is_read show
     opening_through g.D.Watched c.args.disk c.in-Err-recover.fail.disk state durable read is_read h shown
     (c.in-Err-recover.ensures.through state told durable.may_open)
 
+pub returns-in-Err-clause-unmoved : goal.returns-in-Err-clause-unmoved
+returns-in-Err-clause-unmoved g c some = absurd (some refl)
+
+pub returns-in-Err-recover-clause-unmoved : goal.returns-in-Err-recover-clause-unmoved
+returns-in-Err-recover-clause-unmoved g c some =
+    let still = c.in-Err-recover.ensures.unmoved some in
+    (still.told, still.calls)
+
 -- ---- where one was
 
 pub invariant_of-result : goal.invariant_of-result
@@ -86,6 +94,9 @@ invariant_of-result g c = record {
       }) c.in-Ok-recover.ensures.numbered;
   known = ap (λ (held : Contents). are_known c.new-2.result.oracle.last held.entries) c.new.ensures.active;
 }
+
+pub returns-clause-unmoved : goal.returns-clause-unmoved
+returns-clause-unmoved g c some = absurd (some refl)
 
 pub returns-clause-core : goal.returns-clause-core
 returns-clause-core g c state read found told is_read =

@@ -1,8 +1,9 @@
 use Rattle.std.proofs.Common.{arith, refl, subst, sym}
 use Rattle.vl_engine.proofs.Begins.{keeps_told}
 use Rattle.vl_engine.proofs.Fitted.{rotate_refused, rotated_by}
-use Rattle.vl_engine.proofs.RotateSteps.{running_so}
-use Rattle.vl_engine.proofs.Rotated.{calls_by, can_by, carries_as_refused, carries_by, fronts_as_refused, fronts_by, numbers_held, refused_calls, refused_no_disk, stands_as_refused, stands_by, stopped_by, untouched_by}
+use Rattle.vl_engine.proofs.Leaving.{rotate_within}
+use Rattle.vl_engine.proofs.RotateSteps.{leaves_numbers, running_so}
+use Rattle.vl_engine.proofs.Rotated.{begins_by, calls_by, can_by, carries_as_refused, carries_by, fronts_as_refused, fronts_by, numbers_held, refused_calls, refused_no_disk, stands_as_refused, stands_by, stopped_by, untouched_by}
 use Rattle.vl_engine.proofs.Untouched.{alone}
 use Rattle.vl_engine.specs.Stepping.{StepFailed}
 use Rattle.vl_engine.proofs.engine.Engine.rotate.Goals as goal
@@ -55,6 +56,17 @@ returns-in-Some-clause-calls g c =
 pub returns-in-Some-clause-failed : goal.returns-in-Some-clause-failed
 returns-in-Some-clause-failed g c failed =
     absurd (refused_no_disk c.args.self.now.core c.in-Some.answer c.in-Some.ensures.refused failed)
+
+pub returns-in-Some-clause-meanwhile : goal.returns-in-Some-clause-meanwhile
+returns-in-Some-clause-meanwhile g c failed =
+    absurd (refused_no_disk c.args.self.now.core c.in-Some.answer c.in-Some.ensures.refused failed)
+
+pub returns-in-Some-clause-leaves : goal.returns-in-Some-clause-leaves
+returns-in-Some-clause-leaves g c h l now is within failed =
+    absurd (refused_no_disk c.args.self.now.core c.in-Some.answer c.in-Some.ensures.refused failed)
+
+pub returns-in-Some-clause-within : goal.returns-in-Some-clause-within
+returns-in-Some-clause-within g c fine within = within
 
 -- the next log is begun
 
@@ -113,3 +125,24 @@ returns-in-None-clause-calls g c =
 
 pub returns-in-None-clause-failed : goal.returns-in-None-clause-failed
 returns-in-None-clause-failed g c failed = c.in-None.ensures.may refl
+
+pub returns-in-None-clause-meanwhile : goal.returns-in-None-clause-meanwhile
+returns-in-None-clause-meanwhile g c failed =
+    begins_by g.D.Watched g.D.Held.HeldFile.bytes c.args.self.now.core c.begin_log.new.self.core c.args.self.now.disk
+    c.begin_log.new.self.disk c.begin_log.result c.begin_log.ensures.as_rotated failed
+
+pub returns-in-None-clause-leaves : goal.returns-in-None-clause-leaves
+returns-in-None-clause-leaves g c h l now is within failed told =
+    let bytes = g.D.Held.HeldFile.bytes in
+    let core = c.args.self.now.core in
+    let can = can_by core h l is.stands.fronts (numbers_held core.back (g.D.Watched.told c.args.self.now.disk) h l is.held)
+    (c.in-None.ensures.may refl) in
+    leaves_numbers g.D.Watched (record { only_now = g.met.D.Disk.only_now; counts_now = g.met.D.Disk.counts_now }) bytes core
+    c.begin_log.new.self.core h l c.args.self.now.disk c.begin_log.new.self.disk is can
+    (begins_by g.D.Watched bytes core c.begin_log.new.self.core c.args.self.now.disk c.begin_log.new.self.disk c.begin_log.result
+    c.begin_log.ensures.as_rotated failed) within now told
+
+pub returns-in-None-clause-within : goal.returns-in-None-clause-within
+returns-in-None-clause-within g c fine within =
+    rotate_within g.D.Watched g.D.Held.HeldFile.bytes c.args.self.now.core c.begin_log.new.self.core c.args.self.now.disk
+    c.begin_log.new.self.disk within c.begin_log.result c.begin_log.ensures.as_rotated fine

@@ -7,6 +7,7 @@ use Rattle.vl_layout.specs.Store.Things.{thing_of}
 use Rattle.vl_model.specs.Keys.{tagged, untagged}
 use Rattle.vl_model.specs.declared.change.Change.TheVariants as changes
 use Rattle.vl_replay.specs.Durable.{CarriesOut}
+use Rattle.vl_replay.specs.Failing.{FailsAt, ReadsTables}
 use Rattle.vl_replay.specs.Replaying.{MakesStep}
 use Rattle.vl_replay.specs.Sequential.{state_after, step_to}
 use Rattle.vl_replay.specs.Stored.{IsStopped, IsStored}
@@ -16,17 +17,23 @@ use Rattle.vl_script.specs.declared.line.Line.{Line}
 use Rattle.vl_script.specs.declared.line.Line.TheVariants as lines
 use Rattle.vl_replay.proofs.Disk.Carried.{quiet_carries}
 use Rattle.vl_replay.proofs.Disk.Halting.{not_by_disk}
-use Rattle.vl_replay.proofs.Names.Halts.{no_cause, not_at, not_by_read}
+use Rattle.vl_replay.proofs.Names.Halts.{damage_is_read, no_cause, not_at, not_by_damage, not_by_read, not_by_reader, reader_is_read}
 use Rattle.vl_replay.proofs.replayer.Replayer.carry_out.Goals as goal
 
 pub returns-in-Begin-clause-makes : goal.returns-in-Begin-clause-makes
 returns-in-Begin-clause-makes g c s stands =
-    subst (λ (line : Line). MakesStep g.D.Held.HeldFile.bytes c.begin.new.self.engine.core
+    subst (λ (line : Line). MakesStep g.D.Held.HeldFile.bytes (g.D.Watched.told c.begin.new.self.engine.disk) c.begin.new.self.engine.core
     c.begin.new.self.opens.items s (step_to s line) c.begin.result)
     (sym c.in-Begin.is) (c.begin.ensures.makes s stands)
 
 pub returns-in-Begin-clause-sound : goal.returns-in-Begin-clause-sound
-returns-in-Begin-clause-sound g c s stands = not_by_read c.begin.result c.begin.ensures.fails
+returns-in-Begin-clause-sound g c s stands halts = absurd (not_by_read c.begin.result c.begin.ensures.fails halts)
+
+pub returns-in-Begin-clause-undamaged : goal.returns-in-Begin-clause-undamaged
+returns-in-Begin-clause-undamaged g c s stands halts = not_by_damage c.begin.result c.begin.ensures.fails halts
+
+pub returns-in-Begin-clause-fault : goal.returns-in-Begin-clause-fault
+returns-in-Begin-clause-fault g c s stands halts = absurd (not_by_reader c.begin.result c.begin.ensures.fails halts)
 
 pub returns-in-Begin-clause-cause : goal.returns-in-Begin-clause-cause
 returns-in-Begin-clause-cause g c = no_cause _ _ _ (ap (λ disk. g.D.Watched.faults disk) c.begin.ensures.disk)
@@ -38,19 +45,25 @@ returns-in-Begin-clause-carries g c s stands =
     c.begin.new.self.engine.disk s (state_after s line) c.begin.result) (sym c.in-Begin.is)
     (quiet_carries g.D.Watched (record { only_now = g.met.D.Disk.only_now; counts_now = g.met.D.Disk.counts_now })
     g.D.Held.HeldFile.bytes
-    c.begin.new.self.engine.core c.begin.new.self.opens.items s (step_to s (lines.Begin c.in-Begin.name))
+    (g.D.Watched.told c.begin.new.self.engine.disk) c.begin.new.self.engine.core c.begin.new.self.opens.items s (step_to s (lines.Begin c.in-Begin.name))
     (begin_keeps s.store c.in-Begin.name a_transaction (thing_of s.store c.in-Begin.name)) c.begin.result
-    (c.begin.ensures.makes s stands) c.begin.ensures.fails c.args.self.now.engine.disk c.begin.new.self.engine.disk
+    (c.begin.ensures.makes s stands) (not_by_disk c.begin.result c.begin.ensures.fails) c.args.self.now.engine.disk c.begin.new.self.engine.disk
     c.begin.ensures.disk)
 
 pub returns-in-View-clause-makes : goal.returns-in-View-clause-makes
 returns-in-View-clause-makes g c s stands =
-    subst (λ (line : Line). MakesStep g.D.Held.HeldFile.bytes c.view.new.self.engine.core c.view.new.self.opens.items
+    subst (λ (line : Line). MakesStep g.D.Held.HeldFile.bytes (g.D.Watched.told c.view.new.self.engine.disk) c.view.new.self.engine.core c.view.new.self.opens.items
     s (step_to s line) c.view.result)
     (sym c.in-View.is) (c.view.ensures.makes s stands)
 
 pub returns-in-View-clause-sound : goal.returns-in-View-clause-sound
-returns-in-View-clause-sound g c s stands = not_by_read c.view.result c.view.ensures.fails
+returns-in-View-clause-sound g c s stands halts = absurd (not_by_read c.view.result c.view.ensures.fails halts)
+
+pub returns-in-View-clause-undamaged : goal.returns-in-View-clause-undamaged
+returns-in-View-clause-undamaged g c s stands halts = not_by_damage c.view.result c.view.ensures.fails halts
+
+pub returns-in-View-clause-fault : goal.returns-in-View-clause-fault
+returns-in-View-clause-fault g c s stands halts = absurd (not_by_reader c.view.result c.view.ensures.fails halts)
 
 pub returns-in-View-clause-cause : goal.returns-in-View-clause-cause
 returns-in-View-clause-cause g c = no_cause _ _ _ (ap (λ disk. g.D.Watched.faults disk) c.view.ensures.disk)
@@ -62,18 +75,26 @@ returns-in-View-clause-carries g c s stands =
     c.view.new.self.engine.disk s (state_after s line) c.view.result) (sym c.in-View.is)
     (quiet_carries g.D.Watched (record { only_now = g.met.D.Disk.only_now; counts_now = g.met.D.Disk.counts_now })
     g.D.Held.HeldFile.bytes
-    c.view.new.self.engine.core c.view.new.self.opens.items s (step_to s (lines.View c.in-View.name)) (begin_keeps
+    (g.D.Watched.told c.view.new.self.engine.disk) c.view.new.self.engine.core c.view.new.self.opens.items s (step_to s (lines.View c.in-View.name)) (begin_keeps
     s.store c.in-View.name a_view (thing_of s.store c.in-View.name)) c.view.result
-    (c.view.ensures.makes s stands) c.view.ensures.fails c.args.self.now.engine.disk c.view.new.self.engine.disk c.view.ensures.disk)
+    (c.view.ensures.makes s stands) (not_by_disk c.view.result c.view.ensures.fails) c.args.self.now.engine.disk c.view.new.self.engine.disk c.view.ensures.disk)
 
 pub returns-in-Get-clause-makes : goal.returns-in-Get-clause-makes
 returns-in-Get-clause-makes g c s stands =
-    subst (λ (line : Line). MakesStep g.D.Held.HeldFile.bytes c.read.new.self.engine.core c.read.new.self.opens.items
+    subst (λ (line : Line). MakesStep g.D.Held.HeldFile.bytes (g.D.Watched.told c.read.new.self.engine.disk) c.read.new.self.engine.core c.read.new.self.opens.items
     s (step_to s line) c.read.result)
     (sym c.in-Get.is) (c.read.ensures.makes s stands)
 
 pub returns-in-Get-clause-sound : goal.returns-in-Get-clause-sound
-returns-in-Get-clause-sound g c s stands = not_by_read c.read.result (c.read.ensures.sound s stands)
+returns-in-Get-clause-sound g c s stands halts =
+    subst (λ (line : Line). ReadsTables line s) (sym c.in-Get.is)
+    (λ untabled. not_by_read c.read.result (c.read.ensures.near s stands untabled) halts)
+
+pub returns-in-Get-clause-undamaged : goal.returns-in-Get-clause-undamaged
+returns-in-Get-clause-undamaged g c s stands = c.read.ensures.undamaged s stands
+
+pub returns-in-Get-clause-fault : goal.returns-in-Get-clause-fault
+returns-in-Get-clause-fault g c s stands = c.read.ensures.fault
 
 pub returns-in-Get-clause-cause : goal.returns-in-Get-clause-cause
 returns-in-Get-clause-cause g c = no_cause _ _ _ (ap (λ disk. g.D.Watched.faults disk) (ap (λ e. e.disk)
@@ -85,19 +106,27 @@ returns-in-Get-clause-carries g c s stands =
     c.read.new.self.engine.disk s (state_after s line) c.read.result) (sym c.in-Get.is)
     (quiet_carries g.D.Watched (record { only_now = g.met.D.Disk.only_now; counts_now = g.met.D.Disk.counts_now })
     g.D.Held.HeldFile.bytes
-    c.read.new.self.engine.core c.read.new.self.opens.items s (step_to s (lines.Get c.in-Get.name c.in-Get.key))
+    (g.D.Watched.told c.read.new.self.engine.disk) c.read.new.self.engine.core c.read.new.self.opens.items s (step_to s (lines.Get c.in-Get.name c.in-Get.key))
     (get_keeps s.store c.in-Get.name answer_of c.in-Get.key (thing_of s.store c.in-Get.name)) c.read.result
-    (c.read.ensures.makes s stands) (c.read.ensures.sound s stands) c.args.self.now.engine.disk
+    (c.read.ensures.makes s stands) c.read.ensures.not_the_disk c.args.self.now.engine.disk
     c.read.new.self.engine.disk (ap (λ e. e.disk) c.read.ensures.engine))
 
 pub returns-in-GetTagged-clause-makes : goal.returns-in-GetTagged-clause-makes
 returns-in-GetTagged-clause-makes g c s stands =
-    subst (λ (line : Line). MakesStep g.D.Held.HeldFile.bytes c.read-in-GetTagged.new.self.engine.core
+    subst (λ (line : Line). MakesStep g.D.Held.HeldFile.bytes (g.D.Watched.told c.read-in-GetTagged.new.self.engine.disk) c.read-in-GetTagged.new.self.engine.core
     c.read-in-GetTagged.new.self.opens.items s (step_to s line) c.read-in-GetTagged.result)
     (sym c.in-GetTagged.is) (c.read-in-GetTagged.ensures.makes s stands)
 
 pub returns-in-GetTagged-clause-sound : goal.returns-in-GetTagged-clause-sound
-returns-in-GetTagged-clause-sound g c s stands = not_by_read c.read-in-GetTagged.result (c.read-in-GetTagged.ensures.sound s stands)
+returns-in-GetTagged-clause-sound g c s stands halts =
+    subst (λ (line : Line). ReadsTables line s) (sym c.in-GetTagged.is)
+    (λ untabled. not_by_read c.read-in-GetTagged.result (c.read-in-GetTagged.ensures.near s stands untabled) halts)
+
+pub returns-in-GetTagged-clause-undamaged : goal.returns-in-GetTagged-clause-undamaged
+returns-in-GetTagged-clause-undamaged g c s stands = c.read-in-GetTagged.ensures.undamaged s stands
+
+pub returns-in-GetTagged-clause-fault : goal.returns-in-GetTagged-clause-fault
+returns-in-GetTagged-clause-fault g c s stands = c.read-in-GetTagged.ensures.fault
 
 pub returns-in-GetTagged-clause-cause : goal.returns-in-GetTagged-clause-cause
 returns-in-GetTagged-clause-cause g c = no_cause _ _ _ (ap (λ disk. g.D.Watched.faults disk) (ap (λ e. e.disk)
@@ -109,20 +138,26 @@ returns-in-GetTagged-clause-carries g c s stands =
     c.read-in-GetTagged.new.self.engine.disk s (state_after s line) c.read-in-GetTagged.result) (sym c.in-GetTagged.is)
     (quiet_carries g.D.Watched (record { only_now = g.met.D.Disk.only_now; counts_now = g.met.D.Disk.counts_now })
     g.D.Held.HeldFile.bytes
-    c.read-in-GetTagged.new.self.engine.core c.read-in-GetTagged.new.self.opens.items s (step_to s (lines.GetTagged
+    (g.D.Watched.told c.read-in-GetTagged.new.self.engine.disk) c.read-in-GetTagged.new.self.engine.core c.read-in-GetTagged.new.self.opens.items s (step_to s (lines.GetTagged
     c.in-GetTagged.name c.in-GetTagged.key)) (get_keeps s.store c.in-GetTagged.name answer_with_tag
     c.in-GetTagged.key (thing_of s.store c.in-GetTagged.name)) c.read-in-GetTagged.result
-    (c.read-in-GetTagged.ensures.makes s stands) (c.read-in-GetTagged.ensures.sound s stands)
+    (c.read-in-GetTagged.ensures.makes s stands) c.read-in-GetTagged.ensures.not_the_disk
     c.args.self.now.engine.disk c.read-in-GetTagged.new.self.engine.disk (ap (λ e. e.disk) c.read-in-GetTagged.ensures.engine))
 
 pub returns-in-Set-clause-makes : goal.returns-in-Set-clause-makes
 returns-in-Set-clause-makes g c s stands =
-    subst (λ (line : Line). MakesStep g.D.Held.HeldFile.bytes c.write.new.self.engine.core
+    subst (λ (line : Line). MakesStep g.D.Held.HeldFile.bytes (g.D.Watched.told c.write.new.self.engine.disk) c.write.new.self.engine.core
     c.write.new.self.opens.items s (step_to s line) c.write.result)
     (sym c.in-Set.is) (c.write.ensures.makes s stands)
 
 pub returns-in-Set-clause-sound : goal.returns-in-Set-clause-sound
-returns-in-Set-clause-sound g c s stands = not_by_read c.write.result c.write.ensures.fails
+returns-in-Set-clause-sound g c s stands halts = absurd (not_by_read c.write.result c.write.ensures.fails halts)
+
+pub returns-in-Set-clause-undamaged : goal.returns-in-Set-clause-undamaged
+returns-in-Set-clause-undamaged g c s stands halts = not_by_damage c.write.result c.write.ensures.fails halts
+
+pub returns-in-Set-clause-fault : goal.returns-in-Set-clause-fault
+returns-in-Set-clause-fault g c s stands halts = absurd (not_by_reader c.write.result c.write.ensures.fails halts)
 
 pub returns-in-Set-clause-cause : goal.returns-in-Set-clause-cause
 returns-in-Set-clause-cause g c = no_cause _ _ _ (ap (λ disk. g.D.Watched.faults disk) (ap (λ e. e.disk)
@@ -134,20 +169,26 @@ returns-in-Set-clause-carries g c s stands =
     c.write.new.self.engine.disk s (state_after s line) c.write.result) (sym c.in-Set.is)
     (quiet_carries g.D.Watched (record { only_now = g.met.D.Disk.only_now; counts_now = g.met.D.Disk.counts_now })
     g.D.Held.HeldFile.bytes
-    c.write.new.self.engine.core c.write.new.self.opens.items s (step_to s (lines.Set c.in-Set.name c.in-Set.key
+    (g.D.Watched.told c.write.new.self.engine.disk) c.write.new.self.engine.core c.write.new.self.opens.items s (step_to s (lines.Set c.in-Set.name c.in-Set.key
     c.in-Set.value)) (write_keeps s.store c.in-Set.name c.in-Set.key (changes.Set (untagged c.in-Set.value))
     (thing_of s.store c.in-Set.name)) c.write.result
-    (c.write.ensures.makes s stands) c.write.ensures.fails c.args.self.now.engine.disk c.write.new.self.engine.disk
+    (c.write.ensures.makes s stands) (not_by_disk c.write.result c.write.ensures.fails) c.args.self.now.engine.disk c.write.new.self.engine.disk
     (ap (λ e. e.disk) c.write.ensures.engine))
 
 pub returns-in-SetTagged-clause-makes : goal.returns-in-SetTagged-clause-makes
 returns-in-SetTagged-clause-makes g c s stands =
-    subst (λ (line : Line). MakesStep g.D.Held.HeldFile.bytes c.write-in-SetTagged.new.self.engine.core
+    subst (λ (line : Line). MakesStep g.D.Held.HeldFile.bytes (g.D.Watched.told c.write-in-SetTagged.new.self.engine.disk) c.write-in-SetTagged.new.self.engine.core
     c.write-in-SetTagged.new.self.opens.items s (step_to s line) c.write-in-SetTagged.result)
     (sym c.in-SetTagged.is) (c.write-in-SetTagged.ensures.makes s stands)
 
 pub returns-in-SetTagged-clause-sound : goal.returns-in-SetTagged-clause-sound
-returns-in-SetTagged-clause-sound g c s stands = not_by_read c.write-in-SetTagged.result c.write-in-SetTagged.ensures.fails
+returns-in-SetTagged-clause-sound g c s stands halts = absurd (not_by_read c.write-in-SetTagged.result c.write-in-SetTagged.ensures.fails halts)
+
+pub returns-in-SetTagged-clause-undamaged : goal.returns-in-SetTagged-clause-undamaged
+returns-in-SetTagged-clause-undamaged g c s stands halts = not_by_damage c.write-in-SetTagged.result c.write-in-SetTagged.ensures.fails halts
+
+pub returns-in-SetTagged-clause-fault : goal.returns-in-SetTagged-clause-fault
+returns-in-SetTagged-clause-fault g c s stands halts = absurd (not_by_reader c.write-in-SetTagged.result c.write-in-SetTagged.ensures.fails halts)
 
 pub returns-in-SetTagged-clause-cause : goal.returns-in-SetTagged-clause-cause
 returns-in-SetTagged-clause-cause g c = no_cause _ _ _ (ap (λ disk. g.D.Watched.faults disk) (ap (λ e. e.disk)
@@ -159,21 +200,27 @@ returns-in-SetTagged-clause-carries g c s stands =
     c.write-in-SetTagged.new.self.engine.disk s (state_after s line) c.write-in-SetTagged.result) (sym c.in-SetTagged.is)
     (quiet_carries g.D.Watched (record { only_now = g.met.D.Disk.only_now; counts_now = g.met.D.Disk.counts_now })
     g.D.Held.HeldFile.bytes
-    c.write-in-SetTagged.new.self.engine.core c.write-in-SetTagged.new.self.opens.items s (step_to s (lines.SetTagged
+    (g.D.Watched.told c.write-in-SetTagged.new.self.engine.disk) c.write-in-SetTagged.new.self.engine.core c.write-in-SetTagged.new.self.opens.items s (step_to s (lines.SetTagged
     c.in-SetTagged.name c.in-SetTagged.key c.in-SetTagged.value c.in-SetTagged.tag)) (write_keeps s.store
     c.in-SetTagged.name c.in-SetTagged.key (changes.Set (tagged c.in-SetTagged.value c.in-SetTagged.tag)) (thing_of
     s.store c.in-SetTagged.name)) c.write-in-SetTagged.result
-    (c.write-in-SetTagged.ensures.makes s stands) c.write-in-SetTagged.ensures.fails c.args.self.now.engine.disk
+    (c.write-in-SetTagged.ensures.makes s stands) (not_by_disk c.write-in-SetTagged.result c.write-in-SetTagged.ensures.fails) c.args.self.now.engine.disk
     c.write-in-SetTagged.new.self.engine.disk (ap (λ e. e.disk) c.write-in-SetTagged.ensures.engine))
 
 pub returns-in-Delete-clause-makes : goal.returns-in-Delete-clause-makes
 returns-in-Delete-clause-makes g c s stands =
-    subst (λ (line : Line). MakesStep g.D.Held.HeldFile.bytes c.write-in-Delete.new.self.engine.core
+    subst (λ (line : Line). MakesStep g.D.Held.HeldFile.bytes (g.D.Watched.told c.write-in-Delete.new.self.engine.disk) c.write-in-Delete.new.self.engine.core
     c.write-in-Delete.new.self.opens.items s (step_to s line) c.write-in-Delete.result)
     (sym c.in-Delete.is) (c.write-in-Delete.ensures.makes s stands)
 
 pub returns-in-Delete-clause-sound : goal.returns-in-Delete-clause-sound
-returns-in-Delete-clause-sound g c s stands = not_by_read c.write-in-Delete.result c.write-in-Delete.ensures.fails
+returns-in-Delete-clause-sound g c s stands halts = absurd (not_by_read c.write-in-Delete.result c.write-in-Delete.ensures.fails halts)
+
+pub returns-in-Delete-clause-undamaged : goal.returns-in-Delete-clause-undamaged
+returns-in-Delete-clause-undamaged g c s stands halts = not_by_damage c.write-in-Delete.result c.write-in-Delete.ensures.fails halts
+
+pub returns-in-Delete-clause-fault : goal.returns-in-Delete-clause-fault
+returns-in-Delete-clause-fault g c s stands halts = absurd (not_by_reader c.write-in-Delete.result c.write-in-Delete.ensures.fails halts)
 
 pub returns-in-Delete-clause-cause : goal.returns-in-Delete-clause-cause
 returns-in-Delete-clause-cause g c = no_cause _ _ _ (ap (λ disk. g.D.Watched.faults disk) (ap (λ e. e.disk)
@@ -185,20 +232,28 @@ returns-in-Delete-clause-carries g c s stands =
     c.write-in-Delete.new.self.engine.disk s (state_after s line) c.write-in-Delete.result) (sym c.in-Delete.is)
     (quiet_carries g.D.Watched (record { only_now = g.met.D.Disk.only_now; counts_now = g.met.D.Disk.counts_now })
     g.D.Held.HeldFile.bytes
-    c.write-in-Delete.new.self.engine.core c.write-in-Delete.new.self.opens.items s (step_to s (lines.Delete
+    (g.D.Watched.told c.write-in-Delete.new.self.engine.disk) c.write-in-Delete.new.self.engine.core c.write-in-Delete.new.self.opens.items s (step_to s (lines.Delete
     c.in-Delete.name c.in-Delete.key)) (write_keeps s.store c.in-Delete.name c.in-Delete.key changes.Delete (thing_of
     s.store c.in-Delete.name)) c.write-in-Delete.result
-    (c.write-in-Delete.ensures.makes s stands) c.write-in-Delete.ensures.fails c.args.self.now.engine.disk
+    (c.write-in-Delete.ensures.makes s stands) (not_by_disk c.write-in-Delete.result c.write-in-Delete.ensures.fails) c.args.self.now.engine.disk
     c.write-in-Delete.new.self.engine.disk (ap (λ e. e.disk) c.write-in-Delete.ensures.engine))
 
 pub returns-in-Scan-clause-makes : goal.returns-in-Scan-clause-makes
 returns-in-Scan-clause-makes g c s stands =
-    subst (λ (line : Line). MakesStep g.D.Held.HeldFile.bytes c.scan.new.self.engine.core c.scan.new.self.opens.items
+    subst (λ (line : Line). MakesStep g.D.Held.HeldFile.bytes (g.D.Watched.told c.scan.new.self.engine.disk) c.scan.new.self.engine.core c.scan.new.self.opens.items
     s (step_to s line) c.scan.result)
     (sym c.in-Scan.is) (c.scan.ensures.makes s stands)
 
 pub returns-in-Scan-clause-sound : goal.returns-in-Scan-clause-sound
-returns-in-Scan-clause-sound g c s stands = not_by_read c.scan.result (c.scan.ensures.sound s stands)
+returns-in-Scan-clause-sound g c s stands halts =
+    subst (λ (line : Line). ReadsTables line s) (sym c.in-Scan.is)
+    (λ untabled. not_by_read c.scan.result (c.scan.ensures.near s stands untabled) halts)
+
+pub returns-in-Scan-clause-undamaged : goal.returns-in-Scan-clause-undamaged
+returns-in-Scan-clause-undamaged g c s stands = c.scan.ensures.undamaged s stands
+
+pub returns-in-Scan-clause-fault : goal.returns-in-Scan-clause-fault
+returns-in-Scan-clause-fault g c s stands = c.scan.ensures.fault
 
 pub returns-in-Scan-clause-cause : goal.returns-in-Scan-clause-cause
 returns-in-Scan-clause-cause g c = no_cause _ _ _ (ap (λ disk. g.D.Watched.faults disk) (ap (λ e. e.disk)
@@ -210,15 +265,15 @@ returns-in-Scan-clause-carries g c s stands =
     c.scan.new.self.engine.disk s (state_after s line) c.scan.result) (sym c.in-Scan.is)
     (quiet_carries g.D.Watched (record { only_now = g.met.D.Disk.only_now; counts_now = g.met.D.Disk.counts_now })
     g.D.Held.HeldFile.bytes
-    c.scan.new.self.engine.core c.scan.new.self.opens.items s (step_to s (lines.Scan c.in-Scan.name c.in-Scan.low
+    (g.D.Watched.told c.scan.new.self.engine.disk) c.scan.new.self.engine.core c.scan.new.self.opens.items s (step_to s (lines.Scan c.in-Scan.name c.in-Scan.low
     c.in-Scan.high c.in-Scan.limit c.in-Scan.way)) (scan_keeps s.store c.in-Scan.way c.in-Scan.name c.in-Scan.low
     c.in-Scan.high c.in-Scan.limit (thing_of s.store c.in-Scan.name)) c.scan.result
-    (c.scan.ensures.makes s stands) (c.scan.ensures.sound s stands) c.args.self.now.engine.disk
+    (c.scan.ensures.makes s stands) c.scan.ensures.not_the_disk c.args.self.now.engine.disk
     c.scan.new.self.engine.disk (ap (λ e. e.disk) c.scan.ensures.engine))
 
 pub returns-in-Commit-clause-makes : goal.returns-in-Commit-clause-makes
 returns-in-Commit-clause-makes g c s stands =
-    subst (λ (line : Line). MakesStep g.D.Held.HeldFile.bytes c.commit.new.self.engine.core
+    subst (λ (line : Line). MakesStep g.D.Held.HeldFile.bytes (g.D.Watched.told c.commit.new.self.engine.disk) c.commit.new.self.engine.core
     c.commit.new.self.opens.items s (step_to s line) c.commit.result)
     (sym c.in-Commit.is) (c.commit.ensures.makes s stands)
 
@@ -230,7 +285,7 @@ returns-in-Commit-clause-carries g c s stands =
 
 pub returns-in-Drop-clause-makes : goal.returns-in-Drop-clause-makes
 returns-in-Drop-clause-makes g c s stands =
-    subst (λ (line : Line). MakesStep g.D.Held.HeldFile.bytes c.end.new.self.engine.core c.end.new.self.opens.items s
+    subst (λ (line : Line). MakesStep g.D.Held.HeldFile.bytes (g.D.Watched.told c.end.new.self.engine.disk) c.end.new.self.engine.core c.end.new.self.opens.items s
     (step_to s line) (Ok c.end.result))
     (sym c.in-Drop.is) (c.end.ensures.makes s stands)
 
@@ -243,10 +298,10 @@ returns-in-Drop-clause-carries g c s stands =
     c.end.new.self.engine.disk s (state_after s line) (Ok c.end.result)) (sym c.in-Drop.is)
     (quiet_carries g.D.Watched (record { only_now = g.met.D.Disk.only_now; counts_now = g.met.D.Disk.counts_now })
     g.D.Held.HeldFile.bytes
-    c.end.new.self.engine.core c.end.new.self.opens.items s (step_to s (lines.Drop c.in-Drop.name))
+    (g.D.Watched.told c.end.new.self.engine.disk) c.end.new.self.engine.core c.end.new.self.opens.items s (step_to s (lines.Drop c.in-Drop.name))
     (drop_keeps s.store c.in-Drop.name (thing_of s.store c.in-Drop.name) (only_readers s.store stands.sound
     c.in-Drop.name)) (Ok c.end.result)
-    (c.end.ensures.makes s stands) tt c.args.self.now.engine.disk c.end.new.self.engine.disk c.end.ensures.disk)
+    (c.end.ensures.makes s stands) (λ halts. halts) c.args.self.now.engine.disk c.end.new.self.engine.disk c.end.ensures.disk)
 
 pub returns-in-Begin-clause-named : goal.returns-in-Begin-clause-named
 returns-in-Begin-clause-named g c s file stands is = not_at c.begin.result (not_by_disk c.begin.result c.begin.ensures.fails) file is
@@ -276,4 +331,69 @@ pub returns-in-Scan-clause-named : goal.returns-in-Scan-clause-named
 returns-in-Scan-clause-named g c s file stands is = not_at c.scan.result c.scan.ensures.not_the_disk file is
 
 pub returns-in-Commit-clause-named : goal.returns-in-Commit-clause-named
-returns-in-Commit-clause-named g c s file stands is = c.commit.ensures.named s file stands is
+returns-in-Commit-clause-named g c s file stands is =
+    subst (λ (line : Line). FailsAt c.args.self.now.engine.core.back.manifest.number line s file) (sym c.in-Commit.is)
+    (c.commit.ensures.named s file stands is)
+
+-- ---- commits and steps on files
+
+pub returns-in-Commit-clause-sound : goal.returns-in-Commit-clause-sound
+returns-in-Commit-clause-sound g c s stands halts = absurd (c.commit.ensures.sound s stands halts)
+
+pub returns-in-Commit-clause-undamaged : goal.returns-in-Commit-clause-undamaged
+returns-in-Commit-clause-undamaged g c s stands halts = c.commit.ensures.sound s stands (damage_is_read c.commit.result halts)
+
+pub returns-in-Commit-clause-fault : goal.returns-in-Commit-clause-fault
+returns-in-Commit-clause-fault g c s stands halts = absurd (c.commit.ensures.sound s stands (reader_is_read c.commit.result halts))
+
+pub returns-in-Rotate-clause-makes : goal.returns-in-Rotate-clause-makes
+returns-in-Rotate-clause-makes g c s stands =
+    subst (λ (line : Line). MakesStep g.D.Held.HeldFile.bytes (g.D.Watched.told c.rotate.new.self.engine.disk)
+    c.rotate.new.self.engine.core c.rotate.new.self.opens.items s (step_to s line) c.rotate.result)
+    (sym c.in-Rotate.is) (c.rotate.ensures.makes s stands)
+
+pub returns-in-Rotate-clause-carries : goal.returns-in-Rotate-clause-carries
+returns-in-Rotate-clause-carries g c s stands =
+    subst (λ (line : Line). CarriesOut g.D.Watched IsStored Shown IsStopped c.args.self.now.engine.disk
+    c.rotate.new.self.engine.disk s (state_after s line) c.rotate.result)
+    (sym c.in-Rotate.is) (c.rotate.ensures.carries s stands)
+
+pub returns-in-Rotate-clause-sound : goal.returns-in-Rotate-clause-sound
+returns-in-Rotate-clause-sound g c s stands halts = absurd (c.rotate.ensures.sound s stands halts)
+
+pub returns-in-Rotate-clause-undamaged : goal.returns-in-Rotate-clause-undamaged
+returns-in-Rotate-clause-undamaged g c s stands halts = c.rotate.ensures.sound s stands (damage_is_read c.rotate.result halts)
+
+pub returns-in-Rotate-clause-fault : goal.returns-in-Rotate-clause-fault
+returns-in-Rotate-clause-fault g c s stands halts = absurd (c.rotate.ensures.sound s stands (reader_is_read c.rotate.result halts))
+
+pub returns-in-Rotate-clause-named : goal.returns-in-Rotate-clause-named
+returns-in-Rotate-clause-named g c s file stands is =
+    subst (λ (line : Line). FailsAt c.args.self.now.engine.core.back.manifest.number line s file) (sym c.in-Rotate.is)
+    (c.rotate.ensures.named s file stands is)
+
+pub returns-in-Flush-clause-makes : goal.returns-in-Flush-clause-makes
+returns-in-Flush-clause-makes g c s stands =
+    subst (λ (line : Line). MakesStep g.D.Held.HeldFile.bytes (g.D.Watched.told c.flush.new.self.engine.disk)
+    c.flush.new.self.engine.core c.flush.new.self.opens.items s (step_to s line) c.flush.result)
+    (sym c.in-Flush.is) (c.flush.ensures.makes s stands)
+
+pub returns-in-Flush-clause-carries : goal.returns-in-Flush-clause-carries
+returns-in-Flush-clause-carries g c s stands =
+    subst (λ (line : Line). CarriesOut g.D.Watched IsStored Shown IsStopped c.args.self.now.engine.disk
+    c.flush.new.self.engine.disk s (state_after s line) c.flush.result)
+    (sym c.in-Flush.is) (c.flush.ensures.carries s stands)
+
+pub returns-in-Flush-clause-sound : goal.returns-in-Flush-clause-sound
+returns-in-Flush-clause-sound g c s stands halts = absurd (c.flush.ensures.sound s stands halts)
+
+pub returns-in-Flush-clause-undamaged : goal.returns-in-Flush-clause-undamaged
+returns-in-Flush-clause-undamaged g c s stands halts = c.flush.ensures.sound s stands (damage_is_read c.flush.result halts)
+
+pub returns-in-Flush-clause-fault : goal.returns-in-Flush-clause-fault
+returns-in-Flush-clause-fault g c s stands halts = absurd (c.flush.ensures.sound s stands (reader_is_read c.flush.result halts))
+
+pub returns-in-Flush-clause-named : goal.returns-in-Flush-clause-named
+returns-in-Flush-clause-named g c s file stands is =
+    subst (λ (line : Line). FailsAt c.args.self.now.engine.core.back.manifest.number line s file) (sym c.in-Flush.is)
+    (c.flush.ensures.named s file stands is)

@@ -4,32 +4,43 @@ use Rattle.vl_layout.specs.Store.Dispatch.{drop_by}
 use Rattle.vl_replay.specs.Sequential.{history_of}
 use Rattle.vl_replay.proofs.Names.BeginMaking.{transaction_ends, view_ends}
 use Rattle.vl_replay.proofs.Names.Returning.{taken_out, unknown_returns}
+use Rattle.vl_replay.proofs.Names.Serving.{represents}
 use Rattle.vl_replay.proofs.replayer.Replayer.end.Goals as goal
 
 pub returns-in-None-clause-makes : goal.returns-in-None-clause-makes
 returns-in-None-clause-makes g c s stands =
-    unknown_returns g.D.Held.HeldFile.bytes c.args.self.now.engine.core c.args.self.now.opens.items c.take_out.new.opens.items s stands
+    unknown_returns g.D.Held.HeldFile.bytes _ c.args.self.now.engine.core c.args.self.now.opens.items c.take_out.new.opens.items s stands
     c.as_slice.result.now c.args.name c.as_slice.ensures c.in-None.ensures (drop_by s.store c.args.name) refl
 
 pub returns-in-Some-View-clause-makes : goal.returns-in-Some-View-clause-makes
 returns-in-Some-View-clause-makes g c s stands =
     let bytes = g.D.Held.HeldFile.bytes in
     let core = c.args.self.now.engine.core in
+    let seen = g.D.Watched.told c.args.self.now.engine.disk in
     let os = c.args.self.now.opens.items in
     let left = c.take_out.new.opens.items in
-    let taken = taken_out bytes core os left s stands c.as_slice.result.now c.args.name c.as_slice.ensures _ _
+    let taken = taken_out bytes seen core os left s stands c.as_slice.result.now c.args.name c.as_slice.ensures _ _
     c.in-Some-View.field-0-is c.in-Some-View.ensures in
-    view_ends bytes core c.release.new.self.core os s stands c.release.ensures.back left c.args.name c.in-Some-View.view taken
-    (c.release.ensures.stands (history_of s) s.store.layout stands.engine)
+    view_ends bytes seen (g.D.Watched.told c.release.new.self.disk) core c.release.new.self.core os s stands c.release.ensures.back left c.args.name c.in-Some-View.view taken
+    (record {
+      stands = c.release.ensures.stands (history_of s) s.store.layout stands.engine;
+      fits = c.release.ensures.fits (history_of s) s.store.layout stands.fits;
+      held = λ openable. (c.release.ensures.represents (history_of s) s.store.layout (represents bytes seen core os s stands openable)).held;
+    })
 
 pub returns-clause-makes : goal.returns-clause-makes
 returns-clause-makes g c s stands =
     let bytes = g.D.Held.HeldFile.bytes in
     let core = c.args.self.now.engine.core in
+    let seen = g.D.Watched.told c.args.self.now.engine.disk in
     let os = c.args.self.now.opens.items in
     let left = c.take_out.new.opens.items in
-    let taken = taken_out bytes core os left s stands c.as_slice.result.now c.args.name c.as_slice.ensures _ _
+    let taken = taken_out bytes seen core os left s stands c.as_slice.result.now c.args.name c.as_slice.ensures _ _
     c.in-Some-Transaction.field-0-is c.in-Some-Transaction.ensures in
-    transaction_ends bytes core c.forget.new.self.core os s stands c.forget.ensures.back left c.args.name
+    transaction_ends bytes seen (g.D.Watched.told c.forget.new.self.disk) core c.forget.new.self.core os s stands c.forget.ensures.back left c.args.name
     c.in-Some-Transaction.txn taken
-    (c.forget.ensures.stands (history_of s) s.store.layout stands.engine)
+    (record {
+      stands = c.forget.ensures.stands (history_of s) s.store.layout stands.engine;
+      fits = c.forget.ensures.fits (history_of s) s.store.layout stands.fits;
+      held = λ openable. (c.forget.ensures.represents (history_of s) s.store.layout (represents bytes seen core os s stands openable)).held;
+    })

@@ -1,6 +1,5 @@
 use Rattle.std.proofs.Common.{◌≡◌, sym, subst, ◌∙◌, refl, arith}
 use Rattle.vl_engine.specs.Opening.{IsDurable}
-use Rattle.vl_recover.specs.crash.Starts.{MayOpen}
 use Rattle.vl_recover.specs.laws.opening.OneFinding.{opened_not}
 use Rattle.vl_replay.specs.Sequential.{history_of}
 use Rattle.vl_replay.proofs.Openings.Begun.{opened_holds, opened_stands}
@@ -48,14 +47,16 @@ pub returns-in-Ok-clause-store : goal.returns-in-Ok-clause-store
 returns-in-Ok-clause-store g c s starts =
     opened_stands g.D.Watched g.D.Held.HeldFile.bytes c.args.disk s starts c.in-Ok.engine.core
     (c.in-Ok.ensures.back starts.state starts.read starts.found starts.told starts.is_read)
-    c.new.result.items c.new.ensures.items
+    c.new.result.items _ c.new.ensures.items
     (c.in-Ok.ensures.stands starts.state starts.read starts.found (history_of s) starts.told starts.is_read starts.shown)
+    (c.in-Ok.ensures.fits starts.state starts.read starts.found (history_of s) starts.told starts.is_read starts.shown)
+    (λ openable. c.in-Ok.ensures.represents starts.state starts.read starts.found (history_of s) starts.told
+    (starts.openable openable) starts.is_read starts.shown)
 
 pub returns-in-Ok-clause-holds : goal.returns-in-Ok-clause-holds
-returns-in-Ok-clause-holds g c s starts (state, told, may) =
-    let same : state ≡ starts.state = cc in
+returns-in-Ok-clause-holds g c s starts openable =
     opened_holds g.D.Watched g.D.Held.HeldFile.bytes c.args.disk s starts c.in-Ok.engine.core
-    (c.in-Ok.ensures.back starts.state starts.read starts.found starts.told starts.is_read) c.in-Ok.engine.disk
-    (c.in-Ok.ensures.represents starts.state starts.read starts.found (history_of s) starts.told (subst MayOpen same may) starts.is_read starts.shown)
+    (c.in-Ok.ensures.back starts.state starts.read starts.found starts.told starts.is_read) c.in-Ok.engine.disk openable
+    (c.in-Ok.ensures.represents starts.state starts.read starts.found (history_of s) starts.told (starts.openable openable) starts.is_read starts.shown)
     (c.in-Ok.ensures.repaired starts.state starts.read starts.told starts.is_read)
     (c.in-Ok.ensures.calls starts.state starts.read starts.found starts.strays starts.told starts.is_read starts.are_strays)

@@ -8,13 +8,14 @@ use Rattle.vl_replay.specs.Sequential.{history_of}
 use Rattle.vl_replay.specs.laws.Laws.{state_after-sound}
 use Rattle.vl_replay.proofs.Names.BeginMaking.{free_of, taken_makes, taken_of, too_many_makes, view_makes}
 use Rattle.vl_replay.proofs.Names.Returning.{returns_so}
+use Rattle.vl_replay.proofs.Names.Serving.{decides_all, represents}
 use Rattle.vl_replay.proofs.replayer.Replayer.view.Goals as goal
 use Rattle.vl_script.specs.declared.answer.Answer.TheVariants as answers
 use Rattle.vl_script.specs.declared.line.Line.TheVariants as lines
 
 pub returns-then-is_taken-clause-makes : goal.returns-then-is_taken-clause-makes
 returns-then-is_taken-clause-makes g c s stands =
-    taken_makes g.D.Held.HeldFile.bytes c.args.self.now.engine.core c.args.self.now.opens.items s stands c.args.name a_view
+    taken_makes g.D.Held.HeldFile.bytes _ c.args.self.now.engine.core c.args.self.now.opens.items s stands c.args.name a_view
     (taken_of c.args.self.now.opens.items c.deref.result.now c.deref.ensures.value c.as_slice.result.now c.args.name
     c.as_slice.ensures c.is_taken.result c.is_taken.ensures c.if-is_taken.true)
 
@@ -22,24 +23,37 @@ pub returns-in-Ok-clause-makes : goal.returns-in-Ok-clause-makes
 returns-in-Ok-clause-makes g c s stands =
     let bytes = g.D.Held.HeldFile.bytes in
     let core = c.args.self.now.engine.core in
+    let seen = g.D.Watched.told c.args.self.now.engine.disk in
+    let now = g.D.Watched.told c.view.new.self.disk in
     let os = c.args.self.now.opens.items in
     let free = free_of os c.deref.result.now c.deref.ensures.value c.as_slice.result.now c.args.name
     c.as_slice.ensures c.is_taken.result c.is_taken.ensures c.if-is_taken.false in
-    returns_so bytes c.view.new.self.core _ c.put.new.opens.items s
+    returns_so bytes now c.view.new.self.core _ c.put.new.opens.items s
     (begin_as s.store c.args.name a_view (thing_of s.store c.args.name)) (begin_as s.store c.args.name a_view
     (thing_of s.store c.args.name)) _ _
     c.in_ok-put-in-Ok.ensures refl (ap (λ n. Ok (answers.Number n)) c.number-number.ensures)
-    (view_makes bytes core c.view.new.self.core os s stands c.view.ensures.back c.args.name free c.in-Ok.view
+    (view_makes bytes seen now core c.view.new.self.core os s stands c.view.ensures.back c.args.name free c.in-Ok.view
     (c.in-Ok.ensures.sees (history_of s) s.store.layout stands.engine)
-    (c.in-Ok.ensures.memory (laid_in_memory bytes core.version s.store.layout stands.engine.has stands.untabled))
-    (c.in-Ok.ensures.stands (history_of s) s.store.layout stands.engine))
+    (λ untabled. c.in-Ok.ensures.memory (laid_in_memory bytes core.version s.store.layout stands.engine.has untabled))
+    (decides_all bytes now s.openable c.view.new.self.core (history_of s) s.store.layout _ _ _ _
+    (c.in-Ok.ensures.stands (history_of s) s.store.layout stands.engine)
+    (c.in-Ok.ensures.fits (history_of s) s.store.layout stands.engine stands.fits)
+    (λ openable. c.in-Ok.ensures.represents (history_of s) s.store.layout (represents bytes seen core os s stands openable))))
 
 pub returns-in-Err-TooMany-clause-makes : goal.returns-in-Err-TooMany-clause-makes
 returns-in-Err-TooMany-clause-makes g c s stands =
+    let bytes = g.D.Held.HeldFile.bytes in
+    let core = c.args.self.now.engine.core in
+    let seen = g.D.Watched.told c.args.self.now.engine.disk in
+    let now = g.D.Watched.told c.view.new.self.disk in
     let os = c.args.self.now.opens.items in
     let free = free_of os c.deref.result.now c.deref.ensures.value c.as_slice.result.now c.args.name
     c.as_slice.ensures c.is_taken.result c.is_taken.ensures c.if-is_taken.false in
-    too_many_makes g.D.Held.HeldFile.bytes c.args.self.now.engine.core c.view.new.self.core os s stands
+    too_many_makes bytes seen now core c.view.new.self.core os s stands
     c.view.ensures.back c.args.name a_view
-    (state_after-sound s (lines.View c.args.name) stands.sound) free (rw c.in-Err-TooMany.field-0-is at
-    (c.in-Err-TooMany.ensures.stands (history_of s) s.store.layout stands.engine))
+    (state_after-sound s (lines.View c.args.name) stands.sound) free
+    (decides_all bytes now s.openable c.view.new.self.core (history_of s) s.store.layout _ _ _ _
+    (rw c.in-Err-TooMany.field-0-is at (c.in-Err-TooMany.ensures.stands (history_of s) s.store.layout stands.engine))
+    (rw c.in-Err-TooMany.field-0-is at (c.in-Err-TooMany.ensures.fits (history_of s) s.store.layout stands.engine stands.fits))
+    (λ openable. rw c.in-Err-TooMany.field-0-is at (c.in-Err-TooMany.ensures.represents (history_of s) s.store.layout
+    (represents bytes seen core os s stands openable))))

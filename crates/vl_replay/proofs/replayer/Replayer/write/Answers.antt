@@ -13,7 +13,7 @@ use Rattle.vl_replay.proofs.replayer.Replayer.write.Goals as goal
 
 pub returns-in_default-clause-makes : goal.returns-in_default-clause-makes
 returns-in_default-clause-makes g c s stands =
-    free_returns g.D.Held.HeldFile.bytes c.args.self.now.engine.core c.args.self.now.opens.items s stands
+    free_returns g.D.Held.HeldFile.bytes _ c.args.self.now.engine.core c.args.self.now.opens.items s stands
     c.deref.result.now c.deref.ensures.value c.as_slice.result.now c.args.name c.as_slice.ensures (sym
     c.place.ensures ∙ c.in_default.is)
     (write_by s.store c.args.name c.args.key (change_of c.args.value)) refl
@@ -29,15 +29,16 @@ pub returns-clause-makes : goal.returns-clause-makes
 returns-clause-makes g c s stands =
     let bytes = g.D.Held.HeldFile.bytes in
     let core = c.args.self.now.engine.core in
+    let seen = g.D.Watched.told c.args.self.now.engine.disk in
     let os = c.args.self.now.opens.items in
-    let taken = out_of_place bytes core os s stands c.deref.result.now c.deref.ensures.value c.as_slice.result.now
+    let taken = out_of_place bytes seen core os s stands c.deref.result.now c.deref.ensures.value c.as_slice.result.now
     c.args.name c.as_slice.ensures
     c.in-Some.at (sym c.place.ensures ∙ c.in-Some.is) c.index_mut.result.now c.index_mut.ensures.value _ c.in-Transaction.is in
-    in_place bytes core os s stands c.deref.result.now c.deref.ensures.value c.as_slice.result.now c.args.name c.as_slice.ensures
+    in_place bytes seen core os s stands c.deref.result.now c.deref.ensures.value c.as_slice.result.now c.args.name c.as_slice.ensures
     c.in-Some.at (sym c.place.ensures ∙ c.in-Some.is) c.index_mut.result.now c.index_mut.ensures.value (Transaction c.change.new.txn)
     (write_by s.store c.args.name c.args.key (change_of c.args.value) (thing_of s.store c.args.name)) _ _
     c.told.result refl c.told.ensures
-    (write_makes bytes core os s stands (without_open c.args.name os) c.args.name c.in-Transaction.txn taken
+    (write_makes bytes seen core os s stands (without_open c.args.name os) c.args.name c.in-Transaction.txn taken
     c.change.new.txn c.args.key (change_of c.args.value)
     c.change.ensures.keeps c.change.ensures.sees c.change.result c.change.ensures.written)
 
@@ -45,12 +46,13 @@ pub returns-in-View-clause-makes : goal.returns-in-View-clause-makes
 returns-in-View-clause-makes g c s stands =
     let bytes = g.D.Held.HeldFile.bytes in
     let core = c.args.self.now.engine.core in
+    let seen = g.D.Watched.told c.args.self.now.engine.disk in
     let os = c.args.self.now.opens.items in
-    let taken = out_of_place bytes core os s stands c.deref.result.now c.deref.ensures.value c.as_slice.result.now
+    let taken = out_of_place bytes seen core os s stands c.deref.result.now c.deref.ensures.value c.as_slice.result.now
     c.args.name c.as_slice.ensures
     c.in-Some.at (sym c.place.ensures ∙ c.in-Some.is) c.index_mut.result.now c.index_mut.ensures.value _ c.in-View.is in
-    still_in_place bytes core os s stands c.deref.result.now c.deref.ensures.value c.as_slice.result.now c.args.name c.as_slice.ensures
+    still_in_place bytes seen core os s stands c.deref.result.now c.deref.ensures.value c.as_slice.result.now c.args.name c.as_slice.ensures
     c.in-Some.at (sym c.place.ensures ∙ c.in-Some.is) c.index_mut.result.now c.index_mut.ensures.value _ c.in-View.is
     (write_by s.store c.args.name c.args.key (change_of c.args.value) (thing_of s.store c.args.name)) (Ok answers.ReadOnly)
-    (read_only_makes bytes core os s stands (without_open c.args.name os) c.args.name c.in-View.field-0 taken
+    (read_only_makes bytes seen core os s stands (without_open c.args.name os) c.args.name c.in-View.field-0 taken
     (write_by s.store c.args.name c.args.key (change_of c.args.value)) (λ v b. refl))

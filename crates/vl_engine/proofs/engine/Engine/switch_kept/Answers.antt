@@ -1,0 +1,96 @@
+use Rattle.std.proofs.Common.{ap, refl, ℕ}
+use Rattle.vl_disk.specs.DiskState.{appended}
+use Rattle.vl_disk.specs.declared.name.Name.TheVariants as names
+use Rattle.vl_engine.proofs.KeptBy.{files_in_part, files_switched, fit_by, same_after, same_by, staged_by, stops_by, writes_by}
+use Rattle.vl_manifest.specs.Switching.{switched}
+use Rattle.vl_engine.proofs.engine.Engine.switch_kept.Goals as goal
+
+-- it is written
+
+pub invariant_of-self-in-Ok-switch : goal.invariant_of-self-in-Ok-switch
+invariant_of-self-in-Ok-switch g c =
+    let core = c.args.self.now.core in
+    let told = g.D.Watched.told in
+    record {
+      ready = fit_by core _ refl (λ running. running) c.in-Ok-switch.ensures.number refl refl
+          (switched core.back.manifest.number c.in-Ok.staged.frame.items) (told c.args.self.now.disk) (told c.stage.new.disk)
+          (told c.switch.new.disk) c.in-Ok.ensures.no_change.told c.in-Ok-switch.ensures.switched.performs.done
+          (files_switched core.back.manifest.number c.in-Ok.staged.frame.items) c.args.self.now.ready;
+      numbered = c.args.self.now.numbered;
+      known = c.args.self.now.known;
+    }
+
+pub returns-in-Ok-switch-clause-files : goal.returns-in-Ok-switch-clause-files
+returns-in-Ok-switch-clause-files g c =
+    let number = c.args.self.now.core.back.manifest.number in
+    let told = g.D.Watched.told in
+    same_after (told c.args.self.now.disk) (told c.stage.new.disk) (told c.switch.new.disk) c.in-Ok.ensures.no_change.told
+    (same_by (switched number c.in-Ok.staged.frame.items) (told c.stage.new.disk) (told c.switch.new.disk)
+    (files_switched number c.in-Ok.staged.frame.items) c.in-Ok-switch.ensures.switched.performs.done)
+
+pub returns-in-Ok-switch-clause-as_kept : goal.returns-in-Ok-switch-clause-as_kept
+returns-in-Ok-switch-clause-as_kept g c =
+    let core = c.args.self.now.core in
+    let wrote = c.in-Ok-switch.ensures in
+    record {
+      staged = c.in-Ok.staged;
+      of = staged_by g.D.Watched core c.args.versions c.in-Ok.staged c.args.self.now.disk c.stage.new.disk c.switch.new.disk
+          c.in-Ok.ensures.no_change c.next_since-since.result c.next_since-since.ensures c.in-Ok.ensures.staged;
+      writes = writes_by g.D.Watched core c.args.versions c.in-Ok.staged c.args.self.now.disk c.stage.new.disk c.switch.new.disk
+          c.in-Ok.ensures.no_change _ wrote.switched.performs;
+      changed = wrote.switched.performs.done;
+      calls = wrote.switched.performs.calls;
+      front = refl;
+      back = record {
+        number = wrote.number;
+        longer = wrote.longer;
+        state = ap (λ (n : ℕ). record core.back.state { keep = c.args.versions; since = n }) c.next_since-since.ensures;
+        next_log = refl;
+        waiting = refl;
+        version_number = refl;
+      };
+      version = refl;
+    }
+
+-- it failed
+
+pub invariant_of-self-in-Err : goal.invariant_of-self-in-Err
+invariant_of-self-in-Err g c =
+    let core = c.args.self.now.core in
+    let told = g.D.Watched.told in
+    let (taken, within, changed) = c.in-Err.ensures.switched.failed in
+    record {
+      ready = fit_by core _ refl (λ running. absurd cc) c.in-Err.ensures.number refl refl
+          (appended (names.Manifest core.back.manifest.number) c.in-Ok.staged.frame.items taken) (told c.args.self.now.disk)
+          (told c.stage.new.disk) (told c.switch.new.disk) c.in-Ok.ensures.no_change.told changed
+          (files_in_part core.back.manifest.number c.in-Ok.staged.frame.items taken) c.args.self.now.ready;
+      numbered = c.args.self.now.numbered;
+      known = c.args.self.now.known;
+    }
+
+pub returns-clause-files : goal.returns-clause-files
+returns-clause-files g c =
+    let number = c.args.self.now.core.back.manifest.number in
+    let told = g.D.Watched.told in
+    let (taken, within, changed) = c.in-Err.ensures.switched.failed in
+    same_after (told c.args.self.now.disk) (told c.stage.new.disk) (told c.switch.new.disk) c.in-Ok.ensures.no_change.told
+    (same_by (appended (names.Manifest number) c.in-Ok.staged.frame.items taken) (told c.stage.new.disk) (told c.switch.new.disk)
+    (files_in_part number c.in-Ok.staged.frame.items taken) changed)
+
+pub returns-clause-as_kept : goal.returns-clause-as_kept
+returns-clause-as_kept g c =
+    let core = c.args.self.now.core in
+    let failed = c.in-Err.ensures.switched.performs in
+    record {
+      staged = c.in-Ok.staged;
+      of = staged_by g.D.Watched core c.args.versions c.in-Ok.staged c.args.self.now.disk c.stage.new.disk c.switch.new.disk
+          c.in-Ok.ensures.no_change c.next_since-since.result c.next_since-since.ensures c.in-Ok.ensures.staged;
+      writes = writes_by g.D.Watched core c.args.versions c.in-Ok.staged c.args.self.now.disk c.stage.new.disk c.switch.new.disk
+          c.in-Ok.ensures.no_change _ failed;
+      stops = stops_by g.D.Watched core c.args.versions c.in-Ok.staged c.args.self.now.disk c.stage.new.disk c.switch.new.disk
+          c.in-Ok.ensures.no_change _ failed;
+      front = refl;
+      state = refl;
+      version_number = refl;
+      version = refl;
+    }
