@@ -8,10 +8,12 @@ use Rattle.vl_mem.specs.declared.outcome.Outcome.{Outcome}
 use Rattle.vl_replay.specs.Endings.{status_of}
 use Rattle.vl_replay.specs.Reading.{streams}
 use Rattle.vl_replay.specs.Runs.{outside}
+use Rattle.vl_replay.specs.Sequential.{State}
+use Rattle.vl_replay.specs.Start.{StartsIn}
 use Rattle.vl_replay.specs.Trying.{trial_of}
 use Rattle.vl_replay.specs.declared.ending.Ending.{Ending}
 use Rattle.vl_replay.specs.declared.ending.Ending.TheVariants.{BadWords}
-use Rattle.vl_cli.specs.Run.{AreNotPlain, AskFor, EndsBy, FailedAtTables, FailedToRead, StatusOfAnswers, StatusOfTrial, TellsOfInput}
+use Rattle.vl_cli.specs.Run.{AreNotPlain, AskFor, EndsBy, FailedAtTables, FailedToRead, HasCountedFault, StatusOfAnswers, StatusOfTrial, TellsOfInput}
 use Rattle.vl_cli.specs.declared.command_line.words.Command.{Command}
 use Rattle.vl_cli.specs.declared.command_line.words.Command.TheVariants.{Replay, Trial}
 
@@ -28,7 +30,7 @@ pub record MayExitWith (words : List (List ℕ)) (status : ℕ) : Type 0 where
   pub plain : (command : Command) → AskFor words command → status ≢ 2
 
 -- A run over these words, and over the disk that was made for their folder, left the source, the sink and the disk so.
-pub record ServedOver {S K D : Type 0} (s : source.Ghosts S) (k : sink.Ghosts K) (g : Ghosts D)
+pub record ServedOver {S K D R : Type 0} (s : source.Ghosts S) (k : sink.Ghosts K) (g : Ghosts D) (faults : R → ℕ)
     (IsMade : (folder : List ℕ) → D → Type 0) (words : List (List ℕ)) (source source' : S) (sink sink' : K)
     (left : D) (status : ℕ) : Type 0 where
   -- the disk as it was made
@@ -36,15 +38,17 @@ pub record ServedOver {S K D : Type 0} (s : source.Ghosts S) (k : sink.Ghosts K)
   pub is_made : IsMade (folder_of words) made
   -- the status is that of the run, as these tell of it
   pub answers : AskFor words Replay
-      → StatusOfAnswers g (outside s k source sink made) (outside s k source' sink' left) status
+      → StatusOfAnswers g faults (outside s k source sink made) (outside s k source' sink' left) status
   pub input : AskFor words Replay → TellsOfInput (streams s k source sink) (streams s k source' sink') status
   pub tries : (stop : ℕ) (outcome : Outcome) (input : List ℕ) → AskFor words (Trial stop outcome)
       → s.left source ≡ Some input
       → StatusOfTrial (trial_of stop input outcome) (k.held sink) (k.held sink') (s.left source') status
   pub not_plain : AreNotPlain words → (source' ≡ source) × (left ≡ made) × EndsBy k sink sink' BadWords status
   pub no_usage_line : (command : Command) → AskFor words command → status ≢ 2
-  -- status 3 comes only by a fault of the disk or of a read, and all others but 7 only without a fault of the disk
+  -- status 3 comes only by a fault of the disk or of a read, which its reader counts, and all others but 7 only without a fault
+  -- of the disk
   pub disk_fault : status ≡ 3
       → Rose (g.faults made) (g.faults left)
-      ⊎ (FailedToRead (streams s k source sink) (streams s k source' sink') ⊎ FailedAtTables g k source source' made left sink sink')
+      ⊎ (FailedToRead (streams s k source sink) (streams s k source' sink') ⊎ FailedAtTables g faults k source source' made left sink sink')
+  pub reader_fault : (start : State) → StartsIn g made start → status ≡ 3 → HasCountedFault g faults made left
   pub no_disk_fault : status ≢ 3 → status ≢ 7 → g.faults left ≡ g.faults made

@@ -1,14 +1,16 @@
 -- Whole runs of the command line: what is done for its words and its input.
-use Rattle.std.specs.Prelude.{◌≡◌, ◌≢◌, ℕ, List, Option, None, Some}
+use Rattle.std.specs.Prelude.{◌≡◌, ◌≢◌, ◌⊎◌, ℕ, List, Option, None, Some}
+use Rattle.vl_disk.specs.Faults.{Rose}
 use Rattle.vl_disk.specs.declared.name.Name.{Name}
 use Rattle.vl_disk.specs.declared.watched.Watched.{Ghosts}
 use Rattle.vl_cli.specs.Words.{command_of}
 use Rattle.vl_cli.specs.declared.command_line.words.Command.{Command}
 use Rattle.vl_io.specs.declared.sink.Sink as sink
 use Rattle.vl_replay.specs.Endings.{status_of}
+use Rattle.vl_replay.specs.Failing.{ReaderFailed}
 use Rattle.vl_replay.specs.Reading.{Streams, ReadsInput}
 use Rattle.vl_replay.specs.Runs.{Outside}
-use Rattle.vl_replay.specs.Start.{AnswersInput, FailsAtTables}
+use Rattle.vl_replay.specs.Start.{AnswersInput, EndsAtTables}
 use Rattle.vl_replay.specs.Steps.{FinishesBy, EndsWithoutOpening}
 use Rattle.vl_replay.specs.Trial.{EndsTrial, Trial}
 use Rattle.vl_replay.specs.declared.ending.Ending.{Ending}
@@ -25,9 +27,9 @@ AreNotPlain words = command_of words ≡ None
 
 -- A run answered its input, and has the status of its ending, which isn't that of a trial's stop. The table of endings says the status, the
 -- culprit and the last line of each.
-abbrev pub StatusOfAnswers : {D : Type 0} → Ghosts D → (old new : Outside D) → (status : ℕ) → Type 0
-StatusOfAnswers g old new status =
-    (ending : Ending) × (status ≡ status_of ending) × (ending ≢ Stopped) × AnswersInput g old new ending
+abbrev pub StatusOfAnswers : {D R : Type 0} → Ghosts D → (faults : R → ℕ) → (old new : Outside D) → (status : ℕ) → Type 0
+StatusOfAnswers g faults old new status =
+    (ending : Ending) × (status ≡ status_of ending) × (ending ≢ Stopped) × AnswersInput g faults old new ending
 
 -- a run that wasn't begun put the line of this ending and has its status, or put a front of it and has the sink's
 abbrev pub EndsBy : {K : Type 0} → sink.Ghosts K → (old new : K) → Ending → (status : ℕ) → Type 0
@@ -57,10 +59,15 @@ MetDamage old new =
 abbrev pub FailedToRead : (old new : Streams) → Type 0
 FailedToRead old new = (input : List ℕ) → old.left ≡ Some input → ReadsInput input old new ReaderFault
 
--- A run ended at its opening since reads of tables failed, before any line was read.
-abbrev pub FailedAtTables : {S D K : Type 0} → Ghosts D → sink.Ghosts K → (source source' : S) (disk disk' : D) (sink sink' : K) → Type 0
-FailedAtTables g k source source' disk disk' sink sink' =
-    (source' ≡ source) × ((ending : Ending) × FailsAtTables g k disk disk' sink sink' ending)
+-- A run ended at its opening since a reader of tables failed, before any line was read.
+abbrev pub FailedAtTables : {S D K R : Type 0} → Ghosts D → (faults : R → ℕ) → sink.Ghosts K → (source source' : S) (disk disk' : D)
+    (sink sink' : K) → Type 0
+FailedAtTables g faults k source source' disk disk' sink sink' =
+    (source' ≡ source) × ((ending : Ending) × EndsAtTables g faults k disk disk' sink sink' ending)
+
+-- Status 3 has a cause that was counted, by the disk or by a reader of its files.
+abbrev pub HasCountedFault : {D R : Type 0} → Ghosts D → (faults : R → ℕ) → (disk disk' : D) → Type 0
+HasCountedFault g faults disk disk' = Rose (g.faults disk) (g.faults disk') ⊎ ReaderFailed faults
 
 -- A trial has the status of its ending, and printed what such a trial prints.
 abbrev pub StatusOfTrial : Trial → (held held' left : Option (List ℕ)) → (status : ℕ) → Type 0

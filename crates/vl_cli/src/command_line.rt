@@ -21,7 +21,7 @@ ghost use Rattle.vl_replay.specs.declared.fails.Refusal.{Refusal};
 ghost use Rattle.vl_replay.specs.Trial.{begun};
 ghost use Rattle.vl_replay.specs.Trying.{trial_of};
 ghost use Rattle.vl_mem.specs.declared.outcome.Outcome.{Outcome};
-ghost use Rattle.vl_cli.specs.Run.{AreNotPlain, AskFor, EndsBy, FailedAtTables, FailedToRead, MetDamage, StatusOfAnswers, StatusOfTrial, StatusWithoutOpening, TellsOfInput};
+ghost use Rattle.vl_cli.specs.Run.{AreNotPlain, AskFor, EndsBy, FailedAtTables, FailedToRead, HasCountedFault, MetDamage, StatusOfAnswers, StatusOfTrial, StatusWithoutOpening, TellsOfInput};
 ghost use Rattle.vl_cli.specs.declared.command_line.words.Command.{Command as Commands};
 
 use crate::command_line::words::{Command, command_in};
@@ -55,7 +55,7 @@ pub fn run<S: Source, K: Sink, D: Disk>(
     // Where the words ask for a replay and the disk opens as a store, the lines of the input are answered as the sequential
     // store does: so it is of what is printed, of how the run ends, and of what the disk holds in the end.
     ensures answers { AskFor (map string_bytes words.now) Command.Replay
-        → StatusOfAnswers D.Watched (outside S.Source K.Sink source.old sink.old disk)
+        → StatusOfAnswers D.Watched D.Reader.faults (outside S.Source K.Sink source.old sink.old disk)
         (outside S.Source K.Sink source.new sink.new result.disk) result.status }
 
     // Where they ask for a trial, what is printed is this, to the byte: the answers to all lines before the stop, and then what
@@ -82,13 +82,15 @@ pub fn run<S: Source, K: Sink, D: Disk>(
         → result.disk ≡ disk }
 
     // Status 3 comes only by a fault of the disk, or where a read of a file failed, of which the disk counts no fault: a line's read
-    // of an open store's file, or an opening's read of a table. All other statuses but 7 come only without a fault of the disk. A
-    // trial never comes to 3: its stop is not reported.
+    // of an open store's file, or an opening's read of a table. Over a disk on which a run may begin the reader counted that. All
+    // other statuses but 7 come only without a fault of the disk. A trial never comes to 3: its stop is not reported.
     ensures no_fault_in_trial { (stop : ℕ) (outcome : Outcome) → AskFor (map string_bytes words.now) (Command.Trial stop outcome)
         → result.status ≢ 3 }
     ensures disk_fault { result.status ≡ 3 → Rose (D.faults disk) (D.faults result.disk)
         ⊎ (FailedToRead (streams S.Source K.Sink source.old sink.old) (streams S.Source K.Sink source.new sink.new)
-        ⊎ FailedAtTables D.Watched K.Sink source.old source.new disk result.disk sink.old sink.new) }
+        ⊎ FailedAtTables D.Watched D.Reader.faults K.Sink source.old source.new disk result.disk sink.old sink.new) }
+    ensures reader_fault { (s : State) → StartsIn D.Watched disk s → result.status ≡ 3
+        → HasCountedFault D.Watched D.Reader.faults disk result.disk }
     ensures no_disk_fault { result.status ≢ 3 → result.status ≢ 7
         → D.faults result.disk ≡ D.faults disk }
 

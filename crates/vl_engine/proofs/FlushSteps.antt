@@ -2,7 +2,7 @@
 use Rattle.std.specs.Prelude.{◌≡◌, ◌≤◌, ◌^◌, ℕ, ◌+◌, ◌-◌, ◌⊎◌, ◌∷◌, List, [], length, map, min, Option, None, Some, Ok, refl}
 use Rattle.std.specs.List.{AllByRecursion}
 use Rattle.std.specs.Option.{option_map}
-use Rattle.std.proofs.Common.{sym, ap, subst, ◌∙◌, arith, inl, inr, ⊎_elim}
+use Rattle.std.proofs.Common.{sym, ap, subst, ◌∙◌, arith, inl, ⊎_elim}
 use Rattle.vl_back.specs.FlushEdits.{flush_switch}
 use Rattle.vl_back.specs.Tables as staged
 use Rattle.vl_back.specs.Writing.{WhileWriting, written}
@@ -22,7 +22,7 @@ use Rattle.vl_disk.specs.declared.watched.Watched.{Ghosts}
 use Rattle.vl_engine.proofs.Carrying.{IsWatched, looked}
 use Rattle.vl_engine.proofs.Committing.{decides_answered, decides_failed}
 use Rattle.vl_engine.proofs.FlushKeeps.{KeepsAsMany}
-use Rattle.vl_engine.proofs.Leaving.{base_numbers, first_drawn, making_elsewhere, manifest_held}
+use Rattle.vl_engine.proofs.Leaving.{base_numbers, either_state, first_drawn, making_elsewhere, manifest_held}
 use Rattle.vl_engine.proofs.Represented.{represents_halted}
 use Rattle.vl_engine.proofs.Standing.{stands_halted}
 use Rattle.vl_engine.specs.Carries.{Carries, CrashesShow}
@@ -42,6 +42,7 @@ use Rattle.vl_engine.specs.laws.HeldLaws.{held_opens_again}
 use Rattle.vl_engine.specs.laws.LaidFlush.{laid_flushed, made_table, oldest_entries}
 use Rattle.vl_engine.specs.laws.OpensAgain.{flush_opens_again}
 use Rattle.vl_engine.specs.laws.ShownLaws.{between_itself}
+use Rattle.vl_engine.specs.laws.SparedSteps.{spares_flushed}
 use Rattle.vl_engine.specs.laws.SwitchLaws.{switch_frame, switching_says}
 use Rattle.vl_engine.specs.laws.WaitingLaws.{waiting_dropped, waiting_edits}
 use Rattle.vl_frame.specs.Runs.{HasFrame, item_frame}
@@ -57,9 +58,7 @@ use Rattle.vl_layout.specs.TidyLevels.{AreLevels}
 use Rattle.vl_layout.specs.declared.layout.Layout.{Layout}
 use Rattle.vl_layout.specs.declared.segment.Segment.{Segment}
 use Rattle.vl_layout.specs.declared.table.Table as laid
-use Rattle.vl_manifest.specs.Current.{IsCurrent}
 use Rattle.vl_manifest.specs.Grammar.{edits_grammar}
-use Rattle.vl_manifest.specs.Manifest.{SaysState}
 use Rattle.vl_manifest.specs.States.{next_state}
 use Rattle.vl_manifest.specs.Switching.{WhileSwitching}
 use Rattle.vl_manifest.specs.declared.edit.Edit.{Edit}
@@ -74,10 +73,8 @@ use Rattle.vl_recover.specs.crash.Alike.{IsLeft}
 use Rattle.vl_recover.specs.crash.Held.{HoldsManifest}
 use Rattle.vl_recover.specs.crash.Starts.{MayOpen}
 use Rattle.vl_recover.specs.laws.opening.HeldLaws.{held_state}
-use Rattle.vl_recover.specs.laws.opening.OpeningLaws.{IsOpened, one_heading, opened, single_says}
-use Rattle.vl_recover.specs.laws.repairing.StageLaws.{ok_same}
 use Rattle.vl_recover.specs.opening.HeldFiles.{AreWaiting}
-use Rattle.vl_recover.specs.opening.Opening.{Heading, Led, Opening, Opens, Refusal, Says}
+use Rattle.vl_recover.specs.opening.Opening.{Opening, Opens}
 use Rattle.vl_table.specs.declared.table.Table.{Table}
 
 -- ---- numbers
@@ -189,6 +186,7 @@ module _ {H : Type 0} (bytes : H → Option (List ℕ)) (before after : Core H) 
             (stays l h s is.tidy first levels.level levels.deeper levels.are files file) table next
             (made_table bytes told state flush table l s told_is held spelled);
         tidy = flush_tidy l h s is.tidy first levels.level levels.deeper levels.are files file;
+        spared = spares_flushed l h s first levels.level levels.deeper levels.are is.spared;
       }
 
 -- ---- on the disk
@@ -371,31 +369,15 @@ module _ {D H : Type 0} (g : Ghosts D) (watched : IsWatched g) (bytes : H → Op
       (making_elsewhere (names.Table l.next_table) (bytes_of l s) held.state now table)))
       image o left.left opens))
       (λ (switching : WhileSwitching b.manifest.number (switch_frame b (edits_of l s)) (mid b l h s held.state held.is_base tidy held.holds can) now).
-      by (opened image o opens)
-      (switching_says b (edits_of l s) flush.state (before_then b.before) held.is_base.numbered can.frame
+      let (bytes, current, either) = switching_says b (edits_of l s) flush.state (before_then b.before) held.is_base.numbered can.frame
       (mid b l h s held.state held.is_base tidy held.holds can)
       (base_mid b l h s held.state held.is_base tidy held.holds can) h l (flushed l s) held.is_base tidy
       (files_mid b l h s held.state held.is_base tidy held.holds can)
       (base_then b l h s held.state held.is_base tidy held.holds can)
       (tidy_then b l h s held.state held.is_base tidy held.holds can)
-      (files_then b l h s held.state held.is_base tidy held.holds can) now switching image left))
+      (files_then b l h s held.state held.is_base tidy held.holds can) now switching image left in
+      either_state b.manifest.number bytes b.state flush.state image o opens current either)
       during
-    where
-      by : IsOpened image o
-          → (bytes : List ℕ) × IsCurrent image b.manifest.number bytes
-          × (SaysState b.manifest.number bytes b.state ⊎ SaysState b.manifest.number bytes flush.state)
-          → (o.state ≡ b.state) ⊎ (o.state ≡ flush.state)
-      by is (bytes, current, either) =
-          let heading = one_heading image is.heading (Led b.manifest.number bytes) is.headed current in
-          let says = subst (λ (h : Heading). Says h (Ok o.state)) heading is.says in
-          ⊎_elim
-          (λ (first : SaysState b.manifest.number bytes b.state).
-          inl (ok_same {E = Refusal} o.state b.state
-          (single_says (Led b.manifest.number bytes) (Ok o.state) (Ok b.state) says (Ok b.state, first, refl))))
-          (λ (then : SaysState b.manifest.number bytes flush.state).
-          inr (ok_same {E = Refusal} o.state flush.state
-          (single_says (Led b.manifest.number bytes) (Ok o.state) (Ok flush.state) says (Ok flush.state, then, refl))))
-          either
 
   -- neither of which gives a number above the next ones
   pub leaves_numbers : before.back.state.next_log ≤ before.back.next_log → (now : DiskState) → g.told new ≡ Some now

@@ -1,7 +1,8 @@
 -- What a change of how many versions are kept leaves in memory and on the disk, where it is written and where that fails.
-use Rattle.std.specs.Prelude.{◌≡◌, ◌≤◌, ◌^◌, ℕ, ◌+◌, ◌-◌, List, [], ◌∷◌, length, min, Option, None, Some, refl}
+use Rattle.std.specs.Prelude.{◌≡◌, ◌⊎◌, ◌≤◌, ◌^◌, ℕ, ◌+◌, ◌-◌, List, [], ◌∷◌, length, min, Option, None, Some, Ok, refl}
 use Rattle.std.specs.Option.{option_map}
 use Rattle.std.proofs.Common.{sym, ap, subst, ◌∙◌, arith, ⊎_elim}
+use Rattle.vl_disk.specs.Crash.{Image}
 use Rattle.vl_disk.specs.Disk.{IsChangedBy}
 use Rattle.vl_disk.specs.DiskState.{DiskState}
 use Rattle.vl_disk.specs.Faults.{after_calls}
@@ -12,6 +13,7 @@ use Rattle.vl_engine.proofs.Carrying.{IsWatched, looked}
 use Rattle.vl_engine.proofs.Committing.{decides_answered, decides_failed}
 use Rattle.vl_engine.proofs.FlushKeeps.{as_many}
 use Rattle.vl_engine.proofs.FlushSteps.{fronts_unflushed, same_log}
+use Rattle.vl_engine.proofs.Leaving.{either_state, manifest_held}
 use Rattle.vl_engine.proofs.Represented.{represents_halted}
 use Rattle.vl_engine.specs.Carries.{Carries, CrashesShow}
 use Rattle.vl_engine.specs.Held.{Base}
@@ -20,11 +22,13 @@ use Rattle.vl_engine.specs.Laid.{HasLayout}
 use Rattle.vl_engine.specs.Pointed.{layout_logs}
 use Rattle.vl_engine.specs.Represents.{Fronts, IsFront, IsHeld, Represents, StandsFor, file_of}
 use Rattle.vl_engine.specs.Shown.{LeavesBetween}
+use Rattle.vl_engine.specs.Stepping.{LeavesNumbers}
 use Rattle.vl_engine.specs.declared.kept.Core.{Core}
 use Rattle.vl_engine.specs.laws.HeldLaws.{held_opens_again}
-use Rattle.vl_engine.specs.laws.KeepLaws.{CanKeep, base_then, edits_of, final, keep_holds, keep_leaves, keep_made, keep_opens_again, kept_state, later}
+use Rattle.vl_engine.specs.laws.KeepLaws.{CanKeep, base_then, edits_of, files_then, final, keep_holds, keep_leaves, keep_made, keep_opens_again, kept_state, later, tidy_then}
 use Rattle.vl_engine.specs.laws.ShownLaws.{between_itself}
-use Rattle.vl_engine.specs.laws.SwitchLaws.{switch_frame}
+use Rattle.vl_engine.specs.laws.SparedSteps.{spares_keeping}
+use Rattle.vl_engine.specs.laws.SwitchLaws.{switch_frame, switching_says}
 use Rattle.vl_frame.specs.Runs.{HasFrame, item_frame}
 use Rattle.vl_front.specs.declared.front.Front.{Front}
 use Rattle.vl_layout.specs.Decides.{Answered, Effects, Failed, as_before}
@@ -45,8 +49,13 @@ use Rattle.vl_manifest.specs.declared.waiting.Waiting.{Waiting}
 use Rattle.vl_model.specs.Formats.{manifest_format}
 use Rattle.vl_model.specs.History.{History, last_number}
 use Rattle.vl_model.specs.Numbers.{since_kept}
+use Rattle.vl_recover.specs.crash.Alike.{IsLeft}
+use Rattle.vl_recover.specs.crash.Held.{HoldsManifest}
 use Rattle.vl_recover.specs.crash.Starts.{MayOpen}
+use Rattle.vl_recover.specs.laws.crash.AppendLaws.{last_held}
+use Rattle.vl_recover.specs.laws.opening.HeldLaws.{held_state}
 use Rattle.vl_recover.specs.opening.HeldFiles.{AreWaiting}
+use Rattle.vl_recover.specs.opening.Opening.{Opening, Opens}
 use Rattle.vl_version.specs.declared.version.Version.{Version}
 
 -- ---- in memory
@@ -107,6 +116,7 @@ stands_kept {H} bytes before after h l v some is version fronts = record {
   fronts = fronts;
   has = laid_kept bytes after.version h l v (subst (λ (x : Version H). HasLayout bytes x l) (sym version) is.has);
   tidy = tidy_keeping (layout_logs l) l h is.tidy v some;
+  spared = spares_keeping l h v is.spared;
 }
 
 -- ---- on the disk
@@ -236,3 +246,54 @@ module _ {D H : Type 0} (g : Ghosts D) (watched : IsWatched g) (bytes : H → Op
         now_may_open (final b l h v held.state held.is_base tidy held.holds can) told_then,
       );
     }
+
+  -- ---- what numbers a crash leaves
+
+  holds_manifest : HoldsManifest b.state held.state
+  holds_manifest = manifest_held b l h held.is_base held.state held.holds.base
+
+  -- what is left says the one state or the other
+  says_either : (now : DiskState) → WhileSwitching b.manifest.number (switch_frame b (edits_of l h v)) held.state now → (image : Image)
+      (o : Opening) → IsLeft now image → Opens image (Ok o) → (o.state ≡ b.state) ⊎ (o.state ≡ kept_state b.state v (keeping v h l).since)
+  says_either now during image o left opens =
+      let (bytes, current, either) = switching_says b (edits_of l h v) (kept_state b.state v (keeping v h l).since) b.before
+      held.is_base.numbered can.frame held.state held.holds.base h l (keeping v h l) held.is_base tidy held.holds.files
+      (base_then b l h v held.state held.is_base tidy held.holds can)
+      (tidy_then b l h v held.state held.is_base tidy held.holds can)
+      (files_then b l h v held.state held.is_base tidy held.holds can) now during image left in
+      either_state b.manifest.number bytes b.state (kept_state b.state v (keeping v h l).since) image o opens current either
+
+  -- both of which give the same next numbers
+  pub leaves_numbers : before.back.state.next_log ≤ before.back.next_log → (now : DiskState) → g.told new ≡ Some now
+      → LeavesNumbers l.next_log l.next_table now
+  leaves_numbers within now told image o left opens =
+      let state = ap (λ (x : ManifestState). x.next_log) held.back_is.state in
+      let next = held.back_is.next_log in
+      let given = held.back_is.next_table in
+      let last = last_held b.state.head b.before l.active held.state held.holds.files.logs in
+      let low = last.from in
+      let drawn = tidy.files.stocked.logs_drawn.0 in
+      (omega (arith, which.0, state, within, next), omega (arith, which.1, given), omega (arith, which.2, low, drawn))
+    where
+      same : (s : ManifestState) → o.state ≡ s → (s.next_log ≡ b.state.next_log) × (s.next_table ≡ b.state.next_table) × (s.head ≡ b.state.head)
+          → (o.state.next_log ≡ b.state.next_log) × (o.state.next_table ≡ b.state.next_table) × (o.state.head ≡ b.state.head)
+      same s is (log, table, head) = (
+        ap (λ (x : ManifestState). x.next_log) is ∙ log,
+        ap (λ (x : ManifestState). x.next_table) is ∙ table,
+        ap (λ (x : ManifestState). x.head) is ∙ head,
+      )
+
+      which : (o.state.next_log ≡ b.state.next_log) × (o.state.next_table ≡ b.state.next_table) × (o.state.head ≡ b.state.head)
+      which = ⊎_elim
+          (λ (early : g.states_since writes.mid (g.moment writes.mid) now).
+          same b.state (held_state b.state now
+          (subst (HoldsManifest b.state) (sym (watched.only_now writes.mid held.state now told_mid early)) holds_manifest) image o left.left opens)
+          (refl, refl, refl))
+          (λ (during : While (g.told writes.mid) (WhileKeeping before staged) now).
+          ⊎_elim
+          (λ (first : o.state ≡ b.state). same b.state first (refl, refl, refl))
+          (λ (then : o.state ≡ kept_state b.state v (keeping v h l).since).
+          same (kept_state b.state v (keeping v h l).since) then (refl, refl, refl))
+          (says_either now (as_laid_out now (during held.state told_mid)) image o left opens))
+          (writes.time.nothing_else (g.moment writes.mid) now (omega arith)
+          (watched.counts_now new now (g.moment writes.mid) told writes.time.later))

@@ -23,7 +23,7 @@ use Rattle.vl_engine.proofs.Standing.{stands_halted}
 use Rattle.vl_engine.proofs.Stepped.{fits_back, fits_halted}
 use Rattle.vl_engine.specs.Carries.{Carries, HasSameFiles, SameFiles}
 use Rattle.vl_engine.specs.Fit.{IsFitFor}
-use Rattle.vl_engine.specs.Keeping.{AreKept, IsKeepWritten, IsStagedKeep, KeepLeavesDisk, KeepsAs, MayKeep, StopsKeeping, WritesKeep, keep_calls, keep_effects, keep_outcome, keep_written, next_since}
+use Rattle.vl_engine.specs.Keeping.{AreKept, IsKeepWritten, IsStagedKeep, KeepFailed, KeepLeavesDisk, KeepsAs, MayKeep, StopsKeeping, WritesKeep, keep_calls, keep_effects, keep_outcome, keep_written, next_since}
 use Rattle.vl_engine.specs.Represents.{Fronts, Represents, StandsFor, file_of}
 use Rattle.vl_engine.specs.Stepping.{Fits, MayStep}
 use Rattle.vl_engine.specs.declared.fails.KeepFail.TheVariants as fails
@@ -233,6 +233,27 @@ module _ {D H : Type 0} (g : Ghosts D) (before after : Core H) (old new : D) (v 
   untouched_by (Err fails.InvalidRequest) did apart leaves = absurd did
   untouched_by (Err fails.NoMemory) did apart leaves = did.1
   untouched_by (Err (fails.Disk name)) did apart leaves = absurd leaves
+
+  -- where it failed the switch was written in part
+  pub switched_by : (result : Result (Unit {0}) KeepFail) → KeepsAs g old new before after v result → KeepFailed result
+      → (staged : StagedEdits) × IsStagedKeep before v staged × WritesKeep g before staged old new
+  switched_by (Ok done) did failed = absurd failed
+  switched_by (Err (fails.Halted name)) did failed = absurd failed
+  switched_by (Err fails.InvalidRequest) did failed = absurd failed
+  switched_by (Err fails.NoMemory) did failed = absurd failed
+  switched_by (Err (fails.Disk name)) did failed = (did.staged, did.of, did.writes)
+
+  -- The manifest gives the next log no number above that which it gets.
+  pub within_by : (result : Result (Unit {0}) KeepFail) → KeepsAs g old new before after v result → (KeepFailed result → ⊥)
+      → before.back.state.next_log ≤ before.back.next_log → after.back.state.next_log ≤ after.back.next_log
+  within_by (Ok done) did fine within =
+      let state = ap (λ (s : ManifestState). s.next_log) did.back.state in
+      let next = did.back.next_log in
+      omega (arith, state, next, within)
+  within_by (Err (fails.Halted name)) did fine within = absurd did
+  within_by (Err fails.InvalidRequest) did fine within = absurd did
+  within_by (Err fails.NoMemory) did fine within = subst (λ (c : Core H). c.back.state.next_log ≤ c.back.next_log) (sym did.0) within
+  within_by (Err (fails.Disk name)) did fine within = absurd (fine tt)
 
   pub stopped_by : (result : Result (Unit {0}) KeepFail) → KeepsAs g old new before after v result
       → (name : Name) → result ≡ Err (fails.Disk name) → StopsKeeping before.back.manifest.number (g.calls old) (g.calls new) name

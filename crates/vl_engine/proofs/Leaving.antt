@@ -1,13 +1,14 @@
 -- What numbers a manifest gives behind a step on files, and what a crash leaves of it where the step failed.
-use Rattle.std.specs.Prelude.{◌≡◌, ◌≤◌, ◌<◌, ◌+◌, ℕ, Bool, true, false, ◌&&◌, not, if◌then◌else◌, List, [], ◌∷◌, Option, None, Some, Ok, Result, Err, refl}
+use Rattle.std.specs.Prelude.{◌≡◌, ◌⊎◌, ◌≤◌, ◌<◌, ◌+◌, ℕ, Bool, true, false, ◌&&◌, not, if◌then◌else◌, List, [], ◌∷◌, Option, None, Some, Ok, Result, Err, refl}
 use Rattle.std.specs.List.{AllByRecursion}
 use Rattle.std.specs.Option.{option_map}
-use Rattle.std.proofs.Common.{sym, ap, subst, ◌∙◌, arith}
+use Rattle.std.proofs.Common.{sym, ap, subst, ◌∙◌, arith, inl, inr, ⊎_elim}
 use Rattle.vl_back.specs.Deciding as deciding
 use Rattle.vl_back.specs.Deciding.{flush_decision}
 use Rattle.vl_back.specs.FlushEdits.{flush_switch, head_of, switch_of}
 use Rattle.vl_back.specs.declared.back.Back.{Back}
 use Rattle.vl_back.specs.declared.decision.Decision.TheVariants.{Go}
+use Rattle.vl_disk.specs.Crash.{Image}
 use Rattle.vl_disk.specs.Changes.{SameElsewhere}
 use Rattle.vl_disk.specs.DiskState.{DiskState}
 use Rattle.vl_disk.specs.MadeFile.{WhileMaking}
@@ -30,7 +31,8 @@ use Rattle.vl_layout.specs.Tidy.{IsTidy}
 use Rattle.vl_layout.specs.declared.layout.Layout.{Layout}
 use Rattle.vl_layout.specs.declared.segment.Segment.{Segment}
 use Rattle.vl_manifest.specs.Levels.{all_tables, is_in, put_at}
-use Rattle.vl_manifest.specs.Manifest.{manifest_bytes}
+use Rattle.vl_manifest.specs.Current.{IsCurrent}
+use Rattle.vl_manifest.specs.Manifest.{SaysState, manifest_bytes}
 use Rattle.vl_manifest.specs.States.{all_applied, as_draft, finish, flush_edits, is_file_number, next_state, then_applied, with_levels}
 use Rattle.vl_manifest.specs.declared.edit.Edit.TheVariants.{Head, Next}
 use Rattle.vl_manifest.specs.declared.state.ManifestState.{ManifestState}
@@ -40,8 +42,9 @@ use Rattle.vl_recover.specs.crash.Held.{HoldsManifest}
 use Rattle.vl_recover.specs.laws.crash.AppendLaws.{last_held}
 use Rattle.vl_recover.specs.laws.crash.OneName.{Making, done, making, torn}
 use Rattle.vl_recover.specs.laws.crash.OneName.{waits as not_begun}
-use Rattle.vl_recover.specs.laws.opening.OpeningLaws.{some_none}
-use Rattle.vl_recover.specs.opening.Opening.{Opening}
+use Rattle.vl_recover.specs.laws.opening.OpeningLaws.{IsOpened, one_heading, opened, single_says, some_none}
+use Rattle.vl_recover.specs.laws.repairing.StageLaws.{ok_same}
+use Rattle.vl_recover.specs.opening.Opening.{Heading, Led, Opening, Opens, Refusal, Says}
 
 -- ---- in memory
 
@@ -150,3 +153,21 @@ pub first_drawn : (a : Segment) (ss : List Segment) (n : ℕ) → AllByRecursion
 first_drawn a [] n all = all.0
 first_drawn a (s ∷ []) n all = all.1.0
 first_drawn a (s ∷ t ∷ ss) n all = first_drawn a (t ∷ ss) n (all.0, all.1.1)
+
+-- Where a current manifest says the one state or the other, an image opens with one of them.
+pub either_state : (number : ℕ) (bytes : List ℕ) (first second : ManifestState) (image : Image) (o : Opening) → Opens image (Ok o)
+    → IsCurrent image number bytes → SaysState number bytes first ⊎ SaysState number bytes second → (o.state ≡ first) ⊎ (o.state ≡ second)
+either_state number bytes first second image o opens current either = by (opened image o opens)
+  where
+    by : IsOpened image o → (o.state ≡ first) ⊎ (o.state ≡ second)
+    by is =
+        let heading = one_heading image is.heading (Led number bytes) is.headed current in
+        let says = subst (λ (h : Heading). Says h (Ok o.state)) heading is.says in
+        ⊎_elim
+        (λ (said : SaysState number bytes first).
+        inl (ok_same {E = Refusal} o.state first
+        (single_says (Led number bytes) (Ok o.state) (Ok first) says (Ok first, said, refl))))
+        (λ (said : SaysState number bytes second).
+        inr (ok_same {E = Refusal} o.state second
+        (single_says (Led number bytes) (Ok o.state) (Ok second) says (Ok second, said, refl))))
+        either

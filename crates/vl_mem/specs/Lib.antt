@@ -7,4 +7,5 @@ pub mod Held
 pub mod Kept
 pub mod laws
 pub mod MemDisk
+pub mod StoppingDisk
 pub mod Written

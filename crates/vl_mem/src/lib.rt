@@ -13,6 +13,8 @@ mod mem_writer;
 mod names;
 mod outcome;
 mod reading;
+mod steady_reader;
+mod stopping_disk;
 mod written;
 
 pub use held::MemHeld;
@@ -20,3 +22,5 @@ pub use mem_disk::MemDisk;
 pub use mem_reader::MemReader;
 pub use mem_writer::MemWriter;
 pub use outcome::Outcome;
+pub use steady_reader::SteadyReader;
+pub use stopping_disk::StoppingDisk;

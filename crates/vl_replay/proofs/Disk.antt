@@ -7,4 +7,5 @@ pub mod Carried
 pub mod Held
 pub mod Committed
 pub mod Stepped
+pub mod KeptSteps
 pub mod Torn

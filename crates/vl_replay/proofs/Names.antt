@@ -13,6 +13,7 @@ pub mod ScanMaking
 pub mod BeginMaking
 pub mod CommitMaking
 pub mod StepMaking
+pub mod KeepMaking
 pub mod Returning
 pub mod Placing
 pub mod Halts

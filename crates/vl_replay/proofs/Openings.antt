@@ -2,7 +2,6 @@
 pub mod Begun
 pub mod Numbered
 pub mod NumbersLeft
-pub mod OpenedText
 pub mod Recovering
 pub mod Starting
 mod TextRows

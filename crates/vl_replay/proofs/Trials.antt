@@ -1,9 +1,12 @@
 -- Trials: what a stop leaves, and what is then opened and printed.
+pub mod AllRows
 pub mod OpeningStopped
 pub mod Passing
 pub mod Reopening
+pub mod ShortKeys
 pub mod StoppedLaws
+pub mod StoreText
+pub mod TornSteps
 pub mod TrialEnds
 pub mod TrialLines
 pub mod TrialRun
-pub mod TornSteps

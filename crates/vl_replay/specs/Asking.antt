@@ -1,7 +1,7 @@
 -- What a replayer asks of a line.
 use Rattle.std.specs.Prelude.{◌≤◌}
 use Rattle.vl_script.specs.declared.line.Line.{Line}
-use Rattle.vl_script.specs.declared.line.Line.TheVariants.{Begin, View, Get, Set, SetTagged, GetTagged, Scan, Delete, Commit, Drop, Rotate, Flush}
+use Rattle.vl_script.specs.declared.line.Line.TheVariants.{Begin, View, Get, Set, SetTagged, GetTagged, Scan, Delete, Commit, Drop, Rotate, Flush, Keep, GetAt}
 
 -- a scan asks for one row at least, as each does that is a line of the language
 abbrev pub AsksForRow : Line → Type 0
@@ -17,3 +17,5 @@ AsksForRow (Commit name) = Unit {0}
 AsksForRow (Drop name) = Unit {0}
 AsksForRow Rotate = Unit {0}
 AsksForRow Flush = Unit {0}
+AsksForRow (Keep versions) = Unit {0}
+AsksForRow (GetAt name key number) = Unit {0}

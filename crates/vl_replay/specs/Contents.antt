@@ -1,12 +1,12 @@
--- Cursors over the entries of a store.
-use Rattle.std.specs.Prelude.{◌≡◌, ℕ, List}
-use Rattle.std.specs.List.{AllByRecursion, flat_map}
-use Rattle.vl_merge.specs.Merging.{IsAlong}
-use Rattle.vl_model.specs.Winners.{winner}
-use Rattle.vl_model.specs.declared.entry.Entry.{Entry}
-use Rattle.vl_model.specs.declared.way.Way.TheVariants.{Up}
+-- All rows of a store, as they are read piece by piece.
+use Rattle.std.specs.Prelude.{◌≡◌, ◌<◌, ℕ, List, length, take}
+use Rattle.vl_model.specs.Keys.{Row}
 
--- what cursors have left, the newest source first, goes up in each of them, and has of each key the winners of these entries
-pub record GiveEntries (es : List Entry) (left : List (List Entry)) : Type 0 where
-  pub along : AllByRecursion (IsAlong Up) left
-  pub winners : (key : List ℕ) (number : ℕ) → winner (flat_map (λ fs. fs) left) key number ≡ winner es key number
+-- how many rows are read at a time
+abbrev pub rows_at_once : ℕ
+rows_at_once = 4096
+
+-- Some first rows of all were read, the last time so many of them. Where these were fewer than are read at a time, all were.
+pub record AreRead (all rows : List Row) (read : ℕ) : Type 0 where
+  pub first : rows ≡ take (length rows) all
+  pub whole : read < rows_at_once → rows ≡ all

@@ -17,7 +17,7 @@ use Rattle.vl_model.specs.declared.way.Way.{Way}
 use Rattle.vl_replay.specs.Sequential.{State, answer_text, answer_to, history_of, state_after}
 use Rattle.vl_script.specs.Script.{line_of}
 use Rattle.vl_script.specs.declared.line.Line.{Line}
-use Rattle.vl_script.specs.declared.line.Line.TheVariants.{Begin, View, Get, Set, SetTagged, GetTagged, Scan, Delete, Commit, Drop, Rotate, Flush}
+use Rattle.vl_script.specs.declared.line.Line.TheVariants.{Begin, View, Get, Set, SetTagged, GetTagged, Scan, Delete, Commit, Drop, Rotate, Flush, Keep, GetAt}
 
 -- a line with its answer, and the states before and after it
 pub record Exchange : Type 0 where
@@ -123,6 +123,8 @@ IsExplainedExchange (Commit name) e =
 IsExplainedExchange (Drop name) e = Unit {0}
 IsExplainedExchange Rotate e = Unit {0}
 IsExplainedExchange Flush e = Unit {0}
+IsExplainedExchange (Keep versions) e = Unit {0}
+IsExplainedExchange (GetAt name key number) e = Unit {0}
 
 -- so it is in each of these exchanges
 abbrev pub AreExplained : List Exchange → Type 0

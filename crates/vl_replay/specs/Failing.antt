@@ -26,6 +26,8 @@ ReadsTables (lines.Commit name) s = ⊥
 ReadsTables (lines.Drop name) s = ⊥
 ReadsTables lines.Rotate s = ⊥
 ReadsTables lines.Flush s = ⊥
+ReadsTables (lines.Keep versions) s = ⊥
+ReadsTables (lines.GetAt name key number) s = HasTables s
 
 -- so it is with the line of this exchange, where there is one
 abbrev pub IsTableRead : Option Exchange → Type 0
@@ -36,8 +38,8 @@ pub record ReaderFailed {R : Type 0} (faults : R → ℕ) : Type 0 where
   pub reader : R
   pub some : 1 ≤ faults reader
 
--- The files at which the disk may fail a line: the log that takes commits; for a rotation that or the next one; and for a flush
--- the table that it makes, or the manifest, which has this number.
+-- The files at which the disk may fail a line: the log that takes commits; for a rotation that or the next one; for a flush the
+-- table that it makes, or the manifest, which has this number; and for a change of how many versions are kept the manifest.
 abbrev pub FailsAt : (manifest : ℕ) → Line → State → Name → Type 0
 FailsAt manifest (lines.Begin name) s file = ⊥
 FailsAt manifest (lines.View name) s file = ⊥
@@ -51,3 +53,5 @@ FailsAt manifest (lines.Commit name) s file = file ≡ Log s.store.layout.active
 FailsAt manifest (lines.Drop name) s file = ⊥
 FailsAt manifest lines.Rotate s file = (file ≡ Log s.store.layout.active.number) ⊎ (file ≡ Log s.store.layout.next_log)
 FailsAt manifest lines.Flush s file = (file ≡ Table s.store.layout.next_table) ⊎ (file ≡ Manifest manifest)
+FailsAt manifest (lines.Keep versions) s file = file ≡ Manifest manifest
+FailsAt manifest (lines.GetAt name key number) s file = ⊥

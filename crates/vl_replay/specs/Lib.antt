@@ -8,14 +8,12 @@ pub mod Failing
 pub mod Halts
 pub mod Input
 pub mod laws
-pub mod Opened
 pub mod Opening
 pub mod Reading
 pub mod Reopens
 pub mod Replaying
 pub mod Runs
 pub mod Sequential
-pub mod ShownRows
 pub mod Standing
 pub mod Start
 pub mod Steps

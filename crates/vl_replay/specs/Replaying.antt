@@ -4,6 +4,7 @@ use Rattle.vl_disk.specs.DiskState.{DiskState}
 use Rattle.vl_disk.specs.Faults.{after_calls}
 use Rattle.vl_disk.specs.declared.watched.Watched.{Ghosts}
 use Rattle.vl_engine.specs.Represents as engine
+use Rattle.vl_engine.specs.Represents.{IsHeld}
 use Rattle.vl_engine.specs.Stepping.{Fits}
 use Rattle.vl_engine.specs.declared.kept.Core.{Core}
 use Rattle.vl_layout.specs.Store.Things.{Step}
@@ -23,7 +24,7 @@ pub record StandsIn {H R : Type 0} (bytes : H → Option (List ℕ)) (told : Opt
   pub engine : engine.StandsFor bytes core (history_of s) s.store.layout
   pub names : Stand bytes opens s.store.things (history_of s) s.store.layout
   pub sound : IsSound s
-  pub held : IsTrue s.openable → engine.IsHeld core.back told (history_of s) s.store.layout
+  pub held : IsTrue s.openable → IsHeld core.back told (history_of s) s.store.layout
   -- it isn't halted, and steps on files find what they ask: the next log has a number that the manifest still gives
   pub running : s.store.layout.halted ≡ None
   pub fits : Fits told core (history_of s) s.store.layout

@@ -42,6 +42,8 @@ asked (lines.Commit name) = store.Commit name
 asked (lines.Drop name) = store.Drop name
 asked lines.Rotate = store.Rotate
 asked lines.Flush = store.Flush
+asked (lines.Keep versions) = store.Keep versions
+asked (lines.GetAt name key number) = store.GetAt name key number
 
 -- ---- what a line is answered, and what it leaves
 
@@ -84,7 +86,7 @@ answer_text (store.Number n) = text_of (answers.Number n)
 answer_text (store.Value bytes) = text_of (answers.Found (untagged bytes))
 answer_text (store.ValueTagged value) = text_of (answers.FoundTagged value)
 answer_text store.NoValue = text_of answers.NoValue
-answer_text (store.Dropped least) = []
+answer_text (store.Dropped least) = text_of (answers.Dropped least)
 answer_text (store.Rows rows) = rows_text (map told_row rows)
 answer_text (store.Taken name) = text_of (answers.Taken name)
 answer_text (store.Unknown name) = text_of (answers.Unknown name)
@@ -116,6 +118,7 @@ as_told (answers.Number n) = store.Number n
 as_told (answers.Found value) = store.Value value.bytes
 as_told (answers.FoundTagged value) = store.ValueTagged value
 as_told answers.NoValue = store.NoValue
+as_told (answers.Dropped low) = store.Dropped low
 as_told (answers.Rows rows) = store.Rows (rows_told rows.items)
 as_told (answers.Taken name) = store.Taken name
 as_told (answers.Unknown name) = store.Unknown name

@@ -26,6 +26,8 @@ use Rattle.vl_layout.specs.Store.Lines as store_lines
 use Rattle.vl_layout.specs.Store.Reading.{answer_of, answer_with_tag}
 use Rattle.vl_engine.specs.declared.fails.ReadFail.{ReadFail}
 use Rattle.vl_engine.specs.declared.fails.ReadFail.TheVariants as unread
+use Rattle.vl_engine.specs.declared.fails.KeepFail.{KeepFail}
+use Rattle.vl_engine.specs.declared.fails.KeepFail.TheVariants as unkept
 use Rattle.vl_engine.specs.declared.fails.StepFail.{StepFail}
 use Rattle.vl_engine.specs.declared.fails.StepFail.TheVariants as undone
 use Rattle.vl_model.specs.Keys.{Stored}
@@ -139,3 +141,12 @@ told_step (Err (undone.Exhausted counter)) = Ok (answers.Exhausted counter)
 told_step (Err undone.NoMemory) = Err halts.NoMemory
 told_step (Err (undone.Disk name)) = Err (halts.Disk name)
 told_step (Err (undone.Halted name)) = Err (halts.Read name)
+
+-- ---- what a change of how many versions are kept is told
+
+abbrev pub told_keep : Result ⊤ KeepFail → Result Answer Halt
+told_keep (Ok done) = Ok answers.Done
+told_keep (Err unkept.InvalidRequest) = Ok answers.Invalid
+told_keep (Err unkept.NoMemory) = Err halts.NoMemory
+told_keep (Err (unkept.Disk name)) = Err (halts.Disk name)
+told_keep (Err (unkept.Halted name)) = Err (halts.Read name)

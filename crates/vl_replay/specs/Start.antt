@@ -1,5 +1,5 @@
 -- The state in which a run begins: that of the store that its disk opens as.
-use Rattle.std.specs.Prelude.{◌≡◌, ◌⊎◌, ◌≤◌, ◌+◌, ℕ, List, [], length, None, Some, IsTrue}
+use Rattle.std.specs.Prelude.{◌≡◌, ◌⊎◌, ◌≤◌, ◌+◌, ◌-◌, ◌^◌, ℕ, List, [], length, None, Some, IsTrue}
 use Rattle.std.specs.List.{AllByRecursion}
 use Rattle.std.proofs.Common.{subst, sym}
 use Rattle.vl_disk.specs.Crash.{Image}
@@ -76,12 +76,16 @@ pub record StartsIn {D : Type 0} (g : Ghosts D) (disk : D) (s : State) : Type 0 
 abbrev pub StaysOpenable : {D : Type 0} → Ghosts D → (old new : D) → Type 0
 StaysOpenable g old new = Tells g old MayOpen → Tells g new MayOpen
 
+-- No line was answered, and no more changing calls were made than an opening makes.
+abbrev pub StoppedAtOpening : {D : Type 0} → Ghosts D → (old new : D) → Course → Type 0
+StoppedAtOpening g old new run = (run.answered ≡ []) × (g.calls old ≤ 2 ^ 64 - 1 → g.calls new ≤ run.first.calls)
+
 -- What a run did to a disk whose store is durable, so that a store may be opened on it. Where the store wasn't opened, the disk is
 -- as it was, unless it failed; and no line was answered.
 abbrev pub DiskEndsFromStart : {D : Type 0} → Ghosts D → (old new : D) → Course → Type 0
 DiskEndsFromStart g old new run =
     IsTrue run.first.openable → Tells g old IsDurable
-    → DiskEnds g IsStored Shown IsStopped (IsAsBefore g old new) (run.answered ≡ []) old new run
+    → DiskEnds g IsStored Shown IsStopped (IsAsBefore g old new) (StoppedAtOpening g old new run) old new run
 
 -- An opening failed since a read of a table did, which the opening's reader counted.
 pub record FailsAtTables {D R : Type 0} (g : Ghosts D) (faults : R → ℕ) (old new : D) : Type 0 where
@@ -106,8 +110,8 @@ EvidenceFromStart g faults old new answered =
 
 -- A run answered the lines of the input that its source had left, as the sequential store does from the state in which a run
 -- over its disk begins, and ended so. It says what was printed and how many lines were answered, that each answer was put before
--- the next line was read, and what was done to a disk whose store is durable: each accepted commit is one synced frame of its
--- log.
+-- the next line was read, and what was done to a disk whose store is durable: it stays so, and its entries show the accepted
+-- commits.
 abbrev pub AnswersInput : {D R : Type 0} → Ghosts D → (faults : R → ℕ) → (old new : Outside D) → Ending → Type 0
 AnswersInput g faults old new ending = (start : State) (input : List ℕ)
     → StartsIn g old.disk start → old.left ≡ Some input

@@ -64,7 +64,7 @@ pub record GivesUpTo (greatest : ℕ) (state : ManifestState) : Type 0 where
 
 -- ---- a step on files that was stopped
 
--- A rotation or a flush leaves the commits as they were, also where it was stopped.
+-- A rotation, a flush or a change of how many versions are kept leaves the commits as they were, also where it was stopped.
 pub record StopsStep (shows : Showing) (before after : State) (now : DiskState) : Type 0 where
   pub same : after.store.commits ≡ before.store.commits
   -- what a crash then leaves shows them,
@@ -87,5 +87,5 @@ pub data IsStoppedIn (holds : Holding) (shows : Showing) (before after : State) 
   -- a commit's sync failed behind its append, and the log took all of the frame
   sync_failed : (commits : Commits holds before after) → passed ≡ 1 → made ≡ 2 → now ≡ with_taken commits (length commits.frame)
       → IsStoppedIn holds shows before after passed made now
-  -- a call of a rotation or of a flush failed
+  -- a call of a rotation, of a flush or of a change of how many versions are kept failed
   step_failed : StopsStep shows before after now → IsStoppedIn holds shows before after passed made now

@@ -6,9 +6,8 @@ use Rattle.vl_io.specs.Sink.{Takes}
 use Rattle.vl_mem.specs.declared.outcome.Outcome.{Outcome}
 use Rattle.vl_model.specs.History.{contents_at, last_number}
 use Rattle.vl_script.specs.Script.{lines_of}
-use Rattle.vl_replay.specs.Endings.{bad_line, disk_fault_line, last_line, no_memory_line, read_fault_line}
+use Rattle.vl_replay.specs.Endings.{bad_line, last_line, no_memory_line, read_fault_line}
 use Rattle.vl_replay.specs.Exchanges.{Exchange, answers_text, exchanges_from, last_state}
-use Rattle.vl_replay.specs.Failing.{HasTables, IsTableRead}
 use Rattle.vl_replay.specs.Reopens.{state_left}
 use Rattle.vl_replay.specs.Runs.{IsFront}
 use Rattle.vl_replay.specs.Sequential.{State, answer_text, history_of}
@@ -78,10 +77,6 @@ state_text s = reopened_text (last_number (history_of s)) (contents_at (history_
 abbrev pub trial_text : Trial → List ℕ
 trial_text t = state_text (reopened_state t)
 
--- what is opened may have tables: those of the answered lines, and one that the line which met the stop was to make
-abbrev pub MayHaveTables : Trial → Type 0
-MayHaveTables t = HasTables (answered_state t) ⊎ ((e : Exchange) × (stopped_line t ≡ Some e) × HasTables e.after)
-
 -- ---- how a trial ends
 
 -- the stop is met, or each line of the input has an answer: so nothing ends the lines before the stop
@@ -110,15 +105,8 @@ abbrev pub IsAnswerFront : Trial → (count : ℕ) → (piece : List ℕ) → Ty
 IsAnswerFront t count piece =
     (e : Exchange) × (slice_get (answered_lines t) count ≡ Some e) × IsFront piece (answer_text e.answer)
 
--- A table was to be read behind so many answers: by the next line, or at the end of what the opened store has. So a flush was
--- answered before, or is the line that met the stop.
-abbrev pub IsUnreadAt : Trial → (count : ℕ) → Type 0
-IsUnreadAt t count =
-    IsTableRead (slice_get (answered_lines t) count)
-    ⊎ (ReachesEnd t × (count ≡ length (answered_lines t)) × MayHaveTables t)
-
 -- What a trial that ended so printed. It comes to no other endings: a stop is no fault of the disk, what is opened behind it
--- isn't refused, and nothing that was written is damaged. Only a reader may fail, of which no contract says that it doesn't.
+-- isn't refused, nothing that was written is damaged, and no read of a table fails.
 abbrev pub EndsTrial : Trial → (held held' left : Option (List ℕ)) → Ending → Type 0
 EndsTrial t held held' left Complete =
     ReachesEnd t × (left ≡ Some []) × Takes held held' (answers_text (answered_lines t) ++ trial_text t)
@@ -126,8 +114,7 @@ EndsTrial t held held' left BadLine =
     ReachesBadLine t × Takes held held' (answers_text (exchanges_unstopped t) ++ bad_line (length (exchanges_unstopped t) + 1))
 EndsTrial t held held' left BadWords = ⊥
 EndsTrial t held held' left DiskFault = ⊥
-EndsTrial t held held' left ReaderFault =
-    (count : ℕ) × IsUnreadAt t count × TakesFirst t held held' count disk_fault_line
+EndsTrial t held held' left ReaderFault = ⊥
 EndsTrial t held held' left (Refused refusal) = ⊥
 EndsTrial t held held' left (Damaged name place) = ⊥
 EndsTrial t held held' left NoMemory = (count : ℕ) × TakesFirst t held held' count no_memory_line

@@ -4,13 +4,12 @@ use Rattle.vl_replay.specs.Text.{reopened_text}
 use Rattle.vl_io.specs.Sink.{Takes}
 use Rattle.vl_io.specs.declared.sink.Sink as sink
 use Rattle.vl_mem.specs.CrashImage.{crash_image}
-use Rattle.vl_mem.specs.FailsPast.{FailsPast}
 use Rattle.vl_mem.specs.Held.{held_bytes}
-use Rattle.vl_mem.specs.MemDisk.{faults_of, state_of}
-use Rattle.vl_mem.specs.contracts.mem_disk.MemDiskWatched.TheImpl as memory
+use Rattle.vl_mem.specs.StoppingDisk.{StopsPast, faults_on, state_on}
+use Rattle.vl_mem.specs.contracts.stopping_disk.StoppingDiskWatched.TheImpl as memory
 use Rattle.vl_mem.specs.declared.held.MemHeld.{MemHeld}
-use Rattle.vl_mem.specs.declared.mem_disk.MemDisk.{MemDisk}
 use Rattle.vl_mem.specs.declared.outcome.Outcome.{Outcome}
+use Rattle.vl_mem.specs.declared.stopping_disk.StoppingDisk.{StoppingDisk}
 use Rattle.vl_model.specs.History.{History, contents_at, last_number}
 use Rattle.vl_recover.specs.declared.fails.OpenError.{OpenError}
 use Rattle.vl_recover.specs.declared.fails.OpenError.TheVariants as why
@@ -30,21 +29,21 @@ abbrev pub all_told : MemHeld → Option (List ℕ)
 all_told held = Some (held_bytes held)
 
 -- A store was opened on an empty disk that stops.
-pub record IsOnTrial (stop : ℕ) (stands : State → Type 0) (disk : MemDisk) : Type 0 where
+pub record IsOnTrial (stop : ℕ) (stands : State → Type 0) (disk : StoppingDisk) : Type 0 where
   pub stands_for : stands begun
   pub held : HoldsState memory.ghosts IsStored begun disk
   -- its stop is still ahead, and nothing has failed
-  pub past : FailsPast disk (Some stop)
-  pub sound : faults_of disk ≡ 0
+  pub past : StopsPast disk (Some stop)
+  pub sound : faults_on disk ≡ 0
   pub opened : begun.calls ≤ stop
 
 -- whatever a crash does to the disk, what it leaves opens showing the last commit of this state
-abbrev pub LeavesToOpen : MemDisk → (Outcome → State) → Type 0
+abbrev pub LeavesToOpen : StoppingDisk → (Outcome → State) → Type 0
 LeavesToOpen disk shown = (outcome : Outcome)
-    → Reopens (crash_image outcome (state_of disk)) (history_of (shown outcome)) (last_number (history_of (shown outcome)))
+    → Reopens (crash_image outcome (state_on disk)) (history_of (shown outcome)) (last_number (history_of (shown outcome)))
 
 -- none was opened: memory ran out, or the stop was met, and no commit is left
-abbrev pub StopsOpening : ℕ → OpenError → MemDisk → Type 0
+abbrev pub StopsOpening : ℕ → OpenError → StoppingDisk → Type 0
 StopsOpening stop why.NotAStore disk = ⊥
 StopsOpening stop (why.NewerFormat format) disk = ⊥
 StopsOpening stop (why.Damaged name place) disk = ⊥
@@ -56,12 +55,12 @@ abbrev pub trial_of : ℕ → List ℕ → Outcome → Trial
 trial_of stop input outcome = record { stop = stop; outcome = outcome; input = input }
 
 -- the answers to all lines before the stop were put, and the disk leaves what is to be shown, whatever a crash does to it
-pub record HasTried (t : Outcome → Trial) (held held' : Option (List ℕ)) (disk : MemDisk) : Type 0 where
+pub record HasTried (t : Outcome → Trial) (held held' : Option (List ℕ)) (disk : StoppingDisk) : Type 0 where
   pub taken : (outcome : Outcome) → Takes held held' (answers_text (answered_lines (t outcome)))
   pub leaves : LeavesToOpen disk (λ outcome. reopened_state (t outcome))
 
 -- What the run up to the stop came to: to the end of the input, or to the stop; or the trial ended.
-abbrev pub ComesTo : (Outcome → Trial) → (held held' left : Option (List ℕ)) → MemDisk → Ending → Type 0
+abbrev pub ComesTo : (Outcome → Trial) → (held held' left : Option (List ℕ)) → StoppingDisk → Ending → Type 0
 ComesTo t held held' left disk Complete =
     ((outcome : Outcome) → ReachesEnd (t outcome)) × (left ≡ Some []) × HasTried t held held' disk
 ComesTo t held held' left disk Stopped =
@@ -69,7 +68,7 @@ ComesTo t held held' left disk Stopped =
 ComesTo t held held' left disk BadLine = (outcome : Outcome) → EndsTrial (t outcome) held held' left BadLine
 ComesTo t held held' left disk BadWords = ⊥
 ComesTo t held held' left disk DiskFault = ⊥
-ComesTo t held held' left disk ReaderFault = (outcome : Outcome) → EndsTrial (t outcome) held held' left ReaderFault
+ComesTo t held held' left disk ReaderFault = ⊥
 ComesTo t held held' left disk (Refused refusal) = ⊥
 ComesTo t held held' left disk (Damaged name place) = ⊥
 ComesTo t held held' left disk NoMemory = (outcome : Outcome) → EndsTrial (t outcome) held held' left NoMemory

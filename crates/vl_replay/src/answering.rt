@@ -11,8 +11,8 @@ ghost use Rattle.vl_replay.specs.Durable.{HoldsState, CarriesOut};
 ghost use Rattle.vl_replay.specs.Stored.{IsStopped, IsStored};
 ghost use Rattle.vl_engine.specs.Shown.{Shown};
 ghost use Rattle.vl_replay.specs.Steps.{IsAnswered, IsNext, EndsAtBadLine, PrintsStep, DiskSteps};
-ghost use Rattle.vl_replay.specs.Failing.{IsTableRead};
-ghost use Rattle.vl_replay.specs.Halts.{HaltsByDamage, HaltsByDisk, HaltsByRead};
+ghost use Rattle.vl_replay.specs.Failing.{IsTableRead, ReaderFailed};
+ghost use Rattle.vl_replay.specs.Halts.{HaltsByDamage, HaltsByDisk, HaltsByRead, HaltsByReader};
 ghost use Rattle.vl_replay.specs.Reading.{AnswersText, EndsBadly, IsLine, ReadsText};
 ghost use Rattle.vl_replay.specs.declared.fails.Refusal.{Refusal};
 
@@ -39,10 +39,12 @@ fn execute_line<D: Disk>(
         → CarriesOut D.Watched IsStored Shown IsStopped (disk_of replayer.old) (disk_of replayer.new) s
         (state_behind s (exchange_at s text.now)) result }
     ensures cause { HasCause (D.faults (disk_of replayer.old)) (D.faults (disk_of replayer.new)) (HaltsByDisk result) }
-    // What a store has isn't damaged, and can be read without its reader unless it has tables.
+    // What a store has isn't damaged, and can be read without its reader unless it has tables. A reader counts its fault.
     ensures readable { (s : State) → StandsFor D.Watched D.Held.bytes replayer.old s
         → HaltsByRead result → IsTableRead (exchange_at s text.now) }
     ensures undamaged { (s : State) → StandsFor D.Watched D.Held.bytes replayer.old s → HaltsByDamage result → ⊥ }
+    ensures fault { (s : State) → StandsFor D.Watched D.Held.bytes replayer.old s
+        → HaltsByReader result → ReaderFailed D.Reader.faults }
     ensures met { HaltsByRead result → IsLine text.now }
     ensures reads { IfOk result (λ out. ReadsText text.now (option_map (λ text. text.items) out)) }
     ensures goes_on { OnOk result (TakesLines replayer.new) }
@@ -99,9 +101,9 @@ pub fn answer<K: Sink, D: Disk>(
     ensures not_the_source { option_map culprit_of result ≢ Some TheSource }
     ensures not_the_files { (refusal : Refusal) → result ≢ Some (Ending.Refused refusal) }
     ensures not_the_words { result ≢ Some Ending.BadWords }
-    // A read fails by its reader only at a line that reads tables. Wherever the run goes on, the store stands for a state.
-    ensures readable { (s : State) → StandsFor D.Watched D.Held.bytes replayer.old s → result ≡ Some Ending.ReaderFault
-        → IsTableRead (exchange_at s text.now) }
+    // A read fails only where its reader counts it. Wherever the run goes on, the store stands for a state.
+    ensures reader_fault { (s : State) → StandsFor D.Watched D.Held.bytes replayer.old s → result ≡ Some Ending.ReaderFault
+        → ReaderFailed D.Reader.faults }
     ensures stands { (s : State) → StandsFor D.Watched D.Held.bytes replayer.old s → result ≡ None
         → (t : State) × StandsFor D.Watched D.Held.bytes replayer.new t }
     ensures reads { AnswersText text.now answered result (K.held sink.old) (K.held sink.new) }

@@ -8,7 +8,6 @@ mod fails;
 mod input;
 mod refusing;
 mod replayer;
-mod rows;
 mod running;
 mod text;
 mod trying;

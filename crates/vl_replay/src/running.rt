@@ -10,11 +10,11 @@ ghost use Rattle.vl_replay.specs.Endings.{TheDisk, TheSink, TheSource, CountsFau
 ghost use Rattle.std.specs.Option.{option_map};
 ghost use Rattle.vl_disk.specs.Faults.{Rose};
 ghost use Rattle.vl_replay.specs.Runs.{Script, script_of, outside, EndsRun};
-ghost use Rattle.vl_replay.specs.Failing.{HasTables, IsTableRead};
+ghost use Rattle.vl_replay.specs.Failing.{ReaderFailed};
 ghost use Rattle.vl_replay.specs.Durable.{HoldsState, DiskEndsFrom};
 ghost use Rattle.vl_replay.specs.Stored.{IsStopped, IsStored};
 ghost use Rattle.vl_engine.specs.Shown.{Shown};
-ghost use Rattle.vl_replay.specs.Start.{AnswersInput, FailsAtTables, StartsIn, StaysOpenable};
+ghost use Rattle.vl_replay.specs.Start.{AnswersInput, EndsAtTables, StartsIn, StaysOpenable};
 ghost use Rattle.vl_replay.specs.Opening.{IsRefused};
 ghost use Rattle.vl_replay.specs.declared.fails.Refusal.{Refusal};
 ghost use Rattle.vl_replay.specs.Reading.{AnswersText, HasRead, ReadsInput, ReadsOn, Streams, streams};
@@ -62,8 +62,8 @@ impl<D: Disk> Progress<D> {
             (D.faults (disk_of self.old.replayer)) (D.faults (disk_of self.new.replayer)) }
         ensures not_the_files { (refusal : Refusal) → result ≢ Some (Ending.Refused refusal) }
         ensures not_the_words { result ≢ Some Ending.BadWords }
-        ensures readable { (s : State) → StandsFor D.Watched D.Held.bytes self.old.replayer s
-            → result ≡ Some Ending.ReaderFault → HasTables s }
+        ensures reader_fault { (s : State) → StandsFor D.Watched D.Held.bytes self.old.replayer s
+            → result ≡ Some Ending.ReaderFault → ReaderFailed D.Reader.faults }
         ensures stands { (s : State) → StandsFor D.Watched D.Held.bytes self.old.replayer s → result ≡ None
             → (t : State) × StandsFor D.Watched D.Held.bytes self.new.replayer t }
         ensures reads { (input : List ℕ) (begin : Streams)
@@ -104,8 +104,8 @@ impl<D: Disk> Progress<D> {
         ensures not_the_source { option_map culprit_of result ≢ Some TheSource }
         ensures not_the_files { (refusal : Refusal) → result ≢ Some (Ending.Refused refusal) }
         ensures not_the_words { result ≢ Some Ending.BadWords }
-        ensures readable { (s : State) → StandsFor D.Watched D.Held.bytes self.old.replayer s
-            → result ≡ Some Ending.ReaderFault → IsTableRead (exchange_at s self.old.line.items) }
+        ensures reader_fault { (s : State) → StandsFor D.Watched D.Held.bytes self.old.replayer s
+            → result ≡ Some Ending.ReaderFault → ReaderFailed D.Reader.faults }
         ensures stands { (s : State) → StandsFor D.Watched D.Held.bytes self.old.replayer s → result ≡ None
             → (t : State) × StandsFor D.Watched D.Held.bytes self.new.replayer t }
         ensures reads { AnswersText self.old.line.items self.old.answered result (K.held sink.old) (K.held sink.new) }
@@ -135,13 +135,17 @@ pub fn replay<S: Source, K: Sink, D: Disk>(
 ) -> Ended<D>
     // Where the disk opens as a store, the lines of the input are answered as the sequential store does: so it is of what is
     // printed, of how the run ends, and of what the disk holds in the end.
-    ensures runs { AnswersInput D.Watched (outside S.Source K.Sink source.old sink.old disk)
+    ensures runs { AnswersInput D.Watched D.Reader.faults (outside S.Source K.Sink source.old sink.old disk)
         (outside S.Source K.Sink source.new sink.new result.disk) result.ending }
     ensures source_faults { CountsFaultsOf TheSource (Some result.ending) (S.faults source.old) (S.faults source.new) }
     ensures sink_faults { CountsFaultsOf TheSink (Some result.ending) (K.faults sink.old) (K.faults sink.new) }
-    // Of a fault the disk tells, but where the opening's read of a table failed.
+    // A fault of the disk is counted by it, or by the reader through which its opening read tables; and that of a line's read by
+    // its reader.
     ensures disk_faults { CountsFaultsOf TheDisk (Some result.ending) (D.faults disk) (D.faults result.disk)
-        ⊎ (FailsAtTables D.Watched K.Sink disk result.disk sink.old sink.new result.ending × (source.new ≡ source.old)) }
+        ⊎ (EndsAtTables D.Watched D.Reader.faults K.Sink disk result.disk sink.old sink.new result.ending
+        × (source.new ≡ source.old)) }
+    ensures reader_fault { (s : State) → StartsIn D.Watched disk s → result.ending ≡ Ending.ReaderFault
+        → ReaderFailed D.Reader.faults }
     ensures not_the_words { result.ending ≢ Ending.BadWords }
     // It says how it ended.
     ensures reported { result.ending ≢ Ending.Stopped }
@@ -193,6 +197,8 @@ pub(crate) fn answer_lines<S: Source, K: Sink, D: Disk>(
     ensures disk_faults { CountsFaultsOf TheDisk (Some result.ending) (D.faults (disk_of replayer)) (D.faults result.disk) }
     ensures not_the_files { (refusal : Refusal) → result.ending ≢ Ending.Refused refusal }
     ensures not_the_words { result.ending ≢ Ending.BadWords }
+    ensures reader_fault { (s : State) → StandsFor D.Watched D.Held.bytes replayer s → result.ending ≡ Ending.ReaderFault
+        → ReaderFailed D.Reader.faults }
     ensures input { (input : List ℕ) → S.left source.old ≡ Some input
         → ReadsInput input (streams S.Source K.Sink source.old sink.old) (streams S.Source K.Sink source.new sink.new)
         result.ending }

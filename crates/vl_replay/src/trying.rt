@@ -2,27 +2,28 @@
 ghost use Rattle.std.specs.Prelude.{◌≡◌, ◌≢◌, ◌↔◌, ℕ, List, [], Some, IfErr, IfOk, IsErr, IsTrue, OnOk};
 ghost use Rattle.vl_disk.specs.Faults.{HasCause};
 ghost use Rattle.vl_mem.specs.CrashImage.{crash_image};
-ghost use Rattle.vl_mem.specs.MemDisk.{state_of};
-ghost use Rattle.vl_mem.specs.contracts.mem_disk.MemDiskWatched.TheImpl as memory;
-ghost use Rattle.vl_model.specs.History.{History};
-ghost use Rattle.vl_replay.specs.Endings.{TheDisk, TheSink, TheSource, CountsFaultsOf, culprit_of, status_of};
+ghost use Rattle.vl_mem.specs.StoppingDisk.{state_on};
+ghost use Rattle.vl_mem.specs.contracts.stopping_disk.StoppingDiskWatched.TheImpl as memory;
+ghost use Rattle.vl_model.specs.History.{History, last_number};
+ghost use Rattle.vl_replay.specs.Endings.{TheSink, TheSource, CountsFaultsOf, culprit_of, status_of};
 ghost use Rattle.vl_engine.specs.Opening.{IsFault};
 ghost use Rattle.vl_replay.specs.Reopens.{Reopens};
 ghost use Rattle.vl_replay.specs.Replaying.{StandsFor, TakesLines, disk_of};
 ghost use Rattle.vl_replay.specs.Trial.{EndsTrial};
 ghost use Rattle.vl_replay.specs.Trying.{ComesTo, IsOnTrial, PassesAndReopens, ReopensAs, StopsOpening, all_told, trial_of};
 
-use crate::contents::opened_text;
+use crate::contents::store_text;
 use crate::ending::{Ended, Ending, NO_MEMORY, OnFault, READ_FAULT, finish};
 use crate::refusing::end_unopened;
 use crate::replayer::Replayer;
 use crate::running::answer_lines;
 use std::alloc::Global;
 use vl_disk::Failed;
+use vl_engine::Engine;
 use vl_io::{Sink, Source};
-use vl_mem::{MemDisk, MemReader, Outcome};
+use vl_mem::{Outcome, SteadyReader, StoppingDisk};
 use vl_model::MAX_ROOM;
-use vl_recover::{OpenError, OpenFail, recover};
+use vl_recover::{OpenError, OpenFail};
 
 /// Tries a script: answers the lines of a source over an empty disk in memory, of which each changing call behind so many
 /// fails. The line that meets the stop prints nothing, and the rest of the source is passed over. Then the store is opened
@@ -37,7 +38,7 @@ pub fn trial<S: Source, K: Sink>(
     // So it is of what is printed, to the byte. No stop is reported as a fault of the disk.
     ensures ends { (input : List ℕ) → S.left source.old ≡ Some input
         → EndsTrial (trial_of stop input outcome) (K.held sink.old) (K.held sink.new) (S.left source.new) result }
-    ensures no_disk_fault { culprit_of result ≢ TheDisk }
+    ensures no_disk_fault { status_of result ≢ 3 }
     ensures not_the_words { result ≢ Ending.BadWords }
     ensures source_faults { CountsFaultsOf TheSource (Some result) (S.faults source.old) (S.faults source.new) }
     ensures sink_faults { CountsFaultsOf TheSink (Some result) (K.faults sink.old) (K.faults sink.new) }
@@ -70,10 +71,11 @@ fn run_to_stop<S: Source, K: Sink>(
     source: &mut S,
     sink: &mut K,
     stop: u32,
-) -> Ended<MemDisk>
+) -> Ended<StoppingDisk>
     ensures comes { (input : List ℕ) → S.left source.old ≡ Some input
         → ComesTo (trial_of stop input) (K.held sink.old) (K.held sink.new) (S.left source.new) result.disk result.ending }
     ensures no_disk_fault { result.ending ≢ Ending.DiskFault }
+    ensures no_read_fault { result.ending ≢ Ending.ReaderFault }
     ensures not_the_words { result.ending ≢ Ending.BadWords }
     ensures source_faults { CountsFaultsOf TheSource (Some result.ending) (S.faults source.old) (S.faults source.new) }
     ensures sink_faults { CountsFaultsOf TheSink (Some result.ending) (K.faults sink.old) (K.faults sink.new) }
@@ -101,14 +103,15 @@ fn is_fault(why: &OpenError) -> bool
 }
 
 // Opens a store on an empty disk that stops behind so many changing calls.
-fn begin(alloc: Global, stop: u32) -> Result<Replayer<MemDisk>, OpenFail<MemDisk, MemReader>>
+fn begin(
+    alloc: Global,
+    stop: u32,
+) -> Result<Replayer<StoppingDisk>, OpenFail<StoppingDisk, SteadyReader>>
     ensures opened { IfOk result (λ replayer. IsOnTrial stop (StandsFor memory.ghosts all_told replayer) (disk_of replayer)) }
     ensures goes_on { IfOk result TakesLines }
     ensures stopped { IfErr result (λ fail. StopsOpening stop fail.why fail.disk) }
 {
-    let mut disk = MemDisk::new(alloc, Vec::new(alloc), Vec::new(alloc));
-    disk.stop_after(stop as u64);
-    Replayer::new(alloc, disk)
+    Replayer::new(alloc, StoppingDisk::new(alloc, stop as u64))
 }
 
 // Reads the rest of the source, and then opens what a crash leaves.
@@ -116,12 +119,12 @@ fn pass_and_reopen<S: Source, K: Sink>(
     alloc: Global,
     source: &mut S,
     sink: &mut K,
-    disk: MemDisk,
+    disk: StoppingDisk,
     outcome: Outcome,
 ) -> Ending
-    ensures reopens { (rest : List ℕ) (h : History) (m : ℕ) → S.left source.old ≡ Some rest
-        → Reopens (crash_image outcome (state_of disk)) h m
-        → PassesAndReopens K.Sink (S.left source.new) h m sink.old sink.new result }
+    ensures reopens { (rest : List ℕ) (h : History) → S.left source.old ≡ Some rest
+        → Reopens (crash_image outcome (state_on disk)) h (last_number h)
+        → PassesAndReopens K.Sink (S.left source.new) h (last_number h) sink.old sink.new result }
     ensures no_disk_fault { status_of result ≢ 3 }
     ensures not_the_words { result ≢ Ending.BadWords }
     ensures source_faults { CountsFaultsOf TheSource (Some result) (S.faults source.old) (S.faults source.new) }
@@ -147,9 +150,14 @@ fn pass_over<S: Source>(source: &mut S) -> Result<(), Failed>
 }
 
 // Opens the store that a crash leaves, and prints its number and contents.
-fn reopen<K: Sink>(alloc: Global, sink: &mut K, disk: MemDisk, outcome: Outcome) -> Ending
-    ensures reopens { (h : History) (m : ℕ) → Reopens (crash_image outcome (state_of disk)) h m
-        → ReopensAs K.Sink h m sink.old sink.new result }
+fn reopen<K: Sink>(
+    alloc: Global,
+    sink: &mut K,
+    disk: StoppingDisk,
+    outcome: Outcome,
+) -> Ending
+    ensures reopens { (h : History) → Reopens (crash_image outcome (state_on disk)) h (last_number h)
+        → ReopensAs K.Sink h (last_number h) sink.old sink.new result }
     ensures no_disk_fault { status_of result ≢ 3 }
     ensures not_the_source { culprit_of result ≢ TheSource }
     ensures not_the_words { result ≢ Ending.BadWords }
@@ -158,10 +166,11 @@ fn reopen<K: Sink>(alloc: Global, sink: &mut K, disk: MemDisk, outcome: Outcome)
     let Ok(disk) = disk.crash(outcome) else {
         return finish(sink, NO_MEMORY, Ending::NoMemory);
     };
-    match recover(alloc, disk, MAX_ROOM) {
-        Ok(parts) => match opened_text(alloc, parts.number, &parts.frozen) {
-            Ok(text) => finish(sink, &text, Ending::Complete),
-            Err(_) => finish(sink, NO_MEMORY, Ending::NoMemory),
+    match Engine::open(alloc, disk, MAX_ROOM) {
+        Ok(engine) => match store_text(alloc, engine) {
+            Some(text) => finish(sink, &text, Ending::Complete),
+            // Nothing lives yet beside the view, no reader of this disk fails, and what is shown isn't damaged.
+            None => finish(sink, NO_MEMORY, Ending::NoMemory),
         },
         Err(OpenFail { why, .. }) => {
             // No call of this disk is to fail, so what couldn't be read found no memory.

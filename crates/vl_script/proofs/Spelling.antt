@@ -60,7 +60,7 @@ module _ (word : List ℕ) (most : ℕ) where
       (cases test)
 
   -- and one that does
-  pub some_spelled : (n : ℕ) → n < 2 ^ 32 → word ≡ decimal n → n ≤ most → number_of most word ≡ Some n
+  pub some_spelled : (n : ℕ) → n < 2 ^ 64 → word ≡ decimal n → n ≤ most → number_of most word ≡ Some n
   some_spelled n small is le =
       let same : value ≡ n = ap (digits_value 10) is ∙ digits_value-decimal own n (omega (arith, small)) in
       let spelled : bytes_eq (decimal value) word ≡ true = (bytes_eq-Decides (decimal value) word).1 (ap decimal same ∙ sym is) in
@@ -68,9 +68,9 @@ module _ (word : List ℕ) (most : ℕ) where
       chosen_true test (Some value) None (and_true (bytes_eq (decimal value) word) (nat_le value most) spelled fits)
       ∙ ap Some same
 
-  module _ {E : Type 0} (small : most < 2 ^ 32) (r : Result ℕ E) (parses : ParsesUnsigned 32 10 word r) where
+  module _ {E : Type 0} (small : most < 2 ^ 64) (r : Result ℕ E) (parses : ParsesUnsigned 64 10 word r) where
     parsed : (n : ℕ) → word ≡ decimal n → n ≤ most → r ≡ Ok n
-    parsed n is le = parse-decimal 32 n word r (omega (arith, small, le)) (omega (arith, small, le)) is parses
+    parsed n is le = parse-decimal 64 n word r (omega (arith, small, le)) (omega (arith, small, le)) is parses
 
     -- it isn't parsed
     pub none_parsed : ((n : ℕ) → r ≡ Ok n → ⊥) → number_of most word ≡ None
@@ -110,7 +110,7 @@ not_true b e is = true_false (e ∙ ap not is)
     true_false : true ≡ false → ⊥
     true_false f = cc
 
-module _ {E : Type 0} (word : List ℕ) (most : ℕ) (small : most < 2 ^ 32) (r : Result ℕ E) (parses : ParsesUnsigned 32 10 word r) where
+module _ {E : Type 0} (word : List ℕ) (most : ℕ) (small : most < 2 ^ 64) (r : Result ℕ E) (parses : ParsesUnsigned 64 10 word r) where
   pub no_number : None ≡ result_ok r → number_of most word ≡ None
   no_number none = none_parsed word most small r parses (λ n is. ok_none r n none is)
 

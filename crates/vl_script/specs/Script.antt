@@ -14,9 +14,10 @@ use Rattle.vl_model.specs.declared.way.Way.TheVariants.{Up, Down}
 use Rattle.vl_model.specs.Keys.{Row}
 use Rattle.vl_script.specs.Numbers.{number_of}
 use Rattle.vl_script.specs.declared.line.Line.{Line}
-use Rattle.vl_script.specs.declared.line.Line.TheVariants.{Begin, View, Get, Set, SetTagged, GetTagged, Scan, Delete, Commit, Drop, Rotate, Flush}
+use Rattle.vl_script.specs.declared.line.Line.TheVariants.{Begin, View, Get, Set, SetTagged, GetTagged, GetAt, Scan, Delete, Commit, Drop}
+use Rattle.vl_script.specs.declared.line.Line.TheVariants.{Rotate, Flush, Keep}
 use Rattle.vl_script.specs.declared.answer.Answer.{Answer}
-use Rattle.vl_script.specs.declared.answer.Answer.TheVariants.{Done, Number, Found, FoundTagged, NoValue, Rows, Taken, Unknown}
+use Rattle.vl_script.specs.declared.answer.Answer.TheVariants.{Done, Number, Found, FoundTagged, NoValue, Dropped, Rows, Taken, Unknown}
 use Rattle.vl_script.specs.declared.answer.Answer.TheVariants.{ReadOnly, Invalid, TooBig, TooMany, Nothing, Conflict, Full, Idle, Exhausted}
 
 -- the longest line, in bytes without its end
@@ -68,10 +69,24 @@ abbrev pub ident_alone : List (List ℕ) → Option (List ℕ)
 ident_alone (name ∷ []) = ident_of name
 ident_alone words = None
 
--- the words behind get and del
+abbrev pub named_key : (name key : List ℕ) → Option (List ℕ × List ℕ)
+named_key name key = ident_of name >>= λ t. bytes_of key >>= λ k. Some (t, k)
+
+-- the words behind get, getb and del
 abbrev pub ident_and_key : List (List ℕ) → Option (List ℕ × List ℕ)
-ident_and_key (name ∷ key ∷ []) = ident_of name >>= λ t. bytes_of key >>= λ k. Some (t, k)
+ident_and_key (name ∷ key ∷ []) = named_key name key
 ident_and_key words = None
+
+-- the words behind getat, whose number is any of 64 bits
+abbrev pub get_at_of : List (List ℕ) → Option Line
+get_at_of (name ∷ key ∷ number ∷ []) =
+    number_of 18446744073709551615 number >>= λ n. option_map (λ w. GetAt w.0 w.1 n) (named_key name key)
+get_at_of words = None
+
+-- the word behind keep
+abbrev pub keep_of : List (List ℕ) → Option Line
+keep_of (versions ∷ []) = option_map Keep (number_of 255 versions)
+keep_of words = None
 
 -- a name and two strings of bytes
 abbrev pub ident_and_two : (name first second : List ℕ) → Option (List ℕ × List ℕ × List ℕ)
@@ -106,6 +121,7 @@ line_of_words (command ∷ words) =
     else (if bytes_eq command (codes "set") then set_of words
     else (if bytes_eq command (codes "setb") then set_tagged_of words
     else (if bytes_eq command (codes "getb") then option_map (λ p. GetTagged p.0 p.1) (ident_and_key words)
+    else (if bytes_eq command (codes "getat") then get_at_of words
     else (if bytes_eq command (codes "scan") then scan_of Up words
     else (if bytes_eq command (codes "rscan") then scan_of Down words
     else (if bytes_eq command (codes "del") then option_map (λ p. Delete p.0 p.1) (ident_and_key words)
@@ -113,7 +129,8 @@ line_of_words (command ∷ words) =
     else (if bytes_eq command (codes "drop") then option_map Drop (ident_alone words)
     else (if bytes_eq command (codes "rotate") then alone Rotate words
     else (if bytes_eq command (codes "flush") then alone Flush words
-    else None))))))))))))
+    else (if bytes_eq command (codes "keep") then keep_of words
+    else None))))))))))))))
 
 -- the line that these bytes are, without the line's end
 abbrev pub line_of : List ℕ → Option Line
@@ -150,6 +167,7 @@ text_of (Number number) = as_line (codes "ok " ++ decimal number)
 text_of (Found value) = as_line (codes "value " ++ bytes_text value.bytes)
 text_of (FoundTagged value) = as_line (codes "value " ++ bytes_text value.bytes ++ codes " byte " ++ decimal value.tag)
 text_of NoValue = as_line (codes "none")
+text_of (Dropped low) = as_line (codes "dropped " ++ decimal low)
 text_of (Rows rows) = rows_text rows.items
 text_of (Taken name) = as_line (codes "taken " ++ name)
 text_of (Unknown name) = as_line (codes "unknown " ++ name)

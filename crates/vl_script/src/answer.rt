@@ -14,6 +14,8 @@ pub enum Answer {
     FoundTagged { value: Value },
     /// `none`: the key has no value.
     NoValue,
+    /// `dropped L`: what the key had at that number may be gone. L is the least number at which it can be read.
+    Dropped { low: u64 },
     /// `rows c`, and c lines `K V`: the rows of a scan.
     Rows { rows: Vec<(Key, Value)> },
     /// `taken T`: the name is in use.

@@ -37,6 +37,12 @@ pub enum Line {
         name: Ident,
         key: Bytes,
     },
+    /// `getat T K N`: reads a key as it stood at number N, which may be any of 64 bits.
+    GetAt {
+        name: Ident,
+        key: Bytes,
+        number: u64,
+    },
     /// `scan T LO HI N` and `rscan T LO HI N`: reads the first N rows whose keys are at or above LO and below HI, with their
     /// keys rising or falling. No bytes are no end on their side.
     Scan {
@@ -63,4 +69,8 @@ pub enum Line {
     Rotate,
     /// `flush`: writes the entries of the log that was sealed first to a table.
     Flush,
+    /// `keep V`: says how many of the newest versions of a key merges are to keep, with V from 0 to 255.
+    Keep {
+        versions: u8,
+    },
 }

@@ -2,7 +2,8 @@ ghost use Rattle.std.specs.Prelude.{◌≡◌, ◌∷◌, [], ◌&&◌, ◌<◌,
 ghost use Rattle.std.specs.List.{list_all};
 ghost use Rattle.std.specs.Option.{option_map_or};
 ghost use Rattle.vl_script.specs.Script.{longest_ident, is_ident_byte, ident_of, bytes_of, words_of, line_of};
-ghost use Rattle.vl_script.specs.Script.{alone, ident_alone, ident_and_key, ident_and_two, with_number, set_of, set_tagged_of, scan_of};
+ghost use Rattle.vl_script.specs.Script.{alone, ident_alone, named_key, ident_and_key, ident_and_two, with_number};
+ghost use Rattle.vl_script.specs.Script.{set_of, set_tagged_of, get_at_of, scan_of, keep_of};
 
 use crate::digits::decode;
 use crate::{Ident, Line, MAX_IDENT_BYTES, MAX_LINE_BYTES, find_byte, parse_number};
@@ -29,6 +30,8 @@ pub fn parse_line(alloc: Global, text: &[u8]) -> Result<Option<Line>, AllocError
         parse_set_tagged(alloc, rest)
     } else if command == b"getb".as_slice() {
         Ok(parse_ident_and_key(alloc, rest)?.map(|(name, key)| Line::GetTagged { name, key }))
+    } else if command == b"getat".as_slice() {
+        parse_get_at(alloc, rest)
     } else if command == b"scan".as_slice() {
         parse_scan(alloc, rest, Way::Up)
     } else if command == b"rscan".as_slice() {
@@ -43,6 +46,8 @@ pub fn parse_line(alloc: Global, text: &[u8]) -> Result<Option<Line>, AllocError
         Ok(parse_alone(rest, Line::Rotate))
     } else if command == b"flush".as_slice() {
         Ok(parse_alone(rest, Line::Flush))
+    } else if command == b"keep".as_slice() {
+        Ok(parse_keep(rest))
     } else {
         Ok(None)
     }
@@ -96,6 +101,16 @@ fn parse_ident_and_key(
     if rest.is_some() {
         return Ok(None);
     }
+    parse_named_key(alloc, name, key)
+}
+
+fn parse_named_key(
+    alloc: Global,
+    name: &[u8],
+    key: &[u8],
+) -> Result<Option<(Ident, Bytes)>, AllocError>
+    ensures { IfOk result (λ words. words ≡ named_key name.now key.now) }
+{
     let Some(name) = parse_ident(alloc, name)? else {
         return Ok(None);
     };
@@ -103,6 +118,33 @@ fn parse_ident_and_key(
         return Ok(None);
     };
     Ok(Some((name, key)))
+}
+
+#[tactic(auto, using(crate::proofs::ScriptWords::get_at_of_more))]
+fn parse_get_at(alloc: Global, rest: Option<&[u8]>) -> Result<Option<Line>, AllocError>
+    ensures { IfOk result (λ line. line ≡ get_at_of (option_map_or (λ rest. words_of rest.now) rest.entry [])) }
+{
+    let Some((name, key, number, None)) = three_words(rest) else {
+        return Ok(None);
+    };
+    let Some(number) = parse_number(number, u64::MAX) else {
+        return Ok(None);
+    };
+    let words = parse_named_key(alloc, name, key)?;
+    Ok(words.map(|(name, key)| Line::GetAt { name, key, number }))
+}
+
+#[tactic(auto, using(crate::proofs::ScriptWords::keep_of_more))]
+fn parse_keep(rest: Option<&[u8]>) -> Option<Line>
+    ensures { result ≡ keep_of (option_map_or (λ rest. words_of rest.now) rest.entry []) }
+{
+    let (number, None) = next_word(rest?) else {
+        return None;
+    };
+    let versions = parse_number(number, 255)?;
+    Some(Line::Keep {
+        versions: versions as u8,
+    })
 }
 
 #[tactic(auto, using(crate::proofs::ScriptWords::set_of_more))]
@@ -152,8 +194,8 @@ fn parse_scan(alloc: Global, rest: Option<&[u8]>, way: Way) -> Result<Option<Lin
 fn parse_with_number(
     alloc: Global,
     rest: Option<&[u8]>,
-    most: u32,
-) -> Result<Option<(Ident, Bytes, Bytes, u32)>, AllocError>
+    most: u64,
+) -> Result<Option<(Ident, Bytes, Bytes, u64)>, AllocError>
     ensures words { IfOk result (λ words. words ≡ with_number most (option_map_or (λ rest. words_of rest.now) rest.entry [])) }
     ensures within { IfOk result (λ words. IfSome words (λ w. w.3 ≤ most)) }
 {

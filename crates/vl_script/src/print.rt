@@ -23,6 +23,7 @@ pub fn print_answer(alloc: Global, text: &mut Vec<u8>, answer: &Answer) -> Resul
         Answer::Number { number } => print_number(text, b"ok ", *number),
         Answer::Found { value } => print_value(alloc, text, value),
         Answer::FoundTagged { value } => print_tagged(alloc, text, value),
+        Answer::Dropped { low } => print_number(text, b"dropped ", *low),
         Answer::Rows { rows } => print_rows(alloc, text, rows),
         Answer::NoValue => print_line(text, b"none", b""),
         Answer::Taken { name } => print_line(text, b"taken ", name.as_slice()),

@@ -5,7 +5,7 @@ use vl_mem::Outcome;
 use vl_script::parse_number;
 
 /// The most changing calls that a trial lets pass.
-const MAX_STOP: u32 = 1_000_000;
+const MAX_STOP: u64 = 1_000_000;
 
 /// What plain words ask for.
 #[derive(Clone, Copy)]
@@ -27,7 +27,7 @@ pub fn command_in(words: &[String]) -> Option<Command>
         }
         [command, stop, outcome] if command.as_bytes() == b"trial".as_slice() => {
             Some(Command::Trial(
-                parse_number(stop.as_bytes(), MAX_STOP)?,
+                parse_number(stop.as_bytes(), MAX_STOP)? as u32,
                 outcome_in(outcome.as_bytes())?,
             ))
         }

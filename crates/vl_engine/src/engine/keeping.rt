@@ -1,16 +1,18 @@
-ghost use Rattle.std.specs.Prelude.{◌≡◌, ◌≢◌, Err, OnOk};
+ghost use Rattle.std.specs.Prelude.{◌≡◌, ◌≢◌, ◌≤◌, Err, OnOk};
 ghost use Rattle.vl_disk.specs.Calls.{ChangesNothing};
+ghost use Rattle.vl_disk.specs.DiskState.{DiskState};
 ghost use Rattle.vl_disk.specs.Faults.{HasCause, after_calls};
 ghost use Rattle.vl_disk.specs.declared.name.Name.{Name};
 ghost use Rattle.vl_engine.specs.Carries.{Carries, SameFiles};
-ghost use Rattle.vl_engine.specs.Keeping.{IsKeepWritten, KeepFailed, KeepLeavesDisk, KeepsAs, MayKeep, StopsKeeping, keep_calls, keep_effects, keep_outcome};
+ghost use Rattle.vl_engine.specs.Keeping.{IsKeepWritten, KeepFailed, KeepLeavesDisk, KeepsAs, MayKeep, StopsKeeping, WritesKeep, keep_calls, keep_effects, keep_outcome};
 ghost use Rattle.vl_engine.specs.Keeping as keeping;
 ghost use Rattle.vl_engine.specs.Represents.{Fronts, Represents, StandsFor};
-ghost use Rattle.vl_engine.specs.Stepping.{Fits};
+ghost use Rattle.vl_engine.specs.Stepping.{Fits, LeavesNumbers};
 ghost use Rattle.vl_engine.specs.declared.fails.KeepFail.TheVariants as fails;
 ghost use Rattle.vl_layout.specs.Decides.{Decides, as_before};
 ghost use Rattle.vl_layout.specs.Rulings.Keep.{keep_ruling};
 ghost use Rattle.vl_layout.specs.declared.layout.Layout.{Layout};
+ghost use Rattle.vl_manifest.specs.declared.staged.StagedEdits.{StagedEdits};
 ghost use Rattle.vl_model.specs.History.{History};
 
 use crate::kept::Core;
@@ -64,6 +66,17 @@ impl<D: Disk> Engine<D> {
         ensures stopped { (name : Name) → result ≡ Err (fails.Disk name)
             → StopsKeeping self.old.core.back.manifest.number (D.calls self.old.disk) (D.calls self.new.disk) name }
         ensures failed { KeepFailed result → MayKeep self.old.core versions }
+        // By then the switch was written in part, if at all; and whatever a crash leaves gives no number above the next ones.
+        ensures meanwhile { KeepFailed result
+            → (staged : StagedEdits) × WritesKeep D.Watched self.old.core staged self.old.disk self.new.disk }
+        ensures leaves { (h : History) (l : Layout) (now : DiskState)
+            → Represents D.Held.bytes self.old.core (D.told self.old.disk) h l
+            → self.old.core.back.state.next_log ≤ self.old.core.back.next_log → KeepFailed result
+            → D.told self.new.disk ≡ Some now → LeavesNumbers l.next_log l.next_table now }
+
+        // The manifest gives the next log no number above that which it gets.
+        ensures within { (KeepFailed result → ⊥) → self.old.core.back.state.next_log ≤ self.old.core.back.next_log
+            → self.new.core.back.state.next_log ≤ self.new.core.back.next_log }
     {
         if let Some(name) = self.core.front.halted {
             return Err(KeepFail::Halted { name });

@@ -68,7 +68,7 @@ halted_at (Err (undone.Disk name)) file is = let same : name ≡ file = cc in ap
 halted_at (Err (undone.Halted name)) file is = absurd cc
 
 -- what is so of each of the files is so of the one that is named
-at_each : (P : FileName → Type 0) (files : List FileName) (before now : ℕ) (name : FileName) → AllByRecursion P files
+pub at_each : (P : FileName → Type 0) (files : List FileName) (before now : ℕ) (name : FileName) → AllByRecursion P files
     → FailedAt files before now name → P name
 at_each P files before now name all failed = pick failed.front (subst (AllByRecursion P) failed.files_are all)
   where
@@ -77,7 +77,7 @@ at_each P files before now name all failed = pick failed.front (subst (AllByRecu
     pick (x ∷ front) each = pick front each.1
 
 -- so many calls were made
-at_most : (files : List FileName) (before now : ℕ) (name : FileName) → FailedAt files before now name
+pub at_most : (files : List FileName) (before now : ℕ) (name : FileName) → FailedAt files before now name
     → (made : ℕ) × (made ≤ length files) × (now ≡ after_calls made before)
 at_most files before now name failed =
     let sum = ap length failed.files_are ∙ length-append failed.front (name ∷ failed.back) in
@@ -88,7 +88,7 @@ pub rotate_named : (active next before now : ℕ) (name : FileName) → StopsRot
     → (name ≡ Log active) ⊎ (name ≡ Log next)
 rotate_named active next before now name (at_hold is calls) = inl is
 rotate_named active next before now name (at_new_log failed) =
-    inr (at_each (λ (n : FileName). n ≡ Log next) (calls_on 3 (Log next)) before now name (refl, refl, refl, tt) failed)
+    inr (at_each (λ (n : FileName). n ≡ Log next) (calls_on 3 (Log next)) before now name (refl, (refl, (refl, tt))) failed)
 
 pub rotate_made : (active next before now : ℕ) (name : FileName) → StopsRotating active next before now name
     → (made : ℕ) × (made ≤ 3) × (now ≡ after_calls made before)
@@ -100,7 +100,7 @@ pub flush_named : (table manifest before now : ℕ) (name : FileName) → Failed
     → (name ≡ Table table) ⊎ (name ≡ Manifest manifest)
 flush_named table manifest before now name failed =
     at_each (λ (n : FileName). (n ≡ Table table) ⊎ (n ≡ Manifest manifest)) (flush_files table manifest) before now name
-    (inl refl, inl refl, inl refl, inr refl, inr refl, tt) failed
+    (inl refl, (inl refl, (inl refl, (inr refl, (inr refl, tt))))) failed
 
 pub flush_made : (table manifest before now : ℕ) (name : FileName) → FailedAt (flush_files table manifest) before now name
     → (made : ℕ) × (made ≤ 5) × (now ≡ after_calls made before)
@@ -270,7 +270,7 @@ module _ {D H R : Type 0} (g : Ghosts D) (watched : IsWatched g) (bytes : H → 
     short_of (Ok None) did out = absurd cc
     short_of (Err (undone.Exhausted c)) did out = absurd cc
     short_of (Err undone.NoMemory) did out =
-        (s, refl, (held.there.0, (did.untouched tt).told ∙ held.there.1, held.there.2))
+        (s, refl, refl, (held.there.0, (did.untouched tt).told ∙ held.there.1, held.there.2))
     short_of (Err (undone.Disk at)) did out = absurd cc
     short_of (Err (undone.Halted at)) did out = absurd cc
 

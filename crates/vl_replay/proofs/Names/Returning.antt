@@ -10,14 +10,15 @@ use Rattle.vl_layout.specs.Store.Lines as store_lines
 use Rattle.vl_layout.specs.Store.Lines.{Name}
 use Rattle.vl_layout.specs.Store.Things as store
 use Rattle.vl_layout.specs.Store.Things.{AView, Step, only, thing_of}
-use Rattle.vl_replay.specs.Replaying.{MakesStep, StandsIn}
-use Rattle.vl_replay.specs.Sequential.{State}
+use Rattle.vl_replay.specs.Replaying.{MakesStep, StandsIn, state_by}
+use Rattle.vl_replay.specs.Sequential.{State, state_after, step_to}
 use Rattle.vl_replay.specs.Standing.{AreOnce, IsTaken}
 use Rattle.vl_replay.specs.declared.fails.Halt.{Halt}
 use Rattle.vl_replay.specs.declared.replayer.open.Open.{Open}
 use Rattle.vl_replay.specs.declared.replayer.open.Thing.{Thing}
 use Rattle.vl_replay.specs.declared.replayer.open.Thing.TheVariants.{View}
 use Rattle.vl_script.specs.declared.answer.Answer.{Answer}
+use Rattle.vl_script.specs.declared.line.Line.{Line}
 use Rattle.vl_script.specs.declared.answer.Answer.TheVariants as answers
 use Rattle.vl_replay.proofs.Names.Making.{read_only_makes, unknown_makes}
 
@@ -51,3 +52,16 @@ returns_so {H} {R} bytes seen core put new s x y told result names same is makes
     subst (λ (r : Result Answer Halt). MakesStep bytes seen core new s y r) (sym is)
     (subst (λ (z : Step). MakesStep bytes seen core new s z told) same
     (subst (λ (os : List (Open H R)). MakesStep bytes seen core os s x told) (sym names) makes))
+
+-- A state counts calls and files of its own, of which nothing is asked here.
+pub stands_after : {H R : Type 0} (bytes : H → Option (List ℕ)) (seen : Option DiskState) (core : Core H) (os : List (Open H R)) (s : State)
+    (line : Line) → StandsIn bytes seen core os (state_by s (step_to s line)) → StandsIn bytes seen core os (state_after s line)
+stands_after bytes seen core os s line is = record {
+  engine = is.engine;
+  names = is.names;
+  sound = is.sound;
+  held = is.held;
+  running = is.running;
+  fits = is.fits;
+  within = is.within;
+}

@@ -7,9 +7,9 @@ use Rattle.std.specs.Str.{bytes_eq}
 use Rattle.vl_model.specs.declared.way.Way.{Way}
 use Rattle.vl_model.specs.declared.way.Way.TheVariants.{Up, Down}
 use Rattle.vl_replay.specs.Asking.{AsksForRow}
-use Rattle.vl_script.specs.Script.{◌>>=◌, ident_alone, ident_and_key, ident_and_two, line_of, line_of_words, longest_line, scan_of, set_of, with_number, words_of}
+use Rattle.vl_script.specs.Script.{◌>>=◌, alone, ident_alone, ident_and_key, ident_and_two, line_of, line_of_words, longest_line, scan_of, set_of, with_number, words_of}
 use Rattle.vl_script.specs.declared.line.Line.{Line}
-use Rattle.vl_script.specs.declared.line.Line.TheVariants.{Begin, View, Get, Set, SetTagged, GetTagged, Scan, Delete, Commit, Drop}
+use Rattle.vl_script.specs.declared.line.Line.TheVariants.{Begin, View, Get, Set, SetTagged, GetTagged, Scan, Delete, Commit, Drop, Rotate, Flush}
 
 -- the line asks for one, where there is a line
 record Asks (o : Option Line) : Type 0 where
@@ -53,6 +53,10 @@ sets (name ∷ key ∷ []) = none
 sets (name ∷ key ∷ value ∷ []) = mapped (ident_and_two name key value) (λ w. Set w.0 w.1 w.2) (λ w. tt)
 sets (name ∷ key ∷ value ∷ other ∷ words) = none
 
+alones : (line : Line) → AsksForRow line → (words : List (List ℕ)) → Asks (alone line words)
+alones line asks [] = one line asks
+alones line asks (word ∷ words) = none
+
 asks_in : (words : List (List ℕ)) → Asks (line_of_words words)
 asks_in [] = none
 asks_in (command ∷ words) =
@@ -66,7 +70,9 @@ asks_in (command ∷ words) =
     (either (bytes_eq command (codes "rscan")) _ _ (scans Down words)
     (either (bytes_eq command (codes "del")) _ _ (mapped (ident_and_key words) (λ p. Delete p.0 p.1) (λ w. tt))
     (either (bytes_eq command (codes "commit")) _ _ (mapped (ident_alone words) Commit (λ w. tt))
-    (either (bytes_eq command (codes "drop")) _ _ (mapped (ident_alone words) Drop (λ w. tt)) none))))))))))
+    (either (bytes_eq command (codes "drop")) _ _ (mapped (ident_alone words) Drop (λ w. tt))
+    (either (bytes_eq command (codes "rotate")) _ _ (alones Rotate tt words)
+    (either (bytes_eq command (codes "flush")) _ _ (alones Flush tt words) none))))))))))))
 
 pub line_asks : (text : List ℕ) (line : Line) → line_of text ≡ Some line → AsksForRow line
 line_asks text line is =

@@ -18,6 +18,7 @@ use Rattle.vl_replay.specs.Sequential.{State, answer_text}
 use Rattle.vl_replay.specs.Input.{HasNoLineEnd}
 use Rattle.vl_replay.specs.Exchanges.{Exchange, exchange_at, exchanged, exchanges_from, and_later, answers_text, ended_lines, KeepsUp}
 use Rattle.vl_replay.specs.Endings.{Culprit, NoOne, TheLine, TheWords, TheDisk, TheReader, TheFiles, TheBytes, Memory, TheSource, TheSink, LastPiece, NoPiece, BadLinePiece, Line, LineFront, AnswerFront, CountsFaultsOf, EndsAs, Evidence, CutsAnswer, culprit_of, end_of, ending_at, last_line, line_at, line_of_piece, line_number, bad_line}
+use Rattle.vl_replay.specs.Failing.{IsTableRead}
 use Rattle.vl_replay.specs.Runs.{Script, exchanges, next_number, IsFront, Stops, Puts, EndsSo}
 use Rattle.vl_replay.specs.Steps.{EndsAtDamage, Finishes, FinishesBy, IsNext, EndsBefore}
 use Rattle.vl_replay.specs.declared.ending.Ending.{Ending}
@@ -117,6 +118,12 @@ finished g old new cause script left ending result line is stops f = record {
 pub bad_line_stops : (cause : Culprit → Type 0) (script : Script) (text : List ℕ) (left : Option (List ℕ)) → IsNext script text → exchange_at script.start text ≡ None → Stops cause script left 0 TheLine
 bad_line_stops cause script text left next bad =
     (sym (ap length (next_bad script text next bad)), let count = ap length next.1 in omega arith)
+
+-- it is a line whose read of a table failed
+pub unread_stops : (cause : Culprit → Type 0) (script : Script) (text : List ℕ) (left : Option (List ℕ)) → IsNext script text
+    → IsTableRead (exchange_at script.start text) → Stops cause script left 0 TheReader
+unread_stops cause script text left next (e, is, reads) =
+    (e, ap (λ (es : List Exchange). slice_get es 0) (next_answered script text next e is), reads)
 
 -- what is printed as the bad line, with so many lines answered before it
 pub bad_line_text : (answered before number : ℕ) (line : List ℕ) → answered ≡ line_number before → number ≡ min (answered + 1) (2 ^ 64 - 1) → line ≡ codes "bad line " ++ decimal number ++ (10 ∷ []) → line ≡ bad_line (before + 0 + 1)
@@ -256,7 +263,7 @@ module _ (whole rest : Script) (line : List ℕ) (e : Exchange) (parts : whole.b
     stops_later TheLine (at, less) = (ap suc at ∙ sym (ap length longer), let count = ap length lines in omega arith)
     stops_later TheWords h = h
     stops_later TheDisk h = h
-    stops_later TheReader h = h
+    stops_later TheReader (x, there, reads) = (x, ap (λ (es : List Exchange). slice_get es (suc m)) longer ∙ there, reads)
     stops_later TheFiles h = h
     stops_later (TheBytes name place) h = h
     stops_later Memory h = h
@@ -338,10 +345,10 @@ pub fault_stops : (cause : Culprit → Type 0) (script : Script) (left : Option 
 fault_stops cause script left m by Report = by
 fault_stops cause script left m by Stop = by
 
--- where the last line was answered, the run didn't end at a read that failed
-pub last_readable : (ended : Option Ending) (result : Ending) → result ≡ unwrap_or ended Complete → ended ≢ Some ReaderFault → Some result ≢ Some ReaderFault
-last_readable None result is fine by = cc
-last_readable (Some ending) result is fine by = fine (ap Some (sym is) ∙ by)
+-- where a run ended at a read that failed, its last line wasn't answered
+pub last_unread : (ended : Option Ending) (result : Ending) → result ≡ unwrap_or ended Complete → Some result ≡ Some ReaderFault → ended ≡ Some ReaderFault
+last_unread None result is by = absurd cc
+last_unread (Some ending) result is by = ap Some (sym is) ∙ by
 
 -- a run that ended by its disk did so as it was to
 pub ends_as : (f : OnFault) (ending : Ending) → (culprit_of ending ≢ TheDisk) ⊎ (ending ≡ ending_at f) → EndsAs f (Some ending)

@@ -14,13 +14,13 @@ use Rattle.vl_model.specs.History.{Extends, History, with_commit}
 use Rattle.vl_model.specs.Keys.{Row, tagged, untagged}
 use Rattle.vl_model.specs.declared.change.Change.TheVariants.{Set as Put, Delete as Deleted}
 use Rattle.vl_replay.specs.Sequential.{IsTold, State, answer_text, answer_to, as_told, history_of, state_after, step_to, told_row, without_lengths}
-use Rattle.vl_replay.specs.laws.Growing.{begin_keeps, commit_or, get_keeps, history_more, scan_keeps, write_keeps}
+use Rattle.vl_replay.specs.laws.Growing.{begin_keeps, commit_or, get_at_keeps, get_keeps, history_more, scan_keeps, write_keeps}
 use Rattle.vl_script.specs.Script.{as_line, row_text, rows_text, text_of}
 use Rattle.std.specs.Fmt.{decimal}
 use Rattle.vl_script.specs.declared.answer.Answer.{Answer}
 use Rattle.vl_script.specs.declared.answer.Answer.TheVariants as answers
 use Rattle.vl_script.specs.declared.line.Line.{Line}
-use Rattle.vl_script.specs.declared.line.Line.TheVariants.{Begin, View, Get, Set, SetTagged, GetTagged, Scan, Delete, Commit, Drop}
+use Rattle.vl_script.specs.declared.line.Line.TheVariants.{Begin, View, Get, Set, SetTagged, GetTagged, Scan, Delete, Commit, Drop, Rotate, Flush, Keep, GetAt}
 use Rattle.vl_replay.proofs.Disk.Betweens.{extends_itself}
 
 -- ---- commits
@@ -47,6 +47,10 @@ line_adds s (Set name key value) = inl (write_keeps s.store name key (Put (untag
 line_adds s (SetTagged name key value tag) = inl (write_keeps s.store name key (Put (tagged value tag)) (thing_of s.store name)).commits
 line_adds s (Delete name key) = inl (write_keeps s.store name key Deleted (thing_of s.store name)).commits
 line_adds s (Drop name) = inl (drop_commits s.store name (thing_of s.store name))
+line_adds s Rotate = inl refl
+line_adds s Flush = inl refl
+line_adds s (Keep versions) = inl refl
+line_adds s (GetAt name key number) = inl (get_at_keeps s.store name key number (thing_of s.store name)).commits
 line_adds s (Commit name) = elim (commit_or s.store name (thing_of s.store name)) [
   | inl (keeps, none) ↦ inl keeps.commits
   | inr (t, b, is, adds) ↦ inr (t.writes, _, adds.commits, adds.answer)
@@ -103,6 +107,7 @@ told_text answers.TooMany = refl
 told_text answers.Nothing = refl
 told_text (answers.Conflict key number) = refl
 told_text answers.Full = refl
+told_text answers.Idle = refl
 told_text (answers.Exhausted counter) = refl
 
 -- the lengths of a log aren't printed
@@ -135,4 +140,5 @@ told_number told answer n is number = of told (is ∙ ap without_lengths number)
     of answers.Nothing e = absurd cc
     of (answers.Conflict key number) e = absurd cc
     of answers.Full e = absurd cc
+    of answers.Idle e = absurd cc
     of (answers.Exhausted counter) e = absurd cc

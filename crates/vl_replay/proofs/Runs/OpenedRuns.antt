@@ -1,6 +1,7 @@
 -- A run that opens its store first, or can't.
-use Rattle.std.proofs.Common.{◌≡◌, ◌≢◌, inl, ℕ, zero, suc, ◌≤◌, List, [], ◌∷◌, take, Option, Some, refl, ap, ◌∙◌, subst, arith}
+use Rattle.std.proofs.Common.{◌≡◌, ◌≢◌, ◌⊎◌, inl, ℕ, zero, suc, ◌≤◌, ◌-◌, ◌^◌, List, [], ◌∷◌, take, Option, Some, refl, true, ap, sym, ◌∙◌, subst, arith}
 use Rattle.vl_disk.specs.declared.watched.Watched.{Ghosts}
+use Rattle.vl_disk.specs.DiskState.{DiskState}
 use Rattle.vl_disk.specs.Faults.{Rose, HasCause}
 use Rattle.vl_io.specs.declared.sink.Sink as sink
 use Rattle.vl_io.specs.Sink.{Takes}
@@ -13,7 +14,8 @@ use Rattle.vl_replay.specs.Exchanges.{Exchange, KeepsUp, last_state}
 use Rattle.vl_model.specs.History.{Extends}
 use Rattle.vl_replay.specs.Between.{Showing, Stopping}
 use Rattle.vl_replay.specs.Endings.{Culprit, TheDisk, TheSink, TheSource, CountsFaultsOf, Evidence, CutsAnswer, IsBetweenLines, culprit_of, last_line}
-use Rattle.vl_replay.specs.Runs.{Script, exchanges, next_number, Stops, Course, Outside, EvidenceOf, EndsRun}
+use Rattle.vl_replay.specs.Runs.{Script, exchanges, next_number, Stops, Course, course, Outside, EvidenceOf, EndsRun, EndsRunBy}
+use Rattle.vl_replay.specs.Start.{EvidenceFromStart, FailsAtTables, StartsIn, StoppedAtOpening}
 use Rattle.vl_replay.specs.Durable.{Holding, IsAsBefore, LeavesItsHistory, StaysShown, Tells, HoldsState, CrashesShow, GoesAlong, DiskEnds, DiskEndsFrom}
 use Rattle.vl_replay.specs.Opening.{ending_unopened, why_refused}
 use Rattle.vl_engine.specs.Opening.{IsFault}
@@ -25,6 +27,32 @@ use Rattle.vl_replay.specs.declared.ending.Ending.TheVariants.{BadWords, DiskFau
 use Rattle.vl_replay.proofs.Disk.Betweens.{extends_itself}
 use Rattle.vl_replay.proofs.Runs.Ends.{ends_weaker, evidence_weaker, finished, or_cut, finish_counts, counts_none}
 use Rattle.vl_replay.proofs.Disk.DiskSteps.{IsWatched, exchanges_extend, goes_wider, goes_then, at_end, ends_later, rose_earlier}
+
+-- ---- where it begins
+
+-- a disk on which a store may be opened is one on which it may be opened
+pub again_openable : {D : Type 0} (g : Ghosts D) (disk : D) (s : State) → StartsIn g disk s → Tells g disk MayOpen
+    → StartsIn g disk (record s { openable = true })
+again_openable g disk s starts (state, told, may) = record {
+  state = starts.state;
+  told = starts.told;
+  read = starts.read;
+  is_read = starts.is_read;
+  found = starts.found;
+  unused = starts.unused;
+  shown = starts.shown;
+  proper = starts.proper;
+  layout = starts.layout;
+  things = starts.things;
+  strays = starts.strays;
+  are_strays = starts.are_strays;
+  calls = starts.calls;
+  files = starts.files;
+  openable = λ _. subst MayOpen (some_state state starts.state (sym told ∙ starts.told)) may;
+}
+  where
+    some_state : (a b : DiskState) → Some a ≡ Some b → a ≡ b
+    some_state a b e = cc
 
 -- ---- the store wasn't opened
 
@@ -82,17 +110,19 @@ out_of_memory k old new how result (line, own, finishes) = or_cut k old new line
     of why.NoMemory e is = is
     of (why.Disk name) e is = cc
 
-module _ {D : Type 0} (g : Ghosts D) (watched : IsWatched g) (holds : Holding) (shows : Showing) (stops : Stopping)
-    (stays : StaysShown shows) (exactly : LeavesItsHistory holds shows) (P : Type 0) (script : Script) (first end : Outside D) where
+module _ {D R : Type 0} (g : Ghosts D) (watched : IsWatched g) (holds : Holding) (shows : Showing) (stops : Stopping)
+    (stays : StaysShown shows) (exactly : LeavesItsHistory holds shows) (P : State → Type 0) (Q : Type 0) (script : Script) (first end : Outside D)
+    (faults : R → ℕ) where
   abbrev pub SoFar : Course → Type 0
-  SoFar run = P → DiskEnds g holds shows stops (IsAsBefore g first.disk end.disk) (run.answered ≡ []) first.disk end.disk run
+  SoFar run = P run.first → Q → DiskEnds g holds shows stops (IsAsBefore g first.disk end.disk) (StoppedAtOpening g first.disk end.disk run) first.disk end.disk run
 
   -- nothing was opened
-  pub ends_refused : (ending : Ending) → AnswersNothing ending → EndsBefore (EvidenceOf g first end) script end.left ending first.held end.held → KeepsUp script.bytes end.asked 0
-      → (P → CrashesShow g shows first.disk end.disk (history_of script.start) (history_of script.start)) → (P → Tells g end.disk MayOpen)
+  pub ends_refused : (ending : Ending) → AnswersNothing ending → EndsBefore (EvidenceFromStart g faults first end 0) script end.left ending first.held end.held → KeepsUp script.bytes end.asked 0
+      → (P script.start → Q → CrashesShow g shows first.disk end.disk (history_of script.start) (history_of script.start)) → (P script.start → Q → Tells g end.disk MayOpen)
       → ((Rose (g.faults first.disk) (g.faults end.disk) → ⊥) → IsAsBefore g first.disk end.disk) → (ending ≡ NoMemory → IsAsBefore g first.disk end.disk)
-      → EndsRun g SoFar script first end ending
-  ends_refused ending (none, none_cut) before kept_up goes tells kept kept_out =
+      → (g.calls first.disk ≤ 2 ^ 64 - 1 → g.calls end.disk ≤ script.start.calls)
+      → EndsRunBy (EvidenceFromStart g faults first end) SoFar script first end ending
+  ends_refused ending (none, none_cut) before kept_up goes tells kept kept_out within =
       let h = (history_of script.start) in
       let most = (history_of (last_state script.start (take 1 (exchanges script)))) in
       record {
@@ -101,18 +131,18 @@ module _ {D : Type 0} (g : Ghosts D) (watched : IsWatched g) (holds : Holding) (
         taken = before.taken;
         ends = before.ends;
         kept_up = kept_up;
-        disk = λ p.
-            let through = goes_wider g watched holds shows stops stays exactly first.disk end.disk h h h most (extends_itself h) (exchanges_extend (lines_of script.bytes) script.start 1) (goes p) in
+        disk = λ p q.
+            let through = goes_wider g watched holds shows stops stays exactly first.disk end.disk h h h most (extends_itself h) (exchanges_extend (lines_of script.bytes) script.start 1) (goes p q) in
             record {
               crash_during = through;
               line_by_line = tt;
-              crash_after = at_end g watched holds shows stops stays exactly first.disk end.disk h most through (tells p);
+              crash_after = at_end g watched holds shows stops stays exactly first.disk end.disk h most through (tells p q);
               without_fault = λ sound. inl (kept sound);
               no_memory = λ out. inl (kept_out out);
               between_lines = λ between. absurd (none between);
               answer_cut = λ cuts. absurd (none_cut cuts);
-              again = tells p;
-              stopped = λ fault clean. inl refl;
+              again = tells p q;
+              stopped = λ fault clean. inl (refl, within);
             };
       }
 
@@ -135,9 +165,9 @@ module _ {D : Type 0} (g : Ghosts D) (watched : IsWatched g) (holds : Holding) (
   )
 
   pub ends_opened : (mid : Outside D) (ending : Ending) → mid.source_faults ≡ first.source_faults → mid.held ≡ first.held → g.faults mid.disk ≡ g.faults first.disk
-      → (P → HoldsState g holds script.start mid.disk) → (P → CrashesShow g shows first.disk mid.disk (history_of script.start) (history_of script.start))
+      → (P script.start → Q → HoldsState g holds script.start mid.disk) → (P script.start → Q → CrashesShow g shows first.disk mid.disk (history_of script.start) (history_of script.start))
       → EndsRun g (DiskEndsFrom g holds shows stops mid.disk end.disk script.start) script mid end ending
-      → EndsRun g SoFar script first end ending
+      → EndsRunBy (EvidenceFromStart g faults first end) SoFar script first end ending
   ends_opened mid ending same_faults same_held steady opened goes run =
       let earlier : g.faults first.disk ≤ g.faults mid.disk = omega (arith, steady) in
       let s = script.start in
@@ -148,15 +178,16 @@ module _ {D : Type 0} (g : Ghosts D) (watched : IsWatched g) (holds : Holding) (
         answered = m;
         printed = run.printed;
         taken = subst (λ (held : Option (List ℕ)). Takes held end.held run.printed) same_held run.taken;
-        ends = ends_weaker (EvidenceOf g mid end) (EvidenceOf g first end)
-            (evidence_weaker (Rose mid.source_faults end.source_faults) (Rose (g.faults mid.disk) (g.faults end.disk)) (Rose first.source_faults end.source_faults) (Rose (g.faults first.disk) (g.faults end.disk))
-            (λ rose. subst (λ (n : ℕ). Rose n end.source_faults) same_faults rose) (λ rose. rose_earlier (g.faults first.disk) (g.faults mid.disk) (g.faults end.disk) earlier rose))
+        ends = ends_weaker (EvidenceOf g mid end) (EvidenceFromStart g faults first end m)
+            (evidence_weaker (Rose mid.source_faults end.source_faults) (Rose (g.faults mid.disk) (g.faults end.disk)) (Rose first.source_faults end.source_faults)
+            (Rose (g.faults first.disk) (g.faults end.disk) ⊎ (FailsAtTables g faults first.disk end.disk × (m ≡ 0)))
+            (λ rose. subst (λ (n : ℕ). Rose n end.source_faults) same_faults rose) (λ rose. inl (rose_earlier (g.faults first.disk) (g.faults mid.disk) (g.faults end.disk) earlier rose)))
             script end.left m ending run.printed run.ends;
         kept_up = run.kept_up;
-        disk = λ p.
-            ends_later g watched holds shows stops stays exactly (IsAsBefore g first.disk end.disk) (take m all ≡ []) first.disk mid.disk end.disk ending s s (last_state s (take (suc m) all)) (take m all) (take m all)
-            (extends_itself (history_of s)) (extends (suc m)) steady (goes p) (λ _ along. along_opened mid.disk end.disk s (last_state s (take (suc m) all)) all m (extends 1) (goes p) steady along) refl
-            (run.disk (opened p));
+        disk = λ p q.
+            ends_later g watched holds shows stops stays exactly (IsAsBefore g first.disk end.disk) (StoppedAtOpening g first.disk end.disk (course script m ending)) first.disk mid.disk end.disk ending s s (last_state s (take (suc m) all)) (take m all) (take m all)
+            (extends_itself (history_of s)) (extends (suc m)) steady (goes p q) (λ _ along. along_opened mid.disk end.disk s (last_state s (take (suc m) all)) all m (extends 1) (goes p q) steady along) refl
+            (run.disk (opened p q));
       }
 
 -- ---- what a run counts, and puts, whose store wasn't opened
@@ -165,7 +196,7 @@ some_culprit : (a b : Culprit) → Some a ≡ Some b → a ≡ b
 some_culprit a b e = cc
 
 module _ {K : Type 0} (k : sink.Ghosts K) (old new : K) (how : OpenError) (result : Ending) (finishes : FinishesBy k old new (ending_unopened how) result) where
-  of_result : (P : Ending → Type 0) → P (ending_unopened how) → P WriteFault → P result
+  pub of_result : (P : Ending → Type 0) → P (ending_unopened how) → P WriteFault → P result
   of_result P whole cut = or_cut k old new finishes.0 (ending_unopened how) result P finishes.2 whole cut
 
   -- it ended by a refusal, which was why

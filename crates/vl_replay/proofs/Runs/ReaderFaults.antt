@@ -1,9 +1,9 @@
 -- An opening that failed: by the disk, which counts it, or by the reader that it made.
-use Rattle.std.proofs.Common.{◌≡◌, ◌⊎◌, ⊎_elim, inl, inr, ℕ, zero, suc, refl, sym, subst}
-use Rattle.std.specs.Prelude.{Some}
+use Rattle.std.proofs.Common.{◌≡◌, ◌≤◌, ◌⊎◌, ⊎_elim, inl, inr, ℕ, zero, suc, refl, sym, ◌∙◌, subst, arith}
+use Rattle.std.specs.Prelude.{Option, None, Some}
 use Rattle.vl_disk.specs.Crash.{Image}
 use Rattle.vl_disk.specs.DiskState.{DiskState}
-use Rattle.vl_disk.specs.Faults.{HasCause}
+use Rattle.vl_disk.specs.Faults.{HasCause, Rose}
 use Rattle.vl_disk.specs.Started.{IsRead}
 use Rattle.vl_disk.specs.declared.name.Name.{Name}
 use Rattle.vl_disk.specs.declared.watched.Watched.{Ghosts}
@@ -12,9 +12,12 @@ use Rattle.vl_io.specs.declared.sink.Sink as sink
 use Rattle.vl_recover.specs.declared.fails.OpenError.{OpenError}
 use Rattle.vl_recover.specs.declared.fails.OpenError.TheVariants as why
 use Rattle.vl_recover.specs.opening.Opening.{NamesNoTable}
+use Rattle.vl_recover.specs.opening.Results.{counted}
+use Rattle.vl_replay.specs.Durable.{IsAsBefore}
 use Rattle.vl_replay.specs.Endings.{CountsFaultsOf, TheDisk}
+use Rattle.vl_replay.specs.Failing.{ReaderFailed}
 use Rattle.vl_replay.specs.Opening.{ending_unopened, why_refused}
-use Rattle.vl_replay.specs.Start.{FailsAtTables}
+use Rattle.vl_replay.specs.Start.{EndsAtTables, FailsAtTables}
 use Rattle.vl_replay.specs.Steps.{EndsFor, FinishesBy}
 use Rattle.vl_replay.specs.declared.ending.Ending.{Ending}
 use Rattle.vl_replay.specs.declared.fails.Refusal.{Refusal}
@@ -22,13 +25,22 @@ use Rattle.vl_replay.proofs.Runs.OpenedRuns.{counts_disk}
 use Rattle.vl_replay.proofs.Runs.Refusals.{fault_for, fault_of, no_fault}
 
 -- where the reader has counted none, a fault is the disk's
-pub by_disk_itself : (n : ℕ) (reason : OpenError) → n ≡ 0 → IsFault (Some reason) → IsDiskFault n (Some reason)
+by_disk_itself : (n : ℕ) (reason : OpenError) → n ≡ 0 → IsFault (Some reason) → IsDiskFault n (Some reason)
 by_disk_itself n why.NotAStore none fault = fault
 by_disk_itself n (why.NewerFormat format) none fault = fault
 by_disk_itself n (why.Damaged name place) none fault = fault
 by_disk_itself n (why.Exhausted counter) none fault = fault
 by_disk_itself n why.NoMemory none fault = fault
 by_disk_itself n (why.Disk name) none fault = none
+
+-- and where the disk failed, the reader has counted none
+none_read : (n : ℕ) (reason : OpenError) → IsDiskFault n (Some reason) → n ≡ 0
+none_read n why.NotAStore fault = absurd fault
+none_read n (why.NewerFormat format) fault = absurd fault
+none_read n (why.Damaged name place) fault = absurd fault
+none_read n (why.Exhausted counter) fault = absurd fault
+none_read n why.NoMemory fault = absurd fault
+none_read n (why.Disk name) fault = fault
 
 fault_at_all : (n : ℕ) (reason : OpenError) → IsDiskFault n (Some reason) → IsFault (Some reason)
 fault_at_all n why.NotAStore fault = fault
@@ -39,7 +51,7 @@ fault_at_all n why.NoMemory fault = fault
 fault_at_all n (why.Disk name) fault = tt
 
 -- So the disk counts it.
-pub disk_cause : (before now n : ℕ) (reason : OpenError) → n ≡ 0 → HasCause before now (IsDiskFault n (Some reason))
+disk_cause : (before now n : ℕ) (reason : OpenError) → n ≡ 0 → HasCause before now (IsDiskFault n (Some reason))
     → HasCause before now (IsFault (Some reason))
 disk_cause before now n reason none cause = record {
   later = cause.later;
@@ -47,54 +59,104 @@ disk_cause before now n reason none cause = record {
   steady = λ sound. cause.steady (λ fault. sound (fault_at_all n reason fault));
 }
 
-module _ {D K : Type 0} (g : Ghosts D) (k : sink.Ghosts K) (old new : D) (sink sink' : K) (n : ℕ) (reason how : OpenError)
-    (result : Ending) (for : EndsFor reason how) (finishes : FinishesBy k sink sink' (ending_unopened how) result)
-    (cause : HasCause (g.faults old) (g.faults new) (IsDiskFault n (Some reason)))
-    (unread : (state : DiskState) (read : Image) → g.told old ≡ Some state → IsRead read state → NamesNoTable read → n ≡ 0) where
-  counted : n ≡ 0 → CountsFaultsOf TheDisk (Some result) (g.faults old) (g.faults new)
-  counted none = counts_disk k sink sink' how result finishes (g.faults old) (g.faults new) (IsFault (Some reason))
-      (fault_of reason how for) (fault_for reason how for) (disk_cause (g.faults old) (g.faults new) n reason none cause)
+-- a reader that has counted some failed
+some_counted : (m : ℕ) → (m ≡ 0 → ⊥) → 1 ≤ m
+some_counted zero some = absurd (some refl)
+some_counted (suc m) some = omega arith
 
-  -- The run ended by the disk, which counted it, or since reads of tables failed.
-  pub disk_or_tables : CountsFaultsOf TheDisk (Some result) (g.faults old) (g.faults new)
-      ⊎ FailsAtTables g k old new sink sink' result
-  disk_or_tables = by reason refl
+reader_failed : {R : Type 0} (faults : R → ℕ) (reader : Option R) → (counted faults reader ≡ 0 → ⊥) → ReaderFailed faults
+reader_failed faults None some = absurd (some refl)
+reader_failed faults (Some reader) some = record { reader = reader; some = some_counted (faults reader) some }
+
+suc_some : (m n : ℕ) → n ≡ suc m → n ≡ 0 → ⊥
+suc_some m n is none = let never = sym is ∙ none in omega (arith, never)
+
+module _ {D R : Type 0} (g : Ghosts D) (faults : R → ℕ) (old new : D) (reader : Option R) (reason : OpenError)
+    (cause : HasCause (g.faults old) (g.faults new) (IsDiskFault (counted faults reader) (Some reason)))
+    (unread : (state : DiskState) (read : Image) → g.told old ≡ Some state → IsRead read state → NamesNoTable read
+    → counted faults reader ≡ 0) (unmoved : (counted faults reader ≡ 0 → ⊥) → IsAsBefore g old new) where
+  -- the reader failed
+  at_tables : (counted faults reader ≡ 0 → ⊥) → FailsAtTables g faults old new
+  at_tables some = record {
+    reader = reader_failed faults reader some;
+    tables = λ state read told is_read none. some (unread state read told is_read none);
+    steady = cause.steady (λ fault. some (none_read (counted faults reader) reason fault));
+    unchanged = unmoved some;
+  }
+
+  -- A fault is counted, by one of the two.
+  pub by_either : IsFault (Some reason) → Rose (g.faults old) (g.faults new) ⊎ FailsAtTables g faults old new
+  by_either fault = by (counted faults reader) refl
     where
-      -- what isn't a fault at all isn't one of the reader
-      sound : (IsFault (Some reason) → ⊥) → CountsFaultsOf TheDisk (Some result) (g.faults old) (g.faults new)
-      sound none = counts_disk k sink sink' how result finishes (g.faults old) (g.faults new) (IsFault (Some reason))
-          (fault_of reason how for) (fault_for reason how for) (record {
-            later = cause.later;
-            rose = λ fault. absurd (none fault);
-            steady = λ not. cause.steady (λ fault. not (fault_at_all n reason fault));
-          })
+      by : (m : ℕ) → counted faults reader ≡ m → Rose (g.faults old) (g.faults new) ⊎ FailsAtTables g faults old new
+      by zero none = inl (cause.rose (by_disk_itself (counted faults reader) reason none fault))
+      by (suc m) some = inr (at_tables (suc_some m (counted faults reader) some))
 
-      no_refusal : (name : Name) → reason ≡ why.Disk name → (refusal : Refusal) → reason ≡ why_refused refusal → ⊥
-      no_refusal name is refusal refused = no_fault refusal
-          (subst (λ (w : OpenError). IsFault (Some w)) refused (subst (λ (w : OpenError). IsFault (Some w)) (sym is) tt))
+  -- Where the disk counted none it was left alone.
+  pub left_as_before : ((IsFault (Some reason) → ⊥) → IsAsBefore g old new) → (Rose (g.faults old) (g.faults new) → ⊥) → IsAsBefore g old new
+  left_as_before left_alone sound = by reason refl
+    where
+      of_fault : IsFault (Some reason) → IsAsBefore g old new
+      of_fault fault = ⊎_elim
+          (λ (rose : Rose (g.faults old) (g.faults new)). absurd (sound rose))
+          (λ (tables : FailsAtTables g faults old new). tables.unchanged)
+          (by_either fault)
 
-      at_reader : (name : Name) → reason ≡ why.Disk name → (n ≡ 0 → ⊥) → FailsAtTables g k old new sink sink' result
-      at_reader name is some = record {
-        tables = λ state read told is_read none. some (unread state read told is_read none);
-        steady = cause.steady (λ fault. some (subst (λ (w : OpenError). IsDiskFault n (Some w)) is fault));
-        printed = subst (λ (w : OpenError). FinishesBy k sink sink' (ending_unopened w) result) is
-            (⊎_elim
-            (λ (same : how ≡ reason). subst (λ (w : OpenError). FinishesBy k sink sink' (ending_unopened w) result) same finishes)
-            (λ (out : (how ≡ why.NoMemory) × ((other : Refusal) × (reason ≡ why_refused other))).
-            absurd (no_refusal name is out.1.0 out.1.1))
-            for);
-      }
+      by : (w : OpenError) → reason ≡ w → IsAsBefore g old new
+      by why.NotAStore is = left_alone (λ fault. subst (λ (w : OpenError). IsFault (Some w)) is fault)
+      by (why.NewerFormat format) is = left_alone (λ fault. subst (λ (w : OpenError). IsFault (Some w)) is fault)
+      by (why.Damaged name place) is = left_alone (λ fault. subst (λ (w : OpenError). IsFault (Some w)) is fault)
+      by (why.Exhausted counter) is = left_alone (λ fault. subst (λ (w : OpenError). IsFault (Some w)) is fault)
+      by why.NoMemory is = left_alone (λ fault. subst (λ (w : OpenError). IsFault (Some w)) is fault)
+      by (why.Disk name) is = of_fault (subst (λ (w : OpenError). IsFault (Some w)) (sym is) tt)
 
-      by_count : (m : ℕ) → n ≡ m → (name : Name) → reason ≡ why.Disk name
-          → CountsFaultsOf TheDisk (Some result) (g.faults old) (g.faults new) ⊎ FailsAtTables g k old new sink sink' result
-      by_count zero none name is = inl (counted none)
-      by_count (suc m) some name is = inr (at_reader name is (λ none. absurd cc))
+  module _ {K : Type 0} (k : sink.Ghosts K) (sink sink' : K) (how : OpenError) (result : Ending) (for : EndsFor reason how)
+      (finishes : FinishesBy k sink sink' (ending_unopened how) result) where
+    counted_none : counted faults reader ≡ 0 → CountsFaultsOf TheDisk (Some result) (g.faults old) (g.faults new)
+    counted_none none = counts_disk k sink sink' how result finishes (g.faults old) (g.faults new) (IsFault (Some reason))
+        (fault_of reason how for) (fault_for reason how for)
+        (disk_cause (g.faults old) (g.faults new) (counted faults reader) reason none cause)
 
-      by : (w : OpenError) → reason ≡ w
-          → CountsFaultsOf TheDisk (Some result) (g.faults old) (g.faults new) ⊎ FailsAtTables g k old new sink sink' result
-      by why.NotAStore is = inl (sound (λ fault. subst (λ (w : OpenError). IsFault (Some w)) is fault))
-      by (why.NewerFormat format) is = inl (sound (λ fault. subst (λ (w : OpenError). IsFault (Some w)) is fault))
-      by (why.Damaged name place) is = inl (sound (λ fault. subst (λ (w : OpenError). IsFault (Some w)) is fault))
-      by (why.Exhausted counter) is = inl (sound (λ fault. subst (λ (w : OpenError). IsFault (Some w)) is fault))
-      by why.NoMemory is = inl (sound (λ fault. subst (λ (w : OpenError). IsFault (Some w)) is fault))
-      by (why.Disk name) is = by_count n refl name is
+    -- The run ended by the disk, which counted it, or since reads of tables failed.
+    pub disk_or_tables : CountsFaultsOf TheDisk (Some result) (g.faults old) (g.faults new)
+        ⊎ EndsAtTables g faults k old new sink sink' result
+    disk_or_tables = by reason refl
+      where
+        -- what isn't a fault at all isn't one of the reader
+        sound : (IsFault (Some reason) → ⊥) → CountsFaultsOf TheDisk (Some result) (g.faults old) (g.faults new)
+        sound none = counts_disk k sink sink' how result finishes (g.faults old) (g.faults new) (IsFault (Some reason))
+            (fault_of reason how for) (fault_for reason how for) (record {
+              later = cause.later;
+              rose = λ fault. absurd (none fault);
+              steady = λ not. cause.steady (λ fault. not (fault_at_all (counted faults reader) reason fault));
+            })
+
+        no_refusal : (name : Name) → reason ≡ why.Disk name → (refusal : Refusal) → reason ≡ why_refused refusal → ⊥
+        no_refusal name is refusal refused = no_fault refusal
+            (subst (λ (w : OpenError). IsFault (Some w)) refused (subst (λ (w : OpenError). IsFault (Some w)) (sym is) tt))
+
+        at_reader : (name : Name) → reason ≡ why.Disk name → (counted faults reader ≡ 0 → ⊥)
+            → EndsAtTables g faults k old new sink sink' result
+        at_reader name is some = (
+          at_tables some,
+          subst (λ (w : OpenError). FinishesBy k sink sink' (ending_unopened w) result) is
+              (⊎_elim
+              (λ (same : how ≡ reason). subst (λ (w : OpenError). FinishesBy k sink sink' (ending_unopened w) result) same finishes)
+              (λ (out : (how ≡ why.NoMemory) × ((other : Refusal) × (reason ≡ why_refused other))).
+              absurd (no_refusal name is out.1.0 out.1.1))
+              for),
+        )
+
+        by_count : (m : ℕ) → counted faults reader ≡ m → (name : Name) → reason ≡ why.Disk name
+            → CountsFaultsOf TheDisk (Some result) (g.faults old) (g.faults new) ⊎ EndsAtTables g faults k old new sink sink' result
+        by_count zero none name is = inl (counted_none none)
+        by_count (suc m) some name is = inr (at_reader name is (suc_some m (counted faults reader) some))
+
+        by : (w : OpenError) → reason ≡ w
+            → CountsFaultsOf TheDisk (Some result) (g.faults old) (g.faults new) ⊎ EndsAtTables g faults k old new sink sink' result
+        by why.NotAStore is = inl (sound (λ fault. subst (λ (w : OpenError). IsFault (Some w)) is fault))
+        by (why.NewerFormat format) is = inl (sound (λ fault. subst (λ (w : OpenError). IsFault (Some w)) is fault))
+        by (why.Damaged name place) is = inl (sound (λ fault. subst (λ (w : OpenError). IsFault (Some w)) is fault))
+        by (why.Exhausted counter) is = inl (sound (λ fault. subst (λ (w : OpenError). IsFault (Some w)) is fault))
+        by why.NoMemory is = inl (sound (λ fault. subst (λ (w : OpenError). IsFault (Some w)) is fault))
+        by (why.Disk name) is = by_count (counted faults reader) refl name is

@@ -12,16 +12,16 @@ use Rattle.vl_script.specs.Script.{line_of}
 use Rattle.vl_replay.specs.Sequential.{State, answer_to, state_after, history_of, IsTold}
 use Rattle.vl_replay.specs.Exchanges.{exchange_at, exchanged, state_behind}
 use Rattle.vl_disk.specs.declared.name.Name.{Name}
-use Rattle.vl_replay.specs.Halts.{HaltsByDisk, HaltsByRead}
+use Rattle.vl_replay.specs.Halts.{HaltsByDamage, HaltsByDisk, HaltsByRead, HaltsByReader}
 use Rattle.vl_replay.specs.Endings.{CutsAnswer, IsBetweenLines, TheDisk, culprit_of, ending_at}
-use Rattle.vl_replay.specs.Durable.{HoldsState, HoldsCommits, LeadsTo, DiskEnds}
+use Rattle.vl_replay.specs.Durable.{HoldsState, HoldsCommits, LeadsTo, DiskEnds, without_live}
 use Rattle.vl_replay.specs.Stored.{IsStopped, IsStored}
 use Rattle.vl_engine.specs.Shown.{Shown}
 use Rattle.vl_replay.specs.Steps.{Finishes}
 use Rattle.vl_replay.specs.declared.fails.Halt.{Halt}
 use Rattle.vl_replay.specs.declared.fails.Halt.TheVariants as why
 use Rattle.vl_replay.specs.declared.ending.Ending.{Ending}
-use Rattle.vl_replay.specs.declared.ending.Ending.TheVariants.{NoMemory, AnswerCut}
+use Rattle.vl_replay.specs.declared.ending.Ending.TheVariants.{NoMemory, ReaderFault, AnswerCut}
 use Rattle.vl_replay.specs.declared.ending.OnFault.{OnFault}
 use Rattle.vl_replay.proofs.Runs.Ends.{at_fault, or_cut}
 use Rattle.vl_replay.proofs.Disk.DiskSteps.{IsWatched, text_extends, rests_until, it_holds, its_commits, opens_again, ends_within, ends_unchanged}
@@ -62,6 +62,46 @@ by_damage {T = T} r name place is = subst (λ (x : Result T Halt). HaltsByRead x
 pub by_read : {T : Type 0} (r : Result T Halt) (name : Name) → r ≡ Err (why.Read name) → HaltsByRead r
 by_read {T = T} r name is = subst (λ (x : Result T Halt). HaltsByRead x) (sym is) tt
 
+pub is_damage : {T : Type 0} (r : Result T Halt) (name : Name) (place : ℕ) → r ≡ Err (why.Damaged name place) → HaltsByDamage r
+is_damage {T = T} r name place is = subst (λ (x : Result T Halt). HaltsByDamage x) (sym is) tt
+
+pub is_unread : {T : Type 0} (r : Result T Halt) (name : Name) → r ≡ Err (why.Read name) → HaltsByReader r
+is_unread {T = T} r name is = subst (λ (x : Result T Halt). HaltsByReader x) (sym is) tt
+
+-- where memory ran out nothing was damaged, and no reader failed
+pub out_undamaged : {T : Type 0} (r : Result T Halt) → IsErrAnd r (λ halt. halt ≡ why.NoMemory) → HaltsByDamage r → ⊥
+out_undamaged (Ok answer) out by = by
+out_undamaged (Err why.NoMemory) out by = by
+out_undamaged (Err (why.Disk name)) out by = by
+out_undamaged (Err (why.Read name)) out by = by
+out_undamaged (Err (why.Damaged name place)) out by = cc
+
+pub out_not_by_reader : {T : Type 0} (r : Result T Halt) → IsErrAnd r (λ halt. halt ≡ why.NoMemory) → HaltsByReader r → ⊥
+out_not_by_reader (Ok answer) out by = by
+out_not_by_reader (Err why.NoMemory) out by = by
+out_not_by_reader (Err (why.Disk name)) out by = by
+out_not_by_reader (Err (why.Read name)) out by = cc
+out_not_by_reader (Err (why.Damaged name place)) out by = by
+
+-- a halt that is handed on is the same
+pub by_damage_still : {T U : Type 0} (carried : Result U Halt) (result : Result T Halt) (halt : Halt) → carried ≡ Err halt
+    → IsErrAnd result (λ other. other ≡ halt) → HaltsByDamage result → HaltsByDamage carried
+by_damage_still carried (Ok answer) halt was is by = absurd by
+by_damage_still carried (Err why.NoMemory) halt was is by = absurd by
+by_damage_still carried (Err (why.Disk name)) halt was is by = absurd by
+by_damage_still carried (Err (why.Read name)) halt was is by = absurd by
+by_damage_still {U = U} carried (Err (why.Damaged name place)) halt was is by =
+    subst (λ (r : Result U Halt). HaltsByDamage r) (ap Err is ∙ sym was) tt
+
+pub by_reader_still : {T U : Type 0} (carried : Result U Halt) (result : Result T Halt) (halt : Halt) → carried ≡ Err halt
+    → IsErrAnd result (λ other. other ≡ halt) → HaltsByReader result → HaltsByReader carried
+by_reader_still carried (Ok answer) halt was is by = absurd by
+by_reader_still carried (Err why.NoMemory) halt was is by = absurd by
+by_reader_still carried (Err (why.Disk name)) halt was is by = absurd by
+by_reader_still carried (Err (why.Damaged name place)) halt was is by = absurd by
+by_reader_still {U = U} carried (Err (why.Read name)) halt was is by =
+    subst (λ (r : Result U Halt). HaltsByReader r) (ap Err is ∙ sym was) tt
+
 -- ---- the state behind a text
 
 exchange_of : (s : State) (text : List ℕ) (line : Line) → line_of text ≡ Some line → exchange_at s text ≡ Some (exchanged s line)
@@ -81,7 +121,8 @@ module _ {D : Type 0} (g : Ghosts D) (watched : IsWatched g) (s : State) (text :
   pub carries_nothing : {T : Type 0} (disk : D) (result : Result T Halt) → IsErr result → (HaltsByDisk result → ⊥) → HoldsState g IsStored s disk → LeadsTo g IsStored Shown IsStopped disk disk s behind result
   carries_nothing disk result err sound held = record {
     answered = on_ok_at_err result _ err;
-    no_commit = λ _. (s, refl, held.there);
+    no_commit = λ _. (s, refl, refl, held.there);
+    unread = λ _. held;
     tells = opens_again g watched IsStored Shown IsStopped shown_stays stored_exactly s disk held;
     through = rests_until g watched IsStored Shown IsStopped shown_stays stored_exactly s (history_of behind) (text_extends s text) disk held;
     stopped = λ by. absurd (sound by);
@@ -92,6 +133,7 @@ module _ {D : Type 0} (g : Ghosts D) (watched : IsWatched g) (s : State) (text :
   carries_bad disk x bad held = record {
     answered = subst (λ (t : State). HoldsState g IsStored t disk) (sym (bad_behind s text bad)) held;
     no_commit = λ out. absurd (ok_not_out x out);
+    unread = λ _. held;
     tells = opens_again g watched IsStored Shown IsStopped shown_stays stored_exactly s disk held;
     through = rests_until g watched IsStored Shown IsStopped shown_stays stored_exactly s (history_of behind) (text_extends s text) disk held;
     stopped = λ by. absurd by;
@@ -100,11 +142,12 @@ module _ {D : Type 0} (g : Ghosts D) (watched : IsWatched g) (s : State) (text :
   module _ (old new : D) where
     -- the line was carried out, or failed
     pub carries_line : {T U : Type 0} (line : Line) (carried : Result U Halt) (result : Result T Halt) → line_of text ≡ Some line → LeadsTo g IsStored Shown IsStopped old new s (state_after s line) carried
-        → (IsOk result → IsOk carried) → (HaltsByDisk result → HaltsByDisk carried) → (result ≡ Err why.NoMemory → HoldsCommits g IsStored s new) → LeadsTo g IsStored Shown IsStopped old new s behind result
-    carries_line line carried result spelled carries ok by_disk out =
+        → (IsOk result → IsOk carried) → (HaltsByDisk result → HaltsByDisk carried) → (HaltsByRead result → HaltsByRead carried) → (result ≡ Err why.NoMemory → HoldsCommits g IsStored s new) → LeadsTo g IsStored Shown IsStopped old new s behind result
+    carries_line line carried result spelled carries ok by_disk by_reading out =
         subst (λ (t : State). LeadsTo g IsStored Shown IsStopped old new s t result) (sym (line_behind s text line spelled)) (record {
           answered = on_ok_if result carried _ ok carries.answered;
           no_commit = out;
+          unread = λ by. carries.unread (by_reading by);
           tells = carries.tells;
           through = carries.through;
           stopped = λ by. carries.stopped (by_disk by);
@@ -128,7 +171,7 @@ module _ {D : Type 0} (g : Ghosts D) (watched : IsWatched g) (s : State) (text :
     ends_bad result ending ok sound bad carries =
         let held = of_ok result _ ok carries.answered in
         ends_unchanged g watched IsStored Shown IsStopped shown_stays stored_exactly old new ending s behind carries.through carries.tells
-        (behind, ap (λ (t : State). (history_of t)) (bad_behind s text bad), ap (λ (t : State). t.calls) (bad_behind s text bad), ap (λ (t : State). t.files) (bad_behind s text bad), held) (λ cuts. it_holds g watched IsStored Shown IsStopped shown_stays stored_exactly behind new held) sound
+        (behind, ap (λ (t : State). (history_of t)) (bad_behind s text bad), ap (λ (t : State). without_live t.store.layout) (bad_behind s text bad), ap (λ (t : State). t.calls) (bad_behind s text bad), ap (λ (t : State). t.files) (bad_behind s text bad), held) (λ cuts. it_holds g watched IsStored Shown IsStopped shown_stays stored_exactly behind new held) sound
 
     -- memory ran out
     pub ends_out : {T K : Type 0} (k : sink.Ghosts K) (sink_old sink_new : K) (line : List ℕ) (result : Result T Halt) (ending : Ending) → result ≡ Err why.NoMemory → Finishes k sink_old sink_new line NoMemory ending
@@ -149,3 +192,12 @@ module _ {D : Type 0} (g : Ghosts D) (watched : IsWatched g) (s : State) (text :
         (λ whole. absurd (or_cut k sink_old sink_new line (ending_at f) ending (λ (e : Ending). IsBetweenLines (culprit_of e) → ⊥) finishes (at_fault (λ (e : Ending). IsBetweenLines (culprit_of e) → ⊥) (λ never. never) (λ never. never) f) (λ never. never) whole))
         (λ cuts. absurd (or_cut k sink_old sink_new line (ending_at f) ending (λ (e : Ending). CutsAnswer e → ⊥) finishes (at_fault (λ (e : Ending). CutsAnswer e → ⊥) (λ e. cc) (λ e. cc) f) (λ e. cc) cuts))
         (λ fault. carries.stopped by)
+
+    -- a read failed, which changed nothing
+    pub ends_unread : {T K : Type 0} (k : sink.Ghosts K) (sink_old sink_new : K) (line : List ℕ) (result : Result T Halt) (ending : Ending) → HaltsByRead result → Finishes k sink_old sink_new line ReaderFault ending
+        → LeadsTo g IsStored Shown IsStopped old new s behind result → DiskEnds g IsStored Shown IsStopped ⊥ ⊥ old new (record { ending = ending; first = s; answered = []; most = behind })
+    ends_unread k sink_old sink_new line result ending by finishes carries =
+        ends_unchanged g watched IsStored Shown IsStopped shown_stays stored_exactly old new ending s behind carries.through carries.tells
+        (it_holds g watched IsStored Shown IsStopped shown_stays stored_exactly s new (carries.unread by))
+        (λ cuts. absurd (or_cut k sink_old sink_new line ReaderFault ending (λ (e : Ending). CutsAnswer e → ⊥) finishes (λ e. cc) (λ e. cc) cuts))
+        (or_cut k sink_old sink_new line ReaderFault ending (λ (e : Ending). culprit_of e ≡ TheDisk → ⊥) finishes (λ e. cc) (λ e. cc))

@@ -51,7 +51,6 @@ use Rattle.vl_recover.specs.opening.Walk.{StandingLog}
 use Rattle.vl_seglog.specs.Frames.{frames_grammar, log_header}
 use Rattle.vl_replay.specs.Reopens.{NamesUpTo, Reopens}
 use Rattle.vl_replay.specs.laws.StartLaws.{empty_stay, finds_nothing, not_there, shown_nothing, started_durable}
-use Rattle.vl_replay.specs.laws.Untabled.{in_levels, named_none}
 use Rattle.vl_replay.specs.Stopped.{AreNumberedUpTo}
 use Rattle.vl_replay.proofs.Openings.NumbersLeft.{names_left, numbers_left, reopens_by}
 use Rattle.vl_engine.specs.laws.ShownLaws.{opening_shown}
@@ -299,8 +298,6 @@ module _ (now : DiskState) (small : IsSmall now) (manifest : IsFirstManifest now
       (λ found. let fresh = opens_fresh found.opening found.opens in
       numbers_left 1 (omega arith) image names found
       (subst (λ (s : ManifestState). s.head ≤ 2) fresh (omega arith)) (subst (λ (s : ManifestState). s.next_log ≤ 2) fresh (omega arith)))
-      (λ o opens. named_none false image o.state.levels o.levels
-      (subst (λ (s : ManifestState). in_levels s.levels ≡ []) (opens_fresh o opens) refl) (opened image o opens).levels)
     where
       is_read : IsRead empty empty_disk
       is_read = started_read empty empty_disk started_empty

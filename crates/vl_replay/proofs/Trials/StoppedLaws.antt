@@ -1,12 +1,12 @@
 -- What a stop leaves of a disk: which history the image of its crash shows.
 use Rattle.std.proofs.Common.{◌≡◌, ⊎_elim, ℕ, ◌+◌, ◌<◌, ◌≤◌, List, [], ◌∷◌, ◌++◌, length, map, take, Option, Some, None, Ok, true, false, refl, sym, ◌∙◌, ap, subst, arith, length-append}
-use Rattle.std.specs.Prelude.{◌≢◌, ◌-◌, ◌/◌, nat_le}
+use Rattle.std.specs.Prelude.{◌≢◌, ◌-◌, ◌/◌, Bool, nat_le, suc}
 use Rattle.std.specs.FinMap.{get}
 use Rattle.std.specs.List.{AllByRecursion}
 use Rattle.std.specs.Option.{option_map}
 use Rattle.std.proofs.Math.Seq.{take-append-add}
 use Rattle.std.proofs.lemmas.List.{length-take, map-append, take-take, take_all, take_at}
-use Rattle.vl_disk.specs.Changes.{changed_elsewhere, changed_there}
+use Rattle.vl_disk.specs.Changes.{SameElsewhere, changed_elsewhere, changed_there}
 use Rattle.vl_disk.specs.Crash.{Image, MayLeave}
 use Rattle.vl_disk.specs.DiskState.{DiskState, File, IsLawful, appended, lengthened, synced, synced_file}
 use Rattle.vl_disk.specs.laws.Lawful.{appended_lawful}
@@ -16,12 +16,14 @@ use Rattle.vl_disk.specs.declared.name.Name.{Name}
 use Rattle.vl_disk.specs.declared.name.Name.TheVariants.{Log}
 use Rattle.vl_frame.specs.laws.RunLaws.{frame_is_some, one_front}
 use Rattle.vl_frame.specs.Runs.{HasFrame, StandsNone, item_frame}
+use Rattle.vl_layout.specs.Sources.{tables}
+use Rattle.vl_layout.specs.Store.Commits.{history_in}
 use Rattle.vl_layout.specs.Tidy.{sealed}
 use Rattle.vl_layout.specs.declared.layout.Layout.{Layout}
 use Rattle.vl_layout.specs.declared.segment.Segment.{Segment}
-use Rattle.vl_layout.specs.declared.table.Table as laid
 use Rattle.vl_manifest.specs.declared.state.ManifestState.{ManifestState}
 use Rattle.vl_mem.specs.CrashImage.{crash_image, left_of}
+use Rattle.vl_mem.specs.laws.CrashChance.{crash_without_chance}
 use Rattle.vl_mem.specs.laws.CrashLaws.{crash_left, image_left}
 use Rattle.vl_mem.specs.declared.outcome.Outcome.{Outcome}
 use Rattle.vl_mem.specs.declared.outcome.Outcome.TheVariants.{Lost, Kept, Halved}
@@ -30,6 +32,7 @@ use Rattle.vl_model.specs.Limits.{max_file_number}
 use Rattle.vl_model.specs.declared.log_frame.LogFrame.{LogFrame}
 use Rattle.vl_recover.specs.opening.Walk.{standing_log}
 use Rattle.vl_recover.specs.laws.crash.AppendLaws.{last_held, manifest_kept, needs_beside, standing_with, walked_with}
+use Rattle.vl_recover.specs.crash.Alike.{IsLeft, Spells}
 use Rattle.vl_recover.specs.crash.Held.{GoOn, HoldsStore, View, log_as_held, opening_held}
 use Rattle.vl_recover.specs.laws.opening.HeldLaws.{held_current, held_opens, held_says, needs_image, needs_led}
 use Rattle.vl_recover.specs.opening.Opening.{IsAmong, Led, Opening, Opens, Refusal, StandingLogs, led_into}
@@ -40,17 +43,18 @@ use Rattle.vl_recover.specs.opening.Walk.{StandingLog, filled, walked, with_fram
 use Rattle.vl_seglog.specs.Frames.{frame_at, frames_end, frames_grammar, log_bytes}
 use Rattle.vl_seglog.specs.LogReading.{IsLogFormat}
 use Rattle.vl_seglog.specs.laws.LogReadingLaws.{SaysFrames, reads_with_tail}
-use Rattle.vl_replay.specs.Reopens.{NamesUpTo, Reopens, commits_of, state_left}
+use Rattle.vl_replay.specs.Reopens.{NamesUpTo, Reopens, state_left}
 use Rattle.vl_replay.specs.Sequential.{State, history_of}
-use Rattle.vl_replay.specs.Stopped.{AreNumberedUpTo, Commits, GivesUpTo, append_failed, sync_failed, with_taken}
+use Rattle.vl_replay.specs.Stopped.{Commits, StopsStep, append_failed, step_failed, sync_failed, with_taken}
 use Rattle.vl_replay.specs.Stored.{IsStopped, IsStored}
-use Rattle.vl_replay.specs.laws.Untabled.{in_levels, led_nowhere, none_found}
-use Rattle.vl_engine.specs.Files.{HasTable, found_levels}
+use Rattle.vl_engine.specs.Files.{found_levels}
 use Rattle.vl_engine.specs.Held.{Base, logs_from}
-use Rattle.vl_engine.specs.laws.HeldLaws.{held_entries_show, store_held}
-use Rattle.vl_engine.specs.laws.ShownLaws.{shown_by}
+use Rattle.vl_engine.specs.laws.HeldLaws.{image_shows, sources_held, store_held}
+use Rattle.vl_engine.specs.laws.KeptLaws.{sources_kept, tables_beside_log}
+use Rattle.vl_engine.specs.laws.SegmentLaws.{not_among, other_logs}
 use Rattle.vl_engine.specs.Shown.{Shown}
 use Rattle.vl_engine.specs.Writing.{written}
+use Rattle.vl_replay.proofs.Trials.OpeningStopped.{spells_what_stands}
 use Rattle.vl_replay.proofs.Openings.NumbersLeft.{names_left, numbered_changed, numbers_left, reopens_by}
 
 -- ---- a log that ends with a part of a frame
@@ -220,7 +224,7 @@ kept_left name disk = read_left (crash_image Kept disk) (synced name disk) (reco
 
 -- ---- images of a disk that holds a state, and of one on which a commit was stopped
 
--- what is read of a state's tables, of which there are none
+-- what is read of a state's tables
 abbrev pub view_in : State → Image → View
 view_in s image = record { image = image; levels = found_levels s.store.layout.levels }
 
@@ -239,30 +243,20 @@ module _ (s : State) (disk : DiskState) (stored : IsStored s disk) where
   OpensAsHeld image =
       Opens image (Ok (opening_held stored.base.state (view_in s image) (logs_from stored.base s.store.layout) (last_number (history_of s))))
 
-  -- no table leads into a log
-  pub unled : (n : ℕ) → IsAmong (led_into (found_levels l.levels)) n → ⊥
-  unled = led_nowhere (found_levels l.levels) (none_found l.levels stored.untabled)
+  -- no table leads into the log that takes commits
+  pub unled : IsAmong (led_into (found_levels s.store.layout.levels)) s.store.layout.active.number → ⊥
+  unled among =
+      let into = stored.is_base.led l.active.number among in
+      not_among l.active.number (sealed l) stored.tidy.distinct.0 into.log into.at
 
-  -- then it shows the state's history,
-  pub held_shows : (image : Image) → OpensAsHeld image → Shown image (history_of s) (last_number (history_of s))
-  held_shows image opens =
-      let tidy = stored.tidy in
-      let base = stored.is_base in
-      shown_by image b.state (logs_from b l) (view_in s image) l.levels (sealed l) h (last_number h) refl opens
-      (subst (λ (ts : List laid.Table). AllByRecursion (HasTable image) ts) (sym stored.untabled) tt)
-      (λ n among. absurd (unled n among))
-      tidy.placed
-      (subst (λ (k : ℕ). 1 ≤ k) (sym base.keep) tidy.some)
-      (subst (λ (n : ℕ). n ≤ last_number h) (sym base.since) tidy.since)
-      tidy.last
-      (held_entries_show b l h base tidy)
-
-  -- and it has no tables.
-  pub held_bare : (image : Image) → OpensAsHeld image → (o : Opening) → Opens image (Ok o) → in_levels o.levels ≡ []
-  held_bare image opens o other =
-      let same : o ≡ opening_held b.state (view_in s image) (logs_from b l) (last_number h) =
-      ok_same {E = Refusal} o _ (single_opening image (Ok o) _ other opens) in
-      ap (λ (x : Opening). in_levels x.levels) same ∙ none_found l.levels stored.untabled
+  -- Then it shows the state's history, if a crash may leave it where that log alone was changed.
+  pub held_shows : (now : DiskState) → SameElsewhere (Log s.store.layout.active.number) disk now → (image : Image) → MayLeave now image
+      → OpensAsHeld image → Shown image (history_of s) (last_number (history_of s))
+  held_shows now same image may opens =
+      image_shows b l h stored.is_base stored.tidy now
+      (sources_kept (Log l.active.number) disk now same l (tables_beside_log l.active.number (tables l))
+      (other_logs l.active.number (sealed l) stored.tidy.distinct.0) (sources_held b l h stored.is_base disk stored.holds.files))
+      image may (view_in s image) refl opens
 
   -- the store as the disk holds it, seen through an image that a crash leaves
   abbrev image_kept : Image
@@ -301,7 +295,7 @@ module _ (before after : State) (commits : Commits IsStored before after) where
   append_failed_opens outcome = subst
       (λ (frame : List ℕ). OpensAsHeld before old stored (crash_image outcome (appended (Log number) frame 0 old))) same_frame
       (none_opens stored.base.state (view_in before (crash_image Kept old)) stored.base.before (before.store.layout.active) commits.item old
-      (its_store before old stored) (unled before old stored number) commits.has
+      (its_store before old stored) (unled before old stored) commits.has
       stored.holds.lawful (last_number (history_of before)) stored.is_base.goes outcome)
 
   -- and where its sync failed too, if what wasn't durable was lost,
@@ -309,7 +303,7 @@ module _ (before after : State) (commits : Commits IsStored before after) where
   sync_failed_lost = subst
       (λ (frame : List ℕ). OpensAsHeld before old stored (crash_image Lost (appended (Log number) frame (length frame) old))) same_frame
       (lost_opens stored.base.state (view_in before (crash_image Kept old)) stored.base.before (before.store.layout.active) commits.item old
-      (its_store before old stored) (unled before old stored number) commits.has
+      (its_store before old stored) (unled before old stored) commits.has
       stored.holds.lawful (last_number (history_of before)) stored.is_base.goes)
 
   -- or half of it.
@@ -317,7 +311,7 @@ module _ (before after : State) (commits : Commits IsStored before after) where
   sync_failed_halved = subst
       (λ (frame : List ℕ). OpensAsHeld before old stored (crash_image Halved (appended (Log number) frame (length frame) old))) same_frame
       (half_opens stored.base.state (view_in before (crash_image Kept old)) stored.base.before (before.store.layout.active) commits.item old
-      (its_store before old stored) (unled before old stored number) commits.has
+      (its_store before old stored) (unled before old stored) commits.has
       stored.holds.lawful (last_number (history_of before)) stored.is_base.goes)
 
   -- If all of it was kept, it opens as the store after.
@@ -328,81 +322,125 @@ module _ (before after : State) (commits : Commits IsStored before after) where
 
 -- ---- numbers that are left
 
-module _ (n : ℕ) (fits : n + 2 ≤ max_file_number) (s : State) (disk : DiskState) (stored : IsStored s disk)
-    (numbered : AreNumberedUpTo n disk) (gives : GivesUpTo n s.manifest) where
+nothing_changed : (name : Name) (disk : DiskState) → SameElsewhere name disk disk
+nothing_changed name disk = record { standing = λ other apart. refl; removed = λ other apart. refl }
+
+module _ (s : State) (disk : DiskState) (stored : IsStored s disk) (fits : s.files + 2 ≤ max_file_number) where
   -- An image that opens as what a disk holds of a state, whose files have small numbers, opens again.
-  pub held_reopens : (image : Image) → OpensAsHeld s disk stored image → NamesUpTo n image
-      → Reopens image (history_of s) (last_number (history_of s))
-  held_reopens image opens names =
-      reopens_by n image names (history_of s) (last_number (history_of s)) (held_shows s disk stored image opens) (λ found.
+  pub held_reopens : (now : DiskState) → SameElsewhere (Log s.store.layout.active.number) disk now → (image : Image) → MayLeave now image
+      → OpensAsHeld s disk stored image → NamesUpTo s.files image → Reopens image (history_of s) (last_number (history_of s))
+  held_reopens now elsewhere image may opens names =
+      reopens_by s.files image names (history_of s) (last_number (history_of s)) (held_shows s disk stored now elsewhere image may opens) (λ found.
       let last = last_held stored.base.state.head stored.base.before (s.store.layout.active) disk stored.holds.files.logs in
-      let within : s.store.layout.active.number ≤ n = numbered.standing (Log s.store.layout.active.number) (λ none. some_none _ (sym last.stands ∙ none)) in
+      let within : s.store.layout.active.number ≤ s.files =
+      stored.numbered.standing (Log s.store.layout.active.number) (λ none. some_none _ (sym last.stands ∙ none)) in
       let same : found.opening ≡ opening_held stored.base.state (view_in s image) (logs_from stored.base s.store.layout) (last_number (history_of s)) =
       ok_same {E = Refusal} found.opening _ (single_opening image (Ok found.opening) _ found.opens opens) in
       let state : found.opening.state ≡ stored.base.state = ap (λ (o : Opening). o.state) same in
-      numbers_left n fits image names found
-      (subst (λ (x : ManifestState). x.head ≤ n + 1) (sym state) (let from = last.from in omega (arith, from, within)))
-      (subst (λ (x : ManifestState). x.next_log ≤ n + 1) (sym (state ∙ stored.manifest)) gives))
-      (held_bare s disk stored image opens)
+      numbers_left s.files fits image names found
+      (subst (λ (x : ManifestState). x.head ≤ s.files + 1) (sym state) (let from = last.from in omega (arith, from, within)))
+      (subst (λ (x : ManifestState). x.next_log ≤ s.files + 1) (sym state) stored.next.log))
 
   -- So does the image of a disk that holds a state.
   pub stored_reopens : (outcome : Outcome) → Reopens (crash_image outcome disk) (history_of s) (last_number (history_of s))
   stored_reopens outcome =
       let may = crash_left outcome disk stored.holds.lawful in
-      held_reopens (crash_image outcome disk) (stored_opens s disk stored (crash_image outcome disk) may)
-      (names_left n disk (crash_image outcome disk) may numbered)
+      held_reopens disk (nothing_changed (Log s.store.layout.active.number) disk) (crash_image outcome disk) may
+      (stored_opens s disk stored (crash_image outcome disk) may)
+      (names_left s.files disk (crash_image outcome disk) may stored.numbered)
 
 -- And so does the image of a disk on which a commit was stopped.
-module _ (before after : State) (commits : Commits IsStored before after) (n : ℕ) (fits : n + 2 ≤ max_file_number)
-    (numbered : AreNumberedUpTo n commits.old) (gives : GivesUpTo n before.manifest) where
+module _ (before after : State) (commits : Commits IsStored before after) (fits : before.files + 2 ≤ max_file_number) where
+  abbrev log : Name
+  log = Log before.store.layout.active.number
+
+  torn_left : (taken : ℕ) (outcome : Outcome) → MayLeave (with_taken commits taken) (crash_image outcome (with_taken commits taken))
+  torn_left taken outcome = crash_left outcome (with_taken commits taken)
+      (appended_lawful commits.old commits.held.holds.lawful log commits.frame taken)
+
   -- its names are among those of the disk before
-  names_torn : (taken : ℕ) (outcome : Outcome) → NamesUpTo n (crash_image outcome (with_taken commits taken))
-  names_torn taken outcome = names_left n (with_taken commits taken) (crash_image outcome (with_taken commits taken))
-      (crash_left outcome (with_taken commits taken) (appended_lawful commits.old commits.held.holds.lawful (Log before.store.layout.active.number) commits.frame taken))
-      (numbered_changed n (Log before.store.layout.active.number) (lengthened commits.frame taken) commits.old numbered)
+  names_torn : (taken : ℕ) (outcome : Outcome) → NamesUpTo before.files (crash_image outcome (with_taken commits taken))
+  names_torn taken outcome = names_left before.files (with_taken commits taken) (crash_image outcome (with_taken commits taken))
+      (torn_left taken outcome)
+      (numbered_changed before.files log (lengthened commits.frame taken) commits.old commits.held.numbered)
+
+  torn_reopens : (taken : ℕ) (outcome : Outcome)
+      → OpensAsHeld before commits.old commits.held (crash_image outcome (with_taken commits taken))
+      → Reopens (crash_image outcome (with_taken commits taken)) (history_of before) (last_number (history_of before))
+  torn_reopens taken outcome opens = held_reopens before commits.old commits.held fits (with_taken commits taken)
+      (changed_elsewhere log commits.old (lengthened commits.frame taken)) (crash_image outcome (with_taken commits taken))
+      (torn_left taken outcome) opens (names_torn taken outcome)
 
   -- where the append failed,
   append_failed_reopens : (outcome : Outcome)
       → Reopens (crash_image outcome (with_taken commits 0)) (history_of before) (last_number (history_of before))
-  append_failed_reopens outcome = held_reopens n fits before commits.old commits.held numbered gives
-      (crash_image outcome (with_taken commits 0)) (append_failed_opens before after commits outcome) (names_torn 0 outcome)
+  append_failed_reopens outcome = torn_reopens 0 outcome (append_failed_opens before after commits outcome)
 
   -- and where the sync failed
-  sync_failed_reopens : (k : ℕ) → k + 2 ≤ max_file_number
-      → AreNumberedUpTo k (written (Log before.store.layout.active.number) commits.frame commits.old) → GivesUpTo k after.manifest
+  sync_failed_reopens : after.files + 2 ≤ max_file_number
       → (outcome : Outcome) → let s = state_left outcome true before after in
       Reopens (crash_image outcome (with_taken commits (length commits.frame))) (history_of s) (last_number (history_of s))
-  sync_failed_reopens k fits_after numbered_after gives_after Lost = held_reopens n fits before commits.old commits.held numbered gives
-      (crash_image Lost (with_taken commits (length commits.frame))) (sync_failed_lost before after commits)
-      (names_torn (length commits.frame) Lost)
-  sync_failed_reopens k fits_after numbered_after gives_after Kept =
+  sync_failed_reopens fits_after Lost = torn_reopens (length commits.frame) Lost (sync_failed_lost before after commits)
+  sync_failed_reopens fits_after Kept =
       let durable = written (Log before.store.layout.active.number) commits.frame commits.old in
       let image = crash_image Kept (with_taken commits (length commits.frame)) in
-      held_reopens k fits_after after durable commits.done numbered_after gives_after image (sync_failed_kept before after commits)
-      (names_left k durable image (kept_left (Log before.store.layout.active.number) (with_taken commits (length commits.frame))) numbered_after)
-  sync_failed_reopens k fits_after numbered_after gives_after Halved = held_reopens n fits before commits.old commits.held numbered gives
-      (crash_image Halved (with_taken commits (length commits.frame))) (sync_failed_halved before after commits)
-      (names_torn (length commits.frame) Halved)
+      let may = kept_left (Log before.store.layout.active.number) (with_taken commits (length commits.frame)) in
+      held_reopens after durable commits.done fits_after durable (nothing_changed (Log after.store.layout.active.number) durable) image may
+      (sync_failed_kept before after commits) (names_left after.files durable image may commits.done.numbered)
+  sync_failed_reopens fits_after Halved = torn_reopens (length commits.frame) Halved (sync_failed_halved before after commits)
 
--- Behind a stop in a commit the image opens again, showing the commits before it, or with it where its append passed and all
--- is kept.
-pub stopped_reopens : (before after : State) (passed : ℕ) (now : DiskState) (stopped : IsStopped before after passed now)
-    (outcome : Outcome) (n k : ℕ) → n + 2 ≤ max_file_number → k + 2 ≤ max_file_number
-    → AreNumberedUpTo n (commits_of stopped).old → GivesUpTo n before.manifest
-    → AreNumberedUpTo k (written (Log before.store.layout.active.number) (commits_of stopped).frame (commits_of stopped).old)
-    → GivesUpTo k after.manifest → let s = state_left outcome (nat_le 1 passed) before after in
+-- ---- a rotation or a flush that was stopped
+
+module _ (before after : State) (now : DiskState) (stops : StopsStep Shown before after now) (lawful : IsLawful now)
+    (fits : after.files + 2 ≤ max_file_number) where
+  -- whatever a crash leaves opens showing the commits before
+  step_reopens : (outcome : Outcome) → Reopens (crash_image outcome now) (history_of before) (last_number (history_of before))
+  step_reopens outcome =
+      let image = crash_image outcome now in
+      let may = crash_left outcome now lawful in
+      let left : IsLeft now image = record {
+        left = may;
+        no_chance = crash_without_chance Spells spells_what_stands outcome now stops.torn;
+      } in
+      let names = names_left after.files now image may stops.numbered in
+      reopens_by after.files image names (history_of before) (last_number (history_of before)) (stops.left image left) (λ found.
+      let next = stops.next image found left in
+      numbers_left after.files fits image names found (stops.head image found left) next.log)
+
+-- which are those of both states
+same_left : (before after : State) → after.store.commits ≡ before.store.commits → (outcome : Outcome) (passed : Bool)
+    → history_of before ≡ history_of (state_left outcome passed before after)
+same_left before after same Lost passed = refl
+same_left before after same Kept false = refl
+same_left before after same Kept true = ap history_in (sym same)
+same_left before after same Halved passed = refl
+
+-- ---- any line
+
+-- Behind a stop the image opens again, showing the commits before the line, or with that of a commit whose append passed where all
+-- is kept. `first` says whether the line's first call passed.
+pub stopped_reopens : (before after : State) (passed made : ℕ) (now : DiskState) → IsStopped before after passed made now → IsLawful now
+    → before.files + 2 ≤ max_file_number → after.files + 2 ≤ max_file_number
+    → (outcome : Outcome) (first : Bool) → (made ≡ suc passed → first ≡ nat_le 1 passed) → let s = state_left outcome first before after in
     Reopens (crash_image outcome now) (history_of s) (last_number (history_of s))
-stopped_reopens before after passed now (append_failed commits none is) outcome n k fits fits_after numbered gives numbered_after gives_after =
-    subst (λ (m : ℕ). let s = state_left outcome (nat_le 1 m) before after in Reopens (crash_image outcome now) (history_of s) (last_number (history_of s))) (sym none)
+stopped_reopens before after passed made now (append_failed commits none one is) lawful fits fits_after outcome first passes =
+    let first_is : first ≡ false = passes (one ∙ ap suc (sym none)) ∙ ap (nat_le 1) none in
+    subst (λ (b : Bool). let s = state_left outcome b before after in Reopens (crash_image outcome now) (history_of s) (last_number (history_of s)))
+    (sym first_is)
     (subst (λ (s : State). Reopens (crash_image outcome now) (history_of s) (last_number (history_of s))) (of outcome)
     (subst (λ (d : DiskState). Reopens (crash_image outcome d) (history_of before) (last_number (history_of before))) (sym is)
-    (append_failed_reopens before after commits n fits numbered gives outcome)))
+    (append_failed_reopens before after commits fits outcome)))
   where
     of : (o : Outcome) → before ≡ state_left o false before after
     of Lost = refl
     of Kept = refl
     of Halved = refl
-stopped_reopens before after passed now (sync_failed commits one is) outcome n k fits fits_after numbered gives numbered_after gives_after =
-    subst (λ (m : ℕ). let s = state_left outcome (nat_le 1 m) before after in Reopens (crash_image outcome now) (history_of s) (last_number (history_of s))) (sym one)
-    (subst (λ (d : DiskState). let s = state_left outcome true before after in Reopens (crash_image outcome d) (history_of s) (last_number (history_of s))) (sym is)
-    (sync_failed_reopens before after commits n fits numbered gives k fits_after numbered_after gives_after outcome))
+stopped_reopens before after passed made now (sync_failed commits one two is) lawful fits fits_after outcome first passes =
+    let first_is : first ≡ true = passes (two ∙ ap suc (sym one)) ∙ ap (nat_le 1) one in
+    subst (λ (b : Bool). let s = state_left outcome b before after in Reopens (crash_image outcome now) (history_of s) (last_number (history_of s)))
+    (sym first_is)
+    (subst (λ (d : DiskState). let s = state_left outcome true before after in Reopens (crash_image outcome d) (history_of s) (last_number (history_of s)))
+    (sym is) (sync_failed_reopens before after commits fits fits_after outcome))
+stopped_reopens before after passed made now (step_failed stops) lawful fits fits_after outcome first passes =
+    subst (λ (k : History). Reopens (crash_image outcome now) k (last_number k)) (same_left before after stops.same outcome first)
+    (step_reopens before after now stops lawful fits_after outcome)

@@ -6,9 +6,9 @@ use Rattle.vl_disk.specs.Faults.{Rose}
 use Rattle.vl_io.specs.Sink.{Takes}
 use Rattle.vl_io.specs.declared.sink.Sink as sink
 use Rattle.vl_mem.specs.CrashImage.{crash_image}
-use Rattle.vl_mem.specs.MemDisk.{state_of}
-use Rattle.vl_mem.specs.declared.mem_disk.MemDisk.{MemDisk}
+use Rattle.vl_mem.specs.StoppingDisk.{state_on}
 use Rattle.vl_mem.specs.declared.outcome.Outcome.{Outcome}
+use Rattle.vl_mem.specs.declared.stopping_disk.StoppingDisk.{StoppingDisk}
 use Rattle.vl_model.specs.History.{last_number}
 use Rattle.vl_recover.specs.declared.fails.OpenError.{OpenError}
 use Rattle.vl_recover.specs.declared.fails.OpenError.TheVariants as why
@@ -117,14 +117,14 @@ of_ended k old new reason result P (how, for, (line, line_is, finishes)) each cu
 -- ---- what the run came to
 
 -- the opening met the stop
-pub stopped_opening : (stop : ℕ) (input : List ℕ) (disk : MemDisk) (held left : Option (List ℕ)) → stop < begun.calls → LeavesToOpen disk (λ _. begun)
+pub stopped_opening : (stop : ℕ) (input : List ℕ) (disk : StoppingDisk) (held left : Option (List ℕ)) → stop < begun.calls → LeavesToOpen disk (λ _. begun)
     → (rest : List ℕ) → left ≡ Some rest → ComesTo (trial_of stop input) held held left disk Stopped
 stopped_opening stop input disk held left below leaves rest told = (
   (λ o. inl below),
   (rest, told),
   record {
     taken = λ o. subst (λ (es : List Exchange). Takes held held (answers_text es)) (sym (none_answered o)) (takes_nothing held);
-    leaves = λ o. subst (λ (s : State). Reopens (crash_image o (state_of disk)) (history_of s) (last_number (history_of s))) (sym (nothing_left o)) (leaves o);
+    leaves = λ o. subst (λ (s : State). Reopens (crash_image o (state_on disk)) (history_of s) (last_number (history_of s))) (sym (nothing_left o)) (leaves o);
   },
 )
   where
@@ -140,7 +140,7 @@ stopped_opening stop input disk held left below leaves rest told = (
         (chosen_false (nat_le begun.calls stop) (at_stop stop (exchanges_unstopped (trial_of stop input o))) None fails)
         ∙ ap (last_state begun) (none_answered o)
 
-module _ (stop : ℕ) (disk : MemDisk) where
+module _ (stop : ℕ) (disk : StoppingDisk) where
   pub stops_by_fault : (reason : OpenError) → IsFault (Some reason) → StopsOpening stop reason disk → (stop < begun.calls) × LeavesToOpen disk (λ _. begun)
   stops_by_fault why.NotAStore by stops = absurd by
   stops_by_fault (why.NewerFormat format) by stops = absurd by
@@ -159,7 +159,7 @@ module _ (stop : ℕ) (disk : MemDisk) where
 
 -- memory ran out before a line was read
 module _ {K : Type 0} (k : sink.Ghosts K) (old new : K) (result : Ending) (finishes : Finishes k old new no_memory_line NoMemory result) where
-  pub comes_nowhere : (t : Outcome → Trial) (left : Option (List ℕ)) (disk : MemDisk) → ComesTo t (k.held old) (k.held new) left disk result
+  pub comes_nowhere : (t : Outcome → Trial) (left : Option (List ℕ)) (disk : StoppingDisk) → ComesTo t (k.held old) (k.held new) left disk result
   comes_nowhere t left disk = ⊎_elim
       (λ (whole : (result ≡ NoMemory) × (finishes.printed ≡ no_memory_line) × (k.faults new ≡ k.faults old)).
       subst (λ (e : Ending). ComesTo t (k.held old) (k.held new) left disk e) (sym whole.0)
@@ -170,7 +170,7 @@ module _ {K : Type 0} (k : sink.Ghosts K) (old new : K) (result : Ending) (finis
       finishes.how
 
 -- the trial ended with the run
-pub ends_so : (t : Outcome → Trial) (held held' left : Option (List ℕ)) (disk : MemDisk) (ending : Ending) → ComesTo t held held' left disk ending
+pub ends_so : (t : Outcome → Trial) (held held' left : Option (List ℕ)) (disk : StoppingDisk) (ending : Ending) → ComesTo t held held' left disk ending
     → ending ≢ Complete → ending ≢ Stopped → (o : Outcome) → EndsTrial (t o) held held' left ending
 ends_so t held held' left disk Complete comes whole silent o = absurd (whole refl)
 ends_so t held held' left disk BadLine comes whole silent o = comes o

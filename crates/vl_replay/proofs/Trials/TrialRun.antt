@@ -2,24 +2,26 @@
 use Rattle.std.proofs.Common.{◌≡◌, ⊎_elim, inr, ℕ, zero, suc, min, ◌+◌, ◌-◌, ◌^◌, ◌<◌, ◌≤◌, Bool, List, [], ◌∷◌, ◌++◌, length, take, Some, None, refl, sym, ◌∙◌, ap, subst, arith, append-nil}
 use Rattle.std.specs.Prelude.{Option, nat_le}
 use Rattle.std.specs.List.{AllByRecursion, slice_get}
+use Rattle.std.proofs.lemmas.Bool.{cases_lt}
 use Rattle.std.proofs.lemmas.Bool.Decides.{nat_tests}
 use Rattle.std.proofs.lemmas.List.{take_all}
 use Rattle.vl_disk.specs.DiskState.{DiskState}
-use Rattle.vl_disk.specs.Faults.{Rose, after_calls}
+use Rattle.vl_disk.specs.Faults.{Rose}
 use Rattle.vl_io.specs.Sink.{Takes}
 use Rattle.vl_mem.specs.CrashImage.{crash_image}
-use Rattle.vl_mem.specs.FailsPast.{FailsPast, counted_past}
-use Rattle.vl_mem.specs.MemDisk.{faults_of, state_of}
-use Rattle.vl_mem.specs.contracts.mem_disk.MemDiskWatched.TheImpl as memory
-use Rattle.vl_mem.specs.declared.mem_disk.MemDisk.{MemDisk}
+use Rattle.vl_mem.specs.Event.{told_lawful}
+use Rattle.vl_mem.specs.FailsPast.{counted_past}
+use Rattle.vl_mem.specs.StoppingDisk.{StopsPast, calls_on, faults_on, state_on}
+use Rattle.vl_mem.specs.contracts.stopping_disk.StoppingDiskWatched.TheImpl as memory
 use Rattle.vl_mem.specs.declared.outcome.Outcome.{Outcome}
+use Rattle.vl_mem.specs.declared.stopping_disk.StoppingDisk.{StoppingDisk}
 use Rattle.vl_model.specs.History.{History, last_number}
 use Rattle.vl_model.specs.Limits.{max_file_number}
 use Rattle.vl_script.specs.Script.{lines_of}
 use Rattle.vl_replay.specs.Durable.{DiskEnds, DiskEndsFrom, GoesAlong, HoldsCounted, StopsWithin}
 use Rattle.vl_replay.specs.Endings.{CountsFaultsOf, EndsAs, TheDisk, bad_line, last_line, no_memory_line, read_fault_line}
 use Rattle.vl_replay.specs.Exchanges.{Exchange, answers_text, last_state}
-use Rattle.vl_replay.specs.Reopens.{Reopens, commits_of, state_left}
+use Rattle.vl_replay.specs.Reopens.{Reopens, state_left}
 use Rattle.vl_replay.specs.Runs.{EndsRun, Outside, Script, course, exchanges, script_of}
 use Rattle.vl_replay.specs.Sequential.{State, history_of}
 use Rattle.vl_replay.specs.Stored.{IsStopped, IsStored}
@@ -30,7 +32,7 @@ use Rattle.vl_replay.specs.declared.ending.Ending.{Ending}
 use Rattle.vl_replay.specs.declared.ending.Ending.TheVariants.{Complete, BadLine, BadWords, DiskFault, ReaderFault, Refused, Damaged, NoMemory, ReadFault, WriteFault, AnswerCut, Stopped}
 use Rattle.vl_replay.specs.declared.ending.OnFault.TheVariants.{Stop}
 use Rattle.vl_replay.proofs.Trials.StoppedLaws.{stopped_reopens, stored_reopens}
-use Rattle.vl_replay.proofs.Trials.TrialLines.{Passes, all_next, before_all, before_front, before_get, before_met, chosen_true, is_within, last_files, last_next, last_within, none_next}
+use Rattle.vl_replay.proofs.Trials.TrialLines.{HasFewFiles, Passes, all_next, before_all, before_front, before_get, before_met, calls_counted, chosen_true, is_within, last_few, last_next, last_within, next_files, none_next}
 
 some_state : (a b : DiskState) → Some a ≡ Some b → a ≡ b
 some_state a b e = cc
@@ -38,44 +40,39 @@ some_state a b e = cc
 none_some : {X : Type 0} (x : X) → None ≡ Some x → ⊥
 none_some x e = cc
 
--- how many changing calls are counted
-calls_counted : (n count : ℕ) → count ≤ 2 ^ 64 - 1 → after_calls n count ≡ min (count + n) (2 ^ 64 - 1)
-calls_counted zero count small = omega (arith, small)
-calls_counted (suc n) count small = let so_far = calls_counted n count small in omega (arith, so_far, small)
-
 some_left : (a b : ℕ) → nat_le (a + 1) (a + b) ≡ nat_le 1 b
 some_left a b = grind (arith, nat_tests)
 
 -- ---- disks
 
 -- what a crash leaves of a disk that holds the commits of a state opens showing the last of them
-pub holds_reopens : (s : State) (disk : MemDisk) → HoldsCounted memory.ghosts IsStored s disk → s.files + 2 ≤ max_file_number
-    → (outcome : Outcome) → Reopens (crash_image outcome (state_of disk)) (history_of s) (last_number (history_of s))
-holds_reopens s disk (u, history, calls, files, held) fits outcome =
+pub holds_reopens : (s : State) (disk : StoppingDisk) → HoldsCounted memory.ghosts IsStored s disk → s.files + 2 ≤ max_file_number
+    → (outcome : Outcome) → Reopens (crash_image outcome (state_on disk)) (history_of s) (last_number (history_of s))
+holds_reopens s disk (u, history, layout, calls, files, held) fits outcome =
     let (state, told, stored) = held.there in
-    let here : state_of disk ≡ state = some_state (state_of disk) state told in
-    let again = stored_reopens u.files (omega (arith, files, fits)) u state stored stored.numbered stored.next outcome in
-    subst (λ (h : History). Reopens (crash_image outcome (state_of disk)) h (last_number h)) history
+    let here : state_on disk ≡ state = some_state (state_on disk) state told in
+    let again = stored_reopens u state stored (omega (arith, files, fits)) outcome in
+    subst (λ (h : History). Reopens (crash_image outcome (state_on disk)) h (last_number h)) history
     (subst (λ (d : DiskState). Reopens (crash_image outcome d) (history_of u) (last_number (history_of u))) (sym here) again)
 
 module _ (stop : ℕ) where
   -- behind each answered line of a run without a fault no more calls were made than pass
-  passes_all : (es : List Exchange) (disk : MemDisk) (s : State) (new : MemDisk) (most : State)
-      → GoesAlong memory.ghosts IsStored Shown new most disk s es → FailsPast disk (Some stop) → faults_of disk ≡ 0
+  passes_all : (es : List Exchange) (disk : StoppingDisk) (s : State) (new : StoppingDisk) (most : State)
+      → GoesAlong memory.ghosts IsStored Shown new most disk s es → StopsPast disk (Some stop) → faults_on disk ≡ 0
       → AllByRecursion (Passes stop) es
   passes_all [] disk s new most along past sound = tt
   passes_all (e ∷ later) disk s new most (passed, line, rest) past sound =
       let past_then = line.before.time.as_planned (Some stop) past in
-      let sound_then : faults_of passed ≡ 0 = line.steady ∙ sound in
-      let (u, history, calls, files, held) = line.held in
-      let counts = counted_past passed (Some stop) past_then in (
+      let sound_then : faults_on passed ≡ 0 = line.steady ∙ sound in
+      let (u, history, layout, calls, files, held) = line.held in
+      let counts = counted_past passed.disk (Some stop) past_then in (
         omega (arith, counts.at_least, sound_then, held.calls, calls),
         passes_all later passed e.after new most rest past_then sound_then,
       )
 
 -- ---- the run
 
-module _ (stop : ℕ) (small : stop < 2 ^ 64 - 3) (input : List ℕ) (stands : State → Type 0) (old new : Outside MemDisk) (trial : IsOnTrial stop stands old.disk) where
+module _ (stop : ℕ) (small : stop < 2 ^ 32) (input : List ℕ) (stands : State → Type 0) (old new : Outside StoppingDisk) (trial : IsOnTrial stop stands old.disk) where
   abbrev script : Script
   script = script_of begun 0 input
 
@@ -110,17 +107,20 @@ module _ (stop : ℕ) (small : stop < 2 ^ 64 - 3) (input : List ℕ) (stands : S
     all : AllByRecursion (Passes stop) (take m es)
     all = passes_all stop (take m es) old.disk begun new.disk most ends.line_by_line trial.past trial.sound
 
-    past : FailsPast new.disk (Some stop)
+    past : StopsPast new.disk (Some stop)
     past = ends.crash_during.time.as_planned (Some stop) trial.past
 
     within : last.calls ≤ stop
     within = last_within stop (take m es) begun trial.opened all
 
+    few : HasFewFiles last
+    few = last_few stop (omega (arith, small)) (lines_of input) begun m (omega arith) trial.opened all
+
     last_fits : last.files + 2 ≤ max_file_number
-    last_fits = omega (arith, last_files (lines_of input) begun m)
+    last_fits = omega (arith, few, within, small)
 
     most_fits : most.files + 2 ≤ max_file_number
-    most_fits = omega (arith, last_files (lines_of input) begun (suc m))
+    most_fits = omega (arith, next_files (lines_of input) begun m, few, within, small)
 
     -- the first lines that were answered, and the piece behind them
     takes_first : (o : Outcome) (piece : List ℕ) → run.ends.piece ≡ piece → TakesFirst (t o) old.held new.held m piece
@@ -166,29 +166,41 @@ module _ (stop : ℕ) (small : stop < 2 ^ 64 - 3) (input : List ℕ) (stands : S
           ∙ ap (last_state begun) (all_answered o ∙ sym every)
 
     -- where a line met the stop
-    module _ (stops : StopsWithin memory.ghosts IsStopped last most old.disk new.disk) (rose : Rose (faults_of old.disk) (faults_of new.disk)) where
-      failed : 1 ≤ faults_of new.disk
+    module _ (stops : StopsWithin memory.ghosts IsStopped last most old.disk new.disk) (rose : Rose (faults_on old.disk) (faults_on new.disk)) where
+      failed : 1 ≤ faults_on new.disk
       failed = omega (arith, rose, trial.sound)
 
       small_last : last.calls ≤ 2 ^ 64 - 1
       small_last = omega (arith, within, small)
 
-      -- as many of its calls passed as were left
-      left : last.calls + stops.passed ≡ stop
-      left =
-          let some = stops.has_passed in
-          let before = (counted_past some.mid (Some stop) (some.as_planned (Some stop) trial.past)).at_least in
-          let at_most : last.calls + stops.passed ≤ stop =
-          omega (arith, before, some.counted, some.steady, trial.sound, small, calls_counted stops.passed last.calls small_last) in
-          let exactly = (counted_past new.disk (Some stop) past).exactly
-          (omega (arith, at_most, small, stops.calls, calls_counted (suc stops.passed) last.calls small_last)) in
-          omega (arith, exactly, failed, at_most, small, stops.calls, calls_counted (suc stops.passed) last.calls small_last)
+      made_counted : calls_on new.disk ≡ min (last.calls + stops.made) (2 ^ 64 - 1)
+      made_counted = stops.calls ∙ calls_counted stops.made last.calls small_last
 
+      all_counted : most.calls ≡ min (last.calls + stops.all) (2 ^ 64 - 1)
+      all_counted = stops.all_counted ∙ calls_counted stops.all last.calls small_last
+
+      -- its calls are more than pass
       met : stop < most.calls
-      met = omega (arith, left, small, stops.more, stops.all_counted, calls_counted stops.all last.calls small_last)
+      met = ⊎_elim
+          (λ (few_made : last.calls + stops.made < 2 ^ 64 - 1).
+          let exactly = (counted_past new.disk.disk (Some stop) past).exactly (omega (arith, made_counted, few_made)) in
+          omega (arith, exactly, failed, made_counted, few_made, all_counted, stops.most, small))
+          (λ (many : 2 ^ 64 - 1 ≤ last.calls + stops.made). omega (arith, many, all_counted, stops.most, small))
+          (cases_lt (last.calls + stops.made) (2 ^ 64 - 1))
 
-      passed_is : nat_le (last.calls + 1) stop ≡ nat_le 1 stops.passed
-      passed_is = ap (nat_le (last.calls + 1)) (sym left) ∙ some_left last.calls stops.passed
+      -- Of a commit that was stopped as many calls passed as were left.
+      module _ (next : stops.made ≡ suc stops.passed) where
+        left : last.calls + stops.passed ≡ stop
+        left =
+            let some = stops.has_passed in
+            let before = (counted_past some.mid.disk (Some stop) (some.as_planned (Some stop) trial.past)).at_least in
+            let at_most : last.calls + stops.passed ≤ stop =
+            omega (arith, before, some.counted, some.steady, trial.sound, small, calls_counted stops.passed last.calls small_last) in
+            let exactly = (counted_past new.disk.disk (Some stop) past).exactly (omega (arith, at_most, small, made_counted, next)) in
+            omega (arith, exactly, failed, at_most, small, made_counted, next)
+
+        passed_is : nat_le (last.calls + 1) stop ≡ nat_le 1 stops.passed
+        passed_is = ap (nat_le (last.calls + 1)) (sym left) ∙ some_left last.calls stops.passed
 
       line : (e : Exchange) × (slice_get es m ≡ Some e) × (most ≡ e.after)
       line = of (slice_get es m) refl
@@ -206,39 +218,38 @@ module _ (stop : ℕ) (small : stop < 2 ^ 64 - 3) (input : List ℕ) (stands : S
       stop_answered : (o : Outcome) → take m es ≡ answered_lines (t o)
       stop_answered o = sym (answered_is o ∙ parted.0)
 
-      stop_state : (o : Outcome) → reopened_state (t o) ≡ state_left o (nat_le 1 stops.passed) last most
+      stop_state : (o : Outcome) → reopened_state (t o) ≡ state_left o (nat_le (last.calls + 1) stop) last most
       stop_state o =
           ap (state_behind_stop o stop (last_state begun (answered_lines (t o)))) (stopped_is o ∙ parted.1)
           ∙ ap (λ (xs : List Exchange). state_behind_stop o stop (last_state begun xs) (Some line.0)) (sym (stop_answered o))
           ∙ ap (λ (s : State). state_left o (nat_le (last.calls + 1) stop) last s) (sym line.2)
-          ∙ ap (λ (b : Bool). state_left o b last most) passed_is
 
-      stop_reopens : (o : Outcome) → Reopens (crash_image o (state_of new.disk)) (history_of (reopened_state (t o))) (last_number (history_of (reopened_state (t o))))
+      stop_reopens : (o : Outcome) → Reopens (crash_image o (state_on new.disk)) (history_of (reopened_state (t o))) (last_number (history_of (reopened_state (t o))))
       stop_reopens o =
-          let commits = commits_of stops.stopped in
-          let here : state_of new.disk ≡ stops.now = some_state (state_of new.disk) stops.now stops.told in
-          let again = stopped_reopens last most stops.passed stops.now stops.stopped o last.files most.files last_fits most_fits
-          commits.held.numbered commits.held.next commits.done.numbered commits.done.next in
-          subst (λ (s : State). Reopens (crash_image o (state_of new.disk)) (history_of s) (last_number (history_of s))) (sym (stop_state o))
-          (subst (λ (d : DiskState). Reopens (crash_image o d) (history_of (state_left o (nat_le 1 stops.passed) last most))
-          (last_number (history_of (state_left o (nat_le 1 stops.passed) last most)))) (sym here) again)
+          let here : state_on new.disk ≡ stops.now = some_state (state_on new.disk) stops.now stops.told in
+          let lawful = told_lawful new.disk.disk.events.items new.disk.disk.kept.sound stops.now stops.told in
+          let again = stopped_reopens last most stops.passed stops.made stops.now stops.stopped lawful last_fits most_fits o
+          (nat_le (last.calls + 1) stop) passed_is in
+          subst (λ (s : State). Reopens (crash_image o (state_on new.disk)) (history_of s) (last_number (history_of s))) (sym (stop_state o))
+          (subst (λ (d : DiskState). Reopens (crash_image o d) (history_of (state_left o (nat_le (last.calls + 1) stop) last most))
+          (last_number (history_of (state_left o (nat_le (last.calls + 1) stop) last most)))) (sym here) again)
 
   -- ---- by its ending
 
-  pub comes : (ending : Ending) → Run ending → EndsAs Stop (Some ending) → CountsFaultsOf TheDisk (Some ending) (faults_of old.disk) (faults_of new.disk)
-      → (rest : List ℕ) → new.left ≡ Some rest → ComesTo t old.held new.held new.left new.disk ending
-  comes Complete run as_meant counts rest told =
+  pub comes : (ending : Ending) → Run ending → EndsAs Stop (Some ending) → CountsFaultsOf TheDisk (Some ending) (faults_on old.disk) (faults_on new.disk)
+      → (ending ≡ ReaderFault → ⊥) → (rest : List ℕ) → new.left ≡ Some rest → ComesTo t old.held new.held new.left new.disk ending
+  comes Complete run as_meant counts unread rest told =
       let ((whole, lines, left), none) = run.ends.puts in (
         (λ o. inr (sym whole ∙ lines)),
         left,
         record {
           taken = λ o. takes_all Complete run o (every Complete run whole ∙ sym (all_answered Complete run whole o)) none;
-          leaves = λ o. subst (λ (s : State). Reopens (crash_image o (state_of new.disk)) (history_of s) (last_number (history_of s)))
+          leaves = λ o. subst (λ (s : State). Reopens (crash_image o (state_on new.disk)) (history_of s) (last_number (history_of s)))
               (sym (end_state Complete run whole o))
               (holds_reopens (last Complete run) new.disk ((ends Complete run).between_lines tt) (last_fits Complete run) o);
         },
       )
-  comes BadLine run as_meant counts rest told =
+  comes BadLine run as_meant counts unread rest told =
       let ((whole, more), text) = run.ends.puts in
       λ o. (
         record { no_stop = not_met BadLine run whole o; bad = omega (arith, whole, more) },
@@ -247,26 +258,26 @@ module _ (stop : ℕ) (small : stop < 2 ^ 64 - 3) (input : List ℕ) (stands : S
             ∙ ap (λ (p : List ℕ). answers_text es ++ p) (text ∙ ap bad_line (omega (arith, whole))))
             run.taken,
       )
-  comes BadWords run as_meant counts rest told = absurd run.ends.puts.0
-  comes DiskFault run as_meant counts rest told = absurd (not_so (as_meant refl))
+  comes BadWords run as_meant counts unread rest told = absurd run.ends.puts.0
+  comes DiskFault run as_meant counts unread rest told = absurd (not_so (as_meant refl))
     where
       not_so : ◌≡◌ {A = Option Ending} (Some DiskFault) (Some Stopped) → ⊥
       not_so e = cc
-  comes ReaderFault run as_meant counts rest told = absurd run.ends.puts.0
-  comes (Refused refusal) run as_meant counts rest told = absurd run.ends.puts.0
-  comes (Damaged name place) run as_meant counts rest told = absurd run.ends.puts.0
-  comes NoMemory run as_meant counts rest told = λ o. (run.answered, takes_first NoMemory run o no_memory_line run.ends.puts.1)
-  comes ReadFault run as_meant counts rest told = λ o. (run.answered, takes_first ReadFault run o read_fault_line run.ends.puts.1)
-  comes WriteFault run as_meant counts rest told =
+  comes ReaderFault run as_meant counts unread rest told = absurd (unread refl)
+  comes (Refused refusal) run as_meant counts unread rest told = absurd run.ends.puts.0
+  comes (Damaged name place) run as_meant counts unread rest told = absurd run.ends.puts.0
+  comes NoMemory run as_meant counts unread rest told = λ o. (run.answered, takes_first NoMemory run o no_memory_line run.ends.puts.1)
+  comes ReadFault run as_meant counts unread rest told = λ o. (run.answered, takes_first ReadFault run o read_fault_line run.ends.puts.1)
+  comes WriteFault run as_meant counts unread rest told =
       let (other, line, is, stops, front) = run.ends.puts in
       let number : 0 + run.answered + 1 ≡ run.answered + 1 = omega arith in
       let said = subst (λ (n : ℕ). last_line n other ≡ Some line) number is in
       λ o. (run.answered, run.ends.piece, inr (other, line, said, front), takes_first WriteFault run o run.ends.piece refl)
-  comes AnswerCut run as_meant counts rest told =
+  comes AnswerCut run as_meant counts unread rest told =
       let (e, is, front) = run.ends.puts in
-      let (u, history, calls, files, held) = (ends AnswerCut run).answer_cut refl in
-      let sound : faults_of new.disk ≡ faults_of old.disk = counts.steady (λ by. cc) (λ whole. cc) in
-      let counted = counted_past new.disk (Some stop) (past AnswerCut run) in
+      let (u, history, layout, calls, files, held) = (ends AnswerCut run).answer_cut refl in
+      let sound : faults_on new.disk ≡ faults_on old.disk = counts.steady (λ by. cc) (λ whole. cc) in
+      let counted = counted_past new.disk.disk (Some stop) (past AnswerCut run) in
       let passes : Passes stop e = omega (arith, counted.at_least, sound, trial.sound, held.calls, calls, ap (λ (s : State). s.calls) (last_next es begun run.answered e is)) in
       λ o. (
         run.answered,
@@ -279,7 +290,7 @@ module _ (stop : ℕ) (small : stop < 2 ^ 64 - 3) (input : List ℕ) (stands : S
         ),
         takes_first AnswerCut run o run.ends.piece refl,
       )
-  comes Stopped run as_meant counts rest told = ⊎_elim
+  comes Stopped run as_meant counts unread rest told = ⊎_elim
       (λ (never : ⊥). absurd never)
       (λ (stops : StopsWithin memory.ghosts IsStopped (last Stopped run) (most Stopped run) old.disk new.disk).
       let rose = counts.rose refl in (

@@ -23,7 +23,7 @@ use Rattle.vl_layout.specs.Store.Commits.{AreProper, Changes, history_in, value_
 use Rattle.vl_layout.specs.Store.Dispatch.{drop_by}
 use Rattle.vl_layout.specs.Store.Lines.{Answer, Invalid, Name, Number, Rows}
 use Rattle.vl_layout.specs.Store.Proper.{HasRisingWrites, IsProper}
-use Rattle.vl_layout.specs.Store.Reading.{a_transaction, a_view, begin_as, begun_by, commit_by, committed_by, get_by, get_own, is_small_enough, noted_scan, rows_told, ruled, scan_by, scan_of, scanned_rows, write_by}
+use Rattle.vl_layout.specs.Store.Reading.{a_transaction, a_view, begin_as, begun_by, commit_by, committed_by, get_at_by, get_by, get_own, is_small_enough, noted_scan, rows_told, ruled, scan_by, scan_of, scanned_rows, write_by}
 use Rattle.vl_layout.specs.Store.Things.{Thing, ATransaction, AView, AJob, APass, State, Step, named, only, thing_in, thing_of, without_name}
 use Rattle.vl_layout.specs.Tickets.{free_ticket, tickets_of}
 use Rattle.vl_layout.specs.laws.CommitsLaws.{conflict_in-is, rows_in-are, value_in-is}
@@ -175,6 +175,13 @@ module _ (s : State) (sound : IsSound s) where
   get_stays name tell key (Some (AView v b)) is = either (is_key_length (length key)) _ _ (same_things _ refl refl) (same_things _ refl refl)
   get_stays name tell key (Some (ATransaction t b)) is =
       either (is_key_length (length key)) _ _ (own_stays name tell t b key (find key_cmp key t.writes) (found_sound h' s.things name (ATransaction t b) sound.things is)) (same_things _ refl refl)
+
+  pub get_at_stays : (name : Name) (key : List ℕ) (number : ℕ) (o : Option Thing) → Stays (get_at_by s name key number o)
+  get_at_stays name key number None = same_things _ refl refl
+  get_at_stays name key number (Some (AJob job made)) = same_things _ refl refl
+  get_at_stays name key number (Some (APass pass batch)) = same_things _ refl refl
+  get_at_stays name key number (Some (AView v b)) = same_things _ refl refl
+  get_at_stays name key number (Some (ATransaction t b)) = same_things _ refl refl
 
   pub scan_stays : (way : Way) (name : Name) (low high : List ℕ) (limit : ℕ) (o : Option Thing) → thing_in s.things name ≡ o → Stays (scan_by s way name low high limit o)
   scan_stays way name low high limit None is = same_things _ refl refl

@@ -20,7 +20,7 @@ use Rattle.vl_layout.specs.Rulings.Commit.{CommitAnswer, Transaction, commit_che
 use Rattle.vl_layout.specs.Store.Commits.{Changes, Commits, conflict_in, history_in, with_changes}
 use Rattle.vl_layout.specs.Store.Dispatch.{drop_by}
 use Rattle.vl_layout.specs.Store.Lines.{Answer, Name, Number}
-use Rattle.vl_layout.specs.Store.Reading.{begin_as, begun_by, commit_by, committed_by, get_by, get_own, is_small_enough, scan_by, write_by}
+use Rattle.vl_layout.specs.Store.Reading.{begin_as, begun_by, commit_by, committed_by, get_at_by, get_by, get_own, is_small_enough, scan_by, write_by}
 use Rattle.vl_layout.specs.Store.Things.{Thing, ATransaction, AView, AJob, APass, State, Step}
 use Rattle.vl_layout.specs.Tickets.{free_ticket, tickets_of}
 use Rattle.vl_layout.specs.declared.file_name.FileName.{FileName}
@@ -95,6 +95,13 @@ module _ (s : State) where
   get_keeps name tell key (Some (AView v b)) = either (is_key_length (length key)) _ _ (kept_alike _ refl refl refl) (kept_alike _ refl refl refl)
   get_keeps name tell key (Some (ATransaction t b)) =
       either (is_key_length (length key)) _ _ (own_keeps name tell t b key (find key_cmp key t.writes)) (kept_alike _ refl refl refl)
+
+  pub get_at_keeps : (name : Name) (key : List ℕ) (number : ℕ) (o : Option Thing) → Keeps (get_at_by s name key number o)
+  get_at_keeps name key number None = kept_alike _ refl refl refl
+  get_at_keeps name key number (Some (AJob job made)) = kept_alike _ refl refl refl
+  get_at_keeps name key number (Some (APass pass batch)) = kept_alike _ refl refl refl
+  get_at_keeps name key number (Some (AView v b)) = kept_alike _ refl refl refl
+  get_at_keeps name key number (Some (ATransaction t b)) = kept_alike _ refl refl refl
 
   pub scan_keeps : (way : Way) (name : Name) (low high : List ℕ) (limit : ℕ) (o : Option Thing) → Keeps (scan_by s way name low high limit o)
   scan_keeps way name low high limit None = kept_alike _ refl refl refl

@@ -19,11 +19,11 @@ use Rattle.vl_model.specs.Reads.{IsExplained, Read}
 use Rattle.vl_model.specs.declared.change.Change.TheVariants.{Set as Put, Delete as Deleted}
 use Rattle.vl_replay.specs.Exchanges.{exchanged, exchanges_from, and_later, IsExplainedExchange, AreExplained, ended_lines, KeepsUp}
 use Rattle.vl_replay.specs.Sequential.{State, asked, history_of, state_after, step_to}
-use Rattle.vl_replay.specs.laws.Explained.{IsSound as IsSoundStore, IsSoundThing, Stays, commit_explained, commit_stays, drop_stays, get_explained, get_stays, later_things, only_readers, scan_explained, scan_stays, transaction_stays, view_stays, write_stays}
-use Rattle.vl_replay.specs.laws.Growing.{Adds, Keeps, begin_keeps, commit_or, drop_keeps, get_keeps, scan_keeps, write_keeps}
+use Rattle.vl_replay.specs.laws.Explained.{IsSound as IsSoundStore, IsSoundThing, Stays, commit_explained, commit_stays, drop_stays, get_at_stays, get_explained, get_stays, later_things, only_readers, scan_explained, scan_stays, transaction_stays, view_stays, write_stays}
+use Rattle.vl_replay.specs.laws.Growing.{Adds, Keeps, begin_keeps, commit_or, drop_keeps, get_at_keeps, get_keeps, scan_keeps, write_keeps}
 use Rattle.vl_script.specs.Script.{line_of}
 use Rattle.vl_script.specs.declared.line.Line.{Line}
-use Rattle.vl_script.specs.declared.line.Line.TheVariants.{Begin, View, Get, Set, SetTagged, GetTagged, Scan, Delete, Commit, Drop, Rotate, Flush}
+use Rattle.vl_script.specs.declared.line.Line.TheVariants.{Begin, View, Get, Set, SetTagged, GetTagged, Scan, Delete, Commit, Drop, Rotate, Flush, Keep, GetAt}
 
 -- ---- what a line leaves
 
@@ -36,9 +36,26 @@ abbrev pub Committing : State → Line → Type 0
 Committing s line = (t : Transaction) × (b : Beginning) × (name : Name) × (line ≡ Commit name)
     × (thing_of s.store name ≡ Some (ATransaction t b)) × Adds s.store (step_to s line) t
 
--- the line is a step on files, which keeps the commits and what the names stand for
+-- the line is a rotation, a flush or a change of how many versions are kept
+abbrev pub IsStepLine : Line → Type 0
+IsStepLine (Begin name) = ⊥
+IsStepLine (View name) = ⊥
+IsStepLine (Get name key) = ⊥
+IsStepLine (GetTagged name key) = ⊥
+IsStepLine (GetAt name key number) = ⊥
+IsStepLine (Scan name low high limit way) = ⊥
+IsStepLine (Set name key value) = ⊥
+IsStepLine (SetTagged name key value tag) = ⊥
+IsStepLine (Delete name key) = ⊥
+IsStepLine (Commit name) = ⊥
+IsStepLine (Drop name) = ⊥
+IsStepLine Rotate = Unit {0}
+IsStepLine Flush = Unit {0}
+IsStepLine (Keep versions) = Unit {0}
+
+-- such a step on files keeps the commits and what the names stand for
 pub record Stepping (s : State) (line : Line) : Type 0 where
-  pub is : (line ≡ Rotate) ⊎ (line ≡ Flush)
+  pub is : IsStepLine line
   pub commits : (step_to s line).state.commits ≡ s.store.commits
   pub things : (step_to s line).state.things ≡ s.store.things
 
@@ -57,8 +74,10 @@ keeps_or s (Commit name) sound = elim (commit_or s.store name (thing_of s.store 
   | inl keeps ↦ inl keeps.0
   | inr (t, b, is, adds) ↦ inr (inl (t, b, name, refl, is, adds))
 ]
-keeps_or s Rotate sound = inr (inr (record { is = inl refl; commits = refl; things = refl }))
-keeps_or s Flush sound = inr (inr (record { is = inr refl; commits = refl; things = refl }))
+keeps_or s Rotate sound = inr (inr (record { is = tt; commits = refl; things = refl }))
+keeps_or s Flush sound = inr (inr (record { is = tt; commits = refl; things = refl }))
+keeps_or s (Keep versions) sound = inr (inr (record { is = tt; commits = refl; things = refl }))
+keeps_or s (GetAt name key number) sound = inl (get_at_keeps s.store name key number (thing_of s.store name))
 
 -- ---- what is read is explained
 
@@ -85,11 +104,7 @@ commit_sound : (s : State) (name : Name) → IsSound s
     → Keeps s.store (step_to s (Commit name)) ⊎ (Committing s (Commit name) ⊎ Stepping s (Commit name))
     → IsSound (state_after s (Commit name))
 commit_sound s name sound (inl keeps) = kept_sound s (Commit name) sound keeps.commits (commit_stays s.store sound name (thing_of s.store name))
-commit_sound s name sound (inr (inr steps)) = absurd (no_step steps.is)
-  where
-    no_step : (Commit name ≡ Rotate) ⊎ (Commit name ≡ Flush) → ⊥
-    no_step (inl e) = cc
-    no_step (inr e) = cc
+commit_sound s name sound (inr (inr steps)) = absurd steps.is
 commit_sound s name sound (inr (inl (t, b, other, same, is, adds))) = record {
   proper = step_proper s.store sound.proper (asked (Commit name));
   things = subst (λ (p : Commits). AllSound (history_in p) (step_to s (Commit name)).state.things) (sym adds.commits)
@@ -114,6 +129,9 @@ state_after-sound s (Drop name) sound = stays_sound s (Drop name) sound (drop_st
 state_after-sound s (Commit name) sound = commit_sound s name sound (keeps_or s (Commit name) sound)
 state_after-sound s Rotate sound = kept_sound s Rotate sound refl sound.things
 state_after-sound s Flush sound = kept_sound s Flush sound refl sound.things
+state_after-sound s (Keep versions) sound = kept_sound s (Keep versions) sound refl sound.things
+state_after-sound s (GetAt name key number) sound =
+    stays_sound s (GetAt name key number) sound (get_at_stays s.store sound name key number (thing_of s.store name))
 
 -- a commit that is answered by a number adds what its transaction wrote
 adds_of : (s : State) (name : Name) (t : Transaction) (b : Beginning) (n : ℕ) → thing_of s.store name ≡ Some (ATransaction t b)
@@ -139,6 +157,8 @@ exchange_explained stay s (Delete name key) sound = tt
 exchange_explained stay s (Drop name) sound = tt
 exchange_explained stay s Rotate sound = tt
 exchange_explained stay s Flush sound = tt
+exchange_explained stay s (Keep versions) sound = tt
+exchange_explained stay s (GetAt name key number) sound = tt
 exchange_explained stay s (Commit name) sound = λ t b n is e. commit_explained s.store sound stay name t b n (thing_of s.store name) is is (adds_of s name t b n is e) e
 
 exchanges_behind : StaysExplained → (s : State) (texts : List (List ℕ)) (o : Option Line) → IsSound s

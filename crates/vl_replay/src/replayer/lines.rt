@@ -102,6 +102,7 @@ impl<D: Disk> Replayer<D> {
             Line::Drop { name } => Ok(self.end(name)),
             Line::Rotate => self.rotate(),
             Line::Flush => self.flush(),
+            Line::Keep { versions } => self.keep(versions),
         }
     }
 

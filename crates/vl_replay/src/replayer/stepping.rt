@@ -1,24 +1,25 @@
-//! Rotations and flushes.
+//! Rotations, flushes, and how many versions are kept.
 ghost use Rattle.std.specs.Prelude.{◌≡◌, ◌⊎◌, Err};
 ghost use Rattle.vl_disk.specs.Faults.{HasCause};
 ghost use Rattle.vl_disk.specs.declared.name.Name.{Name};
 ghost use Rattle.vl_disk.specs.declared.name.Name.TheVariants as names;
 ghost use Rattle.vl_engine.specs.Shown.{Shown};
 ghost use Rattle.vl_layout.specs.Rulings.Flush.{flush_ruling};
+ghost use Rattle.vl_layout.specs.Rulings.Keep.{keep_ruling};
 ghost use Rattle.vl_layout.specs.Rulings.Rotate.{rotate_ruling};
-ghost use Rattle.vl_layout.specs.Store.Dispatch.{step_by};
+ghost use Rattle.vl_layout.specs.Store.Dispatch.{keep_by, step_by};
 ghost use Rattle.vl_replay.specs.Durable.{CarriesOut};
 ghost use Rattle.vl_replay.specs.Halts.{HaltsByDisk, HaltsByRead};
-ghost use Rattle.vl_replay.specs.Replaying.{MakesStep, StandsFor, state_by_step};
+ghost use Rattle.vl_replay.specs.Replaying.{MakesStep, StandsFor, state_by, state_by_step};
 ghost use Rattle.vl_replay.specs.Sequential.{State, history_of};
-ghost use Rattle.vl_replay.specs.Standing.{told_step};
+ghost use Rattle.vl_replay.specs.Standing.{told_keep, told_step};
 ghost use Rattle.vl_replay.specs.Stored.{IsStopped, IsStored};
 ghost use Rattle.vl_replay.specs.declared.fails.Halt.TheVariants as halts;
 
 use crate::fails::Halt;
 use crate::replayer::Replayer;
 use vl_disk::Disk;
-use vl_engine::StepFail;
+use vl_engine::{KeepFail, StepFail};
 use vl_script::Answer;
 
 impl<D: Disk> Replayer<D> {
@@ -58,6 +59,23 @@ impl<D: Disk> Replayer<D> {
     {
         told(self.engine.flush())
     }
+
+    /// Has merges keep so many of the newest versions of a key.
+    pub(super) fn keep(&mut self, versions: u8) -> Result<Answer, Halt>
+        ensures makes { (s : State) → StandsFor D.Watched D.Held.bytes self.old s
+            → MakesStep D.Held.bytes (D.told self.new.engine.disk) self.new.engine.core self.new.opens.items s
+            (keep_by s.store (keep_ruling s.store.layout (history_of s) versions)) result }
+        ensures carries { (s : State) → StandsFor D.Watched D.Held.bytes self.old s
+            → CarriesOut D.Watched IsStored Shown IsStopped self.old.engine.disk self.new.engine.disk s
+            (state_by s (keep_by s.store (keep_ruling s.store.layout (history_of s) versions))) result }
+        ensures sound { (s : State) → StandsFor D.Watched D.Held.bytes self.old s → HaltsByRead result → ⊥ }
+        ensures cause { HasCause (D.faults self.old.engine.disk) (D.faults self.new.engine.disk) (HaltsByDisk result) }
+        ensures named { (file : Name) → result ≡ Err (halts.Disk file)
+            → file ≡ names.Manifest self.old.engine.core.back.manifest.number }
+        ensures halted { self.new.halted ≡ self.old.halted }
+    {
+        told_keep(self.engine.keep(versions))
+    }
 }
 
 // How a step on files is answered.
@@ -74,5 +92,19 @@ fn told(stepped: Result<Option<u32>, StepFail>) -> Result<Answer, Halt>
         Err(StepFail::Disk { name }) => Err(Halt::Disk { name }),
         // An engine that is halted already: a replayer stops at the first fault, and comes never here.
         Err(StepFail::Halted { name }) => Err(Halt::Read { name }),
+    }
+}
+
+// How a change of how many versions are kept is answered.
+fn told_keep(kept: Result<(), KeepFail>) -> Result<Answer, Halt>
+    ensures { result ≡ told_keep kept }
+{
+    match kept {
+        Ok(()) => Ok(Answer::Done),
+        Err(KeepFail::InvalidRequest) => Ok(Answer::Invalid),
+        Err(KeepFail::NoMemory) => Err(Halt::NoMemory),
+        Err(KeepFail::Disk { name }) => Err(Halt::Disk { name }),
+        // An engine that is halted already: a replayer stops at the first fault, and comes never here.
+        Err(KeepFail::Halted { name }) => Err(Halt::Read { name }),
     }
 }

@@ -10,7 +10,7 @@ use Rattle.vl_replay.specs.Endings.{CountsFaultsOf, TheDisk, TheSource, TheSink,
 use Rattle.vl_disk.specs.Faults.{Rose}
 use Rattle.vl_disk.specs.declared.name.Name.{Name}
 use Rattle.vl_replay.specs.Reading.{ReadsInput, streams}
-use Rattle.vl_replay.specs.Start.{FailsAtTables, all_explained, explained_from}
+use Rattle.vl_replay.specs.Start.{EndsAtTables, all_explained, explained_from}
 use Rattle.vl_replay.specs.declared.ending.Ending.TheVariants.{Damaged, ReaderFault, Refused}
 use Rattle.vl_replay.specs.declared.fails.Refusal.{Refusal}
 use Rattle.vl_cli.proofs.Words.{disk_steady, rose_or_unread, source_status, sink_status, is_refused, is_bad_words, rose_by, steady_by, refused_status, refused_rose, refused_steady}
@@ -84,8 +84,22 @@ returns-in-Some-Replay-clause-disk_fault g c is =
     (λ (rose : Rose before now). inl rose)
     (λ (unread : ending ≡ ReaderFault). inr (inl (λ input told. subst (ReadsInput input old new) unread (c.replay-ending.ensures.input input told))))
     (rose_or_unread ending before now counts (sym c.status-status.ensures ∙ is)))
-    (λ (tables : FailsAtTables g.D.Watched g.K.Sink c.args.disk c.replay-ending.result.disk c.args.sink.now c.replay-ending.new.sink ending
+    (λ (tables : EndsAtTables g.D.Watched g.D.Reader.Reader.faults g.K.Sink c.args.disk c.replay-ending.result.disk c.args.sink.now c.replay-ending.new.sink ending
     × (c.replay-ending.new.source ≡ c.args.source.now)). inr (inr (tables.1, (ending, tables.0))))
+    c.replay-ending.ensures.disk_faults
+
+pub returns-in-Some-Replay-clause-reader_fault : goal.returns-in-Some-Replay-clause-reader_fault
+returns-in-Some-Replay-clause-reader_fault g c s starts is =
+    let ending = c.replay-ending.result.ending in
+    let before = g.D.Watched.faults c.args.disk in
+    let now = g.D.Watched.faults c.replay-ending.result.disk in
+    ⊎_elim
+    (λ (counts : CountsFaultsOf TheDisk (Some ending) before now). ⊎_elim
+    (λ (rose : Rose before now). inl rose)
+    (λ (unread : ending ≡ ReaderFault). inr (c.replay-ending.ensures.reader_fault s starts unread))
+    (rose_or_unread ending before now counts (sym c.status-status.ensures ∙ is)))
+    (λ (tables : EndsAtTables g.D.Watched g.D.Reader.Reader.faults g.K.Sink c.args.disk c.replay-ending.result.disk c.args.sink.now c.replay-ending.new.sink ending
+    × (c.replay-ending.new.source ≡ c.args.source.now)). inr tables.0.0.reader)
     c.replay-ending.ensures.disk_faults
 
 pub returns-in-Some-Replay-clause-no_disk_fault : goal.returns-in-Some-Replay-clause-no_disk_fault
@@ -96,8 +110,8 @@ returns-in-Some-Replay-clause-no_disk_fault g c other whole =
     ⊎_elim
     (λ (counts : CountsFaultsOf TheDisk (Some ending) before now).
     disk_steady ending before now counts (λ e. other (c.status-status.ensures ∙ e)) (λ e. whole (c.status-status.ensures ∙ e)))
-    (λ (tables : FailsAtTables g.D.Watched g.K.Sink c.args.disk c.replay-ending.result.disk c.args.sink.now c.replay-ending.new.sink ending
-    × (c.replay-ending.new.source ≡ c.args.source.now)). tables.0.steady)
+    (λ (tables : EndsAtTables g.D.Watched g.D.Reader.Reader.faults g.K.Sink c.args.disk c.replay-ending.result.disk c.args.sink.now c.replay-ending.new.sink ending
+    × (c.replay-ending.new.source ≡ c.args.source.now)). tables.0.0.steady)
     c.replay-ending.ensures.disk_faults
 
 pub returns-in-Some-Replay-clause-refused : goal.returns-in-Some-Replay-clause-refused
@@ -172,6 +186,9 @@ returns-in-None-clause-not_plain g c other = (refl, refl, (c.finish.result, c.st
 pub returns-in-None-clause-disk_fault : goal.returns-in-None-clause-disk_fault
 returns-in-None-clause-disk_fault g c is = absurd (refused_status g.K.Sink _ _ _ c.finish.result c.finish.ensures 3 (λ e. omega arith) (λ e. omega arith) (sym c.status-status-in-None.ensures ∙ is))
 
+pub returns-in-None-clause-reader_fault : goal.returns-in-None-clause-reader_fault
+returns-in-None-clause-reader_fault g c s starts is = absurd (refused_status g.K.Sink _ _ _ c.finish.result c.finish.ensures 3 (λ e. omega arith) (λ e. omega arith) (sym c.status-status-in-None.ensures ∙ is))
+
 pub returns-in-None-clause-refused : goal.returns-in-None-clause-refused
 returns-in-None-clause-refused g c plain is = absurd (refused_status g.K.Sink _ _ _ c.finish.result c.finish.ensures 4 (λ e. omega arith) (λ e. omega arith) (sym c.status-status-in-None.ensures ∙ is))
 
@@ -237,6 +254,9 @@ returns-in-Some-Trial-clause-no_fault_in_trial g c stop outcome asked is = c.tri
 
 pub returns-in-Some-Trial-clause-disk_fault : goal.returns-in-Some-Trial-clause-disk_fault
 returns-in-Some-Trial-clause-disk_fault g c is = absurd (c.trial.ensures.no_disk_fault (sym c.status-status-in-Some-Trial.ensures ∙ is))
+
+pub returns-in-Some-Trial-clause-reader_fault : goal.returns-in-Some-Trial-clause-reader_fault
+returns-in-Some-Trial-clause-reader_fault g c s starts is = absurd (c.trial.ensures.no_disk_fault (sym c.status-status-in-Some-Trial.ensures ∙ is))
 
 pub returns-in-Some-Trial-clause-no_disk_fault : goal.returns-in-Some-Trial-clause-no_disk_fault
 returns-in-Some-Trial-clause-no_disk_fault g c other whole = refl

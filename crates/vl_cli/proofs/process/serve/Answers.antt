@@ -20,6 +20,7 @@ returns-clause-served g c =
         not_plain = ran.not_plain;
         no_usage_line = ran.no_usage_line;
         disk_fault = ran.disk_fault;
+        reader_fault = ran.reader_fault;
         no_disk_fault = ran.no_disk_fault;
       }),
     )

@@ -4,13 +4,13 @@ use Rattle.std.specs.Prelude.{is_ok}
 use Rattle.vl_io.specs.Sink.{Takes, TakesPrefix}
 use Rattle.vl_disk.specs.Faults.{Rose}
 use Rattle.vl_replay.specs.Runs.{next_number}
-use Rattle.vl_replay.specs.Endings.{OnlyByDisk, TheSink, TheSource, culprit_of, ending_at, line_at, no_memory_line, TheDisk}
+use Rattle.vl_replay.specs.Endings.{OnlyByDisk, TheSink, TheSource, culprit_of, disk_fault_line, ending_at, line_at, no_memory_line, TheDisk}
 use Rattle.vl_replay.specs.Halts.{HaltsByDisk}
 use Rattle.vl_replay.specs.Replaying.{disk_of}
 use Rattle.vl_replay.specs.declared.ending.Ending.{Ending}
 use Rattle.vl_replay.specs.declared.ending.Ending.TheVariants.{AnswerCut, BadWords, NoMemory, ReaderFault, Refused}
-use Rattle.vl_replay.proofs.Runs.Ends.{answer_cut, finished, finish_counts, before_weaker, at_damage, at_fault, damage_counts, damage_counts_sink, ends_as, fault_as, fault_counts, fault_line, fault_stops, or_cut, otherwise_as, otherwise_counts}
-use Rattle.vl_replay.proofs.Runs.Texts.{by_damage, by_read, halts, of_ok, ends_cut, ends_bad, ends_out, ends_fault}
+use Rattle.vl_replay.proofs.Runs.Ends.{answer_cut, finished, finish_counts, before_weaker, at_damage, at_fault, damage_counts, damage_counts_sink, ends_as, fault_as, fault_counts, fault_line, fault_stops, or_cut, otherwise_as, otherwise_counts, unread_stops}
+use Rattle.vl_replay.proofs.Runs.Texts.{by_damage, by_read, halts, is_damage, is_unread, of_ok, ends_cut, ends_bad, ends_out, ends_fault, ends_unread}
 use Rattle.vl_replay.proofs.Runs.ReadingOn.{IsOtherwise, ends_for, ends_otherwise, finishes_damaged, finishes_otherwise, finishes_unread}
 use Rattle.vl_replay.proofs.answering.answer.Goals as goal
 
@@ -133,11 +133,11 @@ returns-in-Ok-clause-as_meant g c by = absurd (cc)
 
 pub returns-in-Err-Damaged-clause-printed : goal.returns-in-Err-Damaged-clause-printed
 returns-in-Err-Damaged-clause-printed g c script stands count next =
-    absurd (c.execute_line.ensures.readable script.start stands (by_damage c.execute_line.result _ _ (c.in-Err-Damaged.is ∙ ap Err c.in-Err-Damaged.field-0-is)))
+    absurd (c.execute_line.ensures.undamaged script.start stands (is_damage c.execute_line.result _ _ (c.in-Err-Damaged.is ∙ ap Err c.in-Err-Damaged.field-0-is)))
 
 pub returns-in-Err-Damaged-clause-moves : goal.returns-in-Err-Damaged-clause-moves
 returns-in-Err-Damaged-clause-moves g c s stands held =
-    absurd (c.execute_line.ensures.readable s stands (by_damage c.execute_line.result _ _ (c.in-Err-Damaged.is ∙ ap Err c.in-Err-Damaged.field-0-is)))
+    absurd (c.execute_line.ensures.undamaged s stands (is_damage c.execute_line.result _ _ (c.in-Err-Damaged.is ∙ ap Err c.in-Err-Damaged.field-0-is)))
 
 pub returns-in-Err-Damaged-clause-sink_faults : goal.returns-in-Err-Damaged-clause-sink_faults
 returns-in-Err-Damaged-clause-sink_faults g c = damage_counts_sink g.K.Sink _ _ _ _ c.end_at_damage.result c.end_at_damage.ensures
@@ -171,12 +171,16 @@ returns-in-Err-Damaged-clause-as_meant g c =
 -- ---- how it ends where a read failed
 
 pub returns-in-Err-Read-clause-printed : goal.returns-in-Err-Read-clause-printed
-returns-in-Err-Read-clause-printed g c script stands count next =
-    absurd (c.execute_line.ensures.readable script.start stands (by_read c.execute_line.result _ (c.in-Err-Read.is ∙ ap Err c.in-Err-Read.field-0-is)))
+returns-in-Err-Read-clause-printed g c script stands count next left =
+    finished g.K.Sink c.args.sink.now c.finish-in-Err-Read.new.sink _ script left ReaderFault c.finish-in-Err-Read.result disk_fault_line refl
+    (unread_stops (OnlyByDisk (Rose (g.D.Watched.faults (disk_of c.args.replayer.now)) (g.D.Watched.faults (disk_of c.execute_line.new.replayer)))) script c.args.text.now left next
+    (c.execute_line.ensures.readable script.start stands (by_read c.execute_line.result _ (c.in-Err-Read.is ∙ ap Err c.in-Err-Read.field-0-is))))
+    c.finish-in-Err-Read.ensures
 
 pub returns-in-Err-Read-clause-moves : goal.returns-in-Err-Read-clause-moves
 returns-in-Err-Read-clause-moves g c s stands held =
-    absurd (c.execute_line.ensures.readable s stands (by_read c.execute_line.result _ (c.in-Err-Read.is ∙ ap Err c.in-Err-Read.field-0-is)))
+    ends_unread g.D.Watched (record { only_now = g.met.D.Disk.only_now; counts_now = g.met.D.Disk.counts_now }) s c.args.text.now (disk_of c.args.replayer.now) (disk_of c.execute_line.new.replayer) g.K.Sink c.args.sink.now c.finish-in-Err-Read.new.sink disk_fault_line c.execute_line.result c.finish-in-Err-Read.result
+    (by_read c.execute_line.result _ (c.in-Err-Read.is ∙ ap Err c.in-Err-Read.field-0-is)) c.finish-in-Err-Read.ensures (c.execute_line.ensures.carries s stands held)
 
 pub returns-in-Err-Read-clause-sink_faults : goal.returns-in-Err-Read-clause-sink_faults
 returns-in-Err-Read-clause-sink_faults g c = finish_counts g.K.Sink _ _ _ ReaderFault c.finish-in-Err-Read.result (λ e. cc) c.finish-in-Err-Read.ensures
@@ -194,11 +198,11 @@ returns-in-Err-Read-clause-reads g c =
 pub returns-in-Err-Read-clause-as_meant : goal.returns-in-Err-Read-clause-as_meant
 returns-in-Err-Read-clause-as_meant g c = otherwise_as g.K.Sink _ _ _ ReaderFault c.finish-in-Err-Read.result c.args.on_fault (λ e. cc) c.finish-in-Err-Read.ensures
 
-pub returns-in-Err-Read-clause-readable : goal.returns-in-Err-Read-clause-readable
-returns-in-Err-Read-clause-readable g c s stands =
-    absurd (c.execute_line.ensures.readable s stands (by_read c.execute_line.result _ (c.in-Err-Read.is ∙ ap Err c.in-Err-Read.field-0-is)))
+pub returns-in-Err-Read-clause-reader_fault : goal.returns-in-Err-Read-clause-reader_fault
+returns-in-Err-Read-clause-reader_fault g c s stands by =
+    c.execute_line.ensures.fault s stands (is_unread c.execute_line.result _ (c.in-Err-Read.is ∙ ap Err c.in-Err-Read.field-0-is))
 
--- ---- no read of a told store fails, and the run goes on over one
+-- ---- no other ending is by a reader, and the run goes on over a store
 
 some_ending : (a b : Ending) → Some a ≡ Some b → a ≡ b
 some_ending a b e = cc
@@ -211,21 +215,27 @@ returns-in-Ok-clause-stands g c s stands on =
     let made = rw c.in-Ok-Some.field-0-is at (c.in-Ok-Some.ensures.answers s stands) in
     (made.0.after, made.2)
 
-pub returns-in-Err-NoMemory-clause-readable : goal.returns-in-Err-NoMemory-clause-readable
-returns-in-Err-NoMemory-clause-readable g c s stands =
-    or_cut g.K.Sink _ _ _ NoMemory c.finish.result (λ (e : Ending). Some e ≢ Some ReaderFault) c.finish.ensures (λ e. cc) (λ e. cc)
+pub returns-in-Err-NoMemory-clause-reader_fault : goal.returns-in-Err-NoMemory-clause-reader_fault
+returns-in-Err-NoMemory-clause-reader_fault g c s stands by =
+    absurd (or_cut g.K.Sink _ _ _ NoMemory c.finish.result (λ (e : Ending). Some e ≢ Some ReaderFault) c.finish.ensures (λ e. cc) (λ e. cc) by)
 
-pub returns-in-Err-Damaged-clause-readable : goal.returns-in-Err-Damaged-clause-readable
-returns-in-Err-Damaged-clause-readable g c s stands =
-    at_damage g.K.Sink _ _ _ _ c.end_at_damage.result (λ (e : Ending). Some e ≢ Some ReaderFault) c.end_at_damage.ensures (λ e. cc) (λ e. cc) (λ e. cc)
+pub returns-in-Err-Damaged-clause-reader_fault : goal.returns-in-Err-Damaged-clause-reader_fault
+returns-in-Err-Damaged-clause-reader_fault g c s stands by =
+    absurd (at_damage g.K.Sink _ _ _ _ c.end_at_damage.result (λ (e : Ending). Some e ≢ Some ReaderFault) c.end_at_damage.ensures (λ e. cc) (λ e. cc) (λ e. cc) by)
 
-pub returns-clause-readable : goal.returns-clause-readable
-returns-clause-readable g c s stands =
-    or_cut g.K.Sink _ _ _ (ending_at c.args.on_fault) c.end_at_fault.result (λ (e : Ending). Some e ≢ Some ReaderFault) c.end_at_fault.ensures
-    (at_fault (λ (e : Ending). Some e ≢ Some ReaderFault) (λ e. cc) (λ e. cc) c.args.on_fault) (λ e. cc)
+pub returns-clause-reader_fault : goal.returns-clause-reader_fault
+returns-clause-reader_fault g c s stands by =
+    absurd (or_cut g.K.Sink _ _ _ (ending_at c.args.on_fault) c.end_at_fault.result (λ (e : Ending). Some e ≢ Some ReaderFault) c.end_at_fault.ensures
+    (at_fault (λ (e : Ending). Some e ≢ Some ReaderFault) (λ e. cc) (λ e. cc) c.args.on_fault) (λ e. cc) by)
 
-pub returns-in-Ok-None-clause-readable : goal.returns-in-Ok-None-clause-readable
-returns-in-Ok-None-clause-readable g c s stands by = c.end_at_bad_line.ensures.readable (some_ending _ _ by)
+pub returns-in-Ok-None-clause-reader_fault : goal.returns-in-Ok-None-clause-reader_fault
+returns-in-Ok-None-clause-reader_fault g c s stands by = absurd (c.end_at_bad_line.ensures.readable (some_ending _ _ by))
+
+pub returns-in-Ok-Some-clause-reader_fault : goal.returns-in-Ok-Some-clause-reader_fault
+returns-in-Ok-Some-clause-reader_fault g c s stands by = absurd cc
+
+pub returns-in-Ok-clause-reader_fault : goal.returns-in-Ok-clause-reader_fault
+returns-in-Ok-clause-reader_fault g c s stands by = absurd cc
 
 pub returns-in-Ok-Some-clause-stands : goal.returns-in-Ok-Some-clause-stands
 returns-in-Ok-Some-clause-stands g c s stands on = absurd (some_none _ on)

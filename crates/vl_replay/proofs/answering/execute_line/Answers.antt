@@ -10,7 +10,7 @@ use Rattle.vl_replay.proofs.Runs.Asking.{line_asks}
 use Rattle.vl_replay.proofs.Runs.Ends.{exchange_at-answered}
 use Rattle.vl_replay.proofs.Disk.Halting.{by_disk_still, by_read_still, out_not_by_disk, out_readable}
 use Rattle.vl_replay.proofs.Runs.Extending.{is_told_text}
-use Rattle.vl_replay.proofs.Runs.Texts.{carries_nothing, carries_bad, carries_line, kept_without_number, of_ok, ok_not_err, ok_not_out, same_halt}
+use Rattle.vl_replay.proofs.Runs.Texts.{by_damage_still, by_reader_still, carries_nothing, carries_bad, carries_line, kept_without_number, of_ok, ok_not_err, ok_not_out, out_not_by_reader, out_undamaged, same_halt}
 use Rattle.vl_replay.proofs.answering.execute_line.Goals as goal
 
 pub line-requires : goal.line-requires
@@ -48,6 +48,7 @@ returns-in_err-answer-clause-carries g c s stands held =
     (sym c.in_ok-line.ensures ∙ c.in-Some.is) carried
     (λ ok. absurd (ok_not_err residual.result ok residual.ensures.0))
     (by_disk_still c.line.result residual.result _ c.in_err-answer.was residual.ensures.1)
+    (by_read_still c.line.result residual.result _ c.in_err-answer.was residual.ensures.1)
     (λ out. carried.no_commit (c.in_err-answer.was ∙ ap Err (same_halt residual.result _ why.NoMemory out residual.ensures.1)))
 
 pub returns-in_err-print_answer-clause-carries : goal.returns-in_err-print_answer-clause-carries
@@ -59,6 +60,7 @@ returns-in_err-print_answer-clause-carries g c s stands held =
     (sym c.in_ok-line.ensures ∙ c.in-Some.is) carried
     (λ is_it. absurd (ok_not_err residual.result is_it residual.ensures.0))
     (λ by. absurd (out_not_by_disk residual.result residual.ensures.1 by))
+    (λ by. absurd (out_readable residual.result residual.ensures.1 by))
     (λ out. kept_without_number g.D.Watched (record { only_now = g.met.D.Disk.only_now; counts_now = g.met.D.Disk.counts_now }) s c.args.text.now (disk_of c.args.replayer.now) (disk_of c.line.new.self) c.in-Some.line c.in_ok-answer.answer (c.in_ok-answer.ensures.answer s stands)
     (λ number is_number. ok_not_err c.print_answer.result (c.print_answer.ensures.room number is_number (omega (arith, ap length c.in_ok-out.ensures.items, c.in_ok-out.ensures.capacity))) (ap is_err c.in_err-print_answer.was))
     (of_ok c.line.result _ ok carried.answered))
@@ -66,7 +68,7 @@ returns-in_err-print_answer-clause-carries g c s stands held =
 pub returns-clause-carries : goal.returns-clause-carries
 returns-clause-carries g c s stands held =
     carries_line g.D.Watched (record { only_now = g.met.D.Disk.only_now; counts_now = g.met.D.Disk.counts_now }) s c.args.text.now (disk_of c.args.replayer.now) (disk_of c.line.new.self) c.in-Some.line c.line.result _
-    (sym c.in_ok-line.ensures ∙ c.in-Some.is) (c.line.ensures.carries c.requires s stands held) (λ ok. ap is_ok c.in_ok-answer.was) (λ by. absurd by) (λ out. absurd (ok_not_out _ out))
+    (sym c.in_ok-line.ensures ∙ c.in-Some.is) (c.line.ensures.carries c.requires s stands held) (λ ok. ap is_ok c.in_ok-answer.was) (λ by. absurd by) (λ by. absurd by) (λ out. absurd (ok_not_out _ out))
 
 pub returns-in_default-clause-reads : goal.returns-in_default-clause-reads
 returns-in_default-clause-reads g c = sym c.in_ok-line.ensures ∙ c.in_default.is
@@ -81,18 +83,73 @@ returns-clause-reads g c =
 -- ---- what can't be read
 
 pub returns-in_err-line-clause-readable : goal.returns-in_err-line-clause-readable
-returns-in_err-line-clause-readable g c s stands = out_readable c.from_residual.result c.from_residual.ensures.1
+returns-in_err-line-clause-readable g c s stands by = absurd (out_readable c.from_residual.result c.from_residual.ensures.1 by)
 
 pub returns-in_err-out-clause-readable : goal.returns-in_err-out-clause-readable
-returns-in_err-out-clause-readable g c s stands = out_readable c.from_residual-in_err-out.result c.from_residual-in_err-out.ensures.1
+returns-in_err-out-clause-readable g c s stands by =
+    absurd (out_readable c.from_residual-in_err-out.result c.from_residual-in_err-out.ensures.1 by)
 
 pub returns-in_err-answer-clause-readable : goal.returns-in_err-answer-clause-readable
 returns-in_err-answer-clause-readable g c s stands by =
-    c.line.ensures.sound c.requires s stands
-    (by_read_still c.line.result c.from_residual-in_err-answer.result _ c.in_err-answer.was c.from_residual-in_err-answer.ensures.1 by)
+    let line = c.in-Some.line in (
+      exchanged s line,
+      exchange_at-answered s c.args.text.now line (sym c.in_ok-line.ensures ∙ c.in-Some.is),
+      c.line.ensures.sound c.requires s stands
+          (by_read_still c.line.result c.from_residual-in_err-answer.result _ c.in_err-answer.was c.from_residual-in_err-answer.ensures.1 by),
+    )
 
 pub returns-in_err-print_answer-clause-readable : goal.returns-in_err-print_answer-clause-readable
-returns-in_err-print_answer-clause-readable g c s stands = out_readable c.from_residual-in_err-print_answer.result c.from_residual-in_err-print_answer.ensures.1
+returns-in_err-print_answer-clause-readable g c s stands by =
+    absurd (out_readable c.from_residual-in_err-print_answer.result c.from_residual-in_err-print_answer.ensures.1 by)
+
+pub returns-in_default-clause-readable : goal.returns-in_default-clause-readable
+returns-in_default-clause-readable g c s stands by = absurd by
+
+pub returns-clause-readable : goal.returns-clause-readable
+returns-clause-readable g c s stands by = absurd by
+
+pub returns-in_err-line-clause-undamaged : goal.returns-in_err-line-clause-undamaged
+returns-in_err-line-clause-undamaged g c s stands = out_undamaged c.from_residual.result c.from_residual.ensures.1
+
+pub returns-in_err-out-clause-undamaged : goal.returns-in_err-out-clause-undamaged
+returns-in_err-out-clause-undamaged g c s stands = out_undamaged c.from_residual-in_err-out.result c.from_residual-in_err-out.ensures.1
+
+pub returns-in_err-answer-clause-undamaged : goal.returns-in_err-answer-clause-undamaged
+returns-in_err-answer-clause-undamaged g c s stands by =
+    c.line.ensures.undamaged c.requires s stands
+    (by_damage_still c.line.result c.from_residual-in_err-answer.result _ c.in_err-answer.was c.from_residual-in_err-answer.ensures.1 by)
+
+pub returns-in_err-print_answer-clause-undamaged : goal.returns-in_err-print_answer-clause-undamaged
+returns-in_err-print_answer-clause-undamaged g c s stands =
+    out_undamaged c.from_residual-in_err-print_answer.result c.from_residual-in_err-print_answer.ensures.1
+
+pub returns-in_default-clause-undamaged : goal.returns-in_default-clause-undamaged
+returns-in_default-clause-undamaged g c s stands by = by
+
+pub returns-clause-undamaged : goal.returns-clause-undamaged
+returns-clause-undamaged g c s stands by = by
+
+pub returns-in_err-line-clause-fault : goal.returns-in_err-line-clause-fault
+returns-in_err-line-clause-fault g c s stands by = absurd (out_not_by_reader c.from_residual.result c.from_residual.ensures.1 by)
+
+pub returns-in_err-out-clause-fault : goal.returns-in_err-out-clause-fault
+returns-in_err-out-clause-fault g c s stands by =
+    absurd (out_not_by_reader c.from_residual-in_err-out.result c.from_residual-in_err-out.ensures.1 by)
+
+pub returns-in_err-answer-clause-fault : goal.returns-in_err-answer-clause-fault
+returns-in_err-answer-clause-fault g c s stands by =
+    c.line.ensures.fault c.requires s stands
+    (by_reader_still c.line.result c.from_residual-in_err-answer.result _ c.in_err-answer.was c.from_residual-in_err-answer.ensures.1 by)
+
+pub returns-in_err-print_answer-clause-fault : goal.returns-in_err-print_answer-clause-fault
+returns-in_err-print_answer-clause-fault g c s stands by =
+    absurd (out_not_by_reader c.from_residual-in_err-print_answer.result c.from_residual-in_err-print_answer.ensures.1 by)
+
+pub returns-in_default-clause-fault : goal.returns-in_default-clause-fault
+returns-in_default-clause-fault g c s stands by = absurd by
+
+pub returns-clause-fault : goal.returns-clause-fault
+returns-clause-fault g c s stands by = absurd by
 
 pub returns-in_err-line-clause-met : goal.returns-in_err-line-clause-met
 returns-in_err-line-clause-met g c by = absurd (out_readable c.from_residual.result c.from_residual.ensures.1 by)
@@ -105,12 +162,6 @@ returns-in_err-answer-clause-met g c by = (c.in-Some.line, sym c.in_ok-line.ensu
 
 pub returns-in_err-print_answer-clause-met : goal.returns-in_err-print_answer-clause-met
 returns-in_err-print_answer-clause-met g c by = (c.in-Some.line, sym c.in_ok-line.ensures ∙ c.in-Some.is)
-
-pub returns-in_default-clause-readable : goal.returns-in_default-clause-readable
-returns-in_default-clause-readable g c s stands by = by
-
-pub returns-clause-readable : goal.returns-clause-readable
-returns-clause-readable g c s stands by = by
 
 pub returns-in_default-clause-met : goal.returns-in_default-clause-met
 returns-in_default-clause-met g c by = absurd by

@@ -1,4 +1,4 @@
-use Rattle.std.proofs.Common.{◌≡◌, ⊎_elim, inl, inr, ℕ, ap, refl, subst, sym}
+use Rattle.std.proofs.Common.{◌≡◌, ◌≢◌, ◌⊎◌, ⊎_elim, inl, inr, ℕ, ap, refl, subst, sym}
 use Rattle.vl_disk.specs.Faults.{Rose}
 use Rattle.vl_recover.specs.opening.Answers.{AnswersBy}
 use Rattle.vl_recover.specs.opening.Results.{recovery_by}
@@ -6,21 +6,20 @@ use Rattle.vl_recover.specs.declared.fails.OpenError.{OpenError}
 use Rattle.vl_replay.specs.Durable.{Tells}
 use Rattle.vl_replay.specs.Endings.{CountsFaultsOf, TheDisk, culprit_of}
 use Rattle.vl_replay.specs.declared.ending.Ending.{Ending}
-use Rattle.vl_replay.specs.declared.ending.Ending.TheVariants.{DiskFault, Stopped}
+use Rattle.vl_replay.specs.declared.ending.Ending.TheVariants.{DiskFault, ReaderFault, Stopped}
 use Rattle.vl_replay.specs.laws.Laws.{keeps_up_at_first}
-use Rattle.vl_engine.specs.Opening.{IsFault}
+use Rattle.vl_engine.specs.Opening.{IsDurable, IsFault}
 use Rattle.vl_replay.specs.Reading.{streams}
 use Rattle.vl_replay.specs.Replaying.{disk_of}
 use Rattle.vl_replay.specs.Runs.{script_of, outside}
-use Rattle.vl_engine.specs.Opening.{IsDurable}
-use Rattle.vl_replay.specs.Start.{FailsAtTables}
+use Rattle.vl_replay.specs.Sequential.{State}
+use Rattle.vl_replay.specs.Start.{EndsAtTables, FailsAtTables}
 use Rattle.vl_replay.specs.Stored.{IsStopped, IsStored}
 use Rattle.vl_engine.specs.Shown.{Shown}
-use Rattle.std.specs.Prelude.{Some, true, false}
+use Rattle.std.specs.Prelude.{IsTrue, Some, true, false}
 use Rattle.vl_replay.proofs.Disk.Shown.{shown_stays, stored_exactly}
-use Rattle.vl_replay.proofs.Openings.Begun.{begun_untabled}
-use Rattle.vl_replay.proofs.Runs.OpenedRuns.{ends_opened, ends_refused, refused, refused_nothing, refused_as, refused_line, not_for_words, not_silent, out_of_memory, counts_sink, counts_source}
-use Rattle.vl_replay.proofs.Runs.ReaderFaults.{disk_cause, disk_or_tables}
+use Rattle.vl_replay.proofs.Runs.OpenedRuns.{again_openable, ends_opened, ends_refused, of_result, of_unopened, refused, refused_nothing, refused_as, refused_line, not_for_words, not_silent, out_of_memory, counts_sink, counts_source}
+use Rattle.vl_replay.proofs.Runs.ReaderFaults.{by_either, disk_or_tables, left_as_before}
 use Rattle.vl_replay.proofs.Runs.ReadingOn.{unopened_reads_nothing}
 use Rattle.vl_replay.proofs.Runs.Refusals.{fault_for, fault_of, first_for, no_fault, opened_not_refused, refused_for, refused_or_first}
 use Rattle.vl_replay.proofs.running.replay.Goals as goal
@@ -28,10 +27,12 @@ use Rattle.vl_replay.proofs.running.replay.Goals as goal
 pub returns-in-Ok-clause-runs : goal.returns-in-Ok-clause-runs
 returns-in-Ok-clause-runs g c s input starts told =
     ends_opened g.D.Watched (record { only_now = g.met.D.Disk.only_now; counts_now = g.met.D.Disk.counts_now }) IsStored Shown IsStopped shown_stays stored_exactly
-    (Tells g.D.Watched c.args.disk IsDurable) (script_of s 0 input)
+    (λ (t : State). IsTrue t.openable) (Tells g.D.Watched c.args.disk IsDurable) (script_of s 0 input)
     (outside g.S.Source g.K.Sink c.args.source.now c.args.sink.now c.args.disk) (outside g.S.Source g.K.Sink c.answer_lines.new.source c.answer_lines.new.sink c.answer_lines.result.disk)
+    g.D.Reader.Reader.faults
     (outside g.S.Source g.K.Sink c.args.source.now c.args.sink.now (disk_of c.in-Ok.replayer)) c.answer_lines.result.ending refl refl (c.in-Ok.ensures.cause.steady (λ by. by))
-    (λ durable. c.in-Ok.ensures.holds s starts (durable.0, durable.1, durable.2.may_open)) (c.in-Ok.ensures.through s starts) (c.answer_lines.ensures.runs s input (c.in-Ok.ensures.store s starts) told)
+    (λ openable durable. c.in-Ok.ensures.holds s starts openable) (λ openable durable. c.in-Ok.ensures.through s starts durable)
+    (c.answer_lines.ensures.runs s input (c.in-Ok.ensures.store s starts) told)
 
 pub returns-in-Ok-clause-refused : goal.returns-in-Ok-clause-refused
 returns-in-Ok-clause-refused g c refusal is = absurd (c.answer_lines.ensures.not_the_files refusal is)
@@ -45,25 +46,33 @@ returns-in-Ok-clause-refuses g c state read refusal told is_read is_refused = ab
 pub returns-clause-runs : goal.returns-clause-runs
 returns-clause-runs g c s input starts told =
     let ended = c.end_unopened-ending in
-    let reason = c.in-Err.field-0.why in
+    let fail = c.in-Err.field-0 in
+    let reason = fail.why in
     let how = ended.ensures.0 in
     let script = script_of s 0 input in
-    let by_disk = Rose (g.D.Watched.faults c.args.disk) (g.D.Watched.faults c.in-Err.field-0.disk) in
-    let counted = disk_cause (g.D.Watched.faults c.args.disk) (g.D.Watched.faults c.in-Err.field-0.disk) _ reason
-    (c.in-Err.ensures.unread starts.state starts.read starts.told starts.is_read (begun_untabled g.D.Watched c.args.disk s starts))
-    c.in-Err.ensures.cause in
+    let by_disk = Rose (g.D.Watched.faults c.args.disk) (g.D.Watched.faults fail.disk)
+    ⊎ (FailsAtTables g.D.Watched g.D.Reader.Reader.faults c.args.disk fail.disk × (0 ≡ 0)) in
+    let shown = by_either g.D.Watched g.D.Reader.Reader.faults c.args.disk fail.disk fail.reader reason c.in-Err.ensures.cause c.in-Err.ensures.unread c.in-Err.ensures.unmoved in
     ends_refused g.D.Watched (record { only_now = g.met.D.Disk.only_now; counts_now = g.met.D.Disk.counts_now }) IsStored Shown IsStopped shown_stays stored_exactly
-    (Tells g.D.Watched c.args.disk IsDurable) script
-    (outside g.S.Source g.K.Sink c.args.source.now c.args.sink.now c.args.disk) (outside g.S.Source g.K.Sink c.args.source.now ended.new.sink c.in-Err.field-0.disk)
+    (λ (t : State). IsTrue t.openable) (Tells g.D.Watched c.args.disk IsDurable) script
+    (outside g.S.Source g.K.Sink c.args.source.now c.args.sink.now c.args.disk) (outside g.S.Source g.K.Sink c.args.source.now ended.new.sink fail.disk)
+    g.D.Reader.Reader.faults
     ended.result (refused_nothing g.K.Sink c.args.sink.now ended.new.sink how ended.result ended.ensures.2)
     (refused g.K.Sink c.args.sink.now ended.new.sink (Rose (g.S.Source.faults c.args.source.now) (g.S.Source.faults c.args.source.now)) by_disk script (g.S.Source.left c.args.source.now) how ended.result
     (λ refusal is. opened_not_refused starts.read starts.found starts.unused refusal
     (subst (λ (w : OpenError). AnswersBy starts.read (recovery_by w)) (refused_for reason how refusal ended.ensures.1 is) (c.in-Err.ensures.answer starts.state starts.read starts.told starts.is_read)))
-    (λ fault. counted.rose (fault_for reason how ended.ensures.1 fault)) ended.ensures.2)
+    (λ fault. ⊎_elim
+    (λ (rose : Rose (g.D.Watched.faults c.args.disk) (g.D.Watched.faults fail.disk)). inl rose)
+    (λ (tables : FailsAtTables g.D.Watched g.D.Reader.Reader.faults c.args.disk fail.disk). inr (tables, refl))
+    (shown (fault_for reason how ended.ensures.1 fault))) ended.ensures.2)
     (keeps_up_at_first input (g.S.Source.asked c.args.source.now) (g.met.S.Source.since_asked c.args.source.now input told))
-    (c.in-Err.ensures.through s starts) (λ p. let told = c.in-Err.ensures.tells p.0 p.1 in (told.0, told.1, c.in-Err.ensures.again p.0 told.0 p.1 p.2.may_open told.1))
-    (λ sound. c.in-Err.ensures.left_alone (λ fault. sound (counted.rose fault)) refl)
+    (λ openable durable. c.in-Err.ensures.through s starts durable)
+    (λ openable durable. let now = c.in-Err.ensures.tells durable.0 durable.1 in
+    (now.0, now.1, c.in-Err.ensures.again durable.0 now.0 durable.1 durable.2.may_open now.1))
+    (left_as_before g.D.Watched g.D.Reader.Reader.faults c.args.disk fail.disk fail.reader reason c.in-Err.ensures.cause c.in-Err.ensures.unread c.in-Err.ensures.unmoved
+    (λ none. c.in-Err.ensures.left_alone none refl))
     (λ out. c.in-Err.ensures.left_alone (λ fault. out_of_memory g.K.Sink c.args.sink.now ended.new.sink how ended.result ended.ensures.2 out (fault_of reason how ended.ensures.1 fault)) refl)
+    (c.in-Err.ensures.at_most s starts)
 
 pub returns-clause-source_faults : goal.returns-clause-source_faults
 returns-clause-source_faults g c = counts_source g.K.Sink _ _ c.end_unopened-ending.ensures.0 c.end_unopened-ending.result c.end_unopened-ending.ensures.2 _
@@ -74,11 +83,25 @@ returns-clause-sink_faults g c = counts_sink g.K.Sink _ _ c.end_unopened-ending.
 pub returns-clause-disk_faults : goal.returns-clause-disk_faults
 returns-clause-disk_faults g c =
     let ended = c.end_unopened-ending in
+    let fail = c.in-Err.field-0 in
     ⊎_elim
-    (λ (counted : CountsFaultsOf TheDisk (Some ended.result) (g.D.Watched.faults c.args.disk) (g.D.Watched.faults c.in-Err.field-0.disk)). inl counted)
-    (λ (tables : FailsAtTables g.D.Watched g.K.Sink c.args.disk c.in-Err.field-0.disk c.args.sink.now ended.new.sink ended.result). inr (tables, refl))
-    (disk_or_tables g.D.Watched g.K.Sink c.args.disk c.in-Err.field-0.disk c.args.sink.now ended.new.sink _ c.in-Err.field-0.why
-    ended.ensures.0 ended.result ended.ensures.1 ended.ensures.2 c.in-Err.ensures.cause c.in-Err.ensures.unread)
+    (λ (counted : CountsFaultsOf TheDisk (Some ended.result) (g.D.Watched.faults c.args.disk) (g.D.Watched.faults fail.disk)). inl counted)
+    (λ (tables : EndsAtTables g.D.Watched g.D.Reader.Reader.faults g.K.Sink c.args.disk fail.disk c.args.sink.now ended.new.sink ended.result). inr (tables, refl))
+    (disk_or_tables g.D.Watched g.D.Reader.Reader.faults c.args.disk fail.disk fail.reader fail.why c.in-Err.ensures.cause c.in-Err.ensures.unread c.in-Err.ensures.unmoved
+    g.K.Sink c.args.sink.now ended.new.sink ended.ensures.0 ended.result ended.ensures.1 ended.ensures.2)
+
+-- ---- which reader failed
+
+pub returns-in-Ok-clause-reader_fault : goal.returns-in-Ok-clause-reader_fault
+returns-in-Ok-clause-reader_fault g c s starts is = c.answer_lines.ensures.reader_fault s (c.in-Ok.ensures.store s starts) is
+
+pub returns-clause-reader_fault : goal.returns-clause-reader_fault
+returns-clause-reader_fault g c s starts is =
+    absurd (of_result g.K.Sink _ _ c.end_unopened-ending.ensures.0 c.end_unopened-ending.result c.end_unopened-ending.ensures.2
+    (λ (e : Ending). e ≢ ReaderFault)
+    (of_unopened (λ (e : Ending). e ≢ ReaderFault) (λ refusal e. cc) (λ e. cc) (λ e. cc) c.end_unopened-ending.ensures.0) (λ e. cc) is)
+
+-- ---- what else is counted
 
 pub returns-in-Ok-clause-disk_faults : goal.returns-in-Ok-clause-disk_faults
 returns-in-Ok-clause-disk_faults g c =
@@ -118,7 +141,9 @@ returns-clause-refuses g c state read refusal told is_read is_refused =
 
 pub returns-in-Ok-clause-again : goal.returns-in-Ok-clause-again
 returns-in-Ok-clause-again g c s input starts told may =
-    ((c.answer_lines.ensures.runs s input (c.in-Ok.ensures.store s starts) told).disk (c.in-Ok.ensures.holds s starts may)).again
+    let first : State = record s { openable = true } in
+    let begins = again_openable g.D.Watched c.args.disk s starts may in
+    ((c.answer_lines.ensures.runs first input (c.in-Ok.ensures.store first begins) told).disk (c.in-Ok.ensures.holds first begins refl)).again
 
 pub returns-clause-again : goal.returns-clause-again
 returns-clause-again g c s input starts told (state, is, may) =

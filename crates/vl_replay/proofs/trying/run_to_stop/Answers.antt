@@ -1,4 +1,6 @@
 use Rattle.std.proofs.Common.{◌≡◌, ◌≢◌, arith, true, false, sym, ◌∙◌}
+use Rattle.vl_mem.specs.contracts.stopping_disk.StoppingDiskWatched.TheImpl as memory
+use Rattle.vl_replay.specs.Failing.{ReaderFailed}
 use Rattle.vl_replay.specs.Replaying.{StandsFor, disk_of}
 use Rattle.vl_replay.specs.Runs.{outside}
 use Rattle.vl_replay.specs.Trial.{begun}
@@ -14,14 +16,19 @@ use Rattle.vl_replay.proofs.trying.run_to_stop.Goals as goal
 not_both : true ≡ false → ⊥
 not_both e = cc
 
+-- no reader of the disk counts a fault
+never_reader : {R : Type 0} {P : Type 0} → (P → ReaderFailed {R = R} (λ reader. 0)) → P → ⊥
+never_reader failed p = (let some = (failed p).some in omega (arith, some))
+
 pub returns-in-Ok-clause-comes : goal.returns-in-Ok-clause-comes
 returns-in-Ok-clause-comes g c input told =
     let still = c.answer_lines.ensures.still_told input told in
-    comes c.args.stop (omega (arith, c.ranges.stop.fits)) input (StandsFor all_told c.in-Ok.replayer)
+    comes c.args.stop (omega (arith, c.ranges.stop.fits)) input (StandsFor memory.ghosts all_told c.in-Ok.replayer)
     (outside g.S.Source g.K.Sink c.args.source.now c.args.sink.now (disk_of c.in-Ok.replayer))
     (outside g.S.Source g.K.Sink c.answer_lines.new.source c.answer_lines.new.sink c.answer_lines.result.disk)
     c.in-Ok.ensures.opened c.answer_lines.result.ending (c.answer_lines.ensures.runs begun input c.in-Ok.ensures.opened.stands_for told)
-    c.answer_lines.ensures.as_meant c.answer_lines.ensures.disk_faults still.0 still.1
+    c.answer_lines.ensures.as_meant c.answer_lines.ensures.disk_faults
+    (never_reader (λ fault. c.answer_lines.ensures.reader_fault begun c.in-Ok.ensures.opened.stands_for fault)) still.0 still.1
 
 pub returns-then-is_fault-clause-comes : goal.returns-then-is_fault-clause-comes
 returns-then-is_fault-clause-comes g c input told =
@@ -38,7 +45,8 @@ returns-clause-comes g c input told =
 -- ---- no read of the store fails
 
 pub returns-in-Ok-clause-no_read_fault : goal.returns-in-Ok-clause-no_read_fault
-returns-in-Ok-clause-no_read_fault g c = c.answer_lines.ensures.readable begun c.in-Ok.ensures.opened.stands_for
+returns-in-Ok-clause-no_read_fault g c =
+    never_reader (λ fault. c.answer_lines.ensures.reader_fault begun c.in-Ok.ensures.opened.stands_for fault)
 
 pub returns-then-is_fault-clause-no_read_fault : goal.returns-then-is_fault-clause-no_read_fault
 returns-then-is_fault-clause-no_read_fault g c e = cc

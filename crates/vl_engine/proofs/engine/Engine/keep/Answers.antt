@@ -1,5 +1,7 @@
 use Rattle.vl_engine.proofs.Committing.{decides_leaving}
-use Rattle.vl_engine.proofs.KeptBy.{carries_by, carries_left, carries_same, fits_by, fronts_by, is_invalid, is_some, left_same, ruled_halted, ruled_invalid, stands_by, written_by}
+use Rattle.vl_engine.proofs.Flushed.{runs_on as runs_so}
+use Rattle.vl_engine.proofs.KeepSteps.{leaves_numbers}
+use Rattle.vl_engine.proofs.KeptBy.{carries_by, carries_left, carries_same, fits_by, fronts_by, is_invalid, is_some, left_same, ruled_halted, ruled_invalid, stands_by, switched_by, within_by, written_by}
 use Rattle.vl_engine.specs.Keeping.{MayKeep}
 use Rattle.vl_engine.specs.Represents.{Fronts, StandsFor, file_of}
 use Rattle.vl_engine.specs.Stepping.{Fits}
@@ -146,3 +148,24 @@ pub returns-clause-written : goal.returns-clause-written
 returns-clause-written g c other =
     written_by g.D.Watched c.args.self.now.core c.switch_kept.new.self.core c.args.self.now.disk c.switch_kept.new.self.disk
     c.args.versions c.switch_kept.result c.switch_kept.ensures.as_kept
+
+pub returns-clause-meanwhile : goal.returns-clause-meanwhile
+returns-clause-meanwhile g c failed =
+    let (staged, of, writes) = switched_by g.D.Watched c.args.self.now.core c.switch_kept.new.self.core c.args.self.now.disk
+    c.switch_kept.new.self.disk c.args.versions c.switch_kept.result c.switch_kept.ensures.as_kept failed in
+    (staged, writes)
+
+pub returns-clause-leaves : goal.returns-clause-leaves
+returns-clause-leaves g c h l now is within failed told =
+    let core = c.args.self.now.core in
+    let (staged, of, writes) = switched_by g.D.Watched core c.switch_kept.new.self.core c.args.self.now.disk
+    c.switch_kept.new.self.disk c.args.versions c.switch_kept.result c.switch_kept.ensures.as_kept failed in
+    leaves_numbers g.D.Watched (record { only_now = g.met.D.Disk.only_now; counts_now = g.met.D.Disk.counts_now })
+    g.D.Held.HeldFile.bytes core c.switch_kept.new.self.core h l c.args.versions c.args.self.now.disk c.switch_kept.new.self.disk is
+    (runs_so core h l is.stands.fronts c.in_default.is) (is_some c.args.versions c.if-versions-eq0.false) c.if-versions-gt-MAX_KEEP.false
+    staged of writes within now told
+
+pub returns-clause-within : goal.returns-clause-within
+returns-clause-within g c fine within =
+    within_by g.D.Watched c.args.self.now.core c.switch_kept.new.self.core c.args.self.now.disk c.switch_kept.new.self.disk
+    c.args.versions c.switch_kept.result c.switch_kept.ensures.as_kept fine within

@@ -397,3 +397,29 @@ pub returns-in-Flush-clause-named : goal.returns-in-Flush-clause-named
 returns-in-Flush-clause-named g c s file stands is =
     subst (λ (line : Line). FailsAt c.args.self.now.engine.core.back.manifest.number line s file) (sym c.in-Flush.is)
     (c.flush.ensures.named s file stands is)
+
+pub returns-in-Keep-clause-makes : goal.returns-in-Keep-clause-makes
+returns-in-Keep-clause-makes g c s stands =
+    subst (λ (line : Line). MakesStep g.D.Held.HeldFile.bytes (g.D.Watched.told c.keep.new.self.engine.disk)
+    c.keep.new.self.engine.core c.keep.new.self.opens.items s (step_to s line) c.keep.result)
+    (sym c.in-Keep.is) (c.keep.ensures.makes s stands)
+
+pub returns-in-Keep-clause-carries : goal.returns-in-Keep-clause-carries
+returns-in-Keep-clause-carries g c s stands =
+    subst (λ (line : Line). CarriesOut g.D.Watched IsStored Shown IsStopped c.args.self.now.engine.disk
+    c.keep.new.self.engine.disk s (state_after s line) c.keep.result)
+    (sym c.in-Keep.is) (c.keep.ensures.carries s stands)
+
+pub returns-in-Keep-clause-sound : goal.returns-in-Keep-clause-sound
+returns-in-Keep-clause-sound g c s stands halts = absurd (c.keep.ensures.sound s stands halts)
+
+pub returns-in-Keep-clause-undamaged : goal.returns-in-Keep-clause-undamaged
+returns-in-Keep-clause-undamaged g c s stands halts = c.keep.ensures.sound s stands (damage_is_read c.keep.result halts)
+
+pub returns-in-Keep-clause-fault : goal.returns-in-Keep-clause-fault
+returns-in-Keep-clause-fault g c s stands halts = absurd (c.keep.ensures.sound s stands (reader_is_read c.keep.result halts))
+
+pub returns-in-Keep-clause-named : goal.returns-in-Keep-clause-named
+returns-in-Keep-clause-named g c s file stands is =
+    subst (λ (line : Line). FailsAt c.args.self.now.engine.core.back.manifest.number line s file) (sym c.in-Keep.is)
+    (c.keep.ensures.named file is)

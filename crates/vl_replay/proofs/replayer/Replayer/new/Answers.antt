@@ -41,6 +41,9 @@ returns-in-Ok-clause-at_most g c s starts below =
     let made = c.in-Ok.ensures.calls starts.state starts.read starts.found starts.strays starts.told starts.is_read starts.are_strays in
     let same = made ∙ sym starts.calls in omega (arith, same)
 
+pub returns-in-Err-clause-unmoved : goal.returns-in-Err-clause-unmoved
+returns-in-Err-clause-unmoved g c some = c.in-Err.ensures.unmoved some
+
 -- ---- what was opened
 
 pub returns-in-Ok-clause-store : goal.returns-in-Ok-clause-store

@@ -10,7 +10,7 @@ use Rattle.vl_engine.specs.Shown.{Shown}
 use Rattle.vl_replay.specs.declared.ending.Ending.{Ending}
 use Rattle.vl_replay.specs.declared.ending.Ending.TheVariants.{NoMemory, ReadFault, ReaderFault}
 use Rattle.vl_replay.specs.declared.input.lines.Next.TheVariants.{Line as WholeLine, LastLine, TooLong, End}
-use Rattle.vl_replay.proofs.Runs.Ends.{too_long_is_bad, finished, finish_counts, last_readable, line_leaves_disk, ended_lines-none, or_cut}
+use Rattle.vl_replay.proofs.Runs.Ends.{too_long_is_bad, finished, finish_counts, last_unread, line_leaves_disk, ended_lines-none, or_cut}
 use Rattle.vl_replay.proofs.Disk.Shown.{shown_stays, stored_exactly}
 use Rattle.vl_replay.proofs.Runs.ReadingOn.{ends_at_long, finishes_otherwise, reads_all, reads_end, reads_last, reads_line}
 use Rattle.vl_replay.proofs.Runs.Stepping.{reads_script, still_keeps_up, next_line, next_last, step_line, step_last, step_apart, step_end}
@@ -21,8 +21,8 @@ returns-in-Ok-Line-clause-runs g c script to_do =
     let reads = reads_script WholeLine script.bytes (c.args.self.now.buffer ++ to_do.rest) c.read_line.new.line.items c.read_line.new.buffer (g.S.Source.left c.read_line.new.source) to_do.bytes_are (rw c.in-Ok-Line.field-0-is at (c.in-Ok-Line.ensures.line to_do.rest to_do.left_is)) in
     let old = outside g.S.Source g.K.Sink c.args.source.now c.args.sink.now (disk_of c.args.self.now.replayer) in
     let new = outside g.S.Source g.K.Sink c.read_line.new.source c.answer.new.sink (disk_of c.answer.new.self.replayer) in
-    subst (λ (b : List ℕ). Steps g.D.Watched IsStored Shown IsStopped script old new (kept (StandsFor g.D.Held.HeldFile.bytes c.answer.new.self.replayer) b c.answer.new.self.answered) c.answer.result) (sym c.answer.ensures.same)
-    (step_line g.D.Watched (record { only_now = g.met.D.Disk.only_now; counts_now = g.met.D.Disk.counts_now }) IsStored Shown IsStopped shown_stays stored_exactly script old new c.read_line.new.line.items (StandsFor g.D.Held.HeldFile.bytes c.answer.new.self.replayer) c.read_line.new.buffer c.answer.new.self.answered c.answer.result (c.answer.ensures.counted script.before to_do.count) reads
+    subst (λ (b : List ℕ). Steps g.D.Watched IsStored Shown IsStopped script old new (kept (StandsFor g.D.Watched g.D.Held.HeldFile.bytes c.answer.new.self.replayer) b c.answer.new.self.answered) c.answer.result) (sym c.answer.ensures.same)
+    (step_line g.D.Watched (record { only_now = g.met.D.Disk.only_now; counts_now = g.met.D.Disk.counts_now }) IsStored Shown IsStopped shown_stays stored_exactly script old new c.read_line.new.line.items (StandsFor g.D.Watched g.D.Held.HeldFile.bytes c.answer.new.self.replayer) c.read_line.new.buffer c.answer.new.self.answered c.answer.result (c.answer.ensures.counted script.before to_do.count) reads
     (c.answer.ensures.printed script to_do.stands to_do.count (next_line script c.read_line.new.line.items c.read_line.new.buffer (g.S.Source.left c.read_line.new.source) reads)) (c.answer.ensures.moves script.start to_do.stands) (still_keeps_up script.bytes (c.args.self.now.buffer ++ to_do.rest) (g.S.Source.asked c.args.source.now) (g.S.Source.asked c.read_line.new.source) to_do.bytes_are (c.read_line.ensures.keeps_up to_do.rest to_do.left_is) to_do.kept_up))
 
 pub returns-in-Ok-LastLine-clause-runs : goal.returns-in-Ok-LastLine-clause-runs
@@ -31,7 +31,7 @@ returns-in-Ok-LastLine-clause-runs g c script to_do =
     let answered = c.answer-in-Ok-LastLine in
     let old = outside g.S.Source g.K.Sink c.args.source.now c.args.sink.now (disk_of c.args.self.now.replayer) in
     let new = outside g.S.Source g.K.Sink c.read_line.new.source answered.new.sink (disk_of answered.new.self.replayer) in
-    step_last g.D.Watched (record { only_now = g.met.D.Disk.only_now; counts_now = g.met.D.Disk.counts_now }) IsStored Shown IsStopped shown_stays stored_exactly script old new c.read_line.new.line.items (StandsFor g.D.Held.HeldFile.bytes answered.new.self.replayer) c.read_line.new.buffer answered.result c.unwrap_or.result c.unwrap_or.ensures reads
+    step_last g.D.Watched (record { only_now = g.met.D.Disk.only_now; counts_now = g.met.D.Disk.counts_now }) IsStored Shown IsStopped shown_stays stored_exactly script old new c.read_line.new.line.items (StandsFor g.D.Watched g.D.Held.HeldFile.bytes answered.new.self.replayer) c.read_line.new.buffer answered.result c.unwrap_or.result c.unwrap_or.ensures reads
     (answered.ensures.printed script to_do.stands to_do.count (next_last script c.read_line.new.line.items c.read_line.new.buffer (g.S.Source.left c.read_line.new.source) reads)) (answered.ensures.moves script.start to_do.stands) (still_keeps_up script.bytes (c.args.self.now.buffer ++ to_do.rest) (g.S.Source.asked c.args.source.now) (g.S.Source.asked c.read_line.new.source) to_do.bytes_are (c.read_line.ensures.keeps_up to_do.rest to_do.left_is) to_do.kept_up)
 
 pub returns-in-Ok-TooLong-clause-runs : goal.returns-in-Ok-TooLong-clause-runs
@@ -137,7 +137,7 @@ returns-in-Err-Fault-clause-reads g c input begin h =
     reads_end input begin old new buffer count h ended.result (c.read_line.ensures.keeps_up h.rest h.left_is h.kept_up)
     (finishes_otherwise g.K.Sink c.args.sink.now ended.new.sink read_fault_line ReadFault ended.result _ _ count (λ e. cc, λ e. cc, λ name place e. cc, λ e. cc) ended.ensures)
 
--- ---- no read of a told store fails, and the run goes on over one
+-- ---- at what read it ends, and over what store it goes on
 
 some_ending : (a b : Ending) → Some a ≡ Some b → a ≡ b
 some_ending a b e = cc
@@ -145,27 +145,27 @@ some_ending a b e = cc
 some_none : (a : Ending) → Some a ≡ None → ⊥
 some_none a e = cc
 
-pub returns-in-Ok-Line-clause-readable : goal.returns-in-Ok-Line-clause-readable
-returns-in-Ok-Line-clause-readable g c s stands = c.answer.ensures.readable s stands
+pub returns-in-Ok-Line-clause-reader_fault : goal.returns-in-Ok-Line-clause-reader_fault
+returns-in-Ok-Line-clause-reader_fault g c s stands = c.answer.ensures.reader_fault s stands
 
-pub returns-in-Ok-LastLine-clause-readable : goal.returns-in-Ok-LastLine-clause-readable
-returns-in-Ok-LastLine-clause-readable g c s stands =
+pub returns-in-Ok-LastLine-clause-reader_fault : goal.returns-in-Ok-LastLine-clause-reader_fault
+returns-in-Ok-LastLine-clause-reader_fault g c s stands by =
     let answered = c.answer-in-Ok-LastLine in
-    last_readable answered.result c.unwrap_or.result c.unwrap_or.ensures (answered.ensures.readable s stands)
+    answered.ensures.reader_fault s stands (last_unread answered.result c.unwrap_or.result c.unwrap_or.ensures by)
 
-pub returns-in-Ok-TooLong-clause-readable : goal.returns-in-Ok-TooLong-clause-readable
-returns-in-Ok-TooLong-clause-readable g c s stands by = c.end_at_bad_line.ensures.readable (some_ending _ _ by)
+pub returns-in-Ok-TooLong-clause-reader_fault : goal.returns-in-Ok-TooLong-clause-reader_fault
+returns-in-Ok-TooLong-clause-reader_fault g c s stands by = absurd (c.end_at_bad_line.ensures.readable (some_ending _ _ by))
 
-pub returns-in-Ok-End-clause-readable : goal.returns-in-Ok-End-clause-readable
-returns-in-Ok-End-clause-readable g c s stands by = absurd (cc)
+pub returns-in-Ok-End-clause-reader_fault : goal.returns-in-Ok-End-clause-reader_fault
+returns-in-Ok-End-clause-reader_fault g c s stands by = absurd (cc)
 
-pub returns-in-Err-NoMemory-clause-readable : goal.returns-in-Err-NoMemory-clause-readable
-returns-in-Err-NoMemory-clause-readable g c s stands =
-    or_cut g.K.Sink _ _ _ NoMemory c.finish.result (λ (e : Ending). Some e ≢ Some ReaderFault) c.finish.ensures (λ e. cc) (λ e. cc)
+pub returns-in-Err-NoMemory-clause-reader_fault : goal.returns-in-Err-NoMemory-clause-reader_fault
+returns-in-Err-NoMemory-clause-reader_fault g c s stands by =
+    absurd (or_cut g.K.Sink _ _ _ NoMemory c.finish.result (λ (e : Ending). Some e ≢ Some ReaderFault) c.finish.ensures (λ e. cc) (λ e. cc) by)
 
-pub returns-in-Err-Fault-clause-readable : goal.returns-in-Err-Fault-clause-readable
-returns-in-Err-Fault-clause-readable g c s stands =
-    or_cut g.K.Sink _ _ _ ReadFault c.finish-in-Err-Fault.result (λ (e : Ending). Some e ≢ Some ReaderFault) c.finish-in-Err-Fault.ensures (λ e. cc) (λ e. cc)
+pub returns-in-Err-Fault-clause-reader_fault : goal.returns-in-Err-Fault-clause-reader_fault
+returns-in-Err-Fault-clause-reader_fault g c s stands by =
+    absurd (or_cut g.K.Sink _ _ _ ReadFault c.finish-in-Err-Fault.result (λ (e : Ending). Some e ≢ Some ReaderFault) c.finish-in-Err-Fault.ensures (λ e. cc) (λ e. cc) by)
 
 pub returns-in-Ok-Line-clause-stands : goal.returns-in-Ok-Line-clause-stands
 returns-in-Ok-Line-clause-stands g c s stands on = c.answer.ensures.stands s stands on
