@@ -702,3 +702,30 @@ fn a_store_of_format_1_with_a_table_is_read(rt: HostRuntime) -> Result<(), Fail>
     assert_eq!(rt; status, case.status);
     Ok(())
 }
+
+#[test]
+fn kept_versions_are_read_after_a_stop(rt: HostRuntime) -> Result<(), Fail> {
+    let alloc = rt.alloc();
+    let mut disk = MemDisk::new(alloc, Vec::new(alloc), Vec::new(alloc));
+    let runs = [
+        plain(
+            "keep 2\nbegin t\nset t 61 01\ncommit t\nbegin t\nset t 61 02\ncommit t\nrotate\nflush\nbegin t\nset t 61 03\ncommit t\n",
+            "ok\nok 0\nok\nok 1\nok 1\nok\nok 2\nok 1\nok 1\nok 2\nok\nok 3\n",
+            0,
+        ),
+        plain(
+            "view v\ngetat v 61 3\ngetat v 61 2\ngetat v 61 1\nkeep 3\n",
+            "ok 3\nvalue 03\nvalue 02\ndropped 2\nok\n",
+            0,
+        ),
+        // What was raised counts from the last commit on.
+        plain("view v\ngetat v 61 2\n", "ok 3\ndropped 3\n", 0),
+    ];
+    for (i, case) in runs.iter().enumerate() {
+        let (status, printed, left) = outcome_over(alloc, case, disk)?;
+        assert_eq!(rt; printed.as_slice(), case.printed.as_bytes(), "run {i}");
+        assert_eq!(rt; status, case.status, "run {i}");
+        disk = left.crash(Outcome::Lost)?;
+    }
+    Ok(())
+}
