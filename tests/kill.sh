@@ -7,19 +7,26 @@ program="$home/crates/vl_prog/out/vl_prog"
 folder="$(mktemp -d)"
 trap 'rm -rf "$folder"' EXIT
 
-# Commits without end, from number $1 on. Number n writes n to the key n, and to the key ff, which all write.
+# Commits without end, from number $1 on. Number n writes n to the key n, and to the key ff, which all write. Behind each
+# eighth the log is sealed and flushed.
 commits() {
   local n
   for ((n = $1; ; n++)); do
     printf 'begin t\nset t %08x %08x\nset t ff %08x\ncommit t\n' "$n" "$n" "$n"
+    if [ "$((n % 8))" -eq 0 ]; then printf 'rotate\nflush\n'; fi
   done
 }
 
-# The last number in the answers, of which only whole lines count, or $1 where there is none.
+# The last commit behind $1 that was answered. Only whole lines count: four a commit, and two more behind each eighth.
 last_answered() {
-  local last="$1" line
+  local last="$1" next="$(($1 + 1))" lines=0 line
   while read -r line; do
-    case "$line" in 'ok '*) last="${line#ok }" ;; esac
+    lines="$((lines + 1))"
+    if [ "$lines" -eq 4 ]; then last="${line#ok }"; fi
+    if [ "$lines" -eq 6 ] || { [ "$lines" -eq 4 ] && [ "$((next % 8))" -ne 0 ]; }; then
+      next="$((next + 1))"
+      lines=0
+    fi
   done <"$folder/answers"
   echo "$last"
 }

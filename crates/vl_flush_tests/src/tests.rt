@@ -1,9 +1,10 @@
-//! A commit, a rotation and a flush that stop at each call that changes the disk; and a log that is full.
+//! A commit, a rotation, a flush and another number of kept versions that stop at each call that changes the disk; a log that is
+//! full; and which numbers of versions may be kept.
 
 use std::alloc::Global;
 use std::test::Fail;
 use vl_disk::Disk;
-use vl_engine::{CommitFail, Done, Engine, OpenFail};
+use vl_engine::{CommitFail, Done, Engine, KeepFail, OpenFail};
 use vl_mem::{MemDisk, Outcome};
 
 /// A value that a table doesn't have beside its key.
@@ -24,7 +25,7 @@ fn commit<D: Disk>(store: &mut Engine<D>, value: &[u8]) -> Option<u64> {
     }
 }
 
-/// The disk behind an opening, a commit, a rotation and a flush, of which so many changing calls pass.
+/// The disk behind an opening, a commit, a rotation, a flush and a `keep`, of which so many changing calls pass.
 fn run_to_stop(alloc: Global, stop: u64) -> MemDisk {
     let mut disk = MemDisk::new(alloc, Vec::new(alloc), Vec::new(alloc));
     disk.stop_after(stop);
@@ -32,7 +33,11 @@ fn run_to_stop(alloc: Global, stop: u64) -> MemDisk {
         Ok(store) => store,
         Err(OpenFail { disk, .. }) => return disk,
     };
-    if commit(&mut store, &LONG).is_some() && store.rotate().is_ok() && store.flush().is_ok() {
+    if commit(&mut store, &LONG).is_some()
+        && store.rotate().is_ok()
+        && store.flush().is_ok()
+        && store.keep(2).is_ok()
+    {
         return store.close();
     }
     store.close()
@@ -73,11 +78,12 @@ fn leaves(alloc: Global, stop: u64, outcome: Outcome, is_there: bool) -> bool {
     true
 }
 
-/// To open makes six calls, and the commit's append is the seventh. The rotation makes three behind its sync, and the flush five.
+/// To open makes six calls, and the commit's append is the seventh. The rotation makes three behind its sync, the flush five and
+/// the `keep` two.
 #[test]
 fn a_stop_at_each_call_leaves_what_was_committed(rt: HostRuntime) -> Result<(), Fail> {
     let alloc = rt.alloc();
-    for stop in 0..17 {
+    for stop in 0..19 {
         assert!(rt; leaves(alloc, stop, Outcome::Lost, stop >= 8));
         assert!(rt; leaves(alloc, stop, Outcome::Kept, stop >= 7));
         assert!(rt; leaves(alloc, stop, Outcome::Halved, stop >= 8));
@@ -112,5 +118,24 @@ fn goes_on(alloc: Global) -> bool {
 #[test]
 fn a_full_log_is_rotated_and_flushed(rt: HostRuntime) -> Result<(), Fail> {
     assert!(rt; goes_on(rt.alloc()));
+    Ok(())
+}
+
+/// Whether these numbers of versions are answered so by one store.
+fn keeps(alloc: Global) -> bool {
+    let disk = MemDisk::new(alloc, Vec::new(alloc), Vec::new(alloc));
+    let Ok(mut store) = Engine::open(alloc, disk, 100) else {
+        return false;
+    };
+    store.keep(0) == Err(KeepFail::InvalidRequest)
+        && store.keep(17) == Err(KeepFail::InvalidRequest)
+        && store.keep(1) == Ok(())
+        && store.keep(16) == Ok(())
+        && store.keep(2) == Ok(())
+}
+
+#[test]
+fn from_one_to_sixteen_versions_may_be_kept(rt: HostRuntime) -> Result<(), Fail> {
+    assert!(rt; keeps(rt.alloc()));
     Ok(())
 }

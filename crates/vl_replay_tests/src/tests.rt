@@ -38,6 +38,19 @@ const RUNS: &str = "\
     replay .|||begin a;setb a 61 aa 7;getb a 61;get a 61;set a 62 -;getb a 62;getb a 63;commit a;view b;getb b 61;getb b -;setb b 61 01 0;getb q 61;setb q 61 01 0;|ok 0;ok;value aa byte 7;value aa;ok;value - byte 0;none;ok 1;ok 1;value aa byte 7;invalid;readonly;unknown q;unknown q;|0\n\
     replay .|||begin a;drop a;get a 61;view a;drop a;begin a;drop b;|ok 0;ok;unknown a;ok 0;ok;ok 0;unknown b;|0\n\
     replay .|||begin a;set a *4096* 01;get a *4096*;del a *4096*;set a *4097* 01;get a *4097*;del a *4097*;|ok 0;ok;value 01;ok;invalid;invalid;invalid;|0\n\
+    replay .|||rotate;flush;begin t;set t 61 01;commit t;flush;rotate;rotate;flush;flush;view v;get v 61;|idle;idle;ok 0;ok;ok 1;idle;ok 1;idle;ok 1;idle;ok 1;value 01;|0\n\
+    replay .|||begin t;set t 61 *64*;set t 62 *65*;commit t;rotate;flush;view v;get v 61;get v 62;scan v - - 9;|ok 0;ok;ok;ok 1;ok 1;ok 1;ok 1;value *64*;value *65*;rows 2;61 *64*;62 *65*;|0\n\
+    replay .|||begin t;setb t 61 *65* 7;commit t;rotate;flush;view w;getb w 61;|ok 0;ok;ok 1;ok 1;ok 1;ok 1;value *65* byte 7;|0\n\
+    replay .|||begin t;set t 61 *65*;commit t;rotate;flush;view v;begin t;set t 61 *66*;commit t;rotate;flush;get v 61;view w;get w 61;|ok 0;ok;ok 1;ok 1;ok 1;ok 1;ok 1;ok;ok 2;ok 2;ok 2;value *65*;ok 2;value *66*;|0\n\
+    replay .|||begin t;set t 61 *65*;commit t;rotate;flush;begin t;del t 61;commit t;rotate;flush;begin t;set t 62 01;commit t;rotate;flush;begin t;set t 63 01;commit t;rotate;flush;view v;get v 61;get v 62;scan v - - 9;rscan v - - 1;|ok 0;ok;ok 1;ok 1;ok 1;ok 1;ok;ok 2;ok 2;ok 2;ok 2;ok;ok 3;ok 3;ok 3;ok 3;ok;ok 4;ok 4;ok 4;ok 4;none;value 01;rows 2;62 01;63 01;rows 1;63 01;|0\n\
+    replay .|||begin a;get a 61;begin b;set b 61 01;commit b;rotate;flush;set a 62 01;commit a;|ok 0;none;ok 0;ok;ok 1;ok 1;ok 1;ok;conflict 61 1;|0\n\
+    replay .|||begin a;set a 61 01;rotate;flush;commit a;rotate;begin b;set b 62 02;commit b;view v;flush;scan v - - 9;|ok 0;ok;idle;idle;ok 1;ok 1;ok 1;ok;ok 2;ok 2;ok 1;rows 2;61 01;62 02;|0\n\
+    replay .|||keep 0;keep 17;keep 255;keep 16;keep 1;keep 1;|invalid;invalid;invalid;ok;ok;ok;|0\n\
+    replay .|||keep 2;begin t;set t 61 01;commit t;begin t;set t 61 02;commit t;begin t;set t 61 03;commit t;view v;getat v 61 3;getat v 61 2;getat v 61 1;getat v 61 4;getat v 62 0;getat v - 0;getat q 61 0;|ok;ok 0;ok;ok 1;ok 1;ok;ok 2;ok 2;ok;ok 3;ok 3;value 03;value 02;dropped 2;invalid;none;invalid;unknown q;|0\n\
+    replay .|||begin t;set t 61 01;commit t;begin t;set t 61 02;commit t;begin t;set t 61 03;commit t;view v;getat v 61 2;getat v 61 3;|ok 0;ok;ok 1;ok 1;ok;ok 2;ok 2;ok;ok 3;ok 3;dropped 3;value 03;|0\n\
+    replay .|||begin t;set t 61 01;commit t;begin t;set t 61 02;commit t;begin t;set t 61 03;commit t;keep 3;view v;getat v 61 2;begin t;set t 61 04;commit t;view w;getat w 61 4;getat w 61 3;getat w 61 2;getat v 61 3;keep 1;view x;getat x 61 3;getat w 61 3;|ok 0;ok;ok 1;ok 1;ok;ok 2;ok 2;ok;ok 3;ok;ok 3;dropped 3;ok 3;ok;ok 4;ok 4;value 04;value 03;dropped 3;value 03;ok;ok 4;dropped 4;value 03;|0\n\
+    replay .|||keep 2;begin t;set t 61 *65*;commit t;rotate;flush;begin t;del t 61;commit t;rotate;flush;begin t;set t 61 02;getat t 61 2;getat t 61 1;getat t 61 0;|ok;ok 0;ok;ok 1;ok 1;ok 1;ok 1;ok;ok 2;ok 2;ok 2;ok 2;ok;none;value *65*;dropped 1;|0\n\
+    replay .|||keep 2;begin a;getat a 61 0;begin b;set b 61 01;commit b;set a 62 01;commit a;|ok;ok 0;none;ok 0;ok;ok 1;ok;ok 2;|0\n\
     replay .|3||begin a;get a 61|ok 0;none;|0\n\
     replay .|2||begin a;get a 61|ok 0;read fault;|6\n\
     replay .||2|begin a;get a 61;|ok 0;|7\n\
@@ -72,6 +85,31 @@ const STOPS: &str = "\
     11|ok 0;ok;ok;ok 1;ok 1;ok;ok 2;ok 2;ok;|reopened 2;rows 1;62 02;|reopened 3;rows 2;62 02;63 -;\n\
     12|ok 0;ok;ok;ok 1;ok 1;ok;ok 2;ok 2;ok;ok 3;|reopened 3;rows 2;62 02;63 -;|reopened 3;rows 2;62 02;63 -;";
 
+/// A commit, which makes the calls 7 and 8, a rotation, 9 to 11, a flush, 12 to 16, and a `keep`, 17 and 18.
+const STEPS: &str = "begin t;set t 61 *65*;commit t;rotate;flush;keep 2;";
+
+/// Trials of them.
+const STEP_STOPS: &str = "\
+    0||reopened 0;rows 0;|reopened 0;rows 0;\n\
+    1||reopened 0;rows 0;|reopened 0;rows 0;\n\
+    2||reopened 0;rows 0;|reopened 0;rows 0;\n\
+    3||reopened 0;rows 0;|reopened 0;rows 0;\n\
+    4||reopened 0;rows 0;|reopened 0;rows 0;\n\
+    5||reopened 0;rows 0;|reopened 0;rows 0;\n\
+    6|ok 0;ok;|reopened 0;rows 0;|reopened 0;rows 0;\n\
+    7|ok 0;ok;|reopened 0;rows 0;|reopened 1;rows 1;61 *65*;\n\
+    8|ok 0;ok;ok 1;|reopened 1;rows 1;61 *65*;|reopened 1;rows 1;61 *65*;\n\
+    9|ok 0;ok;ok 1;|reopened 1;rows 1;61 *65*;|reopened 1;rows 1;61 *65*;\n\
+    10|ok 0;ok;ok 1;|reopened 1;rows 1;61 *65*;|reopened 1;rows 1;61 *65*;\n\
+    11|ok 0;ok;ok 1;ok 1;|reopened 1;rows 1;61 *65*;|reopened 1;rows 1;61 *65*;\n\
+    12|ok 0;ok;ok 1;ok 1;|reopened 1;rows 1;61 *65*;|reopened 1;rows 1;61 *65*;\n\
+    13|ok 0;ok;ok 1;ok 1;|reopened 1;rows 1;61 *65*;|reopened 1;rows 1;61 *65*;\n\
+    14|ok 0;ok;ok 1;ok 1;|reopened 1;rows 1;61 *65*;|reopened 1;rows 1;61 *65*;\n\
+    15|ok 0;ok;ok 1;ok 1;|reopened 1;rows 1;61 *65*;|reopened 1;rows 1;61 *65*;\n\
+    16|ok 0;ok;ok 1;ok 1;ok 1;|reopened 1;rows 1;61 *65*;|reopened 1;rows 1;61 *65*;\n\
+    17|ok 0;ok;ok 1;ok 1;ok 1;|reopened 1;rows 1;61 *65*;|reopened 1;rows 1;61 *65*;\n\
+    18|ok 0;ok;ok 1;ok 1;ok 1;ok;|reopened 1;rows 1;61 *65*;|reopened 1;rows 1;61 *65*;";
+
 /// Words that aren't plain, between the bars.
 const NOT_PLAIN: &str =
     "|replay|replay -h|replay |replay . .|--help|help|-h .|--help .|trial|trial 1|trial 1 3|trial 1 -\
@@ -84,7 +122,7 @@ const USAGE: &str =
 const NO_LINES: &str =
     " |begin|begin |begin  a| begin a|begin a |begin a b|begin A|begin a_b|begin 123456789abcdefgh|Begin a\
     |begi a|get a|get - -|get a 6|get a 6g|get a |get a 61 62|set a 61|set a 61 01 02|set a 61 01\r|setb a 61 01|setb a 61 01 256|setb a 61 01 07|setb a 61 01 +7|setb a 61 01 7 |getb a|getb a 61 7|del a\
-    |del a |del a 61 62|del a 6|delete a 61|scan a - -|scan a - - 0|scan a - - 65536|scan a - - 01|rscan a - - 1 1|scan a 6 - 1|drop|drop a b|drop A";
+    |del a |del a 61 62|del a 6|delete a 61|scan a - -|scan a - - 0|scan a - - 65536|scan a - - 01|rscan a - - 1 1|scan a 6 - 1|drop|drop a b|drop A|rotate |rotate a| flush|flush 1|Flush|keep|keep 256|keep 01|keep a|getat a 61|getat a 61 01|getat a 61 18446744073709551616|getat a 6 1";
 
 /// The text that stands for these bytes in a table.
 fn spelled(alloc: Global, text: &str) -> Result<Vec<u8>, Fail> {
@@ -155,23 +193,40 @@ fn runs_print_what_is_listed(rt: HostRuntime) -> Result<(), Fail> {
     Ok(())
 }
 
-#[test]
-fn a_script_is_tried_under_each_stop(rt: HostRuntime) -> Result<(), Fail> {
-    for row in STOPS.split('\n') {
+/// The words of the first trial of a script that doesn't print what the table of its stops has, or ends with another status.
+fn first_wrong(alloc: Global, script: &str, stops: &str) -> Result<Option<String>, Fail> {
+    for row in stops.split('\n') {
         let mut fields = row.split('|');
         let stop = fields.next().unwrap_or("");
         let answers = fields.next().unwrap_or("");
         let lost = fields.next().unwrap_or("");
         let kept = fields.next().unwrap_or("");
         for (outcome, rows) in [("0", lost), ("1", kept), ("2", lost)] {
-            let words = format!(in rt.alloc(); "trial {stop} {outcome}")?;
-            let wanted = format!(in rt.alloc(); "{answers}{rows}")?;
-            let wanted = spelled(rt.alloc(), wanted.as_str())?;
-            let (printed, status) = ran(rt.alloc(), words.as_str(), "", "", COMMITS)?;
-            assert!(rt; printed.as_slice() == wanted.as_slice(), "{words}");
-            assert!(rt; status.as_str() == "0", "{words}");
+            let words = format!(in alloc; "trial {stop} {outcome}")?;
+            let wanted = format!(in alloc; "{answers}{rows}")?;
+            let wanted = spelled(alloc, wanted.as_str())?;
+            let (printed, status) = ran(alloc, words.as_str(), "", "", script)?;
+            if printed.as_slice() != wanted.as_slice() || status.as_str() != "0" {
+                return Ok(Some(words));
+            }
         }
     }
+    Ok(None)
+}
+
+#[test]
+fn commits_are_tried_under_each_stop(rt: HostRuntime) -> Result<(), Fail> {
+    let wrong = first_wrong(rt.alloc(), COMMITS, STOPS)?;
+    let words = wrong.as_ref().map_or("", |it| it.as_str());
+    assert!(rt; wrong.is_none(), "{words}");
+    Ok(())
+}
+
+#[test]
+fn a_rotation_and_a_flush_are_tried_under_each_stop(rt: HostRuntime) -> Result<(), Fail> {
+    let wrong = first_wrong(rt.alloc(), STEPS, STEP_STOPS)?;
+    let words = wrong.as_ref().map_or("", |it| it.as_str());
+    assert!(rt; wrong.is_none(), "{words}");
     Ok(())
 }
 

@@ -4,8 +4,8 @@
 
 pub use vl_disk::{Disk, HeldFile, Name, Reader};
 pub use vl_engine::{
-    BeginFail, CommitFail, Done, Engine, Found, OpenError, OpenFail, ReadFail, ReadFault, Rows,
-    SetFail, StepFail, Txn, View,
+    AtFail, BeginFail, CommitFail, Done, Engine, Found, KeepFail, OpenError, OpenFail, ReadFail,
+    ReadFault, Rows, SetFail, StepFail, Txn, View,
 };
 pub use vl_folder::FolderDisk;
 pub use vl_model::{Bytes, Counter, Key, MAX_KEY_BYTES, MAX_ROOM, MAX_VALUE_BYTES, Value, Way};
