@@ -10,6 +10,8 @@ mod levels;
 #[cfg(test)]
 mod merging;
 #[cfg(test)]
+mod planning;
+#[cfg(test)]
 mod sharing;
 mod source;
 #[cfg(test)]
