@@ -117,7 +117,10 @@ fn four_tables_are_merged_with_those_that_they_meet(rt: HostRuntime) -> Result<(
     let alloc = rt.alloc();
     let levels = Levels::new(newest(alloc)?, below(alloc)?);
     let merge = planned(alloc, &levels)?.ok_or("none")?;
-    assert_eq!(rt; numbers(alloc, &merge)?.as_slice(), [4, 3, 2, 1, 6, 7, 8].as_slice());
+    assert_eq!(rt;
+        numbers(alloc, &merge)?.as_slice(),
+        [4, 3, 2, 1, 6, 7, 8].as_slice()
+    );
     assert!(rt; matches!(merge.target, Target::Level(1)));
     let mut three = newest(alloc)?;
     three.pop();
