@@ -1,5 +1,7 @@
 //! Which merges are planned of tables by their levels. Of their files nothing is looked at but the length.
 
+ghost use Rattle.std.specs.Prelude.{◌≤◌};
+
 use crate::disk::{gone, held};
 use std::alloc::Global;
 use std::sync::Arc;
