@@ -1,0 +1,7 @@
+mod Choices
+mod DueLaws
+mod Into
+mod LevelAt
+mod MergeLaws
+mod Of
+mod Zips

@@ -1,0 +1,4 @@
+pub mod Laid
+pub mod Merges
+pub mod Ranges
+pub mod Ruled

@@ -1,0 +1,15 @@
+// Laws of the definitions: each is the contract of a function that does nothing.
+ghost use Rattle.std.specs.Prelude.{◌≡◌, ℕ, None};
+ghost use Rattle.vl_compact.specs.Merges.{drain_in, plan_in};
+ghost use Rattle.vl_compact.specs.Ruled.{merge_ruling};
+ghost use Rattle.vl_layout.specs.Rulings.Drain.{drain_ruling};
+ghost use Rattle.vl_layout.specs.Rulings.Plan.{plan_ruling};
+ghost use Rattle.vl_layout.specs.declared.layout.Layout.{Layout};
+ghost use Rattle.vl_model.specs.History.{History};
+
+/// Where no job is open, the merges that are planned of a layout's levels are those that it rules.
+pub fn merges_are_as_ruled()
+    ensures plan { (l : Layout) (h : History) → l.job ≡ None → plan_ruling l h ≡ merge_ruling l h (plan_in l.levels) }
+    ensures drain { (l : Layout) (h : History) (segment : ℕ) → l.job ≡ None
+        → drain_ruling l h segment ≡ merge_ruling l h (drain_in segment l.levels) }
+{}
