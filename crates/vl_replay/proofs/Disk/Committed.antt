@@ -141,7 +141,7 @@ carries_short g old new s after (Err halt) out carries =
 -- ---- what a disk holds then
 
 -- where the same files stand, none has a greater number
-numbered_still : (n : ℕ) (old new : Option DiskState) (disk now : DiskState) → SameFiles old new → old ≡ Some disk
+pub numbered_still : (n : ℕ) (old new : Option DiskState) (disk now : DiskState) → SameFiles old new → old ≡ Some disk
     → new ≡ Some now → AreNumberedUpTo n disk → AreNumberedUpTo n now
 numbered_still n old new disk now same told then numbered = record {
   standing = λ name there. numbered.standing name (λ none. there ((same disk now told then name).0.1 none));
