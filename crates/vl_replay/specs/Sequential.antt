@@ -21,7 +21,7 @@ pub record State : Type 0 where
   pub store : things.State
   pub calls : ℕ
   pub files : ℕ
-  -- whether a store might be opened on the disk where the run began, also behind a crash; no line changes it
+  -- whether a store might be opened on the disk where the run began; no line changes it
   pub openable : Bool
 
 abbrev pub history_of : State → History
