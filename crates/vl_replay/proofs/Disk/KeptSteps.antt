@@ -131,9 +131,13 @@ module _ {D H R : Type 0} (g : Ghosts D) (watched : IsWatched g) (bytes : H → 
 
     -- where the engine represents what it did, it is held
     holds_still : engine.Represents bytes after (g.told new) h l → (KeepFailed result → ⊥) → HoldsCommits g IsStored s new
-    holds_still still fine =
-        (s, refl, refl, stored_by bytes after (g.told new) s h l refl refl held.there.2.openable stands.running still (did.within fine)
-        log_near table_near numbered)
+    holds_still still fine = (
+      s,
+      refl,
+      refl,
+      stored_by bytes after (g.told new) s h l refl refl held.there.2.openable stands.running still (did.within fine)
+          log_near table_near numbered,
+    )
 
     -- what a crash leaves shows the history
     through : CrashesShow g Shown old new h h

@@ -110,12 +110,15 @@ module _ {H R : Type 0} (bytes : H → Option (List ℕ)) (h k : History) (l m :
   still_stands None (Some (AJob job made)) on is = absurd is
   still_stands None (Some (APass pass batch)) on is = absurd is
   still_stands (Some (Transaction txn)) None on is = absurd is
-  still_stands (Some (Transaction txn)) (Some (ATransaction t b)) on (is, began) = ((record {
-    same = is.same;
-    sees = sees_later bytes txn h k t.reads more is.sees;
-    live = lives txn.ticket txn.number (subst (λ (u : ATxn). ticket_lives u.ticket) (sym is.same) (on (ATransaction t b) refl)) is.live;
-    near = λ none. is.near (bare none);
-  }), began)
+  still_stands (Some (Transaction txn)) (Some (ATransaction t b)) on (is, began) = (
+    (record {
+      same = is.same;
+      sees = sees_later bytes txn h k t.reads more is.sees;
+      live = lives txn.ticket txn.number (subst (λ (u : ATxn). ticket_lives u.ticket) (sym is.same) (on (ATransaction t b) refl)) is.live;
+      near = λ none. is.near (bare none);
+    }),
+    began,
+  )
   still_stands (Some (Transaction txn)) (Some (AView v b)) on is = absurd is
   still_stands (Some (Transaction txn)) (Some (AJob job made)) on is = absurd is
   still_stands (Some (Transaction txn)) (Some (APass pass batch)) on is = absurd is
@@ -169,14 +172,17 @@ module _ {H R : Type 0} (bytes : H → Option (List ℕ)) (h : History) (l : Lay
       → (tables l ≡ [] → IsInMemory txn.version) → beginning txn.past ≡ b
       → Stand bytes (os ++ record { name = name; thing = Transaction txn } ∷ [])
       (named name (ATransaction (record { ticket = ticket; number = last_number h; reads = []; writes = [] }) b) ts) h next
-  begins_transaction txn b own number new sees near began = begins_so (Transaction txn) _ refl ((record {
-    same = ap (λ (n : ℕ). record { ticket = n; number = txn.number; reads = []; writes = entries txn.writes }) own
-        ∙ ap (λ (n : ℕ). record { ticket = ticket; number = n; reads = []; writes = entries txn.writes }) number
-        ∙ ap (λ (w : Changes). record { ticket = ticket; number = last_number h; reads = []; writes = w }) (ap (λ (w : Writes). entries w) new.writes ∙ no_entries);
-    sees = sees;
-    live = subst (λ (n : ℕ). IsLive next n txn.number) (sym own) (subst (IsLive next ticket) (sym number) (begun_lives l h lived));
-    near = near;
-  }), began)
+  begins_transaction txn b own number new sees near began = begins_so (Transaction txn) _ refl (
+    (record {
+      same = ap (λ (n : ℕ). record { ticket = n; number = txn.number; reads = []; writes = entries txn.writes }) own
+          ∙ ap (λ (n : ℕ). record { ticket = ticket; number = n; reads = []; writes = entries txn.writes }) number
+          ∙ ap (λ (w : Changes). record { ticket = ticket; number = last_number h; reads = []; writes = w }) (ap (λ (w : Writes). entries w) new.writes ∙ no_entries);
+      sees = sees;
+      live = subst (λ (n : ℕ). IsLive next n txn.number) (sym own) (subst (IsLive next ticket) (sym number) (begun_lives l h lived));
+      near = near;
+    }),
+    began,
+  )
 
   pub begins_view : (view : EngineView H R) (b : Beginning) → view.ticket ≡ ticket → view.number ≡ last_number h → SeesAlone bytes view h
       → (tables l ≡ [] → IsInMemory view.version) → beginning view.past ≡ b

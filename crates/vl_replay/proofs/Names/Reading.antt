@@ -120,22 +120,28 @@ module _ {H R : Type 0} (bytes : H → Option (List ℕ)) (s : store.State) (pro
       refl,
       stand_alike bytes h s.layout (left ++ record { name = name; thing = Transaction new } ∷ []) (named name (ATransaction t b) s.things) s.things
           (named_again s.things name (ATransaction t b) there)
-          (put_back bytes h s.layout os left s.things name (Transaction txn) (Transaction new) (ATransaction t b) (ATransaction t b) stand taken there refl ((record {
-            same = only_notes_asked txn new t.reads keeps ∙ is.same;
-            sees = subst (Sees bytes new h) (on_true (is_some (get txn.writes key)) t.reads (t.reads ++ KeyRead key (value_at h txn.number key) ∷ []) (ap is_some own)) sees;
-            live = subst (λ (x : Txn H R). IsLive s.layout x.ticket x.number) (sym keeps) is.live;
-            near = λ none. subst (λ (x : Txn H R). IsInMemory x.version) (sym keeps) (is.near none);
-          }), ap (λ (x : Txn H R). beginning x.past) keeps ∙ began)),
+          (put_back bytes h s.layout os left s.things name (Transaction txn) (Transaction new) (ATransaction t b) (ATransaction t b) stand taken there refl (
+            (record {
+              same = only_notes_asked txn new t.reads keeps ∙ is.same;
+              sees = subst (Sees bytes new h) (on_true (is_some (get txn.writes key)) t.reads (t.reads ++ KeyRead key (value_at h txn.number key) ∷ []) (ap is_some own)) sees;
+              live = subst (λ (x : Txn H R). IsLive s.layout x.ticket x.number) (sym keeps) is.live;
+              near = λ none. subst (λ (x : Txn H R). IsInMemory x.version) (sym keeps) (is.near none);
+            }),
+            ap (λ (x : Txn H R). beginning x.past) keeps ∙ began,
+          )),
     )
     by_own None own = (
       ap tell value,
-      put_back bytes h s.layout os left s.things name (Transaction txn) (Transaction new) (ATransaction t b) (ATransaction noted b) stand taken there refl ((record {
-        same = only_notes_asked txn new noted.reads keeps ∙ ap (λ (u : ATxn). record u { reads = noted.reads }) is.same;
-        sees = subst (Sees bytes new h) (on_false (is_some (get txn.writes key)) t.reads (t.reads ++ KeyRead key (value_at h txn.number key) ∷ []) (ap is_some own)
-            ∙ ap (λ (v : Option Stored). t.reads ++ KeyRead key v ∷ []) (sym value)) sees;
-        live = subst (λ (x : Txn H R). IsLive s.layout x.ticket x.number) (sym keeps) is.live;
-        near = λ none. subst (λ (x : Txn H R). IsInMemory x.version) (sym keeps) (is.near none);
-      }), ap (λ (x : Txn H R). beginning x.past) keeps ∙ began),
+      put_back bytes h s.layout os left s.things name (Transaction txn) (Transaction new) (ATransaction t b) (ATransaction noted b) stand taken there refl (
+        (record {
+          same = only_notes_asked txn new noted.reads keeps ∙ ap (λ (u : ATxn). record u { reads = noted.reads }) is.same;
+          sees = subst (Sees bytes new h) (on_false (is_some (get txn.writes key)) t.reads (t.reads ++ KeyRead key (value_at h txn.number key) ∷ []) (ap is_some own)
+              ∙ ap (λ (v : Option Stored). t.reads ++ KeyRead key v ∷ []) (sym value)) sees;
+          live = subst (λ (x : Txn H R). IsLive s.layout x.ticket x.number) (sym keeps) is.live;
+          near = λ none. subst (λ (x : Txn H R). IsInMemory x.version) (sym keeps) (is.near none);
+        }),
+        ap (λ (x : Txn H R). beginning x.past) keeps ∙ began,
+      ),
     )
       where
         -- the number is the transaction's

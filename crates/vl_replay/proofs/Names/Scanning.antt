@@ -77,9 +77,12 @@ module _ {H R : Type 0} (bytes : H → Option (List ℕ)) (s : store.State) (pro
   pub scan_names : Stand bytes behind scanning.state.things (history_in s.commits) s.layout
   scan_names = subst (λ (x : Step). Stand bytes behind x.state.things (history_in s.commits) s.layout) (sym step_is)
       (put_back bytes (history_in s.commits) s.layout os left s.things name (Transaction txn) (Transaction new) (ATransaction t b)
-      (ATransaction (record t { reads = noted }) b) stand taken there refl ((record {
-        same = ap (λ (x : Txn H R). asked x noted) keeps ∙ ap (λ (u : ATxn). record u { reads = noted }) is.same;
-        sees = subst (Sees bytes new (history_in s.commits)) (sym noted_is) sees;
-        live = subst (λ (x : Txn H R). IsLive s.layout x.ticket x.number) (sym keeps) is.live;
-        near = λ none. subst (λ (x : Txn H R). IsInMemory x.version) (sym keeps) (is.near none);
-      }), ap (λ (x : Txn H R). beginning x.past) keeps ∙ began))
+      (ATransaction (record t { reads = noted }) b) stand taken there refl (
+        (record {
+          same = ap (λ (x : Txn H R). asked x noted) keeps ∙ ap (λ (u : ATxn). record u { reads = noted }) is.same;
+          sees = subst (Sees bytes new (history_in s.commits)) (sym noted_is) sees;
+          live = subst (λ (x : Txn H R). IsLive s.layout x.ticket x.number) (sym keeps) is.live;
+          near = λ none. subst (λ (x : Txn H R). IsInMemory x.version) (sym keeps) (is.near none);
+        }),
+        ap (λ (x : Txn H R). beginning x.past) keeps ∙ began,
+      ))
