@@ -7,6 +7,7 @@ pub mod OpenedRuns
 pub mod ReaderFaults
 pub mod ReadingOn
 pub mod Refusals
+pub mod Staying
 pub mod Stepping
 pub mod Texts
 pub mod UnderWay

@@ -2,6 +2,7 @@
 -- `shows` what an image shows of a history at a number, and `stops` what a line leaves that was stopped: all three are
 -- parameters throughout.
 use Rattle.std.specs.Prelude.{◌≡◌, ◌⊎◌, ℕ, ◌<◌, ◌≤◌, List, [], ◌∷◌, Some, Err, Result, OnOk, IsTrue}
+use Rattle.vl_layout.specs.declared.layout.Layout.{Layout}
 use Rattle.vl_model.specs.History.{Extends, History, last_number}
 use Rattle.vl_disk.specs.declared.watched.Watched.{Ghosts}
 use Rattle.vl_disk.specs.Faults.{Rose, after_calls}
@@ -61,14 +62,20 @@ pub record HoldsState {D : Type 0} (g : Ghosts D) (holds : Holding)
   pub calls : g.calls disk ≡ s.calls
   pub there : Tells g disk (holds s)
 
--- it holds the commits of a state and nothing else, whatever changing calls it was asked for
+-- a layout but for what lives, which no disk holds
+abbrev pub without_live : Layout → Layout
+without_live l = record l { live = [] }
+
+-- it holds the commits and the layout of a state and nothing else, whatever changing calls it was asked for
 abbrev pub HoldsCommits : {D : Type 0} → Ghosts D → Holding → State → D → Type 0
-HoldsCommits g holds t disk = (s : State) × ((history_of s) ≡ (history_of t)) × Tells g disk (holds s)
+HoldsCommits g holds t disk =
+    (s : State) × ((history_of s) ≡ (history_of t)) × (without_live s.store.layout ≡ without_live t.store.layout) × Tells g disk (holds s)
 
 -- and it was asked for those that the state counts; the numbers of its files are bounded as there
 abbrev pub HoldsCounted : {D : Type 0} → Ghosts D → Holding → State → D → Type 0
 HoldsCounted g holds t disk =
-    (s : State) × ((history_of s) ≡ (history_of t)) × (s.calls ≡ t.calls) × (s.files ≡ t.files) × HoldsState g holds s disk
+    (s : State) × ((history_of s) ≡ (history_of t)) × (without_live s.store.layout ≡ without_live t.store.layout)
+    × (s.calls ≡ t.calls) × (s.files ≡ t.files) × HoldsState g holds s disk
 
 -- Whatever a crash leaves at any moment from the old disk to the new one shows at least the one history and at most the
 -- other.

@@ -93,7 +93,7 @@ module _ {D H R : Type 0} (g : Ghosts D) (watched : IsWatched g) (bytes : H → 
               there = (state, told, stored_on s x keeps tidy state stored);
             })
             (its_tidy bytes seen core os s x result makes);
-        no_commit = λ out. (s, refl, held.there);
+        no_commit = λ out. (s, refl, refl, held.there);
         unread = λ halts. held;
         tells = opens_again g watched IsStored Shown IsStopped shown_stays stored_exactly s disk held;
         through = rests_until g watched IsStored Shown IsStopped shown_stays stored_exactly s (history_of (state_by s x))

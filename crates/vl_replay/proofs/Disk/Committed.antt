@@ -212,7 +212,7 @@ module _ {D H R : Type 0} (g : Ghosts D) (bytes : H → Option (List ℕ)) (befo
     commits_kept : engine.Represents bytes after (g.told new) (history_of s) s.store.layout → HoldsCommits g IsStored s new
     commits_kept represents =
         let x = only Done s.store in
-        (state_by s x, refl, stored_then x (history_of s) s.store.layout refl refl stands.running refl refl represents)
+        (state_by s x, refl, refl, stored_then x (history_of s) s.store.layout refl refl stands.running refl refl represents)
 
   -- ---- what it came to
 

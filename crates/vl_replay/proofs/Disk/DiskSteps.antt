@@ -104,11 +104,11 @@ module _ {D : Type 0} (g : Ghosts D) (watched : IsWatched g) (holds : Holding) (
       (goes_wider b c least mid most most lower (extends_itself most) second)
 
   pub it_holds : (s : State) (disk : D) → HoldsState g holds s disk → HoldsCounted g holds s disk
-  it_holds s disk held = (s, refl, refl, refl, held)
+  it_holds s disk held = (s, refl, refl, refl, refl, held)
 
   -- whatever was counted
   pub its_commits : (s : State) (disk : D) → HoldsCounted g holds s disk → HoldsCommits g holds s disk
-  its_commits s disk (u, history, calls, files, held) = (u, history, held.there)
+  its_commits s disk (u, history, layout, calls, files, held) = (u, history, layout, held.there)
 
   -- a store may be opened on it
   pub opens_again : (s : State) (disk : D) → HoldsState g holds s disk → Tells g disk MayOpen

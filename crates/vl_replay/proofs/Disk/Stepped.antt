@@ -270,7 +270,7 @@ module _ {D H R : Type 0} (g : Ghosts D) (watched : IsWatched g) (bytes : H → 
     short_of (Ok None) did out = absurd cc
     short_of (Err (undone.Exhausted c)) did out = absurd cc
     short_of (Err undone.NoMemory) did out =
-        (s, refl, (held.there.0, (did.untouched tt).told ∙ held.there.1, held.there.2))
+        (s, refl, refl, (held.there.0, (did.untouched tt).told ∙ held.there.1, held.there.2))
     short_of (Err (undone.Disk at)) did out = absurd cc
     short_of (Err (undone.Halted at)) did out = absurd cc
 

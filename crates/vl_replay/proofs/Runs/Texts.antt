@@ -5,6 +5,8 @@ use Rattle.std.specs.Option.{option_map}
 use Rattle.vl_disk.specs.declared.watched.Watched.{Ghosts}
 use Rattle.vl_disk.specs.Faults.{Rose}
 use Rattle.vl_io.specs.declared.sink.Sink as sink
+use Rattle.vl_layout.specs.Store.Lines as store
+use Rattle.vl_replay.specs.laws.Laws.{IsSound}
 use Rattle.vl_script.specs.declared.answer.Answer.{Answer}
 use Rattle.vl_script.specs.declared.answer.Answer.TheVariants.{Number}
 use Rattle.vl_script.specs.declared.line.Line.{Line}
@@ -14,7 +16,7 @@ use Rattle.vl_replay.specs.Exchanges.{exchange_at, exchanged, state_behind}
 use Rattle.vl_disk.specs.declared.name.Name.{Name}
 use Rattle.vl_replay.specs.Halts.{HaltsByDamage, HaltsByDisk, HaltsByRead, HaltsByReader}
 use Rattle.vl_replay.specs.Endings.{CutsAnswer, IsBetweenLines, TheDisk, culprit_of, ending_at}
-use Rattle.vl_replay.specs.Durable.{HoldsState, HoldsCommits, LeadsTo, DiskEnds}
+use Rattle.vl_replay.specs.Durable.{HoldsState, HoldsCommits, LeadsTo, DiskEnds, without_live}
 use Rattle.vl_replay.specs.Stored.{IsStopped, IsStored}
 use Rattle.vl_engine.specs.Shown.{Shown}
 use Rattle.vl_replay.specs.Steps.{Finishes}
@@ -27,6 +29,7 @@ use Rattle.vl_replay.proofs.Runs.Ends.{at_fault, or_cut}
 use Rattle.vl_replay.proofs.Disk.DiskSteps.{IsWatched, text_extends, rests_until, it_holds, its_commits, opens_again, ends_within, ends_unchanged}
 use Rattle.vl_replay.proofs.Disk.Shown.{shown_stays, stored_exactly}
 use Rattle.vl_replay.proofs.Runs.Extending.{line_keeps, told_number}
+use Rattle.vl_replay.proofs.Runs.Staying.{layout_stays}
 
 -- ---- results
 
@@ -121,7 +124,7 @@ module _ {D : Type 0} (g : Ghosts D) (watched : IsWatched g) (s : State) (text :
   pub carries_nothing : {T : Type 0} (disk : D) (result : Result T Halt) → IsErr result → (HaltsByDisk result → ⊥) → HoldsState g IsStored s disk → LeadsTo g IsStored Shown IsStopped disk disk s behind result
   carries_nothing disk result err sound held = record {
     answered = on_ok_at_err result _ err;
-    no_commit = λ _. (s, refl, held.there);
+    no_commit = λ _. (s, refl, refl, held.there);
     unread = λ _. held;
     tells = opens_again g watched IsStored Shown IsStopped shown_stays stored_exactly s disk held;
     through = rests_until g watched IsStored Shown IsStopped shown_stays stored_exactly s (history_of behind) (text_extends s text) disk held;
@@ -154,8 +157,11 @@ module _ {D : Type 0} (g : Ghosts D) (watched : IsWatched g) (s : State) (text :
         })
 
     -- the answer to a line that makes no commit found no memory
-    pub kept_without_number : (line : Line) (answer : Answer) → IsTold answer (answer_to s line) → ((n : ℕ) → answer ≡ Number n → ⊥) → HoldsState g IsStored (state_after s line) new → HoldsCommits g IsStored s new
-    kept_without_number line answer is none held = (state_after s line, line_keeps s line (λ n numbered. none n (told_number answer (answer_to s line) n is numbered)), held.there)
+    pub kept_without_number : (line : Line) (answer : Answer) → IsSound s → IsTold answer (answer_to s line) → ((n : ℕ) → answer ≡ Number n → ⊥) → HoldsState g IsStored (state_after s line) new → HoldsCommits g IsStored s new
+    kept_without_number line answer sound is none held = (state_after s line, line_keeps s line unnumbered, layout_stays s line sound unnumbered, held.there)
+      where
+        unnumbered : (n : ℕ) → answer_to s line ≡ store.Number n → ⊥
+        unnumbered n numbered = none n (told_number answer (answer_to s line) n is numbered)
 
     -- ---- how a run ends there
 
@@ -171,7 +177,7 @@ module _ {D : Type 0} (g : Ghosts D) (watched : IsWatched g) (s : State) (text :
     ends_bad result ending ok sound bad carries =
         let held = of_ok result _ ok carries.answered in
         ends_unchanged g watched IsStored Shown IsStopped shown_stays stored_exactly old new ending s behind carries.through carries.tells
-        (behind, ap (λ (t : State). (history_of t)) (bad_behind s text bad), ap (λ (t : State). t.calls) (bad_behind s text bad), ap (λ (t : State). t.files) (bad_behind s text bad), held) (λ cuts. it_holds g watched IsStored Shown IsStopped shown_stays stored_exactly behind new held) sound
+        (behind, ap (λ (t : State). (history_of t)) (bad_behind s text bad), ap (λ (t : State). without_live t.store.layout) (bad_behind s text bad), ap (λ (t : State). t.calls) (bad_behind s text bad), ap (λ (t : State). t.files) (bad_behind s text bad), held) (λ cuts. it_holds g watched IsStored Shown IsStopped shown_stays stored_exactly behind new held) sound
 
     -- memory ran out
     pub ends_out : {T K : Type 0} (k : sink.Ghosts K) (sink_old sink_new : K) (line : List ℕ) (result : Result T Halt) (ending : Ending) → result ≡ Err why.NoMemory → Finishes k sink_old sink_new line NoMemory ending

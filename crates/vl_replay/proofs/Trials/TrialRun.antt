@@ -48,7 +48,7 @@ some_left a b = grind (arith, nat_tests)
 -- what a crash leaves of a disk that holds the commits of a state opens showing the last of them
 pub holds_reopens : (s : State) (disk : StoppingDisk) → HoldsCounted memory.ghosts IsStored s disk → s.files + 2 ≤ max_file_number
     → (outcome : Outcome) → Reopens (crash_image outcome (state_on disk)) (history_of s) (last_number (history_of s))
-holds_reopens s disk (u, history, calls, files, held) fits outcome =
+holds_reopens s disk (u, history, layout, calls, files, held) fits outcome =
     let (state, told, stored) = held.there in
     let here : state_on disk ≡ state = some_state (state_on disk) state told in
     let again = stored_reopens u state stored (omega (arith, files, fits)) outcome in
@@ -64,7 +64,7 @@ module _ (stop : ℕ) where
   passes_all (e ∷ later) disk s new most (passed, line, rest) past sound =
       let past_then = line.before.time.as_planned (Some stop) past in
       let sound_then : faults_on passed ≡ 0 = line.steady ∙ sound in
-      let (u, history, calls, files, held) = line.held in
+      let (u, history, layout, calls, files, held) = line.held in
       let counts = counted_past passed.disk (Some stop) past_then in (
         omega (arith, counts.at_least, sound_then, held.calls, calls),
         passes_all later passed e.after new most rest past_then sound_then,
@@ -275,7 +275,7 @@ module _ (stop : ℕ) (small : stop < 2 ^ 32) (input : List ℕ) (stands : State
       λ o. (run.answered, run.ends.piece, inr (other, line, said, front), takes_first WriteFault run o run.ends.piece refl)
   comes AnswerCut run as_meant counts unread rest told =
       let (e, is, front) = run.ends.puts in
-      let (u, history, calls, files, held) = (ends AnswerCut run).answer_cut refl in
+      let (u, history, layout, calls, files, held) = (ends AnswerCut run).answer_cut refl in
       let sound : faults_on new.disk ≡ faults_on old.disk = counts.steady (λ by. cc) (λ whole. cc) in
       let counted = counted_past new.disk.disk (Some stop) (past AnswerCut run) in
       let passes : Passes stop e = omega (arith, counted.at_least, sound, trial.sound, held.calls, calls, ap (λ (s : State). s.calls) (last_next es begun run.answered e is)) in
