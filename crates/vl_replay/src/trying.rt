@@ -150,12 +150,7 @@ fn pass_over<S: Source>(source: &mut S) -> Result<(), Failed>
 }
 
 // Opens the store that a crash leaves, and prints its number and contents.
-fn reopen<K: Sink>(
-    alloc: Global,
-    sink: &mut K,
-    disk: StoppingDisk,
-    outcome: Outcome,
-) -> Ending
+fn reopen<K: Sink>(alloc: Global, sink: &mut K, disk: StoppingDisk, outcome: Outcome) -> Ending
     ensures reopens { (h : History) → Reopens (crash_image outcome (state_on disk)) h (last_number h)
         → ReopensAs K.Sink h (last_number h) sink.old sink.new result }
     ensures no_disk_fault { status_of result ≢ 3 }
