@@ -1,27 +1,35 @@
 -- A begin is answered as the ruling has it.
-use Rattle.std.specs.Prelude.{◌≡◌, ℕ, Bool, true, false, nat_le, if◌then◌else◌, List, length, IfOk, OnErr, Option, Result, Err, Ok}
+use Rattle.std.specs.Prelude.{◌≡◌, ◌≤◌, ℕ, Bool, true, false, nat_le, if◌then◌else◌, List, length, IfOk, OnErr, Option, Result, Err, Ok}
 use Rattle.std.proofs.Common.{sym, ap, subst, ◌∙◌, refl, arith}
 use Rattle.std.proofs.lemmas.List.{length-map}
 use Rattle.std.proofs.lemmas.Bool.Decides.{nat_tests}
 use Rattle.vl_engine.specs.Answers.{view_outcome}
+use Rattle.vl_engine.specs.Past.{ShowsPast, beginning, past_now}
 use Rattle.vl_engine.specs.Pointed.{layout_logs}
 use Rattle.vl_engine.specs.Represents.{Fronts, StandsFor}
 use Rattle.vl_engine.specs.Sees.{SeesAlone, ShowsAt}
 use Rattle.vl_engine.specs.declared.kept.Core.{Core}
+use Rattle.vl_engine.specs.declared.past.Past.{Past}
 use Rattle.vl_engine.specs.declared.view.View.{View}
 use Rattle.vl_engine.specs.laws.LaidLaws.{laid_entries}
-use Rattle.vl_engine.specs.laws.LiveLaws.{same_free_ticket}
+use Rattle.vl_engine.specs.laws.LiveLaws.{same_floor, same_free_ticket}
+use Rattle.vl_engine.specs.laws.SparedLaws.{are_of, low_exact}
 use Rattle.vl_engine.specs.laws.SeesLaws.{file_in, files_laid, shows_last}
 use Rattle.vl_front.specs.declared.front.Front.{Front}
+use Rattle.vl_layout.specs.AtAnswer.{Beginning, beginning_of}
 use Rattle.vl_layout.specs.Decides.{Answered, Decides, NoMemory, as_before, no_effects}
 use Rattle.vl_layout.specs.Ruling.{Ruling, leaving}
 use Rattle.vl_layout.specs.Rulings.Begin.{BeginAnswer, Begun, TooMany, begin_ruling, begun}
-use Rattle.vl_layout.specs.Sources.{sources}
+use Rattle.vl_layout.specs.Shows.{Shows}
+use Rattle.vl_layout.specs.Sources.{floor, sources}
 use Rattle.vl_layout.specs.Tickets.{free_ticket, tickets_of}
 use Rattle.vl_layout.specs.declared.layout.Layout.{Layout}
 use Rattle.vl_layout.specs.declared.live.Live.{Live}
+use Rattle.vl_layout.specs.laws.LowShows.{floor-up}
 use Rattle.vl_model.specs.History.{History, last_number}
 use Rattle.vl_model.specs.Limits.{max_live}
+use Rattle.vl_model.specs.Numbers.{low_of}
+use Rattle.vl_model.specs.Versions.{low, versions_in}
 use Rattle.vl_oracle.specs.LiveTickets.{LiveTickets}
 use Rattle.vl_oracle.specs.LiveTickets as oracle
 use Rattle.vl_oracle.specs.declared.begin_fail.BeginFail.{BeginFail}
@@ -127,18 +135,49 @@ pub last_begun : (result : Result ℕ BeginFail) (before after : Front)
 last_begun (Ok ticket) before after ok err = ap (λ (o : LiveTickets). o.last) ok.1
 last_begun (Err why) before after ok err = ap (λ (f : Front). f.oracle.last) err
 
+-- ---- how far back
+
+-- What decides on it is the layout's.
+pub began_as : {H : Type 0} (core : Core H) (h : History) (l : Layout) → Fronts core h l → (past : Past) → past ≡ past_now core
+    → beginning past ≡ beginning_of l h
+began_as core h l is past same =
+    let floor_is = same_floor core.front.oracle l h is.front.last is.front.live_are is.front.lived in
+    ap beginning same
+    ∙ ap (λ (n : ℕ). record { floor = n; keep = core.back.state.keep; since = core.back.state.since }) floor_is
+    ∙ ap (λ (n : ℕ). record { floor = floor l h; keep = n; since = core.back.state.since }) is.keep
+    ∙ ap (λ (n : ℕ). record { floor = floor l h; keep = l.keep; since = n }) is.since
+
 -- ---- what is seen
 
 -- Sources that show the history up to its last number are seen there, through a reader that keeps no block of other files.
 module _ {H : Type 0} (bytes : H → Option (List ℕ)) (core : Core H) (h : History) (l : Layout) (is : StandsFor bytes core h l) where
-  sees_version : ShowsAt bytes core.version h (last_number h)
-  sees_version = record {
+  module _ (past : Past) (same : past ≡ past_now core) where
+    began : beginning past ≡ beginning_of l h
+    began = began_as core h l is.fronts past same
+
+    past_version : ShowsPast bytes core.version past (last_number h) h
+    past_version = record {
+      entries_of = sources l;
+      logs = layout_logs l;
+      has = laid_entries bytes core.version l is.has h is.tidy;
+      shows = subst (λ (b : Beginning). Shows (layout_logs l) (sources l) h (λ key. low h b.floor b.keep b.since key) (last_number h))
+          (sym began) is.tidy.shows;
+      exact = λ key. subst
+          (λ (b : Beginning). low_of (versions_in (sources l) key) b.floor b.keep b.since ≡ low h b.floor b.keep b.since key)
+          (sym began) (low_exact h (sources l) (last_number h) (floor l h) l.keep l.since key (floor-up l h)
+          (are_of h (sources l) is.tidy.versions) is.spared);
+      floor = subst (λ (b : Beginning). b.floor ≤ last_number h) (sym began) (floor-up l h);
+    }
+
+  sees_version : (past : Past) → past ≡ past_now core → ShowsAt bytes core.version past h (last_number h)
+  sees_version past same = record {
     entries_of = sources l;
     logs = layout_logs l;
     has = laid_entries bytes core.version l is.has h is.tidy;
     shows = shows_last (layout_logs l) l h is.tidy.shows;
     readable = omega arith;
     known = omega arith;
+    shows_past = past_version past same;
   }
 
   reads_version : {R : Type 0} (reader : BlockReader R) → AreKept (file_in bytes (tables_in core.version)) reader
@@ -146,10 +185,10 @@ module _ {H : Type 0} (bytes : H → Option (List ℕ)) (core : Core H) (h : His
   reads_version reader kept = record { kept = kept; told = files_laid bytes core.version l is.has is.tidy.levels }
 
   pub sees_now : {R : Type 0} (view : View H R) → view.version ≡ core.version → view.number ≡ last_number h
-      → ((files : Files) → AreKept files view.reader) → SeesAlone bytes view h
-  sees_now view same last kept = record {
-    version = subst (λ (v : Version H). ShowsAt bytes v h view.number) (sym same)
-        (subst (ShowsAt bytes core.version h) (sym last) sees_version);
+      → view.past ≡ past_now core → ((files : Files) → AreKept files view.reader) → SeesAlone bytes view h
+  sees_now view same last past kept = record {
+    version = subst (λ (v : Version H). ShowsAt bytes v view.past h view.number) (sym same)
+        (subst (ShowsAt bytes core.version view.past h) (sym last) (sees_version view.past past));
     files = file_in bytes (tables_in core.version);
     reader = subst (λ (v : Version H). ReadsOf bytes (file_in bytes (tables_in core.version)) view.reader (tables_in v)) (sym same)
         (reads_version view.reader (kept (file_in bytes (tables_in core.version))));

@@ -20,12 +20,14 @@ use Rattle.vl_engine.specs.Held.{IsBase}
 use Rattle.vl_engine.specs.Pointed.{layout_logs}
 use Rattle.vl_engine.specs.Represents.{IsHeld, Represents, StandsFor, file_of}
 use Rattle.vl_engine.specs.Shown.{LeavesBetween}
+use Rattle.vl_engine.specs.Spared.{at_rest, Spares}
 use Rattle.vl_engine.specs.Writing.{WhileWriting, written}
 use Rattle.vl_engine.specs.declared.kept.Core.{Core}
 use Rattle.vl_engine.specs.laws.CommitLaws.{append_opens_again, append_shows, commit_base, commit_holds, sync_opens_again, sync_shows}
 use Rattle.vl_engine.specs.laws.HeldLaws.{held_opens_again, held_shown}
 use Rattle.vl_engine.specs.laws.RulingLaws.{IsAccepted}
 use Rattle.vl_engine.specs.laws.ShownLaws.{between_itself, between_wider}
+use Rattle.vl_engine.specs.laws.SparedRulings.{committed_spares}
 use Rattle.vl_frame.specs.Runs.{HasFrame}
 use Rattle.vl_layout.specs.Decides.{Answered, Effects, Failed, NoMemory, Otherwise, as_before, no_effects}
 use Rattle.vl_layout.specs.Ruling.{Ruling, ended, halted_at, leaving}
@@ -145,6 +147,9 @@ module _ {D : Type 0} (g : Ghosts D) (watched : IsWatched g) where
     tidy_longer : IsTidy (layout_logs l) (committed l h t).layout (with_commit h (from_sorted t.writes))
     tidy_longer = tidy_then bytes core core h l is.stands t rising accepted
 
+    spared_longer : Spares (at_rest (committed l h t).layout) (with_commit h (from_sorted t.writes))
+    spared_longer = committed_spares (at_rest l) h held.is_base.spared t rising
+
     has_so : (base : IsBase held.base l h) → HasFrame (frames_grammar l.active.format) (commit_frame h t.writes)
     has_so base = subst (λ (n : ℕ). HasFrame (frames_grammar n) (commit_frame h t.writes)) (sym base.format) has
 
@@ -160,9 +165,9 @@ module _ {D : Type 0} (g : Ghosts D) (watched : IsWatched g) where
     writing_leaves : (now : DiskState) → WhileWriting name whole held.state now → LeavesBetween h longer now
     writing_leaves now during image left = ⊎_elim
         (λ (appending : WhileAppending name whole held.state now).
-        append_shows held.base l h t held.is_base tidy held.state held.holds (has_so held.is_base) tidy_longer now appending image left)
+        append_shows held.base l h t held.is_base tidy held.state held.holds (has_so held.is_base) tidy_longer spared_longer now appending image left)
         (λ (syncing : WhileSyncing name (appended name whole (length whole) held.state) now).
-        sync_shows held.base l h t held.is_base tidy held.state held.holds (has_so held.is_base) tidy_longer now syncing image left)
+        sync_shows held.base l h t held.is_base tidy held.state held.holds (has_so held.is_base) tidy_longer spared_longer now syncing image left)
         during
 
     writing_may_open : (now : DiskState) → WhileWriting name whole held.state now → MayOpen now
@@ -237,5 +242,5 @@ module _ {D : Type 0} (g : Ghosts D) (watched : IsWatched g) where
 
         then : Represents bytes after (g.told new) (with_commit h (from_sorted t.writes)) (committed l h t).layout
         then = represents_committed bytes core after h l back t (g.told new) (written name whole held.state) held.base
-            held.back_is told (commit_base held.base l h t held.is_base tidy)
+            held.back_is told (commit_base held.base l h t held.is_base tidy spared_longer)
             (commit_holds held.base l h t held.is_base tidy held.state held.holds (has_so held.is_base)) stands

@@ -132,6 +132,7 @@ module _ {H : Type 0} (bytes : H → Option (List ℕ)) (before after : Core H) 
     fronts = fronts_same is.fronts;
     has = subst (λ (v : Version H). HasLayout bytes v l) (sym version) is.has;
     tidy = is.tidy;
+    spared = is.spared;
   }
 
 -- ---- a commit's exits

@@ -42,6 +42,7 @@ use Rattle.vl_engine.specs.laws.HeldLaws.{held_opens_again}
 use Rattle.vl_engine.specs.laws.LaidFlush.{laid_flushed, made_table, oldest_entries}
 use Rattle.vl_engine.specs.laws.OpensAgain.{flush_opens_again}
 use Rattle.vl_engine.specs.laws.ShownLaws.{between_itself}
+use Rattle.vl_engine.specs.laws.SparedSteps.{spares_flushed}
 use Rattle.vl_engine.specs.laws.SwitchLaws.{switch_frame, switching_says}
 use Rattle.vl_engine.specs.laws.WaitingLaws.{waiting_dropped, waiting_edits}
 use Rattle.vl_frame.specs.Runs.{HasFrame, item_frame}
@@ -189,6 +190,7 @@ module _ {H : Type 0} (bytes : H → Option (List ℕ)) (before after : Core H) 
             (stays l h s is.tidy first levels.level levels.deeper levels.are files file) table next
             (made_table bytes told state flush table l s told_is held spelled);
         tidy = flush_tidy l h s is.tidy first levels.level levels.deeper levels.are files file;
+        spared = spares_flushed l h s first levels.level levels.deeper levels.are is.spared;
       }
 
 -- ---- on the disk

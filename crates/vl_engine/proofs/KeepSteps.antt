@@ -24,6 +24,7 @@ use Rattle.vl_engine.specs.declared.kept.Core.{Core}
 use Rattle.vl_engine.specs.laws.HeldLaws.{held_opens_again}
 use Rattle.vl_engine.specs.laws.KeepLaws.{CanKeep, base_then, edits_of, final, keep_holds, keep_leaves, keep_made, keep_opens_again, kept_state, later}
 use Rattle.vl_engine.specs.laws.ShownLaws.{between_itself}
+use Rattle.vl_engine.specs.laws.SparedSteps.{spares_keeping}
 use Rattle.vl_engine.specs.laws.SwitchLaws.{switch_frame}
 use Rattle.vl_frame.specs.Runs.{HasFrame, item_frame}
 use Rattle.vl_front.specs.declared.front.Front.{Front}
@@ -107,6 +108,7 @@ stands_kept {H} bytes before after h l v some is version fronts = record {
   fronts = fronts;
   has = laid_kept bytes after.version h l v (subst (λ (x : Version H). HasLayout bytes x l) (sym version) is.has);
   tidy = tidy_keeping (layout_logs l) l h is.tidy v some;
+  spared = spares_keeping l h v is.spared;
 }
 
 -- ---- on the disk

@@ -19,6 +19,7 @@ pub mod Knowing
 pub mod Leaving
 pub mod Merged
 pub mod Opened
+pub mod ReadingPast
 pub mod Represented
 pub mod RotateFit
 pub mod RotateSteps

@@ -37,6 +37,7 @@ held_live back told h l live held =
         gone = b.gone;
         covered = b.covered;
         format = b.format;
+        spared = b.spared;
       };
       back_is = record {
         manifest = k.manifest;

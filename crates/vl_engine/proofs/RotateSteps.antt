@@ -33,6 +33,7 @@ use Rattle.vl_engine.specs.laws.RotateLaws.{rotate_base, rotate_holds, rotate_le
 use Rattle.vl_engine.specs.laws.RotateRulings.{halted_ruled, idle_ruled, is_filled, log_used_up, made_ruled, rotate_made, version_used_up}
 use Rattle.vl_engine.specs.laws.RotateWaiting.{rotate_waiting}
 use Rattle.vl_engine.specs.laws.ShownLaws.{between_itself}
+use Rattle.vl_engine.specs.laws.SparedSteps.{spares_rotated}
 use Rattle.vl_front.specs.declared.front.Front.{Front}
 use Rattle.vl_layout.specs.Decides.{Answered, Effects, Failed, NoMemory, as_before, no_effects}
 use Rattle.vl_layout.specs.Ruling.{Exhausted, Halted, Idle, Ruling, StepAnswer, Stepped, halted_at, leaving}
@@ -140,6 +141,7 @@ module _ {H : Type 0} (bytes : H → Option (List ℕ)) (before after : Core H) 
     fronts = fronts_same before after h l same is.fronts;
     has = subst (λ (v : Version H). HasLayout bytes v l) (sym same.version) is.has;
     tidy = is.tidy;
+    spared = is.spared;
   }
 
   module _ (can : CanRotate l) (told : Option DiskState) (state : DiskState) (told_is : told ≡ Some state)
@@ -161,6 +163,7 @@ module _ {H : Type 0} (bytes : H → Option (List ℕ)) (before after : Core H) 
       has = laid_rotated bytes before.version after.version l is.has before.front.log.length next.log next.is
           (next.number ∙ is.fronts.number) (next.format ∙ sym is.fronts.format) held_so is.tidy.files.stocked.logs_drawn.0;
       tidy = tidy_rotated;
+      spared = spares_rotated l h is.spared;
     }
 
 -- the active log is held with the layout's bytes where the disk holds the layout

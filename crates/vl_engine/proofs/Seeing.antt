@@ -9,6 +9,7 @@ use Rattle.vl_engine.specs.Refusing.{as_failed_read}
 use Rattle.vl_engine.specs.Sees.{Sees, SeesAlone, ShowsAt}
 use Rattle.vl_engine.specs.declared.fails.ReadFail.{ReadFail}
 use Rattle.vl_engine.specs.declared.fails.ReadFail.TheVariants as fails
+use Rattle.vl_engine.specs.declared.past.Past.{Past}
 use Rattle.vl_engine.specs.declared.txn.Txn.{Txn}
 use Rattle.vl_engine.specs.declared.view.View.{View}
 use Rattle.vl_engine.specs.laws.ReadLaws.{value_led, winner_leads}
@@ -166,10 +167,11 @@ one_read_more own reads key answer none =
 
 module _ {H R : Type 0} (bytes : H → Option (List ℕ)) (old new : Txn H R) (h : History) (reads : List Read)
     (sees : Sees bytes old h reads) (version : new.version ≡ old.version) (number : new.number ≡ old.number)
-    (kept : AreKept sees.files new.reader) where
-  shows_still : ShowsAt bytes new.version h new.number
-  shows_still = subst (λ (n : ℕ). ShowsAt bytes new.version h n) (sym number)
-      (subst (λ v. ShowsAt bytes v h old.number) (sym version) sees.version)
+    (past : new.past ≡ old.past) (kept : AreKept sees.files new.reader) where
+  shows_still : ShowsAt bytes new.version new.past h new.number
+  shows_still = subst (λ (n : ℕ). ShowsAt bytes new.version new.past h n) (sym number)
+      (subst (λ v. ShowsAt bytes v new.past h old.number) (sym version)
+      (subst (λ (p : Past). ShowsAt bytes old.version p h old.number) (sym past) sees.version))
 
   reads_still : ReadsOf bytes sees.files new.reader (tables_in new.version)
   reads_still = subst (λ (v : Version H). ReadsOf bytes sees.files new.reader (tables_in v)) (sym version)
@@ -217,10 +219,12 @@ module _ {H R : Type 0} (bytes : H → Option (List ℕ)) (old new : Txn H R) (h
 
 -- behind any read of a view
 pub sees_alone_still : {H R : Type 0} (bytes : H → Option (List ℕ)) (old new : View H R) (h : History) (sees : SeesAlone bytes old h)
-    → new.version ≡ old.version → new.number ≡ old.number → AreKept sees.files new.reader → SeesAlone bytes new h
-sees_alone_still {H} bytes old new h sees version number kept = record {
-  version = subst (λ (n : ℕ). ShowsAt bytes new.version h n) (sym number)
-      (subst (λ v. ShowsAt bytes v h old.number) (sym version) sees.version);
+    → new.version ≡ old.version → new.number ≡ old.number → new.past ≡ old.past → AreKept sees.files new.reader
+    → SeesAlone bytes new h
+sees_alone_still {H} bytes old new h sees version number past kept = record {
+  version = subst (λ (n : ℕ). ShowsAt bytes new.version new.past h n) (sym number)
+      (subst (λ v. ShowsAt bytes v new.past h old.number) (sym version)
+      (subst (λ (p : Past). ShowsAt bytes old.version p h old.number) (sym past) sees.version));
   files = sees.files;
   reader = subst (λ (v : Version H). ReadsOf bytes sees.files new.reader (tables_in v)) (sym version)
       (record { kept = kept; told = sees.reader.told });

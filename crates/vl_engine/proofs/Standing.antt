@@ -12,6 +12,8 @@ use Rattle.vl_engine.specs.Represents.{Fronts, IsFront, StandsFor, file_of}
 use Rattle.vl_engine.specs.declared.kept.Core.{Core}
 use Rattle.vl_engine.specs.laws.FrontLaws.{front_begun, front_committed, front_ended, front_known}
 use Rattle.vl_engine.specs.laws.RulingLaws.{DecidesAs, IsAccepted}
+use Rattle.vl_engine.specs.laws.SparedRulings.{committed_spares}
+use Rattle.vl_engine.specs.laws.SparedSteps.{spares_begun, spares_ended}
 use Rattle.vl_engine.specs.laws.VersionLaws.{laid_committed, laid_halted, laid_live, next_entries}
 use Rattle.vl_front.specs.Front.{Knows, SameLog}
 use Rattle.vl_layout.specs.Ruling.{Ruling, ended, halted_at}
@@ -148,6 +150,7 @@ module _ {H : Type 0} (bytes : H → Option (List ℕ)) (core after : Core H) (h
           fronts = fronts;
           has = laid_live bytes after.version l has_still (begun l ticket (last_number h)).live;
           tidy = tidy_begun (layout_logs l) l h is.tidy ticket;
+          spared = spares_begun l h ticket is.spared;
         }
 
     pub stands_ended : (ticket : ℕ) → Fronts after h (ended ticket l) → StandsFor bytes after h (ended ticket l)
@@ -155,6 +158,7 @@ module _ {H : Type 0} (bytes : H → Option (List ℕ)) (core after : Core H) (h
       fronts = fronts;
       has = laid_live bytes after.version l has_still (ended ticket l).live;
       tidy = tidy_ended (layout_logs l) l h is.tidy ticket;
+      spared = spares_ended l h ticket is.spared;
     }
 
     pub stands_halted : (name : Name) → Fronts after h (halted_at (file_of name) l)
@@ -163,6 +167,7 @@ module _ {H : Type 0} (bytes : H → Option (List ℕ)) (core after : Core H) (h
       fronts = fronts;
       has = laid_halted bytes after.version l has_still (file_of name);
       tidy = tidy_halted (file_of name) (layout_logs l) l h is.tidy;
+      spared = is.spared;
     }
 
   -- Behind a commit that was accepted.
@@ -179,4 +184,5 @@ module _ {H : Type 0} (bytes : H → Option (List ℕ)) (core after : Core H) (h
       fronts = fronts;
       has = laid_committed bytes core.version l is.has after.version h t is.tidy.true_logs.0 behind more;
       tidy = tidy_then;
+      spared = committed_spares l h is.spared t rising;
     }

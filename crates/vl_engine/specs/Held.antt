@@ -5,6 +5,7 @@ use Rattle.vl_disk.specs.DiskState.{DiskState, IsLawful}
 use Rattle.vl_disk.specs.declared.name.Name.TheVariants.{Manifest}
 use Rattle.vl_engine.specs.Files.{HoldsLog, HoldsTable, found_levels}
 use Rattle.vl_engine.specs.Pointed.{IsFramedAmong}
+use Rattle.vl_engine.specs.Spared.{at_rest, Spares}
 use Rattle.vl_layout.specs.Sources.{numbers_of, tables}
 use Rattle.vl_layout.specs.Start.{has_frames, newest_first}
 use Rattle.vl_layout.specs.Tidy.{sealed}
@@ -51,6 +52,8 @@ pub record IsBase (b : Base) (l : Layout) (h : History) : Type 0 where
   pub gone : b.state.gone ≡ l.gone
   pub covered : b.state.covered ≡ l.covered
   pub format : l.active.format ≡ log_format
+  -- its sources have what they should of each key's versions, as an image is asked for that is left behind a stop
+  pub spared : Spares (at_rest l) h
 
 -- the manifest is durable with its frames, and no greater one stands or was removed
 pub record HoldsBase (b : Base) (disk : DiskState) : Type 0 where

@@ -10,6 +10,7 @@ pub mod Known
 pub mod Laid
 pub mod laws
 pub mod Opening
+pub mod Past
 pub mod Pointed
 pub mod Reading
 pub mod Refusing
@@ -18,6 +19,7 @@ pub mod Represents
 pub mod Rotating
 pub mod Sees
 pub mod Shown
+pub mod Spared
 pub mod Staging
 pub mod Stepping
 pub mod Steps

@@ -11,6 +11,7 @@ use Rattle.vl_disk.specs.declared.name.Name.{Name}
 use Rattle.vl_engine.specs.Held.{Base, Holds, IsBase}
 use Rattle.vl_engine.specs.Laid.{HasLayout}
 use Rattle.vl_engine.specs.Pointed.{layout_logs}
+use Rattle.vl_engine.specs.Spared.{Spares}
 use Rattle.vl_engine.specs.declared.kept.Core.{Core}
 use Rattle.vl_layout.specs.Sources.{floor}
 use Rattle.vl_layout.specs.Start.{newest_first}
@@ -64,6 +65,8 @@ pub record StandsFor {H : Type 0} (bytes : H → Option (List ℕ)) (core : Core
   pub fronts : Fronts core h l
   pub has : HasLayout bytes core.version l
   pub tidy : IsTidy (layout_logs l) l h
+  -- its sources have what they should of each key's versions, so that these tell how far back it can be read
+  pub spared : Spares l h
 
 -- ---- with the disk
 

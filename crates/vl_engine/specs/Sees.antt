@@ -2,6 +2,8 @@
 -- stands here, so that no step of the engine touches it.
 use Rattle.std.specs.Prelude.{◌≡◌, ◌≤◌, ℕ, List, Option}
 use Rattle.std.specs.FinMap.{empty, entries}
+use Rattle.vl_engine.specs.Past.{ShowsPast}
+use Rattle.vl_engine.specs.declared.past.Past.{Past}
 use Rattle.vl_engine.specs.declared.txn.Txn.{Txn}
 use Rattle.vl_engine.specs.declared.view.View.{View}
 use Rattle.vl_layout.specs.Rulings.Commit.{Transaction}
@@ -18,8 +20,8 @@ use Rattle.vl_txn.specs.Reads.{no_notes}
 use Rattle.vl_version.specs.Sources.{HasEntries, tables_in}
 use Rattle.vl_version.specs.declared.version.Version.{Version}
 
--- The version shows the history at this number, which can be read.
-pub record ShowsAt {H : Type 0} (bytes : H → Option (List ℕ)) (version : Version H) (h : History) (number : ℕ)
+-- The version shows the history at this number, which can be read, and the past before it as far back as it may be read.
+pub record ShowsAt {H : Type 0} (bytes : H → Option (List ℕ)) (version : Version H) (past : Past) (h : History) (number : ℕ)
     : Type 0 where
   pub entries_of : List Entry
   pub logs : Logs
@@ -28,12 +30,13 @@ pub record ShowsAt {H : Type 0} (bytes : H → Option (List ℕ)) (version : Ver
   -- the number is one of the history's
   pub readable : h.first ≤ number
   pub known : number ≤ last_number h
+  pub shows_past : ShowsPast bytes version past number h
 
 -- The transaction sees the history at its number; the blocks that its reader keeps are of the version's tables, of which these
 -- are the files; and its notes are those of these reads, which the history explains there.
 pub record Sees {H R : Type 0} (bytes : H → Option (List ℕ)) (txn : Txn H R) (h : History) (reads : List Read)
     : Type 0 where
-  pub version : ShowsAt bytes txn.version h txn.number
+  pub version : ShowsAt bytes txn.version txn.past h txn.number
   pub files : Files
   pub reader : ReadsOf bytes files txn.reader (tables_in txn.version)
   pub notes : AreNotesOf reads txn.reads.keys txn.reads.spans
@@ -41,7 +44,7 @@ pub record Sees {H R : Type 0} (bytes : H → Option (List ℕ)) (txn : Txn H R)
 
 -- a view, which notes nothing
 pub record SeesAlone {H R : Type 0} (bytes : H → Option (List ℕ)) (view : View H R) (h : History) : Type 0 where
-  pub version : ShowsAt bytes view.version h view.number
+  pub version : ShowsAt bytes view.version view.past h view.number
   pub files : Files
   pub reader : ReadsOf bytes files view.reader (tables_in view.version)
 

@@ -5,6 +5,7 @@ use Rattle.vl_disk.specs.Crash.{Image}
 use Rattle.vl_disk.specs.DiskState.{DiskState}
 use Rattle.vl_engine.specs.Files.{HasLog, HasTable, found_levels}
 use Rattle.vl_engine.specs.Pointed.{IsFramedAmong, stored_among}
+use Rattle.vl_engine.specs.Spared.{IsSpared}
 use Rattle.vl_layout.specs.Logs.{memtable}
 use Rattle.vl_layout.specs.Shown.{IsOf}
 use Rattle.vl_layout.specs.Shows.{AreUpTo, Shows}
@@ -38,6 +39,8 @@ pub record EntriesShow (keep since : ℕ) (logs : Logs) (es : List Entry) (h : H
   pub shows : Shows logs es h (low h m keep since) m
   pub versions : AllByRecursion (IsOf h) es
   pub up_to : AreUpTo m es
+  -- what is missing of a key's versions doesn't tell on that number
+  pub spared : IsSpared h es m m keep since
 
 -- one of these logs has this number, and stands in the image
 pub record HasFramedAmong (image : Image) (logs : List Segment) (number : ℕ) : Type 0 where

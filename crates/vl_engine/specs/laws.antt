@@ -29,6 +29,7 @@ pub mod MemtableLaws
 pub mod MemtablePlaces
 pub mod MemtableSpelled
 pub mod OpensAgain
+pub mod PastLaws
 pub mod ReadLaws
 pub mod ReopenedLaws
 pub mod ReopenedShown
@@ -40,6 +41,9 @@ pub mod SeesLaws
 pub mod SegmentLaws
 pub mod SharedLaws
 pub mod ShownLaws
+pub mod SparedLaws
+pub mod SparedRulings
+pub mod SparedSteps
 pub mod StartLaws
 pub mod SwitchLaws
 pub mod TableReads

@@ -92,6 +92,56 @@ impl From<KeyFail> for ReadFault {
     }
 }
 
+/// Why a read at an older number gave nothing.
+#[derive(Clone, Copy, Debug, PartialEq, Eq, Error)]
+pub enum AtFail {
+    #[error("empty key")]
+    EmptyKey,
+    #[error("key too long")]
+    KeyTooLong,
+    /// The number is above this one, at which it reads.
+    #[error("only what was committed up to {number} is read")]
+    Ahead { number: u64 },
+    /// What the key had there may be gone. This is the least number at which it can be read.
+    #[error("the key can be read from {low} on")]
+    Dropped { low: u64 },
+    #[error("no memory")]
+    NoMemory,
+    /// The reader failed at this file.
+    #[error("the disk failed at {name:?}")]
+    Disk { name: Name },
+    /// What stands at this place of a file isn't what was written there.
+    #[error("{name:?} is damaged at {place}")]
+    Damaged { name: Name, place: u64 },
+}
+
+impl From<KeyFail> for AtFail {
+    ghost use Rattle.vl_engine.specs.Past.{as_at_fail};
+
+    ghost from_gives = { λ why e. e ≡ as_at_fail why };
+
+    fn from(why: KeyFail) -> Self {
+        match why {
+            KeyFail::EmptyKey => AtFail::EmptyKey,
+            KeyFail::KeyTooLong => AtFail::KeyTooLong,
+        }
+    }
+}
+
+impl From<VersionFault> for AtFail {
+    ghost use Rattle.vl_engine.specs.Past.{as_failed_at};
+
+    ghost from_gives = { λ fault e. e ≡ as_failed_at fault };
+
+    fn from(fault: VersionFault) -> Self {
+        match fault {
+            VersionFault::NoMemory => AtFail::NoMemory,
+            VersionFault::Disk { name } => AtFail::Disk { name },
+            VersionFault::Damaged { name, place } => AtFail::Damaged { name, place },
+        }
+    }
+}
+
 /// Why a transaction isn't a commit. Where it is handed back it lives on as it was, and else it has ended.
 #[derive(Drop)]
 pub enum CommitFail<H, R> {

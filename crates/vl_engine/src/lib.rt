@@ -12,6 +12,7 @@ mod fails;
 mod flushing;
 mod kept;
 mod laws;
+mod past;
 mod rotating;
 mod staging;
 mod txn;
@@ -19,7 +20,7 @@ mod view;
 mod writing;
 
 pub use engine::{Done, Engine};
-pub use fails::{CommitFail, KeepFail, ReadFail, ReadFault, StepFail};
+pub use fails::{AtFail, CommitFail, KeepFail, ReadFail, ReadFault, StepFail};
 pub use laws::what_is_seen_stays;
 pub use txn::Txn;
 pub use view::View;

@@ -3,6 +3,7 @@
 mod reading;
 mod writing;
 
+use crate::past::Past;
 pub(crate) use reading::tagged_value;
 use std::alloc::Global;
 use vl_table::BlockReader;
@@ -18,6 +19,8 @@ pub struct Txn<H, R> {
     pub(crate) ticket: u32,
     /// Of the last commit that it sees.
     pub(crate) number: u64,
+    /// How far back it may read.
+    pub(crate) past: Past,
     pub(crate) version: Version<H>,
     /// With the blocks that it keeps.
     pub(crate) reader: BlockReader<R>,

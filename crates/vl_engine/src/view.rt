@@ -2,6 +2,7 @@
 
 mod reading;
 
+use crate::past::Past;
 use std::alloc::Global;
 use vl_table::BlockReader;
 use vl_version::Version;
@@ -14,6 +15,8 @@ pub struct View<H, R> {
     pub(crate) ticket: u32,
     /// Of the last commit that it sees.
     pub(crate) number: u64,
+    /// How far back it may read.
+    pub(crate) past: Past,
     pub(crate) version: Version<H>,
     /// With the blocks that it keeps.
     pub(crate) reader: BlockReader<R>,

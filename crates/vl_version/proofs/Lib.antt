@@ -11,6 +11,7 @@ mod NewestLaws
 mod OldestLaws
 mod OverLaws
 mod OwnLaws
+mod PastLaws
 mod PutLaws
 mod RangesMet
 mod RowLaws

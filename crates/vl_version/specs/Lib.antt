@@ -10,6 +10,7 @@ pub mod Newest
 pub mod Oldest
 pub mod Over
 pub mod Own
+pub mod Past
 pub mod Place
 pub mod Rotating
 pub mod Rows

@@ -4,6 +4,7 @@ ghost use Rattle.std.specs.Prelude.{◌≡◌, List, ℕ};
 ghost use Rattle.std.specs.Option.{option_copied, option_map};
 ghost use Rattle.vl_block.specs.Founds.{found_of};
 ghost use Rattle.vl_model.specs.Winners.{newest_of};
+ghost use Rattle.vl_model.specs.declared.entry.Entry.{Entry};
 ghost use Rattle.vl_version.specs.Newest as what;
 
 use vl_block::{Found, FoundBody};
@@ -47,5 +48,16 @@ pub fn newer_of<'a>(held: Option<&'a Entry>, found: Option<Found>) -> Newest<'a>
                 Newest::Tabled(found)
             }
         }
+    }
+}
+
+/// The version of what counts.
+pub fn version_of(newest: Newest<'_>) -> Option<u64>
+    ensures { (key : List ℕ) → result ≡ option_map (λ (e : Entry). e.version) (what.newest_entry key newest.entry) }
+{
+    match newest {
+        Newest::None => None,
+        Newest::Held(entry) => Some(entry.version),
+        Newest::Tabled(found) => Some(found.version),
     }
 }

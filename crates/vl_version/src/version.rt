@@ -17,6 +17,8 @@ ghost use Rattle.vl_version.specs.Sources.{AreTold, HasEntries, in_memory, store
 ghost use Rattle.vl_version.specs.declared.fault.ReadFault.TheVariants as why;
 ghost use Rattle.vl_version.specs.levels.LevelsLooked.{AreLaidOut};
 
+mod past;
+
 use crate::behind::{Behind, SharedBehind};
 use crate::frozen::find_frozen;
 use crate::gather::sources_within;

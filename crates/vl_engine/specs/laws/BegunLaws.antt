@@ -13,6 +13,7 @@ use Rattle.vl_engine.specs.Files.{HasTable, HoldsLog, HoldsTable, bytes_of_table
 use Rattle.vl_engine.specs.Held.{Holds, IsBase}
 use Rattle.vl_engine.specs.Pointed.{IsFramedAmong, bytes_of_log, segment_at}
 use Rattle.vl_engine.specs.Shown.{HasFramedAmong, Shown, tables_among}
+use Rattle.vl_engine.specs.Spared.{Spares}
 use Rattle.vl_engine.specs.laws.FileLaws.{all_back, all_each, all_filtered, all_front, all_more, has_numbered, segment_all, segment_number}
 use Rattle.vl_engine.specs.laws.HeldLaws.{each_held}
 use Rattle.vl_engine.specs.laws.ShownLaws.{levels_numbers}
@@ -379,8 +380,9 @@ module _ {read : Image} (found : Finds read) (h : History) (shown : Shown read h
   -- Its base is that of the manifest that was made.
   pub begun_base : (manifest : ManifestLog) → manifest.number < 2 ^ 32 → IsInRange (new_state found.greatest found.opening.state)
       → found.opening.number ≡ last_number h
+      → Spares (layout_begun room found shown (but_last (logs_then found))) h
       → IsBase (base_begun found manifest (but_last (logs_then found))) (layout_begun room found shown (but_last (logs_then found))) h
-  begun_base manifest fits range number = record {
+  begun_base manifest fits range number spared = record {
     numbered = fits;
     made = ap (λ (o : Option ManifestState). read_in manifest_format (state_then 16 (λ (t : ManifestState). state_behind t []) o))
         (whole_says state range);
@@ -394,6 +396,7 @@ module _ {read : Image} (found : Finds read) (h : History) (shown : Shown read h
     gone = refl;
     covered = refl;
     format = refl;
+    spared = spared;
   }
 
   module _ (disk : DiskState)

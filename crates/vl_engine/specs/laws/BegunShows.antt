@@ -8,6 +8,7 @@ use Rattle.vl_engine.specs.Begun.{layout_begun}
 use Rattle.vl_engine.specs.Files.{found_levels}
 use Rattle.vl_engine.specs.Pointed.{IsFramedAmong, layout_logs, stored_among, stored_of}
 use Rattle.vl_engine.specs.Shown.{EntriesShow, HasFramedAmong, Shown, entries_among, logs_entries}
+use Rattle.vl_engine.specs.Spared.{IsSpared}
 use Rattle.vl_engine.specs.laws.AmongLaws.{tables_led}
 use Rattle.vl_engine.specs.laws.BegunLaws.{as_told, begun_led, led_alike, one_opening}
 use Rattle.vl_engine.specs.laws.FileLaws.{segment_number}
@@ -102,6 +103,7 @@ module _ {read : Image} (found : Finds read) (h : History) (shown : Shown read h
         was.shows);
     versions = subst (AllByRecursion (IsOf h)) begun_sources was.versions;
     up_to = subst (AreUpTo (last_number h)) begun_sources was.up_to;
+    spared = subst (λ (es : List Entry). IsSpared h es (last_number h) (last_number h) begun.keep begun.since) begun_sources was.spared;
   }
     where
       read_entries : List Entry

@@ -14,6 +14,7 @@ use Rattle.vl_engine.specs.Files.{found_levels}
 use Rattle.vl_engine.specs.Held.{Base, Holds, HoldsSources, IsBase, logs_from}
 use Rattle.vl_engine.specs.Pointed.{layout_logs}
 use Rattle.vl_engine.specs.Shown.{ShowsBetween}
+use Rattle.vl_engine.specs.Spared.{at_rest, Spares}
 use Rattle.vl_engine.specs.laws.HeldLaws.{image_shows, led_stay, sources_held, store_held, view}
 use Rattle.vl_engine.specs.laws.KeptLaws.{AreOtherLogs, appending_elsewhere, base_kept, each_log_kept, manifests_beside_log, sources_kept, syncing_elsewhere, tables_beside_log, tables_kept, written_elsewhere}
 use Rattle.vl_engine.specs.laws.SegmentLaws.{not_among, other_behind, other_logs}
@@ -88,8 +89,8 @@ module _ (b : Base) (l : Layout) (h : History) (t : Transaction) (base : IsBase 
       not_among l.active.number (sealed l) tidy.distinct.0 into.log into.at
 
   -- The same base is that of the layout with the commit.
-  pub commit_base : IsBase b (committed l h t).layout (with_commit h (from_sorted t.writes))
-  commit_base = record {
+  pub commit_base : Spares (at_rest after) longer → IsBase b (committed l h t).layout (with_commit h (from_sorted t.writes))
+  commit_base spared = record {
     numbered = base.numbered;
     made = base.made;
     goes = subst (λ (s : Segment). GoOn b.state.covered (b.before ++ s ∷ []) (last_number longer)) active_more
@@ -102,6 +103,7 @@ module _ (b : Base) (l : Layout) (h : History) (t : Transaction) (base : IsBase 
     keep = base.keep;
     since = base.since;
     gone = base.gone;
+    spared = spared;
   }
 
   module _ (disk : DiskState) (holds : Holds b l disk)
@@ -136,7 +138,7 @@ module _ (b : Base) (l : Layout) (h : History) (t : Transaction) (base : IsBase 
 
     -- ---- meanwhile
 
-    module _ (tidy_after : IsTidy (layout_logs after) after longer) where
+    module _ (tidy_after : IsTidy (layout_logs after) after longer) (spared_after : Spares (at_rest after) longer) where
       sources_now : (now : DiskState) → SameElsewhere log_name disk now → HoldsSources l now
       sources_now now same = sources_kept log_name disk now same l (tables_beside_log l.active.number (tables l)) apart
           (sources_held b l h base disk holds.files)
@@ -157,7 +159,7 @@ module _ (b : Base) (l : Layout) (h : History) (t : Transaction) (base : IsBase 
             last_number longer,
             omega (arith, one_more),
             omega arith,
-            image_shows b after longer commit_base tidy_after now (sources_then now same) image left.left seen refl
+            image_shows b after longer (commit_base spared_after) tidy_after now (sources_then now same) image left.left seen refl
                 (subst (λ (n : ℕ). Opens image (Ok (opening_held b.state seen (logs_from b after) n))) (sym one_more)
                 (subst (λ (s : Segment). Opens image (Ok (opening_held b.state seen (b.before ++ s ∷ []) (last_number h + 1))))
                 active_more opens)),

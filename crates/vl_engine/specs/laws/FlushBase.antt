@@ -7,6 +7,8 @@ use Rattle.vl_disk.specs.DiskState.{DiskState}
 use Rattle.vl_engine.specs.Files.{found_levels}
 use Rattle.vl_engine.specs.Held.{Base, IsBase}
 use Rattle.vl_engine.specs.Pointed.{IsFramedAmong}
+use Rattle.vl_engine.specs.Spared.{at_rest}
+use Rattle.vl_engine.specs.laws.SparedSteps.{spares_flushed}
 use Rattle.vl_engine.specs.laws.SwitchLaws.{switched_base}
 use Rattle.vl_frame.specs.Runs.{item_frame}
 use Rattle.vl_layout.specs.Levels.{in_front}
@@ -307,4 +309,5 @@ module _ (b : Base) (l : Layout) (h : History) (s : Segment) (f : List Edit) (st
     gone = gone ∙ base.gone;
     covered = covers ∙ ap (covered_by s.frames) base.covered;
     format = base.format;
+    spared = spares_flushed (at_rest l) h s waits level deeper are base.spared;
   }

@@ -12,6 +12,7 @@ use Rattle.vl_engine.specs.Files.{HasLog, HasTable, HoldsLog, HoldsTable, bytes_
 use Rattle.vl_engine.specs.Held.{Base, Holds, HoldsBase, HoldsFiles, HoldsSources, IsBase, frames_of, logs_from}
 use Rattle.vl_engine.specs.Pointed.{bytes_of_log, layout_logs}
 use Rattle.vl_engine.specs.Shown.{EntriesShow, HasFramedAmong, Shown, entries_among, logs_entries}
+use Rattle.vl_engine.specs.Spared.{IsSpared}
 use Rattle.vl_engine.specs.laws.FileLaws.{IsTableAmong, all_each, all_filtered, all_more, has_numbered, named_among, named_levels, named_logs, segment_all, segment_number}
 use Rattle.vl_engine.specs.laws.LogEntries.{entries-append, entries-filtered, entries-newest}
 use Rattle.vl_engine.specs.laws.ShownLaws.{shown_by}
@@ -238,6 +239,8 @@ module _ (b : Base) (l : Layout) (h : History) (base : IsBase b l h) where
           shows = shows_opened (layout_logs l) (sources l) h (floor l h) b.state.keep b.state.since (floor-up l h) from_floor;
           versions = tidy.versions;
           up_to = of_up_to h (sources l) tidy.versions;
+          spared = subst (λ (k : ℕ). IsSpared h (sources l) (last_number h) (last_number h) k b.state.since) (sym base.keep)
+              (subst (λ (n : ℕ). IsSpared h (sources l) (last_number h) (last_number h) l.keep n) (sym base.since) base.spared);
         })
       where
         from_floor : Shows (layout_logs l) (sources l) h (low h (floor l h) b.state.keep b.state.since) (last_number h)

@@ -12,9 +12,11 @@ use Rattle.vl_disk.specs.laws.NameMap.{same_or_other}
 use Rattle.vl_engine.specs.Held.{Base, Holds, HoldsFiles, IsBase, frames_of}
 use Rattle.vl_engine.specs.Pointed.{layout_logs}
 use Rattle.vl_engine.specs.Shown.{Shown}
+use Rattle.vl_engine.specs.Spared.{at_rest}
 use Rattle.vl_engine.specs.laws.FlushBase.{state_more}
 use Rattle.vl_engine.specs.laws.KeptLaws.{written_elsewhere}
 use Rattle.vl_engine.specs.laws.OpensAgain.{switching_opens_again}
+use Rattle.vl_engine.specs.laws.SparedSteps.{spares_keeping}
 use Rattle.vl_engine.specs.laws.SwitchLaws.{switch_frame, switch_holds, switch_keeps, switched_base, switching_shows}
 use Rattle.vl_frame.specs.Runs.{HasFrame}
 use Rattle.vl_layout.specs.Ruling.{Ruling, leaving}
@@ -142,6 +144,7 @@ module _ (b : Base) (l : Layout) (h : History) (v : ℕ) (disk : DiskState) (bas
     gone = base.gone;
     covered = base.covered;
     format = base.format;
+    spared = spares_keeping (at_rest l) h v base.spared;
   }
 
   -- and its files are those that stand.

@@ -1,6 +1,8 @@
 -- What entries show of a history they show of it as it is gone on with from that number; and a new store shows no commits.
-use Rattle.std.specs.Prelude.{◌≡◌, ◌≤◌, ℕ, ◌==◌, ◌||◌, Bool, true, false, nat_le, List, [], ◌∷◌, ◌++◌, None, Some, refl}
+use Rattle.std.specs.Prelude.{◌≡◌, ◌≤◌, ℕ, ◌==◌, ◌||◌, Bool, true, false, nat_le, List, [], ◌∷◌, ◌++◌, length, None, Some, refl}
+use Rattle.std.specs.FinMap.{empty, entries, len-empty, len-entries}
 use Rattle.std.specs.List.{AllByRecursion, filter}
+use Rattle.std.specs.Ordering.{nat_cmp}
 use Rattle.std.proofs.Common.{sym, ap, subst, ◌∙◌, cond, arith}
 use Rattle.std.proofs.lemmas.Bool.Decides.{nat_tests}
 use Rattle.vl_disk.specs.Crash.{Image}
@@ -10,9 +12,11 @@ use Rattle.vl_engine.specs.Shown.{EntriesShow, Shown, entries_among, logs_entrie
 use Rattle.vl_engine.specs.laws.ReopenedLaws.{low-reopened, value_at-reopened, versions-reopened}
 use Rattle.vl_layout.specs.Shown.{IsOf}
 use Rattle.vl_layout.specs.Shows.{AreUpTo}
-use Rattle.vl_model.specs.History.{History, no_history}
+use Rattle.vl_layout_laws.specs.laws.Lists.{true_false}
+use Rattle.vl_model.specs.History.{History, Past, no_history}
+use Rattle.vl_model.specs.Keys.{Writes}
 use Rattle.vl_model.specs.Numbers.{has}
-use Rattle.vl_model.specs.Versions.{versions}
+use Rattle.vl_model.specs.Versions.{Numbered, naming, versions}
 use Rattle.vl_model.specs.Winners.{Logs}
 use Rattle.vl_model.specs.declared.entry.Entry.{Entry}
 use Rattle.vl_model.specs.laws.HistoryLaws.{past_value-empty, value_at-first}
@@ -29,6 +33,18 @@ has-filtered m n le (k ∷ ks) there = by (nat_le k m) (k == n) refl refl there 
         ap (λ (t : Bool). t || has n (filter (λ (j : ℕ). nat_le j m) ks)) other ∙ later there
     by false true high at there later = absurd (grind (arith, nat_tests, high, at, le))
     by false false high other there later = later there
+
+from-filtered : (m n : ℕ) (ns : List ℕ) → has n (filter (λ (k : ℕ). nat_le k m) ns) ≡ true → has n ns ≡ true
+from-filtered m n [] there = there
+from-filtered m n (k ∷ ks) there = by (nat_le k m) (k == n) refl (from-filtered m n ks) there
+  where
+    by : (a b : Bool) → (k == n) ≡ b → (has n (filter (λ (j : ℕ). nat_le j m) ks) ≡ true → has n ks ≡ true)
+        → has n (cond a (k ∷ filter (λ (j : ℕ). nat_le j m) ks) (filter (λ (j : ℕ). nat_le j m) ks)) ≡ true
+        → (b || has n ks) ≡ true
+    by a true at later is = refl
+    by true false other later is =
+        later (sym (ap (λ (t : Bool). t || has n (filter (λ (j : ℕ). nat_le j m) ks)) other) ∙ is)
+    by false false other later is = later is
 
 of_reopened : (h : History) (m : ℕ) (es : List Entry) → AllByRecursion (IsOf h) es → AreUpTo m es
     → AllByRecursion (IsOf (reopened h m)) es
@@ -52,6 +68,8 @@ entries_show_reopened keep since logs es h m show = record {
   };
   versions = of_reopened h m es show.versions show.up_to;
   up_to = show.up_to;
+  spared = λ key n le there missing.
+      show.spared key n le (from-filtered m n (versions h key) (subst (λ (ns : List ℕ). has n ns ≡ true) (versions-reopened h m key) there)) missing;
 }
 
 -- An image shows, of the history as it is gone on with from a number, what it shows of the history there.
@@ -73,6 +91,17 @@ shown_reopened image h m shown = record {
       (logs_entries shown.opening.logs ++ entries_among shown.levels) h m shown.entries;
 }
 
+none_at_all : {A : Type 0} → (xs : List A) → length xs ≡ 0 → xs ≡ []
+none_at_all [] is = refl
+none_at_all (x ∷ xs) is = absurd (omega arith)
+
+-- a store without commits has no versions
+no_versions : (key : List ℕ) → versions no_history key ≡ []
+no_versions key =
+    let past : Past = empty in
+    let nothing : entries past ≡ [] = none_at_all (entries past) (sym (len-entries past) ∙ len-empty nat_cmp Writes) in
+    ap (λ (cs : List Numbered). naming key (filter (λ (c : Numbered). nat_le c.0 0) cs ++ [])) nothing
+
 -- No entries show a store without commits.
 pub none_show : (logs : Logs) → EntriesShow 1 0 logs [] no_history 0
 none_show logs = record {
@@ -84,4 +113,6 @@ none_show logs = record {
   };
   versions = tt;
   up_to = tt;
+  spared = λ key n le there missing.
+      absurd (true_false (sym (subst (λ (ns : List ℕ). has n ns ≡ true) (no_versions key) there)));
 }

@@ -20,11 +20,13 @@ use Rattle.vl_engine.specs.Files.{found_levels}
 use Rattle.vl_engine.specs.Held.{Base, Holds, IsBase, frames_of, logs_from}
 use Rattle.vl_engine.specs.Pointed.{IsFramedAmong, layout_logs, segment_at}
 use Rattle.vl_engine.specs.Shown.{Shown}
+use Rattle.vl_engine.specs.Spared.{at_rest}
 use Rattle.vl_engine.specs.laws.FileLaws.{all_more, segment_all, segment_number}
 use Rattle.vl_engine.specs.laws.HeldLaws.{base_says, held_shown, led_stay, levels_left, sources_held, store_held, view}
 use Rattle.vl_engine.specs.laws.KeptLaws.{AreOtherLogs, base_kept, each_log_kept, manifests_beside_log, tables_beside_log, tables_kept}
 use Rattle.vl_engine.specs.laws.SegmentLaws.{not_among}
 use Rattle.vl_engine.specs.laws.ShownLaws.{shown_like}
+use Rattle.vl_engine.specs.laws.SparedSteps.{spares_rotated}
 use Rattle.vl_layout.specs.Logs.{new_segment}
 use Rattle.vl_layout.specs.Rulings.Rotate.{rotated}
 use Rattle.vl_layout.specs.Sources.{tables}
@@ -158,6 +160,7 @@ rotate_base b l h base tidy some = record {
   gone = base.gone;
   covered = base.covered;
   format = refl;
+  spared = spares_rotated (at_rest l) h base.spared;
 }
   where
     only : filter has_frames (l.active ∷ []) ≡ l.active ∷ []

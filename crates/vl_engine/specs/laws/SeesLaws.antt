@@ -5,8 +5,10 @@ use Rattle.std.proofs.Common.{ap, arith, length-append, sym, ◌∙◌}
 use Rattle.std.proofs.lemmas.Bool.Decides.{nat_tests}
 use Rattle.vl_engine.specs.Laid.{HasLayout, IsTableOf}
 use Rattle.vl_engine.specs.Sees.{Sees, SeesAlone, ShowsAt}
+use Rattle.vl_engine.specs.declared.past.Past.{Past}
 use Rattle.vl_engine.specs.declared.txn.Txn.{Txn}
 use Rattle.vl_engine.specs.declared.view.View.{View}
+use Rattle.vl_engine.specs.laws.PastLaws.{past_later}
 use Rattle.vl_layout.specs.Shown.{ShowsLow, low_at}
 use Rattle.vl_layout.specs.Shows.{Shows}
 use Rattle.vl_layout.specs.Sources.{floor, sources, tables}
@@ -105,9 +107,9 @@ module _ {H : Type 0} (bytes : H → Option (List ℕ)) where
 -- ---- what a reader sees
 
 -- So a version shows to a later history what it shows,
-pub version_later : {H : Type 0} (bytes : H → Option (List ℕ)) (version : Version H) (least most : History) (number : ℕ)
-    → Extends least most → ShowsAt bytes version least number → ShowsAt bytes version most number
-version_later bytes version least most number extends shows =
+pub version_later : {H : Type 0} (bytes : H → Option (List ℕ)) (version : Version H) (past : Past) (least most : History) (number : ℕ)
+    → Extends least most → ShowsAt bytes version past least number → ShowsAt bytes version past most number
+version_later bytes version past least most number extends shows =
     let known = shows.known in
     let readable = shows.readable in
     let first = extends.first in
@@ -119,13 +121,14 @@ version_later bytes version least most number extends shows =
       shows = shows_at_later shows.logs shows.entries_of least most number extends known shows.shows;
       readable = omega (arith, readable, first);
       known = omega (arith, known, later);
+      shows_past = past_later bytes version past number least most extends known shows.shows_past;
     }
 
 -- and a transaction and a view see there what they see.
 pub sees_later : {H R : Type 0} (bytes : H → Option (List ℕ)) (txn : Txn H R) (least most : History) (reads : List Read)
     → Extends least most → Sees bytes txn least reads → Sees bytes txn most reads
 sees_later bytes txn least most reads extends sees = record {
-  version = version_later bytes txn.version least most txn.number extends sees.version;
+  version = version_later bytes txn.version txn.past least most txn.number extends sees.version;
   files = sees.files;
   reader = sees.reader;
   notes = sees.notes;
@@ -135,7 +138,7 @@ sees_later bytes txn least most reads extends sees = record {
 pub sees_alone_later : {H R : Type 0} (bytes : H → Option (List ℕ)) (view : View H R) (least most : History)
     → Extends least most → SeesAlone bytes view least → SeesAlone bytes view most
 sees_alone_later bytes view least most extends sees = record {
-  version = version_later bytes view.version least most view.number extends sees.version;
+  version = version_later bytes view.version view.past least most view.number extends sees.version;
   files = sees.files;
   reader = sees.reader;
 }

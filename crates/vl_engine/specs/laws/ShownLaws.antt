@@ -11,6 +11,7 @@ use Rattle.vl_engine.specs.Pointed.{stored_among}
 use Rattle.vl_engine.specs.Shown.{EntriesShow, HasFramedAmong, Shown, ShowsBetween, entries_among, logs_entries, tables_among}
 use Rattle.vl_engine.specs.laws.FileLaws.{all_back, all_front, all_more, segment_number}
 use Rattle.vl_engine.specs.laws.LogEntries.{entries-filled}
+use Rattle.vl_engine.specs.laws.SparedLaws.{spared_extends}
 use Rattle.vl_layout.specs.Shown.{IsOf}
 use Rattle.vl_layout.specs.Sources.{numbers_of}
 use Rattle.vl_layout.specs.Tidy.{IsPlacedIn}
@@ -46,6 +47,7 @@ entries_show_later keep since logs es h k m extends le show = record {
       (shows-extends logs es h k (low h m keep since) m extends le show.shows);
   versions = of_later h k extends es show.versions;
   up_to = show.up_to;
+  spared = spared_extends h k extends es m m keep since le show.spared;
 }
 
 -- What an image shows of a history at one of its numbers it shows of each later history.

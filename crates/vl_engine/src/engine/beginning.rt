@@ -1,9 +1,11 @@
 ghost use Rattle.std.specs.Prelude.{◌≡◌, [], IfOk};
 ghost use Rattle.vl_engine.specs.Answers.{begin_outcome, view_outcome};
+ghost use Rattle.vl_engine.specs.Past.{beginning};
 ghost use Rattle.vl_engine.specs.Reading.{IsInMemory};
 ghost use Rattle.vl_engine.specs.Represents.{Fronts, Represents, StandsFor};
 ghost use Rattle.vl_engine.specs.Sees.{IsNew, Sees, SeesAlone};
 ghost use Rattle.vl_engine.specs.Stepping.{Fits};
+ghost use Rattle.vl_layout.specs.AtAnswer.{beginning_of};
 ghost use Rattle.vl_layout.specs.Decides.{Decides, as_before, no_effects};
 ghost use Rattle.vl_layout.specs.Rulings.Begin.{begin_ruling};
 ghost use Rattle.vl_layout.specs.Rulings.View.{view_ruling};
@@ -12,6 +14,7 @@ ghost use Rattle.vl_model.specs.History.{History};
 ghost use Rattle.vl_table.specs.Kept.{Files};
 ghost use Rattle.vl_table.specs.KeptBlocks.{AreKept};
 
+use crate::past::past_of;
 use crate::{BeginFail, Engine, Txn, View};
 use vl_disk::Disk;
 use vl_manifest::ManifestState;
@@ -39,6 +42,10 @@ impl<D: Disk> Engine<D> {
         // It sees the history at its last number, and has read and written nothing.
         ensures sees { (h : History) (l : Layout) → StandsFor D.Held.bytes self.old.core h l
             → IfOk result (λ txn. Sees D.Held.bytes txn h []) }
+
+        // It may read as far back as the layout has it.
+        ensures began { (h : History) (l : Layout) → StandsFor D.Held.bytes self.old.core h l
+            → IfOk result (λ txn. beginning txn.past ≡ beginning_of l h) }
         ensures fresh { IfOk result IsNew }
         // Where all of the engine's version is in memory, so is its own, and no read of it asks a file.
         ensures memory { IsInMemory self.old.core.version → IfOk result (λ txn. IsInMemory txn.version) }
@@ -55,6 +62,7 @@ impl<D: Disk> Engine<D> {
             alloc,
             ticket,
             number,
+            past,
             version,
             reader,
         } = self.view()?;
@@ -62,6 +70,7 @@ impl<D: Disk> Engine<D> {
             alloc,
             ticket,
             number,
+            past,
             version,
             reader,
             reads: Reads::new(alloc),
@@ -84,6 +93,10 @@ impl<D: Disk> Engine<D> {
             no_effects }
         ensures sees { (h : History) (l : Layout) → StandsFor D.Held.bytes self.old.core h l
             → IfOk result (λ view. SeesAlone D.Held.bytes view h) }
+
+        // It may read as far back as the layout has it.
+        ensures began { (h : History) (l : Layout) → StandsFor D.Held.bytes self.old.core h l
+            → IfOk result (λ view. beginning view.past ≡ beginning_of l h) }
         ensures memory { IsInMemory self.old.core.version → IfOk result (λ view. IsInMemory view.version) }
 
         // Its version is the engine's, and its reader keeps no block that doesn't stand, whatever the files.
@@ -103,11 +116,13 @@ impl<D: Disk> Engine<D> {
         };
         let reader = BlockReader::new(self.alloc, reader, blocks)?;
         let version = self.core.version.share()?;
+        let past = past_of(&self.core);
         match self.core.front.begin() {
             Ok(ticket) => Ok(View {
                 alloc: self.alloc,
                 ticket,
                 number: self.core.front.oracle.last(),
+                past,
                 version,
                 reader,
             }),

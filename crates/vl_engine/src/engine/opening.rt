@@ -18,6 +18,7 @@ ghost use Rattle.vl_recover.specs.crash.Alike.{OpensAsOf};
 ghost use Rattle.vl_recover.specs.crash.Meanwhile.{FaultsAt, IsMeanwhile, IsRepaired};
 ghost use Rattle.vl_recover.specs.crash.Starts.{MayOpen};
 ghost use Rattle.vl_recover.specs.opening.Answers.{AreStrayNames, Finds, IsNotOpened, calls_to_open};
+ghost use Rattle.vl_recover.specs.opening.Intact.{IsIntact, LeavesIntact};
 ghost use Rattle.vl_recover.specs.opening.Opening.{NamesNoTable};
 ghost use Rattle.vl_recover.specs.opening.Results.{recovery_by};
 ghost use Rattle.vl_recover.specs.repairing.Steps.{MakesSome};
@@ -67,6 +68,12 @@ impl<D: Disk> Engine<D> {
 
         ensures as_of { (state : DiskState) → D.told disk ≡ Some state → MayOpen state
             → HoldsThroughout D.Watched disk (disk_behind result) (OpensAsOf state) }
+
+        // And it is intact, where all that one could have left before was; behind Ok where what was read was.
+        ensures stays_intact { (state : DiskState) → D.told disk ≡ Some state → MayOpen state → LeavesIntact state
+            → HoldsThroughout D.Watched disk (disk_behind result) LeavesIntact }
+        ensures intact { (state now : DiskState) (read : Image) → D.told disk ≡ Some state → MayOpen state → IsRead read state
+            → IsIntact read → D.told (disk_behind result) ≡ Some now → IfOk result (λ engine. LeavesIntact now) }
 
         // It answers what reads give, unless memory runs out or the disk fails. Where that is a refusal nothing is changed,
         // whatever is answered; and nothing where memory ran out.

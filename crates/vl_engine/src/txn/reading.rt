@@ -2,8 +2,10 @@ ghost use Rattle.std.specs.Prelude.{◌≡◌, ◌≤◌, ◌++◌, ◌∷◌, [
 ghost use Rattle.std.specs.FinMap.{get};
 ghost use Rattle.std.specs.Option.{option_map};
 ghost use Rattle.vl_disk.specs.Faults.{HasCause};
+ghost use Rattle.vl_engine.specs.Past.{AtFailed, IsAnsweredAt, IsRefusedAt, beginning};
 ghost use Rattle.vl_engine.specs.Reading.{IsInMemory, IsOwn, IsRefusedBy, IsSound, LiesOver, LooksUp, LooksUpTagged, NotesNothing, OnlyNotes, ReadFailed, refused_bounds, rows_under, tagged_under, value_under, with_its_tag, written_value};
 ghost use Rattle.vl_engine.specs.Sees.{Sees};
+ghost use Rattle.vl_layout.specs.AtAnswer.{at_answer};
 ghost use Rattle.vl_model.specs.History.{History, value_at};
 ghost use Rattle.vl_model.specs.Reads.{KeyRead, Read};
 ghost use Rattle.vl_model.specs.declared.change.Change.{Change};
@@ -13,7 +15,8 @@ ghost use Rattle.vl_txn.specs.Reads.{AddsSpan, after_get, scan_of, with_get, wit
 ghost use Rattle.vl_txn.specs.Refusals.{refused_key};
 ghost use Rattle.vl_version.specs.Sources.{tables_in};
 
-use crate::{ReadFail, Rows, Txn};
+use crate::past::read_past;
+use crate::{AtFail, ReadFail, Rows, Txn};
 use std::alloc::AllocError;
 use vl_disk::{HeldFile, Reader};
 use vl_model::{Change, Value, Way};
@@ -123,6 +126,31 @@ impl<H: HeldFile, R: Reader<Held = H> + Drop> Txn<H, R> {
         )?;
         self.reads.note_scan(low, high, limit, way, &rows)?;
         Ok(rows)
+    }
+
+    /// The value that a key had at a number, if it had one, past the transaction's own writes. It is answered exactly from the
+    /// least number on at which the key can be read, up to that at which the transaction reads. Nothing is noted, since the past
+    /// doesn't change.
+    pub fn get_at(&mut self, key: &[u8], number: u64) -> Result<Option<Value>, AtFail>
+        ensures answer { (h : History) (reads : List Read) → Sees H.bytes self.old h reads
+            → IsAnsweredAt (at_answer h (beginning self.old.past) self.old.number key.now number) result }
+        ensures refused { IsRefusedAt self.old.number key.now number result }
+        ensures kept { NotesNothing self.old self.new }
+        ensures still { (h : History) (reads : List Read) → Sees H.bytes self.old h reads → Sees H.bytes self.new h reads }
+        ensures cause { HasCause (R.faults self.old.reader.reader) (R.faults self.new.reader.reader) (AtFailed result) }
+        ensures near { IsInMemory self.old.version → AtFailed result → ⊥ }
+        ensures blocks { (files : Files) → ReadsOf H.bytes files self.old.reader (tables_in self.old.version)
+            → ReadsOf H.bytes files self.new.reader (tables_in self.new.version) }
+    {
+        read_past(
+            self.alloc,
+            &self.version,
+            &mut self.reader,
+            self.past,
+            self.number,
+            key,
+            number,
+        )
     }
 
     // The value of a key that the transaction hasn't written itself, noted.

@@ -1,16 +1,19 @@
 ghost use Rattle.std.specs.Prelude.{◌≡◌, ◌≤◌, IfOk, IsErr, None};
 ghost use Rattle.std.specs.FinMap.{empty};
 ghost use Rattle.vl_disk.specs.Faults.{HasCause};
+ghost use Rattle.vl_engine.specs.Past.{AtFailed, IsAnsweredAt, IsRefusedAt, beginning};
 ghost use Rattle.vl_engine.specs.Reading.{IsFound, IsInMemory, IsRefusedBy, IsRefusedInto, IsSound, IsSoundInto, LiesOver, LooksUp, LooksUpInto, LooksUpTagged, OnlyReads, ReadFailed, ReadIntoFailed, refused_bounds, rows_under, with_its_tag};
 ghost use Rattle.vl_engine.specs.Sees.{SeesAlone};
+ghost use Rattle.vl_layout.specs.AtAnswer.{at_answer};
 ghost use Rattle.vl_model.specs.History.{History, value_at};
 ghost use Rattle.vl_table.specs.Kept.{Files};
 ghost use Rattle.vl_table.specs.KeptBlocks.{ReadsOf};
 ghost use Rattle.vl_txn.specs.Refusals.{refused_key};
 ghost use Rattle.vl_version.specs.Sources.{tables_in};
 
+use crate::past::read_past;
 use crate::txn::tagged_value;
-use crate::{Found, ReadFail, ReadFault, Rows, View};
+use crate::{AtFail, Found, ReadFail, ReadFault, Rows, View};
 use vl_disk::{HeldFile, Reader};
 use vl_model::{Value, Way};
 use vl_txn::{Writes, check_bound, check_key};
@@ -97,6 +100,30 @@ impl<H: HeldFile, R: Reader<Held = H> + Drop> View<H, R> {
             Err(VersionFault::Disk { name }) => Err(ReadFault::Disk { name }),
             Err(VersionFault::Damaged { name, place }) => Err(ReadFault::Damaged { name, place }),
         }
+    }
+
+    /// The value that a key had at a number, if it had one. It is answered exactly from the least number on at which the key can
+    /// be read, up to that at which the view reads.
+    pub fn get_at(&mut self, key: &[u8], number: u64) -> Result<Option<Value>, AtFail>
+        ensures answer { (h : History) → SeesAlone H.bytes self.old h
+            → IsAnsweredAt (at_answer h (beginning self.old.past) self.old.number key.now number) result }
+        ensures refused { IsRefusedAt self.old.number key.now number result }
+        ensures keeps { OnlyReads self.old self.new }
+        ensures still { (h : History) → SeesAlone H.bytes self.old h → SeesAlone H.bytes self.new h }
+        ensures cause { HasCause (R.faults self.old.reader.reader) (R.faults self.new.reader.reader) (AtFailed result) }
+        ensures near { IsInMemory self.old.version → AtFailed result → ⊥ }
+        ensures blocks { (files : Files) → ReadsOf H.bytes files self.old.reader (tables_in self.old.version)
+            → ReadsOf H.bytes files self.new.reader (tables_in self.new.version) }
+    {
+        read_past(
+            self.alloc,
+            &self.version,
+            &mut self.reader,
+            self.past,
+            self.number,
+            key,
+            number,
+        )
     }
 
     /// The first `limit` rows with keys from `low` on and below `high`, as the way goes. An empty bound is none.

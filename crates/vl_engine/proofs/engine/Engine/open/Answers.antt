@@ -1,11 +1,13 @@
 use Rattle.std.proofs.Common.{refl, ap, subst, sym, ◌∙◌}
 use Rattle.std.specs.Prelude.{max}
+use Rattle.vl_disk.specs.Moments.{waits}
 use Rattle.vl_engine.proofs.FitsAtStart.{opened_fits}
 use Rattle.vl_engine.proofs.Opened.{opened_back, opened_core, opened_fit, opened_numbered, opened_represents, opened_stands, opening_through, opens_still}
 use Rattle.vl_engine.proofs.engine.Engine.open.Goals as goal
 use Rattle.vl_engine.specs.Known.{are_known}
 use Rattle.vl_engine.specs.Opening.{AreLeveled}
 use Rattle.vl_memtable.specs.Contents.{Contents}
+use Rattle.vl_recover.specs.opening.Intact.{LeavesIntact}
 
 -- ---- where there was no memory
 
@@ -16,6 +18,10 @@ returns-in-Err-clause-through g c state read h told durable is_read shown =
 
 pub returns-in-Err-clause-as_of : goal.returns-in-Err-clause-as_of
 returns-in-Err-clause-as_of g c state told may = opens_still g.D.Watched c.args.disk g.met.D.Disk.only_now state told
+
+pub returns-in-Err-clause-stays_intact : goal.returns-in-Err-clause-stays_intact
+returns-in-Err-clause-stays_intact g c state told may intact =
+    waits g.D.Watched LeavesIntact g.met.D.Disk.only_now c.args.disk state told intact
 
 -- ---- where none was opened
 

@@ -1,5 +1,5 @@
 use Rattle.std.proofs.Common.{◌≡◌, ℕ, ap, refl, sym, subst, true, ◌∙◌}
-use Rattle.vl_engine.proofs.Beginning.{decides_begun, decides_refused, has_room, is_full, last_begun, sees_now, ticket_is}
+use Rattle.vl_engine.proofs.Beginning.{began_as, decides_begun, decides_refused, has_room, is_full, last_begun, sees_now, ticket_is}
 use Rattle.vl_engine.proofs.Fitting.{fit_still}
 use Rattle.vl_engine.proofs.Knowing.{knows_of}
 use Rattle.vl_engine.proofs.Represented.{represents_live}
@@ -63,7 +63,11 @@ pub returns-in-Ok-begin-clause-sees : goal.returns-in-Ok-begin-clause-sees
 returns-in-Ok-begin-clause-sees g c h l is =
     sees_now g.D.Held.HeldFile.bytes c.args.self.now.core h l is _ c.in_ok-version.ensures.shared
     (c.last.ensures.last ∙ ap (λ (o : LiveTickets). o.last) c.in-Ok-begin.ensures.ok.1 ∙ is.fronts.front.last)
-    c.in_ok-reader.ensures.kept
+    c.past_of-past.ensures c.in_ok-reader.ensures.kept
+
+pub returns-in-Ok-begin-clause-began : goal.returns-in-Ok-begin-clause-began
+returns-in-Ok-begin-clause-began g c h l is =
+    began_as c.args.self.now.core h l is.fronts c.past_of-past.result c.past_of-past.ensures
 
 pub returns-in-Ok-begin-clause-memory : goal.returns-in-Ok-begin-clause-memory
 returns-in-Ok-begin-clause-memory g c in_memory =

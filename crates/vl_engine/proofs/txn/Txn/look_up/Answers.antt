@@ -10,7 +10,7 @@ use Rattle.vl_engine.proofs.txn.Txn.look_up.Goals as goal
 
 pub returns-clause-sees : goal.returns-clause-sees
 returns-clause-sees g c h reads sees =
-    sees_get g.H.HeldFile.bytes c.args.self.now _ h reads sees refl refl (c.in_ok-value.ensures.kept sees.files sees.reader)
+    sees_get g.H.HeldFile.bytes c.args.self.now _ h reads sees refl refl refl (c.in_ok-value.ensures.kept sees.files sees.reader)
     c.args.key.now c.requires c.in_ok-note_get.ensures.noted
 
 pub returns-clause-value : goal.returns-clause-value
@@ -36,12 +36,12 @@ returns-in_err-value-clause-near g c alone =
 pub returns-in_err-value-clause-still : goal.returns-in_err-value-clause-still
 returns-in_err-value-clause-still g c h reads sees =
     on_error _ _ _ c.from_residual.result
-    (sees_still g.H.HeldFile.bytes c.args.self.now _ h reads sees refl refl (c.in_err-value.ensures.kept sees.files sees.reader) refl)
+    (sees_still g.H.HeldFile.bytes c.args.self.now _ h reads sees refl refl refl (c.in_err-value.ensures.kept sees.files sees.reader) refl)
 
 pub returns-in_err-note_get-clause-still : goal.returns-in_err-note_get-clause-still
 returns-in_err-note_get-clause-still g c h reads sees =
     on_error _ _ _ c.from_residual-in_err-note_get.result
-    (sees_still g.H.HeldFile.bytes c.args.self.now _ h reads sees refl refl (c.in_ok-value.ensures.kept sees.files sees.reader)
+    (sees_still g.H.HeldFile.bytes c.args.self.now _ h reads sees refl refl refl (c.in_ok-value.ensures.kept sees.files sees.reader)
     c.in_err-note_get.ensures.err)
 
 pub returns-clause-looks : goal.returns-clause-looks

@@ -15,7 +15,7 @@ returns-clause-rows g c h reads sees =
 
 pub returns-clause-sees : goal.returns-clause-sees
 returns-clause-sees g c h reads sees =
-    sees_scan g.H.HeldFile.bytes c.args.self.now _ h reads sees refl refl
+    sees_scan g.H.HeldFile.bytes c.args.self.now _ h reads sees refl refl refl
     (kept_beside sees.files c.args.self.now.reader _ c.in_ok-rows.ensures.kept sees.reader.kept)
     c.args.low.now c.args.high.now c.args.limit c.args.way
     _ _ c.deref.ensures.value (returns-clause-rows g c h reads sees) c.in_ok-note_scan.ensures.noted
@@ -39,11 +39,11 @@ returns-in_err-rows-clause-near g c alone =
 pub returns-in_err-rows-clause-still : goal.returns-in_err-rows-clause-still
 returns-in_err-rows-clause-still g c h reads sees =
     on_error _ _ _ c.from_residual-in_err-rows.result
-    (sees_still g.H.HeldFile.bytes c.args.self.now _ h reads sees refl refl
+    (sees_still g.H.HeldFile.bytes c.args.self.now _ h reads sees refl refl refl
     (kept_beside sees.files c.args.self.now.reader _ c.in_err-rows.ensures.kept sees.reader.kept) refl)
 
 pub returns-in_err-note_scan-clause-still : goal.returns-in_err-note_scan-clause-still
 returns-in_err-note_scan-clause-still g c h reads sees =
     on_error _ _ _ c.from_residual-in_err-note_scan.result
-    (sees_still g.H.HeldFile.bytes c.args.self.now _ h reads sees refl refl
+    (sees_still g.H.HeldFile.bytes c.args.self.now _ h reads sees refl refl refl
     (kept_beside sees.files c.args.self.now.reader _ c.in_ok-rows.ensures.kept sees.reader.kept) c.in_err-note_scan.ensures.err)

@@ -16,11 +16,11 @@ returns-clause-value g c h sees =
 
 pub returns-clause-still : goal.returns-clause-still
 returns-clause-still g c h sees =
-    sees_alone_still g.H.HeldFile.bytes c.args.self.now _ h sees refl refl (c.in_ok-get.ensures.kept sees.files sees.reader)
+    sees_alone_still g.H.HeldFile.bytes c.args.self.now _ h sees refl refl refl (c.in_ok-get.ensures.kept sees.files sees.reader)
 
 pub returns-in_err-get-clause-still : goal.returns-in_err-get-clause-still
 returns-in_err-get-clause-still g c h sees =
-    sees_alone_still g.H.HeldFile.bytes c.args.self.now _ h sees refl refl (c.in_err-get.ensures.kept sees.files sees.reader)
+    sees_alone_still g.H.HeldFile.bytes c.args.self.now _ h sees refl refl refl (c.in_err-get.ensures.kept sees.files sees.reader)
 
 pub returns-in_err-get-clause-sound : goal.returns-in_err-get-clause-sound
 returns-in_err-get-clause-sound g c h sees =

@@ -32,15 +32,15 @@ returns-in-Err-Damaged-clause-sound g c h sees =
 
 pub returns-in-Ok-clause-still : goal.returns-in-Ok-clause-still
 returns-in-Ok-clause-still g c h sees =
-    sees_alone_still g.H.HeldFile.bytes c.args.self.now _ h sees refl refl (c.get_into-result.ensures.kept sees.files sees.reader)
+    sees_alone_still g.H.HeldFile.bytes c.args.self.now _ h sees refl refl refl (c.get_into-result.ensures.kept sees.files sees.reader)
 
 pub returns-in-Err-Damaged-clause-still : goal.returns-in-Err-Damaged-clause-still
 returns-in-Err-Damaged-clause-still g c h sees =
-    sees_alone_still g.H.HeldFile.bytes c.args.self.now _ h sees refl refl (c.get_into-result.ensures.kept sees.files sees.reader)
+    sees_alone_still g.H.HeldFile.bytes c.args.self.now _ h sees refl refl refl (c.get_into-result.ensures.kept sees.files sees.reader)
 
 pub returns-in-Err-Disk-clause-still : goal.returns-in-Err-Disk-clause-still
 returns-in-Err-Disk-clause-still g c h sees =
-    sees_alone_still g.H.HeldFile.bytes c.args.self.now _ h sees refl refl (c.get_into-result.ensures.kept sees.files sees.reader)
+    sees_alone_still g.H.HeldFile.bytes c.args.self.now _ h sees refl refl refl (c.get_into-result.ensures.kept sees.files sees.reader)
 
 pub returns-in-Err-Disk-clause-near : goal.returns-in-Err-Disk-clause-near
 returns-in-Err-Disk-clause-near g c alone failed =

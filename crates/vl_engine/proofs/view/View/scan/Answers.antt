@@ -33,10 +33,10 @@ returns-in_err-rows-clause-near g c alone =
 
 pub returns-clause-still : goal.returns-clause-still
 returns-clause-still g c h sees =
-    sees_alone_still g.H.HeldFile.bytes c.args.self.now _ h sees refl refl
+    sees_alone_still g.H.HeldFile.bytes c.args.self.now _ h sees refl refl refl
     (kept_beside sees.files c.args.self.now.reader _ c.in_ok-rows.ensures.kept sees.reader.kept)
 
 pub returns-in_err-rows-clause-still : goal.returns-in_err-rows-clause-still
 returns-in_err-rows-clause-still g c h sees =
-    sees_alone_still g.H.HeldFile.bytes c.args.self.now _ h sees refl refl
+    sees_alone_still g.H.HeldFile.bytes c.args.self.now _ h sees refl refl refl
     (kept_beside sees.files c.args.self.now.reader _ c.in_err-rows.ensures.kept sees.reader.kept)

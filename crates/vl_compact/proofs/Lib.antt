@@ -1,7 +1,0 @@
-mod Choices
-mod DueLaws
-mod Into
-mod LevelAt
-mod MergeLaws
-mod Of
-mod Zips

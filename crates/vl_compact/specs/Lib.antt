@@ -1,4 +1,0 @@
-pub mod Laid
-pub mod Merges
-pub mod Ranges
-pub mod Ruled

@@ -1,0 +1,33 @@
+-- Which versions of a key the sources of a store still have, whatever merges dropped.
+use Rattle.std.specs.Prelude.{◌≡◌, ◌⊎◌, ◌≤◌, ℕ, ◌+◌, true, false, List, []}
+use Rattle.vl_layout.specs.laws.FromLow.{Passes}
+use Rattle.vl_layout.specs.Ruling.{Ruling}
+use Rattle.vl_layout.specs.Sources.{floor, sources}
+use Rattle.vl_layout.specs.declared.layout.Layout.{Layout}
+use Rattle.vl_model.specs.History.{History, last_number}
+use Rattle.vl_model.specs.Numbers.{has, nth_below}
+use Rattle.vl_model.specs.Versions.{versions, versions_in}
+use Rattle.vl_model.specs.declared.entry.Entry.{Entry}
+
+-- Of all these versions up to a number, one that isn't left is at most since, or is passed by so many that are left and are at
+-- most the floor.
+abbrev pub AreSpared : (all left : List ℕ) → (to floor keep since : ℕ) → Type 0
+AreSpared all left to floor keep since = (n : ℕ) → n ≤ to → has n all ≡ true → has n left ≡ false
+    → (n ≤ since) ⊎ Passes n (nth_below left (floor + 1) keep)
+
+-- So it is with what the entries have of each key's versions in the history. The least number at which a key can be read is
+-- then the same by these as by the history.
+abbrev pub IsSpared : History → List Entry → (to floor keep since : ℕ) → Type 0
+IsSpared h es to floor keep since = (key : List ℕ) → AreSpared (versions h key) (versions_in es key) to floor keep since
+
+-- and with the sources of a layout
+abbrev pub Spares : Layout → History → Type 0
+Spares l h = IsSpared h (sources l) (last_number h) (floor l h) l.keep l.since
+
+-- and with what a ruling leaves
+abbrev pub SparesRuled : {A : Type 0} → Ruling A → Type 0
+SparesRuled r = Spares r.layout r.history
+
+-- A layout where nothing lives, so that its floor is the last number.
+abbrev pub at_rest : Layout → Layout
+at_rest l = record l { live = [] }
