@@ -3,7 +3,6 @@ pub mod AllRows
 pub mod OpeningStopped
 pub mod Passing
 pub mod Reopening
-pub mod ShortKeys
 pub mod StoppedLaws
 pub mod StoreText
 pub mod TornSteps
