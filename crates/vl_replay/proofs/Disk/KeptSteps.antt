@@ -1,6 +1,6 @@
 -- What a change of how many versions are kept does to a disk that holds the state before it, by what the engine carried out.
-use Rattle.std.proofs.Common.{◌≡◌, ◌≤◌, ◌<◌, ◌+◌, ℕ, List, [], ◌∷◌, length, refl, ap, sym, ◌∙◌, subst, arith}
-use Rattle.std.specs.Prelude.{IsTrue, Option, None, Some, Ok, Err, Result, OnOk}
+use Rattle.std.proofs.Common.{◌≡◌, ◌≤◌, ◌+◌, ℕ, List, refl, ap, sym, ◌∙◌, subst, arith}
+use Rattle.std.specs.Prelude.{Option, Some, Ok, Err, Result, OnOk}
 use Rattle.std.specs.Bool.{⊤}
 use Rattle.vl_disk.specs.Crash.{Image}
 use Rattle.vl_disk.specs.DiskState.{DiskState}

@@ -1,6 +1,6 @@
 -- What a rotation or a flush does to a disk that holds the state before it, by what the engine carried out.
 use Rattle.std.proofs.Common.{◌≡◌, ◌⊎◌, ⊎_elim, inl, inr, ◌≤◌, ◌<◌, ◌+◌, ℕ, List, [], ◌∷◌, ◌++◌, length, refl, ap, sym, ◌∙◌, subst, arith, length-append}
-use Rattle.std.specs.Prelude.{◌≢◌, IsTrue, Option, None, Some, Ok, Err, Result, OnOk}
+use Rattle.std.specs.Prelude.{◌≢◌, Option, None, Some, Ok, Err, Result, OnOk}
 use Rattle.std.specs.List.{AllByRecursion}
 use Rattle.vl_back.specs.Writing.{KeepsOthers, flush_files}
 use Rattle.vl_disk.specs.Calls.{ChangesNothing}
@@ -31,7 +31,7 @@ use Rattle.vl_model.specs.History.{History, last_number}
 use Rattle.vl_recover.specs.crash.Alike.{IsLeft}
 use Rattle.vl_replay.specs.Between.{ShowsBetween}
 use Rattle.vl_replay.specs.Durable.{CarriesOut, CrashesShow, HoldsCommits, HoldsState, LeadsTo, StopsWithin}
-use Rattle.vl_replay.specs.Halts.{HaltsByDisk, HaltsByRead}
+use Rattle.vl_replay.specs.Halts.{HaltsByRead}
 use Rattle.vl_replay.specs.Replaying.{StandsIn, state_by_step}
 use Rattle.vl_replay.specs.Sequential.{State, files_behind, history_of}
 use Rattle.vl_replay.specs.Standing.{told_step}

@@ -13,12 +13,12 @@ use Rattle.vl_engine.specs.declared.txn.Txn.{Txn}
 use Rattle.vl_engine.specs.declared.view.View.{View as EngineView}
 use Rattle.vl_layout.specs.AtAnswer.{AtAnswer, Beginning, at_answer, at_answer_by}
 use Rattle.vl_layout.specs.Rulings.Commit.{Transaction as ATxn}
-use Rattle.vl_layout.specs.Store.Commits.{at_answer_in, low_in, value_in}
+use Rattle.vl_layout.specs.Store.Commits.{at_answer_in, value_in}
 use Rattle.vl_layout.specs.Store.Lines.{Name}
 use Rattle.vl_layout.specs.Store.Reading.{get_at_by, told_at}
-use Rattle.vl_layout.specs.Store.Things.{ATransaction, AView, Step, only, thing_of}
+use Rattle.vl_layout.specs.Store.Things.{Step, only, thing_of}
 use Rattle.vl_layout.specs.laws.CommitsLaws.{low_in-is, value_in-is}
-use Rattle.vl_model.specs.History.{History, value_at}
+use Rattle.vl_model.specs.History.{History}
 use Rattle.vl_model.specs.Keys.{Stored}
 use Rattle.vl_model.specs.Reads.{Read}
 use Rattle.vl_model.specs.Versions.{low}

@@ -1,5 +1,5 @@
 -- What rotations and flushes make: they leave the commits and what lives.
-use Rattle.std.proofs.Common.{◌≡◌, ◌≤◌, ◌+◌, ℕ, Bool, true, false, cond, List, [], ◌∷◌, ◌++◌, refl, ap, sym, ◌∙◌, subst, arith}
+use Rattle.std.proofs.Common.{◌≡◌, ◌≤◌, ◌+◌, ℕ, Bool, true, false, cond, List, [], ◌∷◌, refl, ap, sym, ◌∙◌, subst, arith}
 use Rattle.std.proofs.lemmas.Bool.Decides.{nat_tests}
 use Rattle.std.specs.Prelude.{Option, None, Some, Ok, Err, Result, length, nat_le, nat_lt}
 use Rattle.vl_back.specs.Deciding as deciding
@@ -10,7 +10,7 @@ use Rattle.vl_disk.specs.DiskState.{DiskState}
 use Rattle.vl_disk.specs.Faults.{HasCause}
 use Rattle.vl_engine.specs.Represents as engine
 use Rattle.vl_engine.specs.Represents.{IsLive}
-use Rattle.vl_engine.specs.Stepping.{Fits, StepFailed, step_outcome}
+use Rattle.vl_engine.specs.Stepping.{StepFailed, step_outcome}
 use Rattle.vl_engine.specs.declared.fails.StepFail.{StepFail}
 use Rattle.vl_engine.specs.declared.fails.StepFail.TheVariants as undone
 use Rattle.vl_engine.specs.declared.kept.Core.{Core}
@@ -22,9 +22,6 @@ use Rattle.vl_layout.specs.Rulings.Flush.{flush_of, flush_ruling, flush_unless, 
 use Rattle.vl_layout.specs.Rulings.Rotate.{rotate_of, rotate_ruling, rotate_unless, rotated}
 use Rattle.vl_layout.specs.Sources.{oldest, tables}
 use Rattle.vl_layout.specs.Store.Dispatch.{step_by, step_told}
-use Rattle.vl_layout.specs.Store.Lines as store_lines
-use Rattle.vl_layout.specs.Store.Lines.{Name}
-use Rattle.vl_layout.specs.Store.Things as store
 use Rattle.vl_layout.specs.declared.file_name.FileName.{FileName}
 use Rattle.vl_layout.specs.declared.layout.Layout.{Layout}
 use Rattle.vl_layout.specs.declared.live.Live.{Live}
@@ -33,12 +30,11 @@ use Rattle.vl_layout.specs.declared.table.Table.{Table}
 use Rattle.vl_manifest.specs.declared.waiting.Waiting.{Waiting}
 use Rattle.vl_model.specs.History.{History}
 use Rattle.vl_model.specs.Limits.{max_file_number, max_version_number}
-use Rattle.vl_model.specs.declared.counter.Counter.{Counter}
 use Rattle.vl_model.specs.declared.counter.Counter.TheVariants as counter
 use Rattle.vl_model.specs.declared.log_frame.LogFrame.{LogFrame}
 use Rattle.vl_replay.specs.Halts.{HaltsByDisk, HaltsByRead}
 use Rattle.vl_replay.specs.Replaying.{MakesStep, StandsIn, state_by}
-use Rattle.vl_replay.specs.Sequential.{IsTold, State, files_behind, history_of, without_lengths}
+use Rattle.vl_replay.specs.Sequential.{State, files_behind, history_of, without_lengths}
 use Rattle.vl_replay.specs.Standing.{Stand, told_step}
 use Rattle.vl_replay.specs.declared.fails.Halt.{Halt}
 use Rattle.vl_replay.specs.declared.replayer.open.Open.{Open}

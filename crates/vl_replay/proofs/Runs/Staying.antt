@@ -1,9 +1,9 @@
 -- A line that is told neither a number nor `ok` leaves the layout as it is, but for what lives.
-use Rattle.std.proofs.Common.{◌≡◌, inl, inr, ℕ, Bool, true, false, cond, List, [], ◌∷◌, refl, sym, ap, subst}
+use Rattle.std.proofs.Common.{◌≡◌, inl, inr, ℕ, Bool, true, false, cond, List, [], ◌∷◌, refl, ap}
 use Rattle.std.specs.Prelude.{◌==◌, ◌||◌, nat_lt, Option, None, Some}
 use Rattle.vl_layout.specs.Ruling.{Exhausted, Halted, Idle, Ruling, StepAnswer, Stepped, has_no_number, has_no_version, leaving}
-use Rattle.vl_layout.specs.Rulings.Flush.{flush_of, flush_ruling, flush_unless, flushed}
-use Rattle.vl_layout.specs.Rulings.Rotate.{rotate_of, rotate_ruling, rotate_unless, rotated}
+use Rattle.vl_layout.specs.Rulings.Flush.{flush_of, flush_unless, flushed}
+use Rattle.vl_layout.specs.Rulings.Rotate.{rotate_of, rotate_unless, rotated}
 use Rattle.vl_layout.specs.Rulings.Keep as keep
 use Rattle.vl_layout.specs.Rulings.Keep.{KeepAnswer, keep_unless}
 use Rattle.vl_layout.specs.Sources.{oldest}

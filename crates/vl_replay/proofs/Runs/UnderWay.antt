@@ -4,7 +4,7 @@ use Rattle.std.specs.Prelude.{Option, Some}
 use Rattle.vl_disk.specs.declared.watched.Watched.{Ghosts}
 use Rattle.vl_disk.specs.Faults.{Rose}
 use Rattle.vl_io.specs.Sink.{Takes}
-use Rattle.vl_script.specs.Script.{text_of, lines_of}
+use Rattle.vl_script.specs.Script.{lines_of}
 use Rattle.vl_replay.specs.Sequential.{State, history_of, answer_text}
 use Rattle.vl_replay.specs.Exchanges.{Exchange, KeepsUp, last_state}
 use Rattle.vl_model.specs.History.{Extends}

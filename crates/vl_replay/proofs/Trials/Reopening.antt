@@ -1,5 +1,5 @@
 -- The two openings of a trial: that of the empty disk that stops, and that of what a crash leaves.
-use Rattle.std.proofs.Common.{◌≡◌, ⊎_elim, ℕ, ◌-◌, ◌^◌, ◌≤◌, List, [], length, None, Some, Result, Ok, Err, refl, sym, ◌∙◌, ap, subst, arith}
+use Rattle.std.proofs.Common.{◌≡◌, ⊎_elim, ℕ, ◌-◌, ◌^◌, ◌≤◌, List, length, None, Some, Result, Ok, Err, refl, sym, ◌∙◌, ap, subst, arith}
 use Rattle.std.specs.Prelude.{IfOk, IfErr}
 use Rattle.std.specs.FinMap.{empty, get-empty}
 use Rattle.vl_disk.specs.Crash.{Image}
@@ -9,13 +9,13 @@ use Rattle.vl_disk.specs.Moments.{HoldsThroughout}
 use Rattle.vl_disk.specs.Name.{name_cmp}
 use Rattle.vl_disk.specs.Started.{IsRead, Started, started_empty, started_read}
 use Rattle.vl_io.specs.declared.sink.Sink as sink
-use Rattle.vl_mem.specs.Event.{counts_present, told_lawful}
+use Rattle.vl_mem.specs.Event.{counts_present}
 use Rattle.vl_mem.specs.FailsPast.{counted_past}
 use Rattle.vl_mem.specs.StoppingDisk.{StopsPast, calls_on, faults_on, state_on}
 use Rattle.vl_mem.specs.contracts.stopping_disk.StoppingDiskWatched.TheImpl as memory
 use Rattle.vl_mem.specs.declared.stopping_disk.StoppingDisk.{StoppingDisk}
 use Rattle.vl_model.specs.History.{History}
-use Rattle.vl_recover.specs.opening.Answers.{AnswersBy, Finds}
+use Rattle.vl_recover.specs.opening.Answers.{AnswersBy}
 use Rattle.vl_recover.specs.crash.Meanwhile.{IsMeanwhile}
 use Rattle.vl_recover.specs.opening.Results.{counted, recovery_by}
 use Rattle.vl_recover.specs.declared.fails.OpenFail.{OpenFail}

@@ -11,7 +11,7 @@ use Rattle.vl_disk.specs.MadeFile as making
 use Rattle.vl_disk.specs.MadeFile.{WhileMaking, made}
 use Rattle.vl_disk.specs.declared.name.Name.{Name}
 use Rattle.vl_disk.specs.declared.name.Name.TheVariants.{Manifest, Table}
-use Rattle.vl_disk.specs.laws.NameMap.{get_inserted, get_inserted_other, get_removed_other, same_or_other}
+use Rattle.vl_disk.specs.laws.NameMap.{get_inserted, get_inserted_other, same_or_other}
 use Rattle.vl_back.specs.Writing.{WhileWriting}
 use Rattle.vl_recover.specs.crash.Held.{AllSettled}
 use Rattle.vl_mem.specs.laws.CrashChance.{IsTornByPieces, IsTornInOnePiece, lengthened_torn, untorn_file}

@@ -1,6 +1,6 @@
 -- Which lines are answered up to a stop, by the calls that are counted behind them.
 use Rattle.std.proofs.Common.{◌≡◌, ℕ, zero, suc, min, ◌+◌, ◌-◌, ◌*◌, ◌^◌, ◌<◌, ◌≤◌, Bool, true, false, cond, List, [], ◌∷◌, length, take, Some, None, refl, sym, ◌∙◌, ap, subst, arith, zero-le}
-use Rattle.std.specs.Prelude.{Option, nat_le, ◌==◌}
+use Rattle.std.specs.Prelude.{Option, nat_le}
 use Rattle.std.specs.List.{AllByRecursion, slice_get}
 use Rattle.std.proofs.lemmas.Bool.Decides.{nat_tests}
 use Rattle.vl_disk.specs.Faults.{after_calls}

@@ -1,4 +1,4 @@
-use Rattle.std.proofs.Common.{rules, ◌≡◌, ℕ, List, [], ap, sym, ◌∙◌, subst, arith}
+use Rattle.std.proofs.Common.{rules, ℕ, List, [], ap, sym, ◌∙◌, subst, arith}
 use Rattle.std.specs.FinMap.{entries}
 use Rattle.vl_engine.specs.declared.view.View.{View}
 use Rattle.vl_model.specs.History.{contents_at}

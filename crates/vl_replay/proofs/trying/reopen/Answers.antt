@@ -1,4 +1,4 @@
-use Rattle.std.proofs.Common.{◌≡◌, inl, inr, refl, subst, sym, ◌∙◌, List, ℕ, Some, true, false}
+use Rattle.std.proofs.Common.{◌≡◌, inl, inr, refl, subst, sym, ◌∙◌, List, ℕ, true, false}
 use Rattle.vl_disk.specs.Started.{started_read}
 use Rattle.vl_layout.specs.Start.{layout_at_start}
 use Rattle.vl_engine.specs.Opening.{recovered}

@@ -1,5 +1,5 @@
 -- A flush is answered as its ruling has it, and carried out so.
-use Rattle.std.proofs.Common.{◌≡◌, ◌⊎◌, ap, refl, sym, ◌∙◌, subst, arith}
+use Rattle.std.proofs.Common.{◌≡◌, ◌⊎◌, ap, sym, ◌∙◌, subst, arith}
 use Rattle.std.specs.Prelude.{ℕ, Result}
 use Rattle.vl_disk.specs.declared.name.Name.TheVariants as names
 use Rattle.vl_engine.specs.Stepping.{step_outcome}

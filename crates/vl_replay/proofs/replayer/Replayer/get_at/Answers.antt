@@ -2,8 +2,6 @@
 use Rattle.std.proofs.Common.{◌∙◌, ℕ, List, refl, ap, sym, arith}
 use Rattle.vl_layout.specs.Store.Reading.{get_at_by}
 use Rattle.vl_layout.specs.Store.Things.{thing_of}
-use Rattle.vl_engine.specs.Past.{beginning}
-use Rattle.vl_layout.specs.AtAnswer.{at_answer}
 use Rattle.vl_replay.specs.Sequential.{history_of}
 use Rattle.vl_replay.specs.declared.replayer.open.Thing.TheVariants.{Transaction, View}
 use Rattle.vl_replay.proofs.Names.Lookups.{place_there, without_open}

@@ -1,6 +1,6 @@
 -- A change of how many versions are kept is answered as its ruling has it, and carried out so.
-use Rattle.std.proofs.Common.{◌≡◌, ap, refl, sym, ◌∙◌, subst, arith}
-use Rattle.std.specs.Prelude.{ℕ, Result}
+use Rattle.std.proofs.Common.{◌≡◌, ap, sym, ◌∙◌, subst}
+use Rattle.std.specs.Prelude.{Result}
 use Rattle.vl_engine.specs.Keeping.{keep_outcome}
 use Rattle.vl_engine.specs.laws.KeepLaws.{keep_made as keep_ruled, keep_other}
 use Rattle.vl_layout.specs.Ruling.{Ruling}
