@@ -9,10 +9,12 @@
 mod choosing;
 mod due;
 mod inputs;
+mod job;
 mod laws;
 mod planning;
 mod range;
 
 pub use inputs::Inputs;
+pub use job::{Fresh, Job, Synced};
 pub use laws::merges_are_as_ruled;
 pub use planning::{drained, planned};
