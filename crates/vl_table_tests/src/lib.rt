@@ -1,4 +1,5 @@
-//! Tests of tables that are written, opened, searched and gone through, over a disk in memory.
+//! Tests of tables that are written, opened, searched and gone through, over a disk in memory, and of the merges that are
+//! planned of them.
 #![tactic(auto)]
 
 #[cfg(test)]
