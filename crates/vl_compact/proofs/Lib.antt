@@ -1,3 +1,4 @@
+mod Begun
 mod Choices
 mod DueLaws
 mod Into

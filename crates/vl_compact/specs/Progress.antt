@@ -1,5 +1,5 @@
 -- How far a job has come with its merge.
-use Rattle.std.specs.Prelude.{◌≡◌, ℕ, ◌+◌, ◌≤◌, ◌<◌, Bool, false, true, not, List, [], ◌∷◌, ◌++◌, length, map, take, Option, Some, None, vec_capacity, if◌then◌else◌}
+use Rattle.std.specs.Prelude.{◌≡◌, ℕ, ◌+◌, ◌≤◌, ◌<◌, Bool, false, true, not, List, [], ◌∷◌, ◌++◌, length, map, take, Option, Some, None, vec_capacity}
 use Rattle.std.specs.List.{AllZip, filter}
 use Rattle.std.specs.Option.{ForSome}
 use Rattle.std.specs.Ordering.{is_lt}

@@ -3,7 +3,7 @@
 //! Between two calls it has no block and no cursor, and of where it is nothing but a key: all versions of a key come to lie in
 //! one table, so it begins anew behind the last key of its last table.
 
-ghost use Rattle.std.specs.Prelude.{◌≡◌, ◌×◌, [], true, false, None, IfOk, OnOk, OnErr, Bool, Option, List};
+ghost use Rattle.std.specs.Prelude.{◌≡◌, ◌⊎◌, [], true, false, None, IfErr, IfOk, OnOk, OnErr};
 ghost use Rattle.vl_compact.specs.Bases.{told_by};
 ghost use Rattle.vl_compact.specs.Faults.{MayFail, NoneRose, OneRose, WriterFailed, counts};
 ghost use Rattle.vl_compact.specs.Progress.{Fills, Has, HasAll, HasRoom, IsFresh, IsJobOf, Leaves};
@@ -86,7 +86,11 @@ impl<V: Sources, H: HeldFile, W: Writer> Job<V, H, W> {
     }
 }
 
-impl<R: Reader, V: Sources<Reader = BlockReader<R>, Fault = TableFault>, W: Writer> Job<V, R::Held, W> {
+impl<R: Reader, V: Sources<Reader = BlockReader<R>, Fault = TableFault>, W: Writer> Job<
+    V,
+    R::Held,
+    W,
+> {
     /// Whether it keeps an entry that isn't in one of its tables. It reads on behind the last one until it meets such an
     /// entry; where none is left, it has all of its merge. After a fault it is as before.
     pub fn ready(&mut self, alloc: Global, reader: &mut BlockReader<R>) -> Result<bool, TableFault>
