@@ -1,6 +1,7 @@
 pub mod Built
 pub mod Grouped
 pub mod Held
+pub mod Marked
 pub mod MergeOf
 pub mod Merging
 pub mod ReadAhead

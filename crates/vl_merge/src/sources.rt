@@ -1,8 +1,7 @@
-ghost use Rattle.std.specs.Prelude.{◌≡◌, ℕ, Bool, List, Option, IfOk, IfErr, MatchResult, is_some};
-ghost use Rattle.std.specs.Option.{ForSome};
+ghost use Rattle.std.specs.Prelude.{◌≡◌, ℕ, Bool, List, IfOk, IfErr, MatchResult};
 ghost use Rattle.vl_model.specs.Winners.{exact};
 ghost use Rattle.vl_model.specs.Cursors.{IsCounted};
-ghost use Rattle.vl_model.specs.declared.entry.Entry.{Entry};
+ghost use Rattle.vl_merge.specs.Marked.{Marked, all_of, is_first_outside, outside_of};
 ghost use Rattle.vl_merge.specs.Merging.{has_older};
 
 use vl_model::Entry;
@@ -14,14 +13,9 @@ pub trait Sources {
 
     type Fault;
 
-    /// The entries of all sources, end to end, the newest source first, where they are end_to_end.
-    ghost entries: { Self → Option (List Entry) };
-
-    /// The same of the sources that aren't tables of these numbers.
-    ghost outside: { Self → List ℕ → Option (List Entry) };
-
-    /// The same of the sources that are newer than a table.
-    ghost newer: { Self → ℕ → Option (List Entry) };
+    /// These are the entries of all sources, the newest source first, each with whether one of the tables of some numbers
+    /// has it. Sources that don't tell their entries have none.
+    ghost has: { Self → List ℕ → List Marked → Type 0 };
 
     /// What the reader keeps is of these sources. Only then are their answers told.
     ghost fits: { Self → Self.Reader → Type 0 };
@@ -42,13 +36,14 @@ pub trait Sources {
         key: &[u8],
         version: u64,
     ) -> Result<Option<Entry>, Self::Fault>
-        ensures found { fits self.now reader.old → IfOk result (λ found. ForSome (entries self.now) (λ es. found ≡ exact es key.now version)) }
+        ensures found { (inputs : List ℕ) (ms : List Marked) → fits self.now reader.old → has self.now inputs ms
+            → IfOk result (λ found. found ≡ exact (all_of ms) key.now version) }
         ensures fits { fits self.now reader.old → fits self.now reader.new }
         ensures cause { MatchResult result (λ _. faults reader.new ≡ faults reader.old)
             (λ fault. IsCounted (is_read_fault fault) (faults reader.old) (faults reader.new)) }
         ensures may_fail { IfErr result (λ fault. may_fail self.now fault) };
 
-    /// Whether a source outside the inputs has the key at a lower version.
+    /// Whether a source other than these tables has the key at a lower version.
     fn older(
         &self,
         reader: &mut Self::Reader,
@@ -56,21 +51,23 @@ pub trait Sources {
         key: &[u8],
         version: u64,
     ) -> Result<bool, Self::Fault>
-        ensures found { fits self.now reader.old → IfOk result (λ found. ForSome (outside self.now inputs.now) (λ es. found ≡ has_older es key.now version)) }
+        ensures found { (ms : List Marked) → fits self.now reader.old → has self.now inputs.now ms
+            → IfOk result (λ found. found ≡ has_older (outside_of ms) key.now version) }
         ensures fits { fits self.now reader.old → fits self.now reader.new }
         ensures cause { MatchResult result (λ _. faults reader.new ≡ faults reader.old)
             (λ fault. IsCounted (is_read_fault fault) (faults reader.old) (faults reader.new)) }
         ensures may_fail { IfErr result (λ fault. may_fail self.now fault) };
 
-    /// Whether a source that is newer than a table has the key and version.
+    /// Whether the first source that has the key and version is none of these tables. Where none has it the answer is no.
     fn shadowed(
         &self,
         reader: &mut Self::Reader,
-        table: u32,
+        inputs: &[u32],
         key: &[u8],
         version: u64,
     ) -> Result<bool, Self::Fault>
-        ensures found { fits self.now reader.old → IfOk result (λ found. ForSome (newer self.now table) (λ es. found ≡ is_some (exact es key.now version))) }
+        ensures found { (ms : List Marked) → fits self.now reader.old → has self.now inputs.now ms
+            → IfOk result (λ found. found ≡ is_first_outside ms key.now version) }
         ensures fits { fits self.now reader.old → fits self.now reader.new }
         ensures cause { MatchResult result (λ _. faults reader.new ≡ faults reader.old)
             (λ fault. IsCounted (is_read_fault fault) (faults reader.old) (faults reader.new)) }
