@@ -2,3 +2,4 @@ pub mod Laid
 pub mod Merges
 pub mod Ranges
 pub mod Ruled
+pub mod Walking
