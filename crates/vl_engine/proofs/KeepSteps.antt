@@ -102,7 +102,7 @@ pub laid_kept : {H : Type 0} (bytes : H → Option (List ℕ)) (version : Versio
 laid_kept bytes version h l v has = record {
   active = has.active;
   frozen = has.frozen;
-  tables_are = has.tables_are;
+  levels = has.levels;
   in_order = has.in_order;
   logs = has.logs;
   told = has.told;

@@ -15,7 +15,8 @@ use Rattle.vl_disk.specs.declared.name.Name.TheVariants as names
 use Rattle.vl_disk.specs.declared.watched.Watched.{Ghosts}
 use Rattle.vl_engine.specs.Begun.{base_begun}
 use Rattle.vl_engine.specs.Fit.{IsFitFor}
-use Rattle.vl_engine.specs.Opening.{AreLeveled, IsBackAtStart, IsCoreOf, IsDurable, each_level, recovered, state_then}
+use Rattle.vl_engine.specs.Laid.{by_level}
+use Rattle.vl_engine.specs.Opening.{AreLeveled, IsBackAtStart, IsCoreOf, IsDurable, recovered, state_then}
 use Rattle.vl_engine.specs.Represents.{Fronts, Represents, StandsFor, file_of}
 use Rattle.vl_engine.specs.Shown.{LeavesBetween, Shown}
 use Rattle.vl_engine.specs.declared.kept.Core.{Core}
@@ -102,7 +103,7 @@ module _ {H : Type 0} where
 
   -- levels that are made of tables have what was found of these
   leveled_found : (levels : List (Vec (Table H) Global)) (made : Levels H) → AreLeveled levels made
-      → map found_list (each_level made) ≡ map found_level levels
+      → map found_list (by_level made) ≡ map found_level levels
   leveled_found [] made is = absurd is
   leveled_found (v ∷ levels) made is =
       (λ i. found_level (is.0 i) ∷ map found_list (is.1 i))
