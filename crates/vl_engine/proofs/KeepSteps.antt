@@ -210,7 +210,7 @@ module _ {D H : Type 0} (g : Ghosts D) (watched : IsWatched g) (bytes : H → Op
         ∙ ap (λ (m : ManifestLog). m.length + length staged.frame.items) held.back_is.manifest
         ∙ ap (λ (frame : List ℕ). b.manifest.length + length frame) frame_is
 
-    state_then : after.back.state ≡ kept_state b.state v (keeping v h l).since
+    state_then : after.back.state ≡ record (kept_state b.state v (keeping v h l).since) { next_table = l.next_table }
     state_then = back.state
         ∙ ap (λ (n : ℕ). kept_state before.back.state v n) (since_is before before h l v staged is.stands.fronts)
         ∙ ap (λ (s : ManifestState). kept_state s v (keeping v h l).since) held.back_is.state

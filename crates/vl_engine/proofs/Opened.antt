@@ -270,7 +270,7 @@ module _ {D H : Type 0} (parts : Parts D H) (room : ℕ) (core : Core H) (made :
             manifest = made.manifest;
             state = back.state;
             next_log = back.next_log;
-            next_table = refl;
+            next_table = omega arith;
             waiting = subst (AreWaiting found.opening.state.covered core.back.waiting.items)
                 (sym (newest_twice found.opening.logs)
                 ∙ sym (ap (λ (ss : List Segment). newest_first (newest_first ss)) (before_found found))) back.waiting;

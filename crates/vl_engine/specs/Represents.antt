@@ -73,9 +73,11 @@ pub record StandsFor {H : Type 0} (bytes : H → Option (List ℕ)) (core : Core
 -- What steps on files need is that of the base and the layout: the manifest that is appended to is the one that stands.
 pub record IsBack (back : Back) (b : Base) (l : Layout) : Type 0 where
   pub manifest : back.manifest ≡ b.manifest
-  pub state : back.state ≡ b.state
+  -- What is kept of what the manifest says has the next table's number, which may be above the manifest's own: numbers of
+  -- tables may be drawn ahead of the switch that names these.
+  pub state : back.state ≡ record b.state { next_table = l.next_table }
   pub next_log : back.next_log ≡ l.next_log
-  pub next_table : b.state.next_table ≡ l.next_table
+  pub next_table : b.state.next_table ≤ l.next_table
   -- a layout has its frozen logs the newest first
   pub waiting : AreWaiting l.covered back.waiting.items (newest_first l.frozen)
 

@@ -18,12 +18,14 @@ pub record IsStored (s : State) (disk : DiskState) : Type 0 where
   pub is_base : IsBase base s.store.layout (history_of s)
   pub holds : Holds base s.store.layout disk
   pub tidy : IsTidy (layout_logs s.store.layout) s.store.layout (history_of s)
-  pub next_table : base.state.next_table ≡ s.store.layout.next_table
+  -- the manifest gives the next table no number above the state's, which may have been drawn ahead of it
+  pub next_table : base.state.next_table ≤ s.store.layout.next_table
   -- no file passes the number that the state has for that,
   pub numbered : AreNumberedUpTo s.files disk
   -- and the manifest gives at most the next ones, as a rotation does
   pub next : GivesUpTo s.files base.state
   pub next_log : s.store.layout.next_log ≤ s.files + 1
+  pub next_drawn : s.store.layout.next_table ≤ s.files + 1
 
 -- A line that was stopped was a commit, a rotation or a flush.
 abbrev pub IsStopped : Stopping

@@ -203,11 +203,10 @@ module _ {D H R : Type 0} (g : Ghosts D) (bytes : H → Option (List ℕ)) (befo
     stored_then x k m layout history running log table represents =
         let (disk, told, stored) = held.there in
         let next_log = stored.next_log in
-        let given = stored.next.table in
-        let next_table = stored.next_table in
+        let next_table = stored.next_drawn in
         stored_by bytes after (g.told new) (state_by s x) k m layout history stored.openable running represents
         (subst (λ (p : Back). p.state.next_log ≤ p.next_log) (sym back) stands.within)
-        (omega (arith, log, next_log)) (omega (arith, table, given, next_table))
+        (omega (arith, log, next_log)) (omega (arith, table, next_table))
         (λ now then. numbered_still s.files (g.told old) (g.told new) disk now files told then stored.numbered)
 
     -- where the engine represents what it did, the commits are held
@@ -357,7 +356,7 @@ module _ {D H R : Type 0} (g : Ghosts D) (bytes : H → Option (List ℕ)) (befo
                 stored.next_table
                 (changed_numbered s.files (log_of s) _ (appended (log_of s) whole (length whole) disk)
                 (changed_numbered s.files (log_of s) _ disk stored.numbered))
-                stored.next stored.next_log;
+                stored.next stored.next_log stored.next_drawn;
             writes = t.writes;
             one_more = ap (λ (x : Step). x.state.commits) step_then;
           }
