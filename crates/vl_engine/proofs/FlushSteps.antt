@@ -39,6 +39,7 @@ use Rattle.vl_engine.specs.laws.FlushLaws.{CanFlush, WhileFlushing, base_beside,
 use Rattle.vl_engine.specs.laws.FlushRulings.{flush_made}
 use Rattle.vl_engine.specs.laws.FlushTidy.{flush_tidy, stays}
 use Rattle.vl_engine.specs.laws.HeldLaws.{held_opens_again}
+use Rattle.vl_engine.specs.laws.KeptLaws.{none_drawn}
 use Rattle.vl_engine.specs.laws.LaidFlush.{laid_flushed, made_table, oldest_entries}
 use Rattle.vl_engine.specs.laws.OpensAgain.{flush_opens_again}
 use Rattle.vl_engine.specs.laws.ShownLaws.{between_itself}
@@ -337,6 +338,8 @@ module _ {D H : Type 0} (g : Ghosts D) (watched : IsWatched g) (bytes : H → Op
             (sym back.waiting) (waiting_dropped before.back b l s held.back_is first);
       };
       holds = flush_holds b l h s held.state held.is_base tidy held.holds can numbered;
+      begun = none_drawn flush.state.next_table (l.next_table + 1) (final b l h s held.state held.is_base tidy held.holds can)
+          (omega (arith, next_then));
     }
 
     pub carries_flushed : g.calls new ≡ after_calls 5 (g.calls writes.mid) → StandsFor bytes after h (flushed l s)

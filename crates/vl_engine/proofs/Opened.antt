@@ -25,6 +25,7 @@ use Rattle.vl_engine.specs.laws.BegunLaws.{one_opening}
 use Rattle.vl_engine.specs.laws.BegunShows.{begun_shows}
 use Rattle.vl_engine.specs.laws.BegunTidy.{begun_tidy}
 use Rattle.vl_engine.specs.laws.FrontLaws.{front_known, front_started}
+use Rattle.vl_engine.specs.laws.KeptLaws.{none_drawn}
 use Rattle.vl_engine.specs.laws.LaidBegun.{begun_has, leveled_tables}
 use Rattle.vl_engine.specs.laws.ShownLaws.{between_itself, opening_shown}
 use Rattle.vl_engine.specs.laws.StartLaws.{before_found, newest_twice}
@@ -277,6 +278,8 @@ module _ {D H : Type 0} (parts : Parts D H) (room : ℕ) (core : Core H) (made :
           };
           holds = repaired_layout found start begins plan is_plan parts.manifest numbered its_long h shown room
               (each_lawful (repaired plan start) done.told);
+          begun = none_drawn (state_then found).next_table (state_then found).next_table (repaired done.repairing.plan start)
+              (omega arith);
         };
       }
         where

@@ -8,7 +8,7 @@ use Rattle.vl_conflict.specs.Recent.{Remembers}
 use Rattle.vl_disk.specs.DiskState.{DiskState}
 use Rattle.vl_disk.specs.declared.name.Name.TheVariants as names
 use Rattle.vl_disk.specs.declared.name.Name.{Name}
-use Rattle.vl_engine.specs.Held.{Base, Holds, IsBase}
+use Rattle.vl_engine.specs.Held.{AreBegun, Base, Holds, IsBase}
 use Rattle.vl_engine.specs.Laid.{HasLayout}
 use Rattle.vl_engine.specs.Pointed.{layout_logs}
 use Rattle.vl_engine.specs.Spared.{Spares}
@@ -89,6 +89,8 @@ pub record IsHeld (back : Back) (told : Option DiskState) (h : History) (l : Lay
   pub is_base : IsBase base l h
   pub back_is : IsBack back base l
   pub holds : Holds base l state
+  -- what was drawn ahead of the manifest are numbers of tables that were begun
+  pub begun : AreBegun base.state.next_table l.next_table state
 
 -- The engine represents the history and the layout, in memory and, unless it is halted, on the disk. So a crash now leaves
 -- an image that shows the history at its last number.

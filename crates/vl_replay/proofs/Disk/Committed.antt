@@ -20,6 +20,7 @@ use Rattle.vl_back.specs.declared.back.Back.{Back}
 use Rattle.vl_engine.specs.declared.kept.Core.{Core}
 use Rattle.vl_engine.specs.declared.txn.Txn.{Txn}
 use Rattle.vl_engine.specs.laws.CommitLaws.{commit_base, commit_holds}
+use Rattle.vl_engine.specs.laws.KeptLaws.{begun_kept, table_log, written_elsewhere}
 use Rattle.vl_engine.specs.laws.SparedRulings.{committed_spares}
 use Rattle.vl_frame.specs.Runs.{HasFrame}
 use Rattle.vl_layout.specs.AtAnswer.{Beginning}
@@ -354,6 +355,8 @@ module _ {D H R : Type 0} (g : Ghosts D) (bytes : H → Option (List ℕ)) (befo
                 (subst (λ (x : Ruling CommitAnswer). IsTidy (layout_logs s.store.layout) x.layout x.history) may.accepted
                 (commit_tidy (layout_logs s.store.layout) s.store.layout (history_of s) stored.tidy t rising))
                 stored.next_table
+                (begun_kept (log_of s) disk (written (log_of s) whole disk) (written_elsewhere (log_of s) whole disk)
+                (λ n. table_log n s.store.layout.active.number) b'.state.next_table s.store.layout.next_table stored.begun)
                 (changed_numbered s.files (log_of s) _ (appended (log_of s) whole (length whole) disk)
                 (changed_numbered s.files (log_of s) _ disk stored.numbered))
                 stored.next stored.next_log stored.next_drawn;
