@@ -14,6 +14,9 @@ pub mod FlushRulings
 pub mod FlushTidy
 pub mod FrontLaws
 pub mod HeldLaws
+pub mod InstallSpared
+pub mod InstallSpares
+pub mod InstallTables
 pub mod IntactLaws
 pub mod KeepLaws
 pub mod KeptLaws
