@@ -49,9 +49,11 @@ module _ (keep : ℕ) (I O : List Entry) (floor : ℕ) (key : List ℕ) (version
       ∙ ap (λ (x : Entry). list_any (is_at x.key x.version) newer) (sym still.same)
       ∙ ap (λ (k : List ℕ). list_any (is_at k e.version) newer) parts.0
       ∙ ap (λ (v : ℕ). list_any (is_at key v) newer) parts.1 ∙ none)))
-      (λ (rules : (is_outdated keep I floor q.entry || is_needless keep O floor q.entry) ≡ true).
-      (q.entry, subst (λ (x : Entry). is_at key version x ≡ true) still.same at,
-      or_cases (is_outdated keep I floor q.entry) (is_needless keep O floor q.entry) rules))
+      (λ (rules : (is_outdated keep I floor q.entry || is_needless keep O floor q.entry) ≡ true). (
+        q.entry,
+        subst (λ (x : Entry). is_at key version x ≡ true) still.same at,
+        or_cases (is_outdated keep I floor q.entry) (is_needless keep O floor q.entry) rules,
+      ))
       (or_cases (is_shadowed q.newer q.entry) (is_outdated keep I floor q.entry || is_needless keep O floor q.entry) drops)
     where
       parts : (e.key ≡ key) × (e.version ≡ version)
