@@ -14,6 +14,7 @@
 //! lies outside the interval is no source; each other one of level 0 is, and each deeper level.
 #![tactic(auto)]
 
+mod base;
 mod behind;
 mod fault;
 mod flushing;
@@ -23,6 +24,7 @@ mod gather;
 mod levels;
 mod newest;
 mod own;
+mod owned;
 mod resolving;
 mod rotating;
 mod rows;
@@ -31,6 +33,7 @@ mod source;
 mod version;
 mod wanted;
 
+pub use base::Base;
 pub use behind::Behind;
 pub use fault::ReadFault;
 pub use flushing::FlushedVersion;
