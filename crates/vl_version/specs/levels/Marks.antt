@@ -1,5 +1,5 @@
 -- What is asked of tables for a merge: which of them is the first that has an entry, and whether it is one of the inputs.
-use Rattle.std.specs.Prelude.{◌≡◌, ℕ, Bool, true, false, ◌&&◌, if◌then◌else◌, IfErr, IfOk, List, [], ◌∷◌, Option, Some, None, Result}
+use Rattle.std.specs.Prelude.{◌≡◌, ℕ, Bool, ◌&&◌, if◌then◌else◌, IfErr, IfOk, List, [], ◌∷◌, Option, Some, None, Result}
 use Rattle.std.specs.Option.{option_map}
 use Rattle.vl_disk.specs.Faults.{HasCause}
 use Rattle.vl_model.specs.declared.entry.Entry.{Entry}

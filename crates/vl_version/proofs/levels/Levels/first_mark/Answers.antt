@@ -1,9 +1,9 @@
-use Rattle.std.specs.Prelude.{Err, None, Ok, Option, Result, Some}
+use Rattle.std.specs.Prelude.{Err, Ok, Option}
 use Rattle.std.proofs.Common.{◌∙◌, ap, subst, Bool, List}
 use Rattle.std.proofs.lemmas.Result.{err_from_is_err_and}
 use Rattle.vl_table.specs.declared.table.Table.{Table}
 use Rattle.vl_version.specs.levels.LevelTables.{AreAllApart, all_tables}
-use Rattle.vl_version.specs.levels.LevelsLooked.{AreInOrder, tables_of}
+use Rattle.vl_version.specs.levels.LevelsLooked.{AreInOrder}
 use Rattle.vl_version.specs.levels.Marks.{TellsFirst}
 use Rattle.vl_version.proofs.marking.TellLaws.{fails_before, finds_before, goes_on}
 use Rattle.vl_version.proofs.levels.Levels.first_mark.Goals as goal
