@@ -31,6 +31,7 @@ pub mod LaidBegun
 pub mod LaidFlush
 pub mod LaidLaws
 pub mod LaidRotate
+pub mod LaidTables
 pub mod LedLaws
 pub mod LiveLaws
 pub mod LogEntries

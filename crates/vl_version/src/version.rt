@@ -17,6 +17,7 @@ ghost use Rattle.vl_version.specs.Sources.{AreTold, HasEntries, in_memory, store
 ghost use Rattle.vl_version.specs.declared.fault.ReadFault.TheVariants as why;
 ghost use Rattle.vl_version.specs.levels.LevelsLooked.{AreLaidOut};
 
+mod outside;
 mod past;
 
 use crate::behind::{Behind, SharedBehind};
@@ -79,6 +80,13 @@ impl<H: HeldFile> Version<H> {
             active: self.active.share()?,
             behind: self.behind.share()?,
         })
+    }
+
+    /// Its tables by their levels.
+    pub fn levels(&self) -> &Levels<H>
+        ensures { result.now ≡ self.now.behind.levels }
+    {
+        &self.behind.as_ref().levels
     }
 
     /// The memtable that takes commits, with a commit's run over it, of keys and versions that it hasn't. The version stays
