@@ -1,7 +1,12 @@
+mod Adding
 mod Choices
 mod DueLaws
+mod Fates
 mod Into
+mod Lefts
 mod LevelAt
+mod Making
 mod MergeLaws
 mod Of
+mod Passing
 mod Zips

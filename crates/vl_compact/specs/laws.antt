@@ -6,3 +6,4 @@ pub mod FirstTable
 pub mod ProgressLaws
 pub mod Repeats
 pub mod WalkLaws
+pub mod RaceInOrder
