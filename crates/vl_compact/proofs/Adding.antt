@@ -115,7 +115,7 @@ module _ {W : Type 0} (writer : Ghosts W) where
       -- one more is added
       pub adding_goes : (lent_now : Lent W g) (table_now : TableWriter) → closes so.all e ≡ false
           → IsWrittenTo writer lent_now table_now (so.all ++ e ∷ []) → Adding j first old lent_now table_now e.key at_now left_now found_now
-      adding_goes lent_now table_now open written = record {
+      adding_goes lent_now table_now going written = record {
         all = so.all ++ e ∷ [];
         lastly = e;
         rest = n.rest;
@@ -123,7 +123,7 @@ module _ {W : Type 0} (writer : Ghosts W) where
         ends = last-append so.all e;
         last_is = refl;
         left_is = n.left_is;
-        cut = cut_here ∙ ap (λ b. cond b (so.all, e ∷ kept_then) (table_and_rest (so.all ++ e ∷ []) kept_then)) open;
+        cut = cut_here ∙ ap (λ b. cond b (so.all, e ∷ kept_then) (table_and_rest (so.all ++ e ∷ []) kept_then)) going;
         found_are = so.found_are ∙ n.goes.found_are;
         along = λ along. n.goes.along (so.along along).1;
       }
@@ -165,7 +165,7 @@ module _ {W : Type 0} (writer : Ghosts W) where
 
   pub filled_with : {g : _} (j : Job) (left : List Entry) (before at : Option Last) (left_now : Option (List Entry)) (none found found_now : List (List ℕ)) (e : Entry)
       → before ≡ None → none ≡ [] → (n : GivesNext j (stage before left none) at left_now found (Some e)) → (lent : Lent W g) (table : TableWriter)
-      → (a : Adds {g = g} writer j e (stage at n.rest found) found_now lent table) → IsAlong Up left → (lent_now : Lent W g) (filled : Filled)
+      → (a : Adds writer j e (stage at n.rest found) found_now lent table) → IsAlong Up left → (lent_now : Lent W g) (filled : Filled)
       → IsWhole writer lent_now a.all (arc_value filled.shape) → filled.last ≡ last_key a.all
       → filled.found.items ≡ keys_up_to filled.last found_now → Fills writer j left lent_now filled
   filled_with j left before at left_now none found found_now e first nothing n lent table a along lent_now filled whole last found_are =

@@ -129,7 +129,7 @@ module _ {C F : Type 0} (may : C → F → Type 0) where
   -- a fault of these cursors, or of one more, is on some tables where each of theirs is
   pub more_fails : (P : F → Type 0) (cs : List C) (c : C) (fault : F) → (OneMayFail may cs fault → P fault) → (may c fault → P fault)
       → OneMayFail may (cs ++ c ∷ []) fault → P fault
-  more_fails P cs c fault there here may = by (one_more cs c fault may)
+  more_fails P cs c fault there here fails = by (one_more cs c fault fails)
     where
       by : OneMayFail may cs fault ⊎ may c fault → P fault
       by (inl it) = there it

@@ -1,12 +1,14 @@
-mod Adding
+pub mod Adding
 mod Choices
 mod DueLaws
-mod Fates
+pub mod Fates
 mod Into
-mod Lefts
+pub mod Lefts
 mod LevelAt
-mod Making
+pub mod Lists
+pub mod Making
 mod MergeLaws
 mod Of
-mod Passing
+pub mod Passing
+pub mod Pieces
 mod Zips

@@ -1,30 +1,41 @@
 -- What a job has once it has made one table more, and once nothing is left.
-use Rattle.std.proofs.Common.{◌≡◌, ℕ, zero, suc, ◌+◌, ◌<◌, ◌≤◌, Bool, true, false, List, [], ◌∷◌, ◌++◌, length, take, drop, refl, ap, sym, subst, ◌∙◌, arith, append-nil, Option, Some, None}
+use Rattle.std.proofs.Common.{◌≡◌, ℕ, zero, suc, ◌+◌, ◌<◌, ◌≤◌, Bool, true, false, List, [], ◌∷◌, ◌++◌, length, take, drop, refl, ap, sym, subst, ◌∙◌, arith, append-nil, length-append, Option, Some, None}
+use Rattle.std.proofs.lemmas.List.{length-map}
+use Rattle.std.proofs.lemmas.List.Sums.{sum_by-cons}
 use Rattle.std.specs.Arc.{arc_value}
-use Rattle.std.specs.List.{AllZip}
-use Rattle.std.specs.Prelude.{map}
+use Rattle.std.specs.List.{AllZip, flat_map}
+use Rattle.std.specs.Option.{ForSome, IfNone, is_some}
+use Rattle.std.specs.Prelude.{map, Vec}
+use Rattle.std.specs.Global.{Global}
 use Rattle.vl_block.specs.Bytes.{table_bytes}
-use Rattle.vl_block.specs.Cutting.{last_key}
+use Rattle.vl_block.specs.Cutting.{joined, last_key}
+use Rattle.vl_block.specs.Footer.{Foot}
 use Rattle.vl_block.specs.Shapes.{IsShapeOf}
 use Rattle.vl_block.specs.declared.shape.TableShape.{TableShape}
 use Rattle.vl_compact.proofs.Zips.{zip_length, zip_push}
 use Rattle.vl_compact.specs.Filling.{Fills, IsWhole}
-use Rattle.vl_compact.specs.Keeps.{GivesNext, place_in, stage}
+use Rattle.vl_compact.specs.Keeps.{AreRulesOf, GivesNext, place_in, stage, with_entry}
 use Rattle.vl_compact.specs.Keys.{behind, keys_of, up_to}
-use Rattle.vl_compact.specs.Progress.{Answers, Has, HasAll, HasTaken, IsJobOf, IsSettled, IsTableFile, done_by}
+use Rattle.vl_compact.specs.Progress.{Answers, Has, HasAll, HasTaken, IsFresh, IsJobOf, IsSettled, IsTableFile, done_by, made_of}
+use Rattle.vl_compact.specs.Racing.{entry_count}
 use Rattle.vl_compact.specs.Walking.{is_behind, spent, walk}
 use Rattle.vl_compact.specs.laws.BehindLaws.{merged_entries-behind, needless-behind}
 use Rattle.vl_compact.specs.laws.FirstTable.{first_table}
-use Rattle.vl_compact.specs.laws.ProgressLaws.{all_there, is_past, last_past, merged_entries-in_order, next_output, one_missing, parted-rising, up_to-further}
+use Rattle.vl_compact.specs.laws.ProgressLaws.{all_there, is_past, last_past, merged_entries-in_order, next_output, one_missing, others_first, parted-rising, up_to-further}
 use Rattle.vl_compact.specs.declared.files.Lent.{Lent}
 use Rattle.vl_compact.specs.declared.files.Synced.{Synced}
 use Rattle.vl_compact.specs.declared.filling.Filled.{Filled}
 use Rattle.vl_compact.specs.declared.job.Job.{Job}
 use Rattle.vl_compact.specs.declared.last.Last.{Last}
-use Rattle.vl_disk.specs.DiskState.{settled}
+use Rattle.vl_compact.specs.declared.rules.Rules.{Rules}
+use Rattle.vl_compact.specs.Laid.{AreTablesOf}
+use Rattle.vl_disk.specs.DiskState.{File, settled}
 use Rattle.vl_disk.specs.declared.writer.Writer.{Ghosts}
+use Rattle.vl_layout.specs.Jobs.{AreOutputs}
 use Rattle.vl_layout.specs.Merging.{inputs_of, merged_entries, needless, outputs}
+use Rattle.vl_layout.specs.Sources.{numbers_of, table_entries}
 use Rattle.vl_layout.specs.Tables.{cut_into_tables}
+use Rattle.vl_layout.specs.declared.table.Table as laid
 use Rattle.vl_layout.specs.declared.job.Job as laid_job
 use Rattle.vl_merge.specs.Marked.{Marked}
 use Rattle.vl_merge.specs.Merging.{merged}
@@ -32,6 +43,8 @@ use Rattle.vl_model.specs.Entries.{in_order}
 use Rattle.vl_model.specs.Formats.{table_format}
 use Rattle.vl_model.specs.declared.entry.Entry.{Entry}
 use Rattle.vl_model.specs.declared.way.Way.TheVariants.{Up}
+use Rattle.vl_table.specs.Tables.{number_of}
+use Rattle.vl_table.specs.declared.table.Table.{Table}
 use Rattle.vl_run.specs.laws.OrderLaws.{rising-in_order}
 
 -- ---- lists
@@ -62,9 +75,29 @@ keys_both : (es fs : List Entry) → keys_of (es ++ fs) ≡ keys_of es ++ keys_o
 keys_both [] fs = refl
 keys_both (e ∷ es) fs = ap (λ l. e.key ∷ l) (keys_both es fs)
 
+none_up_to : (es : List Entry) → up_to None es ≡ []
+none_up_to [] = refl
+none_up_to (e ∷ es) = none_up_to es
+
 -- ---- a job
 
 module _ {V H W : Type 0} (writer : Ghosts W) (bytes : H → Option (List ℕ)) (has : V → List ℕ → List Marked → Type 0) where
+  -- at first it has nothing, and all is behind
+  pub begun : {g : _} (job : Job V H W g) (j : laid_job.Job) → IsJobOf writer bytes has job j → job.made.items ≡ [] → job.needless.items ≡ []
+      → job.after ≡ None → job.waits ≡ false → job.ended ≡ false → Has writer bytes has job j
+  begun job j is made keys after waits ended = record {
+    is = is;
+    made = subst (λ l. AllZip (IsTableFile writer) l (take (length l) (outputs j))) (sym made) tt;
+    others = ap (λ l. drop (length l) (outputs j)) made ∙ others_first (merged_entries j)
+        ∙ ap (λ (o : Option (List ℕ)). cut_into_tables (behind o (merged_entries j))) (sym after);
+    needless_are =
+        keys ∙ ap keys_of (sym (none_up_to (in_order (needless j))))
+        ∙ ap (λ (o : Option (List ℕ)). keys_of (up_to o (in_order (needless j)))) (sym after)
+        ∙ ap (λ b. keys_of (done_by b job.after (in_order (needless j)))) (sym ended);
+    waits = λ is. absurd (let no_such : true ≡ false = sym is ∙ waits in cc);
+    ended = λ is. absurd (let no_such : true ≡ false = sym is ∙ ended in cc);
+  }
+
   -- where it waits it hasn't ended
   pub not_ended : {g : _} (job : Job V H W g) (j : laid_job.Job) → Has writer bytes has job j → job.waits ≡ true → job.ended ≡ false
   not_ended job j h waits = by job.ended refl
@@ -89,6 +122,14 @@ module _ {V H W : Type 0} (writer : Ghosts W) (bytes : H → Option (List ℕ)) 
     needless_are = h.needless_are ∙ ap (λ b. keys_of (done_by b job.after (in_order (needless j)))) ended;
   }
 
+  -- and then its tables are the outputs
+  pub all_made : {g : _} (job : Job V H W g) (j : laid_job.Job) → HasAll writer bytes has job j → AreOutputs j (made_of job j)
+  all_made {g} job j h = record {
+    numbers = map (λ (t : Synced W g). t.number) job.made.items;
+    tables = refl;
+    enough = length-map job.made.items (λ (t : Synced W g). t.number) ∙ zip_length (IsTableFile writer) job.made.items (outputs j) h.made;
+  }
+
   abbrev left_of : (job_after : Option (List ℕ)) → laid_job.Job → List Entry
   left_of after j = merged Up (behind after (inputs_of j.base))
 
@@ -96,6 +137,30 @@ module _ {V H W : Type 0} (writer : Ghosts W) (bytes : H → Option (List ℕ)) 
   kept_is : (j : laid_job.Job) (after : Option (List ℕ)) (es : List Entry) → 1 ≤ j.keep → walk j None (left_of after j) ≡ es
       → behind after (merged_entries j) ≡ es
   kept_is j after es some is = sym (merged_entries-behind j after some) ∙ is
+
+  -- ---- what it begins with
+
+  numbers_same : (tables : List (Table H)) (ts : List laid.Table) → AreTablesOf bytes tables ts → map (λ (t : Table H). number_of t) tables ≡ numbers_of ts
+  numbers_same [] [] are = refl
+  numbers_same [] (t ∷ ts) are = absurd are
+  numbers_same (table ∷ tables) [] are = absurd are
+  numbers_same (table ∷ tables) (t ∷ ts) are =
+      ap (λ n. n ∷ map (λ (u : Table H). number_of u) tables) are.0.number ∙ ap (λ l. t.number ∷ l) (numbers_same tables ts are.1)
+
+  pub rules_of : {g : _} (job : Job V H W g) (j : laid_job.Job) → IsJobOf writer bytes has job j → (rules : Rules)
+      → rules.inputs.items ≡ map (λ (t : Table H). number_of t) job.inputs.tables.items → rules.floor ≡ job.floor → rules.keep ≡ job.keep
+      → AreRulesOf rules j
+  rules_of job j is rules inputs floor keep = record {
+    inputs = inputs ∙ numbers_same job.inputs.tables.items is.tables is.inputs ∙ sym is.numbers;
+    floor = floor ∙ is.floor;
+    keep = keep ∙ is.keep;
+  }
+
+  pub left_told : {g : _} (job : Job V H W g) (j : laid_job.Job) → IsJobOf writer bytes has job j → (left : Option (List Entry))
+      → ((ts : List laid.Table) → AreTablesOf bytes job.inputs.tables.items ts
+      → left ≡ Some (merged Up (behind job.after (flat_map table_entries ts)))) → left ≡ Some (left_of job.after j)
+  left_told job j is left told =
+      told is.tables is.inputs ∙ ap (λ es. Some (merged Up (behind job.after es))) (sym is.entries)
 
   -- ---- ready
 
@@ -117,7 +182,7 @@ module _ {V H W : Type 0} (writer : Ghosts W) (bytes : H → Option (List ℕ)) 
   }
 
   pub ends_with : {g : _} (job : Job V H W g) (j : laid_job.Job) → Has writer bytes has job j → job.ended ≡ false
-      → walk j None (left_of job.after j) ≡ [] → (keys : _) → keys.items ≡ job.needless.items ++ keys_of (spent j None (left_of job.after j))
+      → walk j None (left_of job.after j) ≡ [] → (keys : Vec (List ℕ) Global) → keys.items ≡ job.needless.items ++ keys_of (spent j None (left_of job.after j))
       → Answers writer bytes has (record job { needless = keys; waits = false; ended = true }) j false
   ends_with job j h going none keys keys_are =
       let es : List Entry = merged_entries j in
@@ -154,14 +219,79 @@ module _ {V H W : Type 0} (writer : Ghosts W) (bytes : H → Option (List ℕ)) 
         };
       }
 
+  module _ {g : _} (job : Job V H W g) (j : laid_job.Job) (h : Has writer bytes has job j) (last at : Option Last)
+      (found_first found : List (List ℕ)) (now : Option (List Entry)) (next : Option Entry)
+      (n : GivesNext j (stage last (left_of job.after j) found_first) at now found next) (first : last ≡ None) where
+    left_is : walk j None (left_of job.after j) ≡ with_entry next (walk j (place_in at) n.rest)
+    left_is = ap (λ (o : Option Last). walk j (place_in o) (left_of job.after j)) (sym first) ∙ n.goes.kept
+
+    -- one is kept
+    pub ready_more : is_some next ≡ true → Answers writer bytes has (record job { waits = true }) j true
+    ready_more some = by next refl
+      where
+        by : (o : Option Entry) → next ≡ o → Answers writer bytes has (record job { waits = true }) j true
+        by None is = absurd (let no_such : true ≡ false = sym some ∙ ap is_some is in cc)
+        by (Some e) is = waits_for job j h e (walk j (place_in at) n.rest)
+            (left_is ∙ ap (λ o. with_entry o (walk j (place_in at) n.rest)) is)
+
+    -- none is
+    pub ready_none : is_some next ≡ false → job.ended ≡ false → found_first ≡ [] → (keys : Vec (List ℕ) Global)
+        → keys.items ≡ job.needless.items ++ found → Answers writer bytes has (record job { needless = keys; waits = false; ended = true }) j false
+    ready_none none going nothing keys keys_are = by next refl
+      where
+        needless_keys : List (List ℕ)
+        needless_keys = keys_of (spent j None (left_of job.after j))
+
+        by : (o : Option Entry) → next ≡ o → Answers writer bytes has (record job { needless = keys; waits = false; ended = true }) j false
+        by (Some e) is = absurd (let no_such : true ≡ false = sym (ap is_some is) ∙ none in cc)
+        by None is =
+            let rest : n.rest ≡ [] = subst (λ (o : Option Entry). IfNone o (n.rest ≡ [])) is n.none in
+            let all : needless_keys ≡ found =
+            ap (λ l. l ++ needless_keys) (sym nothing)
+            ∙ ap (λ (o : Option Last). found_first ++ keys_of (spent j (place_in o) (left_of job.after j))) (sym first)
+            ∙ n.goes.found_are ∙ ap (λ es. found ++ keys_of (spent j (place_in at) es)) rest ∙ append-nil found in
+            ends_with job j h going
+            (left_is ∙ ap (λ o. with_entry o (walk j (place_in at) n.rest)) is ∙ ap (walk j (place_in at)) rest)
+            keys (keys_are ∙ ap (λ l. job.needless.items ++ l) (sym all))
+
   -- ---- one table more
+
+  -- what was written is durable
+  pub synced_fills : {g : _} (j : laid_job.Job) (left : List Entry) (lent synced : Lent W g) (filled : Filled) → (f : Fills writer j left lent filled)
+      → synced.number ≡ lent.number
+      → ForSome (writer.file synced.writer) (λ x. x ≡ settled (table_bytes table_format lent.number (first_table (f.first ∷ f.more)).0))
+      → Fills writer j left synced filled
+  synced_fills j left lent synced filled f number file =
+      let es : List Entry = (first_table (f.first ∷ f.more)).0 in
+      record {
+        first = f.first;
+        more = f.more;
+        kept = f.kept;
+        whole = record {
+          format = f.whole.format;
+          shape_is = subst (λ n. IsShapeOf n es (arc_value filled.shape)) (sym number) f.whole.shape_is;
+          file = λ x told. ap (λ (y : File). y.bytes) (file x told) ∙ ap (λ n. table_bytes table_format n es) (sym number);
+        };
+        last = f.last;
+        found_are = f.found_are;
+      }
+
+  pub is_settled : {g : _} (lent : Lent W g) (all : List ℕ) → ForSome (writer.file lent.writer) (λ x. x ≡ settled all) → IsSettled writer lent
+  is_settled lent all file = λ x told. file x told ∙ ap settled (sym (ap (λ (y : File). y.bytes) (file x told)))
+
+  -- nothing stands in a fresh file
+  pub fresh_bytes : {g : _} (lent : Lent W g) → IsFresh writer lent → ForSome (writer.file lent.writer) (λ x. x.bytes ≡ [])
+  fresh_bytes lent fresh = λ x told. ap (λ (y : File). y.bytes) (fresh x told)
+
+  shape_same : {g : _} (table : Synced W g) (filled : Filled) → table.shape ≡ filled.shape → arc_value table.shape ≡ arc_value filled.shape
+  shape_same table filled is = ap arc_value is
 
   -- the file is that of a table
   file_is : {g : _} (lent : Lent W g) (filled : Filled) (es : List Entry) → IsWhole writer lent es (arc_value filled.shape) → IsSettled writer lent
       → (table : Synced W g) → table.number ≡ lent.number → table.writer ≡ lent.writer → table.shape ≡ filled.shape → IsTableFile writer table es
   file_is lent filled es whole settled_is table number same shape = record {
-    format = ap (λ s. (arc_value s).format) shape ∙ whole.format;
-    shape = subst (λ s. IsShapeOf table.number es (arc_value s)) (sym shape)
+    format = ap (λ (s : TableShape). s.format) (shape_same table filled shape) ∙ whole.format;
+    shape = subst (λ (s : TableShape). IsShapeOf table.number es s) (sym (shape_same table filled shape))
         (subst (λ n. IsShapeOf n es (arc_value filled.shape)) (sym number) whole.shape_is);
     file = λ f told.
         let there = ap (λ w. writer.file w) (sym same) ∙ told in
@@ -169,8 +299,8 @@ module _ {V H W : Type 0} (writer : Ghosts W) (bytes : H → Option (List ℕ)) 
   }
 
   pub makes_one : {g : _} (job : Job V H W g) (j : laid_job.Job) → Has writer bytes has job j → job.waits ≡ true → (lent : Lent W g) (filled : Filled)
-      → Fills writer j (left_of job.after j) lent filled → IsSettled writer lent → (made : _) → HasTaken lent filled job.made.items made.items
-      → (keys : _) → keys.items ≡ job.needless.items ++ filled.found.items
+      → Fills writer j (left_of job.after j) lent filled → IsSettled writer lent → (made : Vec (Synced W g) Global) → HasTaken lent filled job.made.items made.items
+      → (keys : Vec (List ℕ) Global) → keys.items ≡ job.needless.items ++ filled.found.items
       → Has writer bytes has (record job { after = Some filled.last; made = made; needless = keys; waits = false }) j
   makes_one job j h waits lent filled fills settled_is made taken keys keys_are =
       let es : List Entry = merged_entries j in
@@ -203,3 +333,17 @@ module _ {V H W : Type 0} (writer : Ghosts W) (bytes : H → Option (List ℕ)) 
         waits = λ no. absurd (let no_such : false ≡ true = no in cc);
         ended = λ ended. absurd (let no_such : true ≡ false = sym ended ∙ going in cc);
       }
+
+-- ---- how many
+
+module _ {W : Type 0} (writer : Ghosts W) where
+  pub counted_by : {g : _} (tables : List (Synced W g)) (ess : List (List Entry)) → AllZip (IsTableFile writer) tables ess
+      → entry_count tables ≡ length (joined ess)
+  counted_by [] [] zip = refl
+  counted_by [] (es ∷ ess) zip = absurd zip
+  counted_by (t ∷ ts) [] zip = absurd zip
+  counted_by {g} (t ∷ ts) (es ∷ ess) zip =
+      sum_by-cons (λ (s : Synced W g). (arc_value s.shape).footer.count) t ts
+      ∙ ap (λ n. n + entry_count ts) (ap (λ (f : Foot). f.head.count) zip.0.shape.foot)
+      ∙ ap (λ n. length es + n) (counted_by ts ess zip.1)
+      ∙ sym (length-append es (joined ess))

@@ -1,17 +1,20 @@
 //! How a table goes to its file, piece by piece.
 
-ghost use Rattle.std.specs.Prelude.{◌≡◌, ◌++◌, ◌∷◌, [], ℕ, List, None, Some, not, IfErr, IfOk, OnOk};
+ghost use Rattle.std.specs.Prelude.{◌≡◌, ◌++◌, ◌∷◌, [], nat_le, ℕ, List, None, Some, not, IfErr, IfOk, OnOk};
 ghost use Rattle.std.specs.Arc.{arc_value};
 ghost use Rattle.std.specs.Option.{ForSome};
+ghost use Rattle.std.specs.Ordering.{eq_by_cmp};
 ghost use Rattle.vl_block.specs.Cutting.{last_key};
 ghost use Rattle.vl_compact.specs.Filling.{Adds, FailsFilling, Fills, IsWhole, IsWrittenTo, keys_up_to};
 ghost use Rattle.vl_compact.specs.Keeps.{AreRulesOf, stage};
 ghost use Rattle.vl_compact.specs.Lending.{FailsWriting, IsSteady};
 ghost use Rattle.vl_compact.specs.Reading.{FailsReading, NoneRose, counts};
-ghost use Rattle.vl_compact.specs.laws.FirstTable.{closes};
+ghost use Rattle.vl_compact.specs.laws.FirstTable.{closes, frames_length};
 ghost use Rattle.vl_compact.specs.laws.ProgressLaws.{is_past};
 ghost use Rattle.vl_layout.specs.declared.job.Job as laid;
+ghost use Rattle.vl_layout.specs.Tables.{full_table_bytes};
 ghost use Rattle.vl_merge.specs.Merging.{IsAlong};
+ghost use Rattle.vl_model.specs.Keys.{key_cmp};
 ghost use Rattle.vl_model.specs.declared.entry.Entry.{Entry};
 ghost use Rattle.vl_model.specs.declared.way.Way.TheVariants.{Up};
 ghost use Rattle.vl_table.specs.declared.fault.TableFault.TheVariants.{NoMemory};
@@ -166,7 +169,22 @@ fn closes(table: &TableWriter, last: &Key, entry: &Entry) -> bool
     ensures { (number : ℕ) (es : List Entry) (given : List ℕ) → IsWriting table.now number es given → last.now ≡ last_key es
         → result ≡ closes es entry.now }
 {
-    !last.as_slice().cmp(&entry.key.as_slice()).is_eq() && FULL_TABLE_BYTES <= table.block_bytes()
+    !is_of(last, entry) && is_full(table)
+}
+
+// Whether an entry is of a key.
+fn is_of(key: &Key, entry: &Entry) -> bool
+    ensures { result ≡ eq_by_cmp key_cmp key.now entry.now.key }
+{
+    key.as_slice().cmp(&entry.key.as_slice()).is_eq()
+}
+
+// Whether the frames of the blocks have reached the measure of a full table.
+fn is_full(table: &TableWriter) -> bool
+    ensures { (number : ℕ) (es : List Entry) (given : List ℕ) → IsWriting table.now number es given
+        → result ≡ nat_le full_table_bytes (frames_length es) }
+{
+    FULL_TABLE_BYTES <= table.block_bytes()
 }
 
 // Ends the table, and hands out the rest of it. Of the keys that were found those up to its last one are left.

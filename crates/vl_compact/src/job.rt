@@ -87,7 +87,8 @@ impl<V: Drop, H: Drop, W: Writer + Drop> Job<V, H, W> {
 impl<V: Sources, H: HeldFile, W: Writer> Job<V, H, W> {
     ghost use Rattle.std.specs.Prelude.{◌≡◌, ◌-◌, ◌^◌, min, length};
     ghost use Rattle.std.specs.Option.{option_map};
-    ghost use Rattle.vl_compact.specs.Progress.{Has, HasAll, IsJobOf, IsNew};
+    ghost use Rattle.vl_compact.specs.Progress.{Has, HasAll, IsJobOf, IsNew, made_of};
+    ghost use Rattle.vl_layout.specs.Jobs.{AreOutputs};
     ghost use Rattle.vl_layout.specs.Merging.{merged_entries};
     ghost use Rattle.vl_layout.specs.Rulings.Install.{race};
     ghost use Rattle.vl_layout.specs.declared.job.Job as laid;
@@ -125,6 +126,11 @@ impl<V: Sources, H: HeldFile, W: Writer> Job<V, H, W> {
         self.first_moved(moved)
     }
 
+    /// Where it has all of its merge, its tables are the merge's outputs.
+    pub fn has_outputs(&self)
+        ensures { (j : laid.Job) → HasAll W.Writer H.bytes V.has self.now j → AreOutputs j (made_of self.now j) }
+    {}
+
     /// How many entries its tables have, 2^64 - 1 where there are more.
     pub fn kept_count(&self) -> u64
         ensures { (j : laid.Job) → HasAll W.Writer H.bytes V.has self.now j
@@ -135,7 +141,7 @@ impl<V: Sources, H: HeldFile, W: Writer> Job<V, H, W> {
 }
 
 impl<V: Sources<Fault = TableFault>, H: HeldFile, W: Writer> Job<V, H, W> {
-    ghost use Rattle.std.specs.Prelude.{◌≡◌, ◌×◌, ◌<◌, ◌≤◌, ◌+◌, ◌++◌, List, None, Some, map, true, false, vec_capacity, vec_len, IfErr, IfOk, OnErr, OnOk};
+    ghost use Rattle.std.specs.Prelude.{◌≡◌, ◌<◌, ◌≤◌, ◌+◌, ◌++◌, List, None, Some, map, true, false, vec_capacity, vec_len, IfErr, IfOk, OnErr, OnOk};
     ghost use Rattle.std.specs.List.{flat_map};
     ghost use Rattle.vl_compact.specs.Filling.{FailsFilling, Fills};
     ghost use Rattle.vl_compact.specs.Keys.{behind};

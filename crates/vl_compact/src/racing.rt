@@ -2,6 +2,7 @@
 
 ghost use Rattle.std.specs.Prelude.{◌≡◌, map, min, ◌^◌, ◌-◌, IfOk};
 ghost use Rattle.std.specs.Option.{option_map};
+ghost use Rattle.std.specs.Ordering.{eq_by_cmp};
 ghost use Rattle.std.specs.FinMap.{find};
 ghost use Rattle.vl_compact.specs.Racing.{entry_count, least_moved};
 ghost use Rattle.vl_model.specs.Keys.{key_cmp};
@@ -17,7 +18,7 @@ use vl_table::Table;
 pub fn least_moved<'a>(keys: &'a [Key], moved: &[(Key, u64)]) -> Option<(&'a Key, u64)>
     ensures { option_map (λ r. (r.0.now, r.1)) result ≡ least_moved moved.now keys.now }
 {
-    'keys: for key in keys {
+    for key in keys {
         if let Some(number) = last_move(moved, key) {
             return Some((key, number));
         }
@@ -29,12 +30,18 @@ pub fn least_moved<'a>(keys: &'a [Key], moved: &[(Key, u64)]) -> Option<(&'a Key
 fn last_move(moved: &[(Key, u64)], key: &Key) -> Option<u64>
     ensures { result ≡ find key_cmp key.now moved.now }
 {
-    'moves: for (other, number) in moved {
-        if key.as_slice().cmp(&other.as_slice()).is_eq() {
-            return Some(*number);
+    for entry in moved {
+        if is_same(key, &entry.0) {
+            return Some(entry.1);
         }
     }
     None
+}
+
+fn is_same(key: &Key, other: &Key) -> bool
+    ensures { result ≡ eq_by_cmp key_cmp key.now other.now }
+{
+    key.as_slice().cmp(&other.as_slice()).is_eq()
 }
 
 /// How many entries these tables have, 2^64 - 1 where there are more.
@@ -42,7 +49,7 @@ pub fn total<W: Writer>(made: &[Synced<W>]) -> u64
     ensures { result ≡ min (entry_count made.now) (2 ^ 64 - 1) }
 {
     let mut sum = 0u64;
-    'made: for table in made {
+    for table in made {
         sum = sum.saturating_add(table.shape.footer.count);
     }
     sum
@@ -53,7 +60,7 @@ pub fn numbers_of<H: HeldFile>(alloc: Global, tables: &[Table<H>]) -> Result<Vec
     ensures { IfOk result (λ numbers. numbers.items ≡ map number_of tables.now) }
 {
     let mut numbers = Vec::new(alloc);
-    'tables: for table in tables {
+    for table in tables {
         numbers.push(table.shape().number)?;
     }
     Ok(numbers)

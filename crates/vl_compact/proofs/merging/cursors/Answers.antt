@@ -1,4 +1,4 @@
-use Rattle.std.proofs.Common.{List, ◌+◌, subst, sym, take}
+use Rattle.std.proofs.Common.{List, [], ◌∷◌, ◌+◌, ◌++◌, subst, sym, take}
 use Rattle.std.specs.List.{AllZip}
 use Rattle.vl_compact.proofs.Lefts.{fails_there, item_there, more_fails}
 use Rattle.vl_compact.proofs.Zips.{zip_all, zip_at, zip_push}
@@ -19,7 +19,7 @@ loop-table-preserved g c = record {
       let R = HasBehind (λ (x : TableCursor g.row.H.Denot g.row.R.Denot). cursor_left g.H.HeldFile.bytes x) c.args.after.now in
       let at = zip_at (IsTableOf g.H.HeldFile.bytes) c.args.tables.now ts i c.table-item.result are c.loop-table-test.true c.table-item.is in
       subst (λ (l : List laid.Table). AllZip R c.push.new.self.items l) (sym at.taken)
-      (subst (λ (l : List (TableCursor g.row.H.Denot g.row.R.Denot)). AllZip R l _) (sym c.in_ok-push.ensures.items)
+      (subst (λ (l : List (TableCursor g.row.H.Denot g.row.R.Denot)). AllZip R l (take i ts ++ at.item ∷ [])) (sym c.in_ok-push.ensures.items)
       (zip_push R c.loop-table.cursors.items (take i ts) c.in_ok-cursor.field-0 at.item (c.loop-table.invariant.left ts are)
       (c.in_ok-cursor.ensures.left at.item at.is)));
   fails = λ fault may.

@@ -21,3 +21,7 @@ returns-clause-left g c = λ ts are.
         ∙ c.merge_of_told_sources.ensures Up ess (all_along g.H.HeldFile.bytes after c.args.tables.now ts are)
         ∙ ap (λ es. Some (merged Up es)) (behind_all after ts))
     c.new.ensures.left
+
+pub returns-clause-may_fail : goal.returns-clause-may_fail
+returns-clause-may_fail g c =
+    IfOk-weaker c.new.result _ _ (λ it may fault fails. c.in_ok-cursors.ensures.may_fail fault (may fault fails)) c.new.ensures.may_fail
