@@ -1,8 +1,8 @@
 -- What becomes of an entry, by what sources answer.
-use Rattle.std.proofs.Common.{◌≡◌, ℕ, Bool, true, false, not, ◌&&◌, ◌||◌, ◌==◌, List, [], ◌∷◌, refl, ap, sym, ◌∙◌}
+use Rattle.std.proofs.Common.{◌≡◌, ℕ, Bool, true, false, not, ◌&&◌, ◌==◌, List, [], ◌∷◌, refl, ap, sym, ◌∙◌}
 use Rattle.std.specs.Prelude.{nat_le}
 use Rattle.std.specs.List.{list_any}
-use Rattle.vl_compact.specs.Keeps.{AreRulesOf, fate_by, fate_of, is_kept}
+use Rattle.vl_compact.specs.Keeps.{AreRulesOf, fate_by, fate_of}
 use Rattle.vl_compact.specs.Walking.{is_hidden, is_old, is_spent}
 use Rattle.vl_compact.specs.declared.rules.Rules.{Rules}
 use Rattle.vl_compact.specs.declared.rules.Fate.TheVariants.{Kept, Dropped, Needless}

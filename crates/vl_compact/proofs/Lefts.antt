@@ -1,5 +1,5 @@
 -- What cursors over tables have left, merged.
-use Rattle.std.proofs.Common.{◌≡◌, ℕ, zero, suc, ◌+◌, ◌<◌, ◌≤◌, Bool, true, false, ◌⊎◌, inl, inr, List, [], ◌∷◌, ◌++◌, length, get_or, refl, ap, sym, subst, ◌∙◌, arith, Option, Some, None, append-nil}
+use Rattle.std.proofs.Common.{◌≡◌, ℕ, zero, suc, ◌<◌, Bool, true, false, ◌⊎◌, inl, inr, List, [], ◌∷◌, ◌++◌, length, get_or, refl, ap, sym, subst, ◌∙◌, arith, Option, Some, append-nil}
 use Rattle.std.specs.Prelude.{map, if◌then◌else◌, unwrap_or}
 use Rattle.std.specs.List.{AllByRecursion, AllZip, filter, flat_map, slice_get}
 use Rattle.std.specs.Ordering.{is_gt}
@@ -16,8 +16,8 @@ use Rattle.vl_disk.specs.declared.name.Name.{Name}
 use Rattle.vl_disk.specs.declared.name.Name.TheVariants.{Table as table_name}
 use Rattle.vl_layout.specs.Sources.{table_entries}
 use Rattle.vl_layout.specs.declared.table.Table as laid
-use Rattle.vl_merge.specs.MergeOf.{OneMayFail, merge_of}
-use Rattle.vl_merge.specs.Merging.{IsAlong, IsFirst, merged}
+use Rattle.vl_merge.specs.MergeOf.{OneMayFail}
+use Rattle.vl_merge.specs.Merging.{IsAlong, IsFirst}
 use Rattle.vl_model.specs.Entries.{entry_cmp}
 use Rattle.vl_model.specs.declared.entry.Entry.{Entry}
 use Rattle.vl_model.specs.declared.way.Way.TheVariants.{Up}
@@ -88,10 +88,14 @@ module _ {H : Type 0} (bytes : H → Option (List ℕ)) where
       let is : copy ≡ may.1 = ap (λ (o : Option (Table H)). unwrap_or o copy) (only copy may.1 may.0 may.2) in
       (0, table, refl, may.3 ∙ ap (λ (u : Table H). table_name (number_of u)) (sym is) ∙ ap (λ (s : TableShape). table_name s.number) same.shape)
   fails_shared size_of name_of table copy same (Damaged name place) may =
-      let is : copy ≡ may.1 = ap (λ (o : Option (Table H)). unwrap_or o copy) (only copy may.1 may.0 may.2) in
-      (0, table, refl, may.3 ∙ ap (λ (u : Table H). table_name (number_of u)) (sym is) ∙ ap (λ (s : TableShape). table_name s.number) same.shape,
-      λ all told. subst (λ (s : TableShape). IsBadBlock s all place) (ap (λ (u : Table H). shape_of u) (sym is) ∙ same.shape)
-          (may.4 all (ap (λ (u : Table H). bytes u.held) (sym is) ∙ same.bytes ∙ told)))
+      let is : copy ≡ may.1 = ap (λ (o : Option (Table H)). unwrap_or o copy) (only copy may.1 may.0 may.2) in (
+        0,
+        table,
+        refl,
+        may.3 ∙ ap (λ (u : Table H). table_name (number_of u)) (sym is) ∙ ap (λ (s : TableShape). table_name s.number) same.shape,
+        λ all told. subst (λ (s : TableShape). IsBadBlock s all place) (ap (λ (u : Table H). shape_of u) (sym is) ∙ same.shape)
+            (may.4 all (ap (λ (u : Table H). bytes u.held) (sym is) ∙ same.bytes ∙ told)),
+      )
 
 pub item_there : {A : Type 0} (xs : List A) (i : ℕ) (x : A) → i < length xs → x ≡ get_or xs i x → slice_get xs i ≡ Some x
 item_there [] i x within is = absurd (omega arith)

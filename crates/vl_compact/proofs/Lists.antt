@@ -1,9 +1,8 @@
 -- Lists that are gone through by an index.
-use Rattle.std.proofs.Common.{◌≡◌, ℕ, zero, suc, ◌+◌, ◌<◌, ◌≤◌, Bool, true, false, cond, List, [], ◌∷◌, ◌++◌, length, take, drop, get_or, refl, ap, sym, ◌∙◌, arith, Option, Some, None}
+use Rattle.std.proofs.Common.{◌≡◌, ℕ, zero, suc, ◌+◌, ◌<◌, ◌≤◌, true, false, cond, List, [], ◌∷◌, ◌++◌, length, take, drop, get_or, refl, ap, sym, ◌∙◌, arith, Some}
 use Rattle.std.specs.Prelude.{Result, Ok, Err, IfOk}
 use Rattle.std.specs.FinMap.{find}
 use Rattle.std.specs.Ordering.{eq_by_cmp}
-use Rattle.vl_compact.specs.Racing.{least_moved, or_move}
 use Rattle.vl_model.specs.Conflicts.{Named}
 use Rattle.vl_model.specs.Keys.{key_cmp}
 
@@ -39,14 +38,6 @@ find_here key x xs is = ap (λ b. cond b (Some x.1) (find key_cmp key xs)) is
 
 pub find_later : (key : List ℕ) (x : Named) (xs : List Named) → eq_by_cmp key_cmp key x.0 ≡ false → find key_cmp key (x ∷ xs) ≡ find key_cmp key xs
 find_later key x xs is = ap (λ b. cond b (Some x.1) (find key_cmp key xs)) is
-
-pub moved_here : (moved : List Named) (key : List ℕ) (keys : List (List ℕ)) (n : ℕ) → find key_cmp key moved ≡ Some n
-    → least_moved moved (key ∷ keys) ≡ Some (key, n)
-moved_here moved key keys n is = ap (λ o. or_move key o (least_moved moved keys)) is
-
-pub moved_later : (moved : List Named) (key : List ℕ) (keys : List (List ℕ)) → find key_cmp key moved ≡ None
-    → least_moved moved (key ∷ keys) ≡ least_moved moved keys
-moved_later moved key keys is = ap (λ o. or_move key o (least_moved moved keys)) is
 
 -- ---- results
 

@@ -1,5 +1,5 @@
 -- What a job has once it has made one table more, and once nothing is left.
-use Rattle.std.proofs.Common.{◌≡◌, ℕ, zero, suc, ◌+◌, ◌<◌, ◌≤◌, Bool, true, false, List, [], ◌∷◌, ◌++◌, length, take, drop, refl, ap, sym, subst, ◌∙◌, arith, append-nil, length-append, Option, Some, None}
+use Rattle.std.proofs.Common.{◌≡◌, ℕ, zero, suc, ◌+◌, ◌≤◌, Bool, true, false, List, [], ◌∷◌, ◌++◌, length, take, drop, refl, ap, sym, subst, ◌∙◌, arith, append-nil, length-append, Option, Some, None}
 use Rattle.std.proofs.lemmas.List.{length-map}
 use Rattle.std.proofs.lemmas.List.Sums.{sum_by-cons}
 use Rattle.std.specs.Arc.{arc_value}
@@ -8,7 +8,7 @@ use Rattle.std.specs.Option.{ForSome, IfNone, is_some}
 use Rattle.std.specs.Prelude.{map, Vec}
 use Rattle.std.specs.Global.{Global}
 use Rattle.vl_block.specs.Bytes.{table_bytes}
-use Rattle.vl_block.specs.Cutting.{joined, last_key}
+use Rattle.vl_block.specs.Cutting.{joined}
 use Rattle.vl_block.specs.Footer.{Foot}
 use Rattle.vl_block.specs.Shapes.{IsShapeOf}
 use Rattle.vl_block.specs.declared.shape.TableShape.{TableShape}
@@ -18,7 +18,7 @@ use Rattle.vl_compact.specs.Keeps.{AreRulesOf, GivesNext, place_in, stage, with_
 use Rattle.vl_compact.specs.Keys.{behind, keys_of, up_to}
 use Rattle.vl_compact.specs.Progress.{Answers, Has, HasAll, HasTaken, IsFresh, IsJobOf, IsSettled, IsTableFile, done_by, made_of}
 use Rattle.vl_compact.specs.Racing.{entry_count}
-use Rattle.vl_compact.specs.Walking.{is_behind, spent, walk}
+use Rattle.vl_compact.specs.Walking.{spent, walk}
 use Rattle.vl_compact.specs.laws.BehindLaws.{merged_entries-behind, needless-behind}
 use Rattle.vl_compact.specs.laws.FirstTable.{first_table}
 use Rattle.vl_compact.specs.laws.ProgressLaws.{all_there, is_past, last_past, merged_entries-in_order, next_output, one_missing, others_first, parted-rising, up_to-further}
@@ -168,8 +168,17 @@ module _ {V H W : Type 0} (writer : Ghosts W) (bytes : H → Option (List ℕ)) 
       → walk j None (left_of job.after j) ≡ e ∷ more → Answers writer bytes has (record job { waits = true }) j true
   waits_for job j h e more kept = record {
     state = record {
-      is = record { tables = h.is.tables; inputs = h.is.inputs; numbers = h.is.numbers; base = h.is.base; entries = h.is.entries;
-          target = h.is.target; floor = h.is.floor; keep = h.is.keep; some = h.is.some };
+      is = record {
+        tables = h.is.tables;
+        inputs = h.is.inputs;
+        numbers = h.is.numbers;
+        base = h.is.base;
+        entries = h.is.entries;
+        target = h.is.target;
+        floor = h.is.floor;
+        keep = h.is.keep;
+        some = h.is.some;
+      };
       made = h.made;
       others = h.others;
       needless_are = h.needless_are;
@@ -200,8 +209,17 @@ module _ {V H W : Type 0} (writer : Ghosts W) (bytes : H → Option (List ℕ)) 
       ∙ sym (keys_both (up_to job.after x) (behind job.after x))
       ∙ ap keys_of (parted-rising job.after x (rising-in_order (needless j))) in
       let is : IsJobOf writer bytes has (record job { needless = keys; waits = false; ended = true }) j =
-      record { tables = h.is.tables; inputs = h.is.inputs; numbers = h.is.numbers; base = h.is.base; entries = h.is.entries;
-          target = h.is.target; floor = h.is.floor; keep = h.is.keep; some = h.is.some } in
+      record {
+        tables = h.is.tables;
+        inputs = h.is.inputs;
+        numbers = h.is.numbers;
+        base = h.is.base;
+        entries = h.is.entries;
+        target = h.is.target;
+        floor = h.is.floor;
+        keep = h.is.keep;
+        some = h.is.some;
+      } in
       record {
         state = record {
           is = is;
@@ -315,8 +333,17 @@ module _ {V H W : Type 0} (writer : Ghosts W) (bytes : H → Option (List ℕ)) 
       let past : is_past job.after filled.last ≡ true =
       ap (is_past job.after) fills.last ∙ last_past es job.after fills.first fills.more left in
       record {
-        is = record { tables = h.is.tables; inputs = h.is.inputs; numbers = h.is.numbers; base = h.is.base; entries = h.is.entries;
-            target = h.is.target; floor = h.is.floor; keep = h.is.keep; some = h.is.some };
+        is = record {
+          tables = h.is.tables;
+          inputs = h.is.inputs;
+          numbers = h.is.numbers;
+          base = h.is.base;
+          entries = h.is.entries;
+          target = h.is.target;
+          floor = h.is.floor;
+          keep = h.is.keep;
+          some = h.is.some;
+        };
         made = subst (AllZip (IsTableFile writer) made.items) (sym (ap (λ m. take m (outputs j)) count ∙ taken_more))
             (subst (λ l. AllZip (IsTableFile writer) l (take n (outputs j) ++ table ∷ [])) (sym taken.made)
             (zip_push (IsTableFile writer) job.made.items (take n (outputs j)) taken.table table h.made

@@ -1,7 +1,7 @@
 -- How a walk over the inputs goes on, entry by entry.
 use Rattle.std.proofs.Common.{◌≡◌, ℕ, ◌+◌, Bool, true, false, not, ◌&&◌, ◌||◌, List, [], ◌∷◌, ◌++◌, refl, ap, sym, subst, ◌∙◌, append_assoc, Option, Some, None}
 use Rattle.std.specs.Prelude.{nat_le, if◌then◌else◌}
-use Rattle.vl_compact.specs.Keeps.{AreRulesOf, GivesNext, GoesOn, Passes, Stage, Walked, fate_by, fate_of, is_kept, noted, place_in, stage}
+use Rattle.vl_compact.specs.Keeps.{AreRulesOf, GivesNext, Passes, Stage, Walked, fate_by, fate_of, is_kept, noted, place_in, stage}
 use Rattle.vl_compact.specs.Keys.{keys_of}
 use Rattle.vl_compact.specs.Walking.{Place, comes_again, is_hidden, is_let_go, is_old, is_spent, is_spent_alone, place_of, seen_before, spent, walk}
 use Rattle.vl_compact.specs.declared.last.Last.{Last}

@@ -1,5 +1,5 @@
 -- How far a merge has gone through what its inputs have.
-use Rattle.std.specs.Prelude.{◌≡◌, ◌⊎◌, ℕ, Bool, true, false, List, [], ◌∷◌, ◌++◌, Option, Some, None, IfNone}
+use Rattle.std.specs.Prelude.{◌≡◌, ℕ, Bool, true, false, List, [], ◌∷◌, ◌++◌, Option, Some, None, IfNone}
 use Rattle.std.specs.Option.{option_map}
 use Rattle.vl_compact.specs.Walking.{Place, is_hidden, is_old, is_spent, spent, walk}
 use Rattle.vl_compact.specs.declared.last.Last.{Last}

@@ -1,22 +1,17 @@
 -- Which of some keys was moved first, and how many entries tables have.
-use Rattle.std.specs.Prelude.{ℕ, List, [], ◌∷◌, Option, Some, None}
+use Rattle.std.specs.Prelude.{ℕ, List, [], ◌∷◌, Option, None}
 use Rattle.std.specs.Arc.{arc_value}
 use Rattle.std.specs.FinMap.{find}
 use Rattle.std.specs.List.{sum_by}
-use Rattle.std.specs.Option.{option_map}
+use Rattle.vl_compact.specs.laws.RaceLaws.{moved_or}
 use Rattle.vl_compact.specs.declared.files.Synced.{Synced}
 use Rattle.vl_model.specs.Conflicts.{Named}
 use Rattle.vl_model.specs.Keys.{key_cmp}
 
--- the number of a key's move with the key, or what is so of other keys
-abbrev pub or_move : List ℕ → Option ℕ → Option Named → Option Named
-or_move key None other = other
-or_move key (Some number) other = Some (key, number)
-
 -- the first of these keys that was moved, with the number of its last move, which comes first
 abbrev pub least_moved : List Named → List (List ℕ) → Option Named
 least_moved moved [] = None
-least_moved moved (key ∷ keys) = or_move key (find key_cmp key moved) (least_moved moved keys)
+least_moved moved (key ∷ keys) = moved_or key (find key_cmp key moved) (least_moved moved keys)
 
 -- how many entries tables have, as their footers say it
 abbrev pub entry_count : {W : Type 0} {g : _} → List (Synced W g) → ℕ

@@ -7,4 +7,3 @@ pub mod ProgressLaws
 pub mod RaceLaws
 pub mod Repeats
 pub mod WalkLaws
-pub mod RaceInOrder

@@ -70,7 +70,9 @@ pub fn fill<C: Cursor<Fault = TableFault>, V: Sources<Fault = TableFault>, W: Wr
         return Err(TableFault::NoMemory);
     };
     let mut table = begin(alloc, lent, &first)?;
-    add_kept(alloc, base, reader, keeping, &mut found, lent, &mut table, first)?;
+    add_kept(
+        alloc, base, reader, keeping, &mut found, lent, &mut table, first,
+    )?;
     finish(alloc, lent, table, found)
 }
 

@@ -48,7 +48,14 @@ impl<C: Cursor<Fault = TableFault>> Keeping<C> {
         ensures fewer { IfOk result (λ next. IsSome next → C.budget self.new.cursor < C.budget self.old.cursor) }
     {
         'walking: while let Some(entry) = self.cursor.next(&mut reader.files)? {
-            if pass(&self.rules, &mut self.last, base, &mut reader.looks, &entry, found)? {
+            if pass(
+                &self.rules,
+                &mut self.last,
+                base,
+                &mut reader.looks,
+                &entry,
+                found,
+            )? {
                 return Ok(Some(entry));
             }
         }

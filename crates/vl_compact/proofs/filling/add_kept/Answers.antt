@@ -1,4 +1,4 @@
-use Rattle.std.proofs.Common.{Option, List, subst, sym, ◌∙◌}
+use Rattle.std.proofs.Common.{Option, subst, sym, ◌∙◌}
 use Rattle.vl_compact.proofs.Adding.{adding_closes, adding_ends, adding_goes}
 use Rattle.vl_compact.specs.Keeps.{AreRulesOf, GivesNext, stage}
 use Rattle.vl_compact.specs.declared.rules.Rules.{Rules}

@@ -19,5 +19,5 @@ returns-clause-fills g c = λ j left are has fits told first along fresh.
     let a = c.in_ok-add_kept.ensures.adds j n.rest rules has (c.next.ensures.fits fits) n.left_is (c.in_ok-table.ensures.begun fresh) in
     if_ok_three c.finish.result _ _ _ _
     (λ filled whole last found_are. filled_with g.W.Writer j left before at now none found c.add_kept.new.found.items c.in-Some.first
-        first c.new-found.ensures.items n c.add_kept.new.lent c.add_kept.new.table a along c.finish.new.lent filled whole last found_are)
+    first c.new-found.ensures.items n c.add_kept.new.lent c.add_kept.new.table a along c.finish.new.lent filled whole last found_are)
     (c.finish.ensures.whole a.all a.written) (c.finish.ensures.last a.all a.written) c.finish.ensures.found

@@ -17,7 +17,7 @@ returns-clause-left g c = λ t is.
     let items = c.in_ok-push.ensures.items ∙ ap (λ (l : List (Table g.row.H.Denot)). l ++ copy ∷ []) c.new-one.ensures.items in
     IfOk-weaker c.new.result _ _
     (λ it left. left ∙ ap (λ (s : Span). Some (within s (joined (t.entries ∷ [])))) c.in_ok-span_behind.ensures
-        ∙ ap (λ es. Some es) (one_left c.args.after.now t.entries))
+    ∙ ap (λ es. Some es) (one_left c.args.after.now t.entries))
     (c.new.ensures.left (t.entries ∷ []) (subst (λ (l : List (Table g.row.H.Denot)). AreOf bytes l (t.entries ∷ [])) (sym items)
     ((shared_is bytes g.H.HeldFile.size g.H.HeldFile.named c.args.table.now copy t c.in_ok-share.ensures is).of, tt)))
 
@@ -28,5 +28,5 @@ returns-clause-may_fail g c =
     let items = c.in_ok-push.ensures.items ∙ ap (λ (l : List (Table g.row.H.Denot)). l ++ copy ∷ []) c.new-one.ensures.items in
     IfOk-weaker c.new.result _ _
     (λ it may fault fails. fails_shared bytes g.H.HeldFile.size g.H.HeldFile.named c.args.table.now copy c.in_ok-share.ensures fault
-        (subst (λ (l : List (Table g.row.H.Denot)). MayFailOn bytes l fault) items (may fault fails)))
+    (subst (λ (l : List (Table g.row.H.Denot)). MayFailOn bytes l fault) items (may fault fails)))
     c.new.ensures.may_fail

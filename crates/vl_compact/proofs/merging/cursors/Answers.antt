@@ -1,4 +1,4 @@
-use Rattle.std.proofs.Common.{List, [], ◌∷◌, ◌+◌, ◌++◌, subst, sym, take}
+use Rattle.std.proofs.Common.{List, [], ◌∷◌, ◌++◌, subst, sym, take}
 use Rattle.std.specs.List.{AllZip}
 use Rattle.vl_compact.proofs.Lefts.{fails_there, item_there, more_fails}
 use Rattle.vl_compact.proofs.Zips.{zip_all, zip_at, zip_push}
@@ -27,8 +27,8 @@ loop-table-preserved g c = record {
       more_fails May (MayFailOn g.H.HeldFile.bytes c.args.tables.now) c.loop-table.cursors.items c.in_ok-cursor.field-0 fault
       (c.loop-table.invariant.fails fault)
       (λ here. fails_there g.H.HeldFile.bytes c.args.tables.now c.table-item.result c.loop-table.table-index
-          (item_there c.args.tables.now c.loop-table.table-index c.table-item.result c.loop-table-test.true c.table-item.is) fault
-          (c.in_ok-cursor.ensures.may_fail fault here))
+      (item_there c.args.tables.now c.loop-table.table-index c.table-item.result c.loop-table-test.true c.table-item.is) fault
+      (c.in_ok-cursor.ensures.may_fail fault here))
       (subst (λ (l : List (TableCursor g.row.H.Denot g.row.R.Denot)). OneMayFail May l fault) c.in_ok-push.ensures.items may);
 }
 

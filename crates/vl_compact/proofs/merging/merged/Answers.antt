@@ -1,4 +1,4 @@
-use Rattle.std.proofs.Common.{List, Some, ap, ◌∙◌}
+use Rattle.std.proofs.Common.{Some, ap, ◌∙◌}
 use Rattle.std.specs.Prelude.{map}
 use Rattle.std.proofs.lemmas.Result.{IfOk-weaker}
 use Rattle.vl_compact.proofs.Lefts.{all_along, all_left, behind_all}
@@ -18,8 +18,8 @@ returns-clause-left g c = λ ts are.
     let ess = map (λ (t : laid.Table). behind after t.entries) ts in
     IfOk-weaker c.new.result _ _
     (λ it is. is ∙ ap (merge_of Up) (all_left left after c.in_ok-cursors.field-0.items ts (c.in_ok-cursors.ensures.left ts are))
-        ∙ c.merge_of_told_sources.ensures Up ess (all_along g.H.HeldFile.bytes after c.args.tables.now ts are)
-        ∙ ap (λ es. Some (merged Up es)) (behind_all after ts))
+    ∙ c.merge_of_told_sources.ensures Up ess (all_along g.H.HeldFile.bytes after c.args.tables.now ts are)
+    ∙ ap (λ es. Some (merged Up es)) (behind_all after ts))
     c.new.ensures.left
 
 pub returns-clause-may_fail : goal.returns-clause-may_fail

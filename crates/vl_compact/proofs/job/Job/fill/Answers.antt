@@ -1,7 +1,6 @@
 use Rattle.std.proofs.Common.{List, [], ◌∷◌, Some, false, ◌++◌, ap, subst, sym, ◌∙◌}
 use Rattle.vl_compact.proofs.Making.{makes_one}
 use Rattle.vl_compact.specs.Progress.{Has, HasTaken}
-use Rattle.vl_compact.specs.declared.files.Lent.{Lent}
 use Rattle.vl_compact.specs.declared.files.Synced.{Synced}
 use Rattle.vl_compact.specs.declared.job.Job.{Job}
 use Rattle.vl_compact.proofs.job.Job.fill.Goals as goal
@@ -53,7 +52,9 @@ returns-in-Err-clause-refused g c =
 
 pub returns-in-Err-clause-cause : goal.returns-in-Err-clause-cause
 returns-in-Err-clause-cause g c = λ fits.
-    let W = g.W.Writer in
-    (c.write.new.lent, c.push_reserved.ensures.items
-    ∙ ap (λ (s : Job g.row.V.Denot g.row.H.Denot g.row.W.Denot W). s.leavings.items ++ c.write.new.lent ∷ []) c.write.ensures.same,
-    c.in-Err.ensures.cause fits)
+    let W = g.W.Writer in (
+      c.write.new.lent,
+      c.push_reserved.ensures.items
+          ∙ ap (λ (s : Job g.row.V.Denot g.row.H.Denot g.row.W.Denot W). s.leavings.items ++ c.write.new.lent ∷ []) c.write.ensures.same,
+      c.in-Err.ensures.cause fits,
+    )

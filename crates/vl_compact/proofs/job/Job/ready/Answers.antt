@@ -1,4 +1,4 @@
-use Rattle.std.proofs.Common.{List, ◌++◌, ap, sym, ◌∙◌}
+use Rattle.std.proofs.Common.{sym, ◌∙◌}
 use Rattle.vl_compact.proofs.Making.{left_told, ready_more, ready_none, rules_of}
 use Rattle.vl_compact.proofs.job.Job.ready.Goals as goal
 

@@ -1,4 +1,4 @@
-use Rattle.std.proofs.Common.{Bool, List, Option, Some, subst, sym, ◌∙◌, arith}
+use Rattle.std.proofs.Common.{Bool, Option, subst, sym, ◌∙◌, arith}
 use Rattle.vl_compact.proofs.Passing.{gives_it, gives_none, walks_on}
 use Rattle.vl_compact.specs.Keeps.{AreRulesOf, Passes, place_in}
 use Rattle.vl_compact.specs.declared.rules.Rules.{Rules}
@@ -39,7 +39,7 @@ walking-preserved-else-branch g c = record {
   keeps = λ fault may. c.walking.invariant.keeps fault (c.next.ensures.keeps fault may);
   spends =
       let less = subst (λ (o : Option Entry). Spends (g.C.Cursor.budget c.walking.self.cursor) (g.C.Cursor.budget c.next.new.self) o)
-          c.in-Some.is c.in_ok-entry.ensures.spends in
+      c.in-Some.is c.in_ok-entry.ensures.spends in
       omega (arith, less, c.walking.invariant.spends);
 }
 
@@ -64,7 +64,7 @@ walking-preserved-else-branch-2 g c = record {
   keeps = λ fault may. c.walking.invariant.keeps fault (c.next.ensures.keeps fault may);
   spends =
       let less = subst (λ (o : Option Entry). Spends (g.C.Cursor.budget c.walking.self.cursor) (g.C.Cursor.budget c.next.new.self) o)
-          c.in-Some.is c.in_ok-entry.ensures.spends in
+      c.in-Some.is c.in_ok-entry.ensures.spends in
       omega (arith, less, c.walking.invariant.spends);
 }
 
@@ -89,7 +89,7 @@ walking-preserved g c = record {
   keeps = λ fault may. c.walking.invariant.keeps fault (c.next.ensures.keeps fault may);
   spends =
       let less = subst (λ (o : Option Entry). Spends (g.C.Cursor.budget c.walking.self.cursor) (g.C.Cursor.budget c.next.new.self) o)
-          c.in-Some.is c.in_ok-entry.ensures.spends in
+      c.in-Some.is c.in_ok-entry.ensures.spends in
       omega (arith, less, c.walking.invariant.spends);
 }
 
