@@ -1,7 +1,14 @@
+pub mod Adding
 mod Choices
 mod DueLaws
+pub mod Fates
 mod Into
+pub mod Lefts
 mod LevelAt
+pub mod Lists
+pub mod Making
 mod MergeLaws
 mod Of
+pub mod Passing
+pub mod Pieces
 mod Zips
