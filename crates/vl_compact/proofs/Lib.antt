@@ -2,6 +2,7 @@ pub mod Adding
 mod Choices
 mod DueLaws
 pub mod Fates
+mod Finding
 mod Into
 pub mod Lefts
 mod LevelAt
@@ -10,5 +11,7 @@ pub mod Making
 mod MergeLaws
 mod Of
 pub mod Passing
+mod PlaceLaws
 pub mod Pieces
+mod PutLaws
 mod Zips

@@ -5,10 +5,12 @@ pub mod Laid
 pub mod Lefts
 pub mod Lending
 pub mod Merges
+pub mod Places
 pub mod Progress
 pub mod Racing
 pub mod Ranges
 pub mod Reading
+pub mod Replacing
 pub mod Ruled
 pub mod Walking
 pub mod laws

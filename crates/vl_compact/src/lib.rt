@@ -9,6 +9,8 @@
 //! behind that it reads on. While a call is under way it holds a block of each input, one of the table that it writes, and a
 //! place and a last key of each block that it has closed. Each entry is compared as often as the logarithm of the number of
 //! inputs says, and its key is looked up in the sources that aren't inputs.
+//!
+//! `ready_levels` shares all tables but the inputs, and takes the memory for the outputs, which are then put one by one.
 #![tactic(auto)]
 
 mod choosing;
@@ -27,6 +29,8 @@ mod parts;
 mod planning;
 mod racing;
 mod range;
+mod ready;
+mod replacing;
 mod rules;
 
 pub use files::{Lent, Synced};
@@ -36,3 +40,5 @@ pub use job_reader::JobReader;
 pub use laws::merges_are_as_ruled;
 pub use parts::Parts;
 pub use planning::{drained, planned};
+pub use ready::ReadyLevels;
+pub use replacing::ready_levels;
