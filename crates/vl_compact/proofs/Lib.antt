@@ -1,14 +1,15 @@
-pub mod Adding
+mod Adding
 mod Choices
 mod DueLaws
-pub mod Fates
+mod Fates
 mod Into
-pub mod Lefts
+mod Lefts
 mod LevelAt
-pub mod Lists
-pub mod Making
+mod Lists
+mod Making
 mod MergeLaws
 mod Of
-pub mod Passing
-pub mod Pieces
+mod Passing
+mod Pieces
+mod Telling
 mod Zips
