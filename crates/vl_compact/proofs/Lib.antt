@@ -1,17 +1,21 @@
-pub mod Adding
+mod Adding
 mod Choices
 mod DueLaws
 pub mod Fates
 mod Finding
+mod Fates
 mod Into
-pub mod Lefts
+mod Lefts
 mod LevelAt
-pub mod Lists
-pub mod Making
+mod Lists
+mod Making
 mod MergeLaws
 mod Of
 pub mod Passing
 mod PlaceLaws
 pub mod Pieces
 mod PutLaws
+mod Passing
+mod Pieces
+mod Telling
 mod Zips
