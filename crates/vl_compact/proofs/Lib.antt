@@ -1,9 +1,8 @@
 mod Adding
 mod Choices
 mod DueLaws
-pub mod Fates
-mod Finding
 mod Fates
+mod Finding
 mod Into
 mod Lefts
 mod LevelAt
@@ -11,11 +10,9 @@ mod Lists
 mod Making
 mod MergeLaws
 mod Of
-pub mod Passing
-mod PlaceLaws
-pub mod Pieces
-mod PutLaws
 mod Passing
 mod Pieces
+mod PlaceLaws
+mod PutLaws
 mod Telling
 mod Zips
