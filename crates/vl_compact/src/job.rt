@@ -181,6 +181,8 @@ impl<V: Sources<Fault = TableFault>, H: HeldFile, W: Writer> Job<V, H, W> {
     ) -> Result<bool, TableFault>
         ensures answers { (j : laid.Job) → V.fits self.old.base reader.old.looks → Has W.Writer H.bytes V.has self.old j
             → IfOk result (Answers W.Writer H.bytes V.has self.new j) }
+        // Whatever is told: where more is kept it waits for a file, and where nothing is it has ended.
+        ensures asked { IfOk result (λ more. (more ≡ true → self.new.waits ≡ true) × (more ≡ false → self.new.ended ≡ true)) }
         ensures kept { KeepsAll self.old self.new }
         ensures refused { OnErr result ((self.new.needless.items ≡ self.old.needless.items) × (self.new.waits ≡ self.old.waits)
             × (self.new.ended ≡ self.old.ended)) }
