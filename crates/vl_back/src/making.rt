@@ -47,6 +47,7 @@ pub fn make_log<D: Disk>(disk: &mut D, number: u32) -> Result<(), Name>
         (WhileMaking (names.Log number) (log_header log_format number)) 3 disk.old disk.new result }
     ensures at { IfErr result (FailedAt (calls_on 3 (names.Log number)) (D.calls disk.old) (D.calls disk.new)) }
     ensures files { KeepsOthers (names.Log number) (D.told disk.old) (D.told disk.new) }
+    ensures spare { SameSpareElsewhere (names.Log number) (D.spare disk.old) (D.spare disk.new) }
 
     // A disk that told nothing tells nothing then.
     ensures untold { D.told disk.old ≡ None → D.told disk.new ≡ None }

@@ -3,6 +3,7 @@
 ghost use Rattle.std.specs.Prelude.{◌≡◌, List, Some, length, map, IfOk, IsErrOf, IsTrue};
 ghost use Rattle.vl_back.specs.Deciding.{MayFlush};
 ghost use Rattle.vl_back.specs.FlushEdits.{flush_switch};
+ghost use Rattle.vl_back.specs.Room.{SameSpareBeside};
 ghost use Rattle.vl_back.specs.Staging.{IsStagedFlush};
 ghost use Rattle.vl_back.specs.Tables.{AreSpellable, IsTableOf};
 ghost use Rattle.vl_disk.specs.Calls.{ChangesNothing};
@@ -69,6 +70,10 @@ impl Back {
         ensures append { IfOk result (λ staged.
             CanAppend (length staged.edits.frame.items) (D.spare disk.new (names.Manifest self.now.manifest.number))) }
         ensures no_change { ChangesNothing D.Watched disk.old disk.new ⊥ }
+
+        // The room of other names stays, also where it was refused.
+        ensures beside { SameSpareBeside (names.Manifest self.now.manifest.number) (names.Table self.now.state.next_table)
+            (D.spare disk.old) (D.spare disk.new) }
     {
         let spelled = self.spell_flush(alloc, active, entries)?;
         let edits = self.manifest.stage(alloc, disk, &spelled.edits)?;

@@ -2,6 +2,7 @@
 
 ghost use Rattle.std.specs.Prelude.{◌≡◌, ◌+◌, ◌-◌, ◌^◌, length, min, None, Some, IfErr, IfOk, IsTrue, OnErr, OnOk};
 ghost use Rattle.std.specs.Option.{ForSome};
+ghost use Rattle.vl_back.specs.Room.{SameSpareBeside};
 ghost use Rattle.vl_back.specs.Writing.{KeepsOthers, WhileWriting, flush_files, written};
 ghost use Rattle.vl_disk.specs.Disk.{IsFree, Stands};
 ghost use Rattle.vl_disk.specs.Name.{IsNumbered};
@@ -42,6 +43,8 @@ pub fn write_and_switch<D: Disk>(
     // The other files stand as before, also where it failed.
     ensures files { KeepsOthers (names.Table table) (D.told disk.old) (D.told disk.new) }
     ensures untold { D.told disk.old ≡ None → D.told disk.new ≡ None }
+    ensures beside { SameSpareBeside (names.Manifest manifest.old.number) (names.Table table)
+        (D.spare disk.old) (D.spare disk.new) }
     ensures number { manifest.new.number ≡ manifest.old.number }
     ensures longer { OnOk result
         (manifest.new.length ≡ min (manifest.old.length + length edits.now.frame.items) (2 ^ 64 - 1)) }
