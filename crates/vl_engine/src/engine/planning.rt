@@ -14,7 +14,7 @@ ghost use Rattle.vl_table.specs.KeptBlocks.{AreKept};
 use crate::Engine;
 use crate::open::OpenMerge;
 use std::alloc::AllocError;
-use vl_compact::{Inputs, Job, planned};
+use vl_compact::{Inputs, Job, JobReader, planned};
 use vl_disk::{Disk, NoMemory};
 use vl_table::{BlockReader, KEPT_BLOCKS};
 use vl_version::Base;
@@ -74,14 +74,15 @@ impl<D: Disk> Engine<D> {
         Ok(Job::new(self.alloc, Base::new(version), inputs, floor, keep))
     }
 
-    /// A reader for a merge's calls. It keeps no block yet.
-    pub fn reader(&self) -> Result<BlockReader<D::Reader>, NoMemory>
-        ensures blocks { (files : Files) → IfOk result (AreKept files) }
-        ensures faults { IfOk result (λ reader. D.Reader.faults reader.reader ≡ 0) }
+    /// What a merge is read with. It keeps no block yet.
+    pub fn reader(&self) -> Result<JobReader<D::Reader, BlockReader<D::Reader>>, NoMemory>
+        ensures blocks { (files : Files) → IfOk result (λ reader. AreKept files reader.looks) }
+        ensures faults { IfOk result (λ reader. (D.Reader.faults reader.files ≡ 0) × (D.Reader.faults reader.looks.reader ≡ 0)) }
     {
-        let reader = self.disk.reader(self.alloc)?;
-        match BlockReader::new(self.alloc, reader, KEPT_BLOCKS) {
-            Ok(reader) => Ok(reader),
+        let files = self.disk.reader(self.alloc)?;
+        let inner = self.disk.reader(self.alloc)?;
+        match BlockReader::new(self.alloc, inner, KEPT_BLOCKS) {
+            Ok(looks) => Ok(JobReader { files, looks }),
             Err(_) => Err(NoMemory),
         }
     }
