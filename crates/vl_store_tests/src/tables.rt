@@ -8,7 +8,7 @@ use std::test::Fail;
 use vl_disk::Name;
 use vl_mem::{MemDisk, Outcome};
 
-/// What that program left of a store whose one log it sealed and flushed: the manifest, with a switch to the table,
+/// What a program before tags left of a store whose one log it sealed and flushed: the manifest, with a switch to the table,
 const OLD_FLUSHED_MANIFEST: [u8; 104] = [
     0x56, 0x4d, 0x41, 0x4e, 0, 0, 0, 1, 0, 0, 0, 1, 0, 0, 0, 0, 6, 0, 0, 0, 0x1a, 0, 0, 0, 2, 3, 0,
     0, 0, 1, 0, 0, 0, 0, 0, 0, 0, 0, 4, 0, 0, 0, 1, 0, 0, 0, 1, 0x8d, 0xf1, 0xd8, 0x60, 0x1b, 0xeb,
