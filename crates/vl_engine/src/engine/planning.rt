@@ -1,0 +1,100 @@
+ghost use Rattle.std.specs.Prelude.{◌≡◌, None, IfOk, OnErr};
+ghost use Rattle.vl_compact.specs.Laid.{AreBoth};
+ghost use Rattle.vl_compact.specs.Progress.{Has, IsNew};
+ghost use Rattle.vl_engine.specs.Merging.{StandsOpen, plan_outcome};
+ghost use Rattle.vl_engine.specs.Represents.{Represents, StandsFor};
+ghost use Rattle.vl_engine.specs.Stepping.{Fits};
+ghost use Rattle.vl_layout.specs.Decides.{Decides, as_before, no_effects};
+ghost use Rattle.vl_layout.specs.Rulings.Plan.{plan_ruling};
+ghost use Rattle.vl_layout.specs.declared.layout.Layout.{Layout};
+ghost use Rattle.vl_model.specs.History.{History};
+ghost use Rattle.vl_table.specs.Kept.{Files};
+ghost use Rattle.vl_table.specs.KeptBlocks.{AreKept};
+
+use crate::Engine;
+use crate::open::OpenMerge;
+use std::alloc::AllocError;
+use vl_compact::{Inputs, Job, JobReader, planned};
+use vl_disk::{Disk, NoMemory};
+use vl_table::{BlockReader, KEPT_BLOCKS};
+use vl_version::Base;
+
+impl<D: Disk> Engine<D> {
+    /// Plans a merge of tables, which is open from then on until it is given back to `install` or `abandon`: of all tables of
+    /// level 0, where these are four or more; else of the table with the least number of the first deeper level that has too
+    /// many bytes; and of those of the next level whose keys meet theirs. None where a merge is open, or no level is due. What
+    /// the merge itself does, `ready` and `fill`, goes on beside the engine's other calls. The disk isn't asked.
+    pub fn plan(
+        &mut self,
+    ) -> Result<Option<Job<Base<D::Held, D::Reader>, D::Held, D::Writer>>, NoMemory>
+        // It is planned as the ruling has it.
+        ensures stands { (h : History) (l : Layout) → StandsOpen D.Held.bytes self.old.core self.old.open h l
+            → Decides (StandsOpen D.Held.bytes self.new.core self.new.open) h l (plan_ruling l h) (as_before l l)
+            (plan_outcome (plan_ruling l h).answer result) no_effects }
+        ensures represents { (h : History) (l : Layout) → Represents D.Held.bytes self.old.core (D.told self.old.disk) h l
+            → StandsOpen D.Held.bytes self.old.core self.old.open h l
+            → Decides (Represents D.Held.bytes self.new.core (D.told self.new.disk)) h l (plan_ruling l h) (as_before l l)
+            (plan_outcome (plan_ruling l h).answer result) no_effects }
+
+        // What steps on files ask stays.
+        ensures fits { (h : History) (l : Layout) → StandsOpen D.Held.bytes self.old.core self.old.open h l
+            → Fits (D.told self.old.disk) self.old.core h l
+            → Decides (Fits (D.told self.new.disk) self.new.core) h l (plan_ruling l h) (as_before l l)
+            (plan_outcome (plan_ruling l h).answer result) no_effects }
+
+        // The merge does what the ruling's job says, and has made nothing yet.
+        ensures job { (h : History) (l : Layout) → StandsOpen D.Held.bytes self.old.core self.old.open h l
+            → IfOk result (λ job. AreBoth (Has D.Writer D.Held.bytes) job (plan_ruling l h).answer) }
+        ensures new { IfOk result (λ job. ForSome job IsNew) }
+
+        // In memory nothing but the open merge changes, and the disk isn't asked.
+        ensures core { self.new.core ≡ self.old.core }
+        ensures disk { self.new.disk ≡ self.old.disk }
+        ensures refused { OnErr result (self.new.open ≡ self.old.open) }
+    {
+        if self.open.is_some() {
+            return Ok(None);
+        }
+        match planned(self.alloc, self.core.version.levels()) {
+            Ok(None) => Ok(None),
+            Ok(Some(inputs)) => Ok(Some(self.begin_merge(inputs)?)),
+            Err(_) => Err(NoMemory),
+        }
+    }
+
+    // Begins a merge of these inputs.
+    fn begin_merge(
+        &mut self,
+        inputs: Inputs<D::Held>,
+    ) -> Result<Job<Base<D::Held, D::Reader>, D::Held, D::Writer>, AllocError> {
+        let version = self.core.version.share()?;
+        let floor = self.core.front.oracle.floor();
+        let keep = self.core.back.state.keep;
+        self.open = Some(OpenMerge::new(self.alloc));
+        Ok(Job::new(self.alloc, Base::new(version), inputs, floor, keep))
+    }
+
+    /// What a merge is read with. It keeps no block yet.
+    pub fn reader(&self) -> Result<JobReader<D::Reader, BlockReader<D::Reader>>, NoMemory>
+        ensures blocks { (files : Files) → IfOk result (λ reader. AreKept files reader.looks) }
+        ensures faults { IfOk result (λ reader. (D.Reader.faults reader.files ≡ 0) × (D.Reader.faults reader.looks.reader ≡ 0)) }
+    {
+        let files = self.disk.reader(self.alloc)?;
+        let inner = self.disk.reader(self.alloc)?;
+        match BlockReader::new(self.alloc, inner, KEPT_BLOCKS) {
+            Ok(looks) => Ok(JobReader { files, looks }),
+            Err(_) => Err(NoMemory),
+        }
+    }
+
+    /// Gives up a merge. Its files never come to stand, and the next opening removes what is left of them. It wants no memory,
+    /// and the disk isn't asked.
+    pub fn abandon(&mut self, job: Job<Base<D::Held, D::Reader>, D::Held, D::Writer>)
+        ensures core { self.new.core ≡ self.old.core }
+        ensures disk { self.new.disk ≡ self.old.disk }
+        ensures open { self.new.open ≡ None }
+    {
+        let _ = job;
+        self.open = None;
+    }
+}
