@@ -30,5 +30,6 @@ pub mod Seeing
 pub mod Staged
 pub mod Standing
 pub mod Stepped
+pub mod Taking
 pub mod Untouched
 pub mod Written

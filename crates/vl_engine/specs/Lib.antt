@@ -24,4 +24,5 @@ pub mod Spared
 pub mod Staging
 pub mod Stepping
 pub mod Steps
+pub mod Taking
 pub mod Writing

@@ -22,6 +22,7 @@ pub mod InstallPlaces
 pub mod InstallSpared
 pub mod InstallSpares
 pub mod InstallTables
+pub mod InstallTaken
 pub mod IntactLaws
 pub mod KeepLaws
 pub mod KeptLaws

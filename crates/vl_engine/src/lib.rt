@@ -10,6 +10,7 @@
 mod engine;
 mod fails;
 mod flushing;
+mod installing;
 mod kept;
 mod laws;
 mod open;
