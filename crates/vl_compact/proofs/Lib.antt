@@ -4,4 +4,5 @@ mod Into
 mod LevelAt
 mod MergeLaws
 mod Of
+mod PlaceLaws
 mod Zips

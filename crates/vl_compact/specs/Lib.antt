@@ -1,5 +1,7 @@
 pub mod Laid
 pub mod Merges
+pub mod Places
 pub mod Ranges
+pub mod Replacing
 pub mod Ruled
 pub mod Walking

@@ -12,7 +12,9 @@ mod inputs;
 mod laws;
 mod planning;
 mod range;
+mod replacing;
 
 pub use inputs::Inputs;
 pub use laws::merges_are_as_ruled;
 pub use planning::{drained, planned};
+pub use replacing::{ReadyLevels, ready_levels};
