@@ -1,5 +1,5 @@
 #!/usr/bin/env bash
-# Runs the program over folders in odd states, and with calls of the system that fail. It wants strace. No gate calls this.
+# Runs the program over folders in odd states, with odd words, and with calls of the system that fail. It wants strace. No gate calls this.
 set -eu
 home="$(cd "$(dirname "${BASH_SOURCE[0]}")/.." && pwd)"
 program="${1:-$home/crates/vl_prog/out/vl_prog}"
@@ -101,3 +101,17 @@ unseen() {
   grep -q '0000000001.vlog: Input/output error' "$top/err"
 }
 check 'why a file is not seen is told' unseen
+
+# Whether the program ends with status $1 and one line that begins with $2, where its words are those behind.
+ends_by() {
+  local status=0
+  "$program" "${@:3}" </dev/null >"$top/out" 2>"$top/err" || status="$?"
+  [ "$status" -eq "$1" ] && [ "$(wc -l <"$top/out")" -eq 1 ] && grep -q "^$2" "$top/out"
+}
+usage='usage: vlstore replay DIR, trial'
+mkdir "$top/logs"
+echo theirs >"$top/logs/0000000001.vlog"
+check 'a word that is no text gets the usage line' ends_by 2 "$usage" replay $'\xff'
+check 'a third word gets the usage line' ends_by 2 "$usage" replay "$top/third" .
+check 'a file in the place of the folder is a fault' ends_by 3 'disk fault$' replay "$top/theirs"
+check 'a log without a manifest is no store' ends_by 4 'not a store$' replay "$top/logs"

@@ -7,6 +7,7 @@ pub mod Flushing
 pub mod Held
 pub mod Keeping
 pub mod Known
+pub mod Lent
 pub mod Laid
 pub mod laws
 pub mod Opening

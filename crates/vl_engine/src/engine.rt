@@ -3,6 +3,7 @@ ghost use Rattle.std.specs.Prelude.{◌≡◌, ◌≤◌, true};
 ghost use Rattle.std.specs.Option.{ForSome};
 ghost use Rattle.vl_engine.specs.Fit.{IsFitFor};
 ghost use Rattle.vl_engine.specs.Known.{are_known};
+ghost use Rattle.vl_engine.specs.Lent.{AreLent};
 
 mod beginning;
 mod committing;
@@ -13,6 +14,7 @@ mod opening;
 mod rotating;
 
 use crate::kept::Core;
+use crate::open::OpenMerge;
 use std::alloc::Global;
 use vl_disk::Disk;
 
@@ -22,10 +24,14 @@ pub struct Engine<D: Disk> {
     alloc: Global,
     disk: D,
     core: Core<D::Held>,
+    // The merge that is open.
+    open: Option<OpenMerge>,
     // What its next calls ask of the disk is so.
     ghost ready: { ForSome (D.told disk) (IsFitFor core) },
     // The next numbers are ones that files may have, if any are left.
     ghost numbered: { (1 ≤ core.back.next_log) × (1 ≤ core.back.state.next_table) },
+    // The files that are lent to the open merge can be taken back.
+    ghost lent: { AreLent D.Watched disk core.back.state.next_table open },
     // No entry of its memtable has a version above the last commit's.
     ghost known: { are_known core.front.oracle.last core.version.active.entries ≡ true },
 }

@@ -12,6 +12,7 @@ mod fails;
 mod flushing;
 mod kept;
 mod laws;
+mod open;
 mod past;
 mod rotating;
 mod staging;

@@ -17,7 +17,7 @@ pub trait Sources {
     /// has it. Sources that don't tell their entries have none.
     ghost has: { Self → List ℕ → List Marked → Type 0 };
 
-    /// What the reader keeps is of these sources. Only then are their answers told.
+    /// What the reader keeps is of these sources. Only then are their answers told, and their faults.
     ghost fits: { Self → Self.Reader → Type 0 };
 
     /// How often reading has failed. At 2^64 - 1 it stands still, and counts as risen.
@@ -41,7 +41,7 @@ pub trait Sources {
         ensures fits { fits self.now reader.old → fits self.now reader.new }
         ensures cause { MatchResult result (λ _. faults reader.new ≡ faults reader.old)
             (λ fault. IsCounted (is_read_fault fault) (faults reader.old) (faults reader.new)) }
-        ensures may_fail { IfErr result (λ fault. may_fail self.now fault) };
+        ensures may_fail { fits self.now reader.old → IfErr result (λ fault. may_fail self.now fault) };
 
     /// Whether a source other than these tables has the key at a lower version.
     fn older(
@@ -56,7 +56,7 @@ pub trait Sources {
         ensures fits { fits self.now reader.old → fits self.now reader.new }
         ensures cause { MatchResult result (λ _. faults reader.new ≡ faults reader.old)
             (λ fault. IsCounted (is_read_fault fault) (faults reader.old) (faults reader.new)) }
-        ensures may_fail { IfErr result (λ fault. may_fail self.now fault) };
+        ensures may_fail { fits self.now reader.old → IfErr result (λ fault. may_fail self.now fault) };
 
     /// Whether the first source that has the key and version is none of these tables. Where none has it the answer is no.
     fn shadowed(
@@ -71,5 +71,5 @@ pub trait Sources {
         ensures fits { fits self.now reader.old → fits self.now reader.new }
         ensures cause { MatchResult result (λ _. faults reader.new ≡ faults reader.old)
             (λ fault. IsCounted (is_read_fault fault) (faults reader.old) (faults reader.new)) }
-        ensures may_fail { IfErr result (λ fault. may_fail self.now fault) };
+        ensures may_fail { fits self.now reader.old → IfErr result (λ fault. may_fail self.now fault) };
 }

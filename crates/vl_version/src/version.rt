@@ -81,6 +81,13 @@ impl<H: HeldFile> Version<H> {
         })
     }
 
+    /// Its tables by their levels.
+    pub fn levels(&self) -> &Levels<H>
+        ensures { result.now ≡ self.now.behind.levels }
+    {
+        &self.behind.as_ref().levels
+    }
+
     /// The memtable that takes commits, with a commit's run over it, of keys and versions that it hasn't. The version stays
     /// as it is. All memory that the commit wants of it is taken here.
     pub fn with_run(&self, run: Run) -> Result<Memtable, AllocError>

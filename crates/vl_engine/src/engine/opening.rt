@@ -157,6 +157,7 @@ impl<D: Disk> Engine<D> {
                     waiting,
                 },
             },
+            open: None,
         })
     }
 }

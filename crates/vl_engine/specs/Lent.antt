@@ -1,0 +1,41 @@
+-- The files that are lent to the merge that is open.
+use Rattle.std.specs.Prelude.{◌≡◌, ◌<◌, ℕ, List, [], ◌∷◌, Option, None, Some, IsTrue}
+use Rattle.std.specs.List.{AllByRecursion}
+use Rattle.std.specs.Option.{ForSome}
+use Rattle.vl_disk.specs.Disk.{IsFree}
+use Rattle.vl_disk.specs.DiskState.{DiskState}
+use Rattle.vl_disk.specs.declared.name.Name.TheVariants.{Table}
+use Rattle.vl_disk.specs.declared.watched.Watched.{Ghosts}
+use Rattle.vl_engine.specs.declared.open.OpenMerge.{OpenMerge}
+use Rattle.vl_layout.specs.declared.job.OpenJob.{OpenJob}
+
+-- A file with this number was lent: its number was given already, the disk has room to take it back, and it doesn't stand.
+pub record IsLent {D : Type 0} (g : Ghosts D) (disk : D) (next_table n : ℕ) : Type 0 where
+  pub drawn : n < next_table
+  pub room : IsTrue (g.spare disk (Table n)).adopt
+  pub free : ForSome (g.told disk) (IsFree (Table n))
+
+-- so it is of each file that was lent to the open merge
+abbrev pub AreLent : {D : Type 0} → Ghosts D → D → (next_table : ℕ) → Option OpenMerge → Type 0
+AreLent g disk next_table open = ForSome open (λ (o : OpenMerge). AllByRecursion (IsLent g disk next_table) o.lent.items)
+
+-- ---- what a step leaves
+
+-- Of the tables whose numbers were given already those that don't stand still don't, and the room to take files back stays.
+pub record LeavesLent {D : Type 0} (g : Ghosts D) (next_table : ℕ) (old new : D) : Type 0 where
+  pub room : (n : ℕ) → n < next_table → (g.spare new (Table n)).adopt ≡ (g.spare old (Table n)).adopt
+  pub free : (n : ℕ) → n < next_table → ForSome (g.told old) (IsFree (Table n)) → ForSome (g.told new) (IsFree (Table n))
+
+-- ---- the layout's job
+
+-- What the engine keeps of the open merge is what the layout has of it.
+pub record IsOpenAs (o : OpenMerge) (j : OpenJob) : Type 0 where
+  pub lent : o.lent.items ≡ j.lent
+  pub moved : o.moved.items ≡ j.moved
+
+-- A merge is open exactly where the layout has a job.
+abbrev pub Opens : Option OpenMerge → Option OpenJob → Type 0
+Opens None None = Unit {0}
+Opens None (Some j) = ⊥
+Opens (Some o) None = ⊥
+Opens (Some o) (Some j) = IsOpenAs o j

@@ -1,0 +1,22 @@
+-- What a cursor over memory or over a table has left, and how it may fail.
+use Rattle.std.specs.Prelude.{◌≡◌, ℕ, List, length, Option, Some}
+use Rattle.vl_model.specs.declared.entry.Entry.{Entry}
+use Rattle.vl_table.specs.CursorLeft.{cursor_budget, cursor_left}
+use Rattle.vl_table.specs.CursorParts.{MayFailOn}
+use Rattle.vl_table.specs.declared.fault.TableFault.{TableFault}
+use Rattle.vl_table.specs.declared.fault.TableFault.TheVariants.{NoMemory}
+use Rattle.vl_file_tests.specs.declared.source.Source.{Source}
+use Rattle.vl_file_tests.specs.declared.source.Source.TheVariants.{Memory, Table}
+
+module _ {H R : Type 0} where
+  abbrev pub source_left : (H → Option (List ℕ)) → Source H R → Option (List Entry)
+  source_left bytes_of (Memory es) = Some es
+  source_left bytes_of (Table c) = cursor_left bytes_of c
+
+  abbrev pub source_budget : Source H R → ℕ
+  source_budget (Memory es) = length es
+  source_budget (Table c) = cursor_budget c
+
+  abbrev pub SourceMayFail : (H → Option (List ℕ)) → Source H R → TableFault → Type 0
+  SourceMayFail bytes_of (Memory es) fault = fault ≡ NoMemory
+  SourceMayFail bytes_of (Table c) fault = MayFailOn bytes_of c.tables.items fault
