@@ -1,6 +1,8 @@
 pub mod Deciding
 pub mod Failing
 pub mod FlushEdits
+pub mod InstallEdits
+pub mod InstallSays
 pub mod Room
 pub mod Staging
 pub mod Tables
