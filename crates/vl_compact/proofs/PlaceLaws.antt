@@ -8,7 +8,7 @@ use Rattle.vl_layout.specs.Levels.{at_level, in_key_order, is_among, is_before, 
 use Rattle.vl_layout.specs.OpenJobs.{IsIdle}
 use Rattle.vl_layout.specs.declared.job.Target.TheVariants.{InPlace, Level}
 use Rattle.vl_layout.specs.declared.table.Table.{Table}
-use Rattle.vl_compact.specs.Places.{HasPlace, IsPlace, ends_before, first_key, place_among, place_before, place_from, place_or, put_at, put_in}
+use Rattle.vl_compact.specs.Places.{HasPlace, IsPlace, count_before, ends_before, first_key, found_at, index_of, input_from, place_before, place_from, place_of, put_at, put_in}
 
 -- ---- in key order
 
@@ -27,6 +27,16 @@ key_order new (t ∷ ts) =
         → (if b then t ∷ in_key_order new ts else new ++ t ∷ ts)
         ≡ put_at (if b then suc (place_before (first_key new) ts) else zero) new (t ∷ ts)
     by true rest = ap (λ l. t ∷ l) rest
+    by false rest = refl
+
+count_is : (new ts : List Table) → count_before new ts ≡ place_before (first_key new) ts
+count_is new [] = refl
+count_is new (t ∷ ts) =
+    ap (λ (b : Bool). if b then count_before new ts + 1 else 0) (before_is t new) ∙ by (ends_before (first_key new) t) (count_is new ts)
+  where
+    by : (b : Bool) → count_before new ts ≡ place_before (first_key new) ts
+        → (if b then count_before new ts + 1 else 0) ≡ (if b then suc (place_before (first_key new) ts) else 0)
+    by true rest = omega (arith, rest)
     by false rest = refl
 
 place_within : (first : Option (List ℕ)) (ts : List Table) → place_before first ts ≤ length ts
@@ -81,6 +91,8 @@ level_without inputs n (l ∷ ls) = by (n == 0) (level_without inputs (n - 1) ls
 pub place_in_level : (n : ℕ) (inputs : List ℕ) (first : Option (List ℕ)) (ls : List (List Table)) → HasPlace (Level n) inputs ls
     → IsPlace (Level n) inputs first ls n (place_before first (without inputs (level_at n ls)))
 place_in_level n inputs first ls has = record {
+  is = λ new is. ap (λ (m : ℕ). (n, m)) (count_is new (without inputs (level_at n ls))
+      ∙ ap (λ (k : Option (List ℕ)). place_before k (without inputs (level_at n ls))) is);
   there = has;
   within = place_within first (without inputs (level_at n ls));
   puts = λ new is. at_same n (in_key_order new) (put_at (place_before first (without inputs (level_at n ls))) new) (map (without inputs) ls)
@@ -144,16 +156,16 @@ module _ (inputs : List ℕ) where
   idle_swapped new (t ∷ ts) idle = ap (λ (b : Bool). (if b then new else t ∷ []) ++ swapped new ts) idle.0
       ∙ ap (λ l. t ∷ l) (idle_swapped new ts idle.1)
 
-  idle_place : (ts : List Table) → IsIdle inputs ts → place_among inputs ts ≡ None
+  idle_place : (ts : List Table) → IsIdle inputs ts → index_of inputs ts ≡ None
   idle_place [] idle = refl
   idle_place (t ∷ ts) idle =
-      ap (λ (b : Bool). if b then Some zero else option_map suc (place_among inputs ts)) idle.0
-      ∙ ap (option_map suc) (idle_place ts idle.1)
+      ap (λ (b : Bool). if b then Some zero else option_map (λ n. n + 1) (index_of inputs ts)) idle.0
+      ∙ ap (option_map (λ n. n + 1)) (idle_place ts idle.1)
 
   -- the place of the input in its level
   record PlaceOf (ts : List Table) : Type 0 where
     position : ℕ
-    is : place_among inputs ts ≡ Some position
+    is : index_of inputs ts ≡ Some position
     within : position ≤ length (without inputs ts)
     puts : (new : List Table) → swapped new ts ≡ put_at position new (without inputs ts)
 
@@ -161,7 +173,7 @@ module _ (inputs : List ℕ) where
       → PlaceOf (xs ++ t ∷ ys)
   one_place [] ys t idle among others = record {
     position = zero;
-    is = ap (λ (b : Bool). if b then Some zero else option_map suc (place_among inputs ys)) among;
+    is = ap (λ (b : Bool). if b then Some zero else option_map (λ n. n + 1) (index_of inputs ys)) among;
     within = omega arith;
     puts = λ new.
         ap (λ (b : Bool). (if b then new else t ∷ []) ++ swapped new ys) among ∙ ap (λ l. new ++ l) (idle_swapped new ys others)
@@ -171,8 +183,8 @@ module _ (inputs : List ℕ) where
   one_place (x ∷ xs) ys t idle among others =
       let rest = one_place xs ys t idle.1 among others in record {
         position = suc rest.position;
-        is = ap (λ (b : Bool). if b then Some zero else option_map suc (place_among inputs (xs ++ t ∷ ys))) idle.0
-            ∙ ap (option_map suc) rest.is;
+        is = ap (λ (b : Bool). if b then Some zero else option_map (λ n. n + 1) (index_of inputs (xs ++ t ∷ ys))) idle.0
+            ∙ ap (option_map (λ n. n + 1)) rest.is ∙ ap Some (plus rest.position);
         within = subst (λ (l : List Table). suc rest.position ≤ length l)
             (sym (ap (λ (b : Bool). if not b then x ∷ without inputs (xs ++ t ∷ ys) else without inputs (xs ++ t ∷ ys)) idle.0))
             (one_more rest.position (length (without inputs (xs ++ t ∷ ys))) rest.within);
@@ -183,11 +195,14 @@ module _ (inputs : List ℕ) where
             (if not b then x ∷ without inputs (xs ++ t ∷ ys) else without inputs (xs ++ t ∷ ys))) idle.0);
       }
     where
+      plus : (n : ℕ) → n + 1 ≡ suc n
+      plus n = omega arith
+
       one_more : (n m : ℕ) → n ≤ m → suc n ≤ suc m
       one_more n m le = omega (arith, le)
 
-  place_of : (ts : List Table) → HasOne ts → PlaceOf ts
-  place_of ts one = subst PlaceOf (sym one.is) (one_place one.xs one.ys one.t one.idle one.among one.others)
+  one_placed : (ts : List Table) → HasOne ts → PlaceOf ts
+  one_placed ts one = subst PlaceOf (sym one.is) (one_place one.xs one.ys one.t one.idle one.among one.others)
 
   -- ---- of all levels
 
@@ -201,11 +216,18 @@ module _ (inputs : List ℕ) where
       ap (λ k. k ∷ map (swapped new) ls) (idle_swapped new l parts.0 ∙ sym (idle_without l parts.0))
       ∙ ap (λ ks. without inputs l ∷ ks) (all_swapped new ls parts.1)
 
+  plus_none : (n : ℕ) → n ≡ n + zero
+  plus_none n = omega arith
+
+  plus_more : (n m : ℕ) → (n + 1) + m ≡ n + suc m
+  plus_more n m = omega arith
+
   -- the first of the levels has this number
   record PlaceIn (first : ℕ) (ls : List (List Table)) : Type 0 where
     level : ℕ
     position : ℕ
     is : place_from first inputs ls ≡ (first + level, position)
+    found : input_from first inputs ls ≡ (first + level, position)
     there : level < length ls
     within : position ≤ length (without inputs (level_at level ls))
     puts : (new : List Table) → map (swapped new) ls ≡ put_in level position new (map (without inputs) ls)
@@ -217,27 +239,32 @@ module _ (inputs : List ℕ) where
       none [] is = cc
       none (x ∷ xs) is = cc
   place_in first (l ∷ ls) one = ⊎_elim (λ here. first_level here.0 here.1)
-      (λ there. later there.0 (place_in (suc first) ls there.1))
+      (λ there. later there.0 (place_in (first + 1) ls there.1))
       (one_of l (flat ls) one.xs one.ys one.t one.is one.idle one.among one.others)
     where
       first_level : HasOne l → IsIdle inputs (flat ls) → PlaceIn first (l ∷ ls)
       first_level one idle =
-          let place = place_of l one in record {
+          let place = one_placed l one in record {
             level = zero;
             position = place.position;
-            is = ap (place_or first (place_from (suc first) inputs ls)) place.is ∙ ap (λ n. (n, place.position)) (omega arith);
+            is = ap (λ (o : Option ℕ). found_at first o (place_from (first + 1) inputs ls)) place.is
+                ∙ ap (λ (n : ℕ). (n, place.position)) (plus_none first);
+            found = ap (λ (o : Option ℕ). found_at first o (input_from (first + 1) inputs ls)) place.is
+                ∙ ap (λ (n : ℕ). (n, place.position)) (plus_none first);
             there = omega arith;
             within = place.within;
             puts = λ new. ap (λ k. k ∷ map (swapped new) ls) (place.puts new)
                 ∙ ap (λ ks. put_at place.position new (without inputs l) ∷ ks) (all_swapped new ls idle);
           }
 
-      later : IsIdle inputs l → PlaceIn (suc first) ls → PlaceIn first (l ∷ ls)
+      later : IsIdle inputs l → PlaceIn (first + 1) ls → PlaceIn first (l ∷ ls)
       later idle place = record {
         level = suc place.level;
         position = place.position;
-        is = ap (place_or first (place_from (suc first) inputs ls)) (idle_place l idle) ∙ place.is
-            ∙ ap (λ n. (n, place.position)) (omega arith);
+        is = ap (λ (o : Option ℕ). found_at first o (place_from (first + 1) inputs ls)) (idle_place l idle) ∙ place.is
+            ∙ ap (λ (n : ℕ). (n, place.position)) (plus_more first place.level);
+        found = ap (λ (o : Option ℕ). found_at first o (input_from (first + 1) inputs ls)) (idle_place l idle) ∙ place.found
+            ∙ ap (λ (n : ℕ). (n, place.position)) (plus_more first place.level);
         there = omega (arith, place.there);
         within = subst (λ (ts : List Table). place.position ≤ length (without inputs ts)) (sym (level_next place.level l ls)) place.within;
         puts = λ new. ap (λ k. k ∷ map (swapped new) ls) (idle_swapped new l idle ∙ sym (idle_without l idle))
@@ -246,11 +273,11 @@ module _ (inputs : List ℕ) where
 
 -- in the place of the one input
 pub place_in_place : (inputs : List ℕ) (first : Option (List ℕ)) (ls : List (List Table)) → HasPlace InPlace inputs ls
-    → (place : ℕ × ℕ) → place ≡ place_from 0 inputs ls → IsPlace InPlace inputs first ls place.0 place.1
+    → (place : ℕ × ℕ) → place ≡ input_from 0 inputs ls → IsPlace InPlace inputs first ls place.0 place.1
 place_in_place inputs first ls (xs, t, ys, is, so) place same =
     let found = place_in inputs 0 ls (record { xs = xs; t = t; ys = ys; is = is; idle = so.0; among = so.1.0; others = so.1.1 }) in
-    subst (λ (p : ℕ × ℕ). IsPlace InPlace inputs first ls p.0 p.1) (sym (same ∙ found.is ∙ ap (λ n. (n, found.position)) (none found.level)))
-    (record { there = found.there; within = found.within; puts = λ new begins. found.puts new })
+    subst (λ (p : ℕ × ℕ). IsPlace InPlace inputs first ls p.0 p.1) (sym (same ∙ found.found ∙ ap (λ (n : ℕ). (n, found.position)) (none found.level)))
+    (record { is = λ new begins. found.is ∙ ap (λ (n : ℕ). (n, found.position)) (none found.level); there = found.there; within = found.within; puts = λ new begins. found.puts new })
   where
     none : (n : ℕ) → 0 + n ≡ n
     none n = omega arith

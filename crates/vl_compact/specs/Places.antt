@@ -1,16 +1,42 @@
 -- Where the tables that a merge makes are put.
-use Rattle.std.specs.Prelude.{◌≡◌, ◌≤◌, ◌<◌, ℕ, zero, suc, Bool, true, if◌then◌else◌, List, [], ◌∷◌, ◌++◌, length, map, take, drop, Option, Some, None}
+use Rattle.std.specs.Prelude.{◌≡◌, ◌≤◌, ◌<◌, ℕ, ◌+◌, suc, Bool, true, if◌then◌else◌, List, [], ◌∷◌, ◌++◌, length, map, take, drop, Option, Some, None}
 use Rattle.std.specs.List.{flat_map}
 use Rattle.std.specs.Option.{option_map}
 use Rattle.std.specs.Ordering.{is_lt}
 use Rattle.vl_model.specs.Keys.{key_cmp}
-use Rattle.vl_layout.specs.Levels.{at_level, is_among, level_at, replaced, without}
+use Rattle.vl_layout.specs.Levels.{at_level, is_among, is_before, level_at, replaced, without}
 use Rattle.vl_layout.specs.OpenJobs.{IsIdle}
 use Rattle.vl_layout.specs.declared.job.Target.{Target}
 use Rattle.vl_layout.specs.declared.job.Target.TheVariants.{InPlace, Level}
 use Rattle.vl_layout.specs.declared.table.Table.{Table}
 
--- ---- in key order
+-- ---- the place
+
+-- how many of these come before the new tables, by their last keys
+abbrev pub count_before : List Table → List Table → ℕ
+count_before new [] = 0
+count_before new (t ∷ ts) = if is_before t new then count_before new ts + 1 else 0
+
+-- where the first of the inputs stands among these
+abbrev pub index_of : List ℕ → List Table → Option ℕ
+index_of inputs [] = None
+index_of inputs (t ∷ ts) = if is_among inputs t then Some 0 else option_map (λ n. n + 1) (index_of inputs ts)
+
+abbrev pub found_at : ℕ → Option ℕ → ℕ × ℕ → ℕ × ℕ
+found_at level None deeper = deeper
+found_at level (Some position) deeper = (level, position)
+
+-- and where in levels, of which the first has this number
+abbrev pub place_from : ℕ → List ℕ → List (List Table) → ℕ × ℕ
+place_from level inputs [] = (level, 0)
+place_from level inputs (ts ∷ deeper) = found_at level (index_of inputs ts) (place_from (level + 1) inputs deeper)
+
+-- The level and the position: in key order among the tables of a level that are no inputs, or where the one input stands.
+abbrev pub place_of : Target → List ℕ → List Table → List (List Table) → ℕ × ℕ
+place_of (Level n) inputs new levels = (n, count_before new (without inputs (level_at n levels)))
+place_of InPlace inputs new levels = place_from 0 inputs levels
+
+-- ---- before the new tables are known
 
 -- the first key of these tables, where there are any
 abbrev pub first_key : List Table → Option (List ℕ)
@@ -22,28 +48,15 @@ abbrev pub ends_before : Option (List ℕ) → Table → Bool
 ends_before None t = true
 ends_before (Some key) t = is_lt (key_cmp t.last key)
 
--- how many of these tables stand before those that are put among them and begin with this key
+-- how many of these come before new tables that begin with this key
 abbrev pub place_before : Option (List ℕ) → List Table → ℕ
-place_before first [] = zero
-place_before first (t ∷ ts) = if ends_before first t then suc (place_before first ts) else zero
+place_before first [] = 0
+place_before first (t ∷ ts) = if ends_before first t then suc (place_before first ts) else 0
 
--- ---- in the place of an input
-
--- how many of these tables stand before the first that is among these numbers
-abbrev pub place_among : List ℕ → List Table → Option ℕ
-place_among numbers [] = None
-place_among numbers (t ∷ ts) =
-    if is_among numbers t then Some zero else option_map suc (place_among numbers ts)
-
-abbrev pub place_or : ℕ → ℕ × ℕ → Option ℕ → ℕ × ℕ
-place_or level deeper None = deeper
-place_or level deeper (Some position) = (level, position)
-
--- the level of that table, and how many tables of it stand before it; the first of these levels has this number
-abbrev pub place_from : ℕ → List ℕ → List (List Table) → ℕ × ℕ
-place_from level numbers [] = (0, 0)
-place_from level numbers (ts ∷ deeper) =
-    place_or level (place_from (suc level) numbers deeper) (place_among numbers ts)
+-- where the first of the inputs stands in levels, of which the first has this number; the front, where none does
+abbrev pub input_from : ℕ → List ℕ → List (List Table) → ℕ × ℕ
+input_from level inputs [] = (0, 0)
+input_from level inputs (ts ∷ deeper) = found_at level (index_of inputs ts) (input_from (level + 1) inputs deeper)
 
 -- ---- what is put there
 
@@ -62,10 +75,11 @@ HasPlace InPlace inputs levels = (xs : List Table) × (t : Table) × (ys : List 
     × (flat_map (λ level. level) levels ≡ xs ++ t ∷ ys)
     × (IsIdle inputs xs × ((is_among inputs t ≡ true) × IsIdle inputs ys))
 
--- Tables that begin with this key and take the place of the inputs are put, among the tables that aren't inputs, to this
--- level at this position.
+-- The place of tables that begin with this key and take that of the inputs: there they are put among the tables that
+-- aren't inputs.
 pub record IsPlace (target : Target) (inputs : List ℕ) (first : Option (List ℕ)) (levels : List (List Table))
     (level position : ℕ) : Type 0 where
+  pub is : (new : List Table) → first_key new ≡ first → place_of target inputs new levels ≡ (level, position)
   pub there : level < length levels
   pub within : position ≤ length (without inputs (level_at level levels))
   pub puts : (new : List Table) → first_key new ≡ first

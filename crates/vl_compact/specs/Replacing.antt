@@ -3,7 +3,7 @@ use Rattle.std.specs.Prelude.{◌≡◌, ◌≤◌, ℕ, ◌+◌, List, ◌∷�
 use Rattle.std.specs.List.{AllZip}
 use Rattle.vl_compact.specs.Laid.{AreTablesOf}
 use Rattle.vl_compact.specs.Places.{IsPlace, put_at}
-use Rattle.vl_compact.specs.declared.replacing.ReadyLevels.{ReadyLevels}
+use Rattle.vl_compact.specs.declared.ready.ReadyLevels.{ReadyLevels}
 use Rattle.vl_layout.specs.Levels.{level_at, without}
 use Rattle.vl_layout.specs.declared.job.Target.{Target}
 use Rattle.vl_layout.specs.declared.table.Table.{Table}

@@ -1,40 +1,25 @@
 //! The levels behind an install: the tables that a merge made stand in the place of its inputs.
 
-ghost use Rattle.std.specs.Prelude.{◌≡◌, ◌+◌, ◌≤◌, ◌++◌, ◌∷◌, [], ℕ, List, Option, Some, length, map, slice_set, IfOk, OnOk};
+ghost use Rattle.std.specs.Prelude.{◌≡◌, ◌++◌, ◌∷◌, [], ℕ, List, Option, Some, map, IfOk, OnOk};
 ghost use Rattle.std.specs.List.{AllZip};
 ghost use Rattle.std.specs.Option.{option_copied};
 ghost use Rattle.vl_compact.specs.Laid.{AreLevelsOf, AreTablesOf, IsTableOf};
 ghost use Rattle.vl_compact.specs.Places as places;
-ghost use Rattle.vl_compact.specs.Places.{HasPlace, IsPlace, first_key};
+ghost use Rattle.vl_compact.specs.Places.{HasPlace, IsPlace};
 ghost use Rattle.vl_compact.specs.Replacing.{AreReady, HasRoom};
-ghost use Rattle.vl_layout.specs.Levels.{is_among, replaced, without};
+ghost use Rattle.vl_layout.specs.Levels.{is_among, without};
 ghost use Rattle.vl_layout.specs.declared.job.Target.TheVariants as target_is;
 ghost use Rattle.vl_layout.specs.declared.job.Target.{Target};
 ghost use Rattle.vl_layout.specs.declared.table.Table as laid;
 
 use crate::choosing::level_at;
 use crate::inputs::add;
+use crate::ready::ReadyLevels;
 use std::alloc::{AllocError, Global};
 use vl_disk::HeldFile;
 use vl_layout::Target;
 use vl_table::Table;
 use vl_version::{Level, Levels};
-
-/// The levels behind an install, as far as its outputs were put, for which there is room.
-#[derive(Drop)]
-pub struct ReadyLevels<H> {
-    /// To which level the outputs are put, and how many of its tables that aren't inputs stand before them.
-    pub level: u8,
-    pub position: u32,
-    // The tables that aren't inputs, by their levels.
-    newest: Vec<Table<H>>,
-    deeper: Vec<Level<H>>,
-    // Those of that level, with the outputs that were put among them.
-    tables: Vec<Table<H>>,
-    // So many of these stand before the next output.
-    next: usize,
-    pub ghost within: { next ≤ length tables.items }
-}
 
 /// These levels without the inputs, which have these numbers, shared, and with room for so many tables in their place. `first`
 /// is the key with which the outputs begin. Want of memory is the answer too where the place is more than can be counted.
@@ -55,56 +40,6 @@ pub fn ready_levels<H: HeldFile>(
         Target::Level(level) => into_level(alloc, levels, *level, inputs, first, count),
         Target::InPlace => in_place(alloc, levels, inputs, count),
     }
-}
-
-impl<H: HeldFile> ReadyLevels<H> {
-    /// Puts the next output, for which there is room. It wants no memory.
-    pub fn put(&mut self, table: Table<H>)
-        requires { HasRoom 1 self.old }
-        ensures put { (target : Target) (inputs : List ℕ) (first : Option (List ℕ)) (ls : List (List laid.Table))
-            (new : List laid.Table) (t : laid.Table) → AreReady H.bytes target inputs first ls new self.old
-            → IsTableOf H.bytes table t → AreReady H.bytes target inputs first ls (new ++ t ∷ []) self.new }
-        ensures room { (n : ℕ) → HasRoom (n + 1) self.old → HasRoom n self.new }
-        ensures level { self.new.level ≡ self.old.level }
-        ensures position { self.new.position ≡ self.old.position }
-    {
-        let _ = self.tables.insert(self.next, table);
-        self.next += 1;
-    }
-
-    /// The levels with the outputs that were put. It wants no memory.
-    pub fn into_levels(self) -> Levels<H>
-        ensures { (target : Target) (inputs : List ℕ) (first : Option (List ℕ)) (ls : List (List laid.Table))
-            (new : List laid.Table) → AreReady H.bytes target inputs first ls new self → first_key new ≡ first
-            → AreLevelsOf H.bytes result (replaced target inputs new ls) }
-    {
-        let ReadyLevels {
-            level,
-            newest,
-            deeper,
-            tables,
-            ..
-        } = self;
-        if level == 0 {
-            return Levels::new(tables, deeper);
-        }
-        Levels::new(newest, with_level(deeper, level as usize - 1, tables))
-    }
-}
-
-// Levels, of which one, if it is there, has these tables.
-fn with_level<H: HeldFile>(
-    levels: Vec<Level<H>>,
-    at: usize,
-    tables: Vec<Table<H>>,
-) -> Vec<Level<H>>
-    ensures { result.items ≡ slice_set levels.items at tables.items }
-{
-    let mut levels = levels;
-    if at < levels.len() {
-        levels[at] = Level::new(tables);
-    }
-    levels
 }
 
 // In key order among the tables of a level.
@@ -258,7 +193,7 @@ fn ends_before<H: HeldFile>(table: &Table<H>, first: &[u8]) -> bool
 // The level and the position of the first table that is an input. Where there is none, the front.
 fn input_place<H: HeldFile>(levels: &Levels<H>, inputs: &[u32]) -> (usize, usize)
     ensures { (ls : List (List laid.Table)) → AreLevelsOf H.bytes levels.now ls
-        → result ≡ places.place_from 0 inputs.now ls }
+        → result ≡ places.input_from 0 inputs.now ls }
 {
     if let Some(position) = input_among(levels.newest(), inputs) {
         return (0, position);
@@ -269,7 +204,7 @@ fn input_place<H: HeldFile>(levels: &Levels<H>, inputs: &[u32]) -> (usize, usize
 // The same of the levels below level 0.
 fn deeper_place<H: HeldFile>(levels: &[Level<H>], inputs: &[u32]) -> (usize, usize)
     ensures { (ls : List (List laid.Table)) → AllZip (AreTablesOf H.bytes) levels.now ls
-        → result ≡ places.place_from 1 inputs.now ls }
+        → result ≡ places.input_from 1 inputs.now ls }
 {
     for at in 0..levels.len() {
         if let Some(position) = input_among(levels[at].as_slice(), inputs) {
@@ -281,7 +216,7 @@ fn deeper_place<H: HeldFile>(levels: &[Level<H>], inputs: &[u32]) -> (usize, usi
 
 // How many of these tables stand before the first that is an input.
 fn input_among<H: HeldFile>(tables: &[Table<H>], inputs: &[u32]) -> Option<usize>
-    ensures { (ts : List laid.Table) → AreTablesOf H.bytes tables.now ts → result ≡ places.place_among inputs.now ts }
+    ensures { (ts : List laid.Table) → AreTablesOf H.bytes tables.now ts → result ≡ places.index_of inputs.now ts }
 {
     for at in 0..tables.len() {
         if is_input(&tables[at], inputs) {
