@@ -1,14 +1,14 @@
 -- Where the tables that a merge makes are put among those that aren't its inputs.
 use Rattle.std.specs.Prelude.{Bool, true, false, if◌then◌else◌, Option, Some, None, ◌==◌, not, map}
-use Rattle.std.specs.List.{filter, flat_map}
+use Rattle.std.specs.List.{flat_map}
 use Rattle.std.specs.Option.{option_map}
-use Rattle.std.proofs.Common.{◌≡◌, ⊎_elim, inl, inr, ◌⊎◌, ℕ, ◌+◌, ◌-◌, ◌<◌, ◌≤◌, List, [], ◌∷◌, ◌++◌, zero, suc, append-nil, length, take, drop, refl, ap, sym, subst, ◌∙◌, arith}
+use Rattle.std.proofs.Common.{◌≡◌, ⊎_elim, inl, inr, ◌⊎◌, ℕ, ◌+◌, ◌-◌, ◌<◌, ◌≤◌, List, [], ◌∷◌, ◌++◌, zero, suc, append-nil, length, refl, ap, sym, subst, ◌∙◌, arith}
 use Rattle.std.proofs.lemmas.Bool.Decides.{nat_tests}
-use Rattle.vl_layout.specs.Levels.{at_level, in_key_order, is_among, is_before, level_at, replaced, without}
+use Rattle.vl_layout.specs.Levels.{at_level, in_key_order, is_among, is_before, level_at, without}
 use Rattle.vl_layout.specs.OpenJobs.{IsIdle}
 use Rattle.vl_layout.specs.declared.job.Target.TheVariants.{InPlace, Level}
 use Rattle.vl_layout.specs.declared.table.Table.{Table}
-use Rattle.vl_compact.specs.Places.{HasPlace, IsPlace, count_before, ends_before, first_key, found_at, index_of, input_from, place_before, place_from, place_of, put_at, put_in}
+use Rattle.vl_compact.specs.Places.{HasPlace, IsPlace, count_before, ends_before, first_key, found_at, index_of, input_from, place_before, place_from, put_at, put_in}
 
 -- ---- in key order
 
@@ -55,11 +55,11 @@ not_first n = grind (arith, nat_tests)
 less_one : (n : ℕ) → suc n - 1 ≡ n
 less_one n = omega arith
 
-level_next : (n : ℕ) (l : List Table) (ls : List (List Table)) → level_at (suc n) (l ∷ ls) ≡ level_at n ls
+pub level_next : (n : ℕ) (l : List Table) (ls : List (List Table)) → level_at (suc n) (l ∷ ls) ≡ level_at n ls
 level_next n l ls =
     ap (λ (b : Bool). if b then l else level_at (suc n - 1) ls) (not_first n) ∙ ap (λ (m : ℕ). level_at m ls) (less_one n)
 
-next_level : (n : ℕ) (f : List Table → List Table) (l : List Table) (ls : List (List Table))
+pub next_level : (n : ℕ) (f : List Table → List Table) (l : List Table) (ls : List (List Table))
     → at_level (suc n) f (l ∷ ls) ≡ l ∷ at_level n f ls
 next_level n f l ls =
     ap (λ (b : Bool). if b then f l ∷ ls else l ∷ at_level (suc n - 1) f ls) (not_first n)
@@ -128,8 +128,18 @@ module _ (inputs : List ℕ) where
       let same : t ≡ u = cc in
       let left : ys ≡ l ++ rest = cc in
       let parts = idle_parts l rest (subst (IsIdle inputs) left others) in
-      inl (record { xs = []; t = u; ys = l; is = refl; idle = tt;
-        among = subst (λ (v : Table). is_among inputs v ≡ true) same among; others = parts.0 }, parts.1)
+      inl (
+        record {
+          xs = [];
+          t = u;
+          ys = l;
+          is = refl;
+          idle = tt;
+          among = subst (λ (v : Table). is_among inputs v ≡ true) same among;
+          others = parts.0;
+        },
+        parts.1,
+      )
   one_of (u ∷ l) rest (x ∷ xs) ys t is idle among others =
       let same : x ≡ u = cc in
       let left : l ++ rest ≡ xs ++ t ∷ ys = cc in
@@ -140,8 +150,15 @@ module _ (inputs : List ℕ) where
       (one_of l rest xs ys t left idle.1 among others)
     where
       more : is_among inputs u ≡ false → HasOne l → HasOne (u ∷ l)
-      more first one = record { xs = u ∷ one.xs; t = one.t; ys = one.ys; is = ap (λ (k : List Table). u ∷ k) one.is;
-        idle = (first, one.idle); among = one.among; others = one.others }
+      more first one = record {
+        xs = u ∷ one.xs;
+        t = one.t;
+        ys = one.ys;
+        is = ap (λ (k : List Table). u ∷ k) one.is;
+        idle = (first, one.idle);
+        among = one.among;
+        others = one.others;
+      }
 
   idle_without : (ts : List Table) → IsIdle inputs ts → without inputs ts ≡ ts
   idle_without [] idle = refl

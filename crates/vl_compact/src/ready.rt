@@ -19,7 +19,7 @@ pub struct ReadyLevels<H> {
     pub(crate) tables: Vec<Table<H>>,
     // So many of these stand before the next output.
     pub(crate) next: usize,
-    pub ghost within: { next ≤ length tables.items }
+    pub ghost within: { next ≤ length tables.items },
 }
 
 impl<H: HeldFile> ReadyLevels<H> {
@@ -66,11 +66,7 @@ impl<H: HeldFile> ReadyLevels<H> {
 }
 
 // Levels, of which one, if it is there, has these tables.
-fn with_level<H: HeldFile>(
-    levels: Vec<Level<H>>,
-    at: usize,
-    tables: Vec<Table<H>>,
-) -> Vec<Level<H>>
+fn with_level<H: HeldFile>(levels: Vec<Level<H>>, at: usize, tables: Vec<Table<H>>) -> Vec<Level<H>>
     ensures { result.items ≡ slice_set levels.items at tables.items }
 {
     let mut levels = levels;
@@ -79,4 +75,3 @@ fn with_level<H: HeldFile>(
     }
     levels
 }
-

@@ -1,7 +1,7 @@
 //! The levels behind an install: the tables that a merge made stand in the place of its inputs.
 
-ghost use Rattle.std.specs.Prelude.{◌≡◌, ◌++◌, ◌∷◌, [], ℕ, List, Option, Some, map, IfOk, OnOk};
-ghost use Rattle.std.specs.List.{AllZip};
+ghost use Rattle.std.specs.Prelude.{◌≡◌, ◌==◌, ◌++◌, ◌∷◌, [], ℕ, List, Option, Some, map, IfOk, OnOk};
+ghost use Rattle.std.specs.List.{AllZip, list_any};
 ghost use Rattle.std.specs.Option.{option_copied};
 ghost use Rattle.vl_compact.specs.Laid.{AreLevelsOf, AreTablesOf, IsTableOf};
 ghost use Rattle.vl_compact.specs.Places as places;
@@ -161,8 +161,14 @@ fn others_of_each<H: HeldFile>(
 fn is_input<H: HeldFile>(table: &Table<H>, inputs: &[u32]) -> bool
     ensures { (t : laid.Table) → IsTableOf H.bytes table.now t → result ≡ is_among inputs.now t }
 {
-    let number = table.shape().number;
-    inputs.iter().any(|&input| input == number)
+    has(inputs, table.shape().number)
+}
+
+// Whether a number is one of these.
+fn has(numbers: &[u32], number: u32) -> bool
+    ensures { result ≡ list_any (λ (n : ℕ). n == number) numbers.now }
+{
+    numbers.iter().any(|&other| other == number)
 }
 
 // ---- where the outputs go
@@ -172,22 +178,32 @@ fn place_before<H: HeldFile>(tables: &[Table<H>], first: Option<&[u8]>) -> usize
     ensures { (ts : List laid.Table) → AreTablesOf H.bytes tables.now ts
         → result ≡ places.place_before (option_copied first.entry) ts }
 {
-    let Some(first) = first else {
-        return tables.len();
-    };
-    for at in 0..tables.len() {
-        if !ends_before(&tables[at], first) {
-            return at;
-        }
+    match first {
+        Some(key) => ending_before(tables, key),
+        None => tables.len(),
     }
-    tables.len()
 }
 
-fn ends_before<H: HeldFile>(table: &Table<H>, first: &[u8]) -> bool
-    ensures { (t : laid.Table) → IsTableOf H.bytes table.now t → result ≡ places.ends_before (Some first.now) t }
+// How many of these tables end before a key, up to the first that doesn't.
+fn ending_before<H: HeldFile>(tables: &[Table<H>], key: &[u8]) -> usize
+    ensures { (ts : List laid.Table) → AreTablesOf H.bytes tables.now ts
+        → result ≡ places.place_before (Some key.now) ts }
+{
+    let mut at = 0;
+    while at < tables.len() {
+        if !ends_before(&tables[at], key) {
+            return at;
+        }
+        at += 1;
+    }
+    at
+}
+
+fn ends_before<H: HeldFile>(table: &Table<H>, key: &[u8]) -> bool
+    ensures { (t : laid.Table) → IsTableOf H.bytes table.now t → result ≡ places.ends_before (Some key.now) t }
 {
     let last = table.shape().footer.last.as_slice();
-    last.cmp(&first).is_lt()
+    last.cmp(&key).is_lt()
 }
 
 // The level and the position of the first table that is an input. Where there is none, the front.
