@@ -2,6 +2,7 @@ mod Adding
 mod Coming
 mod Files
 mod Holding
+mod Installing
 mod Named
 mod Spelled
 mod Switching

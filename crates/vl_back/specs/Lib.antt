@@ -3,6 +3,7 @@ pub mod Failing
 pub mod FlushEdits
 pub mod InstallEdits
 pub mod InstallSays
+pub mod InstallStaging
 pub mod Room
 pub mod Staging
 pub mod Tables

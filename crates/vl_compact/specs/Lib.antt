@@ -5,3 +5,4 @@ pub mod Ranges
 pub mod Replacing
 pub mod Ruled
 pub mod Walking
+pub mod laws

@@ -14,7 +14,12 @@ pub mod FlushRulings
 pub mod FlushTidy
 pub mod FrontLaws
 pub mod HeldLaws
+pub mod InstallApplies
+pub mod InstallBase
+pub mod InstallBeside
+pub mod InstallLaws
 pub mod InstallPlaces
+pub mod InstallRulings
 pub mod InstallSpared
 pub mod InstallSpares
 pub mod InstallTables
@@ -26,6 +31,7 @@ pub mod LaidBegun
 pub mod LaidFlush
 pub mod LaidLaws
 pub mod LaidRotate
+pub mod LaidTables
 pub mod LedLaws
 pub mod LiveLaws
 pub mod LogEntries

@@ -113,6 +113,6 @@ none_show logs = record {
   };
   versions = tt;
   up_to = tt;
-  spared = λ key n le there missing.
+  spared = λ two key n le there missing.
       absurd (true_false (sym (subst (λ (ns : List ℕ). has n ns ≡ true) (no_versions key) there)));
 }
