@@ -2,9 +2,9 @@ mod Adding
 mod Coming
 mod Files
 mod Holding
-mod Installing
 mod Named
 mod Spelled
+mod SwitchEdits
 mod Switching
 mod Unmoved
 mod Untold

@@ -1,5 +1,5 @@
-use Rattle.std.proofs.Common.{◌+◌, ap, drop}
-use Rattle.vl_back.proofs.Installing.{drop_end, drop_here, first_added, none_left, table_added}
+use Rattle.std.proofs.Common.{◌+◌, ap, drop, get_or}
+use Rattle.vl_back.proofs.SwitchEdits.{drop_end, drop_item, first_added, none_left, table_added}
 use Rattle.vl_manifest.specs.States.{level_adds}
 use Rattle.vl_back.proofs.installing.add_adds.Goals as goal
 
@@ -11,8 +11,8 @@ loop-at-preserved c =
     let i = c.loop-at.at in
     let tables = c.args.tables.now in
     table_added c.args.edits.now.items c.loop-at.edits.items c.push.new.self.items c.args.level c.args.position i tables
-    (drop i tables) (drop (i + 1) tables) c.index-tables-at.result
-    (drop_here tables i c.index-tables-at.result c.loop-at-test.true c.index-tables-at.is) c.in_ok-push.ensures.items c.loop-at.invariant
+    (drop i tables) (drop (i + 1) tables) (get_or tables i 0)
+    (drop_item tables i c.loop-at-test.true) c.in_ok-push.ensures.items c.loop-at.invariant
 
 pub returns : goal.returns
 returns c =

@@ -1,5 +1,5 @@
 use Rattle.std.proofs.Common.{List, ℕ, ◌+◌, ◌++◌, ◌∙◌, ap, drop}
-use Rattle.vl_back.proofs.Installing.{drop_end, drop_here, level_dropped, none_left}
+use Rattle.vl_back.proofs.SwitchEdits.{drop_end, drop_here, level_dropped, none_left}
 use Rattle.vl_back.specs.InstallEdits.{drops_of}
 use Rattle.vl_manifest.specs.Levels.{all_tables}
 use Rattle.vl_back.proofs.installing.add_all_drops.Goals as goal

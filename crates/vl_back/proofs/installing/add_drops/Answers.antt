@@ -1,5 +1,5 @@
-use Rattle.std.proofs.Common.{◌+◌, ap, drop}
-use Rattle.vl_back.proofs.Installing.{drop_end, drop_here, none_left, table_dropped}
+use Rattle.std.proofs.Common.{◌+◌, ap, drop, get_or}
+use Rattle.vl_back.proofs.SwitchEdits.{drop_end, drop_item, none_left, table_dropped}
 use Rattle.vl_back.specs.InstallEdits.{drops_of}
 use Rattle.vl_back.proofs.installing.add_drops.Goals as goal
 
@@ -8,8 +8,8 @@ loop-at-preserved c =
     let i = c.loop-at.at in
     let tables = c.args.tables.now in
     table_dropped c.args.edits.now.items c.loop-at.edits.items c.add_drop.new.edits.items c.args.inputs.now tables
-    (drop i tables) (drop (i + 1) tables) c.index-tables-at.result
-    (drop_here tables i c.index-tables-at.result c.loop-at-test.true c.index-tables-at.is) c.in_ok-add_drop.ensures c.loop-at.invariant
+    (drop i tables) (drop (i + 1) tables) (get_or tables i 0)
+    (drop_item tables i c.loop-at-test.true) c.in_ok-add_drop.ensures c.loop-at.invariant
 
 pub returns : goal.returns
 returns c =

@@ -18,6 +18,14 @@ drop_here (y ∷ xs) (suc i) x within is =
     more : (i : ℕ) → suc (i + 1) ≡ suc i + 1
     more i = omega arith
 
+pub drop_item : (xs : List ℕ) (i : ℕ) → i < length xs → drop i xs ≡ get_or xs i 0 ∷ drop (i + 1) xs
+drop_item xs i within = drop_here xs i (get_or xs i 0) within (any xs i 0 (get_or xs i 0) within)
+  where
+    any : (xs : List ℕ) (i d e : ℕ) → i < length xs → get_or xs i d ≡ get_or xs i e
+    any [] i d e within = absurd (omega (arith, within))
+    any (x ∷ xs) zero d e within = refl
+    any (x ∷ xs) (suc i) d e within = any xs i d e (omega (arith, within))
+
 pub drop_end : {A : Type 0} (xs : List A) (i : ℕ) → length xs ≤ i → drop i xs ≡ []
 drop_end [] zero behind = refl
 drop_end [] (suc i) behind = refl
