@@ -1,7 +1,10 @@
 mod Choices
 mod DueLaws
+mod Finding
 mod Into
 mod LevelAt
 mod MergeLaws
 mod Of
+mod PlaceLaws
+mod PutLaws
 mod Zips

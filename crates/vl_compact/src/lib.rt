@@ -12,7 +12,11 @@ mod inputs;
 mod laws;
 mod planning;
 mod range;
+mod ready;
+mod replacing;
 
 pub use inputs::Inputs;
 pub use laws::merges_are_as_ruled;
 pub use planning::{drained, planned};
+pub use ready::ReadyLevels;
+pub use replacing::ready_levels;
