@@ -5,6 +5,7 @@ pub mod Files
 pub mod Fit
 pub mod Flushing
 pub mod Held
+pub mod Installing
 pub mod Keeping
 pub mod Known
 pub mod Lent

@@ -1,15 +1,108 @@
 //! What an install wants of memory, and how it takes the files of a merge's tables back.
 
-ghost use Rattle.std.specs.Prelude.{◌≡◌, ◌+◌, ◌∷◌, [], ℕ, length, IfErr, IsErr, OnOk};
+ghost use Rattle.std.specs.Prelude.{◌≡◌, ◌+◌, ◌-◌, ◌^◌, ◌∷◌, [], ℕ, length, min, IfErr, IfOk, IsErr, OnOk};
+ghost use Rattle.std.specs.Option.{ForSome};
 ghost use Rattle.vl_compact.specs.Replacing.{HasRoom};
+ghost use Rattle.vl_disk.specs.Calls.{ChangesNothing};
+ghost use Rattle.vl_disk.specs.Disk.{Stands};
 ghost use Rattle.vl_disk.specs.Faults.{HasCause};
-ghost use Rattle.vl_disk.specs.Spare.{SameSpareElsewhere};
+ghost use Rattle.vl_disk.specs.Spare.{CanAppend, SameSpareElsewhere};
 ghost use Rattle.vl_disk.specs.declared.name.Name.TheVariants as names;
+ghost use Rattle.vl_engine.specs.Installing.{InstallsAll, IsReadyFor, StopsInstalling};
 ghost use Rattle.vl_engine.specs.Taking.{MayTake, MayTakeAll, StopsTaking, Takes, TakesBack};
+ghost use Rattle.vl_manifest.specs.Switching.{IsStagedFor};
 
-use vl_compact::{ReadyLevels, Synced};
+use crate::kept::Core;
+use std::alloc::Global;
+use vl_back::{StageFail, StagedInstall};
+use vl_compact::{Job, ReadyLevels, Synced, ready_levels};
 use vl_disk::{Disk, Name};
+use vl_manifest::{ManifestLog, StagedEdits};
 use vl_table::Table;
+use vl_version::{Base, ReplacedVersion};
+
+/// What an install is made of, before anything of it is written.
+#[derive(Drop)]
+pub struct ReadyInstall<H> {
+    pub staged: StagedInstall,
+    /// The version behind it, but for its levels.
+    pub version: ReplacedVersion<H>,
+    /// Its levels, but for the merge's tables.
+    pub levels: ReadyLevels<H>,
+}
+
+/// Takes all the memory that an install wants. The disk is as before, but for room that was made for the manifest's frame.
+pub fn ready_install<D: Disk>(
+    alloc: Global,
+    disk: &mut D,
+    core: &Core<D::Held>,
+    job: &Job<Base<D::Held, D::Reader>, D::Held, D::Writer>,
+) -> Result<ReadyInstall<D::Held>, StageFail>
+    ensures ready { IfOk result (IsReadyFor D.Held.bytes D.Writer.Writer core.now job.now) }
+
+    // Writing it will want no memory, and the room of other names stays, also where it was refused.
+    ensures append { IfOk result (λ ready. CanAppend (length ready.staged.edits.frame.items)
+        (D.spare disk.new (names.Manifest core.now.back.manifest.number))) }
+    ensures elsewhere { SameSpareElsewhere (names.Manifest core.now.back.manifest.number) (D.spare disk.old) (D.spare disk.new) }
+    ensures no_change { ChangesNothing D.Watched disk.old disk.new ⊥ }
+{
+    let inputs = job.input_numbers(alloc)?;
+    let made = job.made_numbers(alloc)?;
+    let levels = ready_levels(
+        alloc,
+        core.version.levels(),
+        job.target(),
+        &inputs,
+        job.first_key(),
+        made.len(),
+    )?;
+    let version = core.version.replaced(alloc)?;
+    let staged = core.back.stage_install(
+        alloc,
+        disk,
+        &inputs,
+        levels.level,
+        levels.position,
+        &made,
+        job.gone(0),
+    )?;
+    Ok(ReadyInstall {
+        staged,
+        version,
+        levels,
+    })
+}
+
+/// Takes the files of a merge's tables back and holds them, and then has the manifest say what was staged, by two changing
+/// calls. If it fails, the answer has the name of the file at which it did, and the manifest is not to be appended to any more.
+pub fn write_install<D: Disk>(
+    disk: &mut D,
+    manifest: &mut ManifestLog,
+    made: Vec<Synced<D::Writer>>,
+    levels: &mut ReadyLevels<D::Held>,
+    edits: &StagedEdits,
+) -> Result<(), Name>
+    requires may { MayTakeAll D.Watched D.Writer.Writer disk.old made.items }
+    requires room { HasRoom (length made.items) levels.old }
+    requires staged_for { IsStagedFor manifest.old edits.now }
+    requires stands { ForSome (D.told disk.old) (Stands (names.Manifest manifest.old.number)) }
+    requires append { CanAppend (length edits.now.frame.items) (D.spare disk.old (names.Manifest manifest.old.number)) }
+    ensures writes { OnOk result (InstallsAll D.Watched D.Held.bytes D.Writer.Writer made.items manifest.old.number
+        edits.now.frame.items disk.old disk.new levels.old levels.new) }
+    ensures stops { IfErr result (StopsInstalling D.Watched D.Held.bytes D.Writer.Writer made.items manifest.old.number
+        edits.now.frame.items disk.old disk.new levels.old levels.new) }
+    ensures cause { HasCause (D.faults disk.old) (D.faults disk.new) (IsErr result) }
+    ensures number { manifest.new.number ≡ manifest.old.number }
+    ensures longer { OnOk result
+        (manifest.new.length ≡ min (manifest.old.length + length edits.now.frame.items) (2 ^ 64 - 1)) }
+{
+    let name = Name::Manifest(manifest.number);
+    take_back(disk, made, levels)?;
+    match manifest.switch(disk, edits) {
+        Ok(()) => Ok(()),
+        Err(_) => Err(name),
+    }
+}
 
 /// Takes the files of tables back, holds each for readers, and puts the tables, in their order. It wants no memory. If one
 /// can't be held, the answer has its name.
