@@ -98,5 +98,6 @@ pub fn a_version_has_what_is_installed<H: HeldFile>()
         → IsBase b l h → IsTidy (layout_logs l) l h → Holds b l disk → CanInstall b l o made disk → HasLayout H.bytes before l
         → AreLevelsOf H.bytes after.behind.levels (installed o.job made l).levels → after.active ≡ before.active
         → after.behind.frozen.items ≡ before.behind.frozen.items
-        → AreSameLogs H.bytes before.behind.logs.items after.behind.logs.items → HasLayout H.bytes after (installed o.job made l) }
+        → AreSameLogs H.bytes before.behind.logs.items after.behind.logs.items
+        → HasLayout H.bytes after (installed o.job made l) }
 {}

@@ -42,7 +42,8 @@ less_is Less is = refl
 less_is Equal is = absurd cc
 less_is Greater is = absurd cc
 
-level_deeper : (n : ℕ) (ts : List laid.Table) (deeper : List (List laid.Table)) → level_at (n + 1) (ts ∷ deeper) ≡ level_at n deeper
+level_deeper : (n : ℕ) (ts : List laid.Table) (deeper : List (List laid.Table))
+    → level_at (n + 1) (ts ∷ deeper) ≡ level_at n deeper
 level_deeper n ts deeper =
     let off : (n + 1 == 0) ≡ false = grind (arith, nat_tests) in
     let back : n + 1 - 1 ≡ n = omega arith in
@@ -55,7 +56,8 @@ module _ {H : Type 0} (bytes : H → Option (List ℕ)) where
   first_is : (t : Table H) (x : laid.Table) → IsTableOf bytes t x → IsTrueTable x → (footer_of t).first ≡ x.first
   first_is t x is so = ap (λ (f : Foot). f.head.first) is.of.shape.foot ∙ sym (ap (λ (y : laid.Table). y.first) so)
 
-  level_apart : (ts : List (Table H)) (xs : List laid.Table) → AreTablesOf bytes ts xs → AllByRecursion IsTrueTable xs → IsApart xs
+  level_apart : (ts : List (Table H)) (xs : List laid.Table) → AreTablesOf bytes ts xs → AllByRecursion IsTrueTable xs
+      → IsApart xs
       → AreApart ts
   level_apart [] xs are so apart = tt
   level_apart (t ∷ []) xs are so apart = tt
@@ -106,8 +108,8 @@ module _ {H : Type 0} (bytes : H → Option (List ℕ)) where
     }
 
   -- So it is of an install that goes on over a disk.
-  pub laid_behind : (before after : Version H) (b : Base) (l : Layout) (h : History) (o : OpenJob) (made : Made) (disk : DiskState)
-      → IsBase b l h → IsTidy (layout_logs l) l h → Holds b l disk → CanInstall b l o made disk → HasLayout bytes before l
+  pub laid_behind : (before after : Version H) (b : Base) (l : Layout) (h : History) (o : OpenJob) (made : Made)
+      (disk : DiskState) → IsBase b l h → IsTidy (layout_logs l) l h → Holds b l disk → CanInstall b l o made disk → HasLayout bytes before l
       → AreLevelsOf bytes after.behind.levels (installed o.job made l).levels → after.active ≡ before.active
       → after.behind.frozen.items ≡ before.behind.frozen.items
       → AreSameLogs bytes before.behind.logs.items after.behind.logs.items → HasLayout bytes after (installed o.job made l)
