@@ -109,8 +109,8 @@ module _ {H : Type 0} (bytes : H → Option (List ℕ)) where
 
   -- So it is of an install that goes on over a disk.
   pub laid_behind : (before after : Version H) (b : Base) (l : Layout) (h : History) (o : OpenJob) (made : Made)
-      (disk : DiskState) → IsBase b l h → IsTidy (layout_logs l) l h → Holds b l disk → CanInstall b l o made disk → HasLayout bytes before l
-      → AreLevelsOf bytes after.behind.levels (installed o.job made l).levels → after.active ≡ before.active
+      (disk : DiskState) → IsBase b l h → IsTidy (layout_logs l) l h → Holds b l disk → CanInstall b l o made disk
+      → HasLayout bytes before l → AreLevelsOf bytes after.behind.levels (installed o.job made l).levels → after.active ≡ before.active
       → after.behind.frozen.items ≡ before.behind.frozen.items
       → AreSameLogs bytes before.behind.logs.items after.behind.logs.items → HasLayout bytes after (installed o.job made l)
   laid_behind before after b l h o made disk base tidy holds can has levels active frozen logs =
