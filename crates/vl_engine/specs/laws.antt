@@ -30,6 +30,7 @@ pub mod KeptLaws
 pub mod KnownLaws
 pub mod LaidBegun
 pub mod LaidFlush
+pub mod LaidInstall
 pub mod LaidLaws
 pub mod LaidRotate
 pub mod LaidTables
