@@ -25,6 +25,7 @@ use Rattle.vl_engine.specs.Writing.{WhileWriting, written}
 use Rattle.vl_engine.specs.declared.kept.Core.{Core}
 use Rattle.vl_engine.specs.laws.CommitLaws.{append_opens_again, append_shows, commit_base, commit_holds, sync_opens_again, sync_shows}
 use Rattle.vl_engine.specs.laws.HeldLaws.{held_opens_again, held_shown}
+use Rattle.vl_engine.specs.laws.KeptLaws.{begun_kept, table_log, written_elsewhere}
 use Rattle.vl_engine.specs.laws.RulingLaws.{IsAccepted}
 use Rattle.vl_engine.specs.laws.ShownLaws.{between_itself, between_wider}
 use Rattle.vl_engine.specs.laws.SparedRulings.{committed_spares}
@@ -243,4 +244,6 @@ module _ {D : Type 0} (g : Ghosts D) (watched : IsWatched g) where
         then : Represents bytes after (g.told new) (with_commit h (from_sorted t.writes)) (committed l h t).layout
         then = represents_committed bytes core after h l back t (g.told new) (written name whole held.state) held.base
             held.back_is told (commit_base held.base l h t held.is_base tidy spared_longer)
-            (commit_holds held.base l h t held.is_base tidy held.state held.holds (has_so held.is_base)) stands
+            (commit_holds held.base l h t held.is_base tidy held.state held.holds (has_so held.is_base))
+            (begun_kept name held.state (written name whole held.state) (written_elsewhere name whole held.state)
+            (λ n. table_log n l.active.number) held.base.state.next_table l.next_table held.begun) stands

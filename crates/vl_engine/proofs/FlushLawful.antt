@@ -1,5 +1,5 @@
 -- Over what an engine represents a flush is refused for want of memory alone.
-use Rattle.std.specs.Prelude.{◌≡◌, ◌≤◌, ◌<◌, ◌^◌, ℕ, List, [], ◌∷◌, map, Option, None, Some, Result, Ok, Err, IsErrAnd, IsErrOf}
+use Rattle.std.specs.Prelude.{◌≡◌, ◌≤◌, ◌<◌, ◌^◌, ◌+◌, ℕ, List, [], ◌∷◌, map, Option, None, Some, Result, Ok, Err, IsErrAnd, IsErrOf}
 use Rattle.std.specs.List.{AllZip}
 use Rattle.std.proofs.Common.{sym, ap, subst, ◌∙◌}
 use Rattle.vl_back.specs.Deciding.{MayFlush}
@@ -14,11 +14,12 @@ use Rattle.vl_engine.specs.Laid.{IsMemtableOf}
 use Rattle.vl_engine.specs.Represents.{IsHeld, Represents}
 use Rattle.vl_engine.specs.declared.kept.Core.{Core}
 use Rattle.vl_engine.specs.laws.FlushApplies.{flush_applies, flush_spells}
-use Rattle.vl_engine.specs.laws.FlushLaws.{edits_of}
+use Rattle.vl_engine.specs.laws.FlushLaws.{edits_of, flush_either}
 use Rattle.vl_engine.specs.laws.FlushRulings.{flush_waits}
 use Rattle.vl_engine.specs.laws.LaidFlush.{oldest_entries}
 use Rattle.vl_engine.specs.laws.WaitingLaws.{waiting_edits}
-use Rattle.vl_layout.specs.Sources.{oldest}
+use Rattle.vl_layout.specs.Rulings.Flush.{flushed}
+use Rattle.vl_layout.specs.Sources.{head, oldest}
 use Rattle.vl_layout.specs.declared.layout.Layout.{Layout}
 use Rattle.vl_layout.specs.declared.segment.Segment.{Segment}
 use Rattle.vl_manifest.specs.States.{next_state}
@@ -91,8 +92,7 @@ module _ {H : Type 0} (bytes : H → Option (List ℕ)) (core : Core H) (told : 
   pub switch_applies : 1 ≤ core.back.next_log → core.back.next_log < 2 ^ 32
       → (state : ManifestState) × (next_state (flush_switch core.front.log.number core.back) core.back.state ≡ Some state)
   switch_applies first fits =
-      let table : core.back.state.next_table ≡ l.next_table =
-      ap (λ (s : ManifestState). s.next_table) held.back_is.state ∙ held.back_is.next_table in
+      let table : core.back.state.next_table ≡ l.next_table = ap (λ (s : ManifestState). s.next_table) held.back_is.state in
       let applies = flush_applies held.base l h waits.0 held.state held.is_base is.stands.tidy held.holds waits.1
       held.back_is.next_table (subst (λ (n : ℕ). n ≤ max_file_number) table may.table)
       (subst (λ (n : ℕ). 1 ≤ n) held.back_is.next_log first) (subst (λ (n : ℕ). n < 2 ^ 32) held.back_is.next_log fits) in (
@@ -100,5 +100,8 @@ module _ {H : Type 0} (bytes : H → Option (List ℕ)) (core : Core H) (told : 
         ap (λ (es : List Edit). next_state es core.back.state)
             (ap (λ (n : ℕ). flush_switch n core.back) is.stands.fronts.number
             ∙ waiting_edits core.back held.base l waits.0 held.back_is waits.1)
-            ∙ ap (next_state (edits_of l waits.0)) held.back_is.state ∙ applies.1,
+            ∙ ap (next_state (edits_of l waits.0)) held.back_is.state
+            ∙ flush_either held.base.state l.next_table (head (flushed l waits.0)) (flushed l waits.0).covered l.next_log
+            (l.next_table + 1) l.next_table
+            ∙ applies.1,
       )

@@ -35,10 +35,11 @@ use Rattle.vl_engine.specs.Shown.{LeavesBetween}
 use Rattle.vl_engine.specs.Stepping.{AreLogFiles, HasNumbers, LeavesNumbers}
 use Rattle.vl_engine.specs.declared.kept.Core.{Core}
 use Rattle.vl_engine.specs.laws.FlushBase.{before_then}
-use Rattle.vl_engine.specs.laws.FlushLaws.{CanFlush, WhileFlushing, base_beside, base_mid, base_then, bytes_of, edits_of, files_mid, files_then, final, flush_holds, flush_leaves, later, memtables, mid, state_is, tidy_then}
+use Rattle.vl_engine.specs.laws.FlushLaws.{CanFlush, WhileFlushing, base_beside, base_mid, base_then, bytes_of, edits_of, files_mid, files_then, final, flush_either, flush_holds, flush_leaves, later, memtables, mid, state_is, tidy_then}
 use Rattle.vl_engine.specs.laws.FlushRulings.{flush_made}
 use Rattle.vl_engine.specs.laws.FlushTidy.{flush_tidy, stays}
 use Rattle.vl_engine.specs.laws.HeldLaws.{held_opens_again}
+use Rattle.vl_engine.specs.laws.KeptLaws.{none_drawn}
 use Rattle.vl_engine.specs.laws.LaidFlush.{laid_flushed, made_table, oldest_entries}
 use Rattle.vl_engine.specs.laws.OpensAgain.{flush_opens_again}
 use Rattle.vl_engine.specs.laws.ShownLaws.{between_itself}
@@ -51,7 +52,7 @@ use Rattle.vl_layout.specs.Decides.{Answered, Effects, Failed, as_before}
 use Rattle.vl_layout.specs.Logs.{memtable}
 use Rattle.vl_layout.specs.Ruling.{Stepped, halted_at}
 use Rattle.vl_layout.specs.Rulings.Flush.{flushed}
-use Rattle.vl_layout.specs.Sources.{oldest}
+use Rattle.vl_layout.specs.Sources.{head, oldest}
 use Rattle.vl_layout.specs.Start.{newest_first}
 use Rattle.vl_layout.specs.Tidy.{IsTidy}
 use Rattle.vl_layout.specs.TidyLevels.{AreLevels}
@@ -83,7 +84,7 @@ use Rattle.vl_table.specs.declared.table.Table.{Table}
 pub numbers_held : (back : Back) (b : Base) (l : Layout) → IsBack back b l → HasNumbers back l
 numbers_held back b l is = record {
   next_log = is.next_log;
-  next_table = ap (λ (s : ManifestState). s.next_table) is.state ∙ is.next_table;
+  next_table = ap (λ (s : ManifestState). s.next_table) is.state;
   waiting = is.waiting;
 }
 
@@ -208,7 +209,7 @@ module _ {D H : Type 0} (g : Ghosts D) (watched : IsWatched g) (bytes : H → Op
   tidy = is.stands.tidy
 
   table_is : before.back.state.next_table ≡ l.next_table
-  table_is = ap (λ (x : ManifestState). x.next_table) held.back_is.state ∙ held.back_is.next_table
+  table_is = ap (λ (x : ManifestState). x.next_table) held.back_is.state
 
   manifest_is : before.back.manifest.number ≡ b.manifest.number
   manifest_is = ap (λ (x : ManifestLog). x.number) held.back_is.manifest
@@ -224,7 +225,8 @@ module _ {D H : Type 0} (g : Ghosts D) (watched : IsWatched g) (bytes : H → Op
   table_fits = subst (λ (f : ℕ). IsTable f l.next_table (map placed (memtable s))) spelled_table.format spelled_table.shape.table
 
   makes : next_state (edits_of l s) b.state ≡ Some flush.state
-  makes = ap (next_state (edits_of l s)) (sym held.back_is.state)
+  makes = sym (flush_either b.state l.next_table (head (flushed l s)) (flushed l s).covered l.next_log (l.next_table + 1) l.next_table)
+      ∙ ap (next_state (edits_of l s)) (sym held.back_is.state)
       ∙ ap (λ (es : List Edit). next_state es before.back.state) (sym edits_are) ∙ of.is.says
 
   -- what was staged is what is asked of a flush
@@ -317,6 +319,9 @@ module _ {D H : Type 0} (g : Ghosts D) (watched : IsWatched g) (bytes : H → Op
         ∙ ap (λ (m : ManifestLog). m.length + length flush.edits.frame.items) held.back_is.manifest
         ∙ ap (λ (frame : List ℕ). b.manifest.length + length frame) frame_is
 
+    next_then : flush.state.next_table ≡ l.next_table + 1
+    next_then = ap (λ (x : ManifestState). x.next_table) (state_is b l h s held.state held.is_base tidy held.holds can)
+
     held_then : IsHeld after.back (g.told new) h (flushed l s)
     held_then = record {
       state = final b l h s held.state held.is_base tidy held.holds can;
@@ -326,13 +331,15 @@ module _ {D H : Type 0} (g : Ghosts D) (watched : IsWatched g) (bytes : H → Op
       back_is = record {
         manifest = same_log after.back.manifest (later b l h s held.state held.is_base tidy held.holds can).manifest
             (back.number ∙ manifest_is) long_then;
-        state = back.state;
+        state = back.state ∙ ap (λ (n : ℕ). record flush.state { next_table = n }) next_then;
         next_log = back.next_log ∙ held.back_is.next_log;
-        next_table = ap (λ (x : ManifestState). x.next_table) (state_is b l h s held.state held.is_base tidy held.holds can);
+        next_table = omega (arith, next_then);
         waiting = subst (λ (ws : List Waiting). AreWaiting (flushed l s).covered ws (newest_first (flushed l s).frozen))
             (sym back.waiting) (waiting_dropped before.back b l s held.back_is first);
       };
       holds = flush_holds b l h s held.state held.is_base tidy held.holds can numbered;
+      begun = none_drawn flush.state.next_table (l.next_table + 1) (final b l h s held.state held.is_base tidy held.holds can)
+          (omega (arith, next_then));
     }
 
     pub carries_flushed : g.calls new ≡ after_calls 5 (g.calls writes.mid) → StandsFor bytes after h (flushed l s)

@@ -7,6 +7,7 @@ use Rattle.vl_disk.specs.Disk.{IsChangedBy}
 use Rattle.vl_disk.specs.DiskState.{DiskState}
 use Rattle.vl_disk.specs.Faults.{after_calls}
 use Rattle.vl_disk.specs.Moments.{While, goes_by}
+use Rattle.vl_disk.specs.declared.name.Name.TheVariants as names
 use Rattle.vl_disk.specs.declared.name.Name.{Name}
 use Rattle.vl_disk.specs.declared.watched.Watched.{Ghosts}
 use Rattle.vl_engine.proofs.Carrying.{IsWatched, looked}
@@ -26,6 +27,7 @@ use Rattle.vl_engine.specs.Stepping.{LeavesNumbers}
 use Rattle.vl_engine.specs.declared.kept.Core.{Core}
 use Rattle.vl_engine.specs.laws.HeldLaws.{held_opens_again}
 use Rattle.vl_engine.specs.laws.KeepLaws.{CanKeep, base_then, edits_of, files_then, final, keep_holds, keep_leaves, keep_made, keep_opens_again, kept_state, later, tidy_then}
+use Rattle.vl_engine.specs.laws.KeptLaws.{begun_kept, table_manifest, written_elsewhere}
 use Rattle.vl_engine.specs.laws.ShownLaws.{between_itself}
 use Rattle.vl_engine.specs.laws.SparedSteps.{spares_keeping}
 use Rattle.vl_engine.specs.laws.SwitchLaws.{switch_frame, switching_says}
@@ -102,7 +104,7 @@ pub laid_kept : {H : Type 0} (bytes : H → Option (List ℕ)) (version : Versio
 laid_kept bytes version h l v has = record {
   active = has.active;
   frozen = has.frozen;
-  tables_are = has.tables_are;
+  levels = has.levels;
   in_order = has.in_order;
   logs = has.logs;
   told = has.told;
@@ -210,7 +212,7 @@ module _ {D H : Type 0} (g : Ghosts D) (watched : IsWatched g) (bytes : H → Op
         ∙ ap (λ (m : ManifestLog). m.length + length staged.frame.items) held.back_is.manifest
         ∙ ap (λ (frame : List ℕ). b.manifest.length + length frame) frame_is
 
-    state_then : after.back.state ≡ kept_state b.state v (keeping v h l).since
+    state_then : after.back.state ≡ record (kept_state b.state v (keeping v h l).since) { next_table = l.next_table }
     state_then = back.state
         ∙ ap (λ (n : ℕ). kept_state before.back.state v n) (since_is before before h l v staged is.stands.fronts)
         ∙ ap (λ (s : ManifestState). kept_state s v (keeping v h l).since) held.back_is.state
@@ -231,6 +233,9 @@ module _ {D H : Type 0} (g : Ghosts D) (watched : IsWatched g) (bytes : H → Op
             held.back_is.waiting;
       };
       holds = keep_holds b l h v held.state held.is_base tidy held.holds can;
+      begun = begun_kept (names.Manifest b.manifest.number) held.state (final b l h v held.state held.is_base tidy held.holds can)
+          (written_elsewhere (names.Manifest b.manifest.number) (switch_frame b (edits_of l h v)) held.state)
+          (λ n. table_manifest n b.manifest.number) b.state.next_table l.next_table held.begun;
     }
 
     pub carries_kept : g.calls new ≡ after_calls 2 (g.calls writes.mid) → StandsFor bytes after h (keeping v h l)

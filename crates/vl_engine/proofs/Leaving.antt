@@ -138,7 +138,7 @@ pub base_numbers : (back : Back) (b : Base) (l : Layout) (h : History) → IsBas
     → Holds b l disk → IsBack back b l → back.state.next_log ≤ back.next_log → (o : Opening) → o.state ≡ b.state
     → (o.state.next_log ≤ l.next_log) × (o.state.next_table ≤ l.next_table + 1) × (o.state.head ≤ l.next_log)
 base_numbers back b l h base tidy disk holds is within o same =
-    let log = ap (λ (x : ManifestState). x.next_log) (same ∙ sym is.state) in
+    let log = ap (λ (x : ManifestState). x.next_log) same ∙ sym (ap (λ (x : ManifestState). x.next_log) is.state) in
     let next = is.next_log in
     let table = ap (λ (x : ManifestState). x.next_table) same in
     let given = is.next_table in

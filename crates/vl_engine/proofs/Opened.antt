@@ -15,7 +15,8 @@ use Rattle.vl_disk.specs.declared.name.Name.TheVariants as names
 use Rattle.vl_disk.specs.declared.watched.Watched.{Ghosts}
 use Rattle.vl_engine.specs.Begun.{base_begun}
 use Rattle.vl_engine.specs.Fit.{IsFitFor}
-use Rattle.vl_engine.specs.Opening.{AreLeveled, IsBackAtStart, IsCoreOf, IsDurable, each_level, recovered, state_then}
+use Rattle.vl_engine.specs.Laid.{by_level}
+use Rattle.vl_engine.specs.Opening.{AreLeveled, IsBackAtStart, IsCoreOf, IsDurable, recovered, state_then}
 use Rattle.vl_engine.specs.Represents.{Fronts, Represents, StandsFor, file_of}
 use Rattle.vl_engine.specs.Shown.{LeavesBetween, Shown}
 use Rattle.vl_engine.specs.declared.kept.Core.{Core}
@@ -24,6 +25,7 @@ use Rattle.vl_engine.specs.laws.BegunLaws.{one_opening}
 use Rattle.vl_engine.specs.laws.BegunShows.{begun_shows}
 use Rattle.vl_engine.specs.laws.BegunTidy.{begun_tidy}
 use Rattle.vl_engine.specs.laws.FrontLaws.{front_known, front_started}
+use Rattle.vl_engine.specs.laws.KeptLaws.{none_drawn}
 use Rattle.vl_engine.specs.laws.LaidBegun.{begun_has, leveled_tables}
 use Rattle.vl_engine.specs.laws.ShownLaws.{between_itself, opening_shown}
 use Rattle.vl_engine.specs.laws.StartLaws.{before_found, newest_twice}
@@ -102,7 +104,7 @@ module _ {H : Type 0} where
 
   -- levels that are made of tables have what was found of these
   leveled_found : (levels : List (Vec (Table H) Global)) (made : Levels H) → AreLeveled levels made
-      → map found_list (each_level made) ≡ map found_level levels
+      → map found_list (by_level made) ≡ map found_level levels
   leveled_found [] made is = absurd is
   leveled_found (v ∷ levels) made is =
       (λ i. found_level (is.0 i) ∷ map found_list (is.1 i))
@@ -269,13 +271,15 @@ module _ {D H : Type 0} (parts : Parts D H) (room : ℕ) (core : Core H) (made :
             manifest = made.manifest;
             state = back.state;
             next_log = back.next_log;
-            next_table = refl;
+            next_table = omega arith;
             waiting = subst (AreWaiting found.opening.state.covered core.back.waiting.items)
                 (sym (newest_twice found.opening.logs)
                 ∙ sym (ap (λ (ss : List Segment). newest_first (newest_first ss)) (before_found found))) back.waiting;
           };
           holds = repaired_layout found start begins plan is_plan parts.manifest numbered its_long h shown room
               (each_lawful (repaired plan start) done.told);
+          begun = none_drawn (state_then found).next_table (state_then found).next_table (repaired done.repairing.plan start)
+              (omega arith);
         };
       }
         where

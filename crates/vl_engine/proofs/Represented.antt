@@ -5,7 +5,7 @@ use Rattle.std.proofs.Common.{sym, subst}
 use Rattle.vl_back.specs.declared.back.Back.{Back}
 use Rattle.vl_disk.specs.DiskState.{DiskState}
 use Rattle.vl_disk.specs.declared.name.Name.{Name}
-use Rattle.vl_engine.specs.Held.{Base, Holds, IsBase}
+use Rattle.vl_engine.specs.Held.{AreBegun, Base, Holds, IsBase}
 use Rattle.vl_engine.specs.Represents.{IsBack, IsHeld, Represents, StandsFor, file_of}
 use Rattle.vl_engine.specs.declared.kept.Core.{Core}
 use Rattle.vl_layout.specs.Ruling.{halted_at}
@@ -52,6 +52,7 @@ held_live back told h l live held =
         durable = d.durable;
         lawful = d.lawful;
       };
+      begun = held.begun;
     }
 
 module _ {H : Type 0} (bytes : H → Option (List ℕ)) (core after : Core H) (h : History) (l : Layout)
@@ -78,10 +79,10 @@ module _ {H : Type 0} (bytes : H → Option (List ℕ)) (core after : Core H) (h
   -- Behind a commit: the same base is held with it.
   pub represents_committed : (t : Transaction) (new : Option DiskState) (state : DiskState) (b : Base)
       → IsBack core.back b l → new ≡ Some state → IsBase b (committed l h t).layout (with_commit h (from_sorted t.writes))
-      → Holds b (committed l h t).layout state
+      → Holds b (committed l h t).layout state → AreBegun b.state.next_table l.next_table state
       → StandsFor bytes after (with_commit h (from_sorted t.writes)) (committed l h t).layout
       → Represents bytes after new (with_commit h (from_sorted t.writes)) (committed l h t).layout
-  represents_committed t new state b is_back told base holds stands = record {
+  represents_committed t new state b is_back told base holds begun stands = record {
     stands = stands;
     held = λ running. record {
       state = state;
@@ -97,6 +98,7 @@ module _ {H : Type 0} (bytes : H → Option (List ℕ)) (core after : Core H) (h
             waiting = is_back.waiting;
           });
       holds = holds;
+      begun = begun;
     };
   }
 

@@ -28,6 +28,7 @@ use Rattle.vl_engine.specs.Shown.{LeavesBetween}
 use Rattle.vl_engine.specs.Stepping.{LeavesNumbers}
 use Rattle.vl_engine.specs.declared.kept.Core.{Core}
 use Rattle.vl_engine.specs.laws.HeldLaws.{held_opens_again, held_shown}
+use Rattle.vl_engine.specs.laws.KeptLaws.{begun_kept, table_log}
 use Rattle.vl_engine.specs.laws.LaidRotate.{laid_rotated, rotated_tidy}
 use Rattle.vl_engine.specs.laws.RotateLaws.{rotate_base, rotate_holds, rotate_leaves, rotate_opens_again, rotated_base}
 use Rattle.vl_engine.specs.laws.RotateRulings.{halted_ruled, idle_ruled, is_filled, log_used_up, made_ruled, rotate_made, version_used_up}
@@ -52,6 +53,7 @@ use Rattle.vl_recover.specs.crash.Alike.{IsLeft}
 use Rattle.vl_recover.specs.crash.Held.{HoldsManifest}
 use Rattle.vl_recover.specs.crash.Starts.{MayOpen}
 use Rattle.vl_recover.specs.laws.crash.AppendLaws.{last_held, manifest_kept}
+use Rattle.vl_recover.specs.laws.crash.OneName.{made_elsewhere}
 use Rattle.vl_recover.specs.laws.opening.HeldLaws.{held_state}
 use Rattle.vl_recover.specs.opening.Opening.{Opening, Opens}
 use Rattle.vl_recover.specs.opening.HeldFiles.{AreWaiting}
@@ -201,6 +203,7 @@ module _ {D H : Type 0} (g : Ghosts D) (watched : IsWatched g) (bytes : H → Op
               held.back_is.waiting;
         };
         holds = held.holds;
+        begun = held.begun;
       };
     });
     called = λ a said. absurd cc;
@@ -305,6 +308,9 @@ module _ {D H : Type 0} (g : Ghosts D) (watched : IsWatched g) (bytes : H → Op
                 is.stands.fronts.number is.stands.fronts.front.last);
           };
           holds = rotate_holds held.base l h held.is_base tidy held.state held.holds numbered;
+          begun = begun_kept (names.Log l.next_log) held.state state_then
+              (made_elsewhere (names.Log l.next_log) (log_header log_format l.next_log) held.state) (λ n. table_log n l.next_log)
+              held.base.state.next_table l.next_table held.begun;
         }
 
     -- The manifest is as it was, whatever a crash leaves.

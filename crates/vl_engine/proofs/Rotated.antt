@@ -23,6 +23,7 @@ use Rattle.vl_layout.specs.Ruling.{Exhausted, Halted, Idle, Ruling, StepAnswer, 
 use Rattle.vl_layout.specs.Rulings.Rotate.{rotate_ruling}
 use Rattle.vl_layout.specs.Tidy.{IsTrueLog}
 use Rattle.vl_layout.specs.declared.layout.Layout.{Layout}
+use Rattle.vl_manifest.specs.declared.state.ManifestState.{ManifestState}
 use Rattle.vl_model.specs.History.{History}
 use Rattle.vl_model.specs.declared.counter.Counter.TheVariants as counters
 
@@ -49,7 +50,7 @@ pub numbers_held : (back : Back) (told : Option DiskState) (h : History) (l : La
     → l.halted ≡ None → HasNumbers back l
 numbers_held back told h l held running =
     let is = (held running).back_is in
-    record { next_log = is.next_log; next_table = ap (λ s. s.next_table) is.state ∙ is.next_table; waiting = is.waiting }
+    record { next_log = is.next_log; next_table = ap (λ (s : ManifestState). s.next_table) is.state; waiting = is.waiting }
 
 -- so it is with whatever is answered where none is begun
 pub ruled_refused : {H : Type 0} (core : Core H) (h : History) (l : Layout) → Fronts core h l

@@ -1,8 +1,8 @@
 -- What a disk holds of an engine's layout: the manifest, the tables and the logs, all of them durable.
-use Rattle.std.specs.Prelude.{◌≡◌, ◌<◌, ◌^◌, ℕ, List, [], ◌∷◌, ◌++◌, Ok, map}
+use Rattle.std.specs.Prelude.{◌≡◌, ◌≤◌, ◌<◌, ◌^◌, ℕ, List, [], ◌∷◌, ◌++◌, Ok, map}
 use Rattle.std.specs.List.{AllByRecursion, filter}
 use Rattle.vl_disk.specs.DiskState.{DiskState, IsLawful}
-use Rattle.vl_disk.specs.declared.name.Name.TheVariants.{Manifest}
+use Rattle.vl_disk.specs.declared.name.Name.TheVariants.{Manifest, Table}
 use Rattle.vl_engine.specs.Files.{HoldsLog, HoldsTable, found_levels}
 use Rattle.vl_engine.specs.Pointed.{IsFramedAmong}
 use Rattle.vl_engine.specs.Spared.{at_rest, Spares}
@@ -70,6 +70,10 @@ pub record HoldsFiles (b : Base) (l : Layout) (disk : DiskState) : Type 0 where
   pub logs : HoldsLogs b.state.head (logs_from b l) disk
   pub tables : AllByRecursion (HoldsTable disk) (tables l)
   pub flushed : AllByRecursion (HoldsLog disk) l.flushed
+
+-- Each of the numbers from one up to another is that of a table that was begun on this disk, whether it still stands or not.
+abbrev pub AreBegun : (from to : ℕ) → DiskState → Type 0
+AreBegun from to disk = (n : ℕ) → from ≤ n → n < to → IsNowhere disk (Table n) → ⊥
 
 -- The disk holds the layout, and nothing that isn't durable.
 pub record Holds (b : Base) (l : Layout) (disk : DiskState) : Type 0 where

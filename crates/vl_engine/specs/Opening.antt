@@ -7,6 +7,7 @@ use Rattle.vl_disk.specs.DiskState.{DiskState}
 use Rattle.vl_disk.specs.Started.{IsRead}
 use Rattle.vl_disk.specs.declared.watched.Watched.{Ghosts}
 use Rattle.vl_engine.specs.Begun.{recovered_as}
+use Rattle.vl_engine.specs.Laid.{by_level}
 use Rattle.vl_engine.specs.Shown.{Shown}
 use Rattle.vl_engine.specs.declared.engine.Engine.{Engine}
 use Rattle.vl_engine.specs.declared.kept.Core.{Core}
@@ -111,10 +112,6 @@ AreLeveled [] levels = ⊥
 AreLeveled {H} (tables ∷ others) levels =
     (levels.newest ≡ tables) × (levels.deeper.items ≡ map (λ (v : Vec (Table H) Global). v.items) others)
 
--- the tables of each level, those of level 0 first
-abbrev pub each_level : {H : Type 0} → Levels H → List (List (Table H))
-each_level levels = levels.newest.items ∷ levels.deeper.items
-
 -- ---- what the engine keeps then
 
 -- What an engine keeps that was just opened is what was found. So it is also where reads show no history: an opening checks no
@@ -135,7 +132,7 @@ pub record IsCoreOf {H : Type 0} (bytes : H → Option (List ℕ)) {read : Image
   -- the frozen ones are those of the logs that were found with frames, the newest first
   pub frozen : map frozen_log core.version.behind.frozen.items ≡ map held_log (newest_first found.opening.logs)
   -- its tables are those that were found, level by level, held as reads give them
-  pub levels : map found_list (each_level core.version.behind.levels) ≡ found.opening.levels
+  pub levels : map found_list (by_level core.version.behind.levels) ≡ found.opening.levels
   pub tables : AreReadTables bytes read (tables_in core.version)
   -- and its sealed logs are those that stay, but for the one that takes commits
   pub sealed : AreHeldLogs bytes found core.version.behind.logs.items

@@ -8,7 +8,7 @@ use Rattle.vl_conflict.specs.Recent.{Remembers}
 use Rattle.vl_disk.specs.DiskState.{DiskState}
 use Rattle.vl_disk.specs.declared.name.Name.TheVariants as names
 use Rattle.vl_disk.specs.declared.name.Name.{Name}
-use Rattle.vl_engine.specs.Held.{Base, Holds, IsBase}
+use Rattle.vl_engine.specs.Held.{AreBegun, Base, Holds, IsBase}
 use Rattle.vl_engine.specs.Laid.{HasLayout}
 use Rattle.vl_engine.specs.Pointed.{layout_logs}
 use Rattle.vl_engine.specs.Spared.{Spares}
@@ -73,9 +73,11 @@ pub record StandsFor {H : Type 0} (bytes : H → Option (List ℕ)) (core : Core
 -- What steps on files need is that of the base and the layout: the manifest that is appended to is the one that stands.
 pub record IsBack (back : Back) (b : Base) (l : Layout) : Type 0 where
   pub manifest : back.manifest ≡ b.manifest
-  pub state : back.state ≡ b.state
+  -- What is kept of what the manifest says has the next table's number, which may be above the manifest's own: numbers of
+  -- tables may be drawn ahead of the switch that names these.
+  pub state : back.state ≡ record b.state { next_table = l.next_table }
   pub next_log : back.next_log ≡ l.next_log
-  pub next_table : b.state.next_table ≡ l.next_table
+  pub next_table : b.state.next_table ≤ l.next_table
   -- a layout has its frozen logs the newest first
   pub waiting : AreWaiting l.covered back.waiting.items (newest_first l.frozen)
 
@@ -87,6 +89,8 @@ pub record IsHeld (back : Back) (told : Option DiskState) (h : History) (l : Lay
   pub is_base : IsBase base l h
   pub back_is : IsBack back base l
   pub holds : Holds base l state
+  -- what was drawn ahead of the manifest are numbers of tables that were begun
+  pub begun : AreBegun base.state.next_table l.next_table state
 
 -- The engine represents the history and the layout, in memory and, unless it is halted, on the disk. So a crash now leaves
 -- an image that shows the history at its last number.

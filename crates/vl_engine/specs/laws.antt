@@ -22,6 +22,7 @@ pub mod LaidBegun
 pub mod LaidFlush
 pub mod LaidLaws
 pub mod LaidRotate
+pub mod LaidTables
 pub mod LedLaws
 pub mod LiveLaws
 pub mod LogEntries

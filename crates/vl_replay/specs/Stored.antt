@@ -1,7 +1,7 @@
 -- What a disk holds of a state.
 use Rattle.std.specs.Prelude.{◌≡◌, ◌≤◌, ◌+◌, IsTrue}
 use Rattle.vl_disk.specs.DiskState.{DiskState}
-use Rattle.vl_engine.specs.Held.{Base, Holds, IsBase}
+use Rattle.vl_engine.specs.Held.{AreBegun, Base, Holds, IsBase}
 use Rattle.vl_engine.specs.Pointed.{layout_logs}
 use Rattle.vl_engine.specs.Shown.{Shown}
 use Rattle.vl_layout.specs.Tidy.{IsTidy}
@@ -18,12 +18,15 @@ pub record IsStored (s : State) (disk : DiskState) : Type 0 where
   pub is_base : IsBase base s.store.layout (history_of s)
   pub holds : Holds base s.store.layout disk
   pub tidy : IsTidy (layout_logs s.store.layout) s.store.layout (history_of s)
-  pub next_table : base.state.next_table ≡ s.store.layout.next_table
+  -- The manifest gives the next table the state's number; or a lesser one, above which each was drawn for a table that was begun.
+  pub next_table : base.state.next_table ≤ s.store.layout.next_table
+  pub begun : AreBegun base.state.next_table s.store.layout.next_table disk
   -- no file passes the number that the state has for that,
   pub numbered : AreNumberedUpTo s.files disk
   -- and the manifest gives at most the next ones, as a rotation does
   pub next : GivesUpTo s.files base.state
   pub next_log : s.store.layout.next_log ≤ s.files + 1
+  pub next_drawn : s.store.layout.next_table ≤ s.files + 1
 
 -- A line that was stopped was a commit, a rotation or a flush.
 abbrev pub IsStopped : Stopping

@@ -170,12 +170,12 @@ module _ (b : Base) (l : Layout) (h : History) (s : Segment) (disk : DiskState) 
 
   -- ---- its table
 
-  module _ (next_table : b.state.next_table ≡ l.next_table) (table_fits : l.next_table ≤ max_file_number)
+  module _ (next_table : b.state.next_table ≤ l.next_table) (table_fits : l.next_table ≤ max_file_number)
       (log_first : 1 ≤ l.next_log) (log_fits : l.next_log < 2 ^ 32) where
     table_number : is_file_number l.next_table ≡ true
     table_number =
-        let low = subst (λ (n : ℕ). 1 ≤ n) next_table in_range.table_first in
-        by l.next_table low table_fits
+        let first = in_range.table_first in
+        by l.next_table (omega (arith, first, next_table)) table_fits
       where
         by : (n : ℕ) → 1 ≤ n → n ≤ max_file_number → is_file_number n ≡ true
         by n low high = grind (arith, nat_tests, low, high)

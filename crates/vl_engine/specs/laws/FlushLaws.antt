@@ -93,6 +93,39 @@ module _ (s : ManifestState) (newest : List ℕ) (deeper : List (List ℕ)) (tab
       → u ≡ flushed_state s table head_then covered log next newest deeper
   flush_made is = first (is_file_number table && not (is_in table (all_tables s.levels))) is
 
+-- It makes the same of a state with another next table, since it says itself which number the next table gets.
+module _ (s : ManifestState) (n head_then covered log next : ℕ) where
+  abbrev other : ManifestState
+  other = record s { next_table = n }
+
+  abbrev last_edits : List Edit
+  last_edits = Head head_then covered ∷ Next log next ∷ []
+
+  -- behind the Add and the Head
+  named : (levels : List (List ℕ)) (b : Bool)
+      → finish (then_applied (all_applied (Next log next ∷ []))
+      (given_if b (record (with_levels (as_draft other) levels) { head = Some (head_then, covered) })))
+      ≡ finish (then_applied (all_applied (Next log next ∷ []))
+      (given_if b (record (with_levels (as_draft s) levels) { head = Some (head_then, covered) })))
+  named levels true = refl
+  named levels false = refl
+
+  -- behind the Add
+  added : (put : Option (List (List ℕ))) → finish (then_applied (all_applied last_edits) (option_map (with_levels (as_draft other)) put))
+      ≡ finish (then_applied (all_applied last_edits) (option_map (with_levels (as_draft s)) put))
+  added None = refl
+  added (Some levels) = named levels (is_head head_then covered)
+
+  pub flush_either : (table : ℕ) → next_state (flush_edits table head_then covered log next) other
+      ≡ next_state (flush_edits table head_then covered log next) s
+  flush_either table = by (is_file_number table && not (is_in table (all_tables s.levels))) (put_at 0 0 table s.levels)
+    where
+      by : (b : Bool) (put : Option (List (List ℕ)))
+          → finish (then_applied (all_applied last_edits) (if b then option_map (with_levels (as_draft other)) put else None))
+          ≡ finish (then_applied (all_applied last_edits) (if b then option_map (with_levels (as_draft s)) put else None))
+      by true put = added put
+      by false put = refl
+
 -- ---- a flush
 
 -- the edits of its switch

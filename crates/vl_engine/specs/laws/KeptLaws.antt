@@ -1,19 +1,21 @@
 -- What a disk holds stays where it changes under one name that isn't needed.
-use Rattle.std.specs.Prelude.{◌≡◌, ◌≢◌, ◌≤◌, ℕ, List, [], ◌∷◌, length, refl}
+use Rattle.std.specs.Prelude.{◌≡◌, ◌≢◌, ◌≤◌, ◌<◌, ℕ, List, [], ◌∷◌, length, refl}
 use Rattle.std.specs.List.{AllByRecursion}
-use Rattle.std.proofs.Common.{sym, subst, ◌∙◌, arith, ⊎_elim}
+use Rattle.std.proofs.Common.{◌⊎◌, sym, subst, ◌∙◌, arith, inl, inr, ⊎_elim}
+use Rattle.std.proofs.lemmas.Bool.{cases_lt}
 use Rattle.vl_disk.specs.Changes.{SameElsewhere, changed_elsewhere}
 use Rattle.vl_disk.specs.Crash.{WhileAppending, WhileSyncing}
 use Rattle.vl_disk.specs.DiskState.{DiskState, appended, lengthened, synced, synced_file}
 use Rattle.vl_disk.specs.declared.name.Name.{Name}
 use Rattle.vl_disk.specs.declared.name.Name.TheVariants.{Log, Manifest, Table}
 use Rattle.vl_engine.specs.Files.{HoldsLog, HoldsTable}
-use Rattle.vl_engine.specs.Held.{Base, HoldsBase, HoldsFiles, HoldsSources, logs_from}
+use Rattle.vl_engine.specs.Held.{AreBegun, Base, HoldsBase, HoldsFiles, HoldsSources, logs_from}
 use Rattle.vl_layout.specs.Sources.{tables}
 use Rattle.vl_layout.specs.Tidy.{sealed}
 use Rattle.vl_layout.specs.declared.layout.Layout.{Layout}
 use Rattle.vl_layout.specs.declared.segment.Segment.{Segment}
 use Rattle.vl_layout.specs.declared.table.Table as laid
+use Rattle.vl_recover.specs.crash.Held.{IsNowhere}
 use Rattle.vl_recover.specs.laws.crash.OneName.{elsewhere_then}
 use Rattle.vl_recover.specs.laws.opening.LeadsLaws.{logs_kept, nowhere_kept}
 
@@ -70,6 +72,28 @@ module _ (name : Name) (old now : DiskState) (same : SameElsewhere name old now)
     flushed = each_log_kept l.flushed logs_apart holds.flushed;
   }
 
+-- ---- numbers that were drawn
+
+-- The tables that were begun were begun behind a change of another file,
+pub begun_kept : (name : Name) (old now : DiskState) → SameElsewhere name old now → ((n : ℕ) → Table n ≢ name) → (from to : ℕ)
+    → AreBegun from to old → AreBegun from to now
+begun_kept name old now same apart from to begun n least less nowhere = begun n least less (record {
+  free = sym (same.standing (Table n) (apart n)) ∙ nowhere.free;
+  never = sym (same.removed (Table n) (apart n)) ∙ nowhere.never;
+})
+
+-- and none are asked for where no number was drawn.
+pub none_drawn : (from to : ℕ) (disk : DiskState) → to ≤ from → AreBegun from to disk
+none_drawn from to disk none n least less nowhere = omega (arith, none, least, less)
+
+-- So where no table was begun under the first of these numbers none was drawn.
+pub drawn_none : (from to : ℕ) (disk : DiskState) → from ≤ to → AreBegun from to disk → IsNowhere disk (Table from) → from ≡ to
+drawn_none from to disk most begun nowhere = by (cases_lt from to)
+  where
+    by : (from < to) ⊎ (to ≤ from) → from ≡ to
+    by (inl less) = absurd (begun from (omega arith) less nowhere)
+    by (inr least) = omega (arith, most, least)
+
 -- ---- calls
 
 pub nothing_elsewhere : (name : Name) (disk : DiskState) → SameElsewhere name disk disk
@@ -114,7 +138,7 @@ log_manifest m n e = cc
 pub table_manifest : (m n : ℕ) → Table m ≡ Manifest n → ⊥
 table_manifest m n e = cc
 
-table_log : (m n : ℕ) → Table m ≡ Log n → ⊥
+pub table_log : (m n : ℕ) → Table m ≡ Log n → ⊥
 table_log m n e = cc
 
 manifest_log : (m n : ℕ) → Manifest m ≡ Log n → ⊥

@@ -17,13 +17,14 @@ use Rattle.vl_disk.specs.Crash.{Image}
 use Rattle.vl_disk.specs.declared.name.Name.TheVariants as names
 use Rattle.vl_engine.specs.Begun.{as_led, layout_begun, led_below}
 use Rattle.vl_engine.specs.Files.{HasTable, found_levels, found_of}
-use Rattle.vl_engine.specs.Laid.{HasLayout, HasLog, IsMemtableOf, IsTableOf}
+use Rattle.vl_engine.specs.Laid.{AreLevelsOf, AreTablesOf, HasLayout, HasLog, IsMemtableOf, IsTableOf}
 use Rattle.vl_engine.specs.Opening.{AreLeveled}
 use Rattle.vl_engine.specs.Pointed.{bytes_of_log, segment_at}
 use Rattle.vl_engine.specs.Shown.{HasFramedAmong, Shown, tables_among}
 use Rattle.vl_engine.specs.laws.BegunLaws.{one_opening}
 use Rattle.vl_engine.specs.laws.BegunLevels.{AreDeeperApart, apart_shown}
 use Rattle.vl_engine.specs.laws.FileLaws.{all_back, all_each, all_front, all_more, has_numbered, segment_all, segment_number}
+use Rattle.vl_engine.specs.laws.LaidTables.{zip_more}
 use Rattle.vl_engine.specs.laws.LedLaws.{AreRisingNumbers, led_rise}
 use Rattle.vl_engine.specs.laws.StartLaws.{active_from, before_found, before_from, before_rise, each_sealed}
 use Rattle.vl_layout.specs.Rising.{IsRising}
@@ -61,12 +62,6 @@ use Rattle.vl_version.specs.levels.LevelsLooked.{AreInOrder, tables_of}
 -- ---- two lists side by side
 
 module _ {A B : Type 0} (R : A → B → Type 0) where
-  zip_more : (xs us : List A) (ys vs : List B) → AllZip R xs ys → AllZip R us vs → AllZip R (xs ++ us) (ys ++ vs)
-  zip_more [] us [] vs a b = b
-  zip_more [] us (y ∷ ys) vs a b = absurd a
-  zip_more (x ∷ xs) us [] vs a b = absurd a
-  zip_more (x ∷ xs) us (y ∷ ys) vs a b = (a.0, zip_more xs us ys vs a.1 b)
-
   -- what is so of each on the one side, by what is so of those on the other
   zip_right : (P : A → Type 0) (Q : B → Type 0) → ((x : A) (y : B) → R x y → P x → Q y) → (xs : List A) (ys : List B)
       → AllZip R xs ys → AllByRecursion P xs → AllByRecursion Q ys
@@ -149,11 +144,11 @@ module _ {H : Type 0} (bytes : H → Option (List ℕ)) (read : Image) where
       (table_is t u here told.0 have.0, level_zip ts us later told.1 have.1)
 
   -- level by level
-  abbrev AreLevelsOf : List (Vec (Table H) Global) → List (List laid.Table) → Type 0
-  AreLevelsOf levels ls = AllZip (λ (v : Vec (Table H) Global) (us : List laid.Table). AllZip (IsTableOf bytes) v.items us) levels ls
+  abbrev AreReadLevels : List (Vec (Table H) Global) → List (List laid.Table) → Type 0
+  AreReadLevels levels ls = AllZip (λ (v : Vec (Table H) Global) (us : List laid.Table). AllZip (IsTableOf bytes) v.items us) levels ls
 
   levels_zip : (levels : List (Vec (Table H) Global)) (ls : List (List laid.Table)) → map found_level levels ≡ found_levels ls
-      → AllByRecursion IsTold (held.tables_of levels) → AllByRecursion (HasTable read) (tables_among ls) → AreLevelsOf levels ls
+      → AllByRecursion IsTold (held.tables_of levels) → AllByRecursion (HasTable read) (tables_among ls) → AreReadLevels levels ls
   levels_zip [] [] same told have = tt
   levels_zip [] (us ∷ ls) same told have = absurd cc
   levels_zip (v ∷ levels) [] same told have = absurd cc
@@ -166,13 +161,22 @@ module _ {H : Type 0} (bytes : H → Option (List ℕ)) (read : Image) where
             (all_back (HasTable read) us (tables_among ls) have),
       )
 
-  flat_zip : (levels : List (Vec (Table H) Global)) (ls : List (List laid.Table)) → AreLevelsOf levels ls
-      → AllZip (IsTableOf bytes) (held.tables_of levels) (tables_among ls)
-  flat_zip [] [] zip = tt
-  flat_zip [] (us ∷ ls) zip = absurd zip
-  flat_zip (v ∷ levels) [] zip = absurd zip
-  flat_zip (v ∷ levels) (us ∷ ls) zip =
-      zip_more (IsTableOf bytes) v.items (held.tables_of levels) us (tables_among ls) zip.0 (flat_zip levels ls zip.1)
+  items_zip : (levels : List (Vec (Table H) Global)) (ls : List (List laid.Table)) → AreReadLevels levels ls
+      → AllZip (AreTablesOf bytes) (map (λ (v : Vec (Table H) Global). v.items) levels) ls
+  items_zip [] [] zip = tt
+  items_zip [] (us ∷ ls) zip = absurd zip
+  items_zip (v ∷ levels) [] zip = absurd zip
+  items_zip (v ∷ levels) (us ∷ ls) zip = (zip.0, items_zip levels ls zip.1)
+
+  -- so it is with the levels that are made of them
+  leveled_zip : (levels : List (Vec (Table H) Global)) (ls : List (List laid.Table)) (made : Levels H) → AreLeveled levels made
+      → AreReadLevels levels ls → AreLevelsOf bytes made ls
+  leveled_zip [] ls made is zip = absurd is
+  leveled_zip (v ∷ levels) [] made is zip = absurd zip
+  leveled_zip (v ∷ levels) (us ∷ ls) made is zip = (
+    subst (λ (w : Vec (Table H) Global). AreTablesOf bytes w.items us) (sym is.0) zip.0,
+    subst (λ (ts : List (List (Table H))). AllZip (AreTablesOf bytes) ts ls) (sym is.1) (items_zip levels ls zip.1),
+  )
 
   less_is : (r : Ordering) → is_lt r ≡ true → r ≡ Less
   less_is Less is = refl
@@ -195,7 +199,7 @@ module _ {H : Type 0} (bytes : H → Option (List ℕ)) (read : Image) where
         apart_is (s ∷ ts) (v ∷ us) zip.1 have.1 apart.1,
       )
 
-  all_apart : (levels : List (Vec (Table H) Global)) (ls : List (List laid.Table)) → AreLevelsOf levels ls
+  all_apart : (levels : List (Vec (Table H) Global)) (ls : List (List laid.Table)) → AreReadLevels levels ls
       → AllByRecursion (HasTable read) (tables_among ls) → AllByRecursion IsApart ls
       → AreAllApart (map (λ (v : Vec (Table H) Global). v.items) levels)
   all_apart [] [] zip have apart = tt
@@ -222,7 +226,7 @@ module _ {H : Type 0} (bytes : H → Option (List ℕ)) (read : Image) where
       ∙ ap (λ (ls : List (List (Table H))). made.newest.items ++ all_tables ls) (sym is.1)
 
   leveled_order : (levels : List (Vec (Table H) Global)) (ls : List (List laid.Table)) (made : Levels H) → AreLeveled levels made
-      → AreLevelsOf levels ls → AllByRecursion (HasTable read) (tables_among ls) → AreDeeperApart read ls → AreInOrder made
+      → AreReadLevels levels ls → AllByRecursion (HasTable read) (tables_among ls) → AreDeeperApart read ls → AreInOrder made
   leveled_order [] ls made is zip have apart = absurd is
   leveled_order (v ∷ levels) [] made is zip have apart = absurd zip
   leveled_order (v ∷ levels) (us ∷ ls) made is zip have apart = subst AreAllApart (sym is.1)
@@ -466,9 +470,7 @@ module _ {H : Type 0} (bytes : H → Option (List ℕ)) {read : Image} (found : 
     frozen = subst (λ (fs : List FrozenLog). AllZip IsMemtableOf fs (newest_first (filter has_frames before))) (sym frozen_is)
         (subst (λ (ss : List Segment). AllZip IsMemtableOf (reverse frozen) (newest_first ss)) (sym (before_found found))
         (newest_zip frozen found.opening.logs (memtables_zip frozen found.opening.logs memtables)));
-    tables_are = subst (λ (ts : List (Table H)). AllZip (IsTableOf bytes) ts (tables_among shown.levels))
-        (leveled_tables bytes read levels version.behind.levels leveled)
-        (flat_zip bytes read levels shown.levels zip);
+    levels = leveled_zip bytes read levels shown.levels version.behind.levels leveled zip;
     in_order = leveled_order bytes read levels shown.levels version.behind.levels leveled zip shown.tables (apart_shown found h shown room);
     logs = subst (λ (ls : List (SealedLog H)). (n : ℕ) (s : Segment) → segment_at (sealed begun) n ≡ Some s → HasLog bytes ls n s)
         (sym logs_are) (logs_had logs are);
@@ -476,6 +478,6 @@ module _ {H : Type 0} (bytes : H → Option (List ℕ)) {read : Image} (found : 
     below = subst (AllByRecursion (λ (x : SealedLog H). x.number < active)) (sym logs_are) (logs_below logs are);
   }
     where
-      zip : AreLevelsOf bytes read levels shown.levels
+      zip : AreReadLevels bytes read levels shown.levels
       zip = levels_zip bytes read levels shown.levels
           (said ∙ ap (λ (o : Opening). o.levels) (sym (one_opening found h shown room)) ∙ shown.found) told shown.tables

@@ -1,6 +1,6 @@
 -- A version that has a layout has the one behind a flush, with the flushed log's table in front and its memtable gone.
-use Rattle.std.specs.Prelude.{◌≡◌, ℕ, List, [], ◌∷◌, ◌++◌, map, Option, Some}
-use Rattle.std.specs.List.{AllZip, flat_map}
+use Rattle.std.specs.Prelude.{◌≡◌, ℕ, List, [], ◌∷◌, map, Option, Some}
+use Rattle.std.specs.List.{AllZip}
 use Rattle.std.proofs.Common.{sym, ap, subst, ◌∙◌}
 use Rattle.vl_block.specs.Bytes.{table_bytes}
 use Rattle.vl_block.specs.Shapes.{IsShapeOf}
@@ -9,13 +9,13 @@ use Rattle.vl_back.specs.Tables as staged
 use Rattle.vl_back.specs.declared.staging.StagedFlush.{StagedFlush}
 use Rattle.vl_disk.specs.DiskState.{DiskState}
 use Rattle.vl_engine.specs.Flushing.{IsNextVersion, IsTableHeld}
-use Rattle.vl_engine.specs.Laid.{HasLayout, IsMemtableOf, IsTableOf}
+use Rattle.vl_engine.specs.Laid.{AreLevelsOf, AreTablesOf, HasLayout, IsMemtableOf, IsTableOf, by_level}
 use Rattle.vl_engine.specs.laws.FlushTidy.{IsWider}
-use Rattle.vl_engine.specs.laws.SharedLaws.{below_shared, logs_shared, order_shared, same_tables, tables_shared, told_shared}
+use Rattle.vl_engine.specs.laws.SharedLaws.{below_shared, levels_shared, logs_shared, order_shared, told_shared}
 use Rattle.vl_layout.specs.Levels.{in_front}
 use Rattle.vl_layout.specs.Logs.{memtable}
 use Rattle.vl_layout.specs.Rulings.Flush.{flushed, flushed_table}
-use Rattle.vl_layout.specs.Sources.{but_oldest, oldest, tables}
+use Rattle.vl_layout.specs.Sources.{but_oldest, oldest}
 use Rattle.vl_layout.specs.Tidy.{sealed}
 use Rattle.vl_layout.specs.declared.layout.Layout.{Layout}
 use Rattle.vl_layout.specs.declared.segment.Segment.{Segment}
@@ -29,10 +29,8 @@ use Rattle.vl_table.specs.Tables.{number_of, shape_of}
 use Rattle.vl_table.specs.declared.table.Table.{Table}
 use Rattle.vl_version.specs.Oldest as version_oldest
 use Rattle.vl_version.specs.Shared.{AreSameLogs}
-use Rattle.vl_version.specs.Sources.{tables_in}
 use Rattle.vl_version.specs.declared.version.Version.{Version}
-use Rattle.vl_version.specs.levels.LevelTables.{AreAllApart, all_tables}
-use Rattle.vl_version.specs.levels.LevelsLooked.{tables_of}
+use Rattle.vl_version.specs.levels.LevelTables.{AreAllApart}
 
 -- what lies side by side does so without the last of each,
 zip_but_oldest : (xs : List FrozenLog) (ys : List Segment) → AllZip IsMemtableOf xs ys
@@ -101,20 +99,18 @@ module _ {H : Type 0} (bytes : H → Option (List ℕ)) where
   module _ (before after : Version H) (l : Layout) (s : Segment) (has : HasLayout bytes before l) (level : List laid.Table)
       (deeper : List (List laid.Table)) (are : l.levels ≡ level ∷ deeper) (stay : IsWider (sealed (flushed l s)) (sealed l))
       (table : Table H) (made : IsNextVersion bytes before after table) where
-    tables_are : AllZip (IsTableOf bytes) (tables_of made.next.levels) (tables l)
-    tables_are = tables_shared bytes (tables_in before) (tables_of made.next.levels) (tables l)
-        (same_tables bytes before.behind.levels made.next.levels made.is.levels) has.tables_are
+    -- the levels that the table is put in front of
+    levels_are : AllZip (AreTablesOf bytes) (by_level made.next.levels) (level ∷ deeper)
+    levels_are = subst (AreLevelsOf bytes made.next.levels) are
+        (levels_shared bytes before.behind.levels made.next.levels l.levels made.is.levels has.levels)
 
-    tables_then : tables_in after ≡ table ∷ tables_of made.next.levels
-    tables_then = ap (λ (ts : List (Table H)). ts ++ all_tables after.behind.levels.deeper.items) made.newest
-        ∙ ap (λ (ls : List (List (Table H))). (table ∷ made.next.levels.newest.items) ++ all_tables ls) deeper_is
-      where
-        deeper_is : after.behind.levels.deeper.items ≡ made.next.levels.deeper.items
-        deeper_is = ap (λ d. d.items) made.deeper
+    levels_then : by_level after.behind.levels ≡ (table ∷ made.next.levels.newest.items) ∷ made.next.levels.deeper.items
+    levels_then =
+        let deeper_is : after.behind.levels.deeper.items ≡ made.next.levels.deeper.items = ap (λ d. d.items) made.deeper in
+        (λ i. made.newest i ∷ deeper_is i)
 
-    new_is : tables (flushed l s) ≡ flushed_table l s ∷ tables l
-    new_is = ap (λ (ls : List (List laid.Table)). flat_map (λ ts. ts) (in_front (flushed_table l s) ls)) are
-        ∙ sym (ap (λ (ls : List (List laid.Table)). flushed_table l s ∷ flat_map (λ ts. ts) ls) are)
+    in_front_is : (flushed l s).levels ≡ (flushed_table l s ∷ level) ∷ deeper
+    in_front_is = ap (in_front (flushed_table l s)) are
 
     logs_then : AreSameLogs bytes before.behind.logs.items after.behind.logs.items
     logs_then = subst (AreSameLogs bytes before.behind.logs.items) (sym made.logs) made.is.logs
@@ -125,8 +121,9 @@ module _ {H : Type 0} (bytes : H → Option (List ℕ)) where
       active = ap (λ (m : Contents). m.entries) (made.active ∙ made.is.active) ∙ has.active;
       frozen = subst (λ (fs : List FrozenLog). AllZip IsMemtableOf fs (but_oldest l.frozen)) (sym (made.frozen ∙ made.is.frozen))
           (zip_but_oldest before.behind.frozen.items l.frozen has.frozen);
-      tables_are = subst (λ (ts : List (Table H)). AllZip (IsTableOf bytes) ts (tables (flushed l s))) (sym tables_then)
-          (subst (AllZip (IsTableOf bytes) (table ∷ tables_of made.next.levels)) (sym new_is) (new, tables_are));
+      levels = subst (λ (ts : List (List (Table H))). AllZip (AreTablesOf bytes) ts (flushed l s).levels) (sym levels_then)
+          (subst (AllZip (AreTablesOf bytes) ((table ∷ made.next.levels.newest.items) ∷ made.next.levels.deeper.items)) (sym in_front_is)
+          ((new, levels_are.0), levels_are.1));
       in_order = subst AreAllApart (sym (ap (λ d. d.items) made.deeper))
           (order_shared bytes before.behind.levels made.next.levels made.is.levels has.in_order);
       logs = λ n x at. logs_shared bytes before.behind.logs.items after.behind.logs.items logs_then n x (has.logs n x (stay n x at));

@@ -7,6 +7,7 @@ use Rattle.vl_block.specs.Cutting.{joined}
 use Rattle.vl_engine.specs.Laid.{HasLayout, IsMemtableOf, IsTableOf}
 use Rattle.vl_engine.specs.Pointed.{bytes_of_log, layout_logs, stored_of}
 use Rattle.vl_engine.specs.laws.FlushTidy.{IsThere, flat_far, tables_far}
+use Rattle.vl_engine.specs.laws.LaidTables.{tables_are}
 use Rattle.vl_engine.specs.laws.LedLaws.{AreFarTo, IsFarTo}
 use Rattle.vl_layout.specs.Logs.{committed_records, frame_entries, logged_entries, memtable, record_entry, relocated_records}
 use Rattle.vl_layout.specs.Sources.{behind_active, sources, table_entries, tables}
@@ -133,7 +134,7 @@ module _ {H : Type 0} (bytes : H → Option (List ℕ)) where
     pub laid_entries : (h : History) → IsTidy (layout_logs l) l h → HasEntries bytes version (sources l) (layout_logs l)
     laid_entries h tidy = record {
       tabled = map table_entries (tables l);
-      tables = tables_of_entries (tables_in version) (tables l) has.tables_are;
+      tables = tables_of_entries (tables_in version) (tables l) (tables_are bytes version l has);
       in_order = has.in_order;
       entries = ap (λ (es : List Entry). es ++ behind_active l) (sym has.active)
           ∙ ap (λ (es : List Entry). version.active.entries ++ (es ++ flat_map table_entries (tables l)))

@@ -10,9 +10,9 @@ use Rattle.vl_engine.specs.laws.FlushTidy.{IsThere, IsWider, all_alike, tidy_wit
 use Rattle.vl_engine.specs.laws.LaidLaws.{sources_far}
 use Rattle.vl_engine.specs.laws.LedLaws.{AreFarTo}
 use Rattle.vl_engine.specs.laws.SegmentLaws.{not_among}
-use Rattle.vl_engine.specs.laws.SharedLaws.{below_shared, logs_shared, order_shared, same_tables, tables_shared, told_shared}
+use Rattle.vl_engine.specs.laws.SharedLaws.{below_shared, levels_shared, logs_shared, order_shared, told_shared}
 use Rattle.vl_layout.specs.Rulings.Rotate.{rotated}
-use Rattle.vl_layout.specs.Sources.{sources, tables}
+use Rattle.vl_layout.specs.Sources.{sources}
 use Rattle.vl_layout.specs.Tidy.{IsTidy, log_numbers, sealed}
 use Rattle.vl_layout.specs.declared.layout.Layout.{Layout}
 use Rattle.vl_layout.specs.declared.segment.Segment.{Segment}
@@ -26,7 +26,7 @@ use Rattle.vl_model.specs.declared.entry.Entry.{Entry}
 use Rattle.vl_seglog.specs.declared.sealed.SealedLog.{SealedLog}
 use Rattle.vl_version.specs.Rotating.{IsRotated}
 use Rattle.vl_version.specs.Shared.{AreSameLogs}
-use Rattle.vl_version.specs.Sources.{AreRising, AreTold, log_in, tables_in}
+use Rattle.vl_version.specs.Sources.{AreRising, AreTold, log_in}
 use Rattle.vl_version.specs.declared.version.Version.{Version}
 
 -- ---- logs by their numbers
@@ -159,8 +159,7 @@ module _ {H : Type 0} (bytes : H → Option (List ℕ)) where
       active = ap (λ (c : Contents). c.entries) is.active;
       frozen = subst (λ (fs : List FrozenLog). AllZip IsMemtableOf fs (l.active ∷ l.frozen)) (sym is.frozen)
           (record { number = number; entries = has.active }, has.frozen);
-      tables_are = tables_shared bytes (tables_in version) (tables_in after) (tables l)
-          (same_tables bytes version.behind.levels after.behind.levels is.levels) has.tables_are;
+      levels = levels_shared bytes version.behind.levels after.behind.levels l.levels is.levels has.levels;
       in_order = order_shared bytes version.behind.levels after.behind.levels is.levels has.in_order;
       logs = λ n s at. logs_shared bytes (version.behind.logs.items ++ log ∷ []) after.behind.logs.items same n s (there n s at);
       told = told_shared bytes (version.behind.logs.items ++ log ∷ []) after.behind.logs.items same

@@ -4,6 +4,7 @@ use Rattle.std.specs.List.{AllByRecursion, AllZip}
 use Rattle.std.proofs.Common.{ap, arith, length-append, sym, ◌∙◌}
 use Rattle.std.proofs.lemmas.Bool.Decides.{nat_tests}
 use Rattle.vl_engine.specs.Laid.{HasLayout, IsTableOf}
+use Rattle.vl_engine.specs.laws.LaidTables.{tables_are}
 use Rattle.vl_engine.specs.Sees.{Sees, SeesAlone, ShowsAt}
 use Rattle.vl_engine.specs.declared.past.Past.{Past}
 use Rattle.vl_engine.specs.declared.txn.Txn.{Txn}
@@ -102,7 +103,7 @@ module _ {H : Type 0} (bytes : H → Option (List ℕ)) where
   -- So a version that has a layout has its tables' files.
   pub files_laid : (version : Version H) (l : Layout) → HasLayout bytes version l → AreLevels l.levels
       → AreFiles bytes (file_in (tables_in version)) (tables_in version)
-  files_laid version l has levels = filed (tables_in version) (tables l) has.tables_are levels.distinct
+  files_laid version l has levels = filed (tables_in version) (tables l) (tables_are bytes version l has) levels.distinct
 
 -- ---- what a reader sees
 

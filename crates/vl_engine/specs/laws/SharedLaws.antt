@@ -1,11 +1,11 @@
 -- What a version has whose levels and logs are shared once more: the same tables in the same order, and the same logs.
-use Rattle.std.specs.Prelude.{◌≡◌, ◌<◌, ◌==◌, ℕ, Bool, true, false, if◌then◌else◌, IsSome, List, [], ◌∷◌, ◌++◌, Option, Some}
+use Rattle.std.specs.Prelude.{◌≡◌, ◌<◌, ◌==◌, ℕ, Bool, true, false, if◌then◌else◌, IsSome, List, [], ◌∷◌, Option, Some}
 use Rattle.std.specs.List.{AllByRecursion, AllZip}
 use Rattle.std.proofs.Common.{sym, ap, subst, ◌∙◌}
 use Rattle.vl_block.specs.Bytes.{table_bytes}
 use Rattle.vl_block.specs.Shapes.{IsShapeOf}
 use Rattle.vl_block.specs.declared.shape.TableShape.{TableShape}
-use Rattle.vl_engine.specs.Laid.{HasLog, IsTableOf}
+use Rattle.vl_engine.specs.Laid.{AreLevelsOf, AreTablesOf, HasLog, IsTableOf, by_level}
 use Rattle.vl_layout.specs.declared.segment.Segment.{Segment}
 use Rattle.vl_layout.specs.declared.table.Table as laid
 use Rattle.vl_model.specs.Keys.{key_cmp}
@@ -14,31 +14,11 @@ use Rattle.vl_table.specs.declared.table.Table.{Table}
 use Rattle.vl_version.specs.Shared.{AreSameLevels, AreSameLogs, AreSameTables, IsSameLog, IsSameTable}
 use Rattle.vl_version.specs.Sources.{AreRising, AreTold, log_in}
 use Rattle.vl_version.specs.declared.levels.Levels.{Levels}
-use Rattle.vl_version.specs.levels.LevelTables.{AreAllApart, AreApart, all_tables, footer_of}
-use Rattle.vl_version.specs.levels.LevelsLooked.{AreInOrder, tables_of}
+use Rattle.vl_version.specs.levels.LevelTables.{AreAllApart, AreApart, footer_of}
+use Rattle.vl_version.specs.levels.LevelsLooked.{AreInOrder}
 
 module _ {H : Type 0} (bytes : H → Option (List ℕ)) where
   -- ---- tables
-
-  same_append : (ts us more others : List (Table H)) → AreSameTables bytes ts us → AreSameTables bytes more others
-      → AreSameTables bytes (ts ++ more) (us ++ others)
-  same_append [] [] more others first second = second
-  same_append [] (u ∷ us) more others first second = absurd first
-  same_append (t ∷ ts) [] more others first second = absurd first
-  same_append (t ∷ ts) (u ∷ us) more others first second = (first.0, same_append ts us more others first.1 second)
-
-  same_all : (levels copies : List (List (Table H))) → AllZip (AreSameTables bytes) levels copies
-      → AreSameTables bytes (all_tables levels) (all_tables copies)
-  same_all [] [] same = tt
-  same_all [] (c ∷ cs) same = absurd same
-  same_all (l ∷ ls) [] same = absurd same
-  same_all (l ∷ ls) (c ∷ cs) same = same_append l c (all_tables ls) (all_tables cs) same.0 (same_all ls cs same.1)
-
-  pub same_tables : (levels copies : Levels H) → AreSameLevels bytes levels copies
-      → AreSameTables bytes (tables_of levels) (tables_of copies)
-  same_tables levels copies same =
-      same_append levels.newest.items copies.newest.items (all_tables levels.deeper.items) (all_tables copies.deeper.items)
-      same.newest (same_all levels.deeper.items copies.deeper.items same.deeper)
 
   table_shared : (t u : Table H) (x : laid.Table) → IsSameTable bytes t u → IsTableOf bytes t x → IsTableOf bytes u x
   table_shared t u x same is = record {
@@ -51,13 +31,27 @@ module _ {H : Type 0} (bytes : H → Option (List ℕ)) where
   }
 
   -- They are those of the same entries,
-  pub tables_shared : (ts us : List (Table H)) (xs : List laid.Table) → AreSameTables bytes ts us
+  tables_shared : (ts us : List (Table H)) (xs : List laid.Table) → AreSameTables bytes ts us
       → AllZip (IsTableOf bytes) ts xs → AllZip (IsTableOf bytes) us xs
   tables_shared [] [] xs same are = are
   tables_shared [] (u ∷ us) xs same are = absurd same
   tables_shared (t ∷ ts) [] xs same are = absurd same
   tables_shared (t ∷ ts) (u ∷ us) [] same are = absurd are
   tables_shared (t ∷ ts) (u ∷ us) (x ∷ xs) same are = (table_shared t u x same.0 are.0, tables_shared ts us xs same.1 are.1)
+
+  each_shared : (levels copies : List (List (Table H))) (ls : List (List laid.Table)) → AllZip (AreSameTables bytes) levels copies
+      → AllZip (AreTablesOf bytes) levels ls → AllZip (AreTablesOf bytes) copies ls
+  each_shared [] [] ls same are = are
+  each_shared [] (us ∷ copies) ls same are = absurd same
+  each_shared (ts ∷ levels) [] ls same are = absurd same
+  each_shared (ts ∷ levels) (us ∷ copies) [] same are = absurd are
+  each_shared (ts ∷ levels) (us ∷ copies) (xs ∷ ls) same are =
+      (tables_shared ts us xs same.0 are.0, each_shared levels copies ls same.1 are.1)
+
+  -- level by level,
+  pub levels_shared : (levels copies : Levels H) (ls : List (List laid.Table)) → AreSameLevels bytes levels copies
+      → AreLevelsOf bytes levels ls → AreLevelsOf bytes copies ls
+  levels_shared levels copies ls same are = each_shared (by_level levels) (by_level copies) ls (same.newest, same.deeper) are
 
   apart_shared : (ts us : List (Table H)) → AreSameTables bytes ts us → AreApart ts → AreApart us
   apart_shared [] [] same apart = tt

@@ -3,9 +3,10 @@
 use Rattle.std.specs.Prelude.{◌≡◌, ◌<◌, ℕ, List, [], ◌∷◌, ◌++◌, Option, refl}
 use Rattle.std.specs.List.{AllByRecursion, AllZip}
 use Rattle.std.proofs.Common.{sym, ap, subst, ◌∙◌}
-use Rattle.vl_engine.specs.Laid.{HasLayout, HasLog, IsMemtableOf, IsTableOf}
+use Rattle.vl_engine.specs.Laid.{AreLevelsOf, HasLayout, HasLog, IsMemtableOf, IsTableOf}
 use Rattle.vl_engine.specs.Reading.{IsInMemory}
 use Rattle.vl_engine.specs.laws.LaidLaws.{memtable_near}
+use Rattle.vl_engine.specs.laws.LaidTables.{tables_are}
 use Rattle.vl_engine.specs.laws.LedLaws.{AreFarTo, IsFarTo}
 use Rattle.vl_engine.specs.laws.MemtableLaws.{memtable_more}
 use Rattle.vl_layout.specs.Logs.{frame_entries, memtable}
@@ -31,7 +32,7 @@ use Rattle.vl_version.specs.Near.{AreNear, IsNear}
 use Rattle.vl_version.specs.Sources.{AreTold, held_entries, in_memory, tables_in}
 use Rattle.vl_version.specs.declared.behind.Behind.{Behind}
 use Rattle.vl_version.specs.declared.version.Version.{Version}
-use Rattle.vl_version.specs.levels.LevelsLooked.{AreInOrder, tables_of}
+use Rattle.vl_version.specs.levels.LevelsLooked.{AreInOrder}
 
 -- the entries that a commit adds
 abbrev pub next_entries : Layout → History → Transaction → List Entry
@@ -43,7 +44,7 @@ module _ {H : Type 0} (bytes : H → Option (List ℕ)) (version : Version H) (l
   laid_live live = record {
     active = has.active;
     frozen = has.frozen;
-    tables_are = has.tables_are;
+    levels = has.levels;
     in_order = has.in_order;
     logs = has.logs;
     told = has.told;
@@ -55,7 +56,7 @@ module _ {H : Type 0} (bytes : H → Option (List ℕ)) (version : Version H) (l
   laid_halted name = record {
     active = has.active;
     frozen = has.frozen;
-    tables_are = has.tables_are;
+    levels = has.levels;
     in_order = has.in_order;
     logs = has.logs;
     told = has.told;
@@ -73,7 +74,7 @@ module _ {H : Type 0} (bytes : H → Option (List ℕ)) (version : Version H) (l
         ∙ ap (λ (es : List Entry). in_order (next_entries l h t ++ es)) has.active
         ∙ memtable_more (ended t.ticket l) (commit_frame h t.writes) true_log;
     frozen = subst (λ (b : Behind H). AllZip IsMemtableOf b.frozen.items l.frozen) (sym behind) has.frozen;
-    tables_are = subst (λ (b : Behind H). AllZip (IsTableOf bytes) (tables_of b.levels) (tables l)) (sym behind) has.tables_are;
+    levels = subst (λ (b : Behind H). AreLevelsOf bytes b.levels l.levels) (sym behind) has.levels;
     in_order = subst (λ (b : Behind H). AreInOrder b.levels) (sym behind) has.in_order;
     logs = λ n s at. subst (λ (b : Behind H). HasLog bytes b.logs.items n s) (sym behind) (has.logs n s at);
     told = subst (λ (b : Behind H). AreTold bytes b.logs.items) (sym behind) has.told;
@@ -115,4 +116,4 @@ module _ {H : Type 0} (bytes : H → Option (List ℕ)) (version : Version H) (l
       (near_frozen version.behind.frozen.items l.frozen has.frozen)
 
   pub laid_in_memory : tables l ≡ [] → IsInMemory version
-  laid_in_memory none = record { tables = none_held (tables_in version) (tables l) has.tables_are none; near = laid_near }
+  laid_in_memory none = record { tables = none_held (tables_in version) (tables l) (tables_are bytes version l has) none; near = laid_near }

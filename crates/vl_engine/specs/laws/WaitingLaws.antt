@@ -3,6 +3,7 @@ use Rattle.std.specs.Prelude.{◌≡◌, ◌≤◌, ℕ, ◌+◌, List, [], ◌�
 use Rattle.std.proofs.Common.{ap, subst, ◌∙◌, arith}
 use Rattle.vl_back.specs.FlushEdits.{flush_switch, head_of, switch_of}
 use Rattle.vl_back.specs.declared.back.Back.{Back}
+use Rattle.vl_manifest.specs.declared.state.ManifestState.{ManifestState}
 use Rattle.vl_manifest.specs.declared.waiting.Waiting.{Waiting}
 use Rattle.vl_engine.specs.Held.{Base}
 use Rattle.vl_engine.specs.Represents.{IsBack}
@@ -60,7 +61,7 @@ module _ (back : Back) (b : Base) (l : Layout) (s : Segment) (is : IsBack back b
           → switch_of l.active.number ws back ≡ edits_of l s
       by [] are = absurd are
       by (w ∷ ws) (number, covers, rest) =
-          let table : back.state.next_table ≡ l.next_table = ap (λ x. x.next_table) is.state ∙ is.next_table in
+          let table : back.state.next_table ≡ l.next_table = ap (λ (x : ManifestState). x.next_table) is.state in
           let first : head_of l.active.number ws ≡ head (flushed l s) =
           first_waits w.covered ws (newest_first (but_oldest l.frozen)) l.active rest ∙ first_turned (but_oldest l.frozen) l.active in
           ap (λ (n : ℕ). flush_edits n (head_of l.active.number ws) w.covered back.next_log (n + 1)) table

@@ -4,7 +4,7 @@ use Rattle.std.specs.Prelude.{Ok, Err, Option, Result, OnOk}
 use Rattle.vl_disk.specs.DiskState.{DiskState}
 use Rattle.vl_disk.specs.Faults.{after_calls}
 use Rattle.vl_disk.specs.declared.watched.Watched.{Ghosts}
-use Rattle.vl_engine.specs.Held.{Base, Holds, IsBase}
+use Rattle.vl_engine.specs.Held.{AreBegun, Base, Holds, IsBase}
 use Rattle.vl_engine.specs.Pointed.{layout_logs}
 use Rattle.vl_engine.specs.Shown.{Shown}
 use Rattle.vl_engine.specs.declared.kept.Core.{Core}
@@ -65,10 +65,12 @@ stored_on s x keeps tidy disk stored = record {
   holds = subst (λ (m : Layout). Holds stored.base m disk) (sym keeps.layout)
       (live_holds stored.base s.store.layout x.state.layout.live disk stored.holds);
   tidy = tidy;
-  next_table = stored.next_table ∙ sym (ap (λ (m : Layout). m.next_table) keeps.layout);
+  next_table = subst (λ (m : Layout). stored.base.state.next_table ≤ m.next_table) (sym keeps.layout) stored.next_table;
+  begun = subst (λ (m : Layout). AreBegun stored.base.state.next_table m.next_table disk) (sym keeps.layout) stored.begun;
   numbered = stored.numbered;
   next = stored.next;
   next_log = subst (λ (m : Layout). m.next_log ≤ s.files + 1) (sym keeps.layout) stored.next_log;
+  next_drawn = subst (λ (m : Layout). m.next_table ≤ s.files + 1) (sym keeps.layout) stored.next_drawn;
 }
 
 -- what is tidy in memory is tidy

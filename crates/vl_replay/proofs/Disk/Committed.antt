@@ -20,6 +20,7 @@ use Rattle.vl_back.specs.declared.back.Back.{Back}
 use Rattle.vl_engine.specs.declared.kept.Core.{Core}
 use Rattle.vl_engine.specs.declared.txn.Txn.{Txn}
 use Rattle.vl_engine.specs.laws.CommitLaws.{commit_base, commit_holds}
+use Rattle.vl_engine.specs.laws.KeptLaws.{begun_kept, table_log, written_elsewhere}
 use Rattle.vl_engine.specs.laws.SparedRulings.{committed_spares}
 use Rattle.vl_frame.specs.Runs.{HasFrame}
 use Rattle.vl_layout.specs.AtAnswer.{Beginning}
@@ -203,11 +204,10 @@ module _ {D H R : Type 0} (g : Ghosts D) (bytes : H → Option (List ℕ)) (befo
     stored_then x k m layout history running log table represents =
         let (disk, told, stored) = held.there in
         let next_log = stored.next_log in
-        let given = stored.next.table in
-        let next_table = stored.next_table in
+        let next_table = stored.next_drawn in
         stored_by bytes after (g.told new) (state_by s x) k m layout history stored.openable running represents
         (subst (λ (p : Back). p.state.next_log ≤ p.next_log) (sym back) stands.within)
-        (omega (arith, log, next_log)) (omega (arith, table, given, next_table))
+        (omega (arith, log, next_log)) (omega (arith, table, next_table))
         (λ now then. numbered_still s.files (g.told old) (g.told new) disk now files told then stored.numbered)
 
     -- where the engine represents what it did, the commits are held
@@ -355,9 +355,11 @@ module _ {D H R : Type 0} (g : Ghosts D) (bytes : H → Option (List ℕ)) (befo
                 (subst (λ (x : Ruling CommitAnswer). IsTidy (layout_logs s.store.layout) x.layout x.history) may.accepted
                 (commit_tidy (layout_logs s.store.layout) s.store.layout (history_of s) stored.tidy t rising))
                 stored.next_table
+                (begun_kept (log_of s) disk (written (log_of s) whole disk) (written_elsewhere (log_of s) whole disk)
+                (λ n. table_log n s.store.layout.active.number) b'.state.next_table s.store.layout.next_table stored.begun)
                 (changed_numbered s.files (log_of s) _ (appended (log_of s) whole (length whole) disk)
                 (changed_numbered s.files (log_of s) _ disk stored.numbered))
-                stored.next stored.next_log;
+                stored.next stored.next_log stored.next_drawn;
             writes = t.writes;
             one_more = ap (λ (x : Step). x.state.commits) step_then;
           }

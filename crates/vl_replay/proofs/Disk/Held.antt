@@ -2,7 +2,7 @@
 use Rattle.std.proofs.Common.{◌≡◌, ◌≤◌, ◌+◌, ℕ, List, sym, ap, ◌∙◌, subst, arith}
 use Rattle.std.specs.Prelude.{IsTrue, Option, None, Some}
 use Rattle.vl_disk.specs.DiskState.{DiskState}
-use Rattle.vl_engine.specs.Held.{Base, Holds, IsBase}
+use Rattle.vl_engine.specs.Held.{AreBegun, Base, Holds, IsBase}
 use Rattle.vl_engine.specs.Pointed.{layout_logs}
 use Rattle.vl_engine.specs.Represents as engine
 use Rattle.vl_engine.specs.declared.kept.Core.{Core}
@@ -16,9 +16,10 @@ use Rattle.vl_replay.specs.Stored.{IsStored}
 
 -- by a base of its layout
 pub stored_as : (t : State) (now : DiskState) (base : Base) (k : History) (m : Layout) → t.store.layout ≡ m → history_of t ≡ k
-    → IsTrue t.openable → IsBase base m k → Holds base m now → IsTidy (layout_logs m) m k → base.state.next_table ≡ m.next_table
-    → AreNumberedUpTo t.files now → GivesUpTo t.files base.state → m.next_log ≤ t.files + 1 → IsStored t now
-stored_as t now base k m layout history openable is holds tidy next_table numbered next next_log = record {
+    → IsTrue t.openable → IsBase base m k → Holds base m now → IsTidy (layout_logs m) m k → base.state.next_table ≤ m.next_table
+    → AreBegun base.state.next_table m.next_table now → AreNumberedUpTo t.files now → GivesUpTo t.files base.state → m.next_log ≤ t.files + 1 → m.next_table ≤ t.files + 1
+    → IsStored t now
+stored_as t now base k m layout history openable is holds tidy next_table begun numbered next next_log drawn = record {
   openable = openable;
   base = base;
   is_base = subst (λ (p : Layout). IsBase base p (history_of t)) (sym layout)
@@ -26,10 +27,12 @@ stored_as t now base k m layout history openable is holds tidy next_table number
   holds = subst (λ (p : Layout). Holds base p now) (sym layout) holds;
   tidy = subst (λ (p : Layout). IsTidy (layout_logs p) p (history_of t)) (sym layout)
       (subst (λ (q : History). IsTidy (layout_logs m) m q) (sym history) tidy);
-  next_table = next_table ∙ sym (ap (λ (p : Layout). p.next_table) layout);
+  next_table = subst (λ (p : Layout). base.state.next_table ≤ p.next_table) (sym layout) next_table;
+  begun = subst (λ (p : Layout). AreBegun base.state.next_table p.next_table now) (sym layout) begun;
   numbered = numbered;
   next = next;
   next_log = subst (λ (p : Layout). p.next_log ≤ t.files + 1) (sym layout) next_log;
+  next_drawn = subst (λ (p : Layout). p.next_table ≤ t.files + 1) (sym layout) drawn;
 }
 
 -- by what the engine represents, whose manifest gives no number above the next log's
@@ -42,10 +45,10 @@ stored_by bytes core told t k m layout history openable running represents withi
     let its = represents.held running in
     let state : its.base.state.next_log ≡ core.back.state.next_log = ap (λ (x : ManifestState). x.next_log) (sym its.back_is.state) in
     let next : core.back.next_log ≡ m.next_log = its.back_is.next_log in
-    let given : its.base.state.next_table ≡ m.next_table = its.back_is.next_table in (
+    let given = its.back_is.next_table in (
       its.state,
       its.told_is,
-      stored_as t its.state its.base k m layout history openable its.is_base its.holds represents.stands.tidy its.back_is.next_table
+      stored_as t its.state its.base k m layout history openable its.is_base its.holds represents.stands.tidy its.back_is.next_table its.begun
           (numbered its.state its.told_is)
-          (record { log = omega (arith, state, within, next, log); table = omega (arith, given, table) }) log,
+          (record { log = omega (arith, state, within, next, log); table = omega (arith, given, table) }) log table,
     )

@@ -114,7 +114,7 @@ module _ {D H R : Type 0} (g : Ghosts D) (watched : IsWatched g) (bytes : H → 
     log_near = held.there.2.next_log
 
     table_near : l.next_table ≤ s.files + 1
-    table_near = let given = held.there.2.next.table in let same = held.there.2.next_table in omega (arith, given, same)
+    table_near = held.there.2.next_drawn
 
     numbered : (now : DiskState) → g.told new ≡ Some now → AreNumberedUpTo s.files now
     numbered now told = numbered_still s.files (g.told old) (g.told new) held.there.0 now did.files held.there.1 told held.there.2.numbered

@@ -156,7 +156,7 @@ module _ {D H R : Type 0} (g : Ghosts D) (watched : IsWatched g) (bytes : H → 
     log_near = held.there.2.next_log
 
     table_near : l.next_table ≤ s.files + 1
-    table_near = let given = held.there.2.next.table in let same = held.there.2.next_table in omega (arith, given, same)
+    table_near = held.there.2.next_drawn
 
     -- where nothing was changed the files are numbered as they were
     numbered_same : g.told new ≡ g.told old → (n : ℕ) → s.files ≤ n → (now : DiskState) → g.told new ≡ Some now → AreNumberedUpTo n now

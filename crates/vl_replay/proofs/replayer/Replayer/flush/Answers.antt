@@ -88,7 +88,7 @@ returns-clause-carries g c s stands =
       carries = λ represented. c.flush.ensures.carries h l represented;
       untouched = c.flush.ensures.untouched;
       files = c.flush.ensures.files;
-      near = λ disk stored. (let next = fits.numbers.next_table in let up = stored.next.table in let same = stored.next_table in omega (arith, next, up, same));
+      near = λ disk stored. (let next = fits.numbers.next_table in let up = stored.next_drawn in omega (arith, next, up));
       within = λ fine. c.flush.ensures.within fine stands.within;
       sound = (step_sound bytes seen now core then os s stands (flush_ruling l h) (flush_leaves l h) (state_after-sound s lines.Flush stands.sound) _ _ c.flush.result decides);
       stops = λ failed.
