@@ -17,6 +17,7 @@ pub mod KeepSteps
 pub mod KeptBy
 pub mod Knowing
 pub mod Leaving
+pub mod Lending
 pub mod Merged
 pub mod Opened
 pub mod ReadingPast

@@ -1,6 +1,5 @@
 -- The files that are lent to the merge that is open.
-use Rattle.std.specs.Prelude.{◌≡◌, ◌<◌, ℕ, List, [], ◌∷◌, Option, None, Some, IsTrue}
-use Rattle.std.specs.List.{AllByRecursion}
+use Rattle.std.specs.Prelude.{◌≡◌, ◌<◌, ℕ, Option, None, Some, IsTrue, All}
 use Rattle.std.specs.Option.{ForSome}
 use Rattle.vl_disk.specs.Disk.{IsFree}
 use Rattle.vl_disk.specs.DiskState.{DiskState}
@@ -17,7 +16,7 @@ pub record IsLent {D : Type 0} (g : Ghosts D) (disk : D) (next_table n : ℕ) : 
 
 -- so it is of each file that was lent to the open merge
 abbrev pub AreLent : {D : Type 0} → Ghosts D → D → (next_table : ℕ) → Option OpenMerge → Type 0
-AreLent g disk next_table open = ForSome open (λ (o : OpenMerge). AllByRecursion (IsLent g disk next_table) o.lent.items)
+AreLent g disk next_table merging = ForSome merging (λ (o : OpenMerge). All (IsLent g disk next_table) o.lent.items)
 
 -- ---- what a step leaves
 
@@ -25,6 +24,10 @@ AreLent g disk next_table open = ForSome open (λ (o : OpenMerge). AllByRecursio
 pub record LeavesLent {D : Type 0} (g : Ghosts D) (next_table : ℕ) (old new : D) : Type 0 where
   pub room : (n : ℕ) → n < next_table → (g.spare new (Table n)).adopt ≡ (g.spare old (Table n)).adopt
   pub free : (n : ℕ) → n < next_table → ForSome (g.told old) (IsFree (Table n)) → ForSome (g.told new) (IsFree (Table n))
+
+-- so it is of the tables of all numbers: none comes to stand
+abbrev pub LeavesTables : {D : Type 0} → Ghosts D → (old new : D) → Type 0
+LeavesTables g old new = (next_table : ℕ) → LeavesLent g next_table old new
 
 -- ---- the layout's job
 

@@ -28,13 +28,13 @@ pub struct Engine<D: Disk> {
     disk: D,
     core: Core<D::Held>,
     // The merge that is open.
-    open: Option<OpenMerge>,
+    merging: Option<OpenMerge>,
     // What its next calls ask of the disk is so.
     ghost ready: { ForSome (D.told disk) (IsFitFor core) },
     // The next numbers are ones that files may have, if any are left.
     ghost numbered: { (1 ≤ core.back.next_log) × (1 ≤ core.back.state.next_table) },
     // The files that are lent to the open merge can be taken back.
-    ghost lent: { AreLent D.Watched disk core.back.state.next_table open },
+    ghost lent: { AreLent D.Watched disk core.back.state.next_table merging },
     // No entry of its memtable has a version above the last commit's.
     ghost known: { are_known core.front.oracle.last core.version.active.entries ≡ true },
 }

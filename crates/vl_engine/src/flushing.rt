@@ -6,6 +6,7 @@ ghost use Rattle.vl_disk.specs.Calls.{ChangesNothing};
 ghost use Rattle.vl_disk.specs.Spare.{CanAppend, IsReady};
 ghost use Rattle.vl_disk.specs.declared.name.Name.TheVariants as names;
 ghost use Rattle.vl_engine.specs.Flushing.{IsStagedOf};
+ghost use Rattle.vl_engine.specs.Lent.{LeavesLent};
 ghost use Rattle.vl_engine.specs.Represents.{Represents};
 ghost use Rattle.vl_layout.specs.declared.layout.Layout.{Layout};
 ghost use Rattle.vl_model.specs.History.{History};
@@ -49,6 +50,7 @@ pub fn ready_flush<D: Disk>(
     ensures append { IfOk result (λ ready. CanAppend (length ready.staged.edits.frame.items)
         (D.spare disk.new (names.Manifest core.now.back.manifest.number))) }
     ensures no_change { ChangesNothing D.Watched disk.old disk.new ⊥ }
+    ensures lent { LeavesLent D.Watched core.now.back.state.next_table disk.old disk.new }
 
     // Of what an engine represents a table can be spelled, and named by the manifest: only memory may be wanting.
     ensures lawful { (h : History) (l : Layout) → Represents D.Held.bytes core.now (D.told disk.old) h l

@@ -6,6 +6,7 @@ ghost use Rattle.vl_disk.specs.Disk.{Stands};
 ghost use Rattle.vl_disk.specs.Spare.{IsReady};
 ghost use Rattle.vl_disk.specs.declared.errors.DiskFail.TheVariants as why;
 ghost use Rattle.vl_disk.specs.declared.name.Name.TheVariants as names;
+ghost use Rattle.vl_engine.specs.Lent.{LeavesTables};
 ghost use Rattle.vl_engine.specs.Rotating.{IsNextVersion, IsRefusedSo, MayBegin, next_name};
 
 use crate::StepFail;
@@ -46,6 +47,7 @@ pub fn stage_rotation<D: Disk>(
     ensures version { IfOk result (IsNextVersion D.Held.bytes (D.told disk.old) core.now) }
     ensures ready { IfOk result (λ _. IsReady 16 (D.spare disk.new (next_name core.now))) }
     ensures no_change { ChangesNothing D.Watched disk.old disk.new (IsErrOf result why.Failed) }
+    ensures lent { LeavesTables D.Watched disk.old disk.new }
 {
     let log = ActiveLog {
         number: core.front.log.number,

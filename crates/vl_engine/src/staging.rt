@@ -5,6 +5,7 @@ ghost use Rattle.vl_disk.specs.Calls.{ChangesNothing};
 ghost use Rattle.vl_disk.specs.Spare.{CanAppend};
 ghost use Rattle.vl_disk.specs.declared.name.Name.TheVariants as names;
 ghost use Rattle.vl_engine.specs.Known.{are_known};
+ghost use Rattle.vl_engine.specs.Lent.{LeavesTables};
 ghost use Rattle.vl_engine.specs.Staging.{IsStagedCommit, LeadTo, commit_entries, write_entry};
 ghost use Rattle.vl_front.specs.Decisions.{MayWrite};
 ghost use Rattle.vl_front.specs.Front.{IsSame};
@@ -47,6 +48,7 @@ pub fn stage_commit<D: Disk>(
     ensures version { core.new.version ≡ core.old.version }
     ensures back { core.new.back ≡ core.old.back }
     ensures no_change { ChangesNothing D.Watched disk.old disk.new ⊥ }
+    ensures lent { LeavesTables D.Watched disk.old disk.new }
 {
     let number = core.front.oracle.last() + 1;
     let frame = core

@@ -8,6 +8,7 @@ ghost use Rattle.vl_disk.specs.Faults.{HasCause, after_calls};
 ghost use Rattle.vl_disk.specs.Moments.{Elapses};
 ghost use Rattle.vl_disk.specs.Spare.{CanAppend};
 ghost use Rattle.vl_seglog.specs.Staging.{IsStagedFor};
+ghost use Rattle.vl_engine.specs.Lent.{LeavesTables};
 ghost use Rattle.vl_engine.specs.Writing.{StopsWriting, WhileWriting, written};
 
 use vl_disk::{Disk, Failed};
@@ -33,6 +34,7 @@ pub fn append_durably<D: Disk>(
     ensures number { log.new.number ≡ log.old.number }
     ensures longer { OnOk result
         (log.new.length ≡ min (log.old.length + length staged.now.frame.items) (2 ^ 64 - 1)) }
+    ensures lent { LeavesTables D.Watched disk.old disk.new }
     ensures cause { HasCause (D.faults disk.old) (D.faults disk.new) (IsErr result) }
     ensures stopped { IsTrue D.fails_cleanly
         → OnErr result (StopsWriting D.Watched (names.Log log.old.number) staged.now.frame.items disk.old disk.new) }

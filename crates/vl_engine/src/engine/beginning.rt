@@ -54,9 +54,10 @@ impl<D: Disk> Engine<D> {
         ensures version { IfOk result (λ txn. txn.version ≡ self.old.core.version) }
         ensures blocks { (files : Files) → IfOk result (λ txn. AreKept files txn.reader) }
 
-        // The disk isn't asked, and what steps need stays.
+        // The disk isn't asked, and what steps and the open merge need stays.
         ensures disk { self.new.disk ≡ self.old.disk }
         ensures back { self.new.core.back ≡ self.old.core.back }
+        ensures merging { self.new.merging ≡ self.old.merging }
     {
         let View {
             alloc,
@@ -104,6 +105,7 @@ impl<D: Disk> Engine<D> {
         ensures blocks { (files : Files) → IfOk result (λ view. AreKept files view.reader) }
         ensures disk { self.new.disk ≡ self.old.disk }
         ensures back { self.new.core.back ≡ self.old.core.back }
+        ensures merging { self.new.merging ≡ self.old.merging }
     {
         let Ok(reader) = self.disk.reader(self.alloc) else {
             return Err(BeginFail::NoMemory);

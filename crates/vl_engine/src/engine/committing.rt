@@ -91,9 +91,10 @@ impl<D: Disk> Engine<D> {
             → StopsWriting D.Watched (names.Log l.active.number)
             (frame_at log_format l.active.number l.active.length (commit_frame h (entries txn.writes))) self.old.disk self.new.disk }
 
-        // The same files stand, and what steps need stays.
+        // The same files stand, and what steps and the open merge need stays.
         ensures files { SameFiles (D.told self.old.disk) (D.told self.new.disk) }
         ensures steps { self.new.core.back ≡ self.old.core.back }
+        ensures merging { self.new.merging ≡ self.old.merging }
     {
         let Ok(decision) = self.core.front.decide(txn.number, &txn.reads, &txn.writes) else {
             return Err(CommitFail::NoMemory(txn));
@@ -129,6 +130,7 @@ impl<D: Disk> Engine<D> {
         ensures back { (back : Txn D.Held D.Reader) → handed_back result ≡ Some back → back ≡ txn }
         ensures cause { HasCause (D.faults self.old.disk) (D.faults self.new.disk) (CommitFailed result) }
         ensures steps { self.new.core.back ≡ self.old.core.back }
+        ensures merging { self.new.merging ≡ self.old.merging }
         ensures untouched { LeavesDisk result → ChangesNothing D.Watched self.old.disk self.new.disk ⊥ }
         ensures as_written { WritesAs D.Watched self.old.disk self.new.disk self.old.core self.new.core txn.ticket txn.writes result }
     {

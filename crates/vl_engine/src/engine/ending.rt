@@ -21,6 +21,7 @@ impl<D: Disk> Engine<D> {
             → Fits (D.told self.new.disk) self.new.core h (ended txn.ticket l) }
         ensures disk { self.new.disk ≡ self.old.disk }
         ensures back { self.new.core.back ≡ self.old.core.back }
+        ensures merging { self.new.merging ≡ self.old.merging }
     {
         self.end(txn.ticket);
     }
@@ -36,6 +37,7 @@ impl<D: Disk> Engine<D> {
             → Fits (D.told self.new.disk) self.new.core h (ended view.ticket l) }
         ensures disk { self.new.disk ≡ self.old.disk }
         ensures back { self.new.core.back ≡ self.old.core.back }
+        ensures merging { self.new.merging ≡ self.old.merging }
     {
         self.end(view.ticket);
     }
@@ -51,6 +53,7 @@ impl<D: Disk> Engine<D> {
             → Fits (D.told self.new.disk) self.new.core h (ended ticket l) }
         ensures disk { self.new.disk ≡ self.old.disk }
         ensures back { self.new.core.back ≡ self.old.core.back }
+        ensures merging { self.new.merging ≡ self.old.merging }
     {
         self.core.front.end(ticket);
     }

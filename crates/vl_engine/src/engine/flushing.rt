@@ -80,6 +80,9 @@ impl<D: Disk> Engine<D> {
         // The manifest gives the next log no number above that which it gets.
         ensures within { (StepFailed result → ⊥) → self.old.core.back.state.next_log ≤ self.old.core.back.next_log
             → self.new.core.back.state.next_log ≤ self.new.core.back.next_log }
+
+        // What is kept of the open merge stays.
+        ensures merging { self.new.merging ≡ self.old.merging }
     {
         if let Some(name) = self.core.front.halted {
             return Err(StepFail::Halted { name });
@@ -99,6 +102,7 @@ impl<D: Disk> Engine<D> {
         ensures cause { HasCause (D.faults self.old.disk) (D.faults self.new.disk) (StepFailed result) }
         ensures files { KeepsOthers (names.Table self.old.core.back.state.next_table) (D.told self.old.disk) (D.told self.new.disk) }
         ensures as_flushed { FlushesAs D.Watched D.Held.bytes self.old.disk self.new.disk self.old.core self.new.core result }
+        ensures merging { self.new.merging ≡ self.old.merging }
     {
         let Ok(ready) = ready_flush(self.alloc, &mut self.disk, &self.core) else {
             return Err(StepFail::NoMemory);

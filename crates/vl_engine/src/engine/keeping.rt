@@ -77,6 +77,9 @@ impl<D: Disk> Engine<D> {
         // The manifest gives the next log no number above that which it gets.
         ensures within { (KeepFailed result → ⊥) → self.old.core.back.state.next_log ≤ self.old.core.back.next_log
             → self.new.core.back.state.next_log ≤ self.new.core.back.next_log }
+
+        // What is kept of the open merge stays.
+        ensures merging { self.new.merging ≡ self.old.merging }
     {
         if let Some(name) = self.core.front.halted {
             return Err(KeepFail::Halted { name });
@@ -96,6 +99,7 @@ impl<D: Disk> Engine<D> {
         ensures cause { HasCause (D.faults self.old.disk) (D.faults self.new.disk) (KeepFailed result) }
         ensures files { SameFiles (D.told self.old.disk) (D.told self.new.disk) }
         ensures as_kept { KeepsAs D.Watched self.old.disk self.new.disk self.old.core self.new.core versions result }
+        ensures merging { self.new.merging ≡ self.old.merging }
     {
         let since = next_since(&self.core, versions);
         let edits = [Edit::Keep { versions, since }];

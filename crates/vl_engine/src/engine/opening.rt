@@ -1,4 +1,4 @@
-ghost use Rattle.std.specs.Prelude.{◌≡◌, ◌≤◌, ◌+◌, List, [], length, Some, IfErr, IfOk, IsErr, vec_capacity};
+ghost use Rattle.std.specs.Prelude.{◌≡◌, ◌≤◌, ◌+◌, List, [], length, None, Some, IfErr, IfOk, IsErr, vec_capacity};
 ghost use Rattle.vl_disk.specs.Calls.{ChangesNothing};
 ghost use Rattle.vl_disk.specs.Crash.{Image};
 ghost use Rattle.vl_disk.specs.DiskState.{DiskState};
@@ -61,6 +61,9 @@ impl<D: Disk> Engine<D> {
             → IfOk result (λ engine. IsCoreOf D.Held.bytes found room engine.core) }
         ensures back { (state : DiskState) (read : Image) (found : Finds read) → D.told disk ≡ Some state → IsRead read state
             → IfOk result (λ engine. IsBackAtStart found engine.core.back) }
+
+        // No merge is open.
+        ensures merging { IfOk result (λ engine. engine.merging ≡ None) }
 
         // What a crash leaves meanwhile shows what was opened; and opens as something that one could have left before.
         ensures through { (state : DiskState) (read : Image) (h : History) → D.told disk ≡ Some state → IsDurable state
@@ -157,7 +160,7 @@ impl<D: Disk> Engine<D> {
                     waiting,
                 },
             },
-            open: None,
+            merging: None,
         })
     }
 }

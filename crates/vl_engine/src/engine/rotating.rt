@@ -77,6 +77,9 @@ impl<D: Disk> Engine<D> {
         // The manifest gives the next log no number above that which it gets.
         ensures within { (StepFailed result → ⊥) → self.old.core.back.state.next_log ≤ self.old.core.back.next_log
             → self.new.core.back.state.next_log ≤ self.new.core.back.next_log }
+
+        // What is kept of the open merge stays.
+        ensures merging { self.new.merging ≡ self.old.merging }
     {
         match refusal(&self.core) {
             Some(answer) => answer,
@@ -90,6 +93,7 @@ impl<D: Disk> Engine<D> {
         ensures cause { HasCause (D.faults self.old.disk) (D.faults self.new.disk) (StepFailed result) }
         ensures as_rotated { RotatesAs D.Watched D.Held.bytes self.old.disk self.new.disk self.old.core self.new.core result }
         ensures files { KeepsOthers (names.Log self.old.core.back.next_log) (D.told self.old.disk) (D.told self.new.disk) }
+        ensures merging { self.new.merging ≡ self.old.merging }
     {
         let Ok(()) = self.core.back.make_room() else {
             return Err(StepFail::NoMemory);
