@@ -3,3 +3,4 @@ pub mod Merges
 pub mod Ranges
 pub mod Ruled
 pub mod Walking
+pub mod laws

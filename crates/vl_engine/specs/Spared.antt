@@ -15,10 +15,12 @@ abbrev pub AreSpared : (all left : List ℕ) → (to floor keep since : ℕ) →
 AreSpared all left to floor keep since = (n : ℕ) → n ≤ to → has n all ≡ true → has n left ≡ false
     → (n ≤ since) ⊎ Passes n (nth_below left (floor + 1) keep)
 
--- So it is with what the entries have of each key's versions in the history. The least number at which a key can be read is
--- then the same by these as by the history.
+-- So it is with what the entries have of each key's versions in the history, where more than one version is kept. The least
+-- number at which a key can be read is then the same by these as by the history. Where one version is kept it is the floor,
+-- whatever the entries have, and merges may drop a key's last version if that is a deletion.
 abbrev pub IsSpared : History → List Entry → (to floor keep since : ℕ) → Type 0
-IsSpared h es to floor keep since = (key : List ℕ) → AreSpared (versions h key) (versions_in es key) to floor keep since
+IsSpared h es to floor keep since =
+    2 ≤ keep → (key : List ℕ) → AreSpared (versions h key) (versions_in es key) to floor keep since
 
 -- and with the sources of a layout
 abbrev pub Spares : Layout → History → Type 0

@@ -14,6 +14,14 @@ pub mod FlushRulings
 pub mod FlushTidy
 pub mod FrontLaws
 pub mod HeldLaws
+pub mod InstallApplies
+pub mod InstallBase
+pub mod InstallBeside
+pub mod InstallLaws
+pub mod InstallPlaces
+pub mod InstallSpared
+pub mod InstallSpares
+pub mod InstallTables
 pub mod IntactLaws
 pub mod KeepLaws
 pub mod KeptLaws

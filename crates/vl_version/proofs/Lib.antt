@@ -7,6 +7,7 @@ mod LogLaws
 mod LookLaws
 mod NearLaws
 mod looking
+mod marking
 mod NewestLaws
 mod OldestLaws
 mod OverLaws

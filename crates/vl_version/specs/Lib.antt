@@ -1,4 +1,5 @@
 pub mod Answers
+pub mod Bases
 pub mod Faults
 pub mod Flushing
 pub mod Gathered

@@ -3,3 +3,4 @@ pub mod LevelsLooked
 pub mod LevelTables
 pub mod LookedUp
 pub mod Looks
+pub mod Marks

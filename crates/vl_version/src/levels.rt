@@ -20,6 +20,7 @@ ghost use Rattle.vl_version.specs.declared.levels.look.Look.TheVariants as looks
 mod level;
 mod look;
 mod lookup;
+mod marking;
 mod sharing;
 
 pub use level::Level;

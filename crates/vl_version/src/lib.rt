@@ -12,8 +12,12 @@
 //! The rows of a scan are merged from all sources and the caller's own writes: a row costs a logarithm of the number of
 //! sources comparisons of keys, and nothing is read behind the last row but one entry of each source. A table whose range
 //! lies outside the interval is no source; each other one of level 0 is, and each deeper level.
+//!
+//! A merge of some tables asks what the other sources have of a key, by `Base`. That costs the look-ups in all memtables and in
+//! those other tables that may have it; its own tables are asked only where another one has the key and version.
 #![tactic(auto)]
 
+mod base;
 mod behind;
 mod fault;
 mod flushing;
@@ -23,6 +27,7 @@ mod gather;
 mod levels;
 mod newest;
 mod own;
+mod owned;
 mod resolving;
 mod rotating;
 mod rows;
@@ -31,6 +36,7 @@ mod source;
 mod version;
 mod wanted;
 
+pub use base::Base;
 pub use behind::Behind;
 pub use fault::ReadFault;
 pub use flushing::FlushedVersion;

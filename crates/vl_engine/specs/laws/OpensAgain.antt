@@ -86,7 +86,7 @@ shown_may_open disk files logs_settled tables_settled manifests never shown = re
 }
 
 -- removed manifests are below one that stands and leads
-below_lead : (n : ℕ) (disk : DiskState) → IsLawful disk → (f : File) → get disk.standing (Manifest n) ≡ Some f
+pub below_lead : (n : ℕ) (disk : DiskState) → IsLawful disk → (f : File) → get disk.standing (Manifest n) ≡ Some f
     → ((m : ℕ) → n < m → IsNowhere disk (Manifest m))
     → (m : ℕ) → get disk.removed (Manifest m) ≢ None → (k : ℕ) × (m < k) × (get disk.standing (Manifest k) ≢ None)
 below_lead n disk lawful f stands above m gone = (n, low, λ none. some_none f (sym stands ∙ none))
@@ -288,7 +288,7 @@ module _ (b : Base) (edits : List Edit) (state : ManifestState) (before : List S
 
 -- ---- a flush
 
-table_may : (n : ℕ) (f : File) → MayStand (Table n) f
+pub table_may : (n : ℕ) (f : File) → MayStand (Table n) f
 table_may n f = record { no_chance = λ right grows. absurd grows; headless = λ wrong. absurd wrong }
 
 module _ (b : Base) (l : Layout) (h : History) (s : Segment) (disk : DiskState) (base : IsBase b l h)

@@ -28,7 +28,7 @@ true_false is = cc
 module _ (all left : List ℕ) (to floor keep since : ℕ) (within : floor ≤ to) (among : AreAmong left all)
     (spared : AreSpared all left to floor keep since) where
   -- at most since, or reached by the other
-  abbrev IsNear : Option ℕ → Option ℕ → Type 0
+  abbrev pub IsNear : Option ℕ → Option ℕ → Type 0
   IsNear None o = Unit {0}
   IsNear (Some m) o = (m ≤ since) ⊎ laws.Reaches m o
 
@@ -40,7 +40,7 @@ module _ (all left : List ℕ) (to floor keep since : ℕ) (within : floor ≤ t
       by_parts (Some x) None r p = absurd r
       by_parts (Some x) (Some y) r p = omega (arith, r, p)
 
-  near : (i : ℕ) → i ≤ keep → IsNear (nth_below all (floor + 1) i) (nth_below left (floor + 1) i)
+  pub near : (i : ℕ) → i ≤ keep → IsNear (nth_below all (floor + 1) i) (nth_below left (floor + 1) i)
   near zero le = inr (omega arith)
   near (suc i) le = by_before (nth_below all (floor + 1) i) (nth_below left (floor + 1) i) (near i (omega (arith, le)))
       (passed (suc i) le) (nth-fewer_than all (floor + 1) 0 i (omega arith))
@@ -93,8 +93,10 @@ module _ (all left : List ℕ) (to floor keep since : ℕ) (within : floor ≤ t
 -- So it is of entries: the least number at which the key can be read is told by them.
 pub low_exact : (h : History) (es : List Entry) (to floor keep since : ℕ) (key : List ℕ) → floor ≤ to → AreOf h es
     → IsSpared h es to floor keep since → low_of (versions_in es key) floor keep since ≡ low h floor keep since key
-low_exact h es to floor keep since key within of spared =
-    low_same (versions h key) (versions_in es key) to floor keep since within (of key) (spared key)
+low_exact h es to floor zero since key within of spared = refl
+low_exact h es to floor (suc zero) since key within of spared = refl
+low_exact h es to floor (suc (suc keep)) since key within of spared =
+    low_same (versions h key) (versions_in es key) to floor (suc (suc keep)) since within (of key) (spared (omega arith) key)
 
 -- Entries each of which is of a version of its key have among their versions only those.
 pub are_of : (h : History) (es : List Entry) → AllByRecursion (IsOf h) es → AreOf h es
@@ -119,7 +121,7 @@ are_of h es all key n there = by es all (sym (has-versions_in key n es) ∙ ther
 
 -- ---- what keeps it
 
-passes_risen : (m : ℕ) (a b : Option ℕ) → AreRisen a b → Passes m a → Passes m b
+pub passes_risen : (m : ℕ) (a b : Option ℕ) → AreRisen a b → Passes m a → Passes m b
 passes_risen m None b r p = absurd p
 passes_risen m (Some x) None r p = absurd r
 passes_risen m (Some x) (Some y) r p = omega (arith, r, p)
@@ -130,13 +132,13 @@ pub spared_later : (h h' : History) (es es' : List Entry) (to to' floor floor' k
     → ((key : List ℕ) (n : ℕ) → n ≤ to' → has n (versions h' key) ≡ true → has n (versions_in es' key) ≡ false
     → (n ≤ to) × (has n (versions h key) ≡ true))
     → IsSpared h es to floor keep since → IsSpared h' es' to' floor' keep since
-spared_later h h' es es' to to' floor floor' keep since up stand old spared key n le there missing =
+spared_later h h' es es' to to' floor floor' keep since up stand old spared two key n le there missing =
     let was = old key n le there missing in
     ⊎_elim (λ (early : n ≤ since). inl early)
     (λ (p : Passes n (nth_below (versions_in es key) (floor + 1) keep)).
     inr (passes_risen n (nth_below (versions_in es key) (floor + 1) keep) (nth_below (versions_in es' key) (floor' + 1) keep)
     (nth-risen (versions_in es key) (versions_in es' key) (stand key) (floor + 1) (floor' + 1) keep (omega (arith, up))) p))
-    (spared key n was.0 was.1 (not_in (has n (versions_in es key)) refl))
+    (spared two key n was.0 was.1 (not_in (has n (versions_in es key)) refl))
   where
     not_in : (t : Bool) → has n (versions_in es key) ≡ t → has n (versions_in es key) ≡ false
     not_in true at = absurd (true_false (sym (stand key n at) ∙ missing))
@@ -151,25 +153,26 @@ spared_up h es to floor floor' keep since up =
 -- a lesser number up to which it is asked,
 pub spared_to : (h : History) (es : List Entry) (to to' floor keep since : ℕ) → to' ≤ to
     → IsSpared h es to floor keep since → IsSpared h es to' floor keep since
-spared_to h es to to' floor keep since less spared key n le there missing = spared key n (omega (arith, le, less)) there missing
+spared_to h es to to' floor keep since less spared two key n le there missing =
+    spared two key n (omega (arith, le, less)) there missing
 
 -- and a change of how many are kept: where there are more, it holds whatever there was before.
 pub spared_raised : (h : History) (es : List Entry) (to floor keep since more : ℕ) → keep < more
     → IsSpared h es to floor more (since_kept (last_number h) keep since more)
-spared_raised h es to floor keep since more is key n le there missing =
+spared_raised h es to floor keep since more is two key n le there missing =
     let up : nat_lt keep more ≡ true = grind (arith, nat_tests, is) in
     let last = versions-up h key n there in
     inl (subst (λ (t : Bool). n ≤ cond t (last_number h) since) (sym up) last)
 
 pub spared_lowered : (h : History) (es : List Entry) (to floor keep since fewer : ℕ) → fewer ≤ keep
     → IsSpared h es to floor keep since → IsSpared h es to floor fewer (since_kept (last_number h) keep since fewer)
-spared_lowered h es to floor keep since fewer is spared key n le there missing =
+spared_lowered h es to floor keep since fewer is spared two key n le there missing =
     let down : nat_lt keep fewer ≡ false = grind (arith, nat_tests, is) in
     ⊎_elim (λ (old : n ≤ since). inl (subst (λ (t : Bool). n ≤ cond t (last_number h) since) (sym down) old))
     (λ (p : Passes n (nth_below (versions_in es key) (floor + 1) keep)).
     inr (passes_risen n (nth_below (versions_in es key) (floor + 1) keep) (nth_below (versions_in es key) (floor + 1) fewer)
     (nth-fewer_than (versions_in es key) (floor + 1) fewer keep is) p))
-    (spared key n le there missing)
+    (spared (omega (arith, two, is)) key n le there missing)
 
 pub spared_keep : (h : History) (es : List Entry) (to floor keep since v : ℕ) → IsSpared h es to floor keep since
     → IsSpared h es to floor v (since_kept (last_number h) keep since v)
@@ -217,8 +220,8 @@ older least most e key n le there = by_old (has n (versions least key)) refl
 -- So it stays, up to a number of the earlier one, whatever is committed later;
 pub spared_extends : (least most : History) → Extends least most → (es : List Entry) (to floor keep since : ℕ)
     → to ≤ last_number least → IsSpared least es to floor keep since → IsSpared most es to floor keep since
-spared_extends least most e es to floor keep since le spared key n up there missing =
-    spared key n up (older least most e key n (omega (arith, up, le)) there) missing
+spared_extends least most e es to floor keep since le spared two key n up there missing =
+    spared two key n up (older least most e key n (omega (arith, up, le)) there) missing
 
 -- and so does the least number at which a key can be read, over a floor that the earlier one has.
 pub low_stays : (least most : History) → Extends least most → (floor keep since : ℕ) (key : List ℕ) → floor ≤ last_number least

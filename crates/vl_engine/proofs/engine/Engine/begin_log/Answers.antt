@@ -1,13 +1,38 @@
 use Rattle.std.proofs.Common.{◌≡◌, ap, arith, refl, ◌∙◌, ℕ}
 use Rattle.vl_engine.proofs.Begins.{begins_making, begins_nothing, keeps_making, keeps_told, made_so, next_back, next_version, none_known, same_back, still_numbered, stops_making, then_numbered}
 use Rattle.vl_engine.proofs.Fitting.{fit_halted}
+use Rattle.vl_engine.proofs.Lending.{leaves_made, leaves_then, still_lent}
 use Rattle.vl_engine.proofs.RotateFit.{fit_rotated, stands_still}
 use Rattle.vl_engine.specs.Rotating.{IsNextBack, IsSameBack, at_hold}
+use Rattle.vl_manifest.specs.declared.state.ManifestState.{ManifestState}
 use Rattle.vl_memtable.specs.Contents.{Contents}
 use Rattle.vl_seglog.specs.declared.active.ActiveLog.{ActiveLog}
 use Rattle.vl_engine.proofs.engine.Engine.begin_log.Goals as goal
 
+-- there was no room
+
+pub invariant_of-self-in-Err-NoMemory-clause-lent : goal.invariant_of-self-in-Err-NoMemory-clause-lent
+invariant_of-self-in-Err-NoMemory-clause-lent g c =
+    let before = c.args.self.now in
+    let same : IsSameBack before.core.back c.make_room.new.self =
+    same_back before.core.back c.make_room.new.self c.in-Ok.ensures.others c.in-Ok.ensures.waiting in
+    let up = ap (λ (s : ManifestState). s.next_table) same.state in
+    still_lent g.D.Watched before.disk c.stage_rotation.new.disk before.core.back.state.next_table
+    c.make_room.new.self.state.next_table before.merging (omega (arith, up))
+    (c.stage_rotation.ensures.lent before.core.back.state.next_table) before.lent
+
 -- it failed at the hold
+
+pub invariant_of-self-in-Err-Failed-clause-lent : goal.invariant_of-self-in-Err-Failed-clause-lent
+invariant_of-self-in-Err-Failed-clause-lent g c =
+    let before = c.args.self.now in
+    let same : IsSameBack before.core.back c.make_room.new.self =
+    same_back before.core.back c.make_room.new.self c.in-Ok.ensures.others c.in-Ok.ensures.waiting in
+    let up = ap (λ (s : ManifestState). s.next_table) same.state in
+    still_lent g.D.Watched before.disk c.stage_rotation.new.disk before.core.back.state.next_table
+    c.make_room.new.self.state.next_table before.merging (omega (arith, up))
+    (c.stage_rotation.ensures.lent before.core.back.state.next_table) before.lent
+
 pub returns-in-Err-Failed-clause-as_rotated : goal.returns-in-Err-Failed-clause-as_rotated
 returns-in-Err-Failed-clause-as_rotated g c =
     let before = c.args.self.now.core in
@@ -38,6 +63,13 @@ invariant_of-self-in-Err g c =
           (λ state is. ((c.args.self.now.ready state is).steps c.requires.running).logs next
           (let up = same.next_log in omega (arith, up))));
       numbered = still_numbered before.back c.make_room.new.self same c.args.self.now.numbered;
+      lent = let up = ap (λ (s : ManifestState). s.next_table) same.state in
+          still_lent g.D.Watched c.args.self.now.disk c.make_log.new.disk before.back.state.next_table
+          c.make_room.new.self.state.next_table c.args.self.now.merging (omega (arith, up))
+          (leaves_then g.D.Watched before.back.state.next_table c.args.self.now.disk c.stage_rotation.new.disk c.make_log.new.disk
+          (c.in-Ok-stage_rotation.ensures.lent before.back.state.next_table)
+          (leaves_made g.D.Watched c.stage_rotation.new.disk c.make_log.new.disk next c.in-Err.ensures.files c.in-Err.ensures.untold
+          c.in-Err.ensures.spare before.back.state.next_table)) c.args.self.now.lent;
       known = c.args.self.now.known;
     }
 
@@ -90,6 +122,14 @@ invariant_of-self-2 g c =
           (made_so g.D.Watched before old mid new _ quiet c.make_room.new.self.next_log same.next_log _
           c.in_default-make_log.ensures.makes c.in_default-make_log.ensures.makes.done) c.args.self.now.ready;
       numbered = then_numbered before c.apply_rotation.new.self next_is c.args.self.now.numbered;
+      lent = let up = ap (λ (s : ManifestState). s.next_table) next_is.state in
+          still_lent g.D.Watched old new before.back.state.next_table c.apply_rotation.new.self.state.next_table
+          c.args.self.now.merging (omega (arith, up))
+          (leaves_then g.D.Watched before.back.state.next_table old mid new
+          (c.in-Ok-stage_rotation.ensures.lent before.back.state.next_table)
+          (leaves_made g.D.Watched mid new c.make_room.new.self.next_log c.in_default-make_log.ensures.files
+          c.in_default-make_log.ensures.untold c.in_default-make_log.ensures.spare before.back.state.next_table))
+          c.args.self.now.lent;
       known = none_known before.front.oracle.last c.in-Ok-stage_rotation.version.active.entries
           (ap (λ (contents : Contents). contents.entries) c.in-Ok-stage_rotation.ensures.version.is.active);
     }

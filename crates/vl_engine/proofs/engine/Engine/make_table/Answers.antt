@@ -2,6 +2,7 @@ use Rattle.std.proofs.Common.{List, ap, arith, refl, sym, ◌∙◌, ℕ}
 use Rattle.std.specs.Prelude.{Some}
 use Rattle.vl_disk.specs.declared.name.Name.TheVariants as names
 use Rattle.vl_engine.proofs.FlushKeeps.{changed_by, failed_then, fit_flushed, fit_unflushed, kept_from, next_then, still_told, stops_by, writes_by}
+use Rattle.vl_engine.proofs.Lending.{leaves_then, leaves_written, still_lent}
 use Rattle.vl_engine.specs.Fit.{IsFitFor}
 use Rattle.vl_engine.specs.Known.{are_known}
 use Rattle.vl_manifest.specs.declared.manifest_log.ManifestLog.{ManifestLog}
@@ -46,6 +47,12 @@ invariant_of-self-in-Ok-write_and_switch g c =
           (λ disk now fit kept. fit_flushed core _ disk now fit kept refl c.requires.running
           (ap (λ (m : ManifestLog). m.number) applied.manifest ∙ wrote.number) applied.next_log next);
       numbered = (omega (arith, some, next_log), omega (arith, next));
+      lent = still_lent g.D.Watched c.args.self.now.disk c.write_and_switch.new.disk core.back.state.next_table
+          c.apply_flush.new.self.state.next_table c.args.self.now.merging (omega (arith, next))
+          (leaves_then g.D.Watched core.back.state.next_table c.args.self.now.disk c.ready_flush.new.disk
+          c.write_and_switch.new.disk c.in-Ok.ensures.lent
+          (leaves_written g.D.Watched c.ready_flush.new.disk c.write_and_switch.new.disk core.back.manifest.number
+          core.back.state.next_table wrote.files wrote.untold wrote.beside)) c.args.self.now.lent;
       known = ap (λ (m : Contents). are_known core.front.oracle.last m.entries)
           (c.with_table.ensures.active ∙ c.in-Ok.ensures.version.active) ∙ c.args.self.now.known;
     }
@@ -104,6 +111,12 @@ invariant_of-self-in-Err g c =
           (λ disk told. c.args.self.now.ready disk (sym c.in-Ok.ensures.no_change.told ∙ told)) wrote.files wrote.untold
           (λ disk now fit kept. fit_unflushed core _ disk now fit kept refl c.in-Err.name refl);
       numbered = c.args.self.now.numbered;
+      lent = still_lent g.D.Watched c.args.self.now.disk c.write_and_switch.new.disk core.back.state.next_table
+          core.back.state.next_table c.args.self.now.merging (omega arith)
+          (leaves_then g.D.Watched core.back.state.next_table c.args.self.now.disk c.ready_flush.new.disk
+          c.write_and_switch.new.disk c.in-Ok.ensures.lent
+          (leaves_written g.D.Watched c.ready_flush.new.disk c.write_and_switch.new.disk core.back.manifest.number
+          core.back.state.next_table wrote.files wrote.untold wrote.beside)) c.args.self.now.lent;
       known = c.args.self.now.known;
     }
 

@@ -98,6 +98,7 @@ invariant_of-result g c = record {
         leveled = subst (AreLeveled c.in-Ok-recover.parts.levels.items) (sym c.new.ensures.levels) c.with_levels-leveled.ensures;
         logs = c.new.ensures.logs;
       }) c.in-Ok-recover.ensures.numbered;
+  lent = λ o is. absurd cc;
   known = ap (λ (held : Contents). are_known c.new-2.result.oracle.last held.entries) c.new.ensures.active;
 }
 

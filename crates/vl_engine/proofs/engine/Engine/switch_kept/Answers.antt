@@ -1,7 +1,8 @@
-use Rattle.std.proofs.Common.{ap, refl, ℕ}
+use Rattle.std.proofs.Common.{ap, arith, refl, ℕ}
 use Rattle.vl_disk.specs.DiskState.{appended}
 use Rattle.vl_disk.specs.declared.name.Name.TheVariants as names
 use Rattle.vl_engine.proofs.KeptBy.{files_in_part, files_switched, fit_by, same_after, same_by, staged_by, stops_by, writes_by}
+use Rattle.vl_engine.proofs.Lending.{leaves_switch, leaves_then, leaves_told, no_manifest, still_lent}
 use Rattle.vl_manifest.specs.Switching.{switched}
 use Rattle.vl_engine.proofs.engine.Engine.switch_kept.Goals as goal
 
@@ -17,6 +18,14 @@ invariant_of-self-in-Ok-switch g c =
           (told c.switch.new.disk) c.in-Ok.ensures.no_change.told c.in-Ok-switch.ensures.switched.performs.done
           (files_switched core.back.manifest.number c.in-Ok.staged.frame.items) c.args.self.now.ready;
       numbered = c.args.self.now.numbered;
+      lent = still_lent g.D.Watched c.args.self.now.disk c.switch.new.disk core.back.state.next_table core.back.state.next_table
+          c.args.self.now.merging (omega arith)
+          (leaves_then g.D.Watched core.back.state.next_table c.args.self.now.disk c.stage.new.disk c.switch.new.disk
+          (leaves_told g.D.Watched c.args.self.now.disk c.stage.new.disk (names.Manifest core.back.manifest.number)
+          (no_manifest core.back.manifest.number) c.in-Ok.ensures.no_change.told c.in-Ok.ensures.elsewhere
+          core.back.state.next_table)
+          (leaves_switch g.D.Watched c.stage.new.disk c.switch.new.disk core.back.manifest.number c.in-Ok.staged.frame.items _
+          c.in-Ok-switch.ensures.switched core.back.state.next_table)) c.args.self.now.lent;
       known = c.args.self.now.known;
     }
 
@@ -65,6 +74,14 @@ invariant_of-self-in-Err g c =
           (told c.stage.new.disk) (told c.switch.new.disk) c.in-Ok.ensures.no_change.told changed
           (files_in_part core.back.manifest.number c.in-Ok.staged.frame.items taken) c.args.self.now.ready;
       numbered = c.args.self.now.numbered;
+      lent = still_lent g.D.Watched c.args.self.now.disk c.switch.new.disk core.back.state.next_table core.back.state.next_table
+          c.args.self.now.merging (omega arith)
+          (leaves_then g.D.Watched core.back.state.next_table c.args.self.now.disk c.stage.new.disk c.switch.new.disk
+          (leaves_told g.D.Watched c.args.self.now.disk c.stage.new.disk (names.Manifest core.back.manifest.number)
+          (no_manifest core.back.manifest.number) c.in-Ok.ensures.no_change.told c.in-Ok.ensures.elsewhere
+          core.back.state.next_table)
+          (leaves_switch g.D.Watched c.stage.new.disk c.switch.new.disk core.back.manifest.number c.in-Ok.staged.frame.items _
+          c.in-Err.ensures.switched core.back.state.next_table)) c.args.self.now.lent;
       known = c.args.self.now.known;
     }
 

@@ -1,14 +1,16 @@
-use Rattle.std.proofs.Common.{◌≡◌, ◌+◌, ◌-◌, ◌^◌, length, min, ℕ, ap, sym, subst, ◌∙◌}
+use Rattle.std.proofs.Common.{◌≡◌, ◌+◌, ◌-◌, ◌^◌, length, min, ℕ, ap, arith, sym, subst, ◌∙◌}
 use Rattle.std.specs.Option.{ForSome}
 use Rattle.std.specs.Prelude.{Option, Some, true}
+use Rattle.vl_back.specs.declared.back.Back.{Back}
 use Rattle.vl_disk.specs.DiskState.{DiskState}
 use Rattle.vl_disk.specs.declared.name.Name.TheVariants as names
 use Rattle.vl_engine.proofs.Fitting.{fit_still, fit_written}
+use Rattle.vl_engine.proofs.Lending.{leaves_then, still_lent}
 use Rattle.vl_engine.proofs.Written.{changed_by, hands_by, known_then, knows_alike, longer, stopped_by}
 use Rattle.vl_engine.specs.Fit.{IsFitFor}
 use Rattle.vl_engine.specs.Known.{are_known}
-use Rattle.vl_oracle.specs.LiveTickets.{LiveTickets}
 use Rattle.vl_oracle.specs.LiveTickets as oracle
+use Rattle.vl_oracle.specs.LiveTickets.{LiveTickets}
 use Rattle.vl_seglog.specs.declared.active.ActiveLog.{ActiveLog}
 use Rattle.vl_version.specs.declared.version.Version.{Version}
 use Rattle.vl_engine.proofs.engine.Engine.write.Goals as goal
@@ -43,6 +45,14 @@ invariant_of-self-clause-ready g c state told =
     fit_still c.args.self.now.core c.stage_commit.new.core (ap (λ (log : ActiveLog). log.number) same.log.log) same.log.halted
     c.in_default.ensures.back state (c.args.self.now.ready state (sym c.in_default.ensures.no_change.told ∙ told))
 
+pub invariant_of-self-clause-lent : goal.invariant_of-self-clause-lent
+invariant_of-self-clause-lent g c =
+    let before = c.args.self.now in
+    let same = ap (λ (b : Back). b.state.next_table) c.in_default.ensures.back in
+    still_lent g.D.Watched before.disk c.stage_commit.new.disk before.core.back.state.next_table
+    c.stage_commit.new.core.back.state.next_table before.merging (omega (arith, same))
+    (c.in_default.ensures.lent before.core.back.state.next_table) before.lent
+
 pub invariant_of-self-clause-known : goal.invariant_of-self-clause-known
 invariant_of-self-clause-known g c =
     let before = c.args.self.now.core in
@@ -50,6 +60,24 @@ invariant_of-self-clause-known g c =
     (sym c.in_default.ensures.version)
     (subst (λ (o : LiveTickets). are_known o.last before.version.active.entries ≡ true) (sym c.in_default.ensures.same.oracle)
     c.args.self.now.known)
+
+pub invariant_of-self-in_default-append_durably-clause-lent : goal.invariant_of-self-in_default-append_durably-clause-lent
+invariant_of-self-in_default-append_durably-clause-lent g c =
+    let before = c.args.self.now in
+    let next = before.core.back.state.next_table in
+    let same = ap (λ (b : Back). b.state.next_table) c.in-Ok.ensures.back in
+    still_lent g.D.Watched before.disk c.append_durably.new.disk next c.stage_commit.new.core.back.state.next_table
+    before.merging (omega (arith, same))
+    (leaves_then g.D.Watched next before.disk c.stage_commit.new.disk c.append_durably.new.disk (c.in-Ok.ensures.lent next)
+    (c.append_durably.ensures.lent next)) before.lent
+
+pub invariant_of-self-in_default-append_durably-clause-known : goal.invariant_of-self-in_default-append_durably-clause-known
+invariant_of-self-in_default-append_durably-clause-known g c =
+    let before = c.args.self.now.core in
+    let last = c.end.ensures.oracle ∙ ap (oracle.ended c.args.txn.ticket) c.in-Ok.ensures.same.oracle in
+    subst (λ (v : Version g.row.D-Held.Denot). are_known c.end.new.self.oracle.last v.active.entries ≡ true)
+    (sym c.in-Ok.ensures.version)
+    (subst (λ (o : LiveTickets). are_known o.last before.version.active.entries ≡ true) (sym last) c.args.self.now.known)
 
 pub invariant_of-self-2-clause-ready : goal.invariant_of-self-2-clause-ready
 invariant_of-self-2-clause-ready g c =
@@ -62,6 +90,16 @@ invariant_of-self-2-clause-ready g c =
     (c.committed.ensures.log.halted ∙ same.log.halted) c.in-Ok.ensures.back name c.in-Ok.staged.frame.frame.items _ _
     (subst (λ (told : Option DiskState). ForSome told (IsFitFor before)) (sym c.in-Ok.ensures.no_change.told) c.args.self.now.ready)
     (rw c.in-Ok-append_durably.is at c.append_durably.ensures.written)
+
+pub invariant_of-self-2-clause-lent : goal.invariant_of-self-2-clause-lent
+invariant_of-self-2-clause-lent g c =
+    let before = c.args.self.now in
+    let next = before.core.back.state.next_table in
+    let same = ap (λ (b : Back). b.state.next_table) c.in-Ok.ensures.back in
+    still_lent g.D.Watched before.disk c.append_durably.new.disk next c.stage_commit.new.core.back.state.next_table
+    before.merging (omega (arith, same))
+    (leaves_then g.D.Watched next before.disk c.stage_commit.new.disk c.append_durably.new.disk (c.in-Ok.ensures.lent next)
+    (c.append_durably.ensures.lent next)) before.lent
 
 pub invariant_of-self-2-clause-known : goal.invariant_of-self-2-clause-known
 invariant_of-self-2-clause-known g c =

@@ -1,0 +1,225 @@
+-- What an install's switch makes of the base, and that the layout behind it is tidy: its tables lead where those led that they
+-- take the place of, in logs that stay.
+use Rattle.std.specs.Prelude.{◌≡◌, ℕ, ◌+◌, Bool, true, false, not, if◌then◌else◌, List, [], ◌∷◌, ◌++◌, Option, None, Some, refl}
+use Rattle.std.specs.List.{AllByRecursion, flat_map}
+use Rattle.std.proofs.Common.{sym, ap, subst, ◌∙◌, arith}
+use Rattle.std.proofs.lemmas.Bool.Decides.{nat_tests}
+use Rattle.vl_block.specs.Cutting.{points_of}
+use Rattle.vl_block.specs.declared.points.Point.{Point}
+use Rattle.vl_disk.specs.DiskState.{DiskState}
+use Rattle.vl_engine.specs.Files.{HoldsLog, HoldsTable, IsLogFile, found_levels}
+use Rattle.vl_engine.specs.Held.{Base, Holds, HoldsFiles, IsBase}
+use Rattle.vl_engine.specs.Pointed.{IsFramedAmong, layout_logs}
+use Rattle.vl_engine.specs.laws.FileLaws.{all_each, all_filtered, all_front}
+use Rattle.vl_engine.specs.laws.FlushBase.{state_more}
+use Rattle.vl_engine.specs.laws.FlushTidy.{IsThere, IsWider, all_alike, flat_far, memtables_far, tables_far, tidy_with}
+use Rattle.vl_engine.specs.laws.HeldLaws.{sources_held}
+use Rattle.vl_engine.specs.laws.InstallApplies.{edits_of, install_applies, levels_are, state}
+use Rattle.vl_engine.specs.laws.InstallSpares.{rest_spares_installed}
+use Rattle.vl_engine.specs.laws.LedLaws.{AreFarTo, IsFarTo, among_in, led_in, points_led}
+use Rattle.vl_engine.specs.laws.SegmentLaws.{segment_wider}
+use Rattle.vl_engine.specs.laws.SwitchLaws.{switched_base}
+use Rattle.vl_frame.specs.Runs.{HasFrame}
+use Rattle.vl_layout.specs.Jobs.{AreLent, AreOutputs, Made, job_ended}
+use Rattle.vl_layout.specs.Levels.{is_among}
+use Rattle.vl_layout.specs.Logs.{memtable}
+use Rattle.vl_layout.specs.Merging.{outputs}
+use Rattle.vl_layout.specs.Ruling.{Ruling, has_no_version, is_idle, leaving}
+use Rattle.vl_layout.specs.Rulings.Install.{Exhausted, InstallAnswer, Installed, install_checked, install_ruling, install_unless, installed, moved_since, put_in, race}
+use Rattle.vl_layout.specs.Start.{has_frames}
+use Rattle.vl_layout.specs.Sources.{behind_active, sources, table_entries, tables}
+use Rattle.vl_layout.specs.Stock.{is_into}
+use Rattle.vl_layout.specs.Tidy.{IsTidy, sealed}
+use Rattle.vl_layout.specs.declared.file_name.FileName.{FileName}
+use Rattle.vl_layout.specs.declared.job.OpenJob.{OpenJob}
+use Rattle.vl_layout.specs.declared.layout.Layout.{Layout}
+use Rattle.vl_layout.specs.declared.segment.Segment.{Segment}
+use Rattle.vl_layout.specs.declared.table.Table.{Table}
+use Rattle.vl_layout.specs.laws.ShowsLaws.{all_both}
+use Rattle.vl_layout_laws.specs.laws.JobTables.{IsIntoWell, all_made, entries_into, made_from, of_each_point}
+use Rattle.vl_layout_laws.specs.laws.Switches.{all_replaced}
+use Rattle.vl_layout_laws.specs.laws.TidyRulings.{install_tidy}
+use Rattle.vl_manifest.specs.Grammar.{edits_grammar}
+use Rattle.vl_manifest.specs.States.{are_next}
+use Rattle.vl_model.specs.Conflicts.{Named}
+use Rattle.vl_model.specs.Formats.{manifest_format}
+use Rattle.vl_model.specs.History.{History}
+use Rattle.vl_model.specs.declared.counter.Counter.TheVariants as counter
+use Rattle.vl_model.specs.declared.entry.Body.{Body}
+use Rattle.vl_model.specs.declared.entry.Body.TheVariants.{Far, Gone, Inline, Logged}
+use Rattle.vl_model.specs.declared.entry.Entry.{Entry}
+use Rattle.vl_recover.specs.crash.Held.{HoldsLogs}
+use Rattle.vl_recover.specs.opening.Opening.{IsAmong, led_into}
+
+-- ---- the ruling
+
+-- what it is where the job's tables are put in
+abbrev pub install_made : Layout → History → OpenJob → Made → Ruling InstallAnswer
+install_made l h o made =
+    record { answer = Installed; history = h; layout = installed o.job made l; calls = 2; gone = [] }
+
+-- What lets an install go on: nothing failed, no deletion that it dropped was moved meanwhile, and a version number is left.
+pub record GoesOn (l : Layout) (o : OpenJob) : Type 0 where
+  pub running : l.halted ≡ None
+  pub open_is : l.job ≡ Some o
+  pub unraced : race o.job o.moved ≡ None
+  pub version : has_no_version l ≡ false
+
+pub install_made_so : (l : Layout) (h : History) (o : OpenJob) (made : Made) → GoesOn l o
+    → install_made l h o made ≡ install_ruling l h o.job made
+install_made_so l h o made goes = sym (
+    ap (λ (halted : Option FileName). install_unless halted l h o.job made) goes.running
+    ∙ ap (λ (named : Option Named). install_checked l h o.job made named)
+    (ap (λ (job : Option OpenJob). race o.job (moved_since job)) goes.open_is ∙ goes.unraced)
+    ∙ ap (λ (b : Bool). if b then leaving (Exhausted counter.Version) h (job_ended made l) else install_made l h o made) goes.version)
+
+-- ---- where points tell that entries lead
+
+far_point : (P : ℕ → Type 0) (body : Body) → ((n : ℕ) → is_into n (record { key = []; version = 0; body = body }) ≡ true → P n)
+    → IsFarTo P body
+far_point P (Inline value) into = tt
+far_point P Gone into = tt
+far_point P (Far p) into = into p.segment (grind (arith, nat_tests))
+far_point P (Logged value p) into = tt
+
+far_points : (P : ℕ → Type 0) (es : List Entry) → AllByRecursion (λ (p : Point). P p.segment) (points_of es) → AreFarTo P es
+far_points P es points = by es (entries_into P es (of_each_point P (points_of es) points))
+  where
+    by : (fs : List Entry) → AllByRecursion (IsIntoWell P) fs → AreFarTo P fs
+    by [] into = tt
+    by (f ∷ fs) into = (far_point P f.body into.0, by fs into.1)
+
+-- ---- what is asked
+
+-- What an install is staged with: it goes on, its tables were made of the job and stand, with numbers of their own, and its frame
+-- can be spelled.
+pub record CanInstall (b : Base) (l : Layout) (o : OpenJob) (made : Made) (disk : DiskState) : Type 0 where
+  pub goes : GoesOn l o
+  pub lent : AreLent o.lent made
+  pub all : AreOutputs o.job made
+  pub stand : AllByRecursion (HoldsTable disk) made.tables
+  pub next : are_next l.next_log l.next_table ≡ true
+  pub frame : HasFrame (edits_grammar manifest_format) (edits_of b l o.job made)
+
+module _ (b : Base) (l : Layout) (h : History) (o : OpenJob) (made : Made) (disk : DiskState) (base : IsBase b l h)
+    (tidy : IsTidy (layout_logs l) l h) (holds : Holds b l disk) (can : CanInstall b l o made disk) where
+  abbrev pub next : Layout
+  next = installed o.job made l
+
+  -- ---- tables
+
+  -- What is so of all tables and of those that were made is so of all tables then.
+  pub tables_then : (P : Table → Type 0) → AllByRecursion P (tables l) → AllByRecursion P made.tables
+      → AllByRecursion P (tables next)
+  tables_then P were are = all_replaced P o.job.inputs made.tables are o.job.target l.levels
+      (all_each P (λ (t : Table). is_among o.job.inputs t ≡ false → P t) (tables l) (λ t so out. so) were)
+
+  -- what is so of all tables' entries is so of those of the tables that were made
+  made_entries : (Q : Entry → Type 0) → AllByRecursion (λ (t : Table). AllByRecursion Q t.entries) (tables l)
+      → AllByRecursion (λ (t : Table). AllByRecursion Q t.entries) made.tables
+  made_entries Q each = subst (AllByRecursion (λ (t : Table). AllByRecursion Q t.entries)) (sym can.all.tables)
+      (all_made (AllByRecursion Q) (λ (t : Table). AllByRecursion Q t.entries) (λ n es these. these) can.all.numbers (outputs o.job)
+      (made_from l h o.job o.moved (tidy.job o can.goes.open_is) made can.all Q each))
+
+  -- ---- logs
+
+  -- Logs that stay are found as before.
+  pub stays : IsWider (sealed next) (sealed l)
+  stays n log at = segment_wider (λ (x : Segment). not (is_idle (put_in o.job made l) x)) n log l.frozen l.flushed tidy.distinct.1 at
+
+  frozen_held : AllByRecursion (HoldsLog disk) l.frozen
+  frozen_held = all_front (HoldsLog disk) l.frozen l.flushed (sources_held b l h base disk holds.files).sealed
+
+  active_file : IsLogFile l.active
+  active_file = of b.before b.state.head holds.files.logs
+    where
+      of : (ss : List Segment) (least : ℕ) → HoldsLogs least (ss ++ l.active ∷ []) disk → IsLogFile l.active
+      of [] least (from, between, readable, have, stands, rest) = record { readable = readable; have = have }
+      of (x ∷ ss) least (from, between, readable, have, stands, rest) = of ss (x.number + 1) rest
+
+  memtables : AllByRecursion IsLogFile (l.active ∷ l.frozen)
+  memtables = (active_file, all_each (HoldsLog disk) IsLogFile l.frozen (λ x held. held.is) frozen_held)
+
+  -- ---- the layout
+
+  -- with the logs of before it is tidy
+  still_tidy : IsTidy (layout_logs l) next h
+  still_tidy = subst (λ (r : Ruling InstallAnswer). IsTidy (layout_logs l) r.layout r.history)
+      (sym (install_made_so l h o made can.goes))
+      (install_tidy (layout_logs l) l h tidy o can.goes.open_is made can.all can.lent)
+
+  next_far : AreFarTo (IsThere (sealed next)) (sources next)
+  next_far = all_both (λ (e : Entry). IsFarTo (IsThere (sealed next)) e.body) (memtable l.active) (behind_active next)
+      (all_front (λ (e : Entry). IsFarTo (IsThere (sealed next)) e.body) (memtable l.active) []
+      (memtables_far (IsThere (sealed next)) (l.active ∷ []) (memtables.0, tt)))
+      (all_both (λ (e : Entry). IsFarTo (IsThere (sealed next)) e.body) (flat_map memtable l.frozen)
+      (flat_map table_entries (tables next))
+      (memtables_far (IsThere (sealed next)) l.frozen memtables.1)
+      (flat_far (IsThere (sealed next)) (tables next) (tables_far (sealed next) (tables next) still_tidy.placed)))
+
+  -- So it is tidy with the logs that stay.
+  pub tidy_then : IsTidy (layout_logs next) next h
+  tidy_then = tidy_with (layout_logs l) (layout_logs next) next h still_tidy
+      (all_alike (sealed next) (sealed l) stays (sources next) next_far)
+
+  -- ---- which logs its tables lead into
+
+  -- it is one of those that tables led into
+  abbrev WasLed : ℕ → Type 0
+  WasLed n = IsAmong (led_into (found_levels l.levels)) n
+
+  were_led : AllByRecursion (λ (t : Table). AreFarTo WasLed t.entries) (tables l)
+  were_led = all_each (λ (t : Table). AllByRecursion (λ p. WasLed p.segment) (points_of t.entries))
+      (λ (t : Table). AreFarTo WasLed t.entries) (tables l) (λ t points. far_points WasLed t.entries points) (points_led l.levels)
+
+  -- The logs that its tables lead into stay, and have frames.
+  pub led_then : (n : ℕ) → IsAmong (led_into (found_levels next.levels)) n → IsFramedAmong (sealed next) n
+  led_then n among =
+      by (among_in (IsThere (sealed next)) (led_into (found_levels next.levels)) n
+      (led_in (IsThere (sealed next)) next.levels (tables_far (sealed next) (tables next) still_tidy.placed)) among)
+    where
+      was : WasLed n
+      was = among_in WasLed (led_into (found_levels next.levels)) n
+          (led_in WasLed next.levels (tables_then (λ (t : Table). AreFarTo WasLed t.entries) were_led
+          (made_entries (λ (e : Entry). IsFarTo WasLed e.body) were_led))) among
+
+      some_same : (x y : Segment) → Some x ≡ Some y → x ≡ y
+      some_same x y e = cc
+
+      by : IsThere (sealed next) n → IsFramedAmong (sealed next) n
+      by (log, at) =
+          let before = base.led n was in
+          let same : log ≡ before.log = some_same log before.log (sym (stays n log at) ∙ before.at) in
+          record { log = log; at = at; framed = ap has_frames same ∙ before.framed }
+
+  -- ---- the base
+
+  abbrev pub later : Base
+  later = switched_base b (edits_of b l o.job made) (state b l h disk base tidy holds o can.goes.open_is made can.lent can.all can.stand can.next)
+      b.before
+
+  -- Its base is the one behind the switch,
+  pub base_then : IsBase later next h
+  base_then = record {
+    numbered = base.numbered;
+    made = state_more b.manifest.number b.first b.others (edits_of b l o.job made) b.state later.state base.made
+        (install_applies b l h disk base tidy holds o can.goes.open_is made can.lent can.all can.stand can.next);
+    goes = base.goes;
+    levels = levels_are b l h disk base tidy holds o can.goes.open_is made can.lent can.all can.stand can.next;
+    frozen = base.frozen;
+    led = led_then;
+    keep = base.keep;
+    since = base.since;
+    gone = refl;
+    covered = base.covered;
+    format = base.format;
+    spared = rest_spares_installed l h o.job o.moved made (tidy.job o can.goes.open_is) can.all base.spared;
+  }
+
+  -- and its files are those that stand.
+  pub files_then : HoldsFiles later next disk
+  files_then = record {
+    logs = holds.files.logs;
+    tables = tables_then (HoldsTable disk) holds.files.tables can.stand;
+    flushed = all_filtered (HoldsLog disk) (λ (x : Segment). not (is_idle (put_in o.job made l) x)) l.flushed holds.files.flushed;
+  }

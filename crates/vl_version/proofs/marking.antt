@@ -1,0 +1,4 @@
+pub mod MarkLaws
+pub mod SourceLaws
+pub mod TellLaws
+pub mod VersionLaws
