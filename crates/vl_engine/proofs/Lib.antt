@@ -20,6 +20,7 @@ pub mod Leaving
 pub mod Lending
 pub mod Merged
 pub mod Opened
+pub mod Planning
 pub mod ReadingPast
 pub mod Represented
 pub mod RotateFit

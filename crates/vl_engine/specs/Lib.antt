@@ -8,6 +8,7 @@ pub mod Held
 pub mod Keeping
 pub mod Known
 pub mod Lent
+pub mod Merging
 pub mod Laid
 pub mod laws
 pub mod Opening
