@@ -28,7 +28,8 @@ two_filters p q r same (t ∷ ts) = by (q t) (p t) (r t) (same t) (two_filters p
     by : (a b c : Bool) → (a && b) ≡ c → filter p (filter q ts) ≡ filter r ts → p t ≡ b
         → filter p (if a then t ∷ filter q ts else filter q ts) ≡ (if c then t ∷ filter r ts else filter r ts)
     by true true true both later is =
-        ap (λ (x : Bool). if x then t ∷ filter p (filter q ts) else filter p (filter q ts)) is ∙ ap (λ (us : List ℕ). t ∷ us) later
+        ap (λ (x : Bool). if x then t ∷ filter p (filter q ts) else filter p (filter q ts)) is
+        ∙ ap (λ (us : List ℕ). t ∷ us) later
     by true true false both later is = absurd (true_false both)
     by true false true both later is = absurd (true_false (sym both))
     by true false false both later is =
@@ -82,7 +83,8 @@ still_in n m (t ∷ ts) apart there = by (t == n) refl (t == m) refl there (stil
     by : (a : Bool) → (t == n) ≡ a → (b : Bool) → (t == m) ≡ b → (b || is_in m ts) ≡ true
         → (is_in m ts ≡ true → is_in m (filter (is_other n) ts) ≡ true)
         → is_in m (if not a then t ∷ filter (is_other n) ts else filter (is_other n) ts) ≡ true
-    by true is true at either later = absurd (let no : (m == n) ≡ true = grind (arith, nat_tests, is, at) in true_false (sym no ∙ apart))
+    by true is true at either later =
+        absurd (let no : (m == n) ≡ true = grind (arith, nat_tests, is, at) in true_false (sym no ∙ apart))
     by true is false at either later = later either
     by false is true at either later = ap (λ (c : Bool). c || is_in m (filter (is_other n) ts)) at
     by false is false at either later = ap (λ (c : Bool). c || is_in m (filter (is_other n) ts)) at ∙ later either
@@ -156,7 +158,8 @@ module _ (inputs : List ℕ) where
       each (u ∷ us) one =
           (ap not (filter_is u tables ∙ ap (λ (b : Bool). b && is_in u inputs) one.0), each us one.1)
 
-  alike_levels : (tables : List ℕ) (levels : List (List ℕ)) → AllByRecursion (λ (t : ℕ). is_in t tables ≡ true) (all_tables levels)
+  alike_levels : (tables : List ℕ) (levels : List (List ℕ))
+      → AllByRecursion (λ (t : ℕ). is_in t tables ≡ true) (all_tables levels)
       → left_levels (filter input tables) levels ≡ left_levels inputs levels
   alike_levels tables [] all = refl
   alike_levels tables (ts ∷ levels) all =
@@ -166,8 +169,11 @@ module _ (inputs : List ℕ) where
 
 all_in : (ts more : List ℕ) → AllByRecursion (λ (t : ℕ). is_in t (more ++ ts) ≡ true) ts
 all_in [] more = tt
-all_in (t ∷ ts) more =
-    (behind more, subst (λ (us : List ℕ). AllByRecursion (λ (u : ℕ). is_in u us ≡ true) ts) (append_assoc more (t ∷ []) ts) (all_in ts (more ++ t ∷ [])))
+all_in (t ∷ ts) more = (
+  behind more,
+  subst (λ (us : List ℕ). AllByRecursion (λ (u : ℕ). is_in u us ≡ true) ts) (append_assoc more (t ∷ []) ts)
+      (all_in ts (more ++ t ∷ [])),
+)
   where
     or_true : (b : Bool) → (b || true) ≡ true
     or_true true = refl
@@ -183,7 +189,8 @@ pub inputs_drop : (inputs : List ℕ) (es : List Edit) (d : VersionBuilder) → 
 inputs_drop inputs es d once =
     drops_say (filter (λ t. is_in t inputs) (all_tables d.levels)) es d
     (once-filter (λ t. is_in t inputs) (all_tables d.levels) once)
-    (all-filter (λ (t : ℕ). is_in t (all_tables d.levels) ≡ true) (λ t. is_in t inputs) (all_tables d.levels) (all_in (all_tables d.levels) []))
+    (all-filter (λ (t : ℕ). is_in t (all_tables d.levels) ≡ true) (λ t. is_in t inputs) (all_tables d.levels)
+    (all_in (all_tables d.levels) []))
     ∙ ap (λ (ls : List (List ℕ)). all_applied es (with_levels d ls))
     (alike_levels inputs (all_tables d.levels) d.levels (all_in (all_tables d.levels) []))
 
@@ -237,12 +244,15 @@ adds_say front xs (t ∷ ts) ys back es d fit once new =
     (if b then option_map (with_levels (with_levels d levels)) (put_at (length front) (length xs) t levels) else None)) passes
     ∙ ap (λ (o : Option (List (List ℕ))). then_applied (all_applied (level_adds (length front) (length xs + 1) ts ++ es))
     (option_map (with_levels (with_levels d levels)) o)) (put_middle front xs ys back t)
-    ∙ ap (λ (n : ℕ). all_applied (level_adds (length front) n ts ++ es) (with_levels d (front ++ (xs ++ t ∷ ys) ∷ back))) (sym place)
-    ∙ ap (λ (l : List ℕ). all_applied (level_adds (length front) (length (xs ++ t ∷ [])) ts ++ es) (with_levels d (front ++ l ∷ back))) level
+    ∙ ap (λ (n : ℕ). all_applied (level_adds (length front) n ts ++ es) (with_levels d (front ++ (xs ++ t ∷ ys) ∷ back)))
+    (sym place)
+    ∙ ap (λ (l : List ℕ). all_applied (level_adds (length front) (length (xs ++ t ∷ [])) ts ++ es)
+    (with_levels d (front ++ l ∷ back))) level
     ∙ adds_say front (xs ++ t ∷ []) ts ys back es d fit.1 once.1 (each ts once.0 new.1)
     ∙ ap (λ (l : List ℕ). all_applied es (with_levels d (front ++ l ∷ back))) (append_assoc xs (t ∷ []) (ts ++ ys))
   where
-    each : (us : List ℕ) → is_in t us ≡ false → AllByRecursion (λ (u : ℕ). is_in u (all_tables (front ++ (xs ++ ys) ∷ back)) ≡ false) us
+    each : (us : List ℕ) → is_in t us ≡ false
+        → AllByRecursion (λ (u : ℕ). is_in u (all_tables (front ++ (xs ++ ys) ∷ back)) ≡ false) us
         → AllByRecursion (λ (u : ℕ). is_in u (all_tables (front ++ ((xs ++ t ∷ []) ++ ys) ∷ back)) ≡ false) us
     each [] apart none = tt
     each (u ∷ us) apart none =
@@ -289,7 +299,8 @@ module _ (r : Replacing) (s : ManifestState) (can : CanReplace r s) where
     where
       passes : (s.gone == r.gone) ≡ false → is_gone r.gone ≡ true
       passes apart = ⊎_elim
-          (λ (same : s.gone ≡ r.gone). absurd (let no : (s.gone == r.gone) ≡ true = grind (arith, nat_tests, same) in true_false (sym no ∙ apart)))
+          (λ (same : s.gone ≡ r.gone).
+          absurd (let no : (s.gone == r.gone) ≡ true = grind (arith, nat_tests, same) in true_false (sym no ∙ apart)))
           (λ (fits : is_gone r.gone ≡ true). fits) can.gone
 
       by : (b : Bool) → (s.gone == r.gone) ≡ b
@@ -299,11 +310,13 @@ module _ (r : Replacing) (s : ManifestState) (can : CanReplace r s) where
           ap (λ (n : ℕ). Some (record with_next { gone = n })) same
       by false is = ap (λ (b : Bool). then_applied (all_applied []) (given_if b (record with_next { gone = r.gone }))) (passes is)
 
-  none_left : (t : ℕ) (levels : List (List ℕ)) → is_in t (all_tables levels) ≡ false → is_in t (all_tables (left_levels r.inputs levels)) ≡ false
+  none_left : (t : ℕ) (levels : List (List ℕ)) → is_in t (all_tables levels) ≡ false
+      → is_in t (all_tables (left_levels r.inputs levels)) ≡ false
   none_left t [] none = refl
   none_left t (ts ∷ levels) none =
       let parts = is_in-parts t ts (all_tables levels) none in
-      is_in-append t (left_tables r.inputs ts) (all_tables (left_levels r.inputs levels)) (fewer ts parts.0) (none_left t levels parts.1)
+      is_in-append t (left_tables r.inputs ts) (all_tables (left_levels r.inputs levels)) (fewer ts parts.0)
+      (none_left t levels parts.1)
     where
       fewer : (us : List ℕ) → is_in t us ≡ false → is_in t (left_tables r.inputs us) ≡ false
       fewer [] off = refl
@@ -317,18 +330,47 @@ module _ (r : Replacing) (s : ManifestState) (can : CanReplace r s) where
   new_left : (ts : List ℕ) → AllByRecursion (λ (t : ℕ). is_in t (all_tables s.levels) ≡ false) ts
       → AllByRecursion (λ (t : ℕ). is_in t (all_tables (can.front ++ (can.before ++ can.behind) ∷ can.back)) ≡ false) ts
   new_left [] all = tt
-  new_left (t ∷ ts) all = (ap (λ (ls : List (List ℕ)). is_in t (all_tables ls)) (sym can.are) ∙ none_left t s.levels all.0, new_left ts all.1)
+  new_left (t ∷ ts) all = (
+    ap (λ (ls : List (List ℕ)). is_in t (all_tables ls)) (sym can.are)
+        ∙ none_left t s.levels all.0,
+    new_left ts all.1,
+  )
 
   -- What an install's frame makes of a state.
   pub install_says : next_state (install_switch r s) s ≡ Some (replaced_state r levels_then s)
   install_says =
       let last : List Edit = Next r.next_log r.next_table ∷ gone_since s.gone r.gone in
       ap finish (inputs_drop r.inputs (level_adds r.level r.position r.made ++ last) (as_draft s) can.once)
-      ∙ ap (λ (ls : List (List ℕ)). finish (all_applied (level_adds r.level r.position r.made ++ last) (with_levels (as_draft s) ls))) can.are
+      ∙ ap (λ (ls : List (List ℕ)). finish (all_applied (level_adds r.level r.position r.made ++ last)
+      (with_levels (as_draft s) ls))) can.are
       ∙ ap (λ (n : ℕ). finish (all_applied (level_adds n r.position r.made ++ last)
       (with_levels (as_draft s) (can.front ++ (can.before ++ can.behind) ∷ can.back)))) can.level
       ∙ ap (λ (n : ℕ). finish (all_applied (level_adds (length can.front) n r.made ++ last)
       (with_levels (as_draft s) (can.front ++ (can.before ++ can.behind) ∷ can.back)))) can.position
-      ∙ ap finish (adds_say can.front can.before r.made can.behind can.back last (as_draft s) can.numbers can.distinct (new_left r.made can.new))
+      ∙ ap finish (adds_say can.front can.before r.made can.behind can.back last (as_draft s) can.numbers can.distinct
+      (new_left r.made can.new))
       ∙ ap (λ (b : Bool). finish (then_applied (all_applied (gone_since s.gone r.gone)) (given_if b with_next))) can.next
       ∙ ap finish gone_say
+
+-- It can be so of a state with another next table, and makes the same of it.
+module _ (r : Replacing) (s : ManifestState) (can : CanReplace r s) (n : ℕ) where
+  pub can_either : CanReplace r (record s { next_table = n })
+  can_either = record {
+    once = can.once;
+    front = can.front;
+    before = can.before;
+    behind = can.behind;
+    back = can.back;
+    are = can.are;
+    level = can.level;
+    position = can.position;
+    numbers = can.numbers;
+    distinct = can.distinct;
+    new = can.new;
+    next = can.next;
+    gone = can.gone;
+  }
+
+  pub install_either : next_state (install_switch r s) (record s { next_table = n }) ≡ Some (replaced_state r (levels_then r s can) s)
+  unfolding can_either
+  install_either = install_says r (record s { next_table = n }) can_either

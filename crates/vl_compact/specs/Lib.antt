@@ -1,6 +1,16 @@
+pub mod Filling
+pub mod Keeps
+pub mod Keys
 pub mod Laid
+pub mod Lefts
+pub mod Lending
 pub mod Merges
+pub mod Places
+pub mod Progress
+pub mod Racing
 pub mod Ranges
+pub mod Reading
+pub mod Replacing
 pub mod Ruled
 pub mod Walking
 pub mod laws

@@ -1,6 +1,6 @@
 -- What a merge does with the entries of its inputs as they come: keys rise, of one key versions fall, and of those of one key and
 -- version the newest source's comes first.
-use Rattle.std.specs.Prelude.{ℕ, ◌+◌, Bool, true, false, ◌&&◌, ◌||◌, ◌==◌, not, nat_le, if◌then◌else◌, List, [], ◌∷◌, Option, Some, None}
+use Rattle.std.specs.Prelude.{ℕ, ◌+◌, Bool, true, false, ◌&&◌, ◌||◌, not, nat_le, if◌then◌else◌, List, [], ◌∷◌, Option, Some, None}
 use Rattle.std.specs.Ordering.{eq_by_cmp, is_lt}
 use Rattle.vl_layout.specs.Merging.{if_so, is_needless, outside_of}
 use Rattle.vl_layout.specs.declared.job.Job.{Job}

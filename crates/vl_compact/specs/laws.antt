@@ -4,5 +4,6 @@ pub mod Chosen
 pub mod Counted
 pub mod FirstTable
 pub mod ProgressLaws
+pub mod RaceLaws
 pub mod Repeats
 pub mod WalkLaws

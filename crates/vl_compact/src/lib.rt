@@ -4,15 +4,41 @@
 //! level the one with the least number, and those of the next level whose ranges meet theirs. To plan it costs a step for each
 //! table down to the level that is due and the next one, and two comparisons of keys for each table that may be taken; to plan
 //! the drain of a segment, a step for each point of the tables up to the first that leads into it. Nothing is read.
+//!
+//! A `Job` does a merge beside its store. Between two calls it has no block and no cursor: of where it is it keeps a key, and
+//! behind that it reads on. While a call is under way it holds a block of each input, one of the table that it writes, and a
+//! place and a last key of each block that it has closed. Each entry is compared as often as the logarithm of the number of
+//! inputs says, and its key is looked up in the sources that aren't inputs.
+//!
+//! `ready_levels` shares all tables but the inputs, and takes the memory for the outputs, which are then put one by one.
 #![tactic(auto)]
 
 mod choosing;
 mod due;
+mod ending;
+mod files;
+mod filling;
 mod inputs;
+mod job;
+mod job_reader;
+mod keeping;
+mod last;
 mod laws;
+mod merging;
+mod parts;
 mod planning;
+mod racing;
 mod range;
+mod ready;
+mod replacing;
+mod rules;
 
+pub use files::{Lent, Synced};
 pub use inputs::Inputs;
+pub use job::Job;
+pub use job_reader::JobReader;
 pub use laws::merges_are_as_ruled;
+pub use parts::Parts;
 pub use planning::{drained, planned};
+pub use ready::ReadyLevels;
+pub use replacing::ready_levels;

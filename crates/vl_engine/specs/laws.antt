@@ -20,6 +20,7 @@ pub mod InstallBase
 pub mod InstallBeside
 pub mod InstallLaws
 pub mod InstallPlaces
+pub mod InstallRulings
 pub mod InstallSpared
 pub mod InstallSpares
 pub mod InstallTables

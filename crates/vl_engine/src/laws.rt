@@ -53,8 +53,8 @@ pub fn an_install_spares_versions()
         → Spares l h → SparesRuled (install_ruling l h o.job made) }
 {}
 
-/// While a switch puts the tables of a merge in the place of its inputs, whatever a crash leaves shows the history; and behind it the
-/// disk holds the layout that the ruling leaves.
+/// While a switch puts the tables of a merge in the place of its inputs, whatever a crash leaves shows the history; and behind it
+/// the disk holds the layout that the ruling leaves.
 pub fn an_install_is_one_switch()
     ensures through { (b : Base) (l : Layout) (h : History) (o : OpenJob) (made : Made) (disk now : DiskState) → IsBase b l h
         → IsTidy (layout_logs l) l h → Holds b l disk → CanInstall b l o made disk
@@ -68,8 +68,8 @@ pub fn an_install_is_one_switch()
         (switched b.manifest.number (switch_frame b (edits_of b l o.job made)) disk) }
 {}
 
-/// While a table's file is made beside the layout, lent to the writer of a merge and taken back, whatever a crash leaves shows the
-/// history, and the disk holds the layout.
+/// While a table's file is made beside the layout, lent to the writer of a merge and taken back, whatever a crash leaves shows
+/// the history, and the disk holds the layout.
 pub fn a_merge_writes_beside_the_layout()
     ensures making { (b : Base) (l : Layout) (h : History) (disk now : DiskState) (n : ℕ) → IsBase b l h
         → IsTidy (layout_logs l) l h → Holds b l disk → AreOtherTables (Table n) (tables l) → IsNumbered (Table n)

@@ -1,5 +1,5 @@
 -- What a disk holds of a state.
-use Rattle.std.specs.Prelude.{◌≡◌, ◌≤◌, ◌+◌, IsTrue}
+use Rattle.std.specs.Prelude.{◌≤◌, ◌+◌, IsTrue}
 use Rattle.vl_disk.specs.DiskState.{DiskState}
 use Rattle.vl_engine.specs.Held.{AreBegun, Base, Holds, IsBase}
 use Rattle.vl_engine.specs.Pointed.{layout_logs}
@@ -18,7 +18,7 @@ pub record IsStored (s : State) (disk : DiskState) : Type 0 where
   pub is_base : IsBase base s.store.layout (history_of s)
   pub holds : Holds base s.store.layout disk
   pub tidy : IsTidy (layout_logs s.store.layout) s.store.layout (history_of s)
-  -- The manifest gives the next table the state's number; or a lesser one, above which each was drawn for a table that was begun.
+  -- The manifest gives the next table the state's number; or a lesser one, from which on each is that of a table that was begun.
   pub next_table : base.state.next_table ≤ s.store.layout.next_table
   pub begun : AreBegun base.state.next_table s.store.layout.next_table disk
   -- no file passes the number that the state has for that,

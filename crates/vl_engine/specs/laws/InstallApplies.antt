@@ -1,12 +1,12 @@
--- What an install stages isn't refused: its switch can be applied to what the manifest says, and makes of it what the ruling makes
--- of the layout.
+-- What an install stages isn't refused: its switch can be applied to what the manifest says, and makes of it what the ruling
+-- makes of the layout.
 use Rattle.std.specs.Prelude.{◌≡◌, ◌⊎◌, ◌==◌, ◌&&◌, ◌||◌, ◌≤◌, ◌<◌, ◌^◌, ◌-◌, ℕ, Bool, true, false, not, nat_le, if◌then◌else◌, List, [], ◌∷◌, ◌++◌, length, map, Some, refl}
 use Rattle.std.specs.List.{AllByRecursion, flat_map, list_any}
 use Rattle.std.proofs.Common.{sym, ap, subst, ◌∙◌, arith, inl, inr, ⊎_elim}
 use Rattle.std.proofs.lemmas.Bool.Decides.{nat_tests}
 use Rattle.std.proofs.lemmas.Bool.{and_parts, cases_lt}
 use Rattle.vl_back.specs.InstallEdits.{Replacing, install_switch, left_levels, left_tables}
-use Rattle.vl_back.specs.InstallSays.{CanReplace, install_says, levels_then, replaced_state}
+use Rattle.vl_back.specs.InstallSays.{CanReplace, install_either, install_says, levels_then, replaced_state}
 use Rattle.vl_disk.specs.DiskState.{DiskState, settled}
 use Rattle.vl_disk.specs.declared.name.Name.TheVariants as names
 use Rattle.vl_engine.specs.Files.{HoldsTable, bytes_of_table}
@@ -141,10 +141,12 @@ module _ (keep : ℕ) (I O : List Entry) (floor : ℕ) where
   low_needless : (newer : List Entry) (ss : List (Bool × Entry))
       → AllByRecursion (λ (e : Entry). e.version ≤ floor) (needless_from keep I O floor newer ss)
   low_needless newer [] = tt
-  low_needless newer (s ∷ ss) = low_if (s.0 && drops_by_need keep I O floor newer s.1) s.1 (needless_from keep I O floor (s.1 ∷ newer) ss)
+  low_needless newer (s ∷ ss) = low_if (s.0 && drops_by_need keep I O floor newer s.1) s.1
+      (needless_from keep I O floor (s.1 ∷ newer) ss)
       (λ dropped.
       let one = and_parts s.0 (drops_by_need keep I O floor newer s.1) dropped in
-      let two = and_parts (not (is_shadowed newer s.1)) (not (is_outdated keep I floor s.1) && is_needless keep O floor s.1) one.1 in
+      let two = and_parts (not (is_shadowed newer s.1))
+      (not (is_outdated keep I floor s.1) && is_needless keep O floor s.1) one.1 in
       let three = and_parts (not (is_outdated keep I floor s.1)) (is_needless keep O floor s.1) two.1 in
       let four = and_parts (keep == 1) (is_needless_one O floor s.1) three.1 in
       let five = and_parts (is_deletion s.1.body) (nat_le s.1.version floor && not (list_any (is_below s.1) O)) four.1 in
@@ -166,7 +168,8 @@ module _ (b : Base) (l : Layout) (h : History) (disk : DiskState) (base : IsBase
   open_well = tidy.job o is
 
   in_range : IsInRange b.state
-  in_range = says_in_range b.manifest.number (manifest_bytes b.manifest.number (frames_of b)) b.state (base_says b l h base disk holds.base)
+  in_range = says_in_range b.manifest.number (manifest_bytes b.manifest.number (frames_of b)) b.state
+      (base_says b l h base disk holds.base)
 
   pub put : IsPutAt o.job.inputs made.tables l.levels (installed o.job made l).levels r.level r.position
   put = put_at_place l o.job made.tables open_well.fitted open_well.roomy
@@ -206,7 +209,8 @@ module _ (b : Base) (l : Layout) (h : History) (disk : DiskState) (base : IsBase
       (cases_lt l.gone r.gone)
     where
       each_known : (es : List Entry) → o.job.floor ≤ max_commit_number
-          → AllByRecursion (λ (e : Entry). e.version ≤ o.job.floor) es → AllByRecursion (λ (e : Entry). e.version ≤ max_commit_number) es
+          → AllByRecursion (λ (e : Entry). e.version ≤ o.job.floor) es
+          → AllByRecursion (λ (e : Entry). e.version ≤ max_commit_number) es
       each_known [] known low = tt
       each_known (e ∷ es) known low = ((let le = low.0 in omega (arith, le, known)), each_known es known low.1)
 
@@ -236,6 +240,10 @@ module _ (b : Base) (l : Layout) (h : History) (disk : DiskState) (base : IsBase
 
   pub install_applies : next_state (edits_of b l o.job made) b.state ≡ Some state
   install_applies = install_says r b.state can
+
+  -- So it is with the number of the next table that was drawn by then.
+  pub install_staged : (n : ℕ) → next_state (edits_of b l o.job made) (record b.state { next_table = n }) ≡ Some state
+  install_staged n = install_either r b.state can n
 
   -- Its levels are those of the layout that the ruling leaves.
   pub levels_are : state.levels ≡ map numbers_of (installed o.job made l).levels

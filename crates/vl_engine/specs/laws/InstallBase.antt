@@ -1,6 +1,6 @@
 -- What an install's switch makes of the base, and that the layout behind it is tidy: its tables lead where those led that they
 -- take the place of, in logs that stay.
-use Rattle.std.specs.Prelude.{◌≡◌, ℕ, ◌+◌, Bool, true, false, not, if◌then◌else◌, List, [], ◌∷◌, ◌++◌, Option, None, Some, refl}
+use Rattle.std.specs.Prelude.{◌≡◌, ℕ, ◌+◌, true, false, not, List, [], ◌∷◌, ◌++◌, Some, refl}
 use Rattle.std.specs.List.{AllByRecursion, flat_map}
 use Rattle.std.proofs.Common.{sym, ap, subst, ◌∙◌, arith}
 use Rattle.std.proofs.lemmas.Bool.Decides.{nat_tests}
@@ -15,22 +15,22 @@ use Rattle.vl_engine.specs.laws.FlushBase.{state_more}
 use Rattle.vl_engine.specs.laws.FlushTidy.{IsThere, IsWider, all_alike, flat_far, memtables_far, tables_far, tidy_with}
 use Rattle.vl_engine.specs.laws.HeldLaws.{sources_held}
 use Rattle.vl_engine.specs.laws.InstallApplies.{edits_of, install_applies, levels_are, state}
+use Rattle.vl_engine.specs.laws.InstallRulings.{GoesOn, install_made_so}
 use Rattle.vl_engine.specs.laws.InstallSpares.{rest_spares_installed}
 use Rattle.vl_engine.specs.laws.LedLaws.{AreFarTo, IsFarTo, among_in, led_in, points_led}
 use Rattle.vl_engine.specs.laws.SegmentLaws.{segment_wider}
 use Rattle.vl_engine.specs.laws.SwitchLaws.{switched_base}
 use Rattle.vl_frame.specs.Runs.{HasFrame}
-use Rattle.vl_layout.specs.Jobs.{AreLent, AreOutputs, Made, job_ended}
+use Rattle.vl_layout.specs.Jobs.{AreLent, AreOutputs, Made}
 use Rattle.vl_layout.specs.Levels.{is_among}
 use Rattle.vl_layout.specs.Logs.{memtable}
 use Rattle.vl_layout.specs.Merging.{outputs}
-use Rattle.vl_layout.specs.Ruling.{Ruling, has_no_version, is_idle, leaving}
-use Rattle.vl_layout.specs.Rulings.Install.{Exhausted, InstallAnswer, Installed, install_checked, install_ruling, install_unless, installed, moved_since, put_in, race}
+use Rattle.vl_layout.specs.Ruling.{Ruling, is_idle}
+use Rattle.vl_layout.specs.Rulings.Install.{InstallAnswer, installed, put_in}
 use Rattle.vl_layout.specs.Start.{has_frames}
 use Rattle.vl_layout.specs.Sources.{behind_active, sources, table_entries, tables}
 use Rattle.vl_layout.specs.Stock.{is_into}
 use Rattle.vl_layout.specs.Tidy.{IsTidy, sealed}
-use Rattle.vl_layout.specs.declared.file_name.FileName.{FileName}
 use Rattle.vl_layout.specs.declared.job.OpenJob.{OpenJob}
 use Rattle.vl_layout.specs.declared.layout.Layout.{Layout}
 use Rattle.vl_layout.specs.declared.segment.Segment.{Segment}
@@ -41,37 +41,13 @@ use Rattle.vl_layout_laws.specs.laws.Switches.{all_replaced}
 use Rattle.vl_layout_laws.specs.laws.TidyRulings.{install_tidy}
 use Rattle.vl_manifest.specs.Grammar.{edits_grammar}
 use Rattle.vl_manifest.specs.States.{are_next}
-use Rattle.vl_model.specs.Conflicts.{Named}
 use Rattle.vl_model.specs.Formats.{manifest_format}
 use Rattle.vl_model.specs.History.{History}
-use Rattle.vl_model.specs.declared.counter.Counter.TheVariants as counter
 use Rattle.vl_model.specs.declared.entry.Body.{Body}
 use Rattle.vl_model.specs.declared.entry.Body.TheVariants.{Far, Gone, Inline, Logged}
 use Rattle.vl_model.specs.declared.entry.Entry.{Entry}
 use Rattle.vl_recover.specs.crash.Held.{HoldsLogs}
 use Rattle.vl_recover.specs.opening.Opening.{IsAmong, led_into}
-
--- ---- the ruling
-
--- what it is where the job's tables are put in
-abbrev pub install_made : Layout → History → OpenJob → Made → Ruling InstallAnswer
-install_made l h o made =
-    record { answer = Installed; history = h; layout = installed o.job made l; calls = 2; gone = [] }
-
--- What lets an install go on: nothing failed, no deletion that it dropped was moved meanwhile, and a version number is left.
-pub record GoesOn (l : Layout) (o : OpenJob) : Type 0 where
-  pub running : l.halted ≡ None
-  pub open_is : l.job ≡ Some o
-  pub unraced : race o.job o.moved ≡ None
-  pub version : has_no_version l ≡ false
-
-pub install_made_so : (l : Layout) (h : History) (o : OpenJob) (made : Made) → GoesOn l o
-    → install_made l h o made ≡ install_ruling l h o.job made
-install_made_so l h o made goes = sym (
-    ap (λ (halted : Option FileName). install_unless halted l h o.job made) goes.running
-    ∙ ap (λ (named : Option Named). install_checked l h o.job made named)
-    (ap (λ (job : Option OpenJob). race o.job (moved_since job)) goes.open_is ∙ goes.unraced)
-    ∙ ap (λ (b : Bool). if b then leaving (Exhausted counter.Version) h (job_ended made l) else install_made l h o made) goes.version)
 
 -- ---- where points tell that entries lead
 
@@ -118,14 +94,16 @@ module _ (b : Base) (l : Layout) (h : History) (o : OpenJob) (made : Made) (disk
   made_entries : (Q : Entry → Type 0) → AllByRecursion (λ (t : Table). AllByRecursion Q t.entries) (tables l)
       → AllByRecursion (λ (t : Table). AllByRecursion Q t.entries) made.tables
   made_entries Q each = subst (AllByRecursion (λ (t : Table). AllByRecursion Q t.entries)) (sym can.all.tables)
-      (all_made (AllByRecursion Q) (λ (t : Table). AllByRecursion Q t.entries) (λ n es these. these) can.all.numbers (outputs o.job)
+      (all_made (AllByRecursion Q) (λ (t : Table). AllByRecursion Q t.entries) (λ n es these. these) can.all.numbers
+      (outputs o.job)
       (made_from l h o.job o.moved (tidy.job o can.goes.open_is) made can.all Q each))
 
   -- ---- logs
 
   -- Logs that stay are found as before.
   pub stays : IsWider (sealed next) (sealed l)
-  stays n log at = segment_wider (λ (x : Segment). not (is_idle (put_in o.job made l) x)) n log l.frozen l.flushed tidy.distinct.1 at
+  stays n log at =
+      segment_wider (λ (x : Segment). not (is_idle (put_in o.job made l) x)) n log l.frozen l.flushed tidy.distinct.1 at
 
   frozen_held : AllByRecursion (HoldsLog disk) l.frozen
   frozen_held = all_front (HoldsLog disk) l.frozen l.flushed (sources_held b l h base disk holds.files).sealed
@@ -195,8 +173,8 @@ module _ (b : Base) (l : Layout) (h : History) (o : OpenJob) (made : Made) (disk
   -- ---- the base
 
   abbrev pub later : Base
-  later = switched_base b (edits_of b l o.job made) (state b l h disk base tidy holds o can.goes.open_is made can.lent can.all can.stand can.next)
-      b.before
+  later = switched_base b (edits_of b l o.job made)
+      (state b l h disk base tidy holds o can.goes.open_is made can.lent can.all can.stand can.next) b.before
 
   -- Its base is the one behind the switch,
   pub base_then : IsBase later next h

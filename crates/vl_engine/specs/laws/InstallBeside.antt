@@ -1,5 +1,5 @@
--- Tables that a job makes beside a layout, of numbers that none of its tables has: while their files are made, lent and taken back the
--- disk holds the layout, and whatever a crash leaves shows the history.
+-- Tables that a job makes beside a layout, of numbers that none of its tables has: while their files are made, lent and taken
+-- back the disk holds the layout, and whatever a crash leaves shows the history.
 use Rattle.std.specs.Prelude.{◌≡◌, ◌≢◌, ◌<◌, ◌≤◌, ℕ, List, [], ◌∷◌, map, Some, Ok, refl}
 use Rattle.std.specs.FinMap.{get}
 use Rattle.std.specs.List.{AllByRecursion}
@@ -132,7 +132,8 @@ module _ (b : Base) (l : Layout) (h : History) (disk : DiskState) (n : ℕ) (bas
     adopted_holds = holds_beside (adopted name (settled bytes) disk) adopted_elsewhere
         (adopted_lawful disk holds.lawful name (settled bytes) (settled_lawful bytes) numbered)
         (λ file stands.
-        let is : settled bytes ≡ file = some_same (settled bytes) file (sym (get_inserted disk.standing name (settled bytes)) ∙ stands) in
+        let is : settled bytes ≡ file = some_same (settled bytes) file
+        (sym (get_inserted disk.standing name (settled bytes)) ∙ stands) in
         sym is ∙ ap (λ (x : File). settled x.bytes) is)
 
     pub adopted_stands : IsSettled (adopted name (settled bytes) disk) name bytes
@@ -155,7 +156,8 @@ module _ (b : Base) (l : Layout) (h : History) (disk : DiskState) (n : ℕ) (bas
     adopting_opens_again now during = ⊎_elim
         (λ (is : now ≡ disk). subst MayOpen (sym is) (held_opens_again b l h base disk tidy.levels holds))
         (λ (is : ForSome (Some (settled bytes)) (λ f. now ≡ adopted name f disk)).
-        subst MayOpen (sym (is (settled bytes) refl)) (held_opens_again b l h base (adopted name (settled bytes) disk) tidy.levels adopted_holds))
+        subst MayOpen (sym (is (settled bytes) refl))
+        (held_opens_again b l h base (adopted name (settled bytes) disk) tidy.levels adopted_holds))
         during
 
   -- ---- it is made, and lent

@@ -93,7 +93,8 @@ module _ (inputs : List ℕ) (new : List Table) where
       rest = map (without inputs) deeper
 
       by : (b : Bool) → (n == 0) ≡ b
-          → (n - 1 < length deeper → IsPutAt inputs new deeper (at_level (n - 1) (in_key_order new) (map (without inputs) deeper)) (n - 1)
+          → (n - 1 < length deeper → IsPutAt inputs new deeper
+          (at_level (n - 1) (in_key_order new) (map (without inputs) deeper)) (n - 1)
           (count_before new (without inputs (level_at (n - 1) deeper))))
           → IsPutAt inputs new (ts ∷ deeper)
           (if b then in_key_order new (without inputs ts) ∷ map (without inputs) deeper
@@ -162,7 +163,8 @@ module _ (inputs : List ℕ) (new : List Table) where
           record {
             left = ap (λ (b : Bool). if not b then t ∷ without inputs ts else without inputs ts) is
                 ∙ ap (λ (us : List Table). t ∷ us) rest.left;
-            put = ap (λ (b : Bool). (if b then new else t ∷ []) ++ flat_map (λ u. if is_among inputs u then new else u ∷ []) ts) is
+            put = ap (λ (b : Bool). (if b then new else t ∷ [])
+                ++ flat_map (λ u. if is_among inputs u then new else u ∷ []) ts) is
                 ∙ ap (λ (us : List Table). t ∷ us) rest.put;
             none = ap (λ (b : Bool). if b then Some 0 else option_map (λ n. n + 1) (index_of inputs ts)) is
                 ∙ ap (option_map (λ n. n + 1)) rest.none;
@@ -189,7 +191,8 @@ module _ (inputs : List ℕ) (new : List Table) where
             before = [];
             behind = ts;
             left = ap (λ (b : Bool). if not b then t ∷ without inputs ts else without inputs ts) is ∙ rest.left;
-            put = ap (λ (b : Bool). (if b then new else t ∷ []) ++ flat_map (λ u. if is_among inputs u then new else u ∷ []) ts) is
+            put = ap (λ (b : Bool). (if b then new else t ∷ [])
+                ++ flat_map (λ u. if is_among inputs u then new else u ∷ []) ts) is
                 ∙ ap (λ (us : List Table). new ++ us) rest.put;
             at = ap (λ (b : Bool). if b then Some 0 else option_map (λ n. n + 1) (index_of inputs ts)) is;
           }
@@ -200,7 +203,8 @@ module _ (inputs : List ℕ) (new : List Table) where
             behind = rest.behind;
             left = ap (λ (b : Bool). if not b then t ∷ without inputs ts else without inputs ts) is
                 ∙ ap (λ (us : List Table). t ∷ us) rest.left;
-            put = ap (λ (b : Bool). (if b then new else t ∷ []) ++ flat_map (λ u. if is_among inputs u then new else u ∷ []) ts) is
+            put = ap (λ (b : Bool). (if b then new else t ∷ [])
+                ++ flat_map (λ u. if is_among inputs u then new else u ∷ []) ts) is
                 ∙ ap (λ (us : List Table). t ∷ us) rest.put;
             at = ap (λ (b : Bool). if b then Some 0 else option_map (λ n. n + 1) (index_of inputs ts)) is
                 ∙ ap (option_map (λ n. n + 1)) rest.at ∙ ap (λ (n : ℕ). Some n) (omega arith);
@@ -217,7 +221,8 @@ module _ (inputs : List ℕ) (new : List Table) where
       let here = still ts (omega (arith, parts, none)) in
       let rest = all_still deeper (omega (arith, parts, none)) in
       record {
-        left = ap (λ (us : List Table). us ∷ map (without inputs) deeper) here.left ∙ ap (λ (ls : List (List Table)). ts ∷ ls) rest.left;
+        left = ap (λ (us : List Table). us ∷ map (without inputs) deeper) here.left
+            ∙ ap (λ (ls : List (List Table)). ts ∷ ls) rest.left;
         put = ap (λ (us : List Table). us ∷ map (flat_map (λ t. if is_among inputs t then new else t ∷ [])) deeper) here.put
             ∙ ap (λ (ls : List (List Table)). ts ∷ ls) rest.put;
       }
@@ -316,4 +321,5 @@ module _ (l : Layout) (job : Job) (new : List Table) where
           let (level, found, at) = place_put job.inputs new 0 l.levels all in
           let same : level ≡ (place_from 0 job.inputs l.levels).0 =
           (let zero_more : level ≡ 0 + level = omega arith in zero_more ∙ sym (ap (λ (p : ℕ × ℕ). p.0) found)) in
-          subst (λ (n : ℕ). IsPutAt job.inputs new l.levels (replaced InPlace job.inputs new l.levels) n (place_from 0 job.inputs l.levels).1) same at
+          subst (λ (n : ℕ). IsPutAt job.inputs new l.levels (replaced InPlace job.inputs new l.levels) n
+          (place_from 0 job.inputs l.levels).1) same at

@@ -1,5 +1,5 @@
--- What an install drops of the sources spares versions as it should: those that it drops are passed by as many that it keeps, or are
--- at most the number since which more are kept.
+-- What an install drops of the sources spares versions as it should: those that it drops are passed by as many that it keeps,
+-- or are at most the number since which more are kept.
 use Rattle.std.proofs.Common.{◌≡◌, ◌⊎◌, inl, inr, ⊎_elim, ℕ, zero, suc, ◌+◌, ◌≤◌, Bool, true, false, not, ◌&&◌, ◌||◌, List, [], ◌∷◌, refl, ap, sym, ◌∙◌, subst, arith}
 use Rattle.std.proofs.lemmas.Bool.{and_parts}
 use Rattle.std.proofs.lemmas.Bool.Decides.{nat_tests}
@@ -63,22 +63,22 @@ module _ (keep : ℕ) (I O : List Entry) (floor : ℕ) (key : List ℕ) (version
       → Any newer ≡ false → Any (plain ss) ≡ true → Any (kept_of (marked_by keep I O floor ps ss)) ≡ false → Went
   went newer ps [] zip none there gone = absurd (true_false (sym there))
   went newer ps (s ∷ ss) zip none there gone =
-      by s.0 ps zip gone (λ (qs : List Preceded) (z : AllZip IsStillBehind qs (preceded (s.1 ∷ newer) ss)). went (s.1 ∷ newer) qs ss z)
+      by s.0 ps zip gone (λ (qs : List Preceded) (z : AllZip IsStillBehind qs (preceded (s.1 ∷ newer) ss)).
+      went (s.1 ∷ newer) qs ss z)
     where
-      Rest : List Preceded → Type 0
-      Rest qs = Any (s.1 ∷ newer) ≡ false → Any (plain ss) ≡ true → Any (kept_of (marked_by keep I O floor qs ss)) ≡ false → Went
-
       -- it is another's
       other : (qs : List Preceded) → is_at key version s.1 ≡ false
           → Any (kept_of (marked_by keep I O floor qs ss)) ≡ false
-          → (Any (s.1 ∷ newer) ≡ false → Any (plain ss) ≡ true → Any (kept_of (marked_by keep I O floor qs ss)) ≡ false → Went) → Went
+          → (Any (s.1 ∷ newer) ≡ false → Any (plain ss) ≡ true → Any (kept_of (marked_by keep I O floor qs ss)) ≡ false
+          → Went) → Went
       other qs off left later =
           later (ap (λ b. b || Any newer) off ∙ none) (sym (ap (λ b. b || Any (plain ss)) off) ∙ there) left
 
       of_input : (q : Preceded) (qs : List Preceded) → IsStillBehind q (record { entry = s.1; newer = newer })
           → (a d : Bool) → is_at key version s.1 ≡ a → drops_at keep I O floor q ≡ d
           → Any (if_so (not d) s.1 (kept_of (marked_by keep I O floor qs ss))) ≡ false
-          → (Any (s.1 ∷ newer) ≡ false → Any (plain ss) ≡ true → Any (kept_of (marked_by keep I O floor qs ss)) ≡ false → Went) → Went
+          → (Any (s.1 ∷ newer) ≡ false → Any (plain ss) ≡ true → Any (kept_of (marked_by keep I O floor qs ss)) ≡ false
+          → Went) → Went
       of_input q qs still true true at drops left later = unshadowed newer s.1 q still none at drops
       of_input q qs still true false at drops left later =
           absurd (true_false (sym (ap (λ b. b || Any (kept_of (marked_by keep I O floor qs ss))) at) ∙ left))
@@ -138,7 +138,8 @@ module _ (job : Job) (moved : List Named) (now : List Sourced) (k : IsKeptFor jo
   abbrev pub I : List Entry
   I = inputs_of job.base
 
-  up_to_floor : (key : List ℕ) (n : ℕ) → 1 ≤ n → (e : Entry) → e.key ≡ key → is_outdated n I job.floor e ≡ true → e.version ≤ job.floor
+  up_to_floor : (key : List ℕ) (n : ℕ) → 1 ≤ n → (e : Entry) → e.key ≡ key → is_outdated n I job.floor e ≡ true
+      → e.version ≤ job.floor
   up_to_floor key zero least e keys outdated = absurd (omega (arith, least))
   up_to_floor key (suc n) least e keys outdated =
       let f = next_above I job.floor key n e keys outdated in
@@ -163,7 +164,8 @@ module _ (job : Job) (moved : List Named) (now : List Sourced) (k : IsKeptFor jo
       (λ (outdated : is_outdated job.keep I job.floor e ≡ true). up_to_floor key job.keep some e parts.0 outdated)
       (λ (needless : is_needless job.keep (outside_of job.base) job.floor e ≡ true).
       let one = and_parts (job.keep == 1) (is_needless_one (outside_of job.base) job.floor e) needless in
-      let two = and_parts (is_gone e.body) (nat_le e.version job.floor && not (list_any (is_below e) (outside_of job.base))) one.1 in
+      let two = and_parts (is_gone e.body)
+      (nat_le e.version job.floor && not (list_any (is_below e) (outside_of job.base))) one.1 in
       let three = and_parts (nat_le e.version job.floor) (not (list_any (is_below e) (outside_of job.base))) two.1 in
       let low = three.0 in
       let le : e.version ≤ job.floor = grind (arith, nat_tests, low) in le)
@@ -229,7 +231,8 @@ module _ (job : Job) (moved : List Named) (now : List Sourced) (k : IsKeptFor jo
                 never (Some y) q p = omega (arith, q, p)
 
                 by_kept : (c : Bool) → has m (versions_in left key) ≡ c → laws.Reaches m (greatest_below x (versions_in left key))
-                by_kept true there = let less = found.0 in greatest-reaches m x (versions_in left key) there (omega (arith, less, r))
+                by_kept true there = let less = found.0 in greatest-reaches m x (versions_in left key) there
+                    (omega (arith, less, r))
                 by_kept false missing =
                     absurd (never (nth_below (versions_in (plain now) key) (floor + 1) v) t (lost m found.1 missing))
 
@@ -241,12 +244,15 @@ module _ (job : Job) (moved : List Named) (now : List Sourced) (k : IsKeptFor jo
       risen : AreRisen (nth_below (versions_in (plain now) key) (floor + 1) v) (nth_below (versions_in left key) (floor + 1) v)
       risen = same_nth floor v up two few key v (omega arith)
 
-      by : (t : Bool) → has n (versions_in (plain now) key) ≡ t → (n ≤ since) ⊎ Passes n (nth_below (versions_in left key) (floor + 1) v)
-      by true is = inr (passes_risen n (nth_below (versions_in (plain now) key) (floor + 1) v) (nth_below (versions_in left key) (floor + 1) v)
+      by : (t : Bool) → has n (versions_in (plain now) key) ≡ t → (n ≤ since)
+          ⊎ Passes n (nth_below (versions_in left key) (floor + 1) v)
+      by true is = inr (passes_risen n (nth_below (versions_in (plain now) key) (floor + 1) v)
+          (nth_below (versions_in left key) (floor + 1) v)
           risen (lost floor v up two few key n is missing))
       by false is = ⊎_elim (λ (old : n ≤ since). inl old)
           (λ (p : Passes n (nth_below (versions_in (plain now) key) (floor + 1) v)).
-          inr (passes_risen n (nth_below (versions_in (plain now) key) (floor + 1) v) (nth_below (versions_in left key) (floor + 1) v)
+          inr (passes_risen n (nth_below (versions_in (plain now) key) (floor + 1) v)
+          (nth_below (versions_in left key) (floor + 1) v)
           risen p))
           (spared two key n le there is)
 
@@ -264,14 +270,16 @@ module _ (job : Job) (moved : List Named) (now : List Sourced) (k : IsKeptFor jo
       early m is gone = let up = gone_up_to key m is gone in omega (arith, up, old)
 
       by_near : (a b : Option ℕ) → Passes n a
-          → IsNear (versions_in (plain now) key) (versions_in left key) floor floor v since (omega arith) among (λ m up is gone. inl (early m is gone)) a b
+          → IsNear (versions_in (plain now) key) (versions_in left key) floor floor v since (omega arith) among
+          (λ m up is gone. inl (early m is gone)) a b
           → (n ≤ since) ⊎ Passes n b
       by_near None b p close = absurd p
       by_near (Some w) None p close = ⊎_elim (λ (was : w ≤ since). inl (omega (arith, was, p))) (λ (r : ⊥). absurd r) close
       by_near (Some w) (Some x) p close =
           ⊎_elim (λ (was : w ≤ since). inl (omega (arith, was, p))) (λ (r : w ≤ x). inr (omega (arith, r, p))) close
 
-      by : (t : Bool) → has n (versions_in (plain now) key) ≡ t → (n ≤ since) ⊎ Passes n (nth_below (versions_in left key) (floor + 1) v)
+      by : (t : Bool) → has n (versions_in (plain now) key) ≡ t → (n ≤ since)
+          ⊎ Passes n (nth_below (versions_in left key) (floor + 1) v)
       by true is = inl (early n is missing)
       by false is = ⊎_elim (λ (was : n ≤ since). inl was)
           (λ (p : Passes n (nth_below (versions_in (plain now) key) (floor + 1) v)).

@@ -70,10 +70,6 @@ module _ (keep : ℕ) (I O : List Entry) (floor : ℕ) (p : Entry → Bool) wher
   parts_of ps [] there = inl there
   parts_of ps (s ∷ ss) there = by s.0 ps there (λ qs. parts_of qs ss)
     where
-      Parts : List Preceded → Type 0
-      Parts qs = list_any p (kept_of (marked_by keep I O floor qs ss)) ≡ true
-          → (list_any p (outside_of ss) ≡ true) ⊎ (list_any p (kept_inputs (marked_by keep I O floor qs ss)) ≡ true)
-
       of_input : (d : Bool) (qs : List Preceded)
           → list_any p (if_so d s.1 (kept_of (marked_by keep I O floor qs ss))) ≡ true
           → (list_any p (kept_of (marked_by keep I O floor qs ss)) ≡ true
@@ -195,7 +191,8 @@ module _ (l : Layout) (job : Job) (moved : List Named) (made : Made) (k : IsKept
         (λ (at : list_any p (outside_of (marked_as false memory)) ≡ true).
         in_memory (ap (list_any p) (sym (outside_all memory)) ∙ at))
         (λ (at : list_any p (outside_of in_them) ≡ true).
-        in_tables (others_stay (λ (t : Table). list_any p t.entries) l job made (sym (outside_tables job.inputs p (tables l)) ∙ at)))
+        in_tables (others_stay (λ (t : Table). list_any p t.entries) l job made
+        (sym (outside_tables job.inputs p (tables l)) ∙ at)))
         (or_cases (list_any p (outside_of (marked_as false memory))) (list_any p (outside_of in_them))
         (sym (ap (list_any p) (outside_both (marked_as false memory) in_them)
         ∙ any-append p (outside_of (marked_as false memory)) (outside_of in_them)) ∙ there))
@@ -207,7 +204,8 @@ module _ (l : Layout) (job : Job) (moved : List Named) (made : Made) (k : IsKept
     pub left_stands : list_any p (kept_of (marks_now job (sourced l job.inputs))) ≡ true → list_any p (sources next) ≡ true
     left_stands there = ⊎_elim (λ (out : list_any p (outside_of (sourced l job.inputs)) ≡ true). of_outside out)
         (λ (in_ones : list_any p (kept_inputs (marks_now job (sourced l job.inputs))) ≡ true). of_kept in_ones)
-        (parts_of job.keep (inputs_of job.base) (outside_of job.base) job.floor p (preceded [] job.base) (sourced l job.inputs) there)
+        (parts_of job.keep (inputs_of job.base) (outside_of job.base) job.floor p (preceded [] job.base)
+        (sourced l job.inputs) there)
 
 module _ (l : Layout) (h : History) (job : Job) (moved : List Named) (made : Made) (k : IsOpenWell l h job moved)
     (all : AreOutputs job made) where

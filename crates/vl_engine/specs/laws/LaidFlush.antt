@@ -122,8 +122,8 @@ module _ {H : Type 0} (bytes : H → Option (List ℕ)) where
       frozen = subst (λ (fs : List FrozenLog). AllZip IsMemtableOf fs (but_oldest l.frozen)) (sym (made.frozen ∙ made.is.frozen))
           (zip_but_oldest before.behind.frozen.items l.frozen has.frozen);
       levels = subst (λ (ts : List (List (Table H))). AllZip (AreTablesOf bytes) ts (flushed l s).levels) (sym levels_then)
-          (subst (AllZip (AreTablesOf bytes) ((table ∷ made.next.levels.newest.items) ∷ made.next.levels.deeper.items)) (sym in_front_is)
-          ((new, levels_are.0), levels_are.1));
+          (subst (AllZip (AreTablesOf bytes) ((table ∷ made.next.levels.newest.items) ∷ made.next.levels.deeper.items))
+          (sym in_front_is) ((new, levels_are.0), levels_are.1));
       in_order = subst AreAllApart (sym (ap (λ d. d.items) made.deeper))
           (order_shared bytes before.behind.levels made.next.levels made.is.levels has.in_order);
       logs = λ n x at. logs_shared bytes before.behind.logs.items after.behind.logs.items logs_then n x (has.logs n x (stay n x at));

@@ -116,4 +116,7 @@ module _ {H : Type 0} (bytes : H → Option (List ℕ)) (version : Version H) (l
       (near_frozen version.behind.frozen.items l.frozen has.frozen)
 
   pub laid_in_memory : tables l ≡ [] → IsInMemory version
-  laid_in_memory none = record { tables = none_held (tables_in version) (tables l) (tables_are bytes version l has) none; near = laid_near }
+  laid_in_memory none = record {
+    tables = none_held (tables_in version) (tables l) (tables_are bytes version l has) none;
+    near = laid_near;
+  }

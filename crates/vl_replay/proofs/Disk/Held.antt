@@ -1,5 +1,5 @@
 -- A disk that holds what an engine represents holds the state for which it stands.
-use Rattle.std.proofs.Common.{◌≡◌, ◌≤◌, ◌+◌, ℕ, List, sym, ap, ◌∙◌, subst, arith}
+use Rattle.std.proofs.Common.{◌≡◌, ◌≤◌, ◌+◌, ℕ, List, sym, ap, subst, arith}
 use Rattle.std.specs.Prelude.{IsTrue, Option, None, Some}
 use Rattle.vl_disk.specs.DiskState.{DiskState}
 use Rattle.vl_engine.specs.Held.{AreBegun, Base, Holds, IsBase}
@@ -17,8 +17,8 @@ use Rattle.vl_replay.specs.Stored.{IsStored}
 -- by a base of its layout
 pub stored_as : (t : State) (now : DiskState) (base : Base) (k : History) (m : Layout) → t.store.layout ≡ m → history_of t ≡ k
     → IsTrue t.openable → IsBase base m k → Holds base m now → IsTidy (layout_logs m) m k → base.state.next_table ≤ m.next_table
-    → AreBegun base.state.next_table m.next_table now → AreNumberedUpTo t.files now → GivesUpTo t.files base.state → m.next_log ≤ t.files + 1 → m.next_table ≤ t.files + 1
-    → IsStored t now
+    → AreBegun base.state.next_table m.next_table now → AreNumberedUpTo t.files now → GivesUpTo t.files base.state
+    → m.next_log ≤ t.files + 1 → m.next_table ≤ t.files + 1 → IsStored t now
 stored_as t now base k m layout history openable is holds tidy next_table begun numbered next next_log drawn = record {
   openable = openable;
   base = base;

@@ -1,0 +1,191 @@
+-- How entries that are kept are added to a table, one by one, and which needless keys lie behind it.
+use Rattle.std.proofs.Common.{◌≡◌, ℕ, Bool, true, false, cond, not, List, [], ◌∷◌, ◌++◌, refl, ap, sym, subst, ◌∙◌, append-nil, Option, Some, None}
+use Rattle.std.proofs.lemmas.Bool.{and_parts}
+use Rattle.std.proofs.lemmas.List.Elements.{filter-append}
+use Rattle.std.specs.Arc.{arc_value}
+use Rattle.std.specs.List.{AllByRecursion}
+use Rattle.std.specs.Ordering.{eq_by_cmp, is_eq, is_gt, is_lt, nat_cmp, ordering_then}
+use Rattle.std.specs.Prelude.{nat_le}
+use Rattle.std.specs.declared.cmp.Ordering.{Ordering}
+use Rattle.std.specs.declared.cmp.Ordering.TheVariants.{Less, Equal, Greater}
+use Rattle.vl_block.specs.Cutting.{last_key}
+use Rattle.vl_compact.specs.Filling.{Adds, Fills, IsWhole, IsWrittenTo, keys_up_to}
+use Rattle.vl_compact.specs.Keeps.{GivesNext, Stage, place_in, stage}
+use Rattle.vl_compact.specs.Keys.{keys_of, up_to}
+use Rattle.vl_compact.specs.Walking.{is_behind, spent, walk}
+use Rattle.vl_compact.specs.laws.BehindLaws.{all_spent, behind_later}
+use Rattle.vl_compact.specs.laws.FirstTable.{closes, first_table, frames_length, last-append, table_and_rest}
+use Rattle.vl_compact.specs.laws.ProgressLaws.{is_past}
+use Rattle.vl_compact.specs.declared.files.Lent.{Lent}
+use Rattle.vl_compact.specs.declared.filling.Filled.{Filled}
+use Rattle.vl_compact.specs.declared.last.Last.{Last}
+use Rattle.vl_disk.specs.declared.writer.Writer.{Ghosts}
+use Rattle.vl_layout.specs.Tables.{full_table_bytes}
+use Rattle.vl_layout.specs.declared.job.Job.{Job}
+use Rattle.vl_merge.specs.Merging.{IsAlong, IsFirst}
+use Rattle.vl_model.specs.Entries.{entry_cmp}
+use Rattle.vl_model.specs.Keys.{key_cmp}
+use Rattle.vl_model.specs.declared.entry.Entry.{Entry}
+use Rattle.vl_model.specs.declared.way.Way.TheVariants.{Up}
+use Rattle.vl_table_writer.specs.declared.writer.TableWriter.{TableWriter}
+
+-- ---- behind a key
+
+-- an entry of another key, which doesn't come before one, is behind that one's key
+apart_past : (k : List ℕ) (l e : Entry) → k ≡ l.key → not (eq_by_cmp key_cmp k e.key) ≡ true → is_gt (entry_cmp l e) ≡ false
+    → is_behind (Some k) e ≡ true
+apart_past k l e is apart later =
+    by (key_cmp k e.key) apart (ap (λ x. is_gt (ordering_then (key_cmp x e.key) (nat_cmp e.version l.version))) is ∙ later)
+  where
+    by : (r : Ordering) → not (is_eq r) ≡ true → is_gt (ordering_then r (nat_cmp e.version l.version)) ≡ false → is_lt r ≡ true
+    by Less apart later = refl
+    by Equal apart later = absurd cc
+    by Greater apart later = absurd cc
+
+all_later : (at : Option (List ℕ)) (e : Entry) (es : List Entry) → IsFirst Up e es → is_behind at e ≡ true
+    → AllByRecursion (λ (f : Entry). is_behind at f ≡ true) es
+all_later at e [] first behind = tt
+all_later at e (f ∷ fs) first behind = (behind_later at e f first.0 behind, all_later at e fs first.1 behind)
+
+all_keys : (k : List ℕ) (es : List Entry) → AllByRecursion (λ (f : Entry). is_behind (Some k) f ≡ true) es
+    → AllByRecursion (λ (key : List ℕ). is_past (Some k) key ≡ true) (keys_of es)
+all_keys k [] all = tt
+all_keys k (e ∷ es) all = (all.0, all_keys k es all.1)
+
+none_up_to : (k : List ℕ) (keys : List (List ℕ)) → AllByRecursion (λ (key : List ℕ). is_past (Some k) key ≡ true) keys
+    → keys_up_to k keys ≡ []
+none_up_to k [] all = refl
+none_up_to k (key ∷ keys) all =
+    ap (λ b. cond (not b) (key ∷ keys_up_to k keys) (keys_up_to k keys)) all.0 ∙ none_up_to k keys all.1
+
+keys_filtered : (k : List ℕ) (es : List Entry) → keys_up_to k (keys_of es) ≡ keys_of (up_to (Some k) es)
+keys_filtered k [] = refl
+keys_filtered k (e ∷ es) = by (is_past (Some k) e.key) (keys_filtered k es)
+  where
+    by : (b : Bool) → keys_up_to k (keys_of es) ≡ keys_of (up_to (Some k) es)
+        → cond (not b) (e.key ∷ keys_up_to k (keys_of es)) (keys_up_to k (keys_of es))
+        ≡ keys_of (cond (not b) (e ∷ up_to (Some k) es) (up_to (Some k) es))
+    by true later = later
+    by false later = ap (λ l. e.key ∷ l) later
+
+-- ---- one by one
+
+module _ {W : Type 0} (writer : Ghosts W) where
+  -- Entries that are kept were added behind the first one, and nothing closed the table yet.
+  pub record Adding {g : _} (j : Job) (first : Entry) (old : Stage) (lent : Lent W g) (table : TableWriter) (last : List ℕ) (at : Option Last)
+      (left : Option (List Entry)) (found : List (List ℕ)) : Type 0 where
+    pub all : List Entry
+    pub lastly : Entry
+    pub rest : List Entry
+    pub written : IsWrittenTo writer lent table all
+    pub ends : last_key all ≡ lastly.key
+    pub last_is : last ≡ lastly.key
+    pub left_is : left ≡ Some rest
+    pub cut : table_and_rest (first ∷ []) (walk j old.place old.left) ≡ table_and_rest all (walk j (place_in at) rest)
+    pub found_are : old.found ++ keys_of (spent j old.place old.left) ≡ found ++ keys_of (spent j (place_in at) rest)
+    pub along : IsAlong Up (first ∷ old.left) → IsAlong Up (lastly ∷ rest)
+
+  pub adding_begins : {g : _} (j : Job) (first : Entry) (at : Option Last) (left : List Entry) (now : Option (List Entry)) (found : List (List ℕ))
+      (lent : Lent W g) (table : TableWriter) → now ≡ Some left → IsWrittenTo writer lent table (first ∷ [])
+      → Adding j first (stage at left found) lent table first.key at now found
+  adding_begins j first at left now found lent table is written = record {
+    all = first ∷ [];
+    lastly = first;
+    rest = left;
+    written = written;
+    ends = refl;
+    last_is = refl;
+    left_is = is;
+    cut = refl;
+    found_are = refl;
+    along = λ along. along;
+  }
+
+  module _ {g : _} (j : Job) (first : Entry) (old : Stage) (lent : Lent W g) (table : TableWriter) (last : List ℕ) (at : Option Last)
+      (left : Option (List Entry)) (found : List (List ℕ)) (so : Adding {g = g} j first old lent table last at left found)
+      (at_now : Option Last) (left_now : Option (List Entry)) (found_now : List (List ℕ)) where
+    module _ (e : Entry) (n : GivesNext j (stage at so.rest found) at_now left_now found_now (Some e)) where
+      abbrev kept_then : List Entry
+      kept_then = walk j (place_in at_now) n.rest
+
+      cut_here : table_and_rest (first ∷ []) (walk j old.place old.left)
+          ≡ cond (closes so.all e) (so.all, e ∷ kept_then) (table_and_rest (so.all ++ e ∷ []) kept_then)
+      cut_here = so.cut ∙ ap (table_and_rest so.all) n.goes.kept
+
+      -- one more is added
+      pub adding_goes : (lent_now : Lent W g) (table_now : TableWriter) → closes so.all e ≡ false
+          → IsWrittenTo writer lent_now table_now (so.all ++ e ∷ []) → Adding j first old lent_now table_now e.key at_now left_now found_now
+      adding_goes lent_now table_now going written = record {
+        all = so.all ++ e ∷ [];
+        lastly = e;
+        rest = n.rest;
+        written = written;
+        ends = last-append so.all e;
+        last_is = refl;
+        left_is = n.left_is;
+        cut = cut_here ∙ ap (λ b. cond b (so.all, e ∷ kept_then) (table_and_rest (so.all ++ e ∷ []) kept_then)) going;
+        found_are = so.found_are ∙ n.goes.found_are;
+        along = λ along. n.goes.along (so.along along).1;
+      }
+
+      past_it : IsAlong Up (first ∷ old.left) → closes so.all e ≡ true → is_behind (Some (last_key so.all)) e ≡ true
+      past_it along closed =
+          apart_past (last_key so.all) so.lastly e so.ends
+          (and_parts (not (eq_by_cmp key_cmp (last_key so.all) e.key)) (nat_le full_table_bytes (frames_length so.all)) closed).0
+          (n.goes.from so.lastly (so.along along).0).0
+
+      -- it closes the table
+      pub adding_closes : closes so.all e ≡ true → Adds writer j first old found_now lent table
+      adding_closes closed = record {
+        all = so.all;
+        others = e ∷ kept_then;
+        later = keys_of (spent j (place_in at_now) n.rest);
+        written = so.written;
+        cut = cut_here ∙ ap (λ b. cond b (so.all, e ∷ kept_then) (table_and_rest (so.all ++ e ∷ []) kept_then)) closed;
+        found_are = so.found_are ∙ n.goes.found_are;
+        behind = λ along.
+            all_keys (last_key so.all) (spent j (place_in at_now) n.rest)
+            (all_spent (λ (f : Entry). is_behind (Some (last_key so.all)) f ≡ true) j (place_in at_now) n.rest
+            (all_later (Some (last_key so.all)) e n.rest (n.goes.along (so.along along).1).0 (past_it along closed)));
+      }
+
+    -- none is left
+    pub adding_ends : GivesNext j (stage at so.rest found) at_now left_now found_now None → Adds writer j first old found_now lent table
+    adding_ends n = record {
+      all = so.all;
+      others = [];
+      later = [];
+      written = so.written;
+      cut = so.cut ∙ ap (table_and_rest so.all) (n.goes.kept ∙ ap (walk j (place_in at_now)) n.none);
+      found_are = so.found_are ∙ n.goes.found_are ∙ ap (λ es. found_now ++ keys_of (spent j (place_in at_now) es)) n.none;
+      behind = λ along. tt;
+    }
+
+  -- ---- the first table
+
+  pub filled_with : {g : _} (j : Job) (left : List Entry) (before at : Option Last) (left_now : Option (List Entry)) (none found found_now : List (List ℕ)) (e : Entry)
+      → before ≡ None → none ≡ [] → (n : GivesNext j (stage before left none) at left_now found (Some e)) → (lent : Lent W g) (table : TableWriter)
+      → (a : Adds writer j e (stage at n.rest found) found_now lent table) → IsAlong Up left → (lent_now : Lent W g) (filled : Filled)
+      → IsWhole writer lent_now a.all (arc_value filled.shape) → filled.last ≡ last_key a.all
+      → filled.found.items ≡ keys_up_to filled.last found_now → Fills writer j left lent_now filled
+  filled_with j left before at left_now none found found_now e first nothing n lent table a along lent_now filled whole last found_are =
+      let more : List Entry = walk j (place_in at) n.rest in
+      let is_all : (first_table (e ∷ more)).0 ≡ a.all = ap (λ (p : List Entry × List Entry). p.0) a.cut in
+      let needless : List Entry = spent j None left in
+      let total : keys_of needless ≡ found_now ++ a.later =
+      ap (λ l. l ++ keys_of needless) (sym nothing)
+      ∙ ap (λ (o : Option Last). none ++ keys_of (spent j (place_in o) left)) (sym first) ∙ n.goes.found_are ∙ a.found_are in
+      record {
+        first = e;
+        more = more;
+        kept = ap (λ (o : Option Last). walk j (place_in o) left) (sym first) ∙ n.goes.kept;
+        whole = subst (λ es. IsWhole writer lent_now es (arc_value filled.shape)) (sym is_all) whole;
+        last = last ∙ ap last_key (sym is_all);
+        found_are =
+            found_are ∙ sym (append-nil (keys_up_to filled.last found_now))
+            ∙ ap (λ l. keys_up_to filled.last found_now ++ l)
+            (sym (none_up_to filled.last a.later
+            (subst (λ k. AllByRecursion (λ (key : List ℕ). is_past (Some k) key ≡ true) a.later) (sym last) (a.behind (n.goes.along along)))))
+            ∙ sym (filter-append (λ (key : List ℕ). not (is_past (Some filled.last) key)) found_now a.later)
+            ∙ ap (keys_up_to filled.last) (sym total) ∙ keys_filtered filled.last needless;
+      }

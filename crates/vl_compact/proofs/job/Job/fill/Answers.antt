@@ -1,0 +1,60 @@
+use Rattle.std.proofs.Common.{List, [], ◌∷◌, Some, false, ◌++◌, ap, subst, sym, ◌∙◌}
+use Rattle.vl_compact.proofs.Making.{makes_one}
+use Rattle.vl_compact.specs.Progress.{Has, HasTaken}
+use Rattle.vl_compact.specs.declared.files.Synced.{Synced}
+use Rattle.vl_compact.specs.declared.job.Job.{Job}
+use Rattle.vl_compact.proofs.job.Job.fill.Goals as goal
+
+pub returns-in-Ok-clause-next : goal.returns-in-Ok-clause-next
+returns-in-Ok-clause-next g c = λ j fits fresh h.
+    let W = g.W.Writer in
+    let bytes = g.H.HeldFile.bytes in
+    let has = g.V.Sources.has in
+    let old = c.args.self.now in
+    let between = c.write.new.self in
+    let new = c.take.new.self in
+    let filled = c.in-Ok.filled in
+    let same = c.take.ensures.same
+    ∙ ap (λ (s : Job g.row.V.Denot g.row.H.Denot g.row.W.Denot W). record s { after = Some filled.last; made = new.made; needless = new.needless; waits = false })
+    c.write.ensures.same in
+    subst (λ (s : Job g.row.V.Denot g.row.H.Denot g.row.W.Denot W). Has W bytes has s j) (sym same)
+    (makes_one W bytes has old j h c.requires.waits c.write.new.lent filled (c.in-Ok.ensures.fills j fits fresh h) (c.in-Ok.ensures.settled j fits fresh h)
+    new.made
+    (subst (λ (l : List (Synced g.row.W.Denot W)). HasTaken c.write.new.lent filled l new.made.items)
+    (ap (λ (s : Job g.row.V.Denot g.row.H.Denot g.row.W.Denot W). s.made.items) c.write.ensures.same) c.take.ensures.made)
+    new.needless (c.take.ensures.needless ∙ ap (λ l. l ++ filled.found.items) c.write.ensures.items))
+
+pub returns-in-Ok-clause-takes : goal.returns-in-Ok-clause-takes
+returns-in-Ok-clause-takes g c =
+    let W = g.W.Writer in
+    let t = c.take.ensures.made in
+    record {
+      table = t.table;
+      number = t.number ∙ c.write.ensures.number;
+      made = t.made
+          ∙ ap (λ (s : Job g.row.V.Denot g.row.H.Denot g.row.W.Denot W). s.made.items ++ t.table ∷ []) c.write.ensures.same;
+      leavings = ap (λ (s : Job g.row.V.Denot g.row.H.Denot g.row.W.Denot W). s.leavings) c.take.ensures.same
+          ∙ ap (λ (s : Job g.row.V.Denot g.row.H.Denot g.row.W.Denot W). s.leavings) c.write.ensures.same;
+      waits = ap (λ (s : Job g.row.V.Denot g.row.H.Denot g.row.W.Denot W). s.waits) c.take.ensures.same;
+    }
+
+pub returns-in-Err-clause-refused : goal.returns-in-Err-clause-refused
+returns-in-Err-clause-refused g c =
+    let W = g.W.Writer in
+    record {
+      leaving = c.write.new.lent;
+      number = c.write.ensures.number;
+      kept = ap (λ (s : Job g.row.V.Denot g.row.H.Denot g.row.W.Denot W). record s { leavings = c.push_reserved.new.self }) c.write.ensures.same;
+      left = c.push_reserved.ensures.items
+          ∙ ap (λ (s : Job g.row.V.Denot g.row.H.Denot g.row.W.Denot W). s.leavings.items ++ c.write.new.lent ∷ []) c.write.ensures.same;
+      needless_are = c.write.ensures.items;
+    }
+
+pub returns-in-Err-clause-cause : goal.returns-in-Err-clause-cause
+returns-in-Err-clause-cause g c = λ fits.
+    let W = g.W.Writer in (
+      c.write.new.lent,
+      c.push_reserved.ensures.items
+          ∙ ap (λ (s : Job g.row.V.Denot g.row.H.Denot g.row.W.Denot W). s.leavings.items ++ c.write.new.lent ∷ []) c.write.ensures.same,
+      c.in-Err.ensures.cause fits,
+    )

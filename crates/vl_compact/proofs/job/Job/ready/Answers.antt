@@ -1,0 +1,28 @@
+use Rattle.std.proofs.Common.{sym, ◌∙◌}
+use Rattle.vl_compact.proofs.Making.{left_told, ready_more, ready_none, rules_of}
+use Rattle.vl_compact.proofs.job.Job.ready.Goals as goal
+
+pub returns-then-is_some-clause-answers : goal.returns-then-is_some-clause-answers
+returns-then-is_some-clause-answers g c = λ j fits h.
+    let W = g.W.Writer in
+    let bytes = g.H.HeldFile.bytes in
+    let has = g.V.Sources.has in
+    let job = c.args.self.now in
+    let k = c.in_ok-keeping.ensures in
+    let rules = rules_of W bytes has job j h.is c.in_ok-keeping.keeping.rules k.inputs k.floor k.keep in
+    let n = c.in_ok-next.ensures.next j _ rules h.is.base fits (left_told W bytes has job j h.is _ k.left) in
+    ready_more W bytes has job j h c.in_ok-keeping.keeping.last c.next.new.self.last c.new-found.result.items c.next.new.found.items _
+    c.in_ok-next.next n k.first (sym c.is_some.ensures ∙ c.if-is_some.true)
+
+pub returns-clause-answers : goal.returns-clause-answers
+returns-clause-answers g c = λ j fits h.
+    let W = g.W.Writer in
+    let bytes = g.H.HeldFile.bytes in
+    let has = g.V.Sources.has in
+    let job = c.args.self.now in
+    let k = c.in_ok-keeping.ensures in
+    let rules = rules_of W bytes has job j h.is c.in_ok-keeping.keeping.rules k.inputs k.floor k.keep in
+    let n = c.in_ok-next.ensures.next j _ rules h.is.base fits (left_told W bytes has job j h.is _ k.left) in
+    ready_none W bytes has job j h c.in_ok-keeping.keeping.last c.next.new.self.last c.new-found.result.items c.next.new.found.items _
+    c.in_ok-next.next n k.first (sym c.is_some.ensures ∙ c.if-is_some.false) c.if-self.false c.new-found.ensures.items
+    c.append.new.self c.in_ok-append.ensures.items

@@ -1,0 +1,91 @@
+-- How far a merge has gone through what its inputs have.
+use Rattle.std.specs.Prelude.{◌≡◌, ℕ, Bool, true, false, List, [], ◌∷◌, ◌++◌, Option, Some, None, IfNone}
+use Rattle.std.specs.Option.{option_map}
+use Rattle.vl_compact.specs.Walking.{Place, is_hidden, is_old, is_spent, spent, walk}
+use Rattle.vl_compact.specs.declared.last.Last.{Last}
+use Rattle.vl_compact.specs.declared.rules.Fate.{Fate}
+use Rattle.vl_compact.specs.declared.rules.Fate.TheVariants.{Kept, Dropped, Needless}
+use Rattle.vl_compact.specs.declared.rules.Rules.{Rules}
+use Rattle.vl_layout.specs.Merging.{if_so}
+use Rattle.vl_layout.specs.declared.job.Job.{Job}
+use Rattle.vl_merge.specs.Merging.{IsAlong, IsFirst}
+use Rattle.vl_model.specs.declared.entry.Entry.{Entry}
+use Rattle.vl_model.specs.declared.way.Way.TheVariants.{Up}
+use Rattle.vl_compact.specs.Keys.{keys_of}
+
+abbrev pub place_at : Last → Place
+place_at last = record { key = last.key; version = last.version; seen = last.seen }
+
+abbrev pub place_in : Option Last → Option Place
+place_in last = option_map place_at last
+
+-- the rules are those of a layout's job
+pub record AreRulesOf (rules : Rules) (j : Job) : Type 0 where
+  pub inputs : rules.inputs.items ≡ j.inputs
+  pub floor : rules.floor ≡ j.floor
+  pub keep : rules.keep ≡ j.keep
+
+-- ---- one entry
+
+-- what becomes of an entry by whether it is old, hidden, and spent
+abbrev pub fate_by : Bool → Bool → Bool → Fate
+fate_by true hidden spent = Dropped
+fate_by false true spent = Dropped
+fate_by false false true = Needless
+fate_by false false false = Kept
+
+abbrev pub fate_of : Job → ℕ → Entry → Fate
+fate_of j seen e = fate_by (is_old j seen e) (is_hidden j e) (is_spent j e)
+
+abbrev pub is_kept : Fate → Bool
+is_kept Kept = true
+is_kept Dropped = false
+is_kept Needless = false
+
+-- the key of a needless deletion
+abbrev pub noted : Fate → Entry → List (List ℕ)
+noted Kept e = []
+noted Dropped e = []
+noted Needless e = e.key ∷ []
+
+-- One entry came. It is kept or not, and what is needless of it was found: whatever comes behind it.
+pub record Passes (j : Job) (at now : Option Place) (e : Entry) (found found_now : List (List ℕ)) (kept : Bool) : Type 0 where
+  pub walked : (es : List Entry) → walk j at (e ∷ es) ≡ if_so kept e (walk j now es)
+  pub found_are : (es : List Entry) → found ++ keys_of (spent j at (e ∷ es)) ≡ found_now ++ keys_of (spent j now es)
+
+-- ---- many
+
+-- how far it is: its place, what is left of its inputs, and the keys of needless deletions that it found
+pub record Stage : Type 0 where
+  pub place : Option Place
+  pub left : List Entry
+  pub found : List (List ℕ)
+
+abbrev pub stage : Option Last → List Entry → List (List ℕ) → Stage
+stage last left found = record { place = place_in last; left = left; found = found }
+
+abbrev pub with_entry : Option Entry → List Entry → List Entry
+with_entry None es = es
+with_entry (Some e) es = e ∷ es
+
+-- From one stage to another it gave this entry, or nothing: no other is kept between them, and what is found and still to be
+-- found stays.
+pub record GoesOn (j : Job) (old new : Stage) (next : Option Entry) : Type 0 where
+  pub kept : walk j old.place old.left ≡ with_entry next (walk j new.place new.left)
+  pub found_are : old.found ++ keys_of (spent j old.place old.left) ≡ new.found ++ keys_of (spent j new.place new.left)
+  pub along : IsAlong Up old.left → IsAlong Up (with_entry next new.left)
+  pub from : (e : Entry) → IsFirst Up e old.left → IsFirst Up e (with_entry next new.left)
+
+-- It gave the next entry that is kept; where there is none nothing is left.
+pub record GivesNext (j : Job) (old : Stage) (last : Option Last) (left : Option (List Entry)) (found : List (List ℕ)) (next : Option Entry)
+    : Type 0 where
+  pub rest : List Entry
+  pub left_is : left ≡ Some rest
+  pub goes : GoesOn j old (stage last rest found) next
+  pub none : IfNone next (rest ≡ [])
+
+-- It gave nothing so far.
+pub record Walked (j : Job) (old : Stage) (last : Option Last) (left : Option (List Entry)) (found : List (List ℕ)) : Type 0 where
+  pub rest : List Entry
+  pub left_is : left ≡ Some rest
+  pub goes : GoesOn j old (stage last rest found) None

@@ -1,0 +1,16 @@
+-- The keys of entries, and which entries are up to a key.
+use Rattle.std.specs.Prelude.{ℕ, not, List, map, Option}
+use Rattle.std.specs.List.{filter}
+use Rattle.vl_compact.specs.Walking.{is_behind}
+use Rattle.vl_model.specs.declared.entry.Entry.{Entry}
+
+abbrev pub keys_of : List Entry → List (List ℕ)
+keys_of es = map (λ (e : Entry). e.key) es
+
+-- those of some entries that aren't behind a key; none where there is no key yet
+abbrev pub up_to : Option (List ℕ) → List Entry → List Entry
+up_to after es = filter (λ e. not (is_behind after e)) es
+
+-- those behind it
+abbrev pub behind : Option (List ℕ) → List Entry → List Entry
+behind after es = filter (is_behind after) es

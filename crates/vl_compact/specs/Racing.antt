@@ -1,0 +1,18 @@
+-- Which of some keys was moved first, and how many entries tables have.
+use Rattle.std.specs.Prelude.{ℕ, List, [], ◌∷◌, Option, None}
+use Rattle.std.specs.Arc.{arc_value}
+use Rattle.std.specs.FinMap.{find}
+use Rattle.std.specs.List.{sum_by}
+use Rattle.vl_compact.specs.laws.RaceLaws.{moved_or}
+use Rattle.vl_compact.specs.declared.files.Synced.{Synced}
+use Rattle.vl_model.specs.Conflicts.{Named}
+use Rattle.vl_model.specs.Keys.{key_cmp}
+
+-- the first of these keys that was moved, with the number of its last move, which comes first
+abbrev pub least_moved : List Named → List (List ℕ) → Option Named
+least_moved moved [] = None
+least_moved moved (key ∷ keys) = moved_or key (find key_cmp key moved) (least_moved moved keys)
+
+-- how many entries tables have, as their footers say it
+abbrev pub entry_count : {W : Type 0} {g : _} → List (Synced W g) → ℕ
+entry_count {W} {g} made = sum_by (λ (s : Synced W g). (arc_value s.shape).footer.count) made

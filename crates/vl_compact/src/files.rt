@@ -1,0 +1,72 @@
+//! The files that a job is lent: one for each table that it is to make.
+
+ghost use Rattle.std.specs.Prelude.{◌≡◌};
+ghost use Rattle.vl_disk.specs.declared.name.Name.TheVariants.{Table as table_name};
+
+use std::alloc::Global;
+use std::sync::Arc;
+use vl_block::TableShape;
+use vl_disk::{DiskFail, Name, Writer};
+use vl_table::TableFault;
+
+/// A file that a disk has lent for the table with this number.
+#[derive(Drop)]
+pub struct Lent<W: Writer> {
+    pub number: u32,
+    pub writer: W,
+    ghost named: { W.named writer ≡ table_name number },
+}
+
+/// A table that a job made: what wrote its file, of which each byte is durable, and what is known of it beside its blocks.
+#[derive(Drop)]
+pub struct Synced<W: Writer> {
+    pub number: u32,
+    pub writer: W,
+    pub shape: Arc<TableShape, Global>,
+    ghost named: { W.named writer ≡ table_name number },
+}
+
+impl<W: Writer> Lent<W> {
+    ghost use Rattle.std.specs.Prelude.{◌++◌, ℕ, List, IfErr, OnOk};
+    ghost use Rattle.std.specs.Option.{ForSome};
+    ghost use Rattle.vl_compact.specs.Lending.{FailsWriting, IsSteady};
+    ghost use Rattle.vl_disk.specs.DiskState.{settled};
+    ghost use Rattle.vl_table.specs.declared.fault.TableFault.TheVariants.{Disk};
+
+    // Puts a piece behind the end of the file.
+    pub fn append(&mut self, piece: &[u8]) -> Result<(), TableFault>
+        ensures number { self.new.number ≡ self.old.number }
+        ensures bytes { (given : List ℕ) → ForSome (W.file self.old.writer) (λ f. f.bytes ≡ given)
+            → OnOk result (ForSome (W.file self.new.writer) (λ f. f.bytes ≡ given ++ piece.now)) }
+        ensures steady { OnOk result (IsSteady W.Writer self.old self.new) }
+        ensures fails { IfErr result (FailsWriting W.Writer self.old self.new) }
+    {
+        match self.writer.append(piece) {
+            Ok(()) => Ok(()),
+            Err(DiskFail::NoMemory) => Err(TableFault::NoMemory),
+            Err(DiskFail::Failed) => Err(self.failed()),
+        }
+    }
+
+    // Makes the file durable.
+    pub fn sync(&mut self) -> Result<(), TableFault>
+        ensures number { self.new.number ≡ self.old.number }
+        ensures settled { (bytes : List ℕ) → ForSome (W.file self.old.writer) (λ f. f.bytes ≡ bytes)
+            → OnOk result (ForSome (W.file self.new.writer) (λ f. f ≡ settled bytes)) }
+        ensures steady { OnOk result (IsSteady W.Writer self.old self.new) }
+        ensures fails { IfErr result (FailsWriting W.Writer self.old self.new) }
+    {
+        match self.writer.sync() {
+            Ok(()) => Ok(()),
+            Err(_) => Err(self.failed()),
+        }
+    }
+
+    fn failed(&self) -> TableFault
+        ensures { result ≡ Disk (table_name self.now.number) }
+    {
+        TableFault::Disk {
+            name: Name::Table(self.number),
+        }
+    }
+}

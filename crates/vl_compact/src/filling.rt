@@ -1,0 +1,265 @@
+//! How a table goes to its file, piece by piece.
+
+ghost use Rattle.std.specs.Prelude.{◌≡◌, ◌++◌, ◌∷◌, [], nat_le, ℕ, List, None, Some, not, IfErr, IfOk, OnOk};
+ghost use Rattle.std.specs.Arc.{arc_value};
+ghost use Rattle.std.specs.Option.{ForSome};
+ghost use Rattle.std.specs.Ordering.{eq_by_cmp};
+ghost use Rattle.vl_block.specs.Cutting.{last_key};
+ghost use Rattle.vl_compact.specs.Filling.{Adds, FailsFilling, Fills, IsWhole, IsWrittenTo, keys_up_to};
+ghost use Rattle.vl_compact.specs.Keeps.{AreRulesOf, stage};
+ghost use Rattle.vl_compact.specs.Lending.{FailsWriting, IsSteady};
+ghost use Rattle.vl_compact.specs.Reading.{FailsReading, NoneRose, counts};
+ghost use Rattle.vl_compact.specs.laws.FirstTable.{closes, frames_length};
+ghost use Rattle.vl_compact.specs.laws.ProgressLaws.{is_past};
+ghost use Rattle.vl_layout.specs.declared.job.Job as laid;
+ghost use Rattle.vl_layout.specs.Tables.{full_table_bytes};
+ghost use Rattle.vl_merge.specs.Merging.{IsAlong};
+ghost use Rattle.vl_model.specs.Keys.{key_cmp};
+ghost use Rattle.vl_model.specs.declared.entry.Entry.{Entry};
+ghost use Rattle.vl_model.specs.declared.way.Way.TheVariants.{Up};
+ghost use Rattle.vl_table.specs.declared.fault.TableFault.TheVariants.{NoMemory};
+ghost use Rattle.vl_table_writer.specs.Tails.{tail_bytes};
+ghost use Rattle.vl_table_writer.specs.Writing.{IsWriting};
+
+use crate::files::Lent;
+use crate::job_reader::JobReader;
+use crate::keeping::Keeping;
+use std::alloc::Global;
+use std::sync::Arc;
+use vl_block::TableShape;
+use vl_disk::Writer;
+use vl_merge::Sources;
+use vl_model::{Cursor, Entry, Key};
+use vl_table::TableFault;
+use vl_table_writer::{AddFail, TableWriter, Tail};
+
+// A merge closes a table whose block frames have so many bytes.
+const FULL_TABLE_BYTES: u64 = 2_097_152;
+
+/// What a table that was written leaves: what is known of it beside its blocks, its last key, and the keys up to that one of
+/// needless deletions.
+#[derive(Drop)]
+pub struct Filled {
+    pub shape: Arc<TableShape, Global>,
+    pub last: Key,
+    pub found: Vec<Key>,
+}
+
+/// Writes the first table of what is kept to its file. Nothing of it is durable yet.
+pub fn fill<C: Cursor<Fault = TableFault>, V: Sources<Fault = TableFault>, W: Writer>(
+    alloc: Global,
+    base: &V,
+    reader: &mut JobReader<C::Reader, V::Reader>,
+    keeping: &mut Keeping<C>,
+    lent: &mut Lent<W>,
+) -> Result<Filled, TableFault>
+    ensures fills { (j : laid.Job) (left : List Entry) → AreRulesOf keeping.old.rules j → V.has base.now j.inputs j.base
+        → V.fits base.now reader.old.looks → C.left keeping.old.cursor ≡ Some left → keeping.old.last ≡ None → IsAlong Up left
+        → ForSome (W.file lent.old.writer) (λ f. f.bytes ≡ []) → IfOk result (Fills W.Writer j left lent.new) }
+    ensures number { lent.new.number ≡ lent.old.number }
+    ensures fits { V.fits base.now reader.old.looks → V.fits base.now reader.new.looks }
+    ensures steady { OnOk result (NoneRose (counts (λ l. V.faults l) (λ r. C.faults r) reader.old reader.new)) }
+    ensures kept { OnOk result (IsSteady W.Writer lent.old lent.new) }
+    ensures cause { V.fits base.now reader.old.looks → IfErr result (λ fault. FailsFilling W.Writer
+        (FailsReading (λ f. V.is_read_fault f) (V.may_fail base.now) (λ f. C.is_read_fault f) (C.may_fail keeping.old.cursor))
+        (counts (λ l. V.faults l) (λ r. C.faults r) reader.old reader.new) lent.old lent.new fault) }
+{
+    let mut found = Vec::new(alloc);
+    // There is one wherever the sources tell what they have.
+    let Some(first) = keeping.next(base, reader, &mut found)? else {
+        return Err(TableFault::NoMemory);
+    };
+    let mut table = begin(alloc, lent, &first)?;
+    add_kept(
+        alloc, base, reader, keeping, &mut found, lent, &mut table, first,
+    )?;
+    finish(alloc, lent, table, found)
+}
+
+// Begins the table with its first entry.
+fn begin<W: Writer>(
+    alloc: Global,
+    lent: &mut Lent<W>,
+    first: &Entry,
+) -> Result<TableWriter, TableFault>
+    ensures begun { ForSome (W.file lent.old.writer) (λ f. f.bytes ≡ [])
+        → IfOk result (λ table. IsWrittenTo W.Writer lent.new table (first.now ∷ [])) }
+    ensures number { lent.new.number ≡ lent.old.number }
+    ensures steady { OnOk result (IsSteady W.Writer lent.old lent.new) }
+    ensures fails { IfErr result (FailsWriting W.Writer lent.old lent.new) }
+{
+    let mut header = Vec::new(alloc);
+    match TableWriter::begin(alloc, &mut header, lent.number, first) {
+        Ok(table) => {
+            lent.append(&header)?;
+            Ok(table)
+        }
+        Err(fail) => Err(refused(fail)),
+    }
+}
+
+// Adds the entries that are kept until the table is full and another key comes.
+fn add_kept<C: Cursor<Fault = TableFault>, V: Sources<Fault = TableFault>, W: Writer>(
+    alloc: Global,
+    base: &V,
+    reader: &mut JobReader<C::Reader, V::Reader>,
+    keeping: &mut Keeping<C>,
+    found: &mut Vec<Key>,
+    lent: &mut Lent<W>,
+    table: &mut TableWriter,
+    first: Entry,
+) -> Result<(), TableFault>
+    ensures adds { (j : laid.Job) (left : List Entry) → AreRulesOf keeping.old.rules j → V.has base.now j.inputs j.base
+        → V.fits base.now reader.old.looks → C.left keeping.old.cursor ≡ Some left
+        → IsWrittenTo W.Writer lent.old table.old (first ∷ [])
+        → OnOk result (Adds W.Writer j first (stage keeping.old.last left found.old.items) found.new.items lent.new table.new) }
+    ensures number { lent.new.number ≡ lent.old.number }
+    ensures fits { V.fits base.now reader.old.looks → V.fits base.now reader.new.looks }
+    ensures steady { OnOk result (NoneRose (counts (λ l. V.faults l) (λ r. C.faults r) reader.old reader.new)) }
+    ensures kept { OnOk result (IsSteady W.Writer lent.old lent.new) }
+    ensures cause { V.fits base.now reader.old.looks → IfErr result (λ fault. FailsFilling W.Writer
+        (FailsReading (λ f. V.is_read_fault f) (V.may_fail base.now) (λ f. C.is_read_fault f) (C.may_fail keeping.old.cursor))
+        (counts (λ l. V.faults l) (λ r. C.faults r) reader.old reader.new) lent.old lent.new fault) }
+{
+    let mut last = first.key;
+    'adding: while let Some(entry) = keeping.next(base, reader, found)? {
+        if closes(table, &last, &entry) {
+            return Ok(());
+        }
+        add(alloc, lent, table, &entry)?;
+        last = entry.key;
+    }
+    Ok(())
+}
+
+// Adds an entry, and hands out the block that is closed before it, if one is.
+fn add<W: Writer>(
+    alloc: Global,
+    lent: &mut Lent<W>,
+    table: &mut TableWriter,
+    entry: &Entry,
+) -> Result<(), TableFault>
+    ensures added { (es : List Entry) → IsWrittenTo W.Writer lent.old table.old es
+        → OnOk result (IsWrittenTo W.Writer lent.new table.new (es ++ entry.now ∷ [])) }
+    ensures number { lent.new.number ≡ lent.old.number }
+    ensures steady { OnOk result (IsSteady W.Writer lent.old lent.new) }
+    ensures fails { IfErr result (FailsWriting W.Writer lent.old lent.new) }
+{
+    let mut block = Vec::new(alloc);
+    match table.add(&mut block, entry) {
+        Ok(()) => append_some(lent, &block),
+        Err(fail) => Err(refused(fail)),
+    }
+}
+
+// Puts a piece behind the end of a file, if there is anything of it.
+fn append_some<W: Writer>(lent: &mut Lent<W>, piece: &[u8]) -> Result<(), TableFault>
+    ensures number { lent.new.number ≡ lent.old.number }
+    ensures bytes { (given : List ℕ) → ForSome (W.file lent.old.writer) (λ f. f.bytes ≡ given)
+        → OnOk result (ForSome (W.file lent.new.writer) (λ f. f.bytes ≡ given ++ piece.now)) }
+    ensures steady { OnOk result (IsSteady W.Writer lent.old lent.new) }
+    ensures fails { IfErr result (FailsWriting W.Writer lent.old lent.new) }
+{
+    if piece.is_empty() {
+        return Ok(());
+    }
+    lent.append(piece)
+}
+
+// Whether the table that ends with this key is closed before an entry.
+fn closes(table: &TableWriter, last: &Key, entry: &Entry) -> bool
+    ensures { (number : ℕ) (es : List Entry) (given : List ℕ) → IsWriting table.now number es given → last.now ≡ last_key es
+        → result ≡ closes es entry.now }
+{
+    !is_of(last, entry) && is_full(table)
+}
+
+// Whether an entry is of a key.
+fn is_of(key: &Key, entry: &Entry) -> bool
+    ensures { result ≡ eq_by_cmp key_cmp key.now entry.now.key }
+{
+    key.as_slice().cmp(&entry.key.as_slice()).is_eq()
+}
+
+// Whether the frames of the blocks have reached the measure of a full table.
+fn is_full(table: &TableWriter) -> bool
+    ensures { (number : ℕ) (es : List Entry) (given : List ℕ) → IsWriting table.now number es given
+        → result ≡ nat_le full_table_bytes (frames_length es) }
+{
+    FULL_TABLE_BYTES <= table.block_bytes()
+}
+
+// Ends the table, and hands out the rest of it. Of the keys that were found those up to its last one are left.
+fn finish<W: Writer>(
+    alloc: Global,
+    lent: &mut Lent<W>,
+    table: TableWriter,
+    found: Vec<Key>,
+) -> Result<Filled, TableFault>
+    ensures whole { (es : List Entry) → IsWrittenTo W.Writer lent.old table es
+        → IfOk result (λ filled. IsWhole W.Writer lent.new es (arc_value filled.shape)) }
+    ensures last { (es : List Entry) → IsWrittenTo W.Writer lent.old table es → IfOk result (λ filled. filled.last ≡ last_key es) }
+    ensures found { IfOk result (λ filled. filled.found.items ≡ keys_up_to filled.last found.items) }
+    ensures number { lent.new.number ≡ lent.old.number }
+    ensures steady { OnOk result (IsSteady W.Writer lent.old lent.new) }
+    ensures fails { IfErr result (FailsWriting W.Writer lent.old lent.new) }
+{
+    let tail = table.finish(alloc)?;
+    append_tail(lent, &tail)?;
+    let Tail { shape, .. } = tail;
+    let last = shape.footer.last.share()?;
+    let found = up_to(found, &last);
+    match Arc::new(alloc, shape) {
+        Ok(shape) => Ok(Filled { shape, last, found }),
+        Err(_) => Err(TableFault::NoMemory),
+    }
+}
+
+// Puts the rest of a table behind the end of its file.
+fn append_tail<W: Writer>(lent: &mut Lent<W>, tail: &Tail) -> Result<(), TableFault>
+    ensures number { lent.new.number ≡ lent.old.number }
+    ensures bytes { (given : List ℕ) → ForSome (W.file lent.old.writer) (λ f. f.bytes ≡ given)
+        → OnOk result (ForSome (W.file lent.new.writer) (λ f. f.bytes ≡ given ++ tail_bytes tail.now)) }
+    ensures steady { OnOk result (IsSteady W.Writer lent.old lent.new) }
+    ensures fails { IfErr result (FailsWriting W.Writer lent.old lent.new) }
+{
+    append_behind(lent, &tail.block, &tail.index)?;
+    append_behind(lent, &tail.filter, &tail.footer)?;
+    lent.append(&tail.place)
+}
+
+// Puts two pieces behind the end of a file.
+fn append_behind<W: Writer>(lent: &mut Lent<W>, one: &[u8], two: &[u8]) -> Result<(), TableFault>
+    ensures number { lent.new.number ≡ lent.old.number }
+    ensures bytes { (given : List ℕ) → ForSome (W.file lent.old.writer) (λ f. f.bytes ≡ given)
+        → OnOk result (ForSome (W.file lent.new.writer) (λ f. f.bytes ≡ given ++ (one.now ++ two.now))) }
+    ensures steady { OnOk result (IsSteady W.Writer lent.old lent.new) }
+    ensures fails { IfErr result (FailsWriting W.Writer lent.old lent.new) }
+{
+    lent.append(one)?;
+    lent.append(two)
+}
+
+// Those of these keys that aren't behind a key.
+fn up_to(keys: Vec<Key>, last: &Key) -> Vec<Key>
+    ensures { result.items ≡ keys_up_to last.now keys.items }
+{
+    let mut keys = keys;
+    keys.retain(|key| is_up_to(last, key));
+    keys
+}
+
+fn is_up_to(last: &Key, key: &Key) -> bool
+    ensures { result ≡ not (is_past (Some last.now) key.now) }
+{
+    !last.as_slice().cmp(&key.as_slice()).is_lt()
+}
+
+// What refuses an entry is want of memory: the entries of true tables may all stand in one, in their order.
+fn refused(fail: AddFail) -> TableFault
+    ensures { result ≡ NoMemory }
+{
+    match fail {
+        AddFail::NoMemory | AddFail::NotLawful => TableFault::NoMemory,
+    }
+}

@@ -1,0 +1,303 @@
+//! A merge that is under way: it makes its tables one by one, each in a file that it is lent.
+//!
+//! Between two calls it has no block and no cursor, and of where it is nothing but a key: all versions of a key come to lie in
+//! one table, so it begins anew behind the last key of its last table.
+
+use crate::Inputs;
+use crate::ending::append_reserved;
+use crate::files::{Lent, Synced};
+use crate::filling::{Filled, fill};
+use crate::job_reader::JobReader;
+use crate::keeping::Keeping;
+use crate::merging::merged;
+use crate::parts::Parts;
+use crate::racing::{least_moved, numbers_of, total};
+use crate::rules::Rules;
+use std::alloc::{AllocError, Global};
+use vl_disk::{HeldFile, Reader, Writer};
+use vl_merge::{Merge, Sources};
+use vl_model::{Cursor, Key};
+use vl_table::{TableCursor, TableFault};
+
+/// A merge of tables that is under way.
+#[derive(Drop)]
+pub struct Job<V, H, W: Writer> {
+    // The sources as the plan found them.
+    base: V,
+    inputs: Inputs<H>,
+    floor: u64,
+    // So many of the newest versions of a key it keeps.
+    keep: u8,
+    // What it keeps of the keys up to this one stands in its tables, and nothing else does.
+    after: Option<Key>,
+    made: Vec<Synced<W>>,
+    // Files that didn't become tables.
+    leavings: Vec<Lent<W>>,
+    // The keys up to that one, or all once it has ended, of which a deletion was dropped since no older version stands
+    // outside the inputs.
+    needless: Vec<Key>,
+    // Whether an entry was found that isn't in a table yet, and no table was made since.
+    waits: bool,
+    // Whether it has all of its merge.
+    ended: bool,
+}
+
+impl<V, H, W: Writer> Job<V, H, W> {
+    ghost use Rattle.std.specs.Prelude.{◌≡◌, OnOk};
+    ghost use Rattle.std.specs.Option.{option_map};
+    ghost use Rattle.vl_compact.specs.Progress.{HasRoom};
+    ghost use Rattle.vl_compact.specs.Racing.{least_moved};
+
+    /// Room for the next table, or for its file where it doesn't become one.
+    pub fn make_room(&mut self) -> Result<(), AllocError>
+        ensures same { self.new ≡ record self.old { made = self.new.made; leavings = self.new.leavings } }
+        ensures made { self.new.made.items ≡ self.old.made.items }
+        ensures leavings { self.new.leavings.items ≡ self.old.leavings.items }
+        ensures room { OnOk result (HasRoom self.new) }
+    {
+        self.made.reserve(1)?;
+        self.leavings.reserve(1)
+    }
+
+    // The first of the keys of needless deletions that was moved, with the number of its last move.
+    fn first_moved<'a>(&'a self, moved: &[(Key, u64)]) -> Option<(&'a Key, u64)>
+        ensures { option_map (λ r. (r.0.now, r.1)) result ≡ least_moved moved.now self.now.needless.items }
+    {
+        least_moved(&self.needless, moved)
+    }
+}
+
+impl<V: Drop, H: Drop, W: Writer + Drop> Job<V, H, W> {
+    ghost use Rattle.std.specs.Prelude.{◌≡◌};
+
+    /// What it merged, its tables, and its other files.
+    pub fn into_parts(self) -> Parts<H, W>
+        ensures inputs { result.inputs ≡ self.inputs }
+        ensures made { result.made ≡ self.made }
+        ensures leavings { result.leavings ≡ self.leavings }
+    {
+        Parts {
+            inputs: self.inputs,
+            made: self.made,
+            leavings: self.leavings,
+        }
+    }
+}
+
+impl<V: Sources, H: HeldFile, W: Writer> Job<V, H, W> {
+    ghost use Rattle.std.specs.Prelude.{◌≡◌, ◌-◌, ◌^◌, min, length};
+    ghost use Rattle.std.specs.Option.{option_map};
+    ghost use Rattle.vl_compact.specs.Progress.{Has, HasAll, IsJobOf, IsNew, made_of};
+    ghost use Rattle.vl_layout.specs.Jobs.{AreOutputs};
+    ghost use Rattle.vl_layout.specs.Merging.{merged_entries};
+    ghost use Rattle.vl_layout.specs.Rulings.Install.{race};
+    ghost use Rattle.vl_layout.specs.declared.job.Job as laid;
+
+    /// A merge of these inputs that has made nothing yet: the sources as the plan found them, the floor at the plan, and how
+    /// many of the newest versions of a key are kept.
+    pub fn new(alloc: Global, base: V, inputs: Inputs<H>, floor: u64, keep: u8) -> Self
+        ensures has { (j : laid.Job) → IsJobOf W.Writer H.bytes V.has result j → Has W.Writer H.bytes V.has result j }
+        ensures base { result.base ≡ base }
+        ensures inputs { result.inputs ≡ inputs }
+        ensures floor { result.floor ≡ floor }
+        ensures keep { result.keep ≡ keep }
+        ensures new { IsNew result }
+    {
+        Job {
+            base,
+            inputs,
+            floor,
+            keep,
+            after: None,
+            made: Vec::new(alloc),
+            leavings: Vec::new(alloc),
+            needless: Vec::new(alloc),
+            waits: false,
+            ended: false,
+        }
+    }
+
+    /// The least of the keys of needless deletions that was moved, with the number of its last move, of moves of which the
+    /// latest comes first.
+    pub fn race<'a>(&'a self, moved: &[(Key, u64)]) -> Option<(&'a Key, u64)>
+        ensures { (j : laid.Job) → HasAll W.Writer H.bytes V.has self.now j
+            → option_map (λ r. (r.0.now, r.1)) result ≡ race j moved.now }
+    {
+        self.first_moved(moved)
+    }
+
+    /// Where it has all of its merge, its tables are the merge's outputs.
+    pub fn has_outputs(&self)
+        ensures { (j : laid.Job) → HasAll W.Writer H.bytes V.has self.now j → AreOutputs j (made_of self.now j) }
+    {}
+
+    /// How many entries its tables have, 2^64 - 1 where there are more.
+    pub fn kept_count(&self) -> u64
+        ensures { (j : laid.Job) → HasAll W.Writer H.bytes V.has self.now j
+            → result ≡ min (length (merged_entries j)) (2 ^ 64 - 1) }
+    {
+        total(&self.made)
+    }
+}
+
+impl<V: Sources<Fault = TableFault>, H: HeldFile, W: Writer> Job<V, H, W> {
+    ghost use Rattle.std.specs.Prelude.{◌≡◌, ◌<◌, ◌≤◌, ◌+◌, ◌++◌, List, None, Some, map, true, false, vec_capacity, vec_len, IfErr, IfOk, OnErr, OnOk};
+    ghost use Rattle.std.specs.List.{flat_map};
+    ghost use Rattle.vl_compact.specs.Filling.{FailsFilling, Fills};
+    ghost use Rattle.vl_compact.specs.Keys.{behind};
+    ghost use Rattle.vl_compact.specs.Laid.{AreTablesOf};
+    ghost use Rattle.vl_compact.specs.Progress.{Answers, FailsWith, Has, HasRoom, IsFresh, IsSettled, KeepsAll, Leaves, Takes, HasTaken};
+    ghost use Rattle.vl_compact.specs.Reading.{FailsReading, NoneRose, counts};
+    ghost use Rattle.vl_layout.specs.Merging.{inputs_of};
+    ghost use Rattle.vl_layout.specs.Sources.{table_entries};
+    ghost use Rattle.vl_layout.specs.declared.job.Job as laid;
+    ghost use Rattle.vl_layout.specs.declared.table.Table as laid_table;
+    ghost use Rattle.vl_merge.specs.Merging.{merged};
+    ghost use Rattle.vl_model.specs.declared.way.Way.TheVariants.{Up};
+    ghost use Rattle.vl_table.specs.CursorParts.{MayFailOn, is_disk_fault};
+    ghost use Rattle.vl_table.specs.Tables.{number_of};
+    ghost use Rattle.vl_table.specs.declared.fault.TableFault.{TableFault};
+
+    /// Whether it keeps an entry that isn't in one of its tables. It reads on behind the last one until it meets such an
+    /// entry; where none is left, it has all of its merge. After a fault it is as before.
+    pub fn ready<R: Reader<Held = H> + Drop>(
+        &mut self,
+        alloc: Global,
+        reader: &mut JobReader<R, V::Reader>,
+    ) -> Result<bool, TableFault>
+        ensures answers { (j : laid.Job) → V.fits self.old.base reader.old.looks → Has W.Writer H.bytes V.has self.old j
+            → IfOk result (Answers W.Writer H.bytes V.has self.new j) }
+        ensures kept { KeepsAll self.old self.new }
+        ensures refused { OnErr result ((self.new.needless.items ≡ self.old.needless.items) × (self.new.waits ≡ self.old.waits)
+            × (self.new.ended ≡ self.old.ended)) }
+        ensures fits { V.fits self.old.base reader.old.looks → V.fits self.old.base reader.new.looks }
+        ensures steady { OnOk result (NoneRose (counts (λ l. V.faults l) (λ r. R.faults r) reader.old reader.new)) }
+        ensures cause { V.fits self.old.base reader.old.looks → IfErr result (FailsReading
+            (λ f. V.is_read_fault f) (V.may_fail self.old.base) is_disk_fault (MayFailOn H.bytes self.old.inputs.tables.items)
+            (counts (λ l. V.faults l) (λ r. R.faults r) reader.old reader.new)) }
+    {
+        if self.ended {
+            return Ok(false);
+        }
+        let mut keeping = self.keeping(alloc)?;
+        let mut found = Vec::new(alloc);
+        let next = keeping.next(&self.base, reader, &mut found)?;
+        if next.is_some() {
+            self.waits = true;
+            return Ok(true);
+        }
+        self.needless.append(&mut found)?;
+        self.waits = false;
+        self.ended = true;
+        Ok(false)
+    }
+
+    /// Makes the next table in this file, which `ready` waits for: one append for the header, each block, the index, the
+    /// filter, the footer and the last eight bytes, then one sync. After a fault it is as before, and the file is a leaving.
+    pub fn fill<R: Reader<Held = H> + Drop>(
+        &mut self,
+        alloc: Global,
+        reader: &mut JobReader<R, V::Reader>,
+        fresh: Lent<W>,
+    ) -> Result<(), TableFault>
+        requires waits { self.old.waits ≡ true }
+        requires room { HasRoom self.old }
+        ensures next { (j : laid.Job) → V.fits self.old.base reader.old.looks → IsFresh W.Writer fresh
+            → Has W.Writer H.bytes V.has self.old j → OnOk result (Has W.Writer H.bytes V.has self.new j) }
+        ensures takes { OnOk result (Takes fresh self.old self.new) }
+        ensures refused { OnErr result (Leaves fresh self.old self.new) }
+        ensures fits { V.fits self.old.base reader.old.looks → V.fits self.old.base reader.new.looks }
+        ensures steady { OnOk result (NoneRose (counts (λ l. V.faults l) (λ r. R.faults r) reader.old reader.new)) }
+        ensures cause { V.fits self.old.base reader.old.looks → IfErr result (FailsWith W.Writer (FailsReading
+            (λ f. V.is_read_fault f) (V.may_fail self.old.base) is_disk_fault (MayFailOn H.bytes self.old.inputs.tables.items))
+            (counts (λ l. V.faults l) (λ r. R.faults r) reader.old reader.new) fresh self.old self.new) }
+    {
+        let mut lent = fresh;
+        match self.write(alloc, reader, &mut lent) {
+            Ok(filled) => {
+                self.take(lent, filled);
+                Ok(())
+            }
+            Err(fault) => {
+                self.leavings.push_reserved(lent);
+                Err(fault)
+            }
+        }
+    }
+
+    // Writes the next table, and makes it durable. Room for what is found is taken before that.
+    fn write<R: Reader<Held = H> + Drop>(
+        &mut self,
+        alloc: Global,
+        reader: &mut JobReader<R, V::Reader>,
+        lent: &mut Lent<W>,
+    ) -> Result<Filled, TableFault>
+        ensures fills { (j : laid.Job) → V.fits self.old.base reader.old.looks → IsFresh W.Writer lent.old
+            → Has W.Writer H.bytes V.has self.old j
+            → IfOk result (Fills W.Writer j (merged Up (behind self.old.after (inputs_of j.base))) lent.new) }
+        ensures settled { (j : laid.Job) → V.fits self.old.base reader.old.looks → IsFresh W.Writer lent.old
+            → Has W.Writer H.bytes V.has self.old j → OnOk result (IsSettled W.Writer lent.new) }
+        ensures same { self.new ≡ record self.old { needless = self.new.needless } }
+        ensures items { self.new.needless.items ≡ self.old.needless.items }
+        ensures room { IfOk result (λ filled. vec_len self.new.needless + vec_len filled.found ≤ vec_capacity self.new.needless) }
+        ensures number { lent.new.number ≡ lent.old.number }
+        ensures fits { V.fits self.old.base reader.old.looks → V.fits self.old.base reader.new.looks }
+        ensures steady { OnOk result (NoneRose (counts (λ l. V.faults l) (λ r. R.faults r) reader.old reader.new)) }
+        ensures cause { V.fits self.old.base reader.old.looks → IfErr result (FailsFilling W.Writer (FailsReading
+            (λ f. V.is_read_fault f) (V.may_fail self.old.base) is_disk_fault (MayFailOn H.bytes self.old.inputs.tables.items))
+            (counts (λ l. V.faults l) (λ r. R.faults r) reader.old reader.new) lent.old lent.new) }
+    {
+        let mut keeping = self.keeping(alloc)?;
+        let filled = fill(alloc, &self.base, reader, &mut keeping, lent)?;
+        self.needless.reserve(filled.found.len())?;
+        lent.sync()?;
+        Ok(filled)
+    }
+
+    // Takes a table that was made.
+    fn take(&mut self, lent: Lent<W>, filled: Filled)
+        requires made { vec_len self.old.made < vec_capacity self.old.made }
+        requires room { vec_len self.old.needless + vec_len filled.found ≤ vec_capacity self.old.needless }
+        ensures same { self.new ≡ record self.old { after = Some filled.last; made = self.new.made; needless = self.new.needless; waits = false } }
+        ensures made { HasTaken lent filled self.old.made.items self.new.made.items }
+        ensures needless { self.new.needless.items ≡ self.old.needless.items ++ filled.found.items }
+    {
+        let Lent { number, writer } = lent;
+        let Filled { shape, last, found } = filled;
+        self.made.push_reserved(Synced {
+            number,
+            writer,
+            shape,
+        });
+        append_reserved(&mut self.needless, found);
+        self.after = Some(last);
+        self.waits = false;
+    }
+
+    // What it still keeps, from the place on at which it is.
+    fn keeping<R: Reader<Held = H> + Drop>(
+        &self,
+        alloc: Global,
+    ) -> Result<Keeping<Merge<TableCursor<H, R>>>, AllocError>
+        ensures inputs { IfOk result (λ k. k.rules.inputs.items ≡ map number_of self.now.inputs.tables.items) }
+        ensures floor { IfOk result (λ k. k.rules.floor ≡ self.now.floor) }
+        ensures keep { IfOk result (λ k. k.rules.keep ≡ self.now.keep) }
+        ensures first { IfOk result (λ k. k.last ≡ None) }
+        ensures left { (ts : List laid_table.Table) → AreTablesOf H.bytes self.now.inputs.tables.items ts
+            → IfOk result (λ k. ⟦<Merge<TableCursor<H, R>> as Cursor>⟧.left k.cursor
+            ≡ Some (merged Up (behind self.now.after (flat_map table_entries ts)))) }
+        ensures may_fail { IfOk result (λ k. (fault : TableFault)
+            → ⟦<Merge<TableCursor<H, R>> as Cursor>⟧.may_fail k.cursor fault → MayFailOn H.bytes self.now.inputs.tables.items fault) }
+    {
+        let rules = Rules {
+            inputs: numbers_of(alloc, &self.inputs.tables)?,
+            floor: self.floor,
+            keep: self.keep,
+        };
+        Ok(Keeping {
+            cursor: merged(alloc, &self.inputs.tables, &self.after)?,
+            rules,
+            last: None,
+        })
+    }
+}

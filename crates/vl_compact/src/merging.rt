@@ -1,0 +1,97 @@
+//! The entries of a merge's inputs that are behind a key, merged.
+
+ghost use Rattle.std.specs.Prelude.{◌≡◌, ◌++◌, ◌∷◌, [], List, Some, IfOk};
+ghost use Rattle.std.specs.List.{AllZip, flat_map};
+ghost use Rattle.vl_compact.specs.Keys.{behind};
+ghost use Rattle.vl_compact.specs.Laid.{AreTablesOf, IsTableOf};
+ghost use Rattle.vl_compact.specs.Lefts.{HasBehind};
+ghost use Rattle.vl_compact.specs.laws.BehindLaws.{span_behind};
+ghost use Rattle.vl_layout.specs.Sources.{table_entries};
+ghost use Rattle.vl_layout.specs.declared.table.Table as laid;
+ghost use Rattle.vl_merge.specs.MergeOf.{OneMayFail};
+ghost use Rattle.vl_merge.specs.Merging.{merged};
+ghost use Rattle.vl_model.specs.declared.entry.Entry.{Entry};
+ghost use Rattle.vl_model.specs.declared.way.Way.TheVariants.{Up};
+ghost use Rattle.vl_table.specs.CursorParts.{MayFailOn};
+ghost use Rattle.vl_table.specs.Tables.{IsOf};
+ghost use Rattle.vl_table.specs.declared.fault.TableFault.{TableFault};
+
+use std::alloc::{AllocError, Global};
+use vl_disk::{HeldFile, Reader};
+use vl_merge::{Merge, merge_of_told_sources};
+use vl_model::{Bytes, Cursor, Key, Span, Way};
+use vl_table::{Table, TableCursor, TableFault};
+
+/// The entries of these tables that are behind a key, or all of them, merged.
+pub fn merged<H: HeldFile, R: Reader<Held = H> + Drop>(
+    alloc: Global,
+    tables: &[Table<H>],
+    after: &Option<Key>,
+) -> Result<Merge<TableCursor<H, R>>, AllocError>
+    ensures left { (ts : List laid.Table) → AreTablesOf H.bytes tables.now ts
+        → IfOk result (λ m. ⟦<Merge<TableCursor<H, R>> as Cursor>⟧.left m
+        ≡ Some (merged Up (behind after.now (flat_map table_entries ts)))) }
+    ensures may_fail { IfOk result (λ m. (fault : TableFault)
+        → ⟦<Merge<TableCursor<H, R>> as Cursor>⟧.may_fail m fault → MayFailOn H.bytes tables.now fault) }
+{
+    merge_of_told_sources();
+    Merge::new(cursors(alloc, tables, after)?, Way::Up)
+}
+
+// A cursor over each of these tables, behind a key.
+fn cursors<H: HeldFile, R: Reader<Held = H> + Drop>(
+    alloc: Global,
+    tables: &[Table<H>],
+    after: &Option<Key>,
+) -> Result<Vec<TableCursor<H, R>>, AllocError>
+    ensures left { (ts : List laid.Table) → AreTablesOf H.bytes tables.now ts → IfOk result (λ cs.
+        AllZip (HasBehind (λ c. ⟦<TableCursor<H, R> as Cursor>⟧.left c) after.now) cs.items ts) }
+    ensures may_fail { IfOk result (λ cs. (fault : TableFault)
+        → OneMayFail (λ c f. ⟦<TableCursor<H, R> as Cursor>⟧.may_fail c f) cs.items fault → MayFailOn H.bytes tables.now fault) }
+{
+    let mut cursors = Vec::new(alloc);
+    for table in tables {
+        cursors.push(cursor(alloc, table, after)?)?;
+    }
+    Ok(cursors)
+}
+
+// A cursor over a table, behind a key.
+fn cursor<H: HeldFile, R: Reader<Held = H> + Drop>(
+    alloc: Global,
+    table: &Table<H>,
+    after: &Option<Key>,
+) -> Result<TableCursor<H, R>, AllocError>
+    ensures left { (t : laid.Table) → IsTableOf H.bytes table.now t
+        → IfOk result (λ c. HasBehind (λ c. ⟦<TableCursor<H, R> as Cursor>⟧.left c) after.now c t) }
+    ensures may_fail { IfOk result (λ c. (fault : TableFault)
+        → ⟦<TableCursor<H, R> as Cursor>⟧.may_fail c fault → MayFailOn H.bytes (table.now ∷ []) fault) }
+{
+    let mut one = Vec::new(alloc);
+    one.push(table.share()?)?;
+    TableCursor::new(alloc, one, span_behind(alloc, after)?, Way::Up)
+}
+
+// The keys behind a key, or all of them.
+fn span_behind(alloc: Global, after: &Option<Key>) -> Result<Span, AllocError>
+    ensures { IfOk result (λ span. span ≡ span_behind after.now) }
+{
+    let lo = match after {
+        None => None,
+        Some(key) => Some(next_key(alloc, key)?),
+    };
+    Ok(Span {
+        lo,
+        hi: None,
+        closed: false,
+    })
+}
+
+// The least key behind this one.
+fn next_key(alloc: Global, key: &Key) -> Result<Key, AllocError>
+    ensures { IfOk result (λ next. next ≡ key.now ++ 0 ∷ []) }
+{
+    let mut bytes = Vec::from_slice(alloc, key.as_slice())?;
+    bytes.push(0)?;
+    Bytes::new(bytes)
+}
