@@ -95,7 +95,8 @@ merge_is {H} bytes core h l levels got inputs levels_is same of is =
     (levels_are bytes core.version l h is.has is.tidy)))
 
 -- The merge that begins with it does the ruling's job.
-pub merge_for : {H R W : Type 0} (bytes : H → Option (List ℕ)) (core : Core H) (h : History) (l : Layout) (inputs : Inputs H) (level : ℕ)
+pub merge_for : {H R W : Type 0} (bytes : H → Option (List ℕ)) (core : Core H) (h : History) (l : Layout) (inputs : Inputs H)
+    (level : ℕ)
     → AreInputsOf bytes inputs (record { tables = inputs_at level l.levels; target = Level (level + 1) }) → StandsFor bytes core h l
     → (writers : Writers W) {g : _} (job : Merging (Base H R) H W g) → IsMergeOf core inputs job
     → IsMergeFor writers bytes job (job_of l h (inputs_at level l.levels) (Level (level + 1)))
@@ -153,7 +154,8 @@ module _ {H : Type 0} (bytes : H → Option (List ℕ)) (core : Core H) (h : His
     (opened : l.job ≡ Some o) (lent : AreLent o.lent made) where
   ended_tidy : IsTidy (layout_logs l) l h → IsTidy (layout_logs l) (abandon_ruling l h o.job made).layout h
   ended_tidy tidy =
-      abandon_tidy (layout_logs l) l h tidy o.job made (subst (λ (job : Option OpenJob). AreLent (lent_numbers job) made) (sym opened) lent)
+      abandon_tidy (layout_logs l) l h tidy o.job made
+      (subst (λ (job : Option OpenJob). AreLent (lent_numbers job) made) (sym opened) lent)
 
   pub stands_abandoned : (merging : Option OpenMerge) → merging ≡ None → StandsFor bytes core h l
       → StandsOpen bytes core merging h (abandon_ruling l h o.job made).layout
@@ -165,7 +167,8 @@ module _ {H : Type 0} (bytes : H → Option (List ℕ)) (core : Core H) (h : His
   pub represents_abandoned : (told : Option DiskState) → Represents bytes core told h l
       → Represents bytes core told h (abandon_ruling l h o.job made).layout
   represents_abandoned told is =
-      same_represents None (l.retired ++ loose (numbers_of made.tables ++ made.leavings)) h l bytes core told (ended_tidy is.stands.tidy) is
+      same_represents None (l.retired ++ loose (numbers_of made.tables ++ made.leavings)) h l bytes core told
+      (ended_tidy is.stands.tidy) is
 
 pub fits_abandoned : {H : Type 0} (core : Core H) (h : History) (l : Layout) (job : Job) (made : Made)
     (told : Option DiskState) → Fits told core h l → Fits told core h (abandon_ruling l h job made).layout

@@ -2,6 +2,7 @@ pub mod Answers
 pub mod Begun
 pub mod Carries
 pub mod Files
+pub mod Drawing
 pub mod Fit
 pub mod Flushing
 pub mod Held

@@ -52,11 +52,13 @@ pub record IsMergeOf {H R W : Type 0} {g : _} (core : Core H) (inputs : Inputs H
   pub keep : job.keep ≡ core.back.state.keep
 
 -- The merge of an engine's version does what a layout's job says,
-abbrev pub IsMergeFor : {W H R : Type 0} → Writers W → (H → Option (List ℕ)) → {g : _} → Job (Base H R) H W g → laid_job.Job → Type 0
+abbrev pub IsMergeFor : {W H R : Type 0} → Writers W → (H → Option (List ℕ)) → {g : _} → Job (Base H R) H W g → laid_job.Job
+    → Type 0
 IsMergeFor writers bytes job j = IsJobOf writers bytes (λ base inputs ms. HasSources bytes base.version inputs ms) job j
 
 -- and has come as far with it as it says.
-abbrev pub HasMerge : {W H R : Type 0} → Writers W → (H → Option (List ℕ)) → {g : _} → Job (Base H R) H W g → laid_job.Job → Type 0
+abbrev pub HasMerge : {W H R : Type 0} → Writers W → (H → Option (List ℕ)) → {g : _} → Job (Base H R) H W g → laid_job.Job
+    → Type 0
 HasMerge writers bytes job j = Has writers bytes (λ base inputs ms. HasSources bytes base.version inputs ms) job j
 
 -- a merge that was planned is that of the ruling: what it does is said beside this
@@ -64,6 +66,12 @@ abbrev pub plan_outcome : {J E : Type 0} → Option laid_job.Job → Result (Opt
 plan_outcome planned (Ok (Some job)) = Answered planned
 plan_outcome planned (Ok None) = Answered None
 plan_outcome planned (Err fail) = NoMemory
+
+-- where a merge was planned it is open, and else what is kept of the open merge stays
+abbrev pub OpensMerge : {J E : Type 0} → (old new : Option OpenMerge) → Result (Option J) E → Type 0
+OpensMerge old new (Ok (Some job)) = IsJustOpen new
+OpensMerge old new (Ok None) = new ≡ old
+OpensMerge old new (Err fail) = new ≡ old
 
 -- ---- files
 

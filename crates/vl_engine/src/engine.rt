@@ -7,6 +7,7 @@ ghost use Rattle.vl_engine.specs.Lent.{AreLent};
 
 mod beginning;
 mod committing;
+mod drawing;
 mod ending;
 mod flushing;
 mod keeping;

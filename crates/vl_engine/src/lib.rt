@@ -12,6 +12,7 @@ mod fails;
 mod flushing;
 mod kept;
 mod laws;
+mod making;
 mod open;
 mod past;
 mod rotating;

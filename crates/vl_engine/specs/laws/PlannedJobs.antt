@@ -132,8 +132,9 @@ module _ {H : Type 0} (bytes : H → Option (List ℕ)) where
       tables = inputs_at n l.levels;
       inputs = inputs;
       numbers = refl;
-      base = subst (λ (v : Version H). HasSources bytes v (numbers_of (inputs_at n l.levels)) (sourced l (numbers_of (inputs_at n l.levels))))
-          (sym version) (has_sources core.version l is.has (numbers_of (inputs_at n l.levels)));
+      base = let inputs_so = numbers_of (inputs_at n l.levels) in
+          subst (λ (v : Version H). HasSources bytes v inputs_so (sourced l inputs_so)) (sym version)
+          (has_sources core.version l is.has inputs_so);
       entries = sourced_level l n is.tidy.levels;
       target = target;
       floor = floor_so ∙ floor_is;

@@ -2,7 +2,7 @@ ghost use Rattle.std.specs.Prelude.{◌≡◌, None, Some, IfOk, OnErr, OnOk};
 ghost use Rattle.std.specs.Option.{ForSome};
 ghost use Rattle.vl_compact.specs.Laid.{AreBoth};
 ghost use Rattle.vl_compact.specs.Progress.{IsNew};
-ghost use Rattle.vl_engine.specs.Merging.{HasMerge, IsJustOpen, IsMergeFor, IsMergeOf, StandsOpen, plan_outcome};
+ghost use Rattle.vl_engine.specs.Merging.{HasMerge, IsJustOpen, IsMergeFor, IsMergeOf, OpensMerge, StandsOpen, plan_outcome};
 ghost use Rattle.vl_engine.specs.Represents.{Represents, StandsFor};
 ghost use Rattle.vl_engine.specs.Stepping.{Fits};
 ghost use Rattle.vl_layout.specs.Decides.{Decides, as_before, no_effects};
@@ -52,10 +52,10 @@ impl<D: Disk> Engine<D> {
             → IfOk result (λ job. AreBoth (HasMerge D.Writer.Writer D.Held.bytes) job (plan_ruling l h).answer) }
         ensures new { IfOk result (λ job. ForSome job IsNew) }
 
-        // In memory nothing but the open merge changes, and the disk isn't asked.
+        // It is open then, and nothing was lent to it. In memory nothing else changes, and the disk isn't asked.
+        ensures merging { OpensMerge self.old.merging self.new.merging result }
         ensures core { self.new.core ≡ self.old.core }
         ensures disk { self.new.disk ≡ self.old.disk }
-        ensures refused { OnErr result (self.new.merging ≡ self.old.merging) }
     {
         if self.merging.is_some() {
             return Ok(None);
@@ -73,7 +73,8 @@ impl<D: Disk> Engine<D> {
         inputs: Inputs<D::Held>,
     ) -> Result<Job<Base<D::Held, D::Reader>, D::Held, D::Writer>, AllocError>
         ensures merge { IfOk result (IsMergeOf self.old.core inputs) }
-        ensures has { (j : laid_job.Job) → IfOk result (λ job. IsMergeFor D.Writer.Writer D.Held.bytes job j → HasMerge D.Writer.Writer D.Held.bytes job j) }
+        ensures has { (j : laid_job.Job) → IfOk result (λ job. IsMergeFor D.Writer.Writer D.Held.bytes job j
+            → HasMerge D.Writer.Writer D.Held.bytes job j) }
         ensures new { IfOk result (λ job. IsNew job) }
         ensures begun { OnOk result (IsJustOpen self.new.merging) }
         ensures core { self.new.core ≡ self.old.core }
@@ -100,7 +101,7 @@ impl<D: Disk> Engine<D> {
         }
     }
 
-    /// Gives up a merge. Its files never come to stand, and the next opening removes what is left of them. It wants no memory,
+    /// Gives up a merge. No call reads its files any more, and the next opening removes what is left of them. It wants no memory,
     /// and the disk isn't asked.
     pub fn abandon(&mut self, job: Job<Base<D::Held, D::Reader>, D::Held, D::Writer>)
         // So it is with whatever files of those that were lent to it it made.

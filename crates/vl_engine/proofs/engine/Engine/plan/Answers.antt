@@ -56,8 +56,8 @@ returns-in-Ok-None-clause-job g c h l is =
     let merge = merge_is bytes core h l c.levels.result.now c.in-Ok-None.field-0 None c.levels.ensures c.in-Ok-None.field-0-is
     c.in-Ok-None.ensures is.stands in
     let ruled = is_idle bytes merging l h (sym c.is_some.ensures ∙ c.if-is_some.false) is.opens merge in
-    subst (λ (r : Ruling (Option Job)). AreBoth (HasMerge {R = g.row.D-Reader.Denot} g.D.Writer.Writer g.D.Held.HeldFile.bytes {g = g.D.Writer.Writer}) None r.answer)
-    ruled tt
+    subst (λ (r : Ruling (Option Job)). AreBoth (HasMerge {R = g.row.D-Reader.Denot} g.D.Writer.Writer bytes {g = g.D.Writer.Writer})
+    None r.answer) ruled tt
 
 -- a merge is planned
 
@@ -85,7 +85,8 @@ returns-in_ok-begin_merge-in-Ok-Some-clause-represents g c h l represents is =
     (merge_is bytes core h l c.levels.result.now c.in-Ok-Some.field-0 (Some c.in-Ok-Some.inputs) c.levels.ensures
     c.in-Ok-Some.field-0-is c.in-Ok-Some.ensures is.stands) in
     let job = job_of l h (inputs_at p.level l.levels) (Level (p.level + 1)) in
-    decides_planned bytes core h l job p.ruled (Represents bytes c.begin_merge.new.self.core (g.D.Watched.told c.begin_merge.new.self.disk))
+    decides_planned bytes core h l job p.ruled
+    (Represents bytes c.begin_merge.new.self.core (g.D.Watched.told c.begin_merge.new.self.disk))
     (subst (λ (k : Core g.row.D-Held.Denot). Represents bytes k (g.D.Watched.told c.begin_merge.new.self.disk) h (with_job job l))
     (sym c.begin_merge.ensures.core)
     (subst (λ (t : Option DiskState). Represents bytes core t h (with_job job l)) (sym (ap g.D.Watched.told c.begin_merge.ensures.disk))
