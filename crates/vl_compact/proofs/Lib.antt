@@ -1,17 +1,18 @@
-pub mod Adding
+mod Adding
 mod Choices
 mod DueLaws
-pub mod Fates
+mod Fates
 mod Finding
 mod Into
-pub mod Lefts
+mod Lefts
 mod LevelAt
-pub mod Lists
-pub mod Making
+mod Lists
+mod Making
 mod MergeLaws
 mod Of
-pub mod Passing
+mod Passing
+mod Pieces
 mod PlaceLaws
-pub mod Pieces
 mod PutLaws
+mod Telling
 mod Zips

@@ -1,5 +1,5 @@
 -- How far a job has come with its merge. Nothing here hangs on the disk, but on what writers tell.
-use Rattle.std.specs.Prelude.{◌≡◌, ℕ, ◌≤◌, ◌<◌, Bool, false, true, List, [], ◌∷◌, ◌++◌, length, map, take, drop, Option, None, vec_capacity, vec_len}
+use Rattle.std.specs.Prelude.{◌≡◌, ℕ, ◌≤◌, ◌<◌, Bool, false, true, List, [], ◌∷◌, ◌++◌, length, map, take, drop, Option, None, vec_capacity, vec_len, IsSome}
 use Rattle.std.specs.Arc.{arc_value}
 use Rattle.std.specs.List.{AllZip, flat_map}
 use Rattle.std.specs.Option.{ForSome}
@@ -122,6 +122,7 @@ module _ {V H W : Type 0} where
     pub left : new.leavings.items ≡ old.leavings.items ++ leaving ∷ []
     pub needless_are : new.needless.items ≡ old.needless.items
 
+module _ {V H W : Type 0} (writer : Ghosts W) where
   -- One table more was made, which has the number of the file.
   pub record Takes {g : _} (fresh : Lent W g) (old new : Job V H W g) : Type 0 where
     pub table : Synced W g
@@ -129,8 +130,9 @@ module _ {V H W : Type 0} where
     pub made : new.made.items ≡ old.made.items ++ table ∷ []
     pub leavings : new.leavings ≡ old.leavings
     pub waits : new.waits ≡ false
+    -- a writer that told its file tells it
+    pub tells : IsSome (writer.file fresh.writer) → IsSome (writer.file table.writer)
 
-module _ {V H W : Type 0} (writer : Ghosts W) where
   -- A call that reads and writes failed: reading did, by what a fault of that is, or writing the file, which is a leaving.
   abbrev pub FailsWith : {g : _} → (Counts → TableFault → Type 0) → Counts → Lent W g → (old new : Job V H W g) → TableFault → Type 0
   FailsWith {g} reads c fresh old new fault = (leaving : Lent W g) × (new.leavings.items ≡ old.leavings.items ++ leaving ∷ [])

@@ -27,17 +27,19 @@ pub struct Synced<W: Writer> {
 }
 
 impl<W: Writer> Lent<W> {
-    ghost use Rattle.std.specs.Prelude.{◌++◌, ℕ, List, IfErr, OnOk};
+    ghost use Rattle.std.specs.Prelude.{◌++◌, ℕ, List, IfErr, IsSome, OnOk};
     ghost use Rattle.std.specs.Option.{ForSome};
     ghost use Rattle.vl_compact.specs.Lending.{FailsWriting, IsSteady};
     ghost use Rattle.vl_disk.specs.DiskState.{settled};
     ghost use Rattle.vl_table.specs.declared.fault.TableFault.TheVariants.{Disk};
 
     // Puts a piece behind the end of the file.
+    #[tactic(auto, using(crate::proofs::Telling::tells_all, crate::proofs::Telling::tells_part))]
     pub fn append(&mut self, piece: &[u8]) -> Result<(), TableFault>
         ensures number { self.new.number ≡ self.old.number }
         ensures bytes { (given : List ℕ) → ForSome (W.file self.old.writer) (λ f. f.bytes ≡ given)
             → OnOk result (ForSome (W.file self.new.writer) (λ f. f.bytes ≡ given ++ piece.now)) }
+        ensures tells { IsSome (W.file self.old.writer) → IsSome (W.file self.new.writer) }
         ensures steady { OnOk result (IsSteady W.Writer self.old self.new) }
         ensures fails { IfErr result (FailsWriting W.Writer self.old self.new) }
     {
@@ -49,10 +51,12 @@ impl<W: Writer> Lent<W> {
     }
 
     // Makes the file durable.
+    #[tactic(auto, using(crate::proofs::Telling::tells_settled))]
     pub fn sync(&mut self) -> Result<(), TableFault>
         ensures number { self.new.number ≡ self.old.number }
         ensures settled { (bytes : List ℕ) → ForSome (W.file self.old.writer) (λ f. f.bytes ≡ bytes)
             → OnOk result (ForSome (W.file self.new.writer) (λ f. f ≡ settled bytes)) }
+        ensures tells { IsSome (W.file self.old.writer) → IsSome (W.file self.new.writer) }
         ensures steady { OnOk result (IsSteady W.Writer self.old self.new) }
         ensures fails { IfErr result (FailsWriting W.Writer self.old self.new) }
     {

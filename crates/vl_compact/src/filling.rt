@@ -1,6 +1,6 @@
 //! How a table goes to its file, piece by piece.
 
-ghost use Rattle.std.specs.Prelude.{◌≡◌, ◌++◌, ◌∷◌, [], nat_le, ℕ, List, None, Some, not, IfErr, IfOk, OnOk};
+ghost use Rattle.std.specs.Prelude.{◌≡◌, ◌++◌, ◌∷◌, [], nat_le, ℕ, List, None, Some, not, IfErr, IfOk, IsSome, OnOk};
 ghost use Rattle.std.specs.Arc.{arc_value};
 ghost use Rattle.std.specs.Option.{ForSome};
 ghost use Rattle.std.specs.Ordering.{eq_by_cmp};
@@ -57,6 +57,7 @@ pub fn fill<C: Cursor<Fault = TableFault>, V: Sources<Fault = TableFault>, W: Wr
         → V.fits base.now reader.old.looks → C.left keeping.old.cursor ≡ Some left → keeping.old.last ≡ None → IsAlong Up left
         → ForSome (W.file lent.old.writer) (λ f. f.bytes ≡ []) → IfOk result (Fills W.Writer j left lent.new) }
     ensures number { lent.new.number ≡ lent.old.number }
+    ensures tells { IsSome (W.file lent.old.writer) → IsSome (W.file lent.new.writer) }
     ensures fits { V.fits base.now reader.old.looks → V.fits base.now reader.new.looks }
     ensures steady { OnOk result (NoneRose (counts (λ l. V.faults l) (λ r. C.faults r) reader.old reader.new)) }
     ensures kept { OnOk result (IsSteady W.Writer lent.old lent.new) }
@@ -85,6 +86,7 @@ fn begin<W: Writer>(
     ensures begun { ForSome (W.file lent.old.writer) (λ f. f.bytes ≡ [])
         → IfOk result (λ table. IsWrittenTo W.Writer lent.new table (first.now ∷ [])) }
     ensures number { lent.new.number ≡ lent.old.number }
+    ensures tells { IsSome (W.file lent.old.writer) → IsSome (W.file lent.new.writer) }
     ensures steady { OnOk result (IsSteady W.Writer lent.old lent.new) }
     ensures fails { IfErr result (FailsWriting W.Writer lent.old lent.new) }
 {
@@ -114,6 +116,7 @@ fn add_kept<C: Cursor<Fault = TableFault>, V: Sources<Fault = TableFault>, W: Wr
         → IsWrittenTo W.Writer lent.old table.old (first ∷ [])
         → OnOk result (Adds W.Writer j first (stage keeping.old.last left found.old.items) found.new.items lent.new table.new) }
     ensures number { lent.new.number ≡ lent.old.number }
+    ensures tells { IsSome (W.file lent.old.writer) → IsSome (W.file lent.new.writer) }
     ensures fits { V.fits base.now reader.old.looks → V.fits base.now reader.new.looks }
     ensures steady { OnOk result (NoneRose (counts (λ l. V.faults l) (λ r. C.faults r) reader.old reader.new)) }
     ensures kept { OnOk result (IsSteady W.Writer lent.old lent.new) }
@@ -142,6 +145,7 @@ fn add<W: Writer>(
     ensures added { (es : List Entry) → IsWrittenTo W.Writer lent.old table.old es
         → OnOk result (IsWrittenTo W.Writer lent.new table.new (es ++ entry.now ∷ [])) }
     ensures number { lent.new.number ≡ lent.old.number }
+    ensures tells { IsSome (W.file lent.old.writer) → IsSome (W.file lent.new.writer) }
     ensures steady { OnOk result (IsSteady W.Writer lent.old lent.new) }
     ensures fails { IfErr result (FailsWriting W.Writer lent.old lent.new) }
 {
@@ -155,6 +159,7 @@ fn add<W: Writer>(
 // Puts a piece behind the end of a file, if there is anything of it.
 fn append_some<W: Writer>(lent: &mut Lent<W>, piece: &[u8]) -> Result<(), TableFault>
     ensures number { lent.new.number ≡ lent.old.number }
+    ensures tells { IsSome (W.file lent.old.writer) → IsSome (W.file lent.new.writer) }
     ensures bytes { (given : List ℕ) → ForSome (W.file lent.old.writer) (λ f. f.bytes ≡ given)
         → OnOk result (ForSome (W.file lent.new.writer) (λ f. f.bytes ≡ given ++ piece.now)) }
     ensures steady { OnOk result (IsSteady W.Writer lent.old lent.new) }
@@ -201,6 +206,7 @@ fn finish<W: Writer>(
     ensures last { (es : List Entry) → IsWrittenTo W.Writer lent.old table es → IfOk result (λ filled. filled.last ≡ last_key es) }
     ensures found { IfOk result (λ filled. filled.found.items ≡ keys_up_to filled.last found.items) }
     ensures number { lent.new.number ≡ lent.old.number }
+    ensures tells { IsSome (W.file lent.old.writer) → IsSome (W.file lent.new.writer) }
     ensures steady { OnOk result (IsSteady W.Writer lent.old lent.new) }
     ensures fails { IfErr result (FailsWriting W.Writer lent.old lent.new) }
 {
@@ -218,6 +224,7 @@ fn finish<W: Writer>(
 // Puts the rest of a table behind the end of its file.
 fn append_tail<W: Writer>(lent: &mut Lent<W>, tail: &Tail) -> Result<(), TableFault>
     ensures number { lent.new.number ≡ lent.old.number }
+    ensures tells { IsSome (W.file lent.old.writer) → IsSome (W.file lent.new.writer) }
     ensures bytes { (given : List ℕ) → ForSome (W.file lent.old.writer) (λ f. f.bytes ≡ given)
         → OnOk result (ForSome (W.file lent.new.writer) (λ f. f.bytes ≡ given ++ tail_bytes tail.now)) }
     ensures steady { OnOk result (IsSteady W.Writer lent.old lent.new) }
@@ -231,6 +238,7 @@ fn append_tail<W: Writer>(lent: &mut Lent<W>, tail: &Tail) -> Result<(), TableFa
 // Puts two pieces behind the end of a file.
 fn append_behind<W: Writer>(lent: &mut Lent<W>, one: &[u8], two: &[u8]) -> Result<(), TableFault>
     ensures number { lent.new.number ≡ lent.old.number }
+    ensures tells { IsSome (W.file lent.old.writer) → IsSome (W.file lent.new.writer) }
     ensures bytes { (given : List ℕ) → ForSome (W.file lent.old.writer) (λ f. f.bytes ≡ given)
         → OnOk result (ForSome (W.file lent.new.writer) (λ f. f.bytes ≡ given ++ (one.now ++ two.now))) }
     ensures steady { OnOk result (IsSteady W.Writer lent.old lent.new) }

@@ -59,6 +59,20 @@ impl<V, H, W: Writer> Job<V, H, W> {
         self.leavings.reserve(1)
     }
 
+    /// What it merges, and where its tables are to be put.
+    pub fn inputs(&self) -> &Inputs<H>
+        ensures { result.now ≡ self.now.inputs }
+    {
+        &self.inputs
+    }
+
+    /// The tables that it has made, in key order.
+    pub fn made(&self) -> &[Synced<W>]
+        ensures { result.now ≡ self.now.made.items }
+    {
+        &self.made
+    }
+
     // The first of the keys of needless deletions that was moved, with the number of its last move.
     fn first_moved<'a>(&'a self, moved: &[(Key, u64)]) -> Option<(&'a Key, u64)>
         ensures { option_map (λ r. (r.0.now, r.1)) result ≡ least_moved moved.now self.now.needless.items }
@@ -141,7 +155,7 @@ impl<V: Sources, H: HeldFile, W: Writer> Job<V, H, W> {
 }
 
 impl<V: Sources<Fault = TableFault>, H: HeldFile, W: Writer> Job<V, H, W> {
-    ghost use Rattle.std.specs.Prelude.{◌≡◌, ◌<◌, ◌≤◌, ◌+◌, ◌++◌, List, None, Some, map, true, false, vec_capacity, vec_len, IfErr, IfOk, OnErr, OnOk};
+    ghost use Rattle.std.specs.Prelude.{◌≡◌, ◌<◌, ◌≤◌, ◌+◌, ◌++◌, List, None, Some, map, true, false, vec_capacity, vec_len, IfErr, IfOk, IsSome, OnErr, OnOk};
     ghost use Rattle.std.specs.List.{flat_map};
     ghost use Rattle.vl_compact.specs.Filling.{FailsFilling, Fills};
     ghost use Rattle.vl_compact.specs.Keys.{behind};
@@ -204,7 +218,7 @@ impl<V: Sources<Fault = TableFault>, H: HeldFile, W: Writer> Job<V, H, W> {
         requires room { HasRoom self.old }
         ensures next { (j : laid.Job) → V.fits self.old.base reader.old.looks → IsFresh W.Writer fresh
             → Has W.Writer H.bytes V.has self.old j → OnOk result (Has W.Writer H.bytes V.has self.new j) }
-        ensures takes { OnOk result (Takes fresh self.old self.new) }
+        ensures takes { OnOk result (Takes W.Writer fresh self.old self.new) }
         ensures refused { OnErr result (Leaves fresh self.old self.new) }
         ensures fits { V.fits self.old.base reader.old.looks → V.fits self.old.base reader.new.looks }
         ensures steady { OnOk result (NoneRose (counts (λ l. V.faults l) (λ r. R.faults r) reader.old reader.new)) }
@@ -241,6 +255,7 @@ impl<V: Sources<Fault = TableFault>, H: HeldFile, W: Writer> Job<V, H, W> {
         ensures items { self.new.needless.items ≡ self.old.needless.items }
         ensures room { IfOk result (λ filled. vec_len self.new.needless + vec_len filled.found ≤ vec_capacity self.new.needless) }
         ensures number { lent.new.number ≡ lent.old.number }
+        ensures tells { IsSome (W.file lent.old.writer) → IsSome (W.file lent.new.writer) }
         ensures fits { V.fits self.old.base reader.old.looks → V.fits self.old.base reader.new.looks }
         ensures steady { OnOk result (NoneRose (counts (λ l. V.faults l) (λ r. R.faults r) reader.old reader.new)) }
         ensures cause { V.fits self.old.base reader.old.looks → IfErr result (FailsFilling W.Writer (FailsReading

@@ -34,6 +34,7 @@ adding-preserved-in_ok-add g c = record {
       (sym is ∙ c.if-closes.false) (c.in_ok-add.ensures.added so.all so.written);
   rules = c.next.ensures.rules ∙ c.adding.invariant.rules;
   number = c.add.ensures.number ∙ c.adding.invariant.number;
+  tells = λ told. c.add.ensures.tells (c.adding.invariant.tells told);
   fits = λ fits. c.next.ensures.fits (c.adding.invariant.fits fits);
   steady = record {
     sources = c.in_ok-entry.ensures.steady.sources ∙ c.adding.invariant.steady.sources;
@@ -59,6 +60,7 @@ adding-preserved-in_ok-add-2 g c = record {
       (sym is ∙ c.if-closes.false) (c.in_ok-add.ensures.added so.all so.written);
   rules = c.next.ensures.rules ∙ c.adding.invariant.rules;
   number = c.add.ensures.number ∙ c.adding.invariant.number;
+  tells = λ told. c.add.ensures.tells (c.adding.invariant.tells told);
   fits = λ fits. c.next.ensures.fits (c.adding.invariant.fits fits);
   steady = record {
     sources = c.in_ok-entry.ensures.steady.sources ∙ c.adding.invariant.steady.sources;
@@ -84,6 +86,7 @@ adding-preserved g c = record {
       (sym is ∙ c.if-closes.false) (c.in_ok-add.ensures.added so.all so.written);
   rules = c.next.ensures.rules ∙ c.adding.invariant.rules;
   number = c.add.ensures.number ∙ c.adding.invariant.number;
+  tells = λ told. c.add.ensures.tells (c.adding.invariant.tells told);
   fits = λ fits. c.next.ensures.fits (c.adding.invariant.fits fits);
   steady = record {
     sources = c.in_ok-entry.ensures.steady.sources ∙ c.adding.invariant.steady.sources;

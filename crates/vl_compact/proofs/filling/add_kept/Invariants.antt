@@ -1,4 +1,5 @@
 use Rattle.std.proofs.Common.{◌≡◌, List, [], ◌∷◌, Some}
+use Rattle.std.specs.Prelude.{IsSome}
 use Rattle.vl_compact.proofs.Adding.{Adding}
 use Rattle.vl_compact.specs.Filling.{IsWrittenTo}
 use Rattle.vl_compact.specs.Keeps.{AreRulesOf, stage}
@@ -17,6 +18,7 @@ invariant-adding g l = record {
       (g.C.Cursor.left l.keeping.cursor) l.found.items;
   rules : l.keeping.rules ≡ l.fn.keeping.rules;
   number : l.lent.number ≡ l.fn.lent.number;
+  tells : IsSome (g.W.Writer.file l.fn.lent.writer) → IsSome (g.W.Writer.file l.lent.writer);
   fits : g.V.Sources.fits l.base l.fn.reader.looks → g.V.Sources.fits l.base l.reader.looks;
   steady : NoneRose (counts (λ x. g.V.Sources.faults x) (λ r. g.C.Cursor.faults r) l.fn.reader l.reader);
   kept : IsSteady g.W.Writer l.fn.lent l.lent;

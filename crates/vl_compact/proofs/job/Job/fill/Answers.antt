@@ -1,4 +1,5 @@
 use Rattle.std.proofs.Common.{List, [], ◌∷◌, Some, false, ◌++◌, ap, subst, sym, ◌∙◌}
+use Rattle.std.specs.Prelude.{IsSome}
 use Rattle.vl_compact.proofs.Making.{makes_one}
 use Rattle.vl_compact.specs.Progress.{Has, HasTaken}
 use Rattle.vl_compact.specs.declared.files.Synced.{Synced}
@@ -36,6 +37,7 @@ returns-in-Ok-clause-takes g c =
       leavings = ap (λ (s : Job g.row.V.Denot g.row.H.Denot g.row.W.Denot W). s.leavings) c.take.ensures.same
           ∙ ap (λ (s : Job g.row.V.Denot g.row.H.Denot g.row.W.Denot W). s.leavings) c.write.ensures.same;
       waits = ap (λ (s : Job g.row.V.Denot g.row.H.Denot g.row.W.Denot W). s.waits) c.take.ensures.same;
+      tells = λ told. subst (λ (w : g.row.W.Denot). IsSome (W.file w)) (sym t.writer) (c.write.ensures.tells told);
     }
 
 pub returns-in-Err-clause-refused : goal.returns-in-Err-clause-refused
