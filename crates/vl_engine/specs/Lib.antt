@@ -2,6 +2,7 @@ pub mod Answers
 pub mod Begun
 pub mod Carries
 pub mod Files
+pub mod Drawing
 pub mod Fit
 pub mod Flushing
 pub mod Held
@@ -9,6 +10,7 @@ pub mod Installing
 pub mod Keeping
 pub mod Known
 pub mod Lent
+pub mod Merging
 pub mod Laid
 pub mod laws
 pub mod Opening

@@ -1,4 +1,5 @@
 pub mod AmongLaws
+pub mod AsideLaws
 pub mod BegunBare
 pub mod BegunHolds
 pub mod BegunLaws
@@ -42,6 +43,8 @@ pub mod MemtablePlaces
 pub mod MemtableSpelled
 pub mod OpensAgain
 pub mod PastLaws
+pub mod PlanSources
+pub mod PlannedJobs
 pub mod ReadLaws
 pub mod ReopenedLaws
 pub mod ReopenedShown

@@ -10,7 +10,6 @@ mod committing;
 mod drawing;
 mod ending;
 mod flushing;
-mod installing;
 mod keeping;
 mod opening;
 mod planning;

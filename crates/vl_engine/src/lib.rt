@@ -13,6 +13,7 @@ mod flushing;
 mod installing;
 mod kept;
 mod laws;
+mod making;
 mod open;
 mod past;
 mod rotating;
