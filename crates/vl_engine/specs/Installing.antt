@@ -1,6 +1,10 @@
 -- What an install does, whatever the engine stands for: to the disk, and in memory.
-use Rattle.std.specs.Prelude.{◌≡◌, ◌⊎◌, ℕ, ◌+◌, ◌-◌, ◌^◌, List, [], ◌++◌, length, map, min, Option, None, Some, Result, Ok, Err}
+use Rattle.std.specs.Prelude.{◌≡◌, ◌≢◌, ◌⊎◌, ℕ, ◌+◌, ◌-◌, ◌^◌, true, List, [], ◌∷◌, ◌++◌, length, map, min, Option, None, Some, IsSome, Result, Ok, Err}
+use Rattle.std.specs.Arc.{arc_value}
+use Rattle.std.specs.List.{AllByRecursion}
+use Rattle.std.specs.Option.{ForSome}
 use Rattle.vl_back.specs.InstallStaging.{IsStagedInstall, replacing_of}
+use Rattle.vl_back.specs.Writing.{IsKept}
 use Rattle.vl_back.specs.declared.back.Back.{Back}
 use Rattle.vl_back.specs.declared.installing.StagedInstall.{StagedInstall}
 use Rattle.vl_compact.specs.Laid.{AreLevelsOf}
@@ -12,30 +16,33 @@ use Rattle.vl_compact.specs.declared.files.Synced.{Synced}
 use Rattle.vl_compact.specs.declared.job.Job.{Job}
 use Rattle.vl_compact.specs.declared.ready.ReadyLevels.{ReadyLevels}
 use Rattle.vl_disk.specs.Calls.{ChangesNothing}
+use Rattle.vl_disk.specs.DiskState.{DiskState}
 use Rattle.vl_disk.specs.declared.errors.Failed.{Failed}
 use Rattle.vl_disk.specs.declared.name.Name.TheVariants as names
 use Rattle.vl_disk.specs.declared.name.Name.{Name}
 use Rattle.vl_disk.specs.declared.watched.Watched.{Ghosts}
 use Rattle.vl_disk.specs.declared.writer.Writer.{Ghosts as Writers}
-use Rattle.vl_engine.specs.Taking.{MayTake, MayTakeAll, StopsTaking, TakesBack}
+use Rattle.vl_engine.specs.Taking.{StopsTaking, TakesBack}
 use Rattle.vl_engine.specs.declared.fails.InstallFail.TheVariants as install
 use Rattle.vl_engine.specs.declared.fails.InstallFail.{InstallFail}
 use Rattle.vl_engine.specs.declared.installing.ReadyInstall.{ReadyInstall}
 use Rattle.vl_engine.specs.declared.kept.Core.{Core}
 use Rattle.vl_engine.specs.declared.open.OpenMerge.{OpenMerge}
-use Rattle.vl_layout.specs.Jobs.{AreDistinct}
+use Rattle.vl_layout.specs.Decides.{Otherwise, as_before}
+use Rattle.vl_layout.specs.Jobs.{AreDistinct, Made}
 use Rattle.vl_layout.specs.Levels.{replaced}
 use Rattle.vl_layout.specs.Merging.{gone_after, needless}
+use Rattle.vl_layout.specs.Rulings.Install.{install_lost}
 use Rattle.vl_layout.specs.declared.job.Job as laid_job
 use Rattle.vl_layout.specs.declared.job.Target.{Target}
+use Rattle.vl_layout.specs.declared.layout.Layout.{Layout}
 use Rattle.vl_layout.specs.declared.table.Table as laid
 use Rattle.vl_manifest.specs.Switching.{Switches}
+use Rattle.vl_model.specs.Numbers.{has}
 use Rattle.vl_table.specs.Tables.{number_of}
-use Rattle.vl_table.specs.declared.table.Table.{Table}
 use Rattle.vl_version.specs.Bases.{HasSources}
 use Rattle.vl_version.specs.Replacing.{IsReplaced}
 use Rattle.vl_version.specs.declared.base.Base.{Base}
-use Rattle.vl_version.specs.declared.version.Version.{Version}
 
 -- ---- what is handed in
 
@@ -44,7 +51,23 @@ abbrev pub numbers_in : {V H W : Type 0} {s : _} → Job V H W s → List ℕ
 numbers_in {W = W} job =
     map (λ (t : Synced W _). t.number) job.made.items ++ map (λ (f : Lent W _). f.number) job.leavings.items
 
+-- The job has all of its merge. Its files are ones that were lent to the open merge, each with a number of its own, and its
+-- writers tell them where the disk tells its files.
+pub record IsHandedIn {D V H W : Type 0} (g : Ghosts D) (w : Writers W) (disk : D) (merging : Option OpenMerge) {s : _}
+    (job : Job V H W s) : Type 0 where
+  pub ended : job.ended ≡ true
+  pub merge : OpenMerge
+  pub is_open : merging ≡ Some merge
+  pub drawn : AllByRecursion (λ (n : ℕ). has n merge.lent.items ≡ true) (numbers_in job)
+  pub distinct : AreDistinct (numbers_in job)
+  pub tells : ForSome (g.told disk) (λ _. AllByRecursion (λ (t : Synced W s). IsSome (w.file t.writer)) job.made.items)
+
 -- ---- what is staged
+
+-- the first key of the tables that were made
+abbrev pub first_made : {W : Type 0} {s : _} → List (Synced W s) → Option (List ℕ)
+first_made [] = None
+first_made (t ∷ ts) = Some (arc_value t.shape).footer.first
 
 -- It was staged for the job: the switch by which its tables take the place of its inputs, the levels without these, with room for
 -- the tables, and the version but for its levels.
@@ -57,11 +80,9 @@ pub record IsReadyFor {H R W : Type 0} (bytes : H → Option (List ℕ)) (w : Wr
   pub staged : IsStagedInstall core.back (replacing_of core.back (map number_of job.inputs.tables.items)
       (map (λ (t : Synced W s). t.number) job.made.items) ready.levels.level ready.levels.position gone) ready.staged
   pub version : IsReplaced bytes core.version ready.version
-  -- the first key of its tables
-  pub first : Option (List ℕ)
   pub levels : (ls : List (List laid.Table)) → AreLevelsOf bytes core.version.behind.levels ls
       → HasPlace job.inputs.target (map number_of job.inputs.tables.items) ls
-      → AreReady bytes job.inputs.target (map number_of job.inputs.tables.items) first ls [] ready.levels
+      → AreReady bytes job.inputs.target (map number_of job.inputs.tables.items) (first_made job.made.items) ls [] ready.levels
   pub room : HasRoom (length job.made.items) ready.levels
 
 -- ---- the disk
@@ -148,3 +169,48 @@ InstallsAs g bytes w job old new before after (Err (install.Exhausted counter)) 
 InstallsAs g bytes w job old new before after (Err (install.NoMemory back)) =
     (back ≡ job) × (after ≡ before) × ChangesNothing g old new ⊥
 InstallsAs g bytes w job old new before after (Err (install.Disk name)) = IsUninstalled g bytes w job old new before after name
+
+-- ---- what is answered
+
+-- the disk failed
+abbrev pub InstallFailed : {V H W : Type 0} {s : _} → Result (Unit {0}) (InstallFail V H W s) → Type 0
+InstallFailed (Ok done) = ⊥
+InstallFailed (Err (install.Halted name)) = ⊥
+InstallFailed (Err (install.Raced key number)) = ⊥
+InstallFailed (Err (install.Exhausted counter)) = ⊥
+InstallFailed (Err (install.NoMemory job)) = ⊥
+InstallFailed (Err (install.Disk name)) = Unit {0}
+
+-- nothing was written, and no file was taken back
+abbrev pub InstallLeavesDisk : {V H W : Type 0} {s : _} → Result (Unit {0}) (InstallFail V H W s) → Type 0
+InstallLeavesDisk (Ok done) = ⊥
+InstallLeavesDisk (Err (install.Halted name)) = Unit {0}
+InstallLeavesDisk (Err (install.Raced key number)) = Unit {0}
+InstallLeavesDisk (Err (install.Exhausted counter)) = Unit {0}
+InstallLeavesDisk (Err (install.NoMemory job)) = Unit {0}
+InstallLeavesDisk (Err (install.Disk name)) = ⊥
+
+-- Want of memory hands the job back as it was, and the merge stays open. Each other answer ends it.
+abbrev pub HandsBack : {V H W : Type 0} {s : _} → Job V H W s → (old new : Option OpenMerge) → Result (Unit {0}) (InstallFail V H W s)
+    → Type 0
+HandsBack job old new (Ok done) = new ≡ None
+HandsBack job old new (Err (install.Halted name)) = new ≡ None
+HandsBack job old new (Err (install.Raced key number)) = new ≡ None
+HandsBack job old new (Err (install.Exhausted counter)) = new ≡ None
+HandsBack job old new (Err (install.NoMemory back)) = (back ≡ job) × (new ≡ old)
+HandsBack job old new (Err (install.Disk name)) = new ≡ None
+
+-- a file that it fails at: one of the job's tables, or the manifest
+abbrev pub IsAtInstall : {V H W : Type 0} {s : _} → Job V H W s → (manifest : ℕ) → Name → Type 0
+IsAtInstall job manifest (names.Log n) = ⊥
+IsAtInstall {W = W} job manifest (names.Table n) = has n (map (λ (t : Synced W _). t.number) job.made.items) ≡ true
+IsAtInstall job manifest (names.Manifest n) = n ≡ manifest
+
+-- The files stand as before, and none but the job's tables may have come.
+abbrev pub KeepsAllBut : List ℕ → (old new : Option DiskState) → Type 0
+KeepsAllBut tables old new = (before now : DiskState) → old ≡ Some before → new ≡ Some now → (name : Name)
+    → ((n : ℕ) → has n tables ≡ true → name ≢ names.Table n) → IsKept name before now
+
+-- what is left without an answer
+abbrev pub install_otherwise : Layout → Made → Otherwise
+install_otherwise l made = as_before l (install_lost made l)

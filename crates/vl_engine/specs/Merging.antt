@@ -5,7 +5,7 @@ use Rattle.vl_compact.specs.declared.inputs.Inputs.{Inputs}
 use Rattle.vl_compact.specs.declared.job.Job.{Job}
 use Rattle.vl_compact.specs.declared.files.Lent.{Lent}
 use Rattle.vl_compact.specs.declared.files.Synced.{Synced}
-use Rattle.vl_compact.specs.Progress.{Has, IsJobOf}
+use Rattle.vl_compact.specs.Progress.{Has, HasAll, IsJobOf}
 use Rattle.vl_disk.specs.declared.writer.Writer.{Ghosts as Writers}
 use Rattle.vl_engine.specs.Represents.{StandsFor, Represents, file_of}
 use Rattle.vl_engine.specs.Lent.{Opens}
@@ -60,6 +60,11 @@ IsMergeFor writers bytes job j = IsJobOf writers bytes (λ base inputs ms. HasSo
 abbrev pub HasMerge : {W H R : Type 0} → Writers W → (H → Option (List ℕ)) → {g : _} → Job (Base H R) H W g → laid_job.Job
     → Type 0
 HasMerge writers bytes job j = Has writers bytes (λ base inputs ms. HasSources bytes base.version inputs ms) job j
+
+-- It has all of it.
+abbrev pub HasAllMerge : {W H R : Type 0} → Writers W → (H → Option (List ℕ)) → {g : _} → Job (Base H R) H W g → laid_job.Job
+    → Type 0
+HasAllMerge writers bytes job j = HasAll writers bytes (λ base inputs ms. HasSources bytes base.version inputs ms) job j
 
 -- a merge that was planned is that of the ruling: what it does is said beside this
 abbrev pub plan_outcome : {J E : Type 0} → Option laid_job.Job → Result (Option J) E → Outcome (Option laid_job.Job)

@@ -10,6 +10,7 @@ mod committing;
 mod drawing;
 mod ending;
 mod flushing;
+mod installing;
 mod keeping;
 mod opening;
 mod planning;

@@ -1,22 +1,23 @@
 //! What an install wants of memory, and how it takes the files of a merge's tables back.
 
-ghost use Rattle.std.specs.Prelude.{◌≡◌, ◌+◌, ◌-◌, ◌^◌, ◌∷◌, [], ℕ, length, min, IfErr, IfOk, IsErr, OnOk};
-ghost use Rattle.std.specs.Option.{ForSome};
+ghost use Rattle.std.specs.Prelude.{◌≡◌, ◌+◌, ◌-◌, ◌^◌, ◌∷◌, [], ℕ, length, map, min, IfErr, IfOk, IsErr, OnOk};
+ghost use Rattle.std.specs.Option.{ForSome, option_copied};
 ghost use Rattle.vl_compact.specs.Replacing.{HasRoom};
 ghost use Rattle.vl_disk.specs.Calls.{ChangesNothing};
 ghost use Rattle.vl_disk.specs.Disk.{Stands};
 ghost use Rattle.vl_disk.specs.Faults.{HasCause};
 ghost use Rattle.vl_disk.specs.Spare.{CanAppend, SameSpareElsewhere};
 ghost use Rattle.vl_disk.specs.declared.name.Name.TheVariants as names;
-ghost use Rattle.vl_engine.specs.Installing.{InstallsAll, IsReadyFor, StopsInstalling};
+ghost use Rattle.vl_engine.specs.Installing.{InstallsAll, IsReadyFor, StopsInstalling, first_made};
 ghost use Rattle.vl_engine.specs.Taking.{MayTake, MayTakeAll, StopsTaking, Takes, TakesBack};
 ghost use Rattle.vl_manifest.specs.Switching.{IsStagedFor};
+ghost use Rattle.vl_table.specs.Tables.{number_of};
 
 use crate::kept::Core;
-use std::alloc::Global;
+use std::alloc::{AllocError, Global};
 use vl_back::{StageFail, StagedInstall};
 use vl_compact::{Job, ReadyLevels, Synced, ready_levels};
-use vl_disk::{Disk, Name};
+use vl_disk::{Disk, HeldFile, Name, Writer};
 use vl_manifest::{ManifestLog, StagedEdits};
 use vl_table::Table;
 use vl_version::{Base, ReplacedVersion};
@@ -46,14 +47,14 @@ pub fn ready_install<D: Disk>(
     ensures elsewhere { SameSpareElsewhere (names.Manifest core.now.back.manifest.number) (D.spare disk.old) (D.spare disk.new) }
     ensures no_change { ChangesNothing D.Watched disk.old disk.new ⊥ }
 {
-    let inputs = job.input_numbers(alloc)?;
-    let made = job.made_numbers(alloc)?;
+    let inputs = numbers_of(alloc, &job.inputs().tables)?;
+    let made = made_numbers(alloc, job.made())?;
     let levels = ready_levels(
         alloc,
         core.version.levels(),
-        job.target(),
+        &job.inputs().target,
         &inputs,
-        job.first_key(),
+        first_key(job.made()),
         made.len(),
     )?;
     let version = core.version.replaced(alloc)?;
@@ -64,13 +65,45 @@ pub fn ready_install<D: Disk>(
         levels.level,
         levels.position,
         &made,
-        job.gone(0),
+        job.gone(),
     )?;
     Ok(ReadyInstall {
         staged,
         version,
         levels,
     })
+}
+
+// The numbers of these tables.
+fn numbers_of<H: HeldFile>(alloc: Global, tables: &[Table<H>]) -> Result<Vec<u32>, AllocError>
+    ensures { IfOk result (λ numbers. numbers.items ≡ map number_of tables.now) }
+{
+    let mut numbers = Vec::new(alloc);
+    for table in tables {
+        numbers.push(table.shape().number)?;
+    }
+    Ok(numbers)
+}
+
+// The numbers of tables that were made.
+fn made_numbers<W: Writer>(alloc: Global, made: &[Synced<W>]) -> Result<Vec<u32>, AllocError>
+    ensures { IfOk result (λ numbers. numbers.items ≡ map (λ t. t.number) made.now) }
+{
+    let mut numbers = Vec::new(alloc);
+    for table in made {
+        numbers.push(table.number)?;
+    }
+    Ok(numbers)
+}
+
+// The key with which they begin.
+fn first_key<W: Writer>(made: &[Synced<W>]) -> Option<&[u8]>
+    ensures { option_copied result ≡ first_made made.now }
+{
+    match made.first() {
+        Some(table) => Some(table.shape.footer.first.as_slice()),
+        None => None,
+    }
 }
 
 /// Takes the files of a merge's tables back and holds them, and then has the manifest say what was staged, by two changing
