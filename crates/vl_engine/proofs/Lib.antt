@@ -35,6 +35,7 @@ pub mod Seeing
 pub mod Staged
 pub mod Standing
 pub mod Stepped
+pub mod TakenFiles
 pub mod Taking
 pub mod Untouched
 pub mod Written

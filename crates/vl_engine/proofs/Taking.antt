@@ -19,6 +19,7 @@ use Rattle.vl_disk.specs.declared.name.Name.{Name}
 use Rattle.vl_disk.specs.declared.watched.Watched.{Ghosts}
 use Rattle.vl_disk.specs.declared.writer.Writer.{Ghosts as Writers}
 use Rattle.vl_disk.specs.laws.NameMap.{get_inserted, get_inserted_other}
+use Rattle.vl_disk.specs.laws.Standing.{holds_after}
 use Rattle.vl_engine.specs.Taking.{IsHeldTable, MayTake, MayTakeAll, PutsAll, StopsTaking, Takes, TakesBack, WhileTaking, file_in, file_of_table, with_files}
 use Rattle.vl_layout.specs.Jobs.{AreDistinct}
 use Rattle.vl_layout.specs.declared.job.Target.{Target}
@@ -223,6 +224,21 @@ module _ {D W : Type 0} (g : Ghosts D) (w : Writers W) {s : _} where
 
     pub all_still : (us : List (Synced W s)) → MayTakeAll g w old (t ∷ us) → MayTakeAll g w new us
     all_still us may = record { each = each_still us may.distinct.0 may.each.1; distinct = may.distinct.1 }
+
+  -- ---- manifests
+
+  manifest_stands : (ts : List (Synced W s)) (n : ℕ) (disk : DiskState) → Stands (Manifest n) disk
+      → Stands (Manifest n) (with_files w ts disk)
+  manifest_stands [] n disk stands = stands
+  manifest_stands (t ∷ ts) n disk stands = manifest_stands ts n (adopted (table_name t.number) (file_of_table w t) disk)
+      (subst IsSome (sym (get_inserted_other disk.standing (table_name t.number) (file_of_table w t) (Manifest n)
+      (other_name n t.number))) stands)
+
+  -- they stand as before
+  pub manifest_still : (ts : List (Synced W s)) (n : ℕ) (old new : D) → Takes g w ts old new
+      → ForSome (g.told old) (Stands (Manifest n)) → ForSome (g.told new) (Stands (Manifest n))
+  manifest_still ts n old new takes = holds_after (with_files w ts) (g.told old) (g.told new) (Stands (Manifest n)) (Stands (Manifest n))
+      takes.changed (λ disk stands. manifest_stands ts n disk stands)
 
 -- ---- in memory
 

@@ -206,15 +206,15 @@ pub enum KeepFail {
     Disk { name: Name },
 }
 
-/// Why the tables of a merge didn't take the place of its inputs. Where the merge is handed back it is as it was, and else it has
-/// ended, and its files never come to stand.
+/// Why the tables of a merge didn't take the place of its inputs. Where the merge is handed back it is as it was. Else it has
+/// ended: no call reads its files any more, and the next opening removes them.
 #[derive(Drop)]
 pub enum InstallFail<V, H, W: Writer> {
     /// An earlier step failed at this file, and nothing is changed any more.
     Halted {
         name: Name,
     },
-    /// The merge dropped the deletion of a key of which an older record was relocated meanwhile, by the step that made this version
+    /// The merge dropped the deletion of a key of which a record was relocated meanwhile, by the step that made this version
     /// number. It is the least such key. Plan the merge again.
     Raced {
         key: Key,
