@@ -90,7 +90,7 @@ module _ {H : Type 0} (bytes : H → Option (List ℕ)) where
           (marked_alike inputs (tables_in version) (tables l) (tables_are bytes version l has));
     }
 
--- ---- the levels
+  -- ---- the levels
 
   -- a true table is what its entries come to
   true_tables : (held : List (Table H)) (ts : List laid.Table) → AreTablesOf bytes held ts → AllByRecursion IsTrueTable ts
@@ -116,7 +116,7 @@ module _ {H : Type 0} (bytes : H → Option (List ℕ)) where
       → compact.AreLevelsOf bytes version.behind.levels l.levels
   levels_are version l h has tidy = true_levels (by_level version.behind.levels) l.levels has.levels tidy.true_tables
 
--- ---- the job
+  -- ---- the job
 
   -- The merge of the inputs of a level does the job that is planned of that level.
   module _ (core : Core H) (h : History) (l : Layout) (is : StandsFor bytes core h l) where
