@@ -15,6 +15,7 @@ pub mod FlushLawful
 pub mod FlushSteps
 pub mod Flushed
 pub mod Halted
+pub mod HandedIn
 pub mod Headed
 pub mod KeepSteps
 pub mod KeptBy
