@@ -1,8 +1,10 @@
 mod Adding
 mod Choices
 mod DueLaws
+mod Failing
 mod Fates
 mod Finding
+mod Greatest
 mod Into
 mod Lefts
 mod LevelAt

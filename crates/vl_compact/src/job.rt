@@ -11,7 +11,7 @@ use crate::job_reader::JobReader;
 use crate::keeping::Keeping;
 use crate::merging::merged;
 use crate::parts::Parts;
-use crate::racing::{least_moved, numbers_of, total};
+use crate::racing::{greatest, least_moved, numbers_of, total};
 use crate::rules::Rules;
 use std::alloc::{AllocError, Global};
 use vl_disk::{HeldFile, Reader, Writer};
@@ -33,9 +33,9 @@ pub struct Job<V, H, W: Writer> {
     made: Vec<Synced<W>>,
     // Files that didn't become tables.
     leavings: Vec<Lent<W>>,
-    // The keys up to that one, or all once it has ended, of which a deletion was dropped since no older version stands
-    // outside the inputs.
-    needless: Vec<Key>,
+    // The deletions, by key and version, of the keys up to that one, or of all once it has ended, that were dropped since no
+    // older version stands outside the inputs.
+    needless: Vec<(Key, u64)>,
     // Whether an entry was found that isn't in a table yet, and no table was made since.
     waits: bool,
     // Whether it has all of its merge.
@@ -46,7 +46,7 @@ impl<V, H, W: Writer> Job<V, H, W> {
     ghost use Rattle.std.specs.Prelude.{◌≡◌, OnOk};
     ghost use Rattle.std.specs.Option.{option_map};
     ghost use Rattle.vl_compact.specs.Progress.{HasRoom};
-    ghost use Rattle.vl_compact.specs.Racing.{least_moved};
+    ghost use Rattle.vl_compact.specs.Racing.{greatest, least_moved};
 
     /// Room for the next table, or for its file where it doesn't become one.
     pub fn make_room(&mut self) -> Result<(), AllocError>
@@ -79,6 +79,13 @@ impl<V, H, W: Writer> Job<V, H, W> {
     {
         least_moved(&self.needless, moved)
     }
+
+    // The greatest version of the needless deletions, 0 where there is none.
+    fn greatest_gone(&self) -> u64
+        ensures { result ≡ greatest self.now.needless.items }
+    {
+        greatest(&self.needless)
+    }
 }
 
 impl<V: Drop, H: Drop, W: Writer + Drop> Job<V, H, W> {
@@ -103,7 +110,7 @@ impl<V: Sources, H: HeldFile, W: Writer> Job<V, H, W> {
     ghost use Rattle.std.specs.Option.{option_map};
     ghost use Rattle.vl_compact.specs.Progress.{Has, HasAll, IsJobOf, IsNew, made_of};
     ghost use Rattle.vl_layout.specs.Jobs.{AreOutputs};
-    ghost use Rattle.vl_layout.specs.Merging.{merged_entries};
+    ghost use Rattle.vl_layout.specs.Merging.{gone_after, merged_entries, needless};
     ghost use Rattle.vl_layout.specs.Rulings.Install.{race};
     ghost use Rattle.vl_layout.specs.declared.job.Job as laid;
 
@@ -140,6 +147,14 @@ impl<V: Sources, H: HeldFile, W: Writer> Job<V, H, W> {
         self.first_moved(moved)
     }
 
+    /// The greatest version among the deletions that it dropped since no older version stands outside the inputs, 0 where
+    /// there is none.
+    pub fn gone(&self) -> u64
+        ensures { (j : laid.Job) → HasAll W.Writer H.bytes V.has self.now j → result ≡ gone_after 0 (needless j) }
+    {
+        self.greatest_gone()
+    }
+
     /// Where it has all of its merge, its tables are the merge's outputs.
     pub fn has_outputs(&self)
         ensures { (j : laid.Job) → HasAll W.Writer H.bytes V.has self.now j → AreOutputs j (made_of self.now j) }
@@ -161,7 +176,7 @@ impl<V: Sources<Fault = TableFault>, H: HeldFile, W: Writer> Job<V, H, W> {
     ghost use Rattle.vl_compact.specs.Keys.{behind};
     ghost use Rattle.vl_compact.specs.Laid.{AreTablesOf};
     ghost use Rattle.vl_compact.specs.Progress.{Answers, FailsWith, Has, HasRoom, IsFresh, IsSettled, KeepsAll, Leaves, Takes, HasTaken};
-    ghost use Rattle.vl_compact.specs.Reading.{FailsReading, NoneRose, counts};
+    ghost use Rattle.vl_compact.specs.Reading.{FailsReading, MayWhere, NoneRose, counts};
     ghost use Rattle.vl_layout.specs.Merging.{inputs_of};
     ghost use Rattle.vl_layout.specs.Sources.{table_entries};
     ghost use Rattle.vl_layout.specs.declared.job.Job as laid;
@@ -188,8 +203,10 @@ impl<V: Sources<Fault = TableFault>, H: HeldFile, W: Writer> Job<V, H, W> {
             × (self.new.ended ≡ self.old.ended)) }
         ensures fits { V.fits self.old.base reader.old.looks → V.fits self.old.base reader.new.looks }
         ensures steady { OnOk result (NoneRose (counts (λ l. V.faults l) (λ r. R.faults r) reader.old reader.new)) }
-        ensures cause { V.fits self.old.base reader.old.looks → IfErr result (FailsReading
-            (λ f. V.is_read_fault f) (V.may_fail self.old.base) is_disk_fault (MayFailOn H.bytes self.old.inputs.tables.items)
+        // Reading fails only where a count says so. Which fault of its sources it is hangs on what the reader keeps.
+        ensures cause { IfErr result (FailsReading (λ f. V.is_read_fault f)
+            (MayWhere (V.fits self.old.base reader.old.looks) (V.may_fail self.old.base)) is_disk_fault
+            (MayFailOn H.bytes self.old.inputs.tables.items)
             (counts (λ l. V.faults l) (λ r. R.faults r) reader.old reader.new)) }
     {
         if self.ended {
@@ -221,11 +238,13 @@ impl<V: Sources<Fault = TableFault>, H: HeldFile, W: Writer> Job<V, H, W> {
         ensures next { (j : laid.Job) → V.fits self.old.base reader.old.looks → IsFresh W.Writer fresh
             → Has W.Writer H.bytes V.has self.old j → OnOk result (Has W.Writer H.bytes V.has self.new j) }
         ensures takes { OnOk result (Takes W.Writer fresh self.old self.new) }
-        ensures refused { OnErr result (Leaves fresh self.old self.new) }
+        ensures refused { OnErr result (Leaves W.Writer fresh self.old self.new) }
         ensures fits { V.fits self.old.base reader.old.looks → V.fits self.old.base reader.new.looks }
         ensures steady { OnOk result (NoneRose (counts (λ l. V.faults l) (λ r. R.faults r) reader.old reader.new)) }
-        ensures cause { V.fits self.old.base reader.old.looks → IfErr result (FailsWith W.Writer (FailsReading
-            (λ f. V.is_read_fault f) (V.may_fail self.old.base) is_disk_fault (MayFailOn H.bytes self.old.inputs.tables.items))
+        // Reading and writing fail only where a count says so. Which fault of its sources it is hangs on what the reader keeps.
+        ensures cause { IfErr result (FailsWith W.Writer (FailsReading (λ f. V.is_read_fault f)
+            (MayWhere (V.fits self.old.base reader.old.looks) (V.may_fail self.old.base)) is_disk_fault
+            (MayFailOn H.bytes self.old.inputs.tables.items))
             (counts (λ l. V.faults l) (λ r. R.faults r) reader.old reader.new) fresh self.old self.new) }
     {
         let mut lent = fresh;
@@ -260,8 +279,9 @@ impl<V: Sources<Fault = TableFault>, H: HeldFile, W: Writer> Job<V, H, W> {
         ensures tells { IsSome (W.file lent.old.writer) → IsSome (W.file lent.new.writer) }
         ensures fits { V.fits self.old.base reader.old.looks → V.fits self.old.base reader.new.looks }
         ensures steady { OnOk result (NoneRose (counts (λ l. V.faults l) (λ r. R.faults r) reader.old reader.new)) }
-        ensures cause { V.fits self.old.base reader.old.looks → IfErr result (FailsFilling W.Writer (FailsReading
-            (λ f. V.is_read_fault f) (V.may_fail self.old.base) is_disk_fault (MayFailOn H.bytes self.old.inputs.tables.items))
+        ensures cause { IfErr result (FailsFilling W.Writer (FailsReading (λ f. V.is_read_fault f)
+            (MayWhere (V.fits self.old.base reader.old.looks) (V.may_fail self.old.base)) is_disk_fault
+            (MayFailOn H.bytes self.old.inputs.tables.items))
             (counts (λ l. V.faults l) (λ r. R.faults r) reader.old reader.new) lent.old lent.new) }
     {
         let mut keeping = self.keeping(alloc)?;

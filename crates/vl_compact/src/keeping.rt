@@ -3,7 +3,7 @@
 ghost use Rattle.std.specs.Prelude.{◌≡◌, ◌≤◌, ◌<◌, ◌++◌, if◌then◌else◌, List, Some, IfErr, IfOk, IsSome, OnOk};
 ghost use Rattle.std.specs.Ordering.{eq_by_cmp};
 ghost use Rattle.vl_compact.specs.Keeps.{AreRulesOf, GivesNext, Passes, is_kept, noted, place_in, stage};
-ghost use Rattle.vl_compact.specs.Reading.{FailsLooking, FailsReading, NoneRose, counts};
+ghost use Rattle.vl_compact.specs.Reading.{FailsLooking, FailsReading, MayWhere, NoneRose, counts};
 ghost use Rattle.vl_compact.specs.Walking.{comes_again, seen_before};
 ghost use Rattle.vl_layout.specs.declared.job.Job as laid;
 ghost use Rattle.vl_model.specs.Keys.{key_cmp};
@@ -27,12 +27,12 @@ pub struct Keeping<C> {
 }
 
 impl<C: Cursor<Fault = TableFault>> Keeping<C> {
-    /// The next entry that it keeps. The keys of needless deletions that it passes are put behind the others.
+    /// The next entry that it keeps. The needless deletions that it passes are put behind the others, by key and version.
     pub fn next<V: Sources<Fault = TableFault>>(
         &mut self,
         base: &V,
         reader: &mut JobReader<C::Reader, V::Reader>,
-        found: &mut Vec<Key>,
+        found: &mut Vec<(Key, u64)>,
     ) -> Result<Option<Entry>, TableFault>
         ensures next { (j : laid.Job) (left : List Entry) → AreRulesOf self.old.rules j → V.has base.now j.inputs j.base
             → V.fits base.now reader.old.looks → C.left self.old.cursor ≡ Some left
@@ -40,8 +40,8 @@ impl<C: Cursor<Fault = TableFault>> Keeping<C> {
         ensures rules { self.new.rules ≡ self.old.rules }
         ensures fits { V.fits base.now reader.old.looks → V.fits base.now reader.new.looks }
         ensures steady { OnOk result (NoneRose (counts (λ l. V.faults l) (λ r. C.faults r) reader.old reader.new)) }
-        ensures cause { V.fits base.now reader.old.looks → IfErr result (FailsReading
-            (λ f. V.is_read_fault f) (V.may_fail base.now) (λ f. C.is_read_fault f) (C.may_fail self.old.cursor)
+        ensures cause { IfErr result (FailsReading (λ f. V.is_read_fault f)
+            (MayWhere (V.fits base.now reader.old.looks) (V.may_fail base.now)) (λ f. C.is_read_fault f) (C.may_fail self.old.cursor)
             (counts (λ l. V.faults l) (λ r. C.faults r) reader.old reader.new)) }
         ensures keeps { (fault : TableFault) → C.may_fail self.new.cursor fault → C.may_fail self.old.cursor fault }
         ensures spends { C.budget self.new.cursor ≤ C.budget self.old.cursor }
@@ -63,21 +63,21 @@ impl<C: Cursor<Fault = TableFault>> Keeping<C> {
     }
 }
 
-// Whether the entry that comes now is kept. If it is a needless deletion, its key is put behind the others.
+// Whether the entry that comes now is kept. If it is a needless deletion, its key and version are put behind the others.
 fn pass<V: Sources<Fault = TableFault>>(
     rules: &Rules,
     last: &mut Option<Last>,
     base: &V,
     looks: &mut V::Reader,
     entry: &Entry,
-    found: &mut Vec<Key>,
+    found: &mut Vec<(Key, u64)>,
 ) -> Result<bool, TableFault>
     ensures passes { (j : laid.Job) → AreRulesOf rules.now j → V.has base.now j.inputs j.base → V.fits base.now looks.old
         → IfOk result (Passes j (place_in last.old) (place_in last.new) entry.now found.old.items found.new.items) }
     ensures fits { V.fits base.now looks.old → V.fits base.now looks.new }
     ensures steady { OnOk result (V.faults looks.new ≡ V.faults looks.old) }
-    ensures cause { V.fits base.now looks.old → IfErr result
-        (FailsLooking (λ f. V.is_read_fault f) (V.may_fail base.now) (V.faults looks.old) (V.faults looks.new)) }
+    ensures cause { IfErr result (FailsLooking (λ f. V.is_read_fault f)
+        (MayWhere (V.fits base.now looks.old) (V.may_fail base.now)) (V.faults looks.old) (V.faults looks.new)) }
 {
     if comes_again(last, entry) {
         return Ok(false);
@@ -131,13 +131,13 @@ fn seen_of(last: &Last, entry: &Entry) -> u64
     }
 }
 
-// Puts the key of a needless deletion behind others.
-fn note(found: &mut Vec<Key>, fate: Fate, entry: &Entry) -> Result<(), AllocError>
+// Puts the key and the version of a needless deletion behind others.
+fn note(found: &mut Vec<(Key, u64)>, fate: Fate, entry: &Entry) -> Result<(), AllocError>
     ensures { OnOk result (found.new.items ≡ found.old.items ++ noted fate entry.now) }
 {
     match fate {
         Fate::Needless => {
-            found.push(entry.key.share()?)?;
+            found.push((entry.key.share()?, entry.version))?;
             Ok(())
         }
         Fate::Kept | Fate::Dropped => Ok(()),
