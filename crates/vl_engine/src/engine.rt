@@ -7,10 +7,14 @@ ghost use Rattle.vl_engine.specs.Lent.{AreLent};
 
 mod beginning;
 mod committing;
+mod drawing;
 mod ending;
 mod flushing;
+mod installing;
 mod keeping;
+mod merging;
 mod opening;
+mod planning;
 mod rotating;
 
 use crate::kept::Core;

@@ -4,8 +4,10 @@ ghost use Rattle.std.specs.Prelude.{◌≡◌};
 use crate::Txn;
 use std::alloc::AllocError;
 use thiserror::Error;
-use vl_disk::Name;
+use vl_compact::Job;
+use vl_disk::{Name, NoMemory, Writer};
 use vl_model::{Counter, Key};
+use vl_table::TableFault;
 use vl_txn::KeyFail;
 use vl_version::ReadFault as VersionFault;
 
@@ -203,4 +205,70 @@ pub enum KeepFail {
     /// The disk failed at this file, and the engine is halted.
     #[error("the disk failed at {name:?}")]
     Disk { name: Name },
+}
+
+/// Why the tables of a merge didn't take the place of its inputs. Where the merge is handed back it is as it was. Else it has
+/// ended: no call reads its files any more, and the next opening removes them, but may have them in use where the disk failed.
+#[derive(Drop)]
+pub enum InstallFail<V, H, W: Writer> {
+    /// An earlier step failed at this file, and nothing is changed any more.
+    Halted { name: Name },
+    /// The merge dropped the deletion of a key of which a record was relocated meanwhile, by the step that made this version
+    /// number. It is the least such key. Plan the merge again.
+    Raced { key: Key, version_number: u64 },
+    /// No version number is left.
+    Exhausted(Counter),
+    NoMemory(Job<V, H, W>),
+    /// The disk failed at this file, and the engine is halted. When the store is opened again it has either the inputs or the
+    /// merge's tables, with the same contents.
+    Disk { name: Name },
+}
+
+/// Why no merge was done. It was given up: no call reads its files any more, and the next opening removes them.
+#[derive(Clone, Copy, Debug, PartialEq, Eq, Error)]
+pub enum MergeFail {
+    /// An earlier step failed at this file, and nothing is changed any more.
+    #[error("halted at {name:?}")]
+    Halted { name: Name },
+    /// No such number is left.
+    #[error("no number is left")]
+    Exhausted(Counter),
+    /// The merge dropped the deletion of a key of which a record was relocated meanwhile. Merge again.
+    #[error("a record was relocated meanwhile")]
+    Raced,
+    #[error("no memory")]
+    NoMemory,
+    /// This file wasn't read or written. The engine is halted where it was one of its own calls that failed, and else goes on.
+    #[error("the disk failed at {name:?}")]
+    Disk { name: Name },
+    /// What stands at this place of a file isn't what was written there.
+    #[error("{name:?} is damaged at {place}")]
+    Damaged { name: Name, place: u64 },
+}
+
+impl From<NoMemory> for MergeFail {
+    fn from(_: NoMemory) -> Self {
+        MergeFail::NoMemory
+    }
+}
+
+impl From<StepFail> for MergeFail {
+    fn from(fail: StepFail) -> Self {
+        match fail {
+            StepFail::Halted { name } => MergeFail::Halted { name },
+            StepFail::Exhausted(counter) => MergeFail::Exhausted(counter),
+            StepFail::NoMemory => MergeFail::NoMemory,
+            StepFail::Disk { name } => MergeFail::Disk { name },
+        }
+    }
+}
+
+impl From<TableFault> for MergeFail {
+    fn from(fault: TableFault) -> Self {
+        match fault {
+            TableFault::NoMemory => MergeFail::NoMemory,
+            TableFault::Disk { name } => MergeFail::Disk { name },
+            TableFault::Damaged { name, place } => MergeFail::Damaged { name, place },
+        }
+    }
 }

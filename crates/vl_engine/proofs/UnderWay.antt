@@ -1,0 +1,176 @@
+-- A merge that is carried out beside the engine: what each table that it makes leaves of what an install asks.
+use Rattle.std.specs.Prelude.{◌≡◌, ℕ, ◌||◌, ◌==◌, Bool, true, false, List, [], ◌∷◌, ◌++◌, map, Option, None, Some, IsSome}
+use Rattle.std.specs.List.{AllByRecursion}
+use Rattle.std.specs.Option.{ForSome, option_map}
+use Rattle.std.proofs.Common.{sym, ap, subst, ◌∙◌, arith, refl}
+use Rattle.std.proofs.lemmas.Bool.Decides.{nat_tests}
+use Rattle.std.proofs.lemmas.List.{map-append}
+use Rattle.vl_compact.specs.Progress.{IsNew, KeepsAll, Takes}
+use Rattle.vl_compact.specs.declared.files.Lent.{Lent}
+use Rattle.vl_compact.specs.declared.files.Synced.{Synced}
+use Rattle.vl_compact.specs.declared.job.Job.{Job}
+use Rattle.vl_disk.specs.Disk.{IsChangedBy}
+use Rattle.vl_disk.specs.DiskState.{DiskState, new_file}
+use Rattle.vl_disk.specs.declared.name.Name.{Name}
+use Rattle.vl_disk.specs.declared.watched.Watched.{Ghosts}
+use Rattle.vl_disk.specs.declared.writer.Writer.{Ghosts as Writers}
+use Rattle.vl_engine.specs.Drawing.{IsLentMore, IsNewTo, IsSameJob}
+use Rattle.vl_engine.specs.Installing.{IsHandedIn, numbers_in}
+use Rattle.vl_engine.specs.Merging.{IsJustOpen}
+use Rattle.vl_engine.specs.UnderWay.{IsUnderWay}
+use Rattle.vl_engine.specs.declared.open.OpenMerge.{OpenMerge}
+use Rattle.vl_layout.specs.Jobs.{AreDistinct}
+use Rattle.vl_model.specs.Numbers.{has}
+
+-- ---- numbers
+
+-- one more is put between some and others
+put_in_all : (P : ℕ → Type 0) (ms ls : List ℕ) (n : ℕ) → AllByRecursion P (ms ++ ls) → P n → AllByRecursion P ((ms ++ n ∷ []) ++ ls)
+put_in_all P [] ls n all is = (is, all)
+put_in_all P (m ∷ ms) ls n all is = (all.0, put_in_all P ms ls n all.1 is)
+
+all_then : (P Q : ℕ → Type 0) (ns : List ℕ) → ((n : ℕ) → P n → Q n) → AllByRecursion P ns → AllByRecursion Q ns
+all_then P Q [] weak all = tt
+all_then P Q (n ∷ ns) weak all = (weak n all.0, all_then P Q ns weak all.1)
+
+still_has : (n m : ℕ) (ns : List ℕ) → has n ns ≡ true → has n (ns ++ m ∷ []) ≡ true
+still_has n m [] is = absurd (let no : false ≡ true = is in cc)
+still_has n m (k ∷ ns) is = by (k == n) is (still_has n m ns)
+  where
+    by : (b : Bool) → (b || has n ns) ≡ true → (has n ns ≡ true → has n (ns ++ m ∷ []) ≡ true) → (b || has n (ns ++ m ∷ [])) ≡ true
+    by true is later = refl
+    by false is later = later is
+
+last_has : (n : ℕ) (ns : List ℕ) → has n (ns ++ n ∷ []) ≡ true
+last_has n [] = grind (arith, nat_tests)
+last_has n (k ∷ ns) = by (k == n) (last_has n ns)
+  where
+    by : (b : Bool) → has n (ns ++ n ∷ []) ≡ true → (b || has n (ns ++ n ∷ [])) ≡ true
+    by true later = refl
+    by false later = later
+
+-- what isn't among those that were lent is none of the job's
+not_among : (n : ℕ) (lent ns : List ℕ) → AllByRecursion (λ (k : ℕ). has k lent ≡ true) ns → has n lent ≡ false → has n ns ≡ false
+not_among n lent [] all off = refl
+not_among n lent (k ∷ ns) all off = by (k == n) refl (not_among n lent ns all.1 off)
+  where
+    by : (b : Bool) → (k == n) ≡ b → has n ns ≡ false → (b || has n ns) ≡ false
+    by true same later =
+        let e : k ≡ n = grind (arith, nat_tests, same) in
+        absurd (let no : true ≡ false = sym (subst (λ (i : ℕ). has i lent ≡ true) e all.0) ∙ off in cc)
+    by false other later = later
+
+off_still : (m n : ℕ) (ms ls : List ℕ) → (n == m) ≡ false → has m (ms ++ ls) ≡ false → has m ((ms ++ n ∷ []) ++ ls) ≡ false
+off_still m n [] ls other off = ap (λ (b : Bool). b || has m ls) other ∙ off
+off_still m n (k ∷ ms) ls other off = by (k == m) off (off_still m n ms ls other)
+  where
+    by : (b : Bool) → (b || has m (ms ++ ls)) ≡ false → (has m (ms ++ ls) ≡ false → has m ((ms ++ n ∷ []) ++ ls) ≡ false)
+        → (b || has m ((ms ++ n ∷ []) ++ ls)) ≡ false
+    by true off later = absurd (let no : true ≡ false = off in cc)
+    by false off later = later off
+
+put_in_distinct : (ms ls : List ℕ) (n : ℕ) → AreDistinct (ms ++ ls) → has n (ms ++ ls) ≡ false → AreDistinct ((ms ++ n ∷ []) ++ ls)
+put_in_distinct [] ls n apart off = (off, apart)
+put_in_distinct (m ∷ ms) ls n apart off = by (m == n) refl off (put_in_distinct ms ls n apart.1)
+  where
+    by : (b : Bool) → (m == n) ≡ b → (b || has n (ms ++ ls)) ≡ false
+        → (has n (ms ++ ls) ≡ false → AreDistinct ((ms ++ n ∷ []) ++ ls))
+        → (has m ((ms ++ n ∷ []) ++ ls) ≡ false) × AreDistinct ((ms ++ n ∷ []) ++ ls)
+    by true same off later = absurd (let no : true ≡ false = off in cc)
+    by false other off later =
+        let turned : (n == m) ≡ false = grind (arith, nat_tests, other) in
+        (off_still m n ms ls turned apart.0, later off)
+
+all_more : {T : Type 0} (P : T → Type 0) (ts : List T) (t : T) → AllByRecursion P ts → P t → AllByRecursion P (ts ++ t ∷ [])
+all_more P [] t all is = (is, tt)
+all_more P (x ∷ ts) t all is = (all.0, all_more P ts t all.1 is)
+
+was_told : {A : Type 0} (f : A → A) (o : Option A) (x : A) → option_map f o ≡ Some x → (y : A) × (o ≡ Some y)
+was_told f None x is = absurd (let no : None ≡ Some x = is in cc)
+was_told f (Some y) x is = (y, refl)
+
+-- ---- the merge
+
+module _ {D V H W : Type 0} (g : Ghosts D) (w : Writers W) {s : _} where
+  -- One that was just planned has no files.
+  pub just_planned : (disk : D) (halted : Option Name) (merging : Option OpenMerge) (job : Job V H W s) → IsJustOpen merging → IsNew job
+      → IsUnderWay g w disk halted merging job
+  just_planned disk halted merging job begun new = record {
+    merge = begun.merge;
+    is_open = begun.is_open;
+    drawn = none (λ ns. AllByRecursion (λ (n : ℕ). has n begun.merge.lent.items ≡ true) ns) tt;
+    distinct = none AreDistinct tt;
+    tells = λ running state is. subst (λ (ts : List (Synced W s)). AllByRecursion (λ (t : Synced W s). IsSome (w.file t.writer)) ts)
+        (sym new.made) tt;
+  }
+    where
+      none : (P : List ℕ → Type 0) → P [] → P (numbers_in job)
+      none P is =
+          subst (λ (ts : List (Synced W s)). P (map (λ (t : Synced W s). t.number) ts ++ map (λ (f : Lent W s). f.number) job.leavings.items))
+          (sym new.made) (subst (λ (fs : List (Lent W s)). P (map (λ (f : Lent W s). f.number) fs)) (sym new.leavings) is)
+
+  -- One that has made all of its tables is ready to be handed in.
+  pub handed_in : (disk : D) (halted : Option Name) (merging : Option OpenMerge) (old new : Job V H W s)
+      → IsUnderWay g w disk halted merging old → KeepsAll old new → new.ended ≡ true → IsHandedIn g w disk halted merging new
+  handed_in disk halted merging old new way kept ended = record {
+    ended = ended;
+    merge = way.merge;
+    is_open = way.is_open;
+    drawn = subst (λ (j : Job V H W s). AllByRecursion (λ (n : ℕ). has n way.merge.lent.items ≡ true) (numbers_in j)) (sym kept) way.drawn;
+    distinct = subst (λ (j : Job V H W s). AreDistinct (numbers_in j)) (sym kept) way.distinct;
+    tells = λ running state is. subst (λ (j : Job V H W s). AllByRecursion (λ (t : Synced W s). IsSome (w.file t.writer)) j.made.items)
+        (sym kept) (way.tells running state is);
+  }
+
+  -- So it stays where one more table is made, in a file that was lent for it.
+  pub one_more : (change : DiskState → DiskState) (old new : D) (before after : Option Name) (was now : Option OpenMerge)
+      (first asked roomy last : Job V H W s) (file : Lent W s) → IsUnderWay g w old before was first → KeepsAll first asked
+      → IsSameJob asked roomy → Takes w file roomy last → IsLentMore was now file.number → IsNewTo was file.number
+      → ForSome (g.told old) (λ _. w.file file.writer ≡ Some new_file) → IsChangedBy change (g.told old) (g.told new) → after ≡ before
+      → IsUnderWay g w new after now last
+  one_more change old new before after was now first asked roomy last file way kept same takes lent fresh empty changed halts = record {
+    merge = lent.next;
+    is_open = lent.is_open;
+    drawn = numbers (λ ns. AllByRecursion (λ (n : ℕ). has n lent.next.lent.items ≡ true) ns)
+        (put_in_all (λ (n : ℕ). has n lent.next.lent.items ≡ true) made left file.number
+        (all_then (λ (n : ℕ). has n way.merge.lent.items ≡ true) (λ (n : ℕ). has n lent.next.lent.items ≡ true) (made ++ left) among way.drawn)
+        (subst (λ (ns : List ℕ). has file.number ns ≡ true) (sym lent.lent) (last_has file.number lent.merge.lent.items)));
+    distinct = numbers AreDistinct (put_in_distinct made left file.number way.distinct
+        (not_among file.number way.merge.lent.items (made ++ left) way.drawn (fresh way.merge way.is_open)));
+    tells = λ running state is.
+        let was_so = was_told change (g.told old) state (sym changed ∙ is) in
+        subst (λ (ts : List (Synced W s)). AllByRecursion (λ (t : Synced W s). IsSome (w.file t.writer)) ts) (sym made_are)
+        (all_more (λ (t : Synced W s). IsSome (w.file t.writer)) first.made.items takes.table
+        (way.tells (sym halts ∙ running) was_so.0 was_so.1)
+        (takes.tells (subst (λ (o : Option _). IsSome o) (sym (empty was_so.0 was_so.1)) refl)));
+  }
+    where
+      made : List ℕ
+      made = map (λ (t : Synced W s). t.number) first.made.items
+
+      left : List ℕ
+      left = map (λ (f : Lent W s). f.number) first.leavings.items
+
+      made_are : last.made.items ≡ first.made.items ++ takes.table ∷ []
+      made_are = takes.made ∙ ap (λ (ts : List (Synced W s)). ts ++ takes.table ∷ [])
+          (same.made ∙ ap (λ (j : Job V H W s). j.made.items) kept)
+
+      left_are : last.leavings.items ≡ first.leavings.items
+      left_are = ap (λ l. l.items) takes.leavings ∙ (same.leavings ∙ ap (λ (j : Job V H W s). j.leavings.items) kept)
+
+      merge_is : way.merge ≡ lent.merge
+      merge_is = let e : Some way.merge ≡ Some lent.merge = sym way.is_open ∙ lent.was_open in cc
+
+      among : (n : ℕ) → has n way.merge.lent.items ≡ true → has n lent.next.lent.items ≡ true
+      among n is = subst (λ (ns : List ℕ). has n ns ≡ true) (sym lent.lent)
+          (still_has n file.number lent.merge.lent.items (subst (λ (m : OpenMerge). has n m.lent.items ≡ true) merge_is is))
+
+      numbers_are : numbers_in last ≡ (made ++ file.number ∷ []) ++ left
+      numbers_are =
+          ap (λ (fs : List (Lent W s)). map (λ (t : Synced W s). t.number) last.made.items ++ map (λ (f : Lent W s). f.number) fs) left_are
+          ∙ ap (λ (ns : List ℕ). ns ++ left) (ap (λ (ts : List (Synced W s)). map (λ (t : Synced W s). t.number) ts) made_are
+          ∙ (map-append (λ (t : Synced W s). t.number) first.made.items (takes.table ∷ [])
+          ∙ ap (λ (n : ℕ). made ++ n ∷ []) takes.number))
+
+      numbers : (P : List ℕ → Type 0) → P ((made ++ file.number ∷ []) ++ left) → P (numbers_in last)
+      numbers P is = subst P (sym numbers_are) is

@@ -1,0 +1,22 @@
+use Rattle.std.specs.Prelude.{◌≡◌, Some}
+use Rattle.vl_engine.proofs.Whole.{IsMaking}
+use Rattle.vl_engine.specs.Merging.{FitsReaders, HasMerge, StandsOpen}
+use Rattle.vl_engine.specs.Represents.{Represents}
+use Rattle.vl_engine.specs.Stepping.{Fits}
+use Rattle.vl_engine.specs.UnderWay.{IsUnderWay}
+use Rattle.vl_layout.specs.declared.job.OpenJob.{OpenJob}
+use Rattle.vl_layout.specs.declared.layout.Layout.{Layout}
+use Rattle.vl_model.specs.History.{History}
+use Rattle.vl_engine.proofs.engine.Engine.carry_out.Given as goal
+
+abbrev pub invariant-making : goal.invariant-making
+invariant-making g l = record {
+  way : IsUnderWay g.D.Watched g.D.Writer.Writer l.self.disk l.self.core.front.halted l.self.merging l.job;
+  makes : (h : History) (x : Layout) (o : OpenJob)
+      → Represents g.D.Held.HeldFile.bytes l.fn.self.core (g.D.Watched.told l.fn.self.disk) h x
+      → StandsOpen g.D.Held.HeldFile.bytes l.fn.self.core l.fn.self.merging h x → Fits (g.D.Watched.told l.fn.self.disk) l.fn.self.core h x
+      → x.job ≡ Some o → HasMerge g.D.Writer.Writer g.D.Held.HeldFile.bytes l.fn.job o.job
+      → FitsReaders g.D.Held.HeldFile.bytes l.fn.job
+      → IsMaking g.D.Watched g.D.Writer.Writer g.D.Held.HeldFile.bytes l.fn.self.disk l.self.disk l.self.core l.self.merging l.job
+      l.reader h x o.job;
+}

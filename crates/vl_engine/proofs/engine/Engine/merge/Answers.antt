@@ -1,0 +1,123 @@
+use Rattle.std.proofs.Common.{Ok, Option, Some, ap, refl, subst, sym, ◌∙◌}
+use Rattle.vl_compact.specs.Progress.{made_of}
+use Rattle.vl_disk.specs.declared.errors.NoMemory.{NoMemory}
+use Rattle.vl_engine.proofs.Carrying.{IsWatched}
+use Rattle.vl_engine.proofs.UnderWay.{just_planned}
+use Rattle.vl_engine.proofs.Whole.{begun, given_up, goes_on, put_in, none_kept, untouched_by}
+use Rattle.vl_engine.specs.Merging.{HasAllMerge, OpensMerge}
+use Rattle.vl_engine.specs.Whole.{kept_of}
+use Rattle.vl_layout.specs.Jobs.{AreLent}
+use Rattle.vl_layout.specs.Rulings.Plan.{plan_ruling}
+use Rattle.vl_layout.specs.declared.job.Job.{Job}
+use Rattle.vl_engine.proofs.engine.Engine.merge.Goals as goal
+
+pub carry_out-requires : goal.carry_out-requires
+carry_out-requires g c =
+    just_planned g.D.Watched g.D.Writer.Writer c.plan.new.self.disk c.plan.new.self.core.front.halted c.plan.new.self.merging
+    c.in-Some.job
+    (subst (λ (o : Option _). OpensMerge {E = NoMemory} c.args.self.now.merging c.plan.new.self.merging (Ok o)) c.in-Some.is
+    c.in_ok-job.ensures.merging)
+    (c.in_ok-job.ensures.new c.in-Some.job c.in-Some.is)
+
+-- none was planned
+
+pub returns-in_err-job-clause-stays : goal.returns-in_err-job-clause-stays
+returns-in_err-job-clause-stays g c h l is stands fits =
+    let watched : IsWatched g.D.Watched = record { only_now = g.met.D.Disk.only_now; counts_now = g.met.D.Disk.counts_now } in
+    untouched_by g.D.Watched g.D.Held.HeldFile.bytes watched c.args.self.now.disk c.plan.new.self.disk c.args.self.now.core
+    c.plan.new.self.core c.args.self.now.merging c.plan.new.self.merging h l c.plan.ensures.disk c.plan.ensures.core
+    c.in_err-job.ensures.merging is stands fits
+
+pub returns-in_default-clause-stays : goal.returns-in_default-clause-stays
+returns-in_default-clause-stays g c h l is stands fits =
+    let watched : IsWatched g.D.Watched = record { only_now = g.met.D.Disk.only_now; counts_now = g.met.D.Disk.counts_now } in
+    untouched_by g.D.Watched g.D.Held.HeldFile.bytes watched c.args.self.now.disk c.plan.new.self.disk c.args.self.now.core
+    c.plan.new.self.core c.args.self.now.merging c.plan.new.self.merging h l c.plan.ensures.disk c.plan.ensures.core
+    (subst (λ (o : Option _). OpensMerge {E = NoMemory} c.args.self.now.merging c.plan.new.self.merging (Ok o)) c.in_default.is
+    c.in_ok-job.ensures.merging) is stands fits
+
+-- it wasn't carried out, and was given up
+
+pub returns-in-Err-clause-stays : goal.returns-in-Err-clause-stays
+returns-in-Err-clause-stays g c h l is stands fits =
+    let watched : IsWatched g.D.Watched = record { only_now = g.met.D.Disk.only_now; counts_now = g.met.D.Disk.counts_now } in
+    let bytes = g.D.Held.HeldFile.bytes in
+    let opened = begun g.D.Watched watched g.D.Writer.Writer bytes NoMemory c.args.self.now.disk c.plan.new.self.disk c.args.self.now.core
+    c.plan.new.self.core c.plan.new.self.merging c.in-Some.job h l c.plan.ensures.disk is c.in_ok-job.field-0 c.in-Some.is
+    (c.in_ok-job.ensures.stands h l stands) (c.in_ok-job.ensures.represents h l is stands) (c.in_ok-job.ensures.fits h l stands fits)
+    (c.in_ok-job.ensures.job h l stands) in
+    let makes = c.in-Err.ensures.makes h opened.stays.layout opened.open_job opened.stays.represents opened.stays.stands
+    opened.stays.fits opened.is_open opened.has (c.in_ok-job.ensures.looks h l stands c.in-Some.job c.in-Some.is) in
+    given_up g.D.Watched bytes c.args.self.now.disk c.carry_out.new.self.disk c.abandon.new.self.disk c.carry_out.new.self.core
+    c.abandon.new.self.core c.carry_out.new.self.merging c.abandon.new.self.merging h l
+    (goes_on g.D.Watched bytes c.args.self.now.disk c.plan.new.self.disk c.carry_out.new.self.disk c.plan.new.self.core
+    c.carry_out.new.self.core c.plan.new.self.merging c.carry_out.new.self.merging h l opened.stays opened.alike makes.stays)
+    c.abandon.ensures.disk c.abandon.ensures.core c.abandon.ensures.merging
+
+-- its tables were put in
+
+pub returns-in-Ok-clause-stays : goal.returns-in-Ok-clause-stays
+returns-in-Ok-clause-stays g c h l is stands fits =
+    let watched : IsWatched g.D.Watched = record { only_now = g.met.D.Disk.only_now; counts_now = g.met.D.Disk.counts_now } in
+    let bytes = g.D.Held.HeldFile.bytes in
+    let opened = begun g.D.Watched watched g.D.Writer.Writer bytes NoMemory c.args.self.now.disk c.plan.new.self.disk c.args.self.now.core
+    c.plan.new.self.core c.plan.new.self.merging c.in-Some.job h l c.plan.ensures.disk is c.in_ok-job.field-0 c.in-Some.is
+    (c.in_ok-job.ensures.stands h l stands) (c.in_ok-job.ensures.represents h l is stands) (c.in_ok-job.ensures.fits h l stands fits)
+    (c.in_ok-job.ensures.job h l stands) in
+    let makes = c.in_default-carry_out.ensures.makes h opened.stays.layout opened.open_job opened.stays.represents opened.stays.stands
+    opened.stays.fits opened.is_open opened.has (c.in_ok-job.ensures.looks h l stands c.in-Some.job c.in-Some.is) in
+    let s = goes_on g.D.Watched bytes c.args.self.now.disk c.plan.new.self.disk c.carry_out.new.self.disk c.plan.new.self.core
+    c.carry_out.new.self.core c.plan.new.self.merging c.carry_out.new.self.merging h l opened.stays opened.alike makes.stays in
+    let whole = subst (λ (j : Job). HasAllMerge g.D.Writer.Writer bytes c.carry_out.new.job j) (sym makes.job_is) makes.whole in
+    let lent = subst (λ (j : Job). AreLent makes.open_job.lent (made_of c.carry_out.new.job j)) (sym makes.job_is) makes.lent in
+    given_up g.D.Watched bytes c.args.self.now.disk c.install.new.self.disk c.install.new.self.disk c.install.new.self.core
+    c.install.new.self.core _ c.install.new.self.merging h l
+    (put_in g.D.Watched bytes c.args.self.now.disk c.carry_out.new.self.disk c.install.new.self.disk c.carry_out.new.self.core
+    c.install.new.self.core c.carry_out.new.self.merging c.install.new.self.merging h l s (makes.running ∙ opened.alike)
+    makes.open_job.job (made_of c.carry_out.new.job makes.open_job.job) _ _
+    (c.in-Ok.ensures.carries h s.layout makes.open_job s.represents s.stands makes.is_open whole lent)
+    (c.in-Ok.ensures.fits h s.layout makes.open_job s.stands makes.is_open whole lent s.fits))
+    refl refl c.in-Ok.ensures.handed
+
+-- or weren't
+
+pub returns-in-Err-install-clause-stays : goal.returns-in-Err-install-clause-stays
+returns-in-Err-install-clause-stays g c h l is stands fits =
+    let watched : IsWatched g.D.Watched = record { only_now = g.met.D.Disk.only_now; counts_now = g.met.D.Disk.counts_now } in
+    let bytes = g.D.Held.HeldFile.bytes in
+    let opened = begun g.D.Watched watched g.D.Writer.Writer bytes NoMemory c.args.self.now.disk c.plan.new.self.disk c.args.self.now.core
+    c.plan.new.self.core c.plan.new.self.merging c.in-Some.job h l c.plan.ensures.disk is c.in_ok-job.field-0 c.in-Some.is
+    (c.in_ok-job.ensures.stands h l stands) (c.in_ok-job.ensures.represents h l is stands) (c.in_ok-job.ensures.fits h l stands fits)
+    (c.in_ok-job.ensures.job h l stands) in
+    let makes = c.in_default-carry_out.ensures.makes h opened.stays.layout opened.open_job opened.stays.represents opened.stays.stands
+    opened.stays.fits opened.is_open opened.has (c.in_ok-job.ensures.looks h l stands c.in-Some.job c.in-Some.is) in
+    let s = goes_on g.D.Watched bytes c.args.self.now.disk c.plan.new.self.disk c.carry_out.new.self.disk c.plan.new.self.core
+    c.carry_out.new.self.core c.plan.new.self.merging c.carry_out.new.self.merging h l opened.stays opened.alike makes.stays in
+    let whole = subst (λ (j : Job). HasAllMerge g.D.Writer.Writer bytes c.carry_out.new.job j) (sym makes.job_is) makes.whole in
+    let lent = subst (λ (j : Job). AreLent makes.open_job.lent (made_of c.carry_out.new.job j)) (sym makes.job_is) makes.lent in
+    given_up g.D.Watched bytes c.args.self.now.disk c.install.new.self.disk c.given_up.new.self.disk c.install.new.self.core
+    c.given_up.new.self.core _ c.given_up.new.self.merging h l
+    (put_in g.D.Watched bytes c.args.self.now.disk c.carry_out.new.self.disk c.install.new.self.disk c.carry_out.new.self.core
+    c.install.new.self.core c.carry_out.new.self.merging c.install.new.self.merging h l s (makes.running ∙ opened.alike)
+    makes.open_job.job (made_of c.carry_out.new.job makes.open_job.job) _ _
+    (c.in-Err-install.ensures.carries h s.layout makes.open_job s.represents s.stands makes.is_open whole lent)
+    (c.in-Err-install.ensures.fits h s.layout makes.open_job s.stands makes.is_open whole lent s.fits))
+    c.given_up.ensures.disk c.given_up.ensures.core c.given_up.ensures.merging
+
+-- how many entries it kept
+
+pub returns-in_default-clause-counts : goal.returns-in_default-clause-counts
+returns-in_default-clause-counts g c h l is stands fits =
+    none_kept _ c.in_ok-job.field-0 (plan_ruling l h).answer c.in_default.is (c.in_ok-job.ensures.job h l stands)
+
+pub returns-in-Ok-clause-counts : goal.returns-in-Ok-clause-counts
+returns-in-Ok-clause-counts g c h l is stands fits =
+    let watched : IsWatched g.D.Watched = record { only_now = g.met.D.Disk.only_now; counts_now = g.met.D.Disk.counts_now } in
+    let bytes = g.D.Held.HeldFile.bytes in
+    let opened = begun g.D.Watched watched g.D.Writer.Writer bytes NoMemory c.args.self.now.disk c.plan.new.self.disk c.args.self.now.core
+    c.plan.new.self.core c.plan.new.self.merging c.in-Some.job h l c.plan.ensures.disk is c.in_ok-job.field-0 c.in-Some.is
+    (c.in_ok-job.ensures.stands h l stands) (c.in_ok-job.ensures.represents h l is stands) (c.in_ok-job.ensures.fits h l stands fits)
+    (c.in_ok-job.ensures.job h l stands) in
+    let makes = c.in_default-carry_out.ensures.makes h opened.stays.layout opened.open_job opened.stays.represents opened.stays.stands
+    opened.stays.fits opened.is_open opened.has (c.in_ok-job.ensures.looks h l stands c.in-Some.job c.in-Some.is) in
+    ap Some (c.kept_count-kept.ensures opened.open_job.job makes.whole) ∙ ap kept_of (sym opened.planned)

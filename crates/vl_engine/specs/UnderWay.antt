@@ -1,0 +1,25 @@
+-- A merge that is carried out beside the engine that planned it.
+use Rattle.std.specs.Prelude.{◌≡◌, ℕ, true, Option, None, Some, IsSome}
+use Rattle.std.specs.List.{AllByRecursion}
+use Rattle.std.specs.Option.{ForSome}
+use Rattle.vl_compact.specs.declared.files.Synced.{Synced}
+use Rattle.vl_compact.specs.declared.job.Job.{Job}
+use Rattle.vl_disk.specs.declared.name.Name.{Name}
+use Rattle.vl_disk.specs.declared.watched.Watched.{Ghosts}
+use Rattle.vl_disk.specs.declared.writer.Writer.{Ghosts as Writers}
+use Rattle.vl_engine.specs.Installing.{numbers_in}
+use Rattle.vl_engine.specs.declared.open.OpenMerge.{OpenMerge}
+use Rattle.vl_layout.specs.Jobs.{AreDistinct}
+use Rattle.vl_model.specs.Numbers.{has}
+
+-- What an install asks of a job that has all of its merge is so of it, but that it may have more to make: its files are ones that
+-- were lent to the open merge, each with a number of its own, and while the engine isn't halted, its writers tell them where the
+-- disk tells its files.
+pub record IsUnderWay {D V H W : Type 0} (g : Ghosts D) (w : Writers W) (disk : D) (halted : Option Name)
+    (merging : Option OpenMerge) {s : _} (job : Job V H W s) : Type 0 where
+  pub merge : OpenMerge
+  pub is_open : merging ≡ Some merge
+  pub drawn : AllByRecursion (λ (n : ℕ). has n merge.lent.items ≡ true) (numbers_in job)
+  pub distinct : AreDistinct (numbers_in job)
+  pub tells : halted ≡ None
+      → ForSome (g.told disk) (λ _. AllByRecursion (λ (t : Synced W s). IsSome (w.file t.writer)) job.made.items)

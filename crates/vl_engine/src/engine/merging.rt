@@ -1,0 +1,103 @@
+ghost use Rattle.std.specs.Prelude.{◌≡◌, IfOk, None, Ok, OnOk, Some};
+ghost use Rattle.vl_engine.specs.Installing.{IsHandedIn};
+ghost use Rattle.vl_engine.specs.Merging.{FitsReaders, HasMerge, StandsOpen};
+ghost use Rattle.vl_engine.specs.Represents.{Represents};
+ghost use Rattle.vl_engine.specs.Stepping.{Fits};
+ghost use Rattle.vl_engine.specs.UnderWay.{IsUnderWay};
+ghost use Rattle.vl_engine.specs.Whole.{MakesTables, StaysFor, kept_of};
+ghost use Rattle.vl_layout.specs.Rulings.Plan.{plan_ruling};
+ghost use Rattle.vl_layout.specs.declared.job.OpenJob.{OpenJob};
+ghost use Rattle.vl_layout.specs.declared.layout.Layout.{Layout};
+ghost use Rattle.vl_model.specs.History.{History};
+
+use crate::{Engine, InstallFail, MergeFail};
+use vl_compact::Job;
+use vl_disk::Disk;
+use vl_model::{Counter, MAX_FILE_NUMBER};
+use vl_version::Base;
+
+impl<D: Disk> Engine<D> {
+    /// Does a whole merge of tables here and now: `plan`, then `ready`, `fresh` and `fill` until all of its tables are made, then
+    /// `install`. It answers with the number of entries that the new tables have; none where a merge is open, or no level is due.
+    /// Where it fails the merge is given up, and a later call begins another one.
+    pub fn merge(&mut self) -> Result<Option<u64>, MergeFail>
+        // Whatever it answers, the engine stands for the same history, with a layout in which tables may have been merged; while it
+        // isn't halted the disk holds it. What a crash meanwhile leaves shows the history, and a store may be opened on the disk again.
+        ensures stays { (h : History) (l : Layout) → Represents D.Held.bytes self.old.core (D.told self.old.disk) h l
+            → StandsOpen D.Held.bytes self.old.core self.old.merging h l → Fits (D.told self.old.disk) self.old.core h l
+            → StaysFor D.Watched D.Held.bytes self.old.disk self.new.disk self.new.core self.new.merging h l }
+
+        // The merge is the one that the ruling on plans has: it answers how many entries that merge keeps, and none where none is due.
+        ensures counts { (h : History) (l : Layout) → Represents D.Held.bytes self.old.core (D.told self.old.disk) h l
+            → StandsOpen D.Held.bytes self.old.core self.old.merging h l → Fits (D.told self.old.disk) self.old.core h l
+            → IfOk result (λ kept. kept ≡ kept_of (plan_ruling l h).answer) }
+
+        // No merge is left open.
+        ensures ended { self.old.merging ≡ None → self.new.merging ≡ None }
+
+        // Where none was due nothing was done.
+        ensures idle { result ≡ Ok None → (self.new.core ≡ self.old.core) × (self.new.disk ≡ self.old.disk) }
+    {
+        let Some(mut job) = self.plan()? else {
+            return Ok(None);
+        };
+        if let Err(fail) = self.carry_out(&mut job) {
+            self.abandon(job);
+            return Err(fail);
+        }
+        let kept = job.kept_count();
+        match self.install(job) {
+            Ok(()) => Ok(Some(kept)),
+            Err(fail) => Err(self.given_up(fail)),
+        }
+    }
+
+    /// Makes all tables of a merge that was planned, which is ready for `install` then.
+    pub fn carry_out(
+        &mut self,
+        job: &mut Job<Base<D::Held, D::Reader>, D::Held, D::Writer>,
+    ) -> Result<(), MergeFail>
+        requires { IsUnderWay D.Watched D.Writer.Writer self.old.disk self.old.core.front.halted self.old.merging job.old }
+        ensures handed { OnOk result (IsHandedIn D.Watched D.Writer.Writer self.new.disk self.new.core.front.halted
+            self.new.merging job.new) }
+
+        // Of a job that does what the layout's open one says, as `plan` gives it: whatever it answers, the engine stands for the same
+        // history, as where a whole merge is done, with that job open yet. Where it is done, the job has all of its merge, which is
+        // what `install` asks of it.
+        ensures makes { (h : History) (l : Layout) (o : OpenJob) → Represents D.Held.bytes self.old.core (D.told self.old.disk) h l
+            → StandsOpen D.Held.bytes self.old.core self.old.merging h l → Fits (D.told self.old.disk) self.old.core h l
+            → l.job ≡ Some o → HasMerge D.Writer.Writer D.Held.bytes job.old o.job → FitsReaders D.Held.bytes job.old
+            → MakesTables D.Watched D.Writer.Writer D.Held.bytes self.old.disk self.new.disk self.new.core self.new.merging job.new
+            h l o.job result }
+    {
+        let mut reader = self.reader()?;
+        'making: for _ in 0..MAX_FILE_NUMBER {
+            if !job.ready(self.alloc, &mut reader)? {
+                return Ok(());
+            }
+            let file = self.fresh(job)?;
+            job.fill(self.alloc, &mut reader, file)?;
+        }
+        // Each table took a number of its own.
+        Err(MergeFail::Exhausted(Counter::Table))
+    }
+
+    // The tables weren't put in: the merge is over, also where it was handed back.
+    fn given_up(
+        &mut self,
+        fail: InstallFail<Base<D::Held, D::Reader>, D::Held, D::Writer>,
+    ) -> MergeFail
+        ensures merging { self.new.merging ≡ None }
+        ensures core { self.new.core ≡ self.old.core }
+        ensures disk { self.new.disk ≡ self.old.disk }
+    {
+        self.merging = None;
+        match fail {
+            InstallFail::Halted { name } => MergeFail::Halted { name },
+            InstallFail::Raced { .. } => MergeFail::Raced,
+            InstallFail::Exhausted(counter) => MergeFail::Exhausted(counter),
+            InstallFail::NoMemory(_) => MergeFail::NoMemory,
+            InstallFail::Disk { name } => MergeFail::Disk { name },
+        }
+    }
+}
