@@ -52,8 +52,9 @@ unserved_exits g old new words status ends = record {
     seven_or seven two = omega arith
 
 -- a run over words is one over the same words
-pub over_same : {S K D R : Type 0} {s : source.Ghosts S} {k : sink.Ghosts K} {g : Ghosts D} {faults : R → ℕ} {IsMade : List ℕ → D → Type 0}
-    {words other : List (List ℕ)} {from from' : S} {to to' : K} {left : D} {status : ℕ} → words ≡ other
-    → ServedOver s k g faults IsMade words from from' to to' left status → ServedOver s k g faults IsMade other from from' to to' left status
-over_same {S} {K} {D} {R} {s} {k} {g} {faults} {IsMade} {words} {other} {from} {from'} {to} {to'} {left} {status} same served =
-    subst (λ (w : List (List ℕ)). ServedOver s k g faults IsMade w from from' to to' left status) same served
+pub over_same : {S K D R W : Type 0} {s : source.Ghosts S} {k : sink.Ghosts K} {g : Ghosts D} {faults : R → ℕ} {writes : W → ℕ}
+    {IsMade : List ℕ → D → Type 0} {words other : List (List ℕ)} {from from' : S} {to to' : K} {left : D} {status : ℕ} → words ≡ other
+    → ServedOver s k g faults writes IsMade words from from' to to' left status
+    → ServedOver s k g faults writes IsMade other from from' to to' left status
+over_same {S} {K} {D} {R} {W} {s} {k} {g} {faults} {writes} {IsMade} {words} {other} {from} {from'} {to} {to'} {left} {status} same served =
+    subst (λ (w : List (List ℕ)). ServedOver s k g faults writes IsMade w from from' to to' left status) same served

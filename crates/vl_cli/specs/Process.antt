@@ -6,6 +6,7 @@ use Rattle.vl_io.specs.declared.sink.Sink as sink
 use Rattle.vl_io.specs.declared.source.Source as source
 use Rattle.vl_mem.specs.declared.outcome.Outcome.{Outcome}
 use Rattle.vl_replay.specs.Endings.{status_of}
+use Rattle.vl_replay.specs.Failing.{beside}
 use Rattle.vl_replay.specs.Reading.{streams}
 use Rattle.vl_replay.specs.Runs.{outside}
 use Rattle.vl_replay.specs.Sequential.{State}
@@ -30,7 +31,8 @@ pub record MayExitWith (words : List (List ℕ)) (status : ℕ) : Type 0 where
   pub plain : (command : Command) → AskFor words command → status ≢ 2
 
 -- A run over these words, and over the disk that was made for their folder, left the source, the sink and the disk so.
-pub record ServedOver {S K D R : Type 0} (s : source.Ghosts S) (k : sink.Ghosts K) (g : Ghosts D) (faults : R → ℕ)
+-- What reads and writes beside the disk counts its faults so.
+pub record ServedOver {S K D R W : Type 0} (s : source.Ghosts S) (k : sink.Ghosts K) (g : Ghosts D) (faults : R → ℕ) (writes : W → ℕ)
     (IsMade : (folder : List ℕ) → D → Type 0) (words : List (List ℕ)) (source source' : S) (sink sink' : K)
     (left : D) (status : ℕ) : Type 0 where
   -- the disk as it was made
@@ -45,9 +47,9 @@ pub record ServedOver {S K D R : Type 0} (s : source.Ghosts S) (k : sink.Ghosts 
       → StatusOfTrial (trial_of stop input outcome) (k.held sink) (k.held sink') (s.left source') status
   pub not_plain : AreNotPlain words → (source' ≡ source) × (left ≡ made) × EndsBy k sink sink' BadWords status
   pub no_usage_line : (command : Command) → AskFor words command → status ≢ 2
-  -- status 3 comes only by a fault of the disk or of a read, and all others but 7 only without a fault of the disk
+  -- status 3 comes only by a fault of the disk, of a read or of a merge's write, and all others but 7 only without a fault of the disk
   pub disk_fault : status ≡ 3
       → Rose (g.faults made) (g.faults left)
       ⊎ (FailedToRead (streams s k source sink) (streams s k source' sink') ⊎ FailedAtTables g faults k source source' made left sink sink')
-  pub reader_fault : (start : State) → StartsIn g made start → status ≡ 3 → HasCountedFault g faults made left
+  pub reader_fault : (start : State) → StartsIn g made start → status ≡ 3 → HasCountedFault g (beside faults writes) made left
   pub no_disk_fault : status ≢ 3 → status ≢ 7 → g.faults left ≡ g.faults made

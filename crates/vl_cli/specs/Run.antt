@@ -54,8 +54,8 @@ MetDamage old new =
     (name : Name) × (place : ℕ)
     × ((input : List ℕ) → old.left ≡ Some input → ReadsInput input old new (Damaged name place))
 
--- A line's read of an open store's file failed. So much it tells of the input: the lines before were answered, and the line of a
--- disk's fault was put last.
+-- A line's read of an open store's file failed, or a merge's write of a file that was lent to it. So much it tells of the input: the
+-- lines before were answered, and the line of a disk's fault was put last.
 abbrev pub FailedToRead : (old new : Streams) → Type 0
 FailedToRead old new = (input : List ℕ) → old.left ≡ Some input → ReadsInput input old new ReaderFault
 
@@ -65,7 +65,7 @@ abbrev pub FailedAtTables : {S D K R : Type 0} → Ghosts D → (faults : R → 
 FailedAtTables g faults k source source' disk disk' sink sink' =
     (source' ≡ source) × ((ending : Ending) × EndsAtTables g faults k disk disk' sink sink' ending)
 
--- a fault was counted, by the disk or by some reader of its kind
+-- the disk counted a fault meanwhile, or something of a kind that works beside it has counted one
 abbrev pub HasCountedFault : {D R : Type 0} → Ghosts D → (faults : R → ℕ) → (disk disk' : D) → Type 0
 HasCountedFault g faults disk disk' = Rose (g.faults disk) (g.faults disk') ⊎ ReaderFailed faults
 

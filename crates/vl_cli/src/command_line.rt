@@ -11,6 +11,7 @@ ghost use Rattle.vl_script.specs.Script.{lines_of};
 ghost use Rattle.vl_replay.specs.Sequential.{State};
 ghost use Rattle.vl_replay.specs.Endings.{status_of};
 ghost use Rattle.vl_replay.specs.Exchanges.{exchanges_from, AreExplained};
+ghost use Rattle.vl_replay.specs.Failing.{beside};
 ghost use Rattle.vl_replay.specs.Opening.{IsRefused};
 ghost use Rattle.vl_replay.specs.Reading.{streams};
 ghost use Rattle.vl_replay.specs.Runs.{outside};
@@ -81,17 +82,17 @@ pub fn run<S: Source, K: Sink, D: Disk>(
     ensures untouched { (stop : ℕ) (outcome : Outcome) → AskFor (map string_bytes words.now) (Command.Trial stop outcome)
         → result.disk ≡ disk }
 
-    // Status 3 comes only by a fault of the disk, or where a read of a file failed, of which the disk counts no fault: a line's read
-    // of an open store's file, or an opening's read of a table. Over a disk on which a run may begin, the disk or some reader of
-    // its kind has counted a fault then. All other statuses but 7 come only without a fault of the disk. A trial never comes to 3:
-    // its stop is not reported.
+    // Status 3 comes only by a fault of the disk, or where something failed of which the disk counts no fault: a line's read of an
+    // open store's file, a merge's write of a file that was lent to it, or an opening's read of a table. Over a disk on which a run
+    // may begin, the disk, or some reader or writer of its kind, has counted a fault then. All other statuses but 7 come only without
+    // a fault of the disk. A trial never comes to 3: its stop is not reported.
     ensures no_fault_in_trial { (stop : ℕ) (outcome : Outcome) → AskFor (map string_bytes words.now) (Command.Trial stop outcome)
         → result.status ≢ 3 }
     ensures disk_fault { result.status ≡ 3 → Rose (D.faults disk) (D.faults result.disk)
         ⊎ (FailedToRead (streams S.Source K.Sink source.old sink.old) (streams S.Source K.Sink source.new sink.new)
         ⊎ FailedAtTables D.Watched D.Reader.faults K.Sink source.old source.new disk result.disk sink.old sink.new) }
     ensures reader_fault { (s : State) → StartsIn D.Watched disk s → result.status ≡ 3
-        → HasCountedFault D.Watched D.Reader.faults disk result.disk }
+        → HasCountedFault D.Watched (beside D.Reader.faults D.Writer.faults) disk result.disk }
     ensures no_disk_fault { result.status ≢ 3 → result.status ≢ 7
         → D.faults result.disk ≡ D.faults disk }
 

@@ -37,7 +37,7 @@ pub fn serve<S: Source, K: Sink, D: Disk, M: FnOnce(String) -> D>(
     // Where there is a disk there were words. All of them are run, over a disk that `make_disk` gave for the folder that the
     // second of them names.
     ensures served { IfSome result.disk (λ disk. (given : _) × (words ≡ Some given)
-        × ServedOver S.Source K.Sink D.Watched D.Reader.faults
+        × ServedOver S.Source K.Sink D.Watched D.Reader.faults D.Writer.faults
         (λ folder made. (path : _) × (string_bytes path ≡ folder) × M.post make_disk path made)
         (map string_bytes given.items) source.old source.new sink.old sink.new disk (exit_status result.exit)) }
     ensures no_memory { IfNone result.disk ((source.new ≡ source.old)

@@ -2,4 +2,11 @@ pub mod Disk
 pub mod Openings
 pub mod Runs
 pub mod Trials
+pub mod CarryingDisk
+pub mod CarryingDraws
+pub mod CarryingJob
+pub mod CarryingLists
+pub mod CarryingRounds
+pub mod CarryingTables
 pub mod Names
+pub mod Merges

@@ -1,7 +1,7 @@
 -- What a replayer asks of a line.
 use Rattle.std.specs.Prelude.{◌≤◌}
 use Rattle.vl_script.specs.declared.line.Line.{Line}
-use Rattle.vl_script.specs.declared.line.Line.TheVariants.{Begin, View, Get, Set, SetTagged, GetTagged, Scan, Delete, Commit, Drop, Rotate, Flush, Keep, GetAt}
+use Rattle.vl_script.specs.declared.line.Line.TheVariants.{Begin, View, Get, Set, SetTagged, GetTagged, Scan, Delete, Commit, Drop, Rotate, Flush, Keep, GetAt, Plan, Install}
 
 -- a scan asks for one row at least, as each does that is a line of the language
 abbrev pub AsksForRow : Line → Type 0
@@ -19,3 +19,5 @@ AsksForRow Rotate = Unit {0}
 AsksForRow Flush = Unit {0}
 AsksForRow (Keep versions) = Unit {0}
 AsksForRow (GetAt name key number) = Unit {0}
+AsksForRow (Plan name) = Unit {0}
+AsksForRow (Install name) = Unit {0}

@@ -1,7 +1,9 @@
 -- What a disk holds while a script is answered, and what a crash leaves of it. `holds` says what a disk holds of a state,
 -- `shows` what an image shows of a history at a number, and `stops` what a line leaves that was stopped: all three are
 -- parameters throughout.
-use Rattle.std.specs.Prelude.{◌≡◌, ◌⊎◌, ℕ, ◌<◌, ◌≤◌, List, [], ◌∷◌, Some, Err, Result, OnOk, IsTrue}
+use Rattle.std.specs.Prelude.{◌≡◌, ◌⊎◌, ℕ, ◌<◌, ◌≤◌, nat_lt, Bool, List, [], ◌∷◌, None, Some, Err, Result, OnOk, IsTrue}
+use Rattle.std.specs.List.{filter}
+use Rattle.vl_layout.specs.declared.file_name.Retired.{Retired}
 use Rattle.vl_layout.specs.declared.layout.Layout.{Layout}
 use Rattle.vl_model.specs.History.{Extends, History, last_number}
 use Rattle.vl_disk.specs.declared.watched.Watched.{Ghosts}
@@ -15,7 +17,7 @@ use Rattle.vl_replay.specs.Sequential.{State, history_of}
 use Rattle.vl_replay.specs.Exchanges.{Exchange, last_state}
 pub use Rattle.vl_replay.specs.Between.{Holding}
 use Rattle.vl_replay.specs.Between.{HasPassed, Showing, ShowsBetween, Stopping}
-use Rattle.vl_replay.specs.Endings.{CutsAnswer, IsBetweenLines, TheDisk, culprit_of}
+use Rattle.vl_replay.specs.Endings.{CutsAnswer, IsBetweenLines, TheDisk, TheReader, culprit_of}
 use Rattle.vl_replay.specs.Runs.{Course}
 use Rattle.vl_replay.specs.Halts.{HaltsByDisk, HaltsByRead}
 use Rattle.vl_replay.specs.declared.fails.Halt.{Halt}
@@ -66,10 +68,20 @@ pub record HoldsState {D : Type 0} (g : Ghosts D) (holds : Holding)
 abbrev pub without_live : Layout → Layout
 without_live l = record l { live = [] }
 
--- it holds the commits and the layout of a state and nothing else, whatever changing calls it was asked for
+-- a file that a version needed once, unlike one of a merge that was given up
+abbrev pub was_needed : Retired → Bool
+was_needed r = nat_lt 0 r.version_number
+
+-- A layout but for what lives, and for what merges leave beside it that were given up: numbers that were given to their files, and
+-- these files, which no version ever needed.
+abbrev pub without_merges : Layout → Layout
+without_merges l = record l { live = []; job = None; next_table = 0; retired = filter was_needed l.retired }
+
+-- It holds the commits and the layout of a state and nothing else, whatever changing calls it was asked for. Files of merges that
+-- were given up may stand beside it.
 abbrev pub HoldsCommits : {D : Type 0} → Ghosts D → Holding → State → D → Type 0
 HoldsCommits g holds t disk =
-    (s : State) × ((history_of s) ≡ (history_of t)) × (without_live s.store.layout ≡ without_live t.store.layout) × Tells g disk (holds s)
+    (s : State) × ((history_of s) ≡ (history_of t)) × (without_merges s.store.layout ≡ without_merges t.store.layout) × Tells g disk (holds s)
 
 -- and it was asked for those that the state counts; the numbers of its files are bounded as there
 abbrev pub HoldsCounted : {D : Type 0} → Ghosts D → Holding → State → D → Type 0
@@ -111,8 +123,10 @@ pub record LeadsTo {D T : Type 0} (g : Ghosts D) (holds : Holding) (shows : Show
   pub answered : OnOk result (HoldsState g holds after new)
   -- where memory ran out it holds the commits before and no more, whatever calls came first;
   pub no_commit : result ≡ Err why.NoMemory → HoldsCommits g holds before new
-  -- where a read failed it still holds the state before, of which nothing was changed;
-  pub unread : HaltsByRead result → HoldsState g holds before new
+  -- where a read failed, or a write beside the disk, it holds these too; and where the line would make no file, it still holds the
+  -- state before, of which nothing was changed;
+  pub unread : HaltsByRead result → HoldsCommits g holds before new
+  pub unchanged : HaltsByRead result → after.files ≡ before.files → HoldsState g holds before new
   -- it tells its bytes, and a store may be opened on them, also where it failed;
   pub tells : Tells g new MayOpen
   -- what a crash meanwhile leaves shows the commits before, or those after it;
@@ -165,6 +179,11 @@ pub record DiskEnds {D : Type 0} (g : Ghosts D) (holds : Holding) (shows : Showi
   -- where the run ended by want of memory, it wasn't opened, or holds just the acknowledged ones
   pub no_memory : run.ending ≡ NoMemory
       → unopened ⊎ HoldsCommits g holds (last_state run.first run.answered) new
+  -- where a line's read failed, or a write beside the disk, it holds just the acknowledged ones; and where the line would make no
+  -- file, after just the calls of the lines before
+  pub unread : culprit_of run.ending ≡ TheReader → HoldsCommits g holds (last_state run.first run.answered) new
+  pub unchanged : culprit_of run.ending ≡ TheReader → run.most.files ≡ (last_state run.first run.answered).files
+      → HoldsCounted g holds (last_state run.first run.answered) new
   -- where the run ended between two lines, the disk holds just the acknowledged ones, after just the calls of their lines
   pub between_lines : IsBetweenLines (culprit_of run.ending)
       → HoldsCounted g holds (last_state run.first run.answered) new

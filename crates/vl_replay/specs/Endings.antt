@@ -61,7 +61,7 @@ pub data Culprit : Type 0 where
   -- words that aren't plain
   TheWords : Culprit
   TheDisk : Culprit
-  -- the reader of an open store's files; the disk counts no fault of its own then
+  -- the reader of an open store's files, or what writes a merge's file; the disk counts no fault of its own then
   TheReader : Culprit
   -- what stands on the disk and is no store
   TheFiles : Culprit
@@ -121,14 +121,13 @@ line_of_piece n AnswerFront = None
 abbrev pub last_line : ℕ → Ending → Option (List ℕ)
 last_line n ending = line_of_piece n (end_of ending).last
 
--- the run ended between two lines: at the input's end, at a bad line, where no more could be read, or at a line whose read failed,
--- which changes nothing
+-- the run ended between two lines: at the input's end, at a bad line, or where no more could be read
 abbrev pub IsBetweenLines : Culprit → Type 0
 IsBetweenLines NoOne = Unit {0}
 IsBetweenLines TheLine = Unit {0}
 IsBetweenLines TheWords = ⊥
 IsBetweenLines TheDisk = ⊥
-IsBetweenLines TheReader = Unit {0}
+IsBetweenLines TheReader = ⊥
 IsBetweenLines TheFiles = ⊥
 IsBetweenLines (TheBytes name place) = ⊥
 IsBetweenLines Memory = ⊥

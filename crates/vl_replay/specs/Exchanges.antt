@@ -17,7 +17,7 @@ use Rattle.vl_model.specs.declared.way.Way.{Way}
 use Rattle.vl_replay.specs.Sequential.{State, answer_text, answer_to, history_of, state_after}
 use Rattle.vl_script.specs.Script.{line_of}
 use Rattle.vl_script.specs.declared.line.Line.{Line}
-use Rattle.vl_script.specs.declared.line.Line.TheVariants.{Begin, View, Get, Set, SetTagged, GetTagged, Scan, Delete, Commit, Drop, Rotate, Flush, Keep, GetAt}
+use Rattle.vl_script.specs.declared.line.Line.TheVariants.{Begin, View, Get, Set, SetTagged, GetTagged, Scan, Delete, Commit, Drop, Rotate, Flush, Keep, GetAt, Plan, Install}
 
 -- a line with its answer, and the states before and after it
 pub record Exchange : Type 0 where
@@ -129,6 +129,8 @@ IsExplainedExchange (Drop name) e = Unit {0}
 IsExplainedExchange Rotate e = Unit {0}
 IsExplainedExchange Flush e = Unit {0}
 IsExplainedExchange (Keep versions) e = Unit {0}
+IsExplainedExchange (Plan name) e = Unit {0}
+IsExplainedExchange (Install name) e = Unit {0}
 IsExplainedExchange (GetAt name key number) e =
     TellsValue e.answer → e.answer ≡ answer_of (value_at (history_of e.before) number key)
 

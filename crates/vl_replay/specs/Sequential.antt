@@ -1,6 +1,6 @@
 -- The store as one thread of script lines sees it: what each line is answered, and what it leaves. The store is vl_layout's; of
 -- the disk it counts bytes, changing calls and files.
-use Rattle.std.specs.Prelude.{◌≡◌, ◌+◌, ℕ, Bool, List, [], map}
+use Rattle.std.specs.Prelude.{◌≡◌, ◌+◌, ◌-◌, ◌^◌, ℕ, min, Bool, List, [], map}
 use Rattle.vl_disk.specs.Faults.{after_calls}
 use Rattle.vl_layout.specs.Store.Commits.{history_in}
 use Rattle.vl_layout.specs.Store.Dispatch.{step_of}
@@ -43,12 +43,24 @@ asked (lines.Drop name) = store.Drop name
 asked lines.Rotate = store.Rotate
 asked lines.Flush = store.Flush
 asked (lines.Keep versions) = store.Keep versions
+asked (lines.Plan name) = store.Plan name
+asked (lines.Install name) = store.Install name
 asked (lines.GetAt name key number) = store.GetAt name key number
 
 -- ---- what a line is answered, and what it leaves
 
+-- a count stands still at its type's end
+abbrev pub counted : store.Answer → store.Answer
+counted (store.Number n) = store.Number (min n (2 ^ 64 - 1))
+counted answer = answer
+
+-- a merge is told how many entries it kept, which are counted; each other number is one that its type has
+abbrev pub answer_for : Line → store.Answer → store.Answer
+answer_for (lines.Plan name) answer = counted answer
+answer_for line answer = answer
+
 abbrev pub step_to : State → Line → Step
-step_to s line = step_of s.store (asked line)
+step_to s line = record (step_of s.store (asked line)) { answer = answer_for line (step_of s.store (asked line)).answer }
 
 abbrev pub answer_to : State → Line → store.Answer
 answer_to s line = (step_to s line).answer
@@ -59,17 +71,18 @@ abbrev pub files_behind : store.Answer → ℕ → ℕ
 files_behind (store.Number n) files = files + 1
 files_behind answer files = files
 
--- no other line makes a file
-abbrev pub files_after : Line → store.Answer → ℕ → ℕ
-files_after lines.Rotate answer files = files_behind answer files
-files_after lines.Flush answer files = files_behind answer files
-files_after line answer files = files
+-- A merge makes a file by each of its calls, whatever it is answered; and no other line makes one.
+abbrev pub files_after : Line → Step → ℕ → ℕ
+files_after lines.Rotate x files = files_behind x.answer files
+files_after lines.Flush x files = files_behind x.answer files
+files_after (lines.Plan name) x files = files + x.calls
+files_after line x files = files
 
 abbrev pub state_after : State → Line → State
 state_after s line = record {
   store = (step_to s line).state;
   calls = after_calls (step_to s line).calls s.calls;
-  files = files_after line (answer_to s line) s.files;
+  files = files_after line (step_to s line) s.files;
   openable = s.openable;
 }
 
@@ -99,7 +112,7 @@ answer_text (store.Conflict key number) = text_of (answers.Conflict key number)
 answer_text (store.Full length frame) = text_of answers.Full
 answer_text (store.Exhausted counter) = text_of (answers.Exhausted counter)
 answer_text store.Idle = text_of answers.Idle
-answer_text (store.Raced key) = []
+answer_text (store.Raced key) = text_of (answers.Raced key)
 answer_text (store.Rejected segment) = []
 answer_text store.NoRewrite = []
 answer_text (store.Found count) = []
@@ -131,6 +144,7 @@ as_told (answers.Conflict key number) = store.Conflict key number
 as_told answers.Full = store.Full 0 0
 as_told (answers.Exhausted counter) = store.Exhausted counter
 as_told answers.Idle = store.Idle
+as_told (answers.Raced key) = store.Raced key
 
 -- the same but for the lengths
 abbrev pub without_lengths : store.Answer → store.Answer

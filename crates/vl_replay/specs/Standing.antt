@@ -8,7 +8,6 @@ use Rattle.vl_engine.specs.Represents.{IsLive}
 use Rattle.vl_engine.specs.declared.txn.Txn.{Txn}
 use Rattle.vl_engine.specs.Sees.{Sees, SeesAlone, asked, asked_view}
 use Rattle.vl_layout.specs.Rulings.Commit.{Transaction as ATxn}
-use Rattle.vl_layout.specs.Sources.{tables}
 use Rattle.vl_layout.specs.Store.Lines.{Name}
 use Rattle.vl_layout.specs.Store.Things as store
 use Rattle.vl_layout.specs.Store.Things.{AJob, APass, ATransaction, AView, thing_in}
@@ -17,6 +16,7 @@ use Rattle.vl_model.specs.History.{History}
 use Rattle.vl_model.specs.Keys.{key_cmp, tagged}
 use Rattle.vl_model.specs.declared.change.Change.{Change}
 use Rattle.vl_model.specs.declared.change.Change.TheVariants as changes
+use Rattle.vl_replay.specs.Readers.{IsReader, IsWithoutTables}
 use Rattle.vl_replay.specs.declared.fails.Halt.{Halt}
 use Rattle.vl_replay.specs.declared.fails.Halt.TheVariants as halts
 use Rattle.vl_replay.specs.declared.replayer.open.Open.{Open}
@@ -52,22 +52,23 @@ ticket_of (AJob job made) = 0
 ticket_of (APass pass batch) = 0
 
 -- A transaction is the one of the store: it made the same reads and writes, which it sees; it is live, and reads no file where the
--- layout has no tables. So it is with a view.
+-- layout has no tables, and had none. So it is with a view.
 pub record IsTransaction {H R : Type 0} (bytes : H → Option (List ℕ)) (txn : Txn H R) (t : ATxn) (h : History) (l : Layout)
     : Type 0 where
   pub same : asked txn t.reads ≡ t
   pub sees : Sees bytes txn h t.reads
   pub live : IsLive l txn.ticket txn.number
-  pub near : tables l ≡ [] → IsInMemory txn.version
+  pub near : IsWithoutTables l → IsInMemory txn.version
 
--- nothing, on both sides, or the same
+-- nothing that reads, on both sides, or the same
 -- It may read as far back as the store's may.
 abbrev pub Corresponds : {H R : Type 0} → (H → Option (List ℕ)) → History → Layout → Option (Thing H R) → Option store.Thing → Type 0
 Corresponds bytes h l None None = Unit {0}
+Corresponds bytes h l None (Some (AJob job made)) = Unit {0}
 Corresponds bytes h l (Some (Transaction txn)) (Some (ATransaction t b)) = IsTransaction bytes txn t h l × (beginning txn.past ≡ b)
 Corresponds bytes h l (Some (View view)) (Some (AView v b)) =
     (asked_view view ≡ v) × SeesAlone bytes view h × IsLive l view.ticket view.number
-    × (tables l ≡ [] → IsInMemory view.version) × (beginning view.past ≡ b)
+    × (IsWithoutTables l → IsInMemory view.version) × (beginning view.past ≡ b)
 Corresponds bytes h l x y = ⊥
 
 -- no name is there twice
@@ -75,13 +76,13 @@ abbrev pub AreOnce : {H R : Type 0} → List (Open H R) → Type 0
 AreOnce [] = Unit {0}
 AreOnce (o ∷ os) = (open_in os o.name ≡ None) × AreOnce os
 
--- Each name stands for the same on both sides, and no two have one ticket.
+-- Each name stands for the same reader on both sides, and no two have one ticket.
 pub record Stand {H R : Type 0} (bytes : H → Option (List ℕ)) (opens : List (Open H R)) (ts : List (Name × store.Thing))
     (h : History) (l : Layout) : Type 0 where
   pub each : (name : Name) → Corresponds bytes h l (open_in opens name) (thing_in ts name)
   pub once : AreOnce opens
   pub apart : (name other : Name) (x y : store.Thing) → thing_in ts name ≡ Some x → thing_in ts other ≡ Some y
-      → ticket_of x ≡ ticket_of y → name ≡ other
+      → IsReader x → IsReader y → ticket_of x ≡ ticket_of y → name ≡ other
 
 -- ---- taking a name out
 

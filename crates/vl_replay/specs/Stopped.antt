@@ -45,6 +45,8 @@ pub record Commits (holds : Holding) (before after : State) : Type 0 where
   -- that state has these writes more
   pub writes : Changes
   pub one_more : after.store.commits ≡ with_changes before.store.commits writes
+  -- and no file more
+  pub files : after.files ≡ before.files
 
 -- the disk whose log took so many bytes of the frame
 abbrev pub with_taken : {holds : Holding} {before after : State} → Commits holds before after → ℕ → DiskState
@@ -64,16 +66,19 @@ pub record GivesUpTo (greatest : ℕ) (state : ManifestState) : Type 0 where
 
 -- ---- a step on files that was stopped
 
--- A rotation, a flush or a change of how many versions are kept leaves the commits as they were, also where it was stopped.
-pub record StopsStep (shows : Showing) (before after : State) (now : DiskState) : Type 0 where
+-- A rotation, a flush, a change of how many versions are kept, a merge's plan and its install leave the commits as they were, also
+-- where they were stopped.
+pub record StopsStep (shows : Showing) (before after : State) (passed : ℕ) (now : DiskState) : Type 0 where
   pub same : after.store.commits ≡ before.store.commits
   -- what a crash then leaves shows them,
   pub left : (image : Image) → IsLeft now image → shows image (history_of before) (last_number (history_of before))
-  -- no file passes the number that is said of the state after it,
-  pub numbered : AreNumberedUpTo after.files now
+  -- no file passes this number, which allows one file for each call that passed, and one for that which failed,
+  pub files : ℕ
+  pub few : files ≤ before.files + passed + 1
+  pub numbered : AreNumberedUpTo files now
   -- the manifest that is found on what a crash leaves gives at most the next ones, and has no head above them,
-  pub next : (image : Image) (found : Finds image) → IsLeft now image → GivesUpTo after.files found.opening.state
-  pub head : (image : Image) (found : Finds image) → IsLeft now image → found.opening.state.head ≤ after.files + 1
+  pub next : (image : Image) (found : Finds image) → IsLeft now image → GivesUpTo files found.opening.state
+  pub head : (image : Image) (found : Finds image) → IsLeft now image → found.opening.state.head ≤ files + 1
   -- and what isn't durable is torn by whole pieces
   pub torn : IsTornByPieces now
 
@@ -87,5 +92,7 @@ pub data IsStoppedIn (holds : Holding) (shows : Showing) (before after : State) 
   -- a commit's sync failed behind its append, and the log took all of the frame
   sync_failed : (commits : Commits holds before after) → passed ≡ 1 → made ≡ 2 → now ≡ with_taken commits (length commits.frame)
       → IsStoppedIn holds shows before after passed made now
-  -- a call of a rotation, of a flush or of a change of how many versions are kept failed
-  step_failed : StopsStep shows before after now → IsStoppedIn holds shows before after passed made now
+  -- a call of a rotation, of a flush, of a change of how many versions are kept, or of a merge's plan or install failed
+  -- and no file passes the number that none passes behind the line
+  step_failed : (stops : StopsStep shows before after passed now) → stops.files ≤ after.files
+      → IsStoppedIn holds shows before after passed made now

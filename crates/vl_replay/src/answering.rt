@@ -11,7 +11,7 @@ ghost use Rattle.vl_replay.specs.Durable.{HoldsState, CarriesOut};
 ghost use Rattle.vl_replay.specs.Stored.{IsStopped, IsStored};
 ghost use Rattle.vl_engine.specs.Shown.{Shown};
 ghost use Rattle.vl_replay.specs.Steps.{IsAnswered, IsNext, EndsAtBadLine, PrintsStep, DiskSteps};
-ghost use Rattle.vl_replay.specs.Failing.{IsTableRead, ReaderFailed};
+ghost use Rattle.vl_replay.specs.Failing.{IsTableRead, ReaderFailed, beside};
 ghost use Rattle.vl_replay.specs.Halts.{HaltsByDamage, HaltsByDisk, HaltsByRead, HaltsByReader};
 ghost use Rattle.vl_replay.specs.Reading.{AnswersText, EndsBadly, IsLine, ReadsText};
 ghost use Rattle.vl_replay.specs.declared.fails.Refusal.{Refusal};
@@ -33,18 +33,18 @@ fn execute_line<D: Disk>(
     text: &[u8],
 ) -> Result<Option<Vec<u8>>, Halt>
     requires { TakesLines replayer.old }
-    ensures answers { (s : State) → StandsFor D.Watched D.Held.bytes replayer.old s
-        → IfOk result (λ out. IsAnswered s text.now (StandsFor D.Watched D.Held.bytes replayer.new) (option_map (λ text. text.items) out)) }
-    ensures carries { (s : State) → StandsFor D.Watched D.Held.bytes replayer.old s
+    ensures answers { (s : State) → StandsFor D.Watched D.Writer.Writer D.Held.bytes replayer.old s
+        → IfOk result (λ out. IsAnswered s text.now (StandsFor D.Watched D.Writer.Writer D.Held.bytes replayer.new) (option_map (λ text. text.items) out)) }
+    ensures carries { (s : State) → StandsFor D.Watched D.Writer.Writer D.Held.bytes replayer.old s
         → CarriesOut D.Watched IsStored Shown IsStopped (disk_of replayer.old) (disk_of replayer.new) s
         (state_behind s (exchange_at s text.now)) result }
     ensures cause { HasCause (D.faults (disk_of replayer.old)) (D.faults (disk_of replayer.new)) (HaltsByDisk result) }
     // What a store has isn't damaged, and can be read without its reader unless it has tables. A reader counts its fault.
-    ensures readable { (s : State) → StandsFor D.Watched D.Held.bytes replayer.old s
+    ensures readable { (s : State) → StandsFor D.Watched D.Writer.Writer D.Held.bytes replayer.old s
         → HaltsByRead result → IsTableRead (exchange_at s text.now) }
-    ensures undamaged { (s : State) → StandsFor D.Watched D.Held.bytes replayer.old s → HaltsByDamage result → ⊥ }
-    ensures fault { (s : State) → StandsFor D.Watched D.Held.bytes replayer.old s
-        → HaltsByReader result → ReaderFailed D.Reader.faults }
+    ensures undamaged { (s : State) → StandsFor D.Watched D.Writer.Writer D.Held.bytes replayer.old s → HaltsByDamage result → ⊥ }
+    ensures fault { (s : State) → StandsFor D.Watched D.Writer.Writer D.Held.bytes replayer.old s
+        → HaltsByReader result → ReaderFailed (beside D.Reader.faults D.Writer.faults) }
     ensures met { HaltsByRead result → IsLine text.now }
     ensures reads { IfOk result (λ out. ReadsText text.now (option_map (λ text. text.items) out)) }
     ensures goes_on { OnOk result (TakesLines replayer.new) }
@@ -87,12 +87,12 @@ pub fn answer<K: Sink, D: Disk>(
     on_fault: OnFault,
 ) -> Option<Ending>
     requires { TakesLines replayer.old }
-    ensures printed { (script : Script) → StandsFor D.Watched D.Held.bytes replayer.old script.start
+    ensures printed { (script : Script) → StandsFor D.Watched D.Writer.Writer D.Held.bytes replayer.old script.start
         → answered ≡ line_number script.before
         → IsNext script text.now
         → PrintsStep (Rose (D.faults (disk_of replayer.old)) (D.faults (disk_of replayer.new))) script text.now
-        (StandsFor D.Watched D.Held.bytes replayer.new) result (K.held sink.old) (K.held sink.new) }
-    ensures moves { (s : State) → StandsFor D.Watched D.Held.bytes replayer.old s
+        (StandsFor D.Watched D.Writer.Writer D.Held.bytes replayer.new) result (K.held sink.old) (K.held sink.new) }
+    ensures moves { (s : State) → StandsFor D.Watched D.Writer.Writer D.Held.bytes replayer.old s
         → HoldsState D.Watched IsStored s (disk_of replayer.old)
         → DiskSteps D.Watched IsStored Shown IsStopped (disk_of replayer.old) (disk_of replayer.new) s
         (state_behind s (exchange_at s text.now)) result }
@@ -102,10 +102,10 @@ pub fn answer<K: Sink, D: Disk>(
     ensures not_the_files { (refusal : Refusal) → result ≢ Some (Ending.Refused refusal) }
     ensures not_the_words { result ≢ Some Ending.BadWords }
     // A read fails only where its reader counts it. Wherever the run goes on, the store stands for a state.
-    ensures reader_fault { (s : State) → StandsFor D.Watched D.Held.bytes replayer.old s → result ≡ Some Ending.ReaderFault
-        → ReaderFailed D.Reader.faults }
-    ensures stands { (s : State) → StandsFor D.Watched D.Held.bytes replayer.old s → result ≡ None
-        → (t : State) × StandsFor D.Watched D.Held.bytes replayer.new t }
+    ensures reader_fault { (s : State) → StandsFor D.Watched D.Writer.Writer D.Held.bytes replayer.old s → result ≡ Some Ending.ReaderFault
+        → ReaderFailed (beside D.Reader.faults D.Writer.faults) }
+    ensures stands { (s : State) → StandsFor D.Watched D.Writer.Writer D.Held.bytes replayer.old s → result ≡ None
+        → (t : State) × StandsFor D.Watched D.Writer.Writer D.Held.bytes replayer.new t }
     ensures reads { AnswersText text.now answered result (K.held sink.old) (K.held sink.new) }
     ensures as_meant { EndsAs on_fault result }
     ensures goes_on { result ≡ None → TakesLines replayer.new }

@@ -2,6 +2,7 @@
 #![tactic(auto)]
 
 mod answering;
+mod carrying;
 mod contents;
 mod ending;
 mod fails;

@@ -1,26 +1,43 @@
 //! A script's lines answered, one after the other, over the engine.
+ghost use Rattle.vl_replay.specs.Handed.{CanHandIn};
 
 mod beginning;
 mod committing;
 mod dropping;
 mod lines;
+mod merging;
 pub mod open;
 mod opening;
+pub mod planned;
 mod reading;
 mod stepping;
 mod writing;
 
 use crate::fails::Halt;
 use open::Open;
+use planned::Planned;
+use std::alloc::Global;
 use vl_disk::Disk;
 use vl_engine::Engine;
+use vl_version::Base;
+
+/// A store on a disk, and what reads it under a name.
+#[derive(Drop)]
+pub struct Served<D: Disk> {
+    alloc: Global,
+    engine: Engine<D>,
+    /// The names that transactions and views have. No name stands here twice.
+    opens: Vec<Open<D::Held, D::Reader>>,
+}
 
 /// A store on a disk, which answers a script's lines.
 #[derive(Drop)]
 pub struct Replayer<D: Disk> {
-    engine: Engine<D>,
-    /// The names in use. No name stands here twice.
-    opens: Vec<Open<D::Held, D::Reader>>,
+    served: Served<D>,
+    /// The merge that waits for its install, with a name of its own.
+    planned: Option<Planned<Base<D::Held, D::Reader>, D::Held, D::Writer>>,
     /// Why a line was given no answer, after which none is.
     halted: Option<Halt>,
+    // The merge can be handed in to the engine.
+    ghost handed: { CanHandIn D.Watched D.Writer.Writer served.engine.disk served.engine.merging planned },
 }

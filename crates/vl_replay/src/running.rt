@@ -10,7 +10,7 @@ ghost use Rattle.vl_replay.specs.Endings.{TheDisk, TheSink, TheSource, CountsFau
 ghost use Rattle.std.specs.Option.{option_map};
 ghost use Rattle.vl_disk.specs.Faults.{Rose};
 ghost use Rattle.vl_replay.specs.Runs.{Script, script_of, outside, EndsRun};
-ghost use Rattle.vl_replay.specs.Failing.{ReaderFailed};
+ghost use Rattle.vl_replay.specs.Failing.{ReaderFailed, beside};
 ghost use Rattle.vl_replay.specs.Durable.{HoldsState, DiskEndsFrom};
 ghost use Rattle.vl_replay.specs.Stored.{IsStopped, IsStored};
 ghost use Rattle.vl_engine.specs.Shown.{Shown};
@@ -47,12 +47,12 @@ impl<D: Disk> Progress<D> {
     fn step<S: Source, K: Sink>(&mut self, source: &mut S, sink: &mut K) -> Option<Ending>
         requires { TakesLines self.old.replayer }
         ensures runs { (script : Script)
-            → HasToDo script (kept (StandsFor D.Watched D.Held.bytes self.old.replayer) self.old.buffer self.old.answered)
+            → HasToDo script (kept (StandsFor D.Watched D.Writer.Writer D.Held.bytes self.old.replayer) self.old.buffer self.old.answered)
             (outside S.Source K.Sink source.old sink.old (disk_of self.old.replayer))
             → Steps D.Watched IsStored Shown IsStopped script
             (outside S.Source K.Sink source.old sink.old (disk_of self.old.replayer))
             (outside S.Source K.Sink source.new sink.new (disk_of self.new.replayer))
-            (kept (StandsFor D.Watched D.Held.bytes self.new.replayer) self.new.buffer self.new.answered) result }
+            (kept (StandsFor D.Watched D.Writer.Writer D.Held.bytes self.new.replayer) self.new.buffer self.new.answered) result }
         // A step after which the run goes on leaves less to be read, so that the run ends.
         ensures shorter { result ≡ None
             → length self.new.buffer + S.budget source.new < length self.old.buffer + S.budget source.old }
@@ -62,10 +62,10 @@ impl<D: Disk> Progress<D> {
             (D.faults (disk_of self.old.replayer)) (D.faults (disk_of self.new.replayer)) }
         ensures not_the_files { (refusal : Refusal) → result ≢ Some (Ending.Refused refusal) }
         ensures not_the_words { result ≢ Some Ending.BadWords }
-        ensures reader_fault { (s : State) → StandsFor D.Watched D.Held.bytes self.old.replayer s
-            → result ≡ Some Ending.ReaderFault → ReaderFailed D.Reader.faults }
-        ensures stands { (s : State) → StandsFor D.Watched D.Held.bytes self.old.replayer s → result ≡ None
-            → (t : State) × StandsFor D.Watched D.Held.bytes self.new.replayer t }
+        ensures reader_fault { (s : State) → StandsFor D.Watched D.Writer.Writer D.Held.bytes self.old.replayer s
+            → result ≡ Some Ending.ReaderFault → ReaderFailed (beside D.Reader.faults D.Writer.faults) }
+        ensures stands { (s : State) → StandsFor D.Watched D.Writer.Writer D.Held.bytes self.old.replayer s → result ≡ None
+            → (t : State) × StandsFor D.Watched D.Writer.Writer D.Held.bytes self.new.replayer t }
         ensures reads { (input : List ℕ) (begin : Streams)
             → HasRead input begin (streams S.Source K.Sink source.old sink.old) self.old.buffer self.old.answered
             → ReadsOn input begin (streams S.Source K.Sink source.new sink.new) self.new.buffer self.new.answered result }
@@ -87,11 +87,11 @@ impl<D: Disk> Progress<D> {
     /// Answers the line that was read.
     fn answer<K: Sink>(&mut self, sink: &mut K) -> Option<Ending>
         requires { TakesLines self.old.replayer }
-        ensures printed { (script : Script) → StandsFor D.Watched D.Held.bytes self.old.replayer script.start
+        ensures printed { (script : Script) → StandsFor D.Watched D.Writer.Writer D.Held.bytes self.old.replayer script.start
             → self.old.answered ≡ line_number script.before → IsNext script self.old.line.items
             → PrintsStep (Rose (D.faults (disk_of self.old.replayer)) (D.faults (disk_of self.new.replayer))) script
-            self.old.line.items (StandsFor D.Watched D.Held.bytes self.new.replayer) result (K.held sink.old) (K.held sink.new) }
-        ensures moves { (s : State) → StandsFor D.Watched D.Held.bytes self.old.replayer s
+            self.old.line.items (StandsFor D.Watched D.Writer.Writer D.Held.bytes self.new.replayer) result (K.held sink.old) (K.held sink.new) }
+        ensures moves { (s : State) → StandsFor D.Watched D.Writer.Writer D.Held.bytes self.old.replayer s
             → HoldsState D.Watched IsStored s (disk_of self.old.replayer)
             → DiskSteps D.Watched IsStored Shown IsStopped (disk_of self.old.replayer) (disk_of self.new.replayer) s
             (state_behind s (exchange_at s self.old.line.items)) result }
@@ -104,10 +104,10 @@ impl<D: Disk> Progress<D> {
         ensures not_the_source { option_map culprit_of result ≢ Some TheSource }
         ensures not_the_files { (refusal : Refusal) → result ≢ Some (Ending.Refused refusal) }
         ensures not_the_words { result ≢ Some Ending.BadWords }
-        ensures reader_fault { (s : State) → StandsFor D.Watched D.Held.bytes self.old.replayer s
-            → result ≡ Some Ending.ReaderFault → ReaderFailed D.Reader.faults }
-        ensures stands { (s : State) → StandsFor D.Watched D.Held.bytes self.old.replayer s → result ≡ None
-            → (t : State) × StandsFor D.Watched D.Held.bytes self.new.replayer t }
+        ensures reader_fault { (s : State) → StandsFor D.Watched D.Writer.Writer D.Held.bytes self.old.replayer s
+            → result ≡ Some Ending.ReaderFault → ReaderFailed (beside D.Reader.faults D.Writer.faults) }
+        ensures stands { (s : State) → StandsFor D.Watched D.Writer.Writer D.Held.bytes self.old.replayer s → result ≡ None
+            → (t : State) × StandsFor D.Watched D.Writer.Writer D.Held.bytes self.new.replayer t }
         ensures reads { AnswersText self.old.line.items self.old.answered result (K.held sink.old) (K.held sink.new) }
         ensures as_meant { EndsAs self.old.on_fault result }
         ensures same_mode { self.new.on_fault ≡ self.old.on_fault }
@@ -145,7 +145,7 @@ pub fn replay<S: Source, K: Sink, D: Disk>(
         ⊎ (EndsAtTables D.Watched D.Reader.faults K.Sink disk result.disk sink.old sink.new result.ending
         × (source.new ≡ source.old)) }
     ensures reader_fault { (s : State) → StartsIn D.Watched disk s → result.ending ≡ Ending.ReaderFault
-        → ReaderFailed D.Reader.faults }
+        → ReaderFailed (beside D.Reader.faults D.Writer.faults) }
     ensures not_the_words { result.ending ≢ Ending.BadWords }
     // It says how it ended.
     ensures reported { result.ending ≢ Ending.Stopped }
@@ -187,7 +187,7 @@ pub(crate) fn answer_lines<S: Source, K: Sink, D: Disk>(
     on_fault: OnFault,
 ) -> Ended<D>
     requires { TakesLines replayer }
-    ensures runs { (s : State) (input : List ℕ) → StandsFor D.Watched D.Held.bytes replayer s
+    ensures runs { (s : State) (input : List ℕ) → StandsFor D.Watched D.Writer.Writer D.Held.bytes replayer s
         → S.left source.old ≡ Some input
         → EndsRun D.Watched (DiskEndsFrom D.Watched IsStored Shown IsStopped (disk_of replayer) result.disk s)
         (script_of s 0 input) (outside S.Source K.Sink source.old sink.old (disk_of replayer))
@@ -197,8 +197,8 @@ pub(crate) fn answer_lines<S: Source, K: Sink, D: Disk>(
     ensures disk_faults { CountsFaultsOf TheDisk (Some result.ending) (D.faults (disk_of replayer)) (D.faults result.disk) }
     ensures not_the_files { (refusal : Refusal) → result.ending ≢ Ending.Refused refusal }
     ensures not_the_words { result.ending ≢ Ending.BadWords }
-    ensures reader_fault { (s : State) → StandsFor D.Watched D.Held.bytes replayer s → result.ending ≡ Ending.ReaderFault
-        → ReaderFailed D.Reader.faults }
+    ensures reader_fault { (s : State) → StandsFor D.Watched D.Writer.Writer D.Held.bytes replayer s → result.ending ≡ Ending.ReaderFault
+        → ReaderFailed (beside D.Reader.faults D.Writer.faults) }
     ensures input { (input : List ℕ) → S.left source.old ≡ Some input
         → ReadsInput input (streams S.Source K.Sink source.old sink.old) (streams S.Source K.Sink source.new sink.new)
         result.ending }

@@ -4,6 +4,7 @@ ghost use Rattle.vl_disk.specs.Faults.{HasCause};
 ghost use Rattle.vl_mem.specs.CrashImage.{crash_image};
 ghost use Rattle.vl_mem.specs.StoppingDisk.{state_on};
 ghost use Rattle.vl_mem.specs.contracts.stopping_disk.StoppingDiskWatched.TheImpl as memory;
+ghost use Rattle.vl_mem.specs.contracts.steady_writer.SteadyWriterWriter.TheImpl as writing;
 ghost use Rattle.vl_model.specs.History.{History, last_number};
 ghost use Rattle.vl_replay.specs.Endings.{TheSink, TheSource, CountsFaultsOf, culprit_of, status_of};
 ghost use Rattle.vl_engine.specs.Opening.{IsFault};
@@ -107,7 +108,7 @@ fn begin(
     alloc: Global,
     stop: u32,
 ) -> Result<Replayer<StoppingDisk>, OpenFail<StoppingDisk, SteadyReader>>
-    ensures opened { IfOk result (λ replayer. IsOnTrial stop (StandsFor memory.ghosts all_told replayer) (disk_of replayer)) }
+    ensures opened { IfOk result (λ replayer. IsOnTrial stop (StandsFor memory.ghosts writing.ghosts all_told replayer) (disk_of replayer)) }
     ensures goes_on { IfOk result TakesLines }
     ensures stopped { IfErr result (λ fail. StopsOpening stop fail.why fail.disk) }
 {

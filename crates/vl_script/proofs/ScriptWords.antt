@@ -54,7 +54,7 @@ module _ (rest : Option (Bor (List ℕ))) (more : is_some rest ≡ true) where
   pub alone_of_more : (line : Line) → alone line (words_behind rest) ≡ None
   alone_of_more line = rw (words_behind_begins rest more).2 refl
 
-  -- behind the one word that begin, view, commit and drop want, there is none
+  -- behind the one word that begin, view, commit, drop, plan and install want, there is none
   pub ident_alone_of_more : (name : List ℕ) → ident_alone (name ∷ words_behind rest) ≡ None
   ident_alone_of_more name = rw (words_behind_begins rest more).2 refl
 

@@ -15,10 +15,10 @@ use Rattle.vl_model.specs.Keys.{Row}
 use Rattle.vl_script.specs.Numbers.{number_of}
 use Rattle.vl_script.specs.declared.line.Line.{Line}
 use Rattle.vl_script.specs.declared.line.Line.TheVariants.{Begin, View, Get, Set, SetTagged, GetTagged, GetAt, Scan, Delete, Commit, Drop}
-use Rattle.vl_script.specs.declared.line.Line.TheVariants.{Rotate, Flush, Keep}
+use Rattle.vl_script.specs.declared.line.Line.TheVariants.{Rotate, Flush, Keep, Plan, Install}
 use Rattle.vl_script.specs.declared.answer.Answer.{Answer}
 use Rattle.vl_script.specs.declared.answer.Answer.TheVariants.{Done, Number, Found, FoundTagged, NoValue, Dropped, Rows, Taken, Unknown}
-use Rattle.vl_script.specs.declared.answer.Answer.TheVariants.{ReadOnly, Invalid, TooBig, TooMany, Nothing, Conflict, Full, Idle, Exhausted}
+use Rattle.vl_script.specs.declared.answer.Answer.TheVariants.{ReadOnly, Invalid, TooBig, TooMany, Nothing, Conflict, Full, Idle, Exhausted, Raced}
 
 -- the longest line, in bytes without its end
 abbrev pub longest_line : ℕ
@@ -64,7 +64,7 @@ abbrev pub alone : Line → List (List ℕ) → Option Line
 alone line [] = Some line
 alone line (word ∷ words) = None
 
--- the words behind begin, view, commit and drop
+-- the word behind begin, view, commit, drop, plan and install
 abbrev pub ident_alone : List (List ℕ) → Option (List ℕ)
 ident_alone (name ∷ []) = ident_of name
 ident_alone words = None
@@ -130,7 +130,9 @@ line_of_words (command ∷ words) =
     else (if bytes_eq command (codes "rotate") then alone Rotate words
     else (if bytes_eq command (codes "flush") then alone Flush words
     else (if bytes_eq command (codes "keep") then keep_of words
-    else None))))))))))))))
+    else (if bytes_eq command (codes "plan") then option_map Plan (ident_alone words)
+    else (if bytes_eq command (codes "install") then option_map Install (ident_alone words)
+    else None))))))))))))))))
 
 -- the line that these bytes are, without the line's end
 abbrev pub line_of : List ℕ → Option Line
@@ -179,4 +181,5 @@ text_of Nothing = as_line (codes "nothing")
 text_of (Conflict key number) = as_line (codes "conflict " ++ bytes_text key ++ (32 ∷ []) ++ decimal number)
 text_of Full = as_line (codes "full")
 text_of Idle = as_line (codes "idle")
+text_of (Raced key) = as_line (codes "raced " ++ bytes_text key)
 text_of (Exhausted counter) = as_line (codes "exhausted " ++ counter_text counter)

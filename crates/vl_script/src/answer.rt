@@ -36,8 +36,10 @@ pub enum Answer {
     Conflict { key: Key, number: u64 },
     /// `full`: the log has no room for the commit.
     Full,
-    /// `idle`: there is nothing to seal or to write.
+    /// `idle`: there is nothing to seal, to write or to merge.
     Idle,
+    /// `raced K`: the least key of which a merge dropped a deletion and a value was moved meanwhile.
+    Raced { key: Key },
     /// `exhausted W`: there is no next number of this kind.
     Exhausted { counter: Counter },
 }

@@ -1,6 +1,6 @@
 use vl_model::{Bytes, Way};
 
-/// A name that a script gives to a transaction or a view: 1 to 16 of `a` to `z` and `0` to `9`.
+/// A name that a script gives to a transaction, a view or a merge: 1 to 16 of `a` to `z` and `0` to `9`.
 pub type Ident = Bytes;
 
 /// A line of a script, as docs/SCRIPT.md spells it. Its key and its value have any length.
@@ -61,7 +61,7 @@ pub enum Line {
     Commit {
         name: Ident,
     },
-    /// `drop X`: ends a transaction or a view, and nothing of it stays.
+    /// `drop X`: ends a transaction, a view or a merge, and nothing of it stays.
     Drop {
         name: Ident,
     },
@@ -69,6 +69,14 @@ pub enum Line {
     Rotate,
     /// `flush`: writes the entries of the log that was sealed first to a table.
     Flush,
+    /// `plan J`: merges the tables of the level that is due first into files beside them.
+    Plan {
+        name: Ident,
+    },
+    /// `install J`: puts a merge's tables into the place of those that it merged.
+    Install {
+        name: Ident,
+    },
     /// `keep V`: says how many of the newest versions of a key merges are to keep, with V from 0 to 255.
     Keep {
         versions: u8,

@@ -48,6 +48,10 @@ pub fn parse_line(alloc: Global, text: &[u8]) -> Result<Option<Line>, AllocError
         Ok(parse_alone(rest, Line::Flush))
     } else if command == b"keep".as_slice() {
         Ok(parse_keep(rest))
+    } else if command == b"plan".as_slice() {
+        Ok(parse_ident_alone(alloc, rest)?.map(|name| Line::Plan { name }))
+    } else if command == b"install".as_slice() {
+        Ok(parse_ident_alone(alloc, rest)?.map(|name| Line::Install { name }))
     } else {
         Ok(None)
     }

@@ -2,7 +2,7 @@ ghost use Rattle.std.specs.Prelude.{◌≡◌, ◌+◌, ◌≤◌, ◌++◌, ◌
 ghost use Rattle.std.specs.Prelude.{IsOk, IfOk, OnOk};
 ghost use Rattle.std.specs.Fmt.{decimal};
 ghost use Rattle.vl_script.specs.Script.{bytes_text, counter_text, row_text, rows_text, text_of};
-ghost use Rattle.vl_script.specs.declared.answer.Answer.TheVariants.{Conflict, Done, Found, FoundTagged, Number};
+ghost use Rattle.vl_script.specs.declared.answer.Answer.TheVariants.{Conflict, Done, Found, FoundTagged, Number, Raced};
 
 use crate::Answer;
 use std::alloc::{AllocError, Global};
@@ -37,6 +37,7 @@ pub fn print_answer(alloc: Global, text: &mut Vec<u8>, answer: &Answer) -> Resul
         Answer::Conflict { key, number } => print_conflict(alloc, text, key, *number),
         Answer::Full => print_line(text, b"full", b""),
         Answer::Idle => print_line(text, b"idle", b""),
+        Answer::Raced { key } => print_raced(alloc, text, key),
         Answer::Exhausted { counter } => {
             print_line(text, b"exhausted ", counter_name(*counter).as_bytes())
         }
@@ -114,6 +115,15 @@ fn print_conflict(
     text.extend_from_slice(b"conflict ")?;
     push_bytes(alloc, text, key)?;
     print_number(text, b" ", number)
+}
+
+fn print_raced(alloc: Global, text: &mut Vec<u8>, key: &Key) -> Result<(), AllocError>
+    ensures { OnOk result (text.new.items ≡ text.old.items ++ text_of (Raced key.now)) }
+{
+    text.extend_from_slice(b"raced ")?;
+    push_bytes(alloc, text, key)?;
+    text.push(b'\n')?;
+    Ok(())
 }
 
 // Both parts, and the line's end.

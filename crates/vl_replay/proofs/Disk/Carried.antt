@@ -97,7 +97,8 @@ module _ {D H R : Type 0} (g : Ghosts D) (watched : IsWatched g) (bytes : H → 
             })
             (its_tidy bytes seen core os s x result makes);
         no_commit = λ out. (s, refl, refl, held.there);
-        unread = λ halts. held;
+        unread = λ halts. (s, refl, refl, held.there);
+        unchanged = λ halts same. held;
         tells = opens_again g watched IsStored Shown IsStopped shown_stays stored_exactly s disk held;
         through = rests_until g watched IsStored Shown IsStopped shown_stays stored_exactly s (history_of (state_by s x))
             (extends_same (history_of s) (history_of (state_by s x)) (ap history_in keeps.commits)) disk held;

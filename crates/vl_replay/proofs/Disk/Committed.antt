@@ -247,7 +247,8 @@ module _ {D H R : Type 0} (g : Ghosts D) (bytes : H → Option (List ℕ)) (befo
         record {
           answered = answered;
           no_commit = short;
-          unread = unread;
+          unread = λ halts. (s, refl, refl, (unread halts).there);
+          unchanged = λ halts same. unread halts;
           tells = carried.again stands.running;
           through = subst (λ (k : History). CrashesShow g Shown old new (history_of s) k) (sym its_history)
               (carried.through stands.running);
@@ -362,6 +363,7 @@ module _ {D H R : Type 0} (g : Ghosts D) (bytes : H → Option (List ℕ)) (befo
                 stored.next stored.next_log stored.next_drawn;
             writes = t.writes;
             one_more = ap (λ (x : Step). x.state.commits) step_then;
+            files = refl;
           }
 
       all_calls : after_calls (committing s name t b).calls s.calls ≡ after_calls 2 s.calls

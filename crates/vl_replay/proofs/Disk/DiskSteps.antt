@@ -1,5 +1,5 @@
 -- What a line, and a run of lines, does to a disk that holds the state before it: by what is held and shown, whatever these are.
-use Rattle.std.proofs.Common.{◌≡◌, ◌⊎◌, ⊎_elim, inl, inr, ℕ, zero, suc, ◌≤◌, List, [], ◌∷◌, take, Option, None, Some, IsTrue, refl, sym, ◌∙◌, subst, arith}
+use Rattle.std.proofs.Common.{◌≡◌, ◌⊎◌, ⊎_elim, inl, inr, ℕ, zero, suc, ◌≤◌, List, [], ◌∷◌, take, Option, None, Some, IsTrue, refl, ap, sym, ◌∙◌, subst, arith}
 use Rattle.std.specs.Option.{option_map}
 use Rattle.vl_model.specs.History.{Extends, History, last_number}
 use Rattle.vl_disk.specs.declared.watched.Watched.{Ghosts}
@@ -13,8 +13,8 @@ use Rattle.vl_script.specs.Script.{line_of}
 use Rattle.vl_replay.specs.Sequential.{State, state_after, history_of}
 use Rattle.vl_replay.specs.Exchanges.{Exchange, exchange_at, exchanged, state_behind, exchanges_from, and_later, last_state}
 use Rattle.vl_replay.specs.Between.{Showing, ShowsBetween, Stopping}
-use Rattle.vl_replay.specs.Endings.{CutsAnswer, IsBetweenLines, TheDisk, culprit_of}
-use Rattle.vl_replay.specs.Durable.{DiskEnds, GoesAlong, CrashesShow, Holding, HoldsCommits, HoldsCounted, HoldsState, Leaves, LeavesItsHistory, StaysShown, StopsWithin, Tells}
+use Rattle.vl_replay.specs.Endings.{CutsAnswer, IsBetweenLines, TheDisk, TheReader, culprit_of}
+use Rattle.vl_replay.specs.Durable.{DiskEnds, GoesAlong, CrashesShow, Holding, HoldsCommits, HoldsCounted, HoldsState, Leaves, LeavesItsHistory, StaysShown, StopsWithin, Tells, without_merges}
 use Rattle.vl_replay.specs.declared.ending.Ending.{Ending}
 use Rattle.vl_replay.specs.declared.ending.Ending.TheVariants.{NoMemory}
 use Rattle.vl_replay.proofs.Disk.Betweens.{extends_itself, extends_then, between_wider, between_exactly}
@@ -108,7 +108,7 @@ module _ {D : Type 0} (g : Ghosts D) (watched : IsWatched g) (holds : Holding) (
 
   -- whatever was counted
   pub its_commits : (s : State) (disk : D) → HoldsCounted g holds s disk → HoldsCommits g holds s disk
-  its_commits s disk (u, history, layout, calls, files, held) = (u, history, layout, held.there)
+  its_commits s disk (u, history, layout, calls, files, held) = (u, history, ap without_merges layout, held.there)
 
   -- a store may be opened on it
   pub opens_again : (s : State) (disk : D) → HoldsState g holds s disk → Tells g disk MayOpen
@@ -122,14 +122,17 @@ module _ {D : Type 0} (g : Ghosts D) (watched : IsWatched g) (holds : Holding) (
   pub ends_within : (old new : D) (ending : Ending) (least most : State) → CrashesShow g shows old new (history_of least) (history_of most) → Tells g new MayOpen
       → ((Rose (g.faults old) (g.faults new) → ⊥) → HoldsCommits g holds least new ⊎ HoldsCommits g holds most new)
       → (ending ≡ NoMemory → HoldsCommits g holds least new) → (IsBetweenLines (culprit_of ending) → HoldsCounted g holds least new) → (CutsAnswer ending → HoldsCounted g holds most new)
+      → (culprit_of ending ≡ TheReader → HoldsCommits g holds least new) → (culprit_of ending ≡ TheReader → most.files ≡ least.files → HoldsCounted g holds least new)
       → (culprit_of ending ≡ TheDisk → IsTrue g.fails_cleanly → StopsWithin g stops least most old new)
       → DiskEnds g holds shows stops ⊥ ⊥ old new (record { ending = ending; first = least; answered = []; most = most })
-  ends_within old new ending least most goes tells settled no_memory whole cut stopped = record {
+  ends_within old new ending least most goes tells settled no_memory whole cut unread unchanged stopped = record {
     crash_during = goes;
     line_by_line = tt;
     crash_after = at_end old new (history_of least) (history_of most) goes tells;
     without_fault = λ sound. inr (settled sound);
     no_memory = λ out. inr (no_memory out);
+    unread = unread;
+    unchanged = unchanged;
     between_lines = whole;
     answer_cut = cut;
     again = tells;
@@ -139,7 +142,8 @@ module _ {D : Type 0} (g : Ghosts D) (watched : IsWatched g) (holds : Holding) (
   -- it still holds what it held
   pub ends_unchanged : (old new : D) (ending : Ending) (least most : State) → CrashesShow g shows old new (history_of least) (history_of most) → Tells g new MayOpen → HoldsCounted g holds least new
       → (CutsAnswer ending → HoldsCounted g holds most new) → (culprit_of ending ≡ TheDisk → ⊥) → DiskEnds g holds shows stops ⊥ ⊥ old new (record { ending = ending; first = least; answered = []; most = most })
-  ends_unchanged old new ending least most goes tells held cut sound = ends_within old new ending least most goes tells (λ sound. inl (its_commits least new held)) (λ out. its_commits least new held) (λ whole. held) cut (λ fault. absurd (sound fault))
+  ends_unchanged old new ending least most goes tells held cut sound = ends_within old new ending least most goes tells (λ sound. inl (its_commits least new held)) (λ out. its_commits least new held) (λ whole. held) cut
+      (λ by. its_commits least new held) (λ by same. held) (λ fault. absurd (sound fault))
 
   -- the disk was left alone
   pub ends_untouched : (s most : State) → Extends (history_of s) (history_of most) → (disk : D) (ending : Ending) → LeavesDisk ending → HoldsState g holds s disk
@@ -159,6 +163,8 @@ module _ {D : Type 0} (g : Ghosts D) (watched : IsWatched g) (holds : Holding) (
         crash_after = at_end new new (history_of e.after) (history_of e.after) rest (opens_again e.after new held);
         without_fault = λ sound. inr (inl (its_commits e.after new there));
         no_memory = λ out. inr (its_commits e.after new there);
+        unread = λ by. its_commits e.after new there;
+        unchanged = λ by same. there;
         between_lines = λ whole. there;
         answer_cut = λ cuts. there;
         again = opens_again e.after new held;
@@ -212,6 +218,8 @@ module _ {D : Type 0} (g : Ghosts D) (watched : IsWatched g) (holds : Holding) (
             (λ (never : ⊥). absurd never)
             (λ (held : HoldsCommits g holds (last_state before answered) new). inr (moved held))
             (ends.no_memory out);
+        unread = λ by. moved (ends.unread by);
+        unchanged = λ by same_files. counted (ends.unchanged by (same_files ∙ sym (ap (λ (s : State). s.files) same)));
         between_lines = λ between. counted (ends.between_lines between);
         answer_cut = ends.answer_cut;
         again = ends.again;

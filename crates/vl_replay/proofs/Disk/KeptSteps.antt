@@ -149,7 +149,7 @@ module _ {D H R : Type 0} (g : Ghosts D) (watched : IsWatched g) (bytes : H → 
         exactly : ShowsBetween Shown h h image → Shown image h (last_number h)
         exactly (m, low, high, shown) = let same : m ≡ last_number h = omega (arith, low, high) in subst (Shown image h) same shown
 
-    stops_step : (stops : StopsKeep) (now : DiskState) → g.told new ≡ Some now → StopsStep Shown s behind now
+    stops_step : (stops : StopsKeep) (now : DiskState) → g.told new ≡ Some now → StopsStep Shown s behind 0 now
     stops_step stops now told =
         let near = log_near in
         let table = table_near in
@@ -157,6 +157,8 @@ module _ {D H R : Type 0} (g : Ghosts D) (watched : IsWatched g) (bytes : H → 
         record {
           same = refl;
           left = shows_it now told;
+          files = s.files;
+          few = omega arith;
           numbered = numbered now told;
           next = λ image found left.
               let (log, given, head) = stops.numbers represented now told image found.opening left found.opens in
@@ -168,6 +170,7 @@ module _ {D H R : Type 0} (g : Ghosts D) (watched : IsWatched g) (bytes : H → 
         }
 
     stops_within : StopsKeep → StopsWithin g IsStopped s behind old new
+    unfolding stops_step
     stops_within stops =
         let (now, told, may) = carried.again stands.running in
         record {
@@ -182,7 +185,7 @@ module _ {D H R : Type 0} (g : Ghosts D) (watched : IsWatched g) (bytes : H → 
           calls = stops.calls ∙ ap (after_calls stops.made) held.calls;
           now = now;
           told = told;
-          stopped = step_failed (stops_step stops now told);
+          stopped = step_failed (stops_step stops now told) (omega arith);
         }
 
   module _ (held : HoldsState g IsStored s old) where
@@ -210,6 +213,7 @@ module _ {D H R : Type 0} (g : Ghosts D) (watched : IsWatched g) (bytes : H → 
         answered = answered_of held kept did;
         no_commit = short_of held kept did;
         unread = λ halts. absurd (did.sound halts);
+        unchanged = λ halts same. absurd (did.sound halts);
         tells = (carried held kept did).again stands.running;
         through = through held kept did;
         stopped = λ halts clean. stops_within held kept did (did.stops (keep_failed kept halts));

@@ -124,8 +124,9 @@ module _ {D H R : Type 0} (g : Ghosts D) (watched : IsWatched g) (bytes : H → 
   -- How a step was stopped that makes so many calls. So many of them were made.
   pub record Stops (all : ℕ) : Type 0 where
     pub ruled : r.calls ≡ all
+    -- it makes a file
+    pub one : files_behind (step_told r.answer) s.files ≡ s.files + 1
     pub some : 0 < all
-    pub one_more : then.files ≡ s.files + 1
     pub made : ℕ
     pub most : made ≤ all
     pub calls : g.calls new ≡ after_calls made (g.calls old)
@@ -213,21 +214,22 @@ module _ {D H R : Type 0} (g : Ghosts D) (watched : IsWatched g) (bytes : H → 
           exactly : ShowsBetween Shown h h image → Shown image h (last_number h)
           exactly (m, low, high, shown) = let same : m ≡ last_number h = omega (arith, low, high) in subst (Shown image h) same shown
 
-      stops_step : (stops : Stops all) (now : DiskState) → g.told new ≡ Some now → StopsStep Shown s then now
+      stops_step : (stops : Stops all) (now : DiskState) → g.told new ≡ Some now → StopsStep Shown s then 0 now
       stops_step stops now told =
-          let more = stops.one_more in
           let near = log_near in
           let table = table_near in
           record {
             same = refl;
             left = shows_it now told;
-            numbered = subst (λ (n : ℕ). AreNumberedUpTo n now) (sym more) (numbered_one now told);
+            files = s.files + 1;
+            few = omega arith;
+            numbered = numbered_one now told;
             next = λ image found left.
                 let (log, given, head) = stops.numbers represented now told image found.opening left found.opens in
-                record { log = omega (arith, log, near, more); table = omega (arith, given, table, more) };
+                record { log = omega (arith, log, near); table = omega (arith, given, table) };
             head = λ image found left.
                 let (log, given, head) = stops.numbers represented now told image found.opening left found.opens in
-                omega (arith, head, near, more);
+                omega (arith, head, near);
             torn = stops.torn represented now told;
           }
 
@@ -246,7 +248,7 @@ module _ {D H R : Type 0} (g : Ghosts D) (watched : IsWatched g) (bytes : H → 
             calls = stops.calls ∙ ap (after_calls stops.made) held.calls;
             now = now;
             told = told;
-            stopped = step_failed (stops_step stops now told);
+            stopped = step_failed (stops_step stops now told) (let up = (stops_step stops now told).few in let one = stops.one in omega (arith, up, one));
           }
 
     answered_of : (result : Result (Option ℕ) StepFail) → Did all name result → OnOk (told_step result) (HoldsState g IsStored then new)
@@ -279,6 +281,7 @@ module _ {D H R : Type 0} (g : Ghosts D) (watched : IsWatched g) (bytes : H → 
       answered = answered_of result did;
       no_commit = short_of result did;
       unread = λ halts. absurd (did.sound halts);
+      unchanged = λ halts same. absurd (did.sound halts);
       tells = (carried result did).again stands.running;
       through = through result did;
       stopped = λ halts clean. stops_within result did (did.stops (making.step_failed result halts));

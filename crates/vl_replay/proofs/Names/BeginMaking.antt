@@ -23,7 +23,7 @@ use Rattle.vl_layout.specs.Store.Lines as store_lines
 use Rattle.vl_layout.specs.Store.Lines.{Name}
 use Rattle.vl_layout.specs.Store.Reading.{a_transaction, a_view, begin_as, begun_by}
 use Rattle.vl_layout.specs.Store.Things as store
-use Rattle.vl_layout.specs.Store.Things.{ATransaction, AView, Step, named, only, thing_of, without_thing}
+use Rattle.vl_layout.specs.Store.Things.{AJob, ATransaction, AView, Step, named, only, thing_of, without_thing}
 use Rattle.vl_layout.specs.Tickets.{free_ticket, tickets_of}
 use Rattle.vl_layout.specs.laws.LowShows.{floor-begun}
 use Rattle.vl_layout.specs.declared.layout.Layout.{Layout}
@@ -41,8 +41,10 @@ use Rattle.vl_script.specs.declared.answer.Answer.TheVariants as answers
 use Rattle.vl_script.specs.declared.line.Line.TheVariants as lines
 use Rattle.vl_replay.proofs.Disk.Betweens.{extends_itself}
 use Rattle.vl_replay.proofs.Names.Ending.{begins_transaction, begins_view, ends_so}
-use Rattle.vl_replay.proofs.Names.Making.{itself, its, only_makes}
-use Rattle.vl_replay.proofs.Names.Reading.{no_thing}
+use Rattle.vl_layout.specs.Jobs.{Made}
+use Rattle.vl_layout.specs.declared.job.Job.{Job}
+use Rattle.vl_replay.proofs.Names.Making.{itself, its, none_taken, only_makes}
+use Rattle.vl_replay.proofs.Names.Reading.{no_reader}
 use Rattle.vl_replay.proofs.Names.Serving.{Serves}
 
 begun_ticket : (a b n m : ℕ) → Begun a n ≡ Begun b m → a ≡ b
@@ -105,17 +107,13 @@ module _ {H R : Type 0} (bytes : H → Option (List ℕ)) (seen now : Option Dis
     abbrev by_ruling : Bool → Step
     by_ruling full = begun_by s.store name (thing (beginning_of (by_room full).layout h)) (by_room full) (by_room full).answer
 
-    not_there : open_in os name ≡ None → thing_of s.store name ≡ None
-    not_there free = no_thing H R bytes h l (thing_of s.store name)
-        (subst (λ (o : Option (Thing H R)). Corresponds bytes h l o (thing_of s.store name)) free (stands.names.each name))
-
     abbrev full : Bool
     full = nat_le max_live (length l.live)
 
-    step_is : open_in os name ≡ None → begin_as s.store name thing (thing_of s.store name) ≡ by_ruling full
-    step_is free = ap (begin_as s.store name thing) (not_there free)
+    step_is : thing_of s.store name ≡ None → begin_as s.store name thing (thing_of s.store name) ≡ by_ruling full
+    step_is free = ap (begin_as s.store name thing) free
 
-    pub begin_makes : (free : open_in os name ≡ None) (new : Thing H R) (own number : ℕ)
+    pub begin_makes : (free : thing_of s.store name ≡ None) (new : Thing H R) (own number : ℕ)
         → ((b : Beginning) → b ≡ beginning_of l h → own ≡ ticket → number ≡ last_number h
         → Stand bytes (os ++ record { name = name; thing = new } ∷ []) (named name (thing b ticket (last_number h)) s.store.things) h (begun l ticket (last_number h)))
         → Decides Serving h l (begin_ruling l h) (as_before l l) (Answered (Begun own number)) no_effects
@@ -135,7 +133,7 @@ module _ {H R : Type 0} (bytes : H → Option (List ℕ)) (seen now : Option Dis
               refl,
         )
 
-    pub too_many_makes : (free : open_in os name ≡ None)
+    pub too_many_makes : (free : thing_of s.store name ≡ None)
         → Decides Serving h l (begin_ruling l h) (as_before l l) (Answered begin.TooMany) no_effects
         → MakesStep bytes now after os s (begin_as s.store name thing (thing_of s.store name)) (Ok answers.TooMany)
     too_many_makes free decides =
@@ -149,20 +147,20 @@ module _ {H R : Type 0} (bytes : H → Option (List ℕ)) (seen now : Option Dis
 
   -- ---- begins of either kind
 
-  pub transaction_makes : (name : Name) (free : open_in os name ≡ None) (txn : Txn H R) → IsNew txn → Sees bytes txn h []
+  pub transaction_makes : (name : Name) (bare : thing_of s.store name ≡ None) (free : open_in os name ≡ None) (txn : Txn H R) → IsNew txn → Sees bytes txn h []
       → (tables l ≡ [] → IsInMemory txn.version) → beginning txn.past ≡ beginning_of l h
       → Decides Serving h l (begin_ruling l h) (as_before l l) (Answered (Begun txn.ticket txn.number)) no_effects
       → MakesStep bytes now after (os ++ record { name = name; thing = Transaction txn } ∷ []) s (begin_as s.store name a_transaction (thing_of s.store name)) (Ok (answers.Number txn.number))
-  transaction_makes name free txn new sees near began decides =
-      begin_makes name a_transaction (state_after-sound s (lines.Begin name) stands.sound) free (Transaction txn) txn.ticket txn.number
+  transaction_makes name bare free txn new sees near began decides =
+      begin_makes name a_transaction (state_after-sound s (lines.Begin name) stands.sound) bare (Transaction txn) txn.ticket txn.number
       (λ b is own number. begins_transaction bytes h l os s.store.things stands.names name free stands.engine.fronts.front.lived txn b own number new sees near (began ∙ sym is)) decides
 
-  pub view_makes : (name : Name) (free : open_in os name ≡ None) (view : EngineView H R) → SeesAlone bytes view h
+  pub view_makes : (name : Name) (bare : thing_of s.store name ≡ None) (free : open_in os name ≡ None) (view : EngineView H R) → SeesAlone bytes view h
       → (tables l ≡ [] → IsInMemory view.version) → beginning view.past ≡ beginning_of l h
       → Decides Serving h l (begin_ruling l h) (as_before l l) (Answered (Begun view.ticket view.number)) no_effects
       → MakesStep bytes now after (os ++ record { name = name; thing = View view } ∷ []) s (begin_as s.store name a_view (thing_of s.store name)) (Ok (answers.Number view.number))
-  view_makes name free view sees near began decides =
-      begin_makes name a_view (state_after-sound s (lines.View name) stands.sound) free (View view) view.ticket view.number
+  view_makes name bare free view sees near began decides =
+      begin_makes name a_view (state_after-sound s (lines.View name) stands.sound) bare (View view) view.ticket view.number
       (λ b is own number. begins_view bytes h l os s.store.things stands.names name free stands.engine.fronts.front.lived view b own number sees near (began ∙ sym is)) decides
 
   -- ---- ends
@@ -206,19 +204,23 @@ module _ {H R : Type 0} (bytes : H → Option (List ℕ)) (seen now : Option Dis
 
 -- ---- a name that is in use
 
-some_there : (H R : Type 0) (bytes : H → Option (List ℕ)) (h : History) (l : Layout) (x : Option (Thing H R)) (y : Option store.Thing)
-    → is_some x ≡ true → Corresponds bytes h l x y → (z : store.Thing) × (y ≡ Some z)
+pub some_there : (H R : Type 0) (bytes : H → Option (List ℕ)) (h : History) (l : Layout) (x : Option (Thing H R)) (y : Option store.Thing)
+    → is_some x ≡ true → Corresponds bytes h l x y → is_some y ≡ true
 some_there H R bytes h l None y used is = absurd cc
 some_there H R bytes h l (Some (Transaction txn)) None used is = absurd is
 some_there H R bytes h l (Some (View view)) None used is = absurd is
-some_there H R bytes h l (Some x) (Some z) used is = (z, refl)
+some_there H R bytes h l (Some x) (Some z) used is = refl
+
+there_is : (y : Option store.Thing) → is_some y ≡ true → (z : store.Thing) × (y ≡ Some z)
+there_is None used = absurd cc
+there_is (Some z) used = (z, refl)
 
 pub taken_makes : {H R : Type 0} (bytes : H → Option (List ℕ)) (seen : Option DiskState) (core : Core H) (os : List (Open H R)) (s : State)
     (stands : StandsIn bytes seen core os s)
-    (name : Name) (thing : Beginning → ℕ → ℕ → store.Thing) → is_some (open_in os name) ≡ true
+    (name : Name) (thing : Beginning → ℕ → ℕ → store.Thing) → is_some (thing_of s.store name) ≡ true
     → MakesStep bytes seen core os s (begin_as s.store name thing (thing_of s.store name)) (Ok (answers.Taken name))
 taken_makes {H} {R} bytes seen core os s stands name thing used =
-    let (z, there) = some_there H R bytes (history_of s) s.store.layout (open_in os name) (thing_of s.store name) used (stands.names.each name) in
+    let (z, there) = there_is (thing_of s.store name) used in
     only_makes bytes seen core os s stands os (begin_as s.store name thing (thing_of s.store name)) (answers.Taken name) (store_lines.Taken name)
     (ap (begin_as s.store name thing) there) refl stands.names
 
@@ -233,3 +235,21 @@ module _ {H R : Type 0} (os slice : List (Open H R)) (value : slice ≡ os) (q n
 
   pub free_of : test ≡ false → open_in os name ≡ None
   free_of it = none_or_some (open_in os name) (tested ∙ it)
+
+-- a name that no reader has and no merge stands for nothing
+pub bare_of : {H R : Type 0} (bytes : H → Option (List ℕ)) (h : History) (l : Layout) (o : Option (Thing H R)) (y : Option store.Thing) → o ≡ None
+    → Corresponds bytes h l o y → ((job : Job) (made : Made) → y ≡ Some (AJob job made) → ⊥) → y ≡ None
+bare_of {H} {R} bytes h l o y none is no_merge =
+    no_reader H R bytes h l (λ (z : Option store.Thing). y ≡ z → y ≡ None) y (subst (λ (x : Option (Thing H R)). Corresponds bytes h l x y) none is)
+    (λ same. same) (λ job made same. absurd (no_merge job made same)) refl
+
+-- it is told that it stands for nothing
+pub unnamed_makes : {H R : Type 0} (bytes : H → Option (List ℕ)) (seen : Option DiskState) (core : Core H) (os : List (Open H R)) (s : State)
+    (stands : StandsIn bytes seen core os s) (left : List (Open H R)) (name : Name) → IsTaken os left name None
+    → ((job : Job) (made : Made) → thing_of s.store name ≡ Some (AJob job made) → ⊥)
+    → (x : Option store.Thing → Step) → x None ≡ only (store_lines.Unknown name) s.store
+    → MakesStep bytes seen core left s (x (thing_of s.store name)) (Ok (answers.Unknown name))
+unnamed_makes bytes seen core os s stands left name taken none x is =
+    only_makes bytes seen core os s stands left (x (thing_of s.store name)) (answers.Unknown name) (store_lines.Unknown name)
+    (ap x (bare_of bytes (history_of s) s.store.layout (open_in os name) (thing_of s.store name) taken.found (stands.names.each name) none) ∙ is) refl
+    (none_taken bytes (history_of s) s.store.layout os left s.store.things name stands.names taken)

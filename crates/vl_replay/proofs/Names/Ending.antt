@@ -32,12 +32,14 @@ use Rattle.vl_layout.specs.Tickets.{free_ticket, tickets_of}
 use Rattle.vl_layout.specs.declared.layout.Layout.{Layout}
 use Rattle.vl_model.specs.History.{Extends, History, last_number}
 use Rattle.vl_model.specs.laws.ExplainedLaws.{explained-extends}
+use Rattle.vl_replay.specs.Readers.{IsReader, IsWithoutTables}
 use Rattle.vl_replay.specs.Standing.{Corresponds, IsTaken, Stand, open_in, ticket_of}
 use Rattle.vl_replay.specs.declared.replayer.open.Open.{Open}
 use Rattle.vl_replay.specs.declared.replayer.open.Thing.{Thing}
 use Rattle.vl_replay.specs.declared.replayer.open.Thing.TheVariants.{Transaction, View}
 use Rattle.vl_replay.proofs.Disk.Betweens.{extends_itself, last-extends}
 use Rattle.vl_replay.proofs.Names.Lookups.{taken_none}
+use Rattle.vl_replay.proofs.Names.Reading.{it_reads}
 use Rattle.vl_replay.proofs.Names.Standings.{stands_with, stands_without}
 
 -- nothing is written at first
@@ -50,18 +52,21 @@ no_entries = none (entries (empty {K = List ℕ} {X = Change} {R = key_cmp})) (s
 
 -- a thing's ticket is live
 live_of : {H R : Type 0} (bytes : H → Option (List ℕ)) (h : History) (l : Layout) (x : Option (Thing H R)) (y : store.Thing)
-    → Corresponds bytes h l x (Some y) → (number : ℕ) × IsLive l (ticket_of y) number
-live_of bytes h l None y is = absurd is
-live_of bytes h l (Some (Transaction txn)) (ATransaction t b) (is, began) =
+    → Corresponds bytes h l x (Some y) → IsReader y → (number : ℕ) × IsLive l (ticket_of y) number
+live_of bytes h l None (ATransaction t b) is reads = absurd is
+live_of bytes h l None (AView v b) is reads = absurd is
+live_of bytes h l None (AJob job made) is reads = absurd reads
+live_of bytes h l None (APass pass batch) is reads = absurd reads
+live_of bytes h l (Some (Transaction txn)) (ATransaction t b) (is, began) reads =
     (txn.number, subst (λ (u : ATxn). IsLive l u.ticket txn.number) is.same is.live)
-live_of bytes h l (Some (Transaction txn)) (AView v b) is = absurd is
-live_of bytes h l (Some (Transaction txn)) (AJob job made) is = absurd is
-live_of bytes h l (Some (Transaction txn)) (APass pass batch) is = absurd is
-live_of bytes h l (Some (View view)) (AView v b) (same, sees, live, near, began) =
+live_of bytes h l (Some (Transaction txn)) (AView v b) is reads = absurd is
+live_of bytes h l (Some (Transaction txn)) (AJob job made) is reads = absurd is
+live_of bytes h l (Some (Transaction txn)) (APass pass batch) is reads = absurd is
+live_of bytes h l (Some (View view)) (AView v b) (same, sees, live, near, began) reads =
     (view.number, subst (λ (w : _). IsLive l w view.number) (ap (λ w. w.ticket) same) live)
-live_of bytes h l (Some (View view)) (ATransaction t b) is = absurd is
-live_of bytes h l (Some (View view)) (AJob job made) is = absurd is
-live_of bytes h l (Some (View view)) (APass pass batch) is = absurd is
+live_of bytes h l (Some (View view)) (ATransaction t b) is reads = absurd is
+live_of bytes h l (Some (View view)) (AJob job made) is reads = absurd is
+live_of bytes h l (Some (View view)) (APass pass batch) is reads = absurd is
 
 -- What is seen stays seen, whatever is committed later.
 shows_later : {H : Type 0} (bytes : H → Option (List ℕ)) (version : Version H) (past : Past) (h k : History) (number : ℕ) → Extends h k
@@ -99,22 +104,22 @@ alone_later bytes view h k more sees = record {
 
 module _ {H R : Type 0} (bytes : H → Option (List ℕ)) (h k : History) (l m : Layout) (more : Extends h k)
     -- there are tables still, where there were some
-    (bare : tables m ≡ [] → tables l ≡ [])
+    (bare : IsWithoutTables m → IsWithoutTables l)
     -- what lives on
     (ticket_lives : ℕ → Type 0) (lives : (ticket number : ℕ) → ticket_lives ticket → IsLive l ticket number → IsLive m ticket number) where
-  pub still_stands : (x : Option (Thing H R)) (y : Option store.Thing) → ((z : store.Thing) → y ≡ Some z → ticket_lives (ticket_of z))
+  pub still_stands : (x : Option (Thing H R)) (y : Option store.Thing) → ((z : store.Thing) → y ≡ Some z → IsReader z → ticket_lives (ticket_of z))
       → Corresponds bytes h l x y → Corresponds bytes k m x y
   still_stands None None on is = tt
   still_stands None (Some (ATransaction t b)) on is = absurd is
   still_stands None (Some (AView v b)) on is = absurd is
-  still_stands None (Some (AJob job made)) on is = absurd is
+  still_stands None (Some (AJob job made)) on is = tt
   still_stands None (Some (APass pass batch)) on is = absurd is
   still_stands (Some (Transaction txn)) None on is = absurd is
   still_stands (Some (Transaction txn)) (Some (ATransaction t b)) on (is, began) = (
     (record {
       same = is.same;
       sees = sees_later bytes txn h k t.reads more is.sees;
-      live = lives txn.ticket txn.number (subst (λ (u : ATxn). ticket_lives u.ticket) (sym is.same) (on (ATransaction t b) refl)) is.live;
+      live = lives txn.ticket txn.number (subst (λ (u : ATxn). ticket_lives u.ticket) (sym is.same) (on (ATransaction t b) refl tt)) is.live;
       near = λ none. is.near (bare none);
     }),
     began,
@@ -126,7 +131,7 @@ module _ {H R : Type 0} (bytes : H → Option (List ℕ)) (h k : History) (l m :
   still_stands (Some (View view)) (Some (AView v b)) on (same, sees, live, near, began) = (
     same,
     alone_later bytes view h k more sees,
-    lives view.ticket view.number (subst (λ (w : LayoutView). ticket_lives w.ticket) (sym same) (on (AView v b) refl)) live,
+    lives view.ticket view.number (subst (λ (w : LayoutView). ticket_lives w.ticket) (sym same) (on (AView v b) refl tt)) live,
     λ none. near (bare none),
     began,
   )
@@ -138,14 +143,14 @@ module _ {H R : Type 0} (bytes : H → Option (List ℕ)) (h k : History) (l m :
 
 module _ {H R : Type 0} (bytes : H → Option (List ℕ)) (h k : History) (l m : Layout) (os left : List (Open H R)) (ts : List (Name × store.Thing))
     (stand : Stand bytes os ts h l) (name : Name) (thing : Thing H R) (taken : IsTaken os left name (Some thing))
-    (x : store.Thing) (there : thing_in ts name ≡ Some x) (more : Extends h k) (bare : tables m ≡ [] → tables l ≡ [])
+    (x : store.Thing) (there : thing_in ts name ≡ Some x) (more : Extends h k) (bare : IsWithoutTables m → IsWithoutTables l)
     (live : m.live ≡ (ended (ticket_of x) l).live) where
   -- The name is free, and the others stand on.
   pub ends_so : Stand bytes left (without_name name ts) k m
   ends_so = stands_without bytes ts h k l m os left stand name (Some thing) taken
       (λ other apart y z at is. still_stands bytes h k l m more bare (λ (ticket : ℕ). ticket ≡ ticket_of x → ⊥)
       (λ ticket number differs lives. subst (λ (xs : List Live). IsLive (record m { live = xs }) ticket number) (sym live) (lives_ended l (ticket_of x) ticket number differs lives))
-      y z (λ u found same. apart (stand.apart other name u x (at ∙ found) there same)) is)
+      y z (λ u found reads same. apart (stand.apart other name u x (at ∙ found) there reads (it_reads bytes h l os left ts name thing x stand taken there) same)) is)
 
 -- ---- begins
 
@@ -162,10 +167,10 @@ module _ {H R : Type 0} (bytes : H → Option (List ℕ)) (h : History) (l : Lay
       → Stand bytes (os ++ record { name = name; thing = new } ∷ []) (named name x ts) h next
   begins_so new x own there = stands_with bytes ts h h l next os os stand name None (taken_none name os stand.once free)
       (λ other apart y z at is. still_stands bytes h h l next (extends_itself h) (λ none. none) (λ (t : ℕ). Unit {0})
-      (λ t number on lives. lives_begun l h lived t number lives) y z (λ u found. tt) is)
+      (λ t number on lives. lives_begun l h lived t number lives) y z (λ u found reads. tt) is)
       new x there
-      (λ other y apart at same.
-      let (number, lives) = live_of bytes h l (open_in os other) y (subst (Corresponds bytes h l (open_in os other)) at (stand.each other)) in
+      (λ other y apart at reads same.
+      let (number, lives) = live_of bytes h l (open_in os other) y (subst (Corresponds bytes h l (open_in os other)) at (stand.each other)) reads in
       begun_was_free l h lived number (subst (λ (t : ℕ). IsLive l t number) (sym same ∙ own) lives))
 
   pub begins_transaction : (txn : Txn H R) (b : Beginning) → txn.ticket ≡ ticket → txn.number ≡ last_number h → IsNew txn → Sees bytes txn h []
@@ -179,7 +184,7 @@ module _ {H R : Type 0} (bytes : H → Option (List ℕ)) (h : History) (l : Lay
           ∙ ap (λ (w : Changes). record { ticket = ticket; number = last_number h; reads = []; writes = w }) (ap (λ (w : Writes). entries w) new.writes ∙ no_entries);
       sees = sees;
       live = subst (λ (n : ℕ). IsLive next n txn.number) (sym own) (subst (IsLive next ticket) (sym number) (begun_lives l h lived));
-      near = near;
+      near = λ none. near none.0;
     }),
     began,
   )
@@ -192,6 +197,6 @@ module _ {H R : Type 0} (bytes : H → Option (List ℕ)) (h : History) (l : Lay
     ap (λ (n : ℕ). record { ticket = n; number = view.number }) own ∙ ap (λ (n : ℕ). record { ticket = ticket; number = n }) number,
     sees,
     subst (λ (n : ℕ). IsLive next n view.number) (sym own) (subst (IsLive next ticket) (sym number) (begun_lives l h lived)),
-    near,
+    λ none. near none.0,
     began,
   )

@@ -1,5 +1,6 @@
 -- Why a line that was carried out was given no answer.
 use Rattle.std.proofs.Common.{◌≡◌, ℕ, arith, subst, sym}
+use Rattle.vl_replay.specs.Failing.{ByReader, ReaderFailed, beside}
 use Rattle.std.specs.Prelude.{Ok, Err, Result}
 use Rattle.vl_disk.specs.Faults.{HasCause}
 use Rattle.vl_disk.specs.declared.name.Name.{Name}
@@ -48,3 +49,7 @@ no_cause before now failed same sound = record {
 -- what wasn't halted by the disk wasn't halted at a file of it
 pub not_at : {T P : Type 0} (result : Result T Halt) → (HaltsByDisk result → ⊥) → (file : Name) → result ≡ Err (why.Disk file) → P
 not_at {T} result sound file is = absurd (sound (subst (λ (r : Result T Halt). HaltsByDisk r) (sym is) tt))
+
+-- what a reader counted
+pub by_the_reader : {R W : Type 0} (reads : R → ℕ) (writes : W → ℕ) → ReaderFailed reads → ReaderFailed (beside reads writes)
+by_the_reader reads writes failed = record { reader = ByReader failed.reader; some = failed.some }

@@ -14,13 +14,13 @@ use Rattle.vl_layout.specs.Decides.{Decides, Effects, Otherwise}
 use Rattle.vl_layout.specs.Ruling.{Ruling, leaving}
 use Rattle.vl_layout.specs.Rulings.Keep as rulings
 use Rattle.vl_layout.specs.Rulings.Keep.{KeepAnswer, keep_ruling, keep_unless, keeping}
-use Rattle.vl_layout.specs.Sources.{tables}
 use Rattle.vl_layout.specs.Store.Dispatch.{keep_by, keep_told}
 use Rattle.vl_layout.specs.declared.file_name.FileName.{FileName}
 use Rattle.vl_layout.specs.declared.layout.Layout.{Layout}
 use Rattle.vl_layout.specs.declared.live.Live.{Live}
 use Rattle.vl_model.specs.History.{History}
 use Rattle.vl_replay.specs.Halts.{HaltsByDisk, HaltsByRead}
+use Rattle.vl_replay.specs.Readers.{IsWithoutTables}
 use Rattle.vl_replay.specs.Replaying.{MakesStep, StandsIn, state_by}
 use Rattle.vl_replay.specs.Sequential.{State, history_of, without_lengths}
 use Rattle.vl_replay.specs.Standing.{Stand, told_keep}
@@ -42,7 +42,7 @@ IsNoHalt rulings.InvalidRequest = Unit {0}
 pub record KeepsOf (l : Layout) (h : History) (r : Ruling KeepAnswer) : Type 0 where
   pub history : r.history ≡ h
   pub live : r.layout.live ≡ l.live
-  pub bare : tables r.layout ≡ [] → tables l ≡ []
+  pub bare : IsWithoutTables r.layout → IsWithoutTables l
   pub running : l.halted ≡ None → r.layout.halted ≡ None
   pub no_halt : l.halted ≡ None → IsNoHalt r.answer
   pub next_log : r.layout.next_log ≡ l.next_log
@@ -109,7 +109,7 @@ module _ {H R : Type 0} (bytes : H → Option (List ℕ)) (seen now : Option Dis
   names_on = record {
     each = λ name. still_stands bytes h h l r.layout (extends_itself h) keeps.bare (λ (ticket : ℕ). Unit {0})
         (λ ticket number on lives. subst (λ (xs : List Live). IsLive (record r.layout { live = xs }) ticket number) (sym keeps.live) lives)
-        _ _ (λ thing found. tt) (stands.names.each name);
+        _ _ (λ thing found reads. tt) (stands.names.each name);
     once = stands.names.once;
     apart = stands.names.apart;
   }

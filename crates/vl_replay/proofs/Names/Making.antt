@@ -13,12 +13,11 @@ use Rattle.vl_engine.specs.declared.view.View.{View as EngineView}
 use Rattle.vl_layout.specs.AtAnswer.{Beginning}
 use Rattle.vl_layout.specs.Rulings.Commit.{Transaction as ATxn}
 use Rattle.vl_layout.specs.Rulings.View.{View as LayoutView}
-use Rattle.vl_layout.specs.Sources.{tables}
 use Rattle.vl_layout.specs.Store.Lines as store_lines
 use Rattle.vl_layout.specs.Store.Lines.{Name}
 use Rattle.vl_layout.specs.Store.Reading.{write_by}
 use Rattle.vl_layout.specs.Store.Things as store
-use Rattle.vl_layout.specs.Store.Things.{ATransaction, AView, Step, only, thing_in, thing_of, without_name}
+use Rattle.vl_layout.specs.Store.Things.{AJob, ATransaction, AView, Step, only, thing_in, thing_of}
 use Rattle.vl_layout.specs.declared.layout.Layout.{Layout}
 use Rattle.vl_model.specs.History.{History}
 use Rattle.vl_model.specs.Reads.{Read}
@@ -28,7 +27,10 @@ use Rattle.vl_txn.specs.Refusals.{IsWritten}
 use Rattle.vl_txn.specs.declared.set_fail.SetFail.{SetFail}
 use Rattle.vl_replay.specs.Replaying.{MakesStep, StandsIn, state_by}
 use Rattle.vl_replay.specs.Sequential.{IsTold, State, history_of}
-use Rattle.vl_replay.specs.Standing.{Corresponds, IsTaken, IsTransaction, Stand, told_write}
+use Rattle.vl_layout.specs.Jobs.{Made}
+use Rattle.vl_layout.specs.declared.job.Job.{Job}
+use Rattle.vl_replay.specs.Readers.{IsWithoutTables}
+use Rattle.vl_replay.specs.Standing.{Corresponds, IsTaken, IsTransaction, Stand, open_in, told_write}
 use Rattle.vl_replay.specs.declared.fails.Halt.{Halt}
 use Rattle.vl_replay.specs.declared.replayer.open.Open.{Open}
 use Rattle.vl_replay.specs.declared.replayer.open.Thing.{Thing}
@@ -37,10 +39,9 @@ use Rattle.vl_replay.specs.laws.Laws.{IsSound, state_after-sound}
 use Rattle.vl_script.specs.declared.answer.Answer.{Answer}
 use Rattle.vl_script.specs.declared.answer.Answer.TheVariants as answers
 use Rattle.vl_script.specs.declared.line.Line.TheVariants as lines
-use Rattle.vl_replay.proofs.Names.Lookups.{thing_gone, thing_left}
 use Rattle.vl_replay.proofs.Names.Quiet.{quiet_stands, write_quiet}
-use Rattle.vl_replay.proofs.Names.Reading.{its_transaction, its_view, named_again, no_thing, put_back, stand_alike}
-use Rattle.vl_replay.proofs.Names.Standings.{same_or_not, stands_without}
+use Rattle.vl_replay.proofs.Names.Reading.{its_transaction, its_view, named_again, no_reader, put_back, stand_alike}
+use Rattle.vl_replay.proofs.Names.Standings.{same_or_not}
 use Rattle.vl_replay.proofs.Names.Writing.{writes_so}
 use Rattle.std.proofs.Common.{⊎_elim}
 
@@ -84,17 +85,19 @@ module _ {H R : Type 0} (bytes : H → Option (List ℕ)) (h : History) (l : Lay
       stand_alike bytes h l (left ++ record { name = name; thing = new } ∷ []) (store.named name x ts) ts (named_again ts name x is)
       (put_back bytes h l os left ts name old new x x stand taken is refl there)
 
-  -- Where the name stood for nothing, all stay.
+  -- Where the name stood for no reader, all stay.
   pub none_taken : (os left : List (Open H R)) (ts : List (Name × store.Thing)) (name : Name)
-      → Stand bytes os ts h l → IsTaken os left name None → thing_in ts name ≡ None → Stand bytes left ts h l
-  none_taken os left ts name stand taken none =
-      stand_alike bytes h l left (without_name name ts) ts alike
-      (stands_without bytes ts h h l l os left stand name None taken (λ other apart x y at is. is))
+      → Stand bytes os ts h l → IsTaken os left name None → Stand bytes left ts h l
+  none_taken os left ts name stand taken = record {
+    each = λ q. subst (λ (o : Option (Thing H R)). Corresponds bytes h l o (thing_in ts q)) (sym (alike q)) (stand.each q);
+    once = taken.once;
+    apart = stand.apart;
+  }
     where
-      alike : (q : Name) → thing_in (without_name name ts) q ≡ thing_in ts q
+      alike : (q : Name) → open_in left q ≡ open_in os q
       alike q = ⊎_elim
-          (λ (same : q ≡ name). subst (λ (p : Name). thing_in (without_name name ts) p ≡ thing_in ts p) (sym same) (thing_gone name ts ∙ sym none))
-          (λ (apart : q ≡ name → ⊥). thing_left name q apart ts)
+          (λ (same : q ≡ name). subst (λ (p : Name). open_in left p ≡ open_in os p) (sym same) (taken.none ∙ sym taken.found))
+          (λ (apart : q ≡ name → ⊥). taken.others q apart)
           (same_or_not q name)
 
 -- ---- steps
@@ -127,18 +130,20 @@ module _ {H R : Type 0} (bytes : H → Option (List ℕ)) (seen : Option DiskSta
       subst (λ (y : Step). MakesStep bytes seen core new s y (Ok told)) (sym same) (is, only_stands new answer names)
 
   module _ (left : List (Open H R)) (name : Name) where
-    -- the name stands for nothing
-    pub nothing_there : IsTaken os left name None → thing_of s.store name ≡ None
-    nothing_there taken =
-        no_thing H R bytes h l (thing_of s.store name)
-        (subst (λ (o : Option (Thing H R)). Corresponds bytes h l o (thing_of s.store name)) taken.found (stands.names.each name))
+    -- the name stands for no reader
+    pub nothing_there : IsTaken os left name None → (P : Option store.Thing → Type 0) → P None → ((job : Job) (made : Made) → P (Some (AJob job made)))
+        → P (thing_of s.store name)
+    nothing_there taken P none merge =
+        no_reader H R bytes h l P (thing_of s.store name)
+        (subst (λ (o : Option (Thing H R)). Corresponds bytes h l o (thing_of s.store name)) taken.found (stands.names.each name)) none merge
 
     pub unknown_makes : IsTaken os left name None → (x : Option store.Thing → Step) → x None ≡ only (store_lines.Unknown name) s.store
+        → ((job : Job) (made : Made) → x (Some (AJob job made)) ≡ only (store_lines.Unknown name) s.store)
         → MakesStep bytes seen core left s (x (thing_of s.store name)) (Ok (answers.Unknown name))
-    unknown_makes taken x is =
-        let none = nothing_there taken in
-        only_makes left (x (thing_of s.store name)) (answers.Unknown name) (store_lines.Unknown name) (ap x none ∙ is) refl
-        (none_taken bytes h l os left ts name stands.names taken none)
+    unknown_makes taken x is merge =
+        only_makes left (x (thing_of s.store name)) (answers.Unknown name) (store_lines.Unknown name)
+        (nothing_there taken (λ (o : Option store.Thing). x o ≡ only (store_lines.Unknown name) s.store) is merge) refl
+        (none_taken bytes h l os left ts name stands.names taken)
 
     module _ (view : EngineView H R) (taken : IsTaken os left name (Some (View view))) where
       there_view : Corresponds bytes h l (Some (View view)) (thing_of s.store name)
@@ -146,7 +151,7 @@ module _ {H R : Type 0} (bytes : H → Option (List ℕ)) (seen : Option DiskSta
 
       -- the view that it stands for
       pub its : (b : Beginning) × (thing_of s.store name ≡ Some (AView (asked_view view) b)) × SeesAlone bytes view h × IsLive l view.ticket view.number
-          × (tables l ≡ [] → IsInMemory view.version) × (beginning view.past ≡ b)
+          × (IsWithoutTables l → IsInMemory view.version) × (beginning view.past ≡ b)
       its = its_view bytes h l view (thing_of s.store name) there_view
 
       pub view_back : (new : EngineView H R) → OnlyReads view new → (SeesAlone bytes view h → SeesAlone bytes new h)

@@ -26,6 +26,9 @@ use Rattle.vl_model.specs.Reads.{KeyRead, Read}
 use Rattle.vl_model.specs.declared.change.Change.{Change}
 use Rattle.vl_txn.specs.Reads.{with_get}
 use Rattle.vl_replay.specs.Standing.{Corresponds, IsTaken, IsTransaction, Stand, open_in, ticket_of}
+use Rattle.vl_layout.specs.Jobs.{Made}
+use Rattle.vl_layout.specs.declared.job.Job.{Job}
+use Rattle.vl_replay.specs.Readers.{IsReader, IsWithoutTables}
 use Rattle.vl_replay.specs.declared.replayer.open.Open.{Open}
 use Rattle.vl_replay.specs.declared.replayer.open.Thing.{Thing}
 use Rattle.vl_replay.specs.declared.replayer.open.Thing.TheVariants.{Transaction, View}
@@ -54,7 +57,7 @@ module _ {H R : Type 0} (bytes : H → Option (List ℕ)) (h : History) (l : Lay
 
   pub its_view : (view : EngineView H R) (y : Option store.Thing) → Corresponds bytes h l (Some (View view)) y
       → (b : Beginning) × (y ≡ Some (AView (asked_view view) b)) × SeesAlone bytes view h × IsLive l view.ticket view.number
-      × (tables l ≡ [] → IsInMemory view.version) × (beginning view.past ≡ b)
+      × (IsWithoutTables l → IsInMemory view.version) × (beginning view.past ≡ b)
   its_view view None is = absurd is
   its_view view (Some (AView v b)) (same, sees, live, near, began) = (b, ap (λ (w : _). Some (AView w b)) (sym same), sees, live, near, began)
   its_view view (Some (ATransaction t b)) is = absurd is
@@ -67,8 +70,25 @@ module _ {H R : Type 0} (bytes : H → Option (List ℕ)) (h : History) (l : Lay
   stand_alike os ts us alike stand = record {
     each = λ q. subst (Corresponds bytes h l (open_in os q)) (alike q) (stand.each q);
     once = stand.once;
-    apart = λ a b x y at_a at_b same. stand.apart a b x y (alike a ∙ at_a) (alike b ∙ at_b) same;
+    apart = λ a b x y at_a at_b reads_x reads_y same. stand.apart a b x y (alike a ∙ at_a) (alike b ∙ at_b) reads_x reads_y same;
   }
+
+  -- what stands for a reader reads
+  its_reader : (x : Thing H R) (y : store.Thing) → Corresponds bytes h l (Some x) (Some y) → IsReader y
+  its_reader (Transaction txn) (ATransaction t b) is = tt
+  its_reader (Transaction txn) (AView v b) is = tt
+  its_reader (Transaction txn) (AJob job made) is = is
+  its_reader (Transaction txn) (APass pass batch) is = is
+  its_reader (View view) (ATransaction t b) is = tt
+  its_reader (View view) (AView v b) is = tt
+  its_reader (View view) (AJob job made) is = is
+  its_reader (View view) (APass pass batch) is = is
+
+  pub it_reads : (os left : List (Open H R)) (ts : List (Name × store.Thing)) (name : Name) (old : Thing H R) (x : store.Thing)
+      → Stand bytes os ts h l → IsTaken os left name (Some old) → thing_in ts name ≡ Some x → IsReader x
+  it_reads os left ts name old x stand taken is =
+      its_reader old x (subst (Corresponds bytes h l (Some old)) is
+      (subst (λ (o : Option (Thing H R)). Corresponds bytes h l o (thing_in ts name)) taken.found (stand.each name)))
 
   -- A name is put back, for the same ticket.
   pub put_back : (os left : List (Open H R)) (ts : List (Name × store.Thing)) (name : Name) (old new : Thing H R) (x y : store.Thing)
@@ -77,16 +97,16 @@ module _ {H R : Type 0} (bytes : H → Option (List ℕ)) (h : History) (l : Lay
       → Stand bytes (left ++ record { name = name; thing = new } ∷ []) (named name y ts) h l
   put_back os left ts name old new x y stand taken is ticket there =
       stands_with bytes ts h h l l os left stand name (Some old) taken (λ other apart a b at same. same) new y there
-      (λ other z apart at same. apart (stand.apart other name z x at is (sym same ∙ sym ticket)))
+      (λ other z apart at reads same. apart (stand.apart other name z x at is reads (it_reads os left ts name old x stand taken is) (sym same ∙ sym ticket)))
 
--- nothing, on both sides
-pub no_thing : (H R : Type 0) (bytes : H → Option (List ℕ)) (h : History) (l : Layout) (y : Option store.Thing)
-    → Corresponds {H = H} {R = R} bytes h l None y → y ≡ None
-no_thing H R bytes h l None is = refl
-no_thing H R bytes h l (Some (ATransaction t b)) is = absurd is
-no_thing H R bytes h l (Some (AView v b)) is = absurd is
-no_thing H R bytes h l (Some (AJob job made)) is = absurd is
-no_thing H R bytes h l (Some (APass pass batch)) is = absurd is
+-- nothing that reads, on both sides: what holds of nothing and of each merge holds of it
+pub no_reader : (H R : Type 0) (bytes : H → Option (List ℕ)) (h : History) (l : Layout) (P : Option store.Thing → Type 0) (y : Option store.Thing)
+    → Corresponds {H = H} {R = R} bytes h l None y → P None → ((job : Job) (made : Made) → P (Some (AJob job made))) → P y
+no_reader H R bytes h l P None is none merge = none
+no_reader H R bytes h l P (Some (ATransaction t b)) is none merge = absurd is
+no_reader H R bytes h l P (Some (AView v b)) is none merge = absurd is
+no_reader H R bytes h l P (Some (AJob job made)) is none merge = merge job made
+no_reader H R bytes h l P (Some (APass pass batch)) is none merge = absurd is
 
 -- ---- a read of a key in a transaction
 

@@ -8,6 +8,7 @@ use Rattle.vl_layout.specs.Store.Things.{named, thing_in, without_name}
 use Rattle.vl_layout.specs.declared.layout.Layout.{Layout}
 use Rattle.vl_model.specs.History.{History}
 use Rattle.vl_model.specs.Keys.{key_cmp}
+use Rattle.vl_replay.specs.Readers.{IsReader}
 use Rattle.vl_replay.specs.Standing.{Corresponds, IsTaken, Stand, open_in, ticket_of}
 use Rattle.vl_replay.specs.declared.replayer.open.Open.{Open}
 use Rattle.vl_replay.specs.declared.replayer.open.Thing.{Thing}
@@ -45,7 +46,7 @@ module _ {H R : Type 0} (bytes : H → Option (List ℕ)) (ts : List (Name × st
         (λ (apart : other ≡ name → ⊥). subst (Corresponds bytes k m (open_in left other)) (sym (thing_left name other apart ts)) (others other apart))
         (same_or_not other name);
     once = taken.once;
-    apart = λ a b x y at_a at_b same. stand.apart a b x y (was a x at_a) (was b y at_b) same;
+    apart = λ a b x y at_a at_b reads_x reads_y same. stand.apart a b x y (was a x at_a) (was b y at_b) reads_x reads_y same;
   }
     where
       none_some : (x : store.Thing) → None ≡ Some x → ⊥
@@ -60,7 +61,7 @@ module _ {H R : Type 0} (bytes : H → Option (List ℕ)) (ts : List (Name × st
 
   -- It stands for this then, whose ticket nothing else has.
   pub stands_with : (new : Thing H R) (x : store.Thing) → Corresponds bytes k m (Some new) (Some x)
-      → ((other : Name) (y : store.Thing) → (other ≡ name → ⊥) → thing_in ts other ≡ Some y → ticket_of x ≡ ticket_of y → ⊥)
+      → ((other : Name) (y : store.Thing) → (other ≡ name → ⊥) → thing_in ts other ≡ Some y → IsReader y → ticket_of x ≡ ticket_of y → ⊥)
       → Stand bytes (left ++ record { name = name; thing = new } ∷ []) (named name x ts) k m
   stands_with new x same_there free = record {
     each = λ other. ⊎_elim
@@ -71,14 +72,14 @@ module _ {H R : Type 0} (bytes : H → Option (List ℕ)) (ts : List (Name × st
         (subst (Corresponds bytes k m (open_in left other)) (sym (thing_beside name other apart x ts)) (others other apart)))
         (same_or_not other name);
     once = once_put left o taken.once taken.none;
-    apart = λ a b y z at_a at_b same. ⊎_elim
+    apart = λ a b y z at_a at_b reads_y reads_z same. ⊎_elim
         (λ (is_a : a ≡ name). ⊎_elim
         (λ (is_b : b ≡ name). is_a ∙ sym is_b)
-        (λ (not_b : b ≡ name → ⊥). absurd (free b z not_b (beside b z not_b at_b) (ap ticket_of (own a y is_a at_a) ∙ same)))
+        (λ (not_b : b ≡ name → ⊥). absurd (free b z not_b (beside b z not_b at_b) reads_z (ap ticket_of (own a y is_a at_a) ∙ same)))
         (same_or_not b name))
         (λ (not_a : a ≡ name → ⊥). ⊎_elim
-        (λ (is_b : b ≡ name). absurd (free a y not_a (beside a y not_a at_a) (ap ticket_of (own b z is_b at_b) ∙ sym same)))
-        (λ (not_b : b ≡ name → ⊥). stand.apart a b y z (beside a y not_a at_a) (beside b z not_b at_b) same)
+        (λ (is_b : b ≡ name). absurd (free a y not_a (beside a y not_a at_a) reads_y (ap ticket_of (own b z is_b at_b) ∙ sym same)))
+        (λ (not_b : b ≡ name → ⊥). stand.apart a b y z (beside a y not_a at_a) (beside b z not_b at_b) reads_y reads_z same)
         (same_or_not b name))
         (same_or_not a name);
   }

@@ -1,5 +1,6 @@
 -- What rotations and flushes make: they leave the commits and what lives.
-use Rattle.std.proofs.Common.{◌≡◌, ◌≤◌, ◌+◌, ℕ, Bool, true, false, cond, List, [], ◌∷◌, refl, ap, sym, ◌∙◌, subst, arith}
+use Rattle.std.proofs.Common.{◌≡◌, ◌≤◌, ◌+◌, ℕ, Bool, true, false, cond, List, [], ◌∷◌, ◌++◌, refl, ap, sym, ◌∙◌, subst, arith}
+use Rattle.std.specs.List.{filter}
 use Rattle.std.proofs.lemmas.Bool.Decides.{nat_tests}
 use Rattle.std.specs.Prelude.{Option, None, Some, Ok, Err, Result, length, nat_le, nat_lt}
 use Rattle.vl_back.specs.Deciding as deciding
@@ -33,6 +34,8 @@ use Rattle.vl_model.specs.Limits.{max_file_number, max_version_number}
 use Rattle.vl_model.specs.declared.counter.Counter.TheVariants as counter
 use Rattle.vl_model.specs.declared.log_frame.LogFrame.{LogFrame}
 use Rattle.vl_replay.specs.Halts.{HaltsByDisk, HaltsByRead}
+use Rattle.vl_layout.specs.declared.file_name.Retired.{Retired}
+use Rattle.vl_replay.specs.Readers.{IsWithoutTables, is_table}
 use Rattle.vl_replay.specs.Replaying.{MakesStep, StandsIn, state_by}
 use Rattle.vl_replay.specs.Sequential.{State, files_behind, history_of, without_lengths}
 use Rattle.vl_replay.specs.Standing.{Stand, told_step}
@@ -57,8 +60,8 @@ IsNoHalt (rulings.Exhausted c) = Unit {0}
 pub record LeavesOf (l : Layout) (h : History) (r : Ruling StepAnswer) : Type 0 where
   pub history : r.history ≡ h
   pub live : r.layout.live ≡ l.live
-  -- no table goes
-  pub bare : tables r.layout ≡ [] → tables l ≡ []
+  -- no table goes, and what was dropped stays so
+  pub bare : IsWithoutTables r.layout → IsWithoutTables l
   pub running : l.halted ≡ None → r.layout.halted ≡ None
   pub no_halt : l.halted ≡ None → IsNoHalt r.answer
   -- the next numbers go up by one at most, where a file is made
@@ -131,6 +134,16 @@ rotate_leaves l h = of l.halted refl
     of (Some file) is = halted_leaves l h file is
     of None is = by_frames l.active.frames
 
+-- where none of some list passes, none of its front does
+pub none_before : (p : Retired → Bool) (front back : List Retired) → filter p (front ++ back) ≡ [] → filter p front ≡ []
+none_before p [] back none = refl
+none_before p (r ∷ front) back none = by (p r) none (none_before p front back)
+  where
+    by : (b : Bool) → cond b (r ∷ filter p (front ++ back)) (filter p (front ++ back)) ≡ [] → (filter p (front ++ back) ≡ [] → filter p front ≡ [])
+        → cond b (r ∷ filter p front) (filter p front) ≡ []
+    by true none later = absurd cc
+    by false none later = later none
+
 -- a table in front of level 0 leaves some
 some_in_front : (t : Table) (l : Layout) (levels : List (List Table)) → l.levels ≡ levels
     → tables (record l { levels = in_front t levels }) ≡ [] → tables l ≡ []
@@ -142,7 +155,7 @@ made_flushed : (l : Layout) (h : History) (s : Segment)
 made_flushed l h s = record {
   history = refl;
   live = refl;
-  bare = some_in_front _ l l.levels refl;
+  bare = λ none. (some_in_front _ l l.levels refl none.0, none_before (λ (r : Retired). is_table r.file) l.retired _ none.1);
   running = λ running. running;
   no_halt = λ running. tt;
   next_log = λ files within. omega (arith, within);
@@ -188,7 +201,7 @@ module _ {H R : Type 0} (bytes : H → Option (List ℕ)) (seen now : Option Dis
   names_on = record {
     each = λ name. still_stands bytes h h l r.layout (extends_itself h) leaves.bare (λ (ticket : ℕ). Unit {0})
         (λ ticket number on lives. subst (λ (xs : List Live). IsLive (record r.layout { live = xs }) ticket number) (sym leaves.live) lives)
-        _ _ (λ thing found. tt) (stands.names.each name);
+        _ _ (λ thing found reads. tt) (stands.names.each name);
     once = stands.names.once;
     apart = stands.names.apart;
   }

@@ -10,7 +10,7 @@ use Rattle.vl_replay.specs.Asking.{AsksForRow}
 use Rattle.vl_script.specs.Script.{◌>>=◌, alone, get_at_of, ident_alone, ident_and_key, ident_and_two, keep_of, line_of, line_of_words, longest_line, named_key, scan_of, set_of, with_number, words_of}
 use Rattle.vl_script.specs.Numbers.{number_of}
 use Rattle.vl_script.specs.declared.line.Line.{Line}
-use Rattle.vl_script.specs.declared.line.Line.TheVariants.{Begin, View, Get, Set, SetTagged, GetTagged, GetAt, Scan, Delete, Commit, Drop, Rotate, Flush, Keep}
+use Rattle.vl_script.specs.declared.line.Line.TheVariants.{Begin, View, Get, Set, SetTagged, GetTagged, GetAt, Scan, Delete, Commit, Drop, Rotate, Flush, Keep, Plan, Install}
 
 -- the line asks for one, where there is a line
 record Asks (o : Option Line) : Type 0 where
@@ -88,7 +88,9 @@ asks_in (command ∷ words) =
     (either (bytes_eq command (codes "drop")) _ _ (mapped (ident_alone words) Drop (λ w. tt))
     (either (bytes_eq command (codes "rotate")) _ _ (alones Rotate tt words)
     (either (bytes_eq command (codes "flush")) _ _ (alones Flush tt words)
-    (either (bytes_eq command (codes "keep")) _ _ (keeps words) none))))))))))))))
+    (either (bytes_eq command (codes "keep")) _ _ (keeps words)
+    (either (bytes_eq command (codes "plan")) _ _ (mapped (ident_alone words) Plan (λ w. tt))
+    (either (bytes_eq command (codes "install")) _ _ (mapped (ident_alone words) Install (λ w. tt)) none))))))))))))))))
 
 pub line_asks : (text : List ℕ) (line : Line) → line_of text ≡ Some line → AsksForRow line
 line_asks text line is =

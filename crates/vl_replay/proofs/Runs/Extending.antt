@@ -3,6 +3,7 @@ use Rattle.std.proofs.Common.{◌≡◌, ◌⊎◌, inl, inr, ℕ, List, [], ◌
 use Rattle.std.specs.Prelude.{Option, None, Some, codes}
 use Rattle.std.specs.FinMap.{from_sorted}
 use Rattle.std.specs.List.{flat_map}
+use Rattle.vl_layout.specs.Rulings.Plan.{plan_ruling}
 use Rattle.vl_layout.specs.Store.Commits.{Changes, history_in, with_changes}
 use Rattle.vl_layout.specs.Store.Dispatch.{drop_by}
 use Rattle.vl_layout.specs.Store.Lines as store
@@ -14,13 +15,13 @@ use Rattle.vl_model.specs.History.{Extends, History, with_commit}
 use Rattle.vl_model.specs.Keys.{Row, tagged, untagged}
 use Rattle.vl_model.specs.declared.change.Change.TheVariants.{Set as Put, Delete as Deleted}
 use Rattle.vl_replay.specs.Sequential.{IsTold, State, answer_text, answer_to, as_told, history_of, state_after, step_to, told_row, without_lengths}
-use Rattle.vl_replay.specs.laws.Growing.{begin_keeps, commit_or, get_at_keeps, get_keeps, history_more, scan_keeps, write_keeps}
+use Rattle.vl_replay.specs.laws.Growing.{begin_keeps, commit_or, get_at_keeps, get_keeps, history_more, install_commits, plan_commits, scan_keeps, write_keeps}
 use Rattle.vl_script.specs.Script.{as_line, row_text, rows_text, text_of}
 use Rattle.std.specs.Fmt.{decimal}
 use Rattle.vl_script.specs.declared.answer.Answer.{Answer}
 use Rattle.vl_script.specs.declared.answer.Answer.TheVariants as answers
 use Rattle.vl_script.specs.declared.line.Line.{Line}
-use Rattle.vl_script.specs.declared.line.Line.TheVariants.{Begin, View, Get, Set, SetTagged, GetTagged, GetAt, Scan, Delete, Commit, Drop, Rotate, Flush, Keep}
+use Rattle.vl_script.specs.declared.line.Line.TheVariants.{Begin, View, Get, Set, SetTagged, GetTagged, GetAt, Scan, Delete, Commit, Drop, Rotate, Flush, Keep, Plan, Install}
 use Rattle.vl_replay.proofs.Disk.Betweens.{extends_itself}
 
 -- ---- commits
@@ -51,6 +52,8 @@ line_adds s (Drop name) = inl (drop_commits s.store name (thing_of s.store name)
 line_adds s Rotate = inl refl
 line_adds s Flush = inl refl
 line_adds s (Keep versions) = inl refl
+line_adds s (Plan name) = inl (plan_commits s.store name (plan_ruling s.store.layout (history_of s)) (thing_of s.store name))
+line_adds s (Install name) = inl (install_commits s.store name (thing_of s.store name))
 line_adds s (Commit name) = elim (commit_or s.store name (thing_of s.store name)) [
   | inl (keeps, none) ↦ inl keeps.commits
   | inr (t, b, is, adds) ↦ inr (t.writes, _, adds.commits, adds.answer)
@@ -110,6 +113,7 @@ told_text (answers.Conflict key number) = refl
 told_text answers.Full = refl
 told_text answers.Idle = refl
 told_text (answers.Exhausted counter) = refl
+told_text (answers.Raced key) = refl
 
 -- the lengths of a log aren't printed
 lengths_untold : (answer : store.Answer) → answer_text (without_lengths answer) ≡ answer_text answer
@@ -144,6 +148,7 @@ told_number told answer n is number = of told (is ∙ ap without_lengths number)
     of answers.Full e = absurd cc
     of answers.Idle e = absurd cc
     of (answers.Exhausted counter) e = absurd cc
+    of (answers.Raced key) e = absurd cc
 
 -- And what is told by `ok` is that.
 pub told_done : (told : Answer) (answer : store.Answer) → IsTold told answer → answer ≡ store.Done → told ≡ answers.Done
@@ -168,3 +173,4 @@ told_done told answer is done = of told (is ∙ ap without_lengths done)
     of answers.Full e = absurd cc
     of answers.Idle e = absurd cc
     of (answers.Exhausted counter) e = absurd cc
+    of (answers.Raced key) e = absurd cc

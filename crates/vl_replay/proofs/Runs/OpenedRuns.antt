@@ -13,7 +13,7 @@ use Rattle.vl_replay.specs.Sequential.{State, history_of}
 use Rattle.vl_replay.specs.Exchanges.{Exchange, KeepsUp, last_state}
 use Rattle.vl_model.specs.History.{Extends}
 use Rattle.vl_replay.specs.Between.{Showing, Stopping}
-use Rattle.vl_replay.specs.Endings.{Culprit, TheDisk, TheSink, TheSource, CountsFaultsOf, Evidence, CutsAnswer, IsBetweenLines, culprit_of, last_line}
+use Rattle.vl_replay.specs.Endings.{Culprit, TheDisk, TheReader, TheSink, TheSource, CountsFaultsOf, Evidence, CutsAnswer, IsBetweenLines, culprit_of, last_line}
 use Rattle.vl_replay.specs.Runs.{Script, exchanges, next_number, Stops, Course, course, Outside, EvidenceOf, EndsRun, EndsRunBy}
 use Rattle.vl_replay.specs.Start.{EvidenceFromStart, FailsAtTables, StartsIn, StoppedAtOpening}
 use Rattle.vl_replay.specs.Durable.{Holding, IsAsBefore, LeavesItsHistory, StaysShown, Tells, HoldsState, CrashesShow, GoesAlong, DiskEnds, DiskEndsFrom}
@@ -87,13 +87,13 @@ refused k old new by_source by_disk script left how result never fault (line, ow
 
 -- of such an ending and of a line that couldn't be put it holds that nothing was answered and no answer cut
 abbrev pub AnswersNothing : Ending → Type 0
-AnswersNothing ending = (IsBetweenLines (culprit_of ending) → ⊥) × (CutsAnswer ending → ⊥)
+AnswersNothing ending = (IsBetweenLines (culprit_of ending) → ⊥) × (CutsAnswer ending → ⊥) × (culprit_of ending ≡ TheReader → ⊥)
 
 nothing_refused : (how : OpenError) → AnswersNothing (ending_unopened how)
-nothing_refused how = of_unopened AnswersNothing (λ refusal. (λ never. never, λ e. cc)) (λ never. never, λ e. cc) (λ never. never, λ e. cc) how
+nothing_refused how = of_unopened AnswersNothing (λ refusal. (λ never. never, λ e. cc, λ e. cc)) (λ never. never, λ e. cc, λ e. cc) (λ never. never, λ e. cc, λ e. cc) how
 
 nothing_cut : AnswersNothing WriteFault
-nothing_cut = (λ never. never, λ e. cc)
+nothing_cut = (λ never. never, λ e. cc, λ e. cc)
 
 pub refused_nothing : {K : Type 0} (k : sink.Ghosts K) (old new : K) (how : OpenError) (result : Ending) → FinishesBy k old new (ending_unopened how) result → AnswersNothing result
 refused_nothing k old new how result (line, own, finishes) = or_cut k old new line (ending_unopened how) result AnswersNothing finishes (nothing_refused how) nothing_cut
@@ -122,7 +122,7 @@ module _ {D R : Type 0} (g : Ghosts D) (watched : IsWatched g) (holds : Holding)
       → ((Rose (g.faults first.disk) (g.faults end.disk) → ⊥) → IsAsBefore g first.disk end.disk) → (ending ≡ NoMemory → IsAsBefore g first.disk end.disk)
       → (g.calls first.disk ≤ 2 ^ 64 - 1 → g.calls end.disk ≤ script.start.calls)
       → EndsRunBy (EvidenceFromStart g faults first end) SoFar script first end ending
-  ends_refused ending (none, none_cut) before kept_up goes tells kept kept_out within =
+  ends_refused ending (none, none_cut, none_read) before kept_up goes tells kept kept_out within =
       let h = (history_of script.start) in
       let most = (history_of (last_state script.start (take 1 (exchanges script)))) in
       record {
@@ -139,6 +139,8 @@ module _ {D R : Type 0} (g : Ghosts D) (watched : IsWatched g) (holds : Holding)
               crash_after = at_end g watched holds shows stops stays exactly first.disk end.disk h most through (tells p q);
               without_fault = λ sound. inl (kept sound);
               no_memory = λ out. inl (kept_out out);
+              unread = λ by. absurd (none_read by);
+              unchanged = λ by same. absurd (none_read by);
               between_lines = λ between. absurd (none between);
               answer_cut = λ cuts. absurd (none_cut cuts);
               again = tells p q;

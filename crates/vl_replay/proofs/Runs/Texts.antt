@@ -15,7 +15,7 @@ use Rattle.vl_replay.specs.Sequential.{State, answer_to, state_after, history_of
 use Rattle.vl_replay.specs.Exchanges.{exchange_at, exchanged, state_behind}
 use Rattle.vl_disk.specs.declared.name.Name.{Name}
 use Rattle.vl_replay.specs.Halts.{HaltsByDamage, HaltsByDisk, HaltsByRead, HaltsByReader}
-use Rattle.vl_replay.specs.Endings.{CutsAnswer, IsBetweenLines, TheDisk, culprit_of, ending_at}
+use Rattle.vl_replay.specs.Endings.{CutsAnswer, IsBetweenLines, TheDisk, TheReader, culprit_of, ending_at}
 use Rattle.vl_replay.specs.Durable.{HoldsState, HoldsCommits, LeadsTo, DiskEnds, without_live}
 use Rattle.vl_replay.specs.Stored.{IsStopped, IsStored}
 use Rattle.vl_engine.specs.Shown.{Shown}
@@ -125,7 +125,8 @@ module _ {D : Type 0} (g : Ghosts D) (watched : IsWatched g) (s : State) (text :
   carries_nothing disk result err sound held = record {
     answered = on_ok_at_err result _ err;
     no_commit = λ _. (s, refl, refl, held.there);
-    unread = λ _. held;
+    unread = λ _. (s, refl, refl, held.there);
+    unchanged = λ _ same. held;
     tells = opens_again g watched IsStored Shown IsStopped shown_stays stored_exactly s disk held;
     through = rests_until g watched IsStored Shown IsStopped shown_stays stored_exactly s (history_of behind) (text_extends s text) disk held;
     stopped = λ by. absurd (sound by);
@@ -136,7 +137,8 @@ module _ {D : Type 0} (g : Ghosts D) (watched : IsWatched g) (s : State) (text :
   carries_bad disk x bad held = record {
     answered = subst (λ (t : State). HoldsState g IsStored t disk) (sym (bad_behind s text bad)) held;
     no_commit = λ out. absurd (ok_not_out x out);
-    unread = λ _. held;
+    unread = λ _. (s, refl, refl, held.there);
+    unchanged = λ _ same. held;
     tells = opens_again g watched IsStored Shown IsStopped shown_stays stored_exactly s disk held;
     through = rests_until g watched IsStored Shown IsStopped shown_stays stored_exactly s (history_of behind) (text_extends s text) disk held;
     stopped = λ by. absurd by;
@@ -151,6 +153,7 @@ module _ {D : Type 0} (g : Ghosts D) (watched : IsWatched g) (s : State) (text :
           answered = on_ok_if result carried _ ok carries.answered;
           no_commit = out;
           unread = λ by. carries.unread (by_reading by);
+          unchanged = λ by. carries.unchanged (by_reading by);
           tells = carries.tells;
           through = carries.through;
           stopped = λ by. carries.stopped (by_disk by);
@@ -170,7 +173,7 @@ module _ {D : Type 0} (g : Ghosts D) (watched : IsWatched g) (s : State) (text :
     pub ends_cut : {T : Type 0} (result : Result T Halt) → IsOk result → LeadsTo g IsStored Shown IsStopped old new s behind result → DiskEnds g IsStored Shown IsStopped ⊥ ⊥ old new (record { ending = AnswerCut; first = s; answered = []; most = behind })
     ends_cut result ok carries =
         let held = it_holds g watched IsStored Shown IsStopped shown_stays stored_exactly behind new (of_ok result _ ok carries.answered) in
-        ends_within g watched IsStored Shown IsStopped shown_stays stored_exactly old new AnswerCut s behind carries.through carries.tells (λ sound. inr (its_commits g watched IsStored Shown IsStopped shown_stays stored_exactly behind new held)) (λ out. cc) (λ whole. absurd whole) (λ cuts. held) (λ fault. cc)
+        ends_within g watched IsStored Shown IsStopped shown_stays stored_exactly old new AnswerCut s behind carries.through carries.tells (λ sound. inr (its_commits g watched IsStored Shown IsStopped shown_stays stored_exactly behind new held)) (λ out. cc) (λ whole. absurd whole) (λ cuts. held) (λ by. cc) (λ by same. cc) (λ fault. cc)
 
     -- it is a bad line, whatever could be put
     pub ends_bad : {T : Type 0} (result : Result T Halt) (ending : Ending) → IsOk result → (culprit_of ending ≡ TheDisk → ⊥) → exchange_at s text ≡ None → LeadsTo g IsStored Shown IsStopped old new s behind result
@@ -188,6 +191,7 @@ module _ {D : Type 0} (g : Ghosts D) (watched : IsWatched g) (s : State) (text :
         ends_within g watched IsStored Shown IsStopped shown_stays stored_exactly old new ending s behind carries.through carries.tells (λ sound. inl held) (λ _. held)
         (λ whole. absurd (or_cut k sink_old sink_new line NoMemory ending (λ (e : Ending). IsBetweenLines (culprit_of e) → ⊥) finishes (λ never. never) (λ never. never) whole))
         (λ cuts. absurd (or_cut k sink_old sink_new line NoMemory ending (λ (e : Ending). CutsAnswer e → ⊥) finishes (λ e. cc) (λ e. cc) cuts))
+        (λ by. held) (λ by same. absurd (or_cut k sink_old sink_new line NoMemory ending (λ (e : Ending). culprit_of e ≡ TheReader → ⊥) finishes (λ e. cc) (λ e. cc) by))
         (λ fault. absurd (or_cut k sink_old sink_new line NoMemory ending (λ (e : Ending). culprit_of e ≡ TheDisk → ⊥) finishes (λ e. cc) (λ e. cc) fault))
 
     -- the disk failed
@@ -198,13 +202,17 @@ module _ {D : Type 0} (g : Ghosts D) (watched : IsWatched g) (s : State) (text :
         (λ out. absurd (or_cut k sink_old sink_new line (ending_at f) ending (λ (e : Ending). e ≡ NoMemory → ⊥) finishes (at_fault (λ (e : Ending). e ≡ NoMemory → ⊥) (λ e. cc) (λ e. cc) f) (λ e. cc) out))
         (λ whole. absurd (or_cut k sink_old sink_new line (ending_at f) ending (λ (e : Ending). IsBetweenLines (culprit_of e) → ⊥) finishes (at_fault (λ (e : Ending). IsBetweenLines (culprit_of e) → ⊥) (λ never. never) (λ never. never) f) (λ never. never) whole))
         (λ cuts. absurd (or_cut k sink_old sink_new line (ending_at f) ending (λ (e : Ending). CutsAnswer e → ⊥) finishes (at_fault (λ (e : Ending). CutsAnswer e → ⊥) (λ e. cc) (λ e. cc) f) (λ e. cc) cuts))
+        (λ it. absurd (or_cut k sink_old sink_new line (ending_at f) ending (λ (e : Ending). culprit_of e ≡ TheReader → ⊥) finishes (at_fault (λ (e : Ending). culprit_of e ≡ TheReader → ⊥) (λ e. cc) (λ e. cc) f) (λ e. cc) it))
+        (λ it same. absurd (or_cut k sink_old sink_new line (ending_at f) ending (λ (e : Ending). culprit_of e ≡ TheReader → ⊥) finishes (at_fault (λ (e : Ending). culprit_of e ≡ TheReader → ⊥) (λ e. cc) (λ e. cc) f) (λ e. cc) it))
         (λ fault. carries.stopped by)
 
-    -- a read failed, which changed nothing
+    -- a read failed, or a write beside the disk
     pub ends_unread : {T K : Type 0} (k : sink.Ghosts K) (sink_old sink_new : K) (line : List ℕ) (result : Result T Halt) (ending : Ending) → HaltsByRead result → Finishes k sink_old sink_new line ReaderFault ending
         → LeadsTo g IsStored Shown IsStopped old new s behind result → DiskEnds g IsStored Shown IsStopped ⊥ ⊥ old new (record { ending = ending; first = s; answered = []; most = behind })
     ends_unread k sink_old sink_new line result ending by finishes carries =
-        ends_unchanged g watched IsStored Shown IsStopped shown_stays stored_exactly old new ending s behind carries.through carries.tells
-        (it_holds g watched IsStored Shown IsStopped shown_stays stored_exactly s new (carries.unread by))
+        let held = carries.unread by in
+        ends_within g watched IsStored Shown IsStopped shown_stays stored_exactly old new ending s behind carries.through carries.tells (λ sound. inl held) (λ out. held)
+        (λ whole. absurd (or_cut k sink_old sink_new line ReaderFault ending (λ (e : Ending). IsBetweenLines (culprit_of e) → ⊥) finishes (λ never. never) (λ never. never) whole))
         (λ cuts. absurd (or_cut k sink_old sink_new line ReaderFault ending (λ (e : Ending). CutsAnswer e → ⊥) finishes (λ e. cc) (λ e. cc) cuts))
-        (or_cut k sink_old sink_new line ReaderFault ending (λ (e : Ending). culprit_of e ≡ TheDisk → ⊥) finishes (λ e. cc) (λ e. cc))
+        (λ it. held) (λ it same. it_holds g watched IsStored Shown IsStopped shown_stays stored_exactly s new (carries.unchanged by same))
+        (λ fault. absurd (or_cut k sink_old sink_new line ReaderFault ending (λ (e : Ending). culprit_of e ≡ TheDisk → ⊥) finishes (λ e. cc) (λ e. cc) fault))

@@ -29,6 +29,7 @@ use Rattle.std.specs.Prelude.{Option as Maybe}
 use Rattle.vl_mem.specs.CrashImage.{crash_image}
 use Rattle.vl_model.specs.History.{last_number}
 use Rattle.vl_replay.specs.Reopens.{Reopens}
+use Rattle.vl_disk.specs.declared.writer.Writer.{Ghosts as Writers}
 use Rattle.vl_replay.specs.Replaying.{StandsFor, disk_of}
 use Rattle.vl_replay.specs.Start.{StartsIn}
 use Rattle.vl_engine.specs.Opening.{IsDurable}
@@ -90,10 +91,10 @@ module _ (stop : ℕ) (disk : StoppingDisk) (is : state_on disk ≡ empty_disk) 
       (r : Result (Replayer StoppingDisk Held Reader Writer watched held cloned read write) (OpenFail StoppingDisk R))
       → reader_faults faults r ≡ 0 → HasCause (faults_on disk) (faults_on (disk_behind r)) (IsDiskFault (reader_faults faults r) (why_of r))
       → HoldsThroughout memory.ghosts disk (disk_behind r) (IsMeanwhile empty empty_disk)
-      → (bytes : Held → Maybe (List ℕ)) → IfOk r (λ replayer. StandsFor memory.ghosts bytes replayer begun)
+      → (writers : Writers Writer) (bytes : Held → Maybe (List ℕ)) → IfOk r (λ replayer. StandsFor memory.ghosts writers bytes replayer begun)
       → IfOk r (λ replayer. HoldsState memory.ghosts IsStored begun (disk_of replayer))
-      → IfOk r (λ replayer. IsOnTrial stop (StandsFor memory.ghosts bytes replayer) (disk_of replayer))
-  opened faults (Ok replayer) unread cause meanwhile bytes stands holds =
+      → IfOk r (λ replayer. IsOnTrial stop (StandsFor memory.ghosts writers bytes replayer) (disk_of replayer))
+  opened faults (Ok replayer) unread cause meanwhile writers bytes stands holds =
       let past_then = meanwhile.time.as_planned (Some stop) past in
       let sound_then : faults_on (disk_of replayer) ≡ 0 = cause.steady (λ by. by) ∙ sound in
       let counts = counted_past (disk_of replayer).disk (Some stop) past_then in
@@ -104,7 +105,7 @@ module _ (stop : ℕ) (disk : StoppingDisk) (is : state_on disk ≡ empty_disk) 
         sound = sound_then;
         opened = omega (arith, counts.at_least, sound_then, holds.calls);
       }
-  opened faults (Err fail) unread cause meanwhile bytes stands holds = tt
+  opened faults (Err fail) unread cause meanwhile writers bytes stands holds = tt
 
   pub stopped : {Held Reader Writer : Type 0} {watched : _} {held : _} {cloned : _} {read : _} {write : _}
       {R : Type 0} (faults : R → ℕ)

@@ -389,10 +389,10 @@ module _ (before after : State) (commits : Commits IsStored before after) (fits 
       (sync_failed_kept before after commits) (names_left after.files durable image may commits.done.numbered)
   sync_failed_reopens fits_after Halved = torn_reopens (length commits.frame) Halved (sync_failed_halved before after commits)
 
--- ---- a rotation or a flush that was stopped
+-- ---- a step on files that was stopped
 
-module _ (before after : State) (now : DiskState) (stops : StopsStep Shown before after now) (lawful : IsLawful now)
-    (fits : after.files + 2 ≤ max_file_number) where
+module _ (before after : State) (passed : ℕ) (now : DiskState) (stops : StopsStep Shown before after passed now) (lawful : IsLawful now)
+    (fits : stops.files + 2 ≤ max_file_number) where
   -- whatever a crash leaves opens showing the commits before
   step_reopens : (outcome : Outcome) → Reopens (crash_image outcome now) (history_of before) (last_number (history_of before))
   step_reopens outcome =
@@ -402,10 +402,10 @@ module _ (before after : State) (now : DiskState) (stops : StopsStep Shown befor
         left = may;
         no_chance = crash_without_chance Spells spells_what_stands outcome now stops.torn;
       } in
-      let names = names_left after.files now image may stops.numbered in
-      reopens_by after.files image names (history_of before) (last_number (history_of before)) (stops.left image left) (λ found.
+      let names = names_left stops.files now image may stops.numbered in
+      reopens_by stops.files image names (history_of before) (last_number (history_of before)) (stops.left image left) (λ found.
       let next = stops.next image found left in
-      numbers_left after.files fits image names found (stops.head image found left) next.log)
+      numbers_left stops.files fits image names found (stops.head image found left) next.log)
 
 -- which are those of both states
 same_left : (before after : State) → after.store.commits ≡ before.store.commits → (outcome : Outcome) (passed : Bool)
@@ -420,27 +420,27 @@ same_left before after same Halved passed = refl
 -- Behind a stop the image opens again, showing the commits before the line, or with that of a commit whose append passed where all
 -- is kept. `first` says whether the line's first call passed.
 pub stopped_reopens : (before after : State) (passed made : ℕ) (now : DiskState) → IsStopped before after passed made now → IsLawful now
-    → before.files + 2 ≤ max_file_number → after.files + 2 ≤ max_file_number
+    → before.files + passed + 3 ≤ max_file_number
     → (outcome : Outcome) (first : Bool) → (made ≡ suc passed → first ≡ nat_le 1 passed) → let s = state_left outcome first before after in
     Reopens (crash_image outcome now) (history_of s) (last_number (history_of s))
-stopped_reopens before after passed made now (append_failed commits none one is) lawful fits fits_after outcome first passes =
+stopped_reopens before after passed made now (append_failed commits none one is) lawful few outcome first passes =
     let first_is : first ≡ false = passes (one ∙ ap suc (sym none)) ∙ ap (nat_le 1) none in
     subst (λ (b : Bool). let s = state_left outcome b before after in Reopens (crash_image outcome now) (history_of s) (last_number (history_of s)))
     (sym first_is)
     (subst (λ (s : State). Reopens (crash_image outcome now) (history_of s) (last_number (history_of s))) (of outcome)
     (subst (λ (d : DiskState). Reopens (crash_image outcome d) (history_of before) (last_number (history_of before))) (sym is)
-    (append_failed_reopens before after commits fits outcome)))
+    (append_failed_reopens before after commits (omega (arith, few)) outcome)))
   where
     of : (o : Outcome) → before ≡ state_left o false before after
     of Lost = refl
     of Kept = refl
     of Halved = refl
-stopped_reopens before after passed made now (sync_failed commits one two is) lawful fits fits_after outcome first passes =
+stopped_reopens before after passed made now (sync_failed commits one two is) lawful few outcome first passes =
     let first_is : first ≡ true = passes (two ∙ ap suc (sym one)) ∙ ap (nat_le 1) one in
     subst (λ (b : Bool). let s = state_left outcome b before after in Reopens (crash_image outcome now) (history_of s) (last_number (history_of s)))
     (sym first_is)
     (subst (λ (d : DiskState). let s = state_left outcome true before after in Reopens (crash_image outcome d) (history_of s) (last_number (history_of s)))
-    (sym is) (sync_failed_reopens before after commits fits fits_after outcome))
-stopped_reopens before after passed made now (step_failed stops) lawful fits fits_after outcome first passes =
+    (sym is) (sync_failed_reopens before after commits (omega (arith, few)) (let same = commits.files in omega (arith, few, same)) outcome))
+stopped_reopens before after passed made now (step_failed stops within) lawful few outcome first passes =
     subst (λ (k : History). Reopens (crash_image outcome now) k (last_number k)) (same_left before after stops.same outcome first)
-    (step_reopens before after now stops lawful fits_after outcome)
+    (step_reopens before after passed now stops lawful (let most = stops.few in omega (arith, few, most)) outcome)

@@ -1,5 +1,5 @@
 -- Which lines are answered up to a stop, by the calls that are counted behind them.
-use Rattle.std.proofs.Common.{◌≡◌, ℕ, zero, suc, min, ◌+◌, ◌-◌, ◌*◌, ◌^◌, ◌<◌, ◌≤◌, Bool, true, false, cond, List, [], ◌∷◌, length, take, Some, None, refl, sym, ◌∙◌, ap, subst, arith, zero-le}
+use Rattle.std.proofs.Common.{◌≡◌, ℕ, zero, suc, min, ◌+◌, ◌-◌, ◌^◌, ◌<◌, ◌≤◌, Bool, true, false, cond, List, [], ◌∷◌, length, take, Some, None, refl, sym, ◌∙◌, ap, subst, arith, zero-le}
 use Rattle.std.specs.Prelude.{Option, nat_le}
 use Rattle.std.specs.List.{AllByRecursion, slice_get}
 use Rattle.std.proofs.lemmas.Bool.Decides.{nat_tests}
@@ -123,75 +123,75 @@ none_next [] (suc m) is = refl
 none_next (x ∷ es) zero is = absurd (none_some x (sym is))
 none_next (x ∷ es) (suc m) is = ap (λ (xs : List Exchange). x ∷ xs) (none_next es m is)
 
--- ---- the numbers that files have are few: each file takes three calls at least
+-- ---- the numbers that files have are few: each file takes a call at least, and the first one five more
 
 -- how many changing calls are counted
 pub calls_counted : (n count : ℕ) → count ≤ 2 ^ 64 - 1 → after_calls n count ≡ min (count + n) (2 ^ 64 - 1)
 calls_counted zero count small = omega (arith, small)
 calls_counted (suc n) count small = let so_far = calls_counted n count small in omega (arith, so_far, small)
 
--- a step that made a file takes three calls at least
-abbrev TakesThree : Ruling StepAnswer → Type 0
-TakesThree r = (number : ℕ) → r.answer ≡ Stepped number → 3 ≤ r.calls
+-- a step that made a file takes a call at least
+abbrev TakesOne : Ruling StepAnswer → Type 0
+TakesOne r = (number : ℕ) → r.answer ≡ Stepped number → 1 ≤ r.calls
 
 module _ (l : Layout) (h : History) where
-  idle_three : TakesThree (leaving Idle h l)
-  idle_three number is = absurd cc
+  idle_one : TakesOne (leaving Idle h l)
+  idle_one number is = absurd cc
 
-  halted_three : (file : FileName) → TakesThree (leaving (Halted file) h l)
-  halted_three file number is = absurd cc
+  halted_one : (file : FileName) → TakesOne (leaving (Halted file) h l)
+  halted_one file number is = absurd cc
 
-  used_three : (c : Counter) → TakesThree (leaving (Exhausted c) h l)
-  used_three c number is = absurd cc
+  used_one : (c : Counter) → TakesOne (leaving (Exhausted c) h l)
+  used_one c number is = absurd cc
 
-  either_three : (b : Bool) (r s : Ruling StepAnswer) → TakesThree r → TakesThree s → TakesThree (cond b r s)
-  either_three true r s here there = here
-  either_three false r s here there = there
+  either_one : (b : Bool) (r s : Ruling StepAnswer) → TakesOne r → TakesOne s → TakesOne (cond b r s)
+  either_one true r s here there = here
+  either_one false r s here there = there
 
-  rotate_three : TakesThree (rotate_ruling l h)
-  rotate_three = by l.halted
+  rotate_one : TakesOne (rotate_ruling l h)
+  rotate_one = by l.halted
     where
-      of : (frames : List LogFrame) → TakesThree (rotate_of frames l h)
-      of [] = idle_three
+      of : (frames : List LogFrame) → TakesOne (rotate_of frames l h)
+      of [] = idle_one
       of (f ∷ fs) =
-          either_three (has_no_number l.next_log 1) (leaving (Exhausted counter.Log) h l) _ (used_three counter.Log)
-          (either_three (has_no_version l) (leaving (Exhausted counter.Version) h l) _ (used_three counter.Version) (λ number is. omega arith))
+          either_one (has_no_number l.next_log 1) (leaving (Exhausted counter.Log) h l) _ (used_one counter.Log)
+          (either_one (has_no_version l) (leaving (Exhausted counter.Version) h l) _ (used_one counter.Version) (λ number is. omega arith))
 
-      by : (o : Option FileName) → TakesThree (rotate_unless o l h)
-      by (Some file) = halted_three file
+      by : (o : Option FileName) → TakesOne (rotate_unless o l h)
+      by (Some file) = halted_one file
       by None = of l.active.frames
 
-  flush_three : TakesThree (flush_ruling l h)
-  flush_three = by l.halted
+  flush_one : TakesOne (flush_ruling l h)
+  flush_one = by l.halted
     where
-      of : (o : Option Segment) → TakesThree (flush_of l h o)
-      of None = idle_three
+      of : (o : Option Segment) → TakesOne (flush_of l h o)
+      of None = idle_one
       of (Some s) =
-          either_three (has_no_number l.next_table 1) (leaving (Exhausted counter.Table) h l) _ (used_three counter.Table)
-          (either_three (has_no_version l) (leaving (Exhausted counter.Version) h l) _ (used_three counter.Version) (λ number is. omega arith))
+          either_one (has_no_number l.next_table 1) (leaving (Exhausted counter.Table) h l) _ (used_one counter.Table)
+          (either_one (has_no_version l) (leaving (Exhausted counter.Version) h l) _ (used_one counter.Version) (λ number is. omega arith))
 
-      by : (o : Option FileName) → TakesThree (flush_unless o l h)
-      by (Some file) = halted_three file
+      by : (o : Option FileName) → TakesOne (flush_unless o l h)
+      by (Some file) = halted_one file
       by None = of (oldest l.frozen)
 
 -- so few files were made
 abbrev pub HasFewFiles : State → Type 0
-HasFewFiles s = s.files * 3 ≤ s.calls
+HasFewFiles s = s.files + 5 ≤ s.calls
 
 module _ (stop : ℕ) (small : stop < 2 ^ 64 - 1) where
-  few_kept : (files calls n : ℕ) → files * 3 ≤ calls → calls ≤ stop → files * 3 ≤ after_calls n calls
+  few_kept : (files calls n : ℕ) → files + 5 ≤ calls → calls ≤ stop → files + 5 ≤ after_calls n calls
   few_kept files calls n few within = let counted = calls_counted n calls (omega (arith, within, small)) in omega (arith, counted, few, within, small)
 
-  few_more : (files calls n : ℕ) → 3 ≤ n → files * 3 ≤ calls → calls ≤ stop → after_calls n calls ≤ stop → (files + 1) * 3 ≤ after_calls n calls
-  few_more files calls n three few within passes =
-      let counted = calls_counted n calls (omega (arith, within, small)) in omega (arith, counted, three, few, within, passes, small)
+  few_more : (files calls n made : ℕ) → made ≤ n → files + 5 ≤ calls → calls ≤ stop → after_calls n calls ≤ stop → (files + made) + 5 ≤ after_calls n calls
+  few_more files calls n made enough few within passes =
+      let counted = calls_counted n calls (omega (arith, within, small)) in omega (arith, counted, enough, few, within, passes, small)
 
-  few_by : (files calls n : ℕ) (answer : StepAnswer) → ((number : ℕ) → answer ≡ Stepped number → 3 ≤ n) → files * 3 ≤ calls → calls ≤ stop
-      → after_calls n calls ≤ stop → files_behind (step_told answer) files * 3 ≤ after_calls n calls
-  few_by files calls n (Stepped number) three few within passes = few_more files calls n (three number refl) few within passes
-  few_by files calls n Idle three few within passes = few_kept files calls n few within
-  few_by files calls n (Halted file) three few within passes = few_kept files calls n few within
-  few_by files calls n (Exhausted c) three few within passes = few_kept files calls n few within
+  few_by : (files calls n : ℕ) (answer : StepAnswer) → ((number : ℕ) → answer ≡ Stepped number → 1 ≤ n) → files + 5 ≤ calls → calls ≤ stop
+      → after_calls n calls ≤ stop → files_behind (step_told answer) files + 5 ≤ after_calls n calls
+  few_by files calls n (Stepped number) one few within passes = few_more files calls n 1 (one number refl) few within passes
+  few_by files calls n Idle one few within passes = few_kept files calls n few within
+  few_by files calls n (Halted file) one few within passes = few_kept files calls n few within
+  few_by files calls n (Exhausted c) one few within passes = few_kept files calls n few within
 
   few_after : (s : State) (line : Line) → HasFewFiles s → s.calls ≤ stop → (state_after s line).calls ≤ stop → HasFewFiles (state_after s line)
   few_after s (lines.Begin name) few within passes = few_kept s.files s.calls (step_to s (lines.Begin name)).calls few within
@@ -208,11 +208,14 @@ module _ (stop : ℕ) (small : stop < 2 ^ 64 - 1) where
   few_after s (lines.Drop name) few within passes = few_kept s.files s.calls (step_to s (lines.Drop name)).calls few within
   few_after s lines.Rotate few within passes =
       let r = rotate_ruling s.store.layout (history_of s) in
-      few_by s.files s.calls r.calls r.answer (rotate_three s.store.layout (history_of s)) few within passes
+      few_by s.files s.calls r.calls r.answer (rotate_one s.store.layout (history_of s)) few within passes
   few_after s lines.Flush few within passes =
       let r = flush_ruling s.store.layout (history_of s) in
-      few_by s.files s.calls r.calls r.answer (flush_three s.store.layout (history_of s)) few within passes
+      few_by s.files s.calls r.calls r.answer (flush_one s.store.layout (history_of s)) few within passes
   few_after s (lines.Keep versions) few within passes = few_kept s.files s.calls (step_to s (lines.Keep versions)).calls few within
+  few_after s (lines.Plan name) few within passes =
+      few_more s.files s.calls (step_to s (lines.Plan name)).calls (step_to s (lines.Plan name)).calls (omega arith) few within passes
+  few_after s (lines.Install name) few within passes = few_kept s.files s.calls (step_to s (lines.Install name)).calls few within
   few_after s (lines.GetAt name key number) few within passes =
       few_kept s.files s.calls (step_to s (lines.GetAt name key number)).calls few within
 
@@ -239,52 +242,3 @@ module _ (stop : ℕ) (small : stop < 2 ^ 64 - 1) where
   last_few (text ∷ texts) s zero few within all = few
   last_few (text ∷ texts) s (suc m) few within all =
       few_first s text texts m (exchange_at s text) refl (λ after. last_few texts after m) few within all
-
--- ---- and one more line makes one more file at most
-
-files_by : (answer : StepAnswer) (files : ℕ) → files_behind (step_told answer) files ≤ files + 1
-files_by (Stepped number) files = omega arith
-files_by Idle files = omega arith
-files_by (Halted file) files = omega arith
-files_by (Exhausted c) files = omega arith
-
-files_line : (s : State) (line : Line) → (state_after s line).files ≤ s.files + 1
-files_line s (lines.Begin name) = omega arith
-files_line s (lines.View name) = omega arith
-files_line s (lines.Get name key) = omega arith
-files_line s (lines.GetTagged name key) = omega arith
-files_line s (lines.Set name key value) = omega arith
-files_line s (lines.SetTagged name key value tag) = omega arith
-files_line s (lines.Scan name low high limit way) = omega arith
-files_line s (lines.Delete name key) = omega arith
-files_line s (lines.Commit name) = omega arith
-files_line s (lines.Drop name) = omega arith
-files_line s lines.Rotate = files_by (rotate_ruling s.store.layout (history_of s)).answer s.files
-files_line s lines.Flush = files_by (flush_ruling s.store.layout (history_of s)).answer s.files
-files_line s (lines.Keep versions) = omega arith
-files_line s (lines.GetAt name key number) = omega arith
-
-exchange_files : (s : State) (text : List ℕ) (e : Exchange) → exchange_at s text ≡ Some e → e.after.files ≤ s.files + 1
-exchange_files s text e is =
-    let line = exchange_after s (line_of text) e is in
-    subst (λ (t : State). t.files ≤ s.files + 1) (sym line.1) (files_line s line.0)
-
-next_first : (s : State) (text : List ℕ) (texts : List (List ℕ)) (o : Option Exchange) → exchange_at s text ≡ o
-    → (last_state s (take 1 (and_later (λ e. exchanges_from e.after texts) o))).files ≤ s.files + 1
-next_first s text texts None is = omega arith
-next_first s text texts (Some e) is = exchange_files s text e is
-
-next_later : (s : State) (text : List ℕ) (texts : List (List ℕ)) (m : ℕ) (o : Option Exchange) → exchange_at s text ≡ o
-    → ((after : State) → (last_state after (take (suc m) (exchanges_from after texts))).files
-    ≤ (last_state after (take m (exchanges_from after texts))).files + 1)
-    → (last_state s (take (suc (suc m)) (and_later (λ e. exchanges_from e.after texts) o))).files
-    ≤ (last_state s (take (suc m) (and_later (λ e. exchanges_from e.after texts) o))).files + 1
-next_later s text texts m None is later = omega arith
-next_later s text texts m (Some e) is later = later e.after
-
-pub next_files : (texts : List (List ℕ)) (s : State) (m : ℕ)
-    → (last_state s (take (suc m) (exchanges_from s texts))).files ≤ (last_state s (take m (exchanges_from s texts))).files + 1
-next_files [] s zero = omega arith
-next_files [] s (suc m) = omega arith
-next_files (text ∷ texts) s zero = next_first s text texts (exchange_at s text) refl
-next_files (text ∷ texts) s (suc m) = next_later s text texts m (exchange_at s text) refl (λ after. next_files texts after m)

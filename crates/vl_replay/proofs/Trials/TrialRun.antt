@@ -32,7 +32,7 @@ use Rattle.vl_replay.specs.declared.ending.Ending.{Ending}
 use Rattle.vl_replay.specs.declared.ending.Ending.TheVariants.{Complete, BadLine, BadWords, DiskFault, ReaderFault, Refused, Damaged, NoMemory, ReadFault, WriteFault, AnswerCut, Stopped}
 use Rattle.vl_replay.specs.declared.ending.OnFault.TheVariants.{Stop}
 use Rattle.vl_replay.proofs.Trials.StoppedLaws.{stopped_reopens, stored_reopens}
-use Rattle.vl_replay.proofs.Trials.TrialLines.{HasFewFiles, Passes, all_next, before_all, before_front, before_get, before_met, calls_counted, chosen_true, is_within, last_few, last_next, last_within, next_files, none_next}
+use Rattle.vl_replay.proofs.Trials.TrialLines.{HasFewFiles, Passes, all_next, before_all, before_front, before_get, before_met, calls_counted, chosen_true, is_within, last_few, last_next, last_within, none_next}
 
 some_state : (a b : DiskState) → Some a ≡ Some b → a ≡ b
 some_state a b e = cc
@@ -119,9 +119,6 @@ module _ (stop : ℕ) (small : stop < 2 ^ 32) (input : List ℕ) (stands : State
     last_fits : last.files + 2 ≤ max_file_number
     last_fits = omega (arith, few, within, small)
 
-    most_fits : most.files + 2 ≤ max_file_number
-    most_fits = omega (arith, next_files (lines_of input) begun m, few, within, small)
-
     -- the first lines that were answered, and the piece behind them
     takes_first : (o : Outcome) (piece : List ℕ) → run.ends.piece ≡ piece → TakesFirst (t o) old.held new.held m piece
     takes_first o piece is =
@@ -188,14 +185,20 @@ module _ (stop : ℕ) (small : stop < 2 ^ 32) (input : List ℕ) (stands : State
           (λ (many : 2 ^ 64 - 1 ≤ last.calls + stops.made). omega (arith, many, all_counted, stops.most, small))
           (cases_lt (last.calls + stops.made) (2 ^ 64 - 1))
 
+      -- Of the line's calls no more passed than were left.
+      at_most : last.calls + stops.passed ≤ stop
+      at_most =
+          let some = stops.has_passed in
+          let before = (counted_past some.mid.disk (Some stop) (some.as_planned (Some stop) trial.past)).at_least in
+          omega (arith, before, some.counted, some.steady, trial.sound, small, calls_counted stops.passed last.calls small_last)
+
+      passed_fits : last.files + stops.passed + 3 ≤ max_file_number
+      passed_fits = omega (arith, few, at_most, small)
+
       -- Of a commit that was stopped as many calls passed as were left.
       module _ (next : stops.made ≡ suc stops.passed) where
         left : last.calls + stops.passed ≡ stop
         left =
-            let some = stops.has_passed in
-            let before = (counted_past some.mid.disk (Some stop) (some.as_planned (Some stop) trial.past)).at_least in
-            let at_most : last.calls + stops.passed ≤ stop =
-            omega (arith, before, some.counted, some.steady, trial.sound, small, calls_counted stops.passed last.calls small_last) in
             let exactly = (counted_past new.disk.disk (Some stop) past).exactly (omega (arith, at_most, small, made_counted, next)) in
             omega (arith, exactly, failed, at_most, small, made_counted, next)
 
@@ -228,7 +231,7 @@ module _ (stop : ℕ) (small : stop < 2 ^ 32) (input : List ℕ) (stands : State
       stop_reopens o =
           let here : state_on new.disk ≡ stops.now = some_state (state_on new.disk) stops.now stops.told in
           let lawful = told_lawful new.disk.disk.events.items new.disk.disk.kept.sound stops.now stops.told in
-          let again = stopped_reopens last most stops.passed stops.made stops.now stops.stopped lawful last_fits most_fits o
+          let again = stopped_reopens last most stops.passed stops.made stops.now stops.stopped lawful passed_fits o
           (nat_le (last.calls + 1) stop) passed_is in
           subst (λ (s : State). Reopens (crash_image o (state_on new.disk)) (history_of s) (last_number (history_of s))) (sym (stop_state o))
           (subst (λ (d : DiskState). Reopens (crash_image o d) (history_of (state_left o (nat_le (last.calls + 1) stop) last most))

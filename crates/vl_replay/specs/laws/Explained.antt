@@ -15,21 +15,30 @@ use Rattle.vl_model.specs.declared.way.Way.{Way}
 use Rattle.vl_model.specs.laws.ExplainedLaws.{explained-extends}
 use Rattle.vl_layout.specs.AtAnswer as at
 use Rattle.vl_layout.specs.AtAnswer.{AtAnswer, Beginning, beginning_of}
+use Rattle.vl_layout.specs.Jobs.{Made}
+use Rattle.vl_layout.specs.Merging.{outputs}
+use Rattle.vl_layout.specs.Relocation.{Candidate, Pass}
 use Rattle.vl_layout.specs.Ruling.{Ruling, leaving}
 use Rattle.vl_layout.specs.Rulings.Begin as begin
 use Rattle.vl_layout.specs.Rulings.Begin.{BeginAnswer, begin_ruling, begun}
 use Rattle.vl_layout.specs.Rulings.Commit as commit
 use Rattle.vl_layout.specs.Rulings.Commit.{CommitAnswer, Transaction}
+use Rattle.vl_layout.specs.Rulings.Fresh as fresh
+use Rattle.vl_layout.specs.Rulings.Fresh.{FreshAnswer, fresh_ruling}
 use Rattle.vl_layout.specs.Store.Commits.{AreProper, Changes, at_answer_in, history_in, low_in, value_in, with_changes}
-use Rattle.vl_layout.specs.Store.Dispatch.{drop_by}
+use Rattle.vl_layout.specs.Store.Dispatch.{drop_by, fill, filled, install_by, made_of, plan_as, planned_by}
 use Rattle.vl_layout.specs.Store.Lines.{Answer, Dropped, Invalid, Name, Number, Rows}
 use Rattle.vl_layout.specs.Store.Proper.{HasRisingWrites, IsProper}
 use Rattle.vl_layout.specs.Store.Reading.{a_transaction, a_view, answer_of, begin_as, begun_by, commit_by, committed_by, get_at_by, get_by, get_own, is_small_enough, noted_scan, rows_told, ruled, scan_by, scan_of, scanned_rows, told_at, write_by}
 use Rattle.vl_layout.specs.Store.Things.{Thing, ATransaction, AView, AJob, APass, State, Step, named, only, thing_in, thing_of, without_name}
 use Rattle.vl_layout.specs.Tickets.{free_ticket, tickets_of}
+use Rattle.vl_layout.specs.declared.job.Job.{Job}
+use Rattle.vl_layout.specs.declared.layout.Layout.{Layout}
+use Rattle.vl_model.specs.declared.entry.Entry.{Entry}
 use Rattle.vl_layout.specs.laws.CommitsLaws.{conflict_in-is, rows_in-are, value_in-is}
 use Rattle.vl_replay.specs.Exchanges.{ReadsAt, ScansAt, TellsValue}
-use Rattle.vl_replay.specs.laws.Growing.{Adds, IsReader, history_more}
+use Rattle.vl_replay.specs.Readers.{IsReader}
+use Rattle.vl_replay.specs.laws.Growing.{Adds, history_more}
 
 -- ---- what is read, by the history
 
@@ -49,11 +58,11 @@ module _ (s : State) (proper : AreProper s.commits) where
 
 -- ---- what is noted stays explained
 
--- a transaction's reads are explained at its number, at which the history can be read; nothing but readers has a name
+-- a transaction's reads are explained at its number, at which the history can be read; no pass has a name
 abbrev pub IsSoundThing : History → Thing → Type 0
 IsSoundThing h (ATransaction t b) = IsExplained h t.number t.reads × (h.first ≤ t.number) × (t.number ≤ last_number h)
 IsSoundThing h (AView v b) = Unit {0}
-IsSoundThing h (AJob job made) = ⊥
+IsSoundThing h (AJob job made) = Unit {0}
 IsSoundThing h (APass pass batch) = ⊥
 
 pub record IsSound (s : State) : Type 0 where
@@ -70,12 +79,6 @@ explained-more : (h : History) (n : ℕ) (reads : List Read) (x : Read) → IsEx
 explained-more h n [] x all is = (is, tt)
 explained-more h n (r ∷ reads) x all is = (all.0, explained-more h n reads x all.1 is)
 
-is_reader : (h : History) (x : Thing) → IsSoundThing h x → IsReader x
-is_reader h (ATransaction t b) sound = tt
-is_reader h (AView v b) sound = tt
-is_reader h (AJob job made) sound = sound
-is_reader h (APass pass batch) sound = sound
-
 -- a later history
 later_sound : (least most : History) → Extends least most → (x : Thing) → IsSoundThing least x → IsSoundThing most x
 later_sound least most e (ATransaction t b) (explained, from, known) =
@@ -85,7 +88,7 @@ later_sound least most e (ATransaction t b) (explained, from, known) =
       omega (arith, known, first, count, both),
     )
 later_sound least most e (AView v b) sound = tt
-later_sound least most e (AJob job made) sound = sound
+later_sound least most e (AJob job made) sound = tt
 later_sound least most e (APass pass batch) sound = sound
 
 module _ (P : Name × Thing → Type 0) where
@@ -116,6 +119,19 @@ found_rising (t ∷ ts) name x all is = by (eq_by_cmp key_cmp name t.0) is (foun
     by : (b : Bool) → cond b (Some t.1) (thing_in ts name) ≡ Some x → (thing_in ts name ≡ Some x → HasRisingWrites x) → HasRisingWrites x
     by true is later = let same : t.1 ≡ x = cc in subst HasRisingWrites same all.0
     by false is later = later is
+
+-- what a name stands for that stands for no merge reads
+reads_or : (h : History) (x : Thing) → IsSoundThing h x → ((job : Job) (made : Made) → x ≡ AJob job made → ⊥) → IsReader x
+reads_or h (ATransaction t b) sound none = tt
+reads_or h (AView v b) sound none = tt
+reads_or h (AJob job made) sound none = none job made refl
+reads_or h (APass pass batch) sound none = sound
+
+pub only_reader : (h : History) (s : State) → IsSound s → (name : Name) → ((job : Job) (made : Made) → thing_of s name ≡ Some (AJob job made) → ⊥)
+    → (x : Thing) → thing_of s name ≡ Some x → IsReader x
+only_reader h s sound name none x is =
+    reads_or (history_in s.commits) x (found_sound (history_in s.commits) s.things name x sound.things is)
+    (λ job made same. none job made (is ∙ ap Some same))
 
 module _ (s : State) (sound : IsSound s) where
   abbrev h' : History
@@ -220,11 +236,41 @@ module _ (s : State) (sound : IsSound s) where
   drop_stays name None is = same_things _ refl refl
   drop_stays name (Some (ATransaction t b)) is = stays _ refl (freed name)
   drop_stays name (Some (AView v b)) is = stays _ refl (freed name)
-  drop_stays name (Some (AJob job made)) is = absurd (found_sound h' s.things name (AJob job made) sound.things is)
+  drop_stays name (Some (AJob job made)) is = stays _ refl (freed name)
   drop_stays name (Some (APass pass batch)) is = absurd (found_sound h' s.things name (APass pass batch) sound.things is)
 
-  pub only_readers : (name : Name) (x : Thing) → thing_of s name ≡ Some x → IsReader x
-  only_readers name x is = is_reader h' x (found_sound h' s.things name x sound.things is)
+  -- no name stands for a pass
+  pub no_pass : (name : Name) (pass : Pass) (batch : Option (List Candidate)) → thing_of s name ≡ Some (APass pass batch) → ⊥
+  no_pass name pass batch is = found_sound h' s.things name (APass pass batch) sound.things is
+
+  -- ---- merges
+
+  filled_stays : (l' : Layout) (made : Made) (calls : ℕ) (more : Step) (a : FreshAnswer) → Stays more → Stays (filled s l' made calls more a)
+  filled_stays l' made calls more (fresh.Drawn n) stay = stay
+  filled_stays l' made calls more (fresh.Halted file) stay = same_things _ refl refl
+  filled_stays l' made calls more (fresh.Exhausted c) stay = same_things _ refl refl
+
+  fill_stays : (output : List (List Entry)) (name : Name) (job : Job) (l' : Layout) (numbers : List ℕ) (calls : ℕ)
+      → Stays (fill s name job l' output numbers calls)
+  fill_stays [] name job l' numbers calls = stays _ refl (with_named name (AJob job (made_of job numbers)) tt)
+  fill_stays (es ∷ output) name job l' numbers calls =
+      filled_stays l' (made_of job numbers) calls _ (fresh_ruling l' h').answer
+      (fill_stays output name job (fresh_ruling l' h').layout (numbers ++ l'.next_table ∷ []) (calls + 1))
+
+  planned_stays : (name : Name) (r : Ruling (Option Job)) (o : Option Job) → Stays (planned_by s name r o)
+  planned_stays name r None = same_things _ refl refl
+  planned_stays name r (Some job) = fill_stays (outputs job) name job r.layout [] 0
+
+  pub plan_stays : (name : Name) (r : Ruling (Option Job)) (o : Option Thing) → Stays (plan_as s name r o)
+  plan_stays name r None = planned_stays name r r.answer
+  plan_stays name r (Some thing) = same_things _ refl refl
+
+  pub install_stays : (name : Name) (o : Option Thing) → Stays (install_by s name o)
+  install_stays name None = same_things _ refl refl
+  install_stays name (Some (ATransaction t b)) = same_things _ refl refl
+  install_stays name (Some (AView v b)) = same_things _ refl refl
+  install_stays name (Some (AJob job made)) = stays _ refl (freed name)
+  install_stays name (Some (APass pass batch)) = same_things _ refl refl
 
   -- ---- commits
 

@@ -12,19 +12,26 @@ use Rattle.vl_model.specs.declared.change.Change.{Change}
 use Rattle.vl_model.specs.declared.counter.Counter.TheVariants.{Commit as CommitNumber}
 use Rattle.vl_model.specs.declared.way.Way.{Way}
 use Rattle.vl_layout.specs.AtAnswer.{Beginning, beginning_of}
+use Rattle.vl_layout.specs.Jobs.{Made}
+use Rattle.vl_layout.specs.Merging.{outputs}
 use Rattle.vl_layout.specs.Ruling.{Ruling, ended, leaving, logged}
 use Rattle.vl_layout.specs.Rulings.Begin as begin
 use Rattle.vl_layout.specs.Rulings.Begin.{BeginAnswer, begin_ruling, begun}
 use Rattle.vl_layout.specs.Rulings.Commit as commit
 use Rattle.vl_layout.specs.Rulings.Commit.{CommitAnswer, Transaction, commit_checked, commit_ended, commit_frame, commit_running, commit_unless, committed}
+use Rattle.vl_layout.specs.Rulings.Fresh as fresh
+use Rattle.vl_layout.specs.Rulings.Fresh.{FreshAnswer, fresh_ruling}
 use Rattle.vl_layout.specs.Store.Commits.{Changes, Commits, conflict_in, history_in, with_changes}
-use Rattle.vl_layout.specs.Store.Dispatch.{drop_by}
-use Rattle.vl_layout.specs.Store.Lines.{Answer, Name, Number}
+use Rattle.vl_layout.specs.Store.Dispatch.{drop_by, fill, filled, install_by, made_of, plan_as, planned_by}
+use Rattle.vl_layout.specs.Store.Lines.{Answer, Done, Name, Number}
 use Rattle.vl_layout.specs.Store.Reading.{begin_as, begun_by, commit_by, committed_by, get_at_by, get_by, get_own, is_small_enough, scan_by, write_by}
 use Rattle.vl_layout.specs.Store.Things.{Thing, ATransaction, AView, AJob, APass, State, Step}
 use Rattle.vl_layout.specs.Tickets.{free_ticket, tickets_of}
 use Rattle.vl_layout.specs.declared.file_name.FileName.{FileName}
+use Rattle.vl_layout.specs.declared.job.Job.{Job}
+use Rattle.vl_replay.specs.Readers.{IsReader}
 use Rattle.vl_layout.specs.declared.layout.Layout.{Layout}
+use Rattle.vl_model.specs.declared.entry.Entry.{Entry}
 
 -- one more commit
 map-more : (cs : List Changes) (c : Changes) → map from_sorted (cs ++ c ∷ []) ≡ map from_sorted cs ++ from_sorted {R = key_cmp} c ∷ []
@@ -33,13 +40,6 @@ map-more (d ∷ cs) c = ap (λ (xs : List Writes). from_sorted d ∷ xs) (map-mo
 
 pub history_more : (p : Commits) (c : Changes) → history_in (with_changes p c) ≡ with_commit (history_in p) (from_sorted c)
 history_more p c = ap (λ (cs : List Writes). record (history_in p) { commits = cs }) (map-more p.commits c)
-
--- a transaction or a view
-abbrev pub IsReader : Thing → Type 0
-IsReader (ATransaction t b) = Unit {0}
-IsReader (AView v b) = Unit {0}
-IsReader (AJob job made) = ⊥
-IsReader (APass pass batch) = ⊥
 
 module _ (s : State) where
   abbrev h : History
@@ -123,13 +123,52 @@ module _ (s : State) where
 
   -- ---- ends
 
-  -- a script has no jobs or passes
+  -- of what reads; the end of a merge or a pass is told by `ok`
+  pub drop_or : (name : Name) (o : Option Thing)
+      → Keeps (drop_by s name o) ⊎ (((drop_by s name o).state.commits ≡ s.commits) × ((drop_by s name o).answer ≡ Done))
+  drop_or name None = inl (kept_alike _ refl refl refl)
+  drop_or name (Some (ATransaction t b)) = inl (kept_alike _ refl refl refl)
+  drop_or name (Some (AView v b)) = inl (kept_alike _ refl refl refl)
+  drop_or name (Some (AJob job made)) = inr (refl, refl)
+  drop_or name (Some (APass pass batch)) = inr (refl, refl)
+
+  -- where the name stands for a reader, or for nothing
   pub drop_keeps : (name : Name) (o : Option Thing) → ((x : Thing) → o ≡ Some x → IsReader x) → Keeps (drop_by s name o)
   drop_keeps name None only = kept_alike _ refl refl refl
   drop_keeps name (Some (ATransaction t b)) only = kept_alike _ refl refl refl
   drop_keeps name (Some (AView v b)) only = kept_alike _ refl refl refl
   drop_keeps name (Some (AJob job made)) only = absurd (only (AJob job made) refl)
   drop_keeps name (Some (APass pass batch)) only = absurd (only (APass pass batch) refl)
+
+  -- ---- merges
+
+  filled_commits : (l' : Layout) (made : Made) (calls : ℕ) (more : Step) (a : FreshAnswer) → more.state.commits ≡ s.commits
+      → (filled s l' made calls more a).state.commits ≡ s.commits
+  filled_commits l' made calls more (fresh.Drawn n) is = is
+  filled_commits l' made calls more (fresh.Halted file) is = refl
+  filled_commits l' made calls more (fresh.Exhausted c) is = refl
+
+  fill_commits : (output : List (List Entry)) (name : Name) (job : Job) (l' : Layout) (numbers : List ℕ) (calls : ℕ)
+      → (fill s name job l' output numbers calls).state.commits ≡ s.commits
+  fill_commits [] name job l' numbers calls = refl
+  fill_commits (es ∷ output) name job l' numbers calls =
+      filled_commits l' (made_of job numbers) calls _ (fresh_ruling l' h).answer
+      (fill_commits output name job (fresh_ruling l' h).layout (numbers ++ l'.next_table ∷ []) (calls + 1))
+
+  planned_commits : (name : Name) (r : Ruling (Option Job)) (o : Option Job) → (planned_by s name r o).state.commits ≡ s.commits
+  planned_commits name r None = refl
+  planned_commits name r (Some job) = fill_commits (outputs job) name job r.layout [] 0
+
+  pub plan_commits : (name : Name) (r : Ruling (Option Job)) (o : Option Thing) → (plan_as s name r o).state.commits ≡ s.commits
+  plan_commits name r None = planned_commits name r r.answer
+  plan_commits name r (Some thing) = refl
+
+  pub install_commits : (name : Name) (o : Option Thing) → (install_by s name o).state.commits ≡ s.commits
+  install_commits name None = refl
+  install_commits name (Some (ATransaction t b)) = refl
+  install_commits name (Some (AView v b)) = refl
+  install_commits name (Some (AJob job made)) = refl
+  install_commits name (Some (APass pass batch)) = refl
 
   -- it is answered no number
   abbrev pub IsNoNumber : Step → Type 0

@@ -6,9 +6,10 @@ use Rattle.std.specs.Prelude.{Option, Some, None, ◌==◌}
 use Rattle.std.specs.List.{AllByRecursion}
 use Rattle.std.specs.Option.{option_map}
 use Rattle.vl_layout.specs.Rulings.Commit.{Transaction}
+use Rattle.vl_layout.specs.Rulings.Plan.{plan_ruling}
 use Rattle.vl_layout.specs.AtAnswer.{Beginning}
 use Rattle.vl_layout.specs.Store.Commits.{Commits, history_in}
-use Rattle.vl_layout.specs.Store.Lines.{Name, Number}
+use Rattle.vl_layout.specs.Store.Lines.{Done, Name, Number}
 use Rattle.vl_layout.specs.Store.Reading.{a_transaction, a_view, answer_of, answer_with_tag}
 use Rattle.vl_layout.specs.Store.Things.{Thing, ATransaction, thing_of}
 use Rattle.vl_layout.specs.laws.StoreLaws.{step_proper}
@@ -18,16 +19,16 @@ use Rattle.vl_model.specs.Keys.{tagged, untagged}
 use Rattle.vl_model.specs.Reads.{IsExplained, Read}
 use Rattle.vl_model.specs.declared.change.Change.TheVariants.{Set as Put, Delete as Deleted}
 use Rattle.vl_replay.specs.Exchanges.{exchanged, exchanges_from, and_later, IsExplainedExchange, AreExplained, ended_lines, KeepsUp}
-use Rattle.vl_replay.specs.Sequential.{State, asked, history_of, state_after, step_to}
-use Rattle.vl_replay.specs.laws.Explained.{IsSound as IsSoundStore, IsSoundThing, Stays, commit_explained, commit_stays, drop_stays, get_at_explained, get_at_stays, get_explained, get_stays, later_things, only_readers, scan_explained, scan_stays, transaction_stays, view_stays, write_stays}
-use Rattle.vl_replay.specs.laws.Growing.{Adds, Keeps, begin_keeps, commit_or, drop_keeps, get_at_keeps, get_keeps, scan_keeps, write_keeps}
+use Rattle.vl_replay.specs.Sequential.{State, answer_to, asked, history_of, state_after, step_to}
+use Rattle.vl_replay.specs.laws.Explained.{IsSound as IsSoundStore, IsSoundThing, Stays, commit_explained, commit_stays, drop_stays, get_at_explained, get_at_stays, get_explained, get_stays, install_stays, later_things, plan_stays, scan_explained, scan_stays, transaction_stays, view_stays, write_stays}
+use Rattle.vl_replay.specs.laws.Growing.{Adds, Keeps, begin_keeps, commit_or, drop_or, get_at_keeps, get_keeps, install_commits, plan_commits, scan_keeps, write_keeps}
 use Rattle.vl_script.specs.Script.{line_of}
 use Rattle.vl_script.specs.declared.line.Line.{Line}
-use Rattle.vl_script.specs.declared.line.Line.TheVariants.{Begin, View, Get, Set, SetTagged, GetTagged, Scan, Delete, Commit, Drop, Rotate, Flush, Keep, GetAt}
+use Rattle.vl_script.specs.declared.line.Line.TheVariants.{Begin, View, Get, Set, SetTagged, GetTagged, Scan, Delete, Commit, Drop, Rotate, Flush, Keep, GetAt, Plan, Install}
 
 -- ---- what a line leaves
 
--- no name stands for a job or a pass, no name for two things, and what was read is explained at the reader's number
+-- no name stands for a pass, no name for two things, and what was read is explained at the reader's number
 abbrev pub IsSound : State → Type 0
 IsSound s = IsSoundStore s.store
 
@@ -36,7 +37,7 @@ abbrev pub Committing : State → Line → Type 0
 Committing s line = (t : Transaction) × (b : Beginning) × (name : Name) × (line ≡ Commit name)
     × (thing_of s.store name ≡ Some (ATransaction t b)) × Adds s.store (step_to s line) t
 
--- the line is a rotation, a flush or a change of how many versions are kept
+-- the line is a step on files, or ends something
 abbrev pub IsStepLine : Line → Type 0
 IsStepLine (Begin name) = ⊥
 IsStepLine (View name) = ⊥
@@ -48,16 +49,18 @@ IsStepLine (Set name key value) = ⊥
 IsStepLine (SetTagged name key value tag) = ⊥
 IsStepLine (Delete name key) = ⊥
 IsStepLine (Commit name) = ⊥
-IsStepLine (Drop name) = ⊥
+IsStepLine (Drop name) = Unit {0}
 IsStepLine Rotate = Unit {0}
 IsStepLine Flush = Unit {0}
 IsStepLine (Keep versions) = Unit {0}
+IsStepLine (Plan name) = Unit {0}
+IsStepLine (Install name) = Unit {0}
 
--- such a step on files keeps the commits and what the names stand for
+-- such a line keeps the commits, and is told by `ok` where it ends something
 pub record Stepping (s : State) (line : Line) : Type 0 where
   pub is : IsStepLine line
   pub commits : (step_to s line).state.commits ≡ s.store.commits
-  pub things : (step_to s line).state.things ≡ s.store.things
+  pub ended : (name : Name) → line ≡ Drop name → answer_to s line ≡ Done
 
 -- a line keeps the commits, and the layout but for what lives; or it makes a transaction the next commit, or is a step on files
 pub keeps_or : (s : State) (line : Line) → IsSound s → Keeps s.store (step_to s line) ⊎ (Committing s line ⊎ Stepping s line)
@@ -69,14 +72,27 @@ keeps_or s (Scan name low high limit way) sound = inl (scan_keeps s.store way na
 keeps_or s (Set name key value) sound = inl (write_keeps s.store name key (Put (untagged value)) (thing_of s.store name))
 keeps_or s (SetTagged name key value tag) sound = inl (write_keeps s.store name key (Put (tagged value tag)) (thing_of s.store name))
 keeps_or s (Delete name key) sound = inl (write_keeps s.store name key Deleted (thing_of s.store name))
-keeps_or s (Drop name) sound = inl (drop_keeps s.store name (thing_of s.store name) (only_readers s.store sound name))
+keeps_or s (Drop name) sound = elim (drop_or s.store name (thing_of s.store name)) [
+  | inl keeps ↦ inl keeps
+  | inr (commits, done) ↦ inr (inr (record { is = tt; commits = commits; ended = λ other same. done }))
+]
 keeps_or s (Commit name) sound = elim (commit_or s.store name (thing_of s.store name)) [
   | inl keeps ↦ inl keeps.0
   | inr (t, b, is, adds) ↦ inr (inl (t, b, name, refl, is, adds))
 ]
-keeps_or s Rotate sound = inr (inr (record { is = tt; commits = refl; things = refl }))
-keeps_or s Flush sound = inr (inr (record { is = tt; commits = refl; things = refl }))
-keeps_or s (Keep versions) sound = inr (inr (record { is = tt; commits = refl; things = refl }))
+keeps_or s Rotate sound = inr (inr (record { is = tt; commits = refl; ended = λ name same. absurd cc }))
+keeps_or s Flush sound = inr (inr (record { is = tt; commits = refl; ended = λ name same. absurd cc }))
+keeps_or s (Keep versions) sound = inr (inr (record { is = tt; commits = refl; ended = λ name same. absurd cc }))
+keeps_or s (Plan name) sound = inr (inr (record {
+  is = tt;
+  commits = plan_commits s.store name (plan_ruling s.store.layout (history_of s)) (thing_of s.store name);
+  ended = λ other same. absurd cc;
+}))
+keeps_or s (Install name) sound = inr (inr (record {
+  is = tt;
+  commits = install_commits s.store name (thing_of s.store name);
+  ended = λ other same. absurd cc;
+}))
 keeps_or s (GetAt name key number) sound = inl (get_at_keeps s.store name key number (thing_of s.store name))
 
 -- ---- what is read is explained
@@ -130,6 +146,10 @@ state_after-sound s (Commit name) sound = commit_sound s name sound (keeps_or s 
 state_after-sound s Rotate sound = kept_sound s Rotate sound refl sound.things
 state_after-sound s Flush sound = kept_sound s Flush sound refl sound.things
 state_after-sound s (Keep versions) sound = kept_sound s (Keep versions) sound refl sound.things
+state_after-sound s (Plan name) sound =
+    stays_sound s (Plan name) sound (let stay = plan_stays s.store sound name (plan_ruling s.store.layout (history_of s)) (thing_of s.store name) in
+    record { commits = stay.commits; things = stay.things })
+state_after-sound s (Install name) sound = stays_sound s (Install name) sound (install_stays s.store sound name (thing_of s.store name))
 state_after-sound s (GetAt name key number) sound =
     stays_sound s (GetAt name key number) sound (get_at_stays s.store sound name key number (thing_of s.store name))
 
@@ -158,6 +178,8 @@ exchange_explained stay s (Drop name) sound = tt
 exchange_explained stay s Rotate sound = tt
 exchange_explained stay s Flush sound = tt
 exchange_explained stay s (Keep versions) sound = tt
+exchange_explained stay s (Plan name) sound = tt
+exchange_explained stay s (Install name) sound = tt
 exchange_explained stay s (GetAt name key number) sound = λ told. get_at_explained s.store sound name key number (thing_of s.store name) told
 exchange_explained stay s (Commit name) sound = λ t b n is e. commit_explained s.store sound stay name t b n (thing_of s.store name) is is (adds_of s name t b n is e) e
 

@@ -2,25 +2,25 @@
 ghost use Rattle.std.specs.Prelude.{◌≡◌};
 ghost use Rattle.vl_layout.specs.Store.Reading.{a_transaction, a_view, begin_as};
 ghost use Rattle.vl_layout.specs.Store.Things.{thing_of};
-ghost use Rattle.vl_replay.specs.Replaying.{MakesStep, OnlyNoMemory, StandsFor};
+ghost use Rattle.vl_replay.specs.Replaying.{MakesStep, NamesNoMerge, OnlyNoMemory, ServesFor};
 ghost use Rattle.vl_replay.specs.Sequential.{State};
 
 use crate::fails::Halt;
-use crate::replayer::Replayer;
+use crate::replayer::Served;
 use crate::replayer::open::{Thing, is_taken, put};
 use vl_disk::Disk;
 use vl_engine::BeginFail;
 use vl_script::{Answer, Ident};
 
-impl<D: Disk> Replayer<D> {
+impl<D: Disk> Served<D> {
     /// Begins a transaction of this name.
     pub(super) fn begin(&mut self, name: Ident) -> Result<Answer, Halt>
-        ensures makes { (s : State) → StandsFor D.Watched D.Held.bytes self.old s
-            → MakesStep D.Held.bytes (D.told self.new.engine.disk) self.new.engine.core self.new.opens.items s
+        ensures makes { (s : State) → ServesFor D.Watched D.Held.bytes self.old s
+            → NamesNoMerge name s → MakesStep D.Held.bytes (D.told self.new.engine.disk) self.new.engine.core self.new.opens.items s
             (begin_as s.store name a_transaction (thing_of s.store name)) result }
         ensures fails { OnlyNoMemory result }
         ensures disk { self.new.engine.disk ≡ self.old.engine.disk }
-        ensures halted { self.new.halted ≡ self.old.halted }
+        ensures merging { self.new.engine.merging ≡ self.old.engine.merging }
     {
         if is_taken(&self.opens, name.as_slice()) {
             return Ok(Answer::Taken { name });
@@ -38,12 +38,12 @@ impl<D: Disk> Replayer<D> {
 
     /// Begins a view of this name.
     pub(super) fn view(&mut self, name: Ident) -> Result<Answer, Halt>
-        ensures makes { (s : State) → StandsFor D.Watched D.Held.bytes self.old s
-            → MakesStep D.Held.bytes (D.told self.new.engine.disk) self.new.engine.core self.new.opens.items s
+        ensures makes { (s : State) → ServesFor D.Watched D.Held.bytes self.old s
+            → NamesNoMerge name s → MakesStep D.Held.bytes (D.told self.new.engine.disk) self.new.engine.core self.new.opens.items s
             (begin_as s.store name a_view (thing_of s.store name)) result }
         ensures fails { OnlyNoMemory result }
         ensures disk { self.new.engine.disk ≡ self.old.engine.disk }
-        ensures halted { self.new.halted ≡ self.old.halted }
+        ensures merging { self.new.engine.merging ≡ self.old.engine.merging }
     {
         if is_taken(&self.opens, name.as_slice()) {
             return Ok(Answer::Taken { name });

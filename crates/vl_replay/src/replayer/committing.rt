@@ -1,40 +1,42 @@
 //! Commits through a name.
-ghost use Rattle.std.specs.Prelude.{◌≡◌, Err};
+ghost use Rattle.std.specs.Prelude.{◌≡◌, Err, OnOk};
 ghost use Rattle.vl_disk.specs.Faults.{HasCause};
 ghost use Rattle.vl_disk.specs.declared.name.Name.{Name};
 ghost use Rattle.vl_disk.specs.declared.name.Name.TheVariants as names;
+ghost use Rattle.vl_engine.specs.Carries.{StaysUntold};
 ghost use Rattle.vl_engine.specs.Shown.{Shown};
 ghost use Rattle.vl_layout.specs.Store.Reading.{commit_by};
 ghost use Rattle.vl_layout.specs.Store.Things.{thing_of};
 ghost use Rattle.vl_replay.specs.Durable.{CarriesOut};
 ghost use Rattle.vl_replay.specs.Halts.{HaltsByDisk, HaltsByRead};
-ghost use Rattle.vl_replay.specs.Replaying.{MakesStep, StandsFor, state_by};
+ghost use Rattle.vl_replay.specs.Replaying.{MakesStep, ServesFor, state_by};
 ghost use Rattle.vl_replay.specs.Sequential.{State};
 ghost use Rattle.vl_replay.specs.Stored.{IsStopped, IsStored};
 ghost use Rattle.vl_replay.specs.declared.fails.Halt.TheVariants as halts;
 
 use crate::fails::Halt;
-use crate::replayer::Replayer;
+use crate::replayer::Served;
 use crate::replayer::open::{Thing, put, take_out};
 use vl_disk::Disk;
 use vl_engine::{CommitFail, Done};
 use vl_model::Counter;
 use vl_script::{Answer, Ident};
 
-impl<D: Disk> Replayer<D> {
+impl<D: Disk> Served<D> {
     /// Makes the transaction of this name the next commit. Where it lives on it keeps its name.
     pub(super) fn commit(&mut self, name: Ident) -> Result<Answer, Halt>
-        ensures makes { (s : State) → StandsFor D.Watched D.Held.bytes self.old s
+        ensures makes { (s : State) → ServesFor D.Watched D.Held.bytes self.old s
             → MakesStep D.Held.bytes (D.told self.new.engine.disk) self.new.engine.core self.new.opens.items s
             (commit_by s.store name (thing_of s.store name)) result }
-        ensures carries { (s : State) → StandsFor D.Watched D.Held.bytes self.old s
+        ensures carries { (s : State) → ServesFor D.Watched D.Held.bytes self.old s
             → CarriesOut D.Watched IsStored Shown IsStopped self.old.engine.disk self.new.engine.disk s
             (state_by s (commit_by s.store name (thing_of s.store name))) result }
-        ensures sound { (s : State) → StandsFor D.Watched D.Held.bytes self.old s → HaltsByRead result → ⊥ }
+        ensures sound { (s : State) → ServesFor D.Watched D.Held.bytes self.old s → HaltsByRead result → ⊥ }
         ensures cause { HasCause (D.faults self.old.engine.disk) (D.faults self.new.engine.disk) (HaltsByDisk result) }
-        ensures named { (s : State) (file : Name) → StandsFor D.Watched D.Held.bytes self.old s
+        ensures named { (s : State) (file : Name) → ServesFor D.Watched D.Held.bytes self.old s
             → result ≡ Err (halts.Disk file) → file ≡ names.Log s.store.layout.active.number }
-        ensures halted { self.new.halted ≡ self.old.halted }
+        ensures merging { self.new.engine.merging ≡ self.old.engine.merging }
+        ensures untold { OnOk result (StaysUntold (D.told self.old.engine.disk) (D.told self.new.engine.disk)) }
     {
         match take_out(&mut self.opens, name.as_slice()) {
             None => Ok(Answer::Unknown { name }),

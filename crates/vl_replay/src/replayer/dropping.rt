@@ -2,22 +2,22 @@
 ghost use Rattle.std.specs.Prelude.{◌≡◌, Ok};
 ghost use Rattle.vl_layout.specs.Store.Dispatch.{drop_by};
 ghost use Rattle.vl_layout.specs.Store.Things.{thing_of};
-ghost use Rattle.vl_replay.specs.Replaying.{MakesStep, StandsFor};
+ghost use Rattle.vl_replay.specs.Replaying.{MakesStep, NamesNoMerge, ServesFor};
 ghost use Rattle.vl_replay.specs.Sequential.{State};
 
-use crate::replayer::Replayer;
+use crate::replayer::Served;
 use crate::replayer::open::{Thing, take_out};
 use vl_disk::Disk;
 use vl_script::{Answer, Ident};
 
-impl<D: Disk> Replayer<D> {
-    /// Ends what the name stands for, and nothing of it stays.
+impl<D: Disk> Served<D> {
+    /// Ends the transaction or the view that the name stands for, and nothing of it stays.
     pub(super) fn end(&mut self, name: Ident) -> Answer
-        ensures makes { (s : State) → StandsFor D.Watched D.Held.bytes self.old s
-            → MakesStep D.Held.bytes (D.told self.new.engine.disk) self.new.engine.core self.new.opens.items s
+        ensures makes { (s : State) → ServesFor D.Watched D.Held.bytes self.old s
+            → NamesNoMerge name s → MakesStep D.Held.bytes (D.told self.new.engine.disk) self.new.engine.core self.new.opens.items s
             (drop_by s.store name (thing_of s.store name)) (Ok result) }
         ensures disk { self.new.engine.disk ≡ self.old.engine.disk }
-        ensures halted { self.new.halted ≡ self.old.halted }
+        ensures merging { self.new.engine.merging ≡ self.old.engine.merging }
     {
         match take_out(&mut self.opens, name.as_slice()) {
             None => Answer::Unknown { name },

@@ -19,7 +19,7 @@ ghost use Rattle.vl_replay.specs.Start.{StartsIn};
 ghost use Rattle.vl_replay.specs.Stored.{IsStored};
 ghost use Rattle.vl_replay.specs.declared.fails.Refusal.{Refusal};
 
-use crate::replayer::Replayer;
+use crate::replayer::{Replayer, Served};
 use std::alloc::Global;
 use vl_disk::Disk;
 use vl_engine::{Engine, OpenFail};
@@ -30,7 +30,7 @@ impl<D: Disk> Replayer<D> {
     pub fn new(alloc: Global, disk: D) -> Result<Self, OpenFail<D, D::Reader>>
         // It stands for the store that the disk opens as, and the disk holds it, where it may be opened again.
         ensures store { (s : State) → StartsIn D.Watched disk s
-            → IfOk result (λ replayer. StandsFor D.Watched D.Held.bytes replayer s) }
+            → IfOk result (λ replayer. StandsFor D.Watched D.Writer.Writer D.Held.bytes replayer s) }
         ensures goes_on { IfOk result TakesLines }
         ensures holds { (s : State) → StartsIn D.Watched disk s → IsTrue s.openable
             → IfOk result (λ replayer. HoldsState D.Watched IsStored s (disk_of replayer)) }
@@ -77,8 +77,12 @@ impl<D: Disk> Replayer<D> {
     {
         match Engine::open(alloc, disk, MAX_ROOM) {
             Ok(engine) => Ok(Replayer {
-                engine,
-                opens: Vec::new(alloc),
+                served: Served {
+                    alloc,
+                    engine,
+                    opens: Vec::new(alloc),
+                },
+                planned: None,
                 halted: None,
             }),
             Err(fail) => Err(fail),

@@ -1,35 +1,34 @@
 //! Reads through a name.
-ghost use Rattle.std.specs.Prelude.{◌≡◌, ◌≤◌, []};
-ghost use Rattle.vl_layout.specs.Sources.{tables};
+ghost use Rattle.std.specs.Prelude.{◌≡◌, ◌≤◌};
 ghost use Rattle.vl_layout.specs.Store.Reading.{get_at_by, get_by, scan_by};
 ghost use Rattle.vl_layout.specs.Store.Things.{thing_of};
 ghost use Rattle.vl_replay.specs.Failing.{ReaderFailed};
 ghost use Rattle.vl_replay.specs.Halts.{HaltsByDamage, HaltsByDisk, HaltsByReader};
-ghost use Rattle.vl_replay.specs.Replaying.{MakesStep, OnlyNoMemory, StandsFor};
+ghost use Rattle.vl_replay.specs.Readers.{IsWithoutTables};
+ghost use Rattle.vl_replay.specs.Replaying.{MakesStep, OnlyNoMemory, ServesFor};
 ghost use Rattle.vl_replay.specs.Sequential.{State};
 ghost use Rattle.vl_replay.specs.Standing.{tell_of, told_by, told_past, told_value};
 ghost use Rattle.vl_script.specs.declared.answer.Answer.TheVariants.{Rows as TheRows};
 
 use crate::fails::Halt;
-use crate::replayer::Replayer;
+use crate::replayer::Served;
 use crate::replayer::open::{Thing, place};
 use vl_disk::Disk;
 use vl_engine::{AtFail, ReadFail, Rows};
 use vl_model::{Bytes, Value, Way};
 use vl_script::{Answer, Ident};
 
-impl<D: Disk> Replayer<D> {
+impl<D: Disk> Served<D> {
     /// Reads a key, and tells its value with its tag or without.
     pub(super) fn read(&mut self, name: Ident, key: Bytes, with_tag: bool) -> Result<Answer, Halt>
-        ensures makes { (s : State) → StandsFor D.Watched D.Held.bytes self.old s
+        ensures makes { (s : State) → ServesFor D.Watched D.Held.bytes self.old s
             → MakesStep D.Held.bytes (D.told self.new.engine.disk) self.new.engine.core self.new.opens.items s
             (get_by s.store name (tell_of with_tag) key (thing_of s.store name)) result }
-        ensures near { (s : State) → StandsFor D.Watched D.Held.bytes self.old s → tables s.store.layout ≡ [] → OnlyNoMemory result }
-        ensures undamaged { (s : State) → StandsFor D.Watched D.Held.bytes self.old s → HaltsByDamage result → ⊥ }
+        ensures near { (s : State) → ServesFor D.Watched D.Held.bytes self.old s → IsWithoutTables s.store.layout → OnlyNoMemory result }
+        ensures undamaged { (s : State) → ServesFor D.Watched D.Held.bytes self.old s → HaltsByDamage result → ⊥ }
         ensures fault { HaltsByReader result → ReaderFailed D.Reader.faults }
         ensures not_the_disk { HaltsByDisk result → ⊥ }
         ensures engine { self.new.engine ≡ self.old.engine }
-        ensures halted { self.new.halted ≡ self.old.halted }
     {
         let Some(at) = place(&self.opens, name.as_slice()) else {
             return Ok(Answer::Unknown { name });
@@ -42,15 +41,14 @@ impl<D: Disk> Replayer<D> {
 
     /// Reads a key as it stood at a number.
     pub(super) fn get_at(&mut self, name: Ident, key: Bytes, number: u64) -> Result<Answer, Halt>
-        ensures makes { (s : State) → StandsFor D.Watched D.Held.bytes self.old s
+        ensures makes { (s : State) → ServesFor D.Watched D.Held.bytes self.old s
             → MakesStep D.Held.bytes (D.told self.new.engine.disk) self.new.engine.core self.new.opens.items s
             (get_at_by s.store name key number (thing_of s.store name)) result }
-        ensures near { (s : State) → StandsFor D.Watched D.Held.bytes self.old s → tables s.store.layout ≡ [] → OnlyNoMemory result }
-        ensures undamaged { (s : State) → StandsFor D.Watched D.Held.bytes self.old s → HaltsByDamage result → ⊥ }
+        ensures near { (s : State) → ServesFor D.Watched D.Held.bytes self.old s → IsWithoutTables s.store.layout → OnlyNoMemory result }
+        ensures undamaged { (s : State) → ServesFor D.Watched D.Held.bytes self.old s → HaltsByDamage result → ⊥ }
         ensures fault { HaltsByReader result → ReaderFailed D.Reader.faults }
         ensures not_the_disk { HaltsByDisk result → ⊥ }
         ensures engine { self.new.engine ≡ self.old.engine }
-        ensures halted { self.new.halted ≡ self.old.halted }
     {
         let Some(at) = place(&self.opens, name.as_slice()) else {
             return Ok(Answer::Unknown { name });
@@ -71,15 +69,14 @@ impl<D: Disk> Replayer<D> {
         way: Way,
     ) -> Result<Answer, Halt>
         requires { 1 ≤ limit }
-        ensures makes { (s : State) → StandsFor D.Watched D.Held.bytes self.old s
+        ensures makes { (s : State) → ServesFor D.Watched D.Held.bytes self.old s
             → MakesStep D.Held.bytes (D.told self.new.engine.disk) self.new.engine.core self.new.opens.items s
             (scan_by s.store way name low high limit (thing_of s.store name)) result }
-        ensures near { (s : State) → StandsFor D.Watched D.Held.bytes self.old s → tables s.store.layout ≡ [] → OnlyNoMemory result }
-        ensures undamaged { (s : State) → StandsFor D.Watched D.Held.bytes self.old s → HaltsByDamage result → ⊥ }
+        ensures near { (s : State) → ServesFor D.Watched D.Held.bytes self.old s → IsWithoutTables s.store.layout → OnlyNoMemory result }
+        ensures undamaged { (s : State) → ServesFor D.Watched D.Held.bytes self.old s → HaltsByDamage result → ⊥ }
         ensures fault { HaltsByReader result → ReaderFailed D.Reader.faults }
         ensures not_the_disk { HaltsByDisk result → ⊥ }
         ensures engine { self.new.engine ≡ self.old.engine }
-        ensures halted { self.new.halted ≡ self.old.halted }
     {
         let Some(at) = place(&self.opens, name.as_slice()) else {
             return Ok(Answer::Unknown { name });

@@ -1,8 +1,9 @@
 //! Rotations, flushes, and how many versions are kept.
-ghost use Rattle.std.specs.Prelude.{◌≡◌, ◌⊎◌, Err};
+ghost use Rattle.std.specs.Prelude.{◌≡◌, ◌⊎◌, Err, OnOk};
 ghost use Rattle.vl_disk.specs.Faults.{HasCause};
 ghost use Rattle.vl_disk.specs.declared.name.Name.{Name};
 ghost use Rattle.vl_disk.specs.declared.name.Name.TheVariants as names;
+ghost use Rattle.vl_engine.specs.Carries.{StaysUntold};
 ghost use Rattle.vl_engine.specs.Shown.{Shown};
 ghost use Rattle.vl_layout.specs.Rulings.Flush.{flush_ruling};
 ghost use Rattle.vl_layout.specs.Rulings.Keep.{keep_ruling};
@@ -10,69 +11,72 @@ ghost use Rattle.vl_layout.specs.Rulings.Rotate.{rotate_ruling};
 ghost use Rattle.vl_layout.specs.Store.Dispatch.{keep_by, step_by};
 ghost use Rattle.vl_replay.specs.Durable.{CarriesOut};
 ghost use Rattle.vl_replay.specs.Halts.{HaltsByDisk, HaltsByRead};
-ghost use Rattle.vl_replay.specs.Replaying.{MakesStep, StandsFor, state_by, state_by_step};
+ghost use Rattle.vl_replay.specs.Replaying.{MakesStep, ServesFor, state_by, state_by_step};
 ghost use Rattle.vl_replay.specs.Sequential.{State, history_of};
 ghost use Rattle.vl_replay.specs.Standing.{told_keep, told_step};
 ghost use Rattle.vl_replay.specs.Stored.{IsStopped, IsStored};
 ghost use Rattle.vl_replay.specs.declared.fails.Halt.TheVariants as halts;
 
 use crate::fails::Halt;
-use crate::replayer::Replayer;
+use crate::replayer::Served;
 use vl_disk::Disk;
 use vl_engine::{KeepFail, StepFail};
 use vl_script::Answer;
 
-impl<D: Disk> Replayer<D> {
+impl<D: Disk> Served<D> {
     /// Seals the log that takes commits and begins a new one, where a commit stands in it.
     pub(super) fn rotate(&mut self) -> Result<Answer, Halt>
-        ensures makes { (s : State) → StandsFor D.Watched D.Held.bytes self.old s
+        ensures makes { (s : State) → ServesFor D.Watched D.Held.bytes self.old s
             → MakesStep D.Held.bytes (D.told self.new.engine.disk) self.new.engine.core self.new.opens.items s
             (step_by s.store (rotate_ruling s.store.layout (history_of s))) result }
-        ensures carries { (s : State) → StandsFor D.Watched D.Held.bytes self.old s
+        ensures carries { (s : State) → ServesFor D.Watched D.Held.bytes self.old s
             → CarriesOut D.Watched IsStored Shown IsStopped self.old.engine.disk self.new.engine.disk s
             (state_by_step s (step_by s.store (rotate_ruling s.store.layout (history_of s)))) result }
-        ensures sound { (s : State) → StandsFor D.Watched D.Held.bytes self.old s → HaltsByRead result → ⊥ }
+        ensures sound { (s : State) → ServesFor D.Watched D.Held.bytes self.old s → HaltsByRead result → ⊥ }
         ensures cause { HasCause (D.faults self.old.engine.disk) (D.faults self.new.engine.disk) (HaltsByDisk result) }
-        ensures named { (s : State) (file : Name) → StandsFor D.Watched D.Held.bytes self.old s
+        ensures named { (s : State) (file : Name) → ServesFor D.Watched D.Held.bytes self.old s
             → result ≡ Err (halts.Disk file)
             → (file ≡ names.Log s.store.layout.active.number) ⊎ (file ≡ names.Log s.store.layout.next_log) }
-        ensures halted { self.new.halted ≡ self.old.halted }
+        ensures merging { self.new.engine.merging ≡ self.old.engine.merging }
+        ensures untold { OnOk result (StaysUntold (D.told self.old.engine.disk) (D.told self.new.engine.disk)) }
     {
         told(self.engine.rotate())
     }
 
     /// Makes a table of the log that was sealed first of those that wait for it, where one does.
     pub(super) fn flush(&mut self) -> Result<Answer, Halt>
-        ensures makes { (s : State) → StandsFor D.Watched D.Held.bytes self.old s
+        ensures makes { (s : State) → ServesFor D.Watched D.Held.bytes self.old s
             → MakesStep D.Held.bytes (D.told self.new.engine.disk) self.new.engine.core self.new.opens.items s
             (step_by s.store (flush_ruling s.store.layout (history_of s))) result }
-        ensures carries { (s : State) → StandsFor D.Watched D.Held.bytes self.old s
+        ensures carries { (s : State) → ServesFor D.Watched D.Held.bytes self.old s
             → CarriesOut D.Watched IsStored Shown IsStopped self.old.engine.disk self.new.engine.disk s
             (state_by_step s (step_by s.store (flush_ruling s.store.layout (history_of s)))) result }
-        ensures sound { (s : State) → StandsFor D.Watched D.Held.bytes self.old s → HaltsByRead result → ⊥ }
+        ensures sound { (s : State) → ServesFor D.Watched D.Held.bytes self.old s → HaltsByRead result → ⊥ }
         ensures cause { HasCause (D.faults self.old.engine.disk) (D.faults self.new.engine.disk) (HaltsByDisk result) }
-        ensures named { (s : State) (file : Name) → StandsFor D.Watched D.Held.bytes self.old s
+        ensures named { (s : State) (file : Name) → ServesFor D.Watched D.Held.bytes self.old s
             → result ≡ Err (halts.Disk file)
             → (file ≡ names.Table s.store.layout.next_table)
             ⊎ (file ≡ names.Manifest self.old.engine.core.back.manifest.number) }
-        ensures halted { self.new.halted ≡ self.old.halted }
+        ensures merging { self.new.engine.merging ≡ self.old.engine.merging }
+        ensures untold { OnOk result (StaysUntold (D.told self.old.engine.disk) (D.told self.new.engine.disk)) }
     {
         told(self.engine.flush())
     }
 
     /// Has merges keep so many of the newest versions of a key.
     pub(super) fn keep(&mut self, versions: u8) -> Result<Answer, Halt>
-        ensures makes { (s : State) → StandsFor D.Watched D.Held.bytes self.old s
+        ensures makes { (s : State) → ServesFor D.Watched D.Held.bytes self.old s
             → MakesStep D.Held.bytes (D.told self.new.engine.disk) self.new.engine.core self.new.opens.items s
             (keep_by s.store (keep_ruling s.store.layout (history_of s) versions)) result }
-        ensures carries { (s : State) → StandsFor D.Watched D.Held.bytes self.old s
+        ensures carries { (s : State) → ServesFor D.Watched D.Held.bytes self.old s
             → CarriesOut D.Watched IsStored Shown IsStopped self.old.engine.disk self.new.engine.disk s
             (state_by s (keep_by s.store (keep_ruling s.store.layout (history_of s) versions))) result }
-        ensures sound { (s : State) → StandsFor D.Watched D.Held.bytes self.old s → HaltsByRead result → ⊥ }
+        ensures sound { (s : State) → ServesFor D.Watched D.Held.bytes self.old s → HaltsByRead result → ⊥ }
         ensures cause { HasCause (D.faults self.old.engine.disk) (D.faults self.new.engine.disk) (HaltsByDisk result) }
         ensures named { (file : Name) → result ≡ Err (halts.Disk file)
             → file ≡ names.Manifest self.old.engine.core.back.manifest.number }
-        ensures halted { self.new.halted ≡ self.old.halted }
+        ensures merging { self.new.engine.merging ≡ self.old.engine.merging }
+        ensures untold { OnOk result (StaysUntold (D.told self.old.engine.disk) (D.told self.new.engine.disk)) }
     {
         told_keep(self.engine.keep(versions))
     }

@@ -6,20 +6,20 @@ ghost use Rattle.vl_layout.specs.Store.Reading.{write_by};
 ghost use Rattle.vl_layout.specs.Store.Things.{thing_of};
 ghost use Rattle.vl_model.specs.History.{History};
 ghost use Rattle.vl_model.specs.Reads.{Read};
-ghost use Rattle.vl_replay.specs.Replaying.{MakesStep, OnlyNoMemory, StandsFor};
+ghost use Rattle.vl_replay.specs.Replaying.{MakesStep, OnlyNoMemory, ServesFor};
 ghost use Rattle.vl_replay.specs.Sequential.{State};
 ghost use Rattle.vl_replay.specs.Standing.{change_of, told_write};
 ghost use Rattle.vl_txn.specs.Refusals.{IsWritten};
 
 use crate::fails::Halt;
-use crate::replayer::Replayer;
+use crate::replayer::Served;
 use crate::replayer::open::{Thing, place};
 use vl_disk::{Disk, HeldFile, Reader};
 use vl_engine::{SetFail, Txn};
 use vl_model::Bytes;
 use vl_script::{Answer, Ident};
 
-impl<D: Disk> Replayer<D> {
+impl<D: Disk> Served<D> {
     /// Writes a value with its tag, or deletes the key where there is none.
     pub(super) fn write(
         &mut self,
@@ -27,12 +27,11 @@ impl<D: Disk> Replayer<D> {
         key: Bytes,
         value: Option<(Bytes, u8)>,
     ) -> Result<Answer, Halt>
-        ensures makes { (s : State) → StandsFor D.Watched D.Held.bytes self.old s
+        ensures makes { (s : State) → ServesFor D.Watched D.Held.bytes self.old s
             → MakesStep D.Held.bytes (D.told self.new.engine.disk) self.new.engine.core self.new.opens.items s
             (write_by s.store name key (change_of value) (thing_of s.store name)) result }
         ensures fails { OnlyNoMemory result }
         ensures engine { self.new.engine ≡ self.old.engine }
-        ensures halted { self.new.halted ≡ self.old.halted }
     {
         let Some(at) = place(&self.opens, name.as_slice()) else {
             return Ok(Answer::Unknown { name });

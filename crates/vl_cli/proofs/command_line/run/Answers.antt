@@ -9,6 +9,7 @@ use Rattle.vl_script.specs.Script.{lines_of}
 use Rattle.vl_replay.specs.Endings.{CountsFaultsOf, TheDisk, TheSource, TheSink, status_of, usage_line}
 use Rattle.vl_disk.specs.Faults.{Rose}
 use Rattle.vl_disk.specs.declared.name.Name.{Name}
+use Rattle.vl_replay.specs.Failing.{ByReader}
 use Rattle.vl_replay.specs.Reading.{ReadsInput, streams}
 use Rattle.vl_replay.specs.Start.{EndsAtTables, all_explained, explained_from}
 use Rattle.vl_replay.specs.declared.ending.Ending.TheVariants.{Damaged, ReaderFault, Refused}
@@ -99,7 +100,8 @@ returns-in-Some-Replay-clause-reader_fault g c s starts is =
     (λ (unread : ending ≡ ReaderFault). inr (c.replay-ending.ensures.reader_fault s starts unread))
     (rose_or_unread ending before now counts (sym c.status-status.ensures ∙ is)))
     (λ (tables : EndsAtTables g.D.Watched g.D.Reader.Reader.faults g.K.Sink c.args.disk c.replay-ending.result.disk c.args.sink.now c.replay-ending.new.sink ending
-    × (c.replay-ending.new.source ≡ c.args.source.now)). inr tables.0.0.reader)
+    × (c.replay-ending.new.source ≡ c.args.source.now)).
+    inr (record { reader = ByReader tables.0.0.reader.reader; some = tables.0.0.reader.some }))
     c.replay-ending.ensures.disk_faults
 
 pub returns-in-Some-Replay-clause-no_disk_fault : goal.returns-in-Some-Replay-clause-no_disk_fault

@@ -61,7 +61,7 @@ returns-in_err-print_answer-clause-carries g c s stands held =
     (λ is_it. absurd (ok_not_err residual.result is_it residual.ensures.0))
     (λ by. absurd (out_not_by_disk residual.result residual.ensures.1 by))
     (λ by. absurd (out_readable residual.result residual.ensures.1 by))
-    (λ out. kept_without_number g.D.Watched (record { only_now = g.met.D.Disk.only_now; counts_now = g.met.D.Disk.counts_now }) s c.args.text.now (disk_of c.args.replayer.now) (disk_of c.line.new.self) c.in-Some.line c.in_ok-answer.answer stands.sound (c.in_ok-answer.ensures.answer s stands)
+    (λ out. kept_without_number g.D.Watched (record { only_now = g.met.D.Disk.only_now; counts_now = g.met.D.Disk.counts_now }) s c.args.text.now (disk_of c.args.replayer.now) (disk_of c.line.new.self) c.in-Some.line c.in_ok-answer.answer stands.serves.sound (c.in_ok-answer.ensures.answer s stands)
     (λ number is_number. ok_not_err c.print_answer.result (c.print_answer.ensures.room number is_number (omega (arith, ap length c.in_ok-out.ensures.items, c.in_ok-out.ensures.capacity))) (ap is_err c.in_err-print_answer.was))
     (λ is_done. ok_not_err c.print_answer.result (c.print_answer.ensures.room_for_ok is_done (omega (arith, ap length c.in_ok-out.ensures.items, c.in_ok-out.ensures.capacity))) (ap is_err c.in_err-print_answer.was))
     (of_ok c.line.result _ ok carried.answered))

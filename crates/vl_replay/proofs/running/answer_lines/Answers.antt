@@ -31,8 +31,8 @@ pub lines-init : goal.lines-init
 lines-init g c = record {
   under_way = λ s input stands told.
       let begin = outside g.S.Source g.K.Sink c.args.source.now c.args.sink.now (disk_of c.args.replayer) in
-      subst (λ (b : List ℕ). UnderWay g.D.Watched IsStored Shown (script_of s 0 input) begin begin (kept (StandsFor g.D.Watched g.D.Held.HeldFile.bytes c.args.replayer) b 0)) (sym c.in-Ok.ensures)
-      (begun g.D.Watched (record { only_now = g.met.D.Disk.only_now; counts_now = g.met.D.Disk.counts_now }) IsStored Shown IsStopped shown_stays stored_exactly s input begin (StandsFor g.D.Watched g.D.Held.HeldFile.bytes c.args.replayer) stands told (g.met.S.Source.since_asked c.args.source.now));
+      subst (λ (b : List ℕ). UnderWay g.D.Watched IsStored Shown (script_of s 0 input) begin begin (kept (StandsFor g.D.Watched g.D.Writer.Writer g.D.Held.HeldFile.bytes c.args.replayer) b 0)) (sym c.in-Ok.ensures)
+      (begun g.D.Watched (record { only_now = g.met.D.Disk.only_now; counts_now = g.met.D.Disk.counts_now }) IsStored Shown IsStopped shown_stays stored_exactly s input begin (StandsFor g.D.Watched g.D.Writer.Writer g.D.Held.HeldFile.bytes c.args.replayer) stands told (g.met.S.Source.since_asked c.args.source.now));
   has_read = λ input told.
       let begin = streams g.S.Source g.K.Sink c.args.source.now c.args.sink.now in
       subst (λ (b : List ℕ). HasRead input begin begin b 0) (sym c.in-Ok.ensures)
@@ -51,7 +51,7 @@ lines-preserved g c = record {
       let u = c.lines.invariant.under_way s input stands told in
       further g.D.Watched (record { only_now = g.met.D.Disk.only_now; counts_now = g.met.D.Disk.counts_now }) IsStored Shown IsStopped shown_stays stored_exactly s input
       (outside g.S.Source g.K.Sink c.args.source.now c.args.sink.now (disk_of c.args.replayer)) (outside g.S.Source g.K.Sink c.lines.source c.lines.sink (disk_of c.lines.progress.replayer)) (outside g.S.Source g.K.Sink c.step.new.source c.step.new.sink (disk_of c.step.new.self.replayer))
-      (kept (StandsFor g.D.Watched g.D.Held.HeldFile.bytes c.lines.progress.replayer) c.lines.progress.buffer c.lines.progress.answered) (kept (StandsFor g.D.Watched g.D.Held.HeldFile.bytes c.step.new.self.replayer) c.step.new.self.buffer c.step.new.self.answered) u
+      (kept (StandsFor g.D.Watched g.D.Writer.Writer g.D.Held.HeldFile.bytes c.lines.progress.replayer) c.lines.progress.buffer c.lines.progress.answered) (kept (StandsFor g.D.Watched g.D.Writer.Writer g.D.Held.HeldFile.bytes c.step.new.self.replayer) c.step.new.self.buffer c.step.new.self.answered) u
       (c.in_default-step.ensures.runs u.rest u.to_do);
   has_read = λ input told. c.in_default-step.ensures.reads input (streams g.S.Source g.K.Sink c.args.source.now c.args.sink.now) (c.lines.invariant.has_read input told);
   stands = λ s stands. let now = c.lines.invariant.stands s stands in c.in_default-step.ensures.stands now.0 now.1 refl;
@@ -69,7 +69,7 @@ returns-in-Some-clause-runs g c s input stands told =
     let same_disk = c.lines.invariant.disk_steady in
     rw c.close-in-Some.ensures (over g.D.Watched (record { only_now = g.met.D.Disk.only_now; counts_now = g.met.D.Disk.counts_now }) IsStored Shown IsStopped shown_stays stored_exactly s input
     (outside g.S.Source g.K.Sink c.args.source.now c.args.sink.now (disk_of c.args.replayer)) (outside g.S.Source g.K.Sink c.lines.source c.lines.sink (disk_of c.lines.progress.replayer)) (outside g.S.Source g.K.Sink c.step.new.source c.step.new.sink (disk_of c.step.new.self.replayer))
-    (kept (StandsFor g.D.Watched g.D.Held.HeldFile.bytes c.lines.progress.replayer) c.lines.progress.buffer c.lines.progress.answered) (kept (StandsFor g.D.Watched g.D.Held.HeldFile.bytes c.step.new.self.replayer) c.step.new.self.buffer c.step.new.self.answered) u
+    (kept (StandsFor g.D.Watched g.D.Writer.Writer g.D.Held.HeldFile.bytes c.lines.progress.replayer) c.lines.progress.buffer c.lines.progress.answered) (kept (StandsFor g.D.Watched g.D.Writer.Writer g.D.Held.HeldFile.bytes c.step.new.self.replayer) c.step.new.self.buffer c.step.new.self.answered) u
     c.in-Some.ending (omega arith) same_disk (c.in-Some.ensures.runs u.rest u.to_do))
 
 pub returns-in_default-clause-input : goal.returns-in_default-clause-input

@@ -1,6 +1,7 @@
 use Rattle.std.proofs.Common.{refl}
 use Rattle.std.specs.FinMap.{empty}
 use Rattle.vl_disk.specs.DiskState.{empty_disk}
+use Rattle.vl_mem.specs.contracts.steady_writer.SteadyWriterWriter.TheImpl as writing
 use Rattle.vl_replay.specs.Trial.{begun}
 use Rattle.vl_replay.specs.Trying.{all_told}
 use Rattle.vl_replay.proofs.Trials.Reopening.{bare_read, counts_small, opened, starts, steady_readers, stopped, told}
@@ -14,7 +15,7 @@ returns-clause-opened c =
     let none = c.new.ensures.calls in
     let begins = starts c.args.stop disk empty_is stops none in
     let opens = c.new-2.ensures in
-    opened c.args.stop disk empty_is stops none _ c.new-2.result (steady_readers _ (λ reader. refl) c.new-2.result) opens.cause (opens.meanwhile empty_disk empty (told c.args.stop disk empty_is stops none) bare_read) all_told
+    opened c.args.stop disk empty_is stops none _ c.new-2.result (steady_readers _ (λ reader. refl) c.new-2.result) opens.cause (opens.meanwhile empty_disk empty (told c.args.stop disk empty_is stops none) bare_read) writing.ghosts all_told
     (opens.store begun begins)
     (opens.holds begun begins refl)
 

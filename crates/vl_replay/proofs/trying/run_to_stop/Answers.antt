@@ -1,6 +1,7 @@
-use Rattle.std.proofs.Common.{◌≡◌, ◌≢◌, arith, true, false, sym, ◌∙◌}
+use Rattle.std.proofs.Common.{◌≡◌, ◌≢◌, ◌≤◌, arith, true, false, sym, ◌∙◌}
+use Rattle.vl_mem.specs.contracts.steady_writer.SteadyWriterWriter.TheImpl as writing
 use Rattle.vl_mem.specs.contracts.stopping_disk.StoppingDiskWatched.TheImpl as memory
-use Rattle.vl_replay.specs.Failing.{ReaderFailed}
+use Rattle.vl_replay.specs.Failing.{Beside, ByReader, ByWriter, ReaderFailed, beside}
 use Rattle.vl_replay.specs.Replaying.{StandsFor, disk_of}
 use Rattle.vl_replay.specs.Runs.{outside}
 use Rattle.vl_replay.specs.Trial.{begun}
@@ -16,14 +17,18 @@ use Rattle.vl_replay.proofs.trying.run_to_stop.Goals as goal
 not_both : true ≡ false → ⊥
 not_both e = cc
 
--- no reader of the disk counts a fault
-never_reader : {R : Type 0} {P : Type 0} → (P → ReaderFailed {R = R} (λ reader. 0)) → P → ⊥
-never_reader failed p = (let some = (failed p).some in omega (arith, some))
+-- no reader of the disk counts a fault, nor does what writes its files beside it
+none_counted : {R W : Type 0} (x : Beside R W) → 1 ≤ beside (λ (reader : R). 0) (λ (writer : W). 0) x → ⊥
+none_counted (ByReader reader) some = omega (arith, some)
+none_counted (ByWriter writer) some = omega (arith, some)
+
+never_reader : {R W : Type 0} {P : Type 0} → (P → ReaderFailed (beside (λ (reader : R). 0) (λ (writer : W). 0))) → P → ⊥
+never_reader failed p = none_counted (failed p).reader (failed p).some
 
 pub returns-in-Ok-clause-comes : goal.returns-in-Ok-clause-comes
 returns-in-Ok-clause-comes g c input told =
     let still = c.answer_lines.ensures.still_told input told in
-    comes c.args.stop (omega (arith, c.ranges.stop.fits)) input (StandsFor memory.ghosts all_told c.in-Ok.replayer)
+    comes c.args.stop (omega (arith, c.ranges.stop.fits)) input (StandsFor memory.ghosts writing.ghosts all_told c.in-Ok.replayer)
     (outside g.S.Source g.K.Sink c.args.source.now c.args.sink.now (disk_of c.in-Ok.replayer))
     (outside g.S.Source g.K.Sink c.answer_lines.new.source c.answer_lines.new.sink c.answer_lines.result.disk)
     c.in-Ok.ensures.opened c.answer_lines.result.ending (c.answer_lines.ensures.runs begun input c.in-Ok.ensures.opened.stands_for told)

@@ -1,4 +1,6 @@
-use Rattle.std.proofs.Common.{◌≡◌, sym, subst, ◌∙◌, refl, arith}
+use Rattle.std.proofs.Common.{◌≡◌, ap, sym, subst, ◌∙◌, refl, arith}
+use Rattle.vl_layout.specs.declared.layout.Layout.{Layout}
+use Rattle.vl_replay.proofs.Merges.Waiting.{none_merges}
 use Rattle.vl_engine.specs.Opening.{IsDurable}
 use Rattle.vl_recover.specs.laws.opening.OneFinding.{opened_not}
 use Rattle.vl_replay.specs.Sequential.{history_of}
@@ -47,14 +49,17 @@ returns-in-Err-clause-unmoved g c some = c.in-Err.ensures.unmoved some
 -- ---- what was opened
 
 pub returns-in-Ok-clause-store : goal.returns-in-Ok-clause-store
-returns-in-Ok-clause-store g c s starts =
-    opened_stands g.D.Watched g.D.Held.HeldFile.bytes c.args.disk s starts c.in-Ok.engine.core
-    (c.in-Ok.ensures.back starts.state starts.read starts.found starts.told starts.is_read)
-    c.new.result.items _ c.new.ensures.items
-    (c.in-Ok.ensures.stands starts.state starts.read starts.found (history_of s) starts.told starts.is_read starts.shown)
-    (c.in-Ok.ensures.fits starts.state starts.read starts.found (history_of s) starts.told starts.is_read starts.shown)
-    (λ openable. c.in-Ok.ensures.represents starts.state starts.read starts.found (history_of s) starts.told
-    (starts.openable openable) starts.is_read starts.shown)
+returns-in-Ok-clause-store g c s starts = record {
+  serves = opened_stands g.D.Watched g.D.Held.HeldFile.bytes c.args.disk s starts c.in-Ok.engine.core
+      (c.in-Ok.ensures.back starts.state starts.read starts.found starts.told starts.is_read)
+      c.new.result.items _ c.new.ensures.items
+      (c.in-Ok.ensures.stands starts.state starts.read starts.found (history_of s) starts.told starts.is_read starts.shown)
+      (c.in-Ok.ensures.fits starts.state starts.read starts.found (history_of s) starts.told starts.is_read starts.shown)
+      (λ openable. c.in-Ok.ensures.represents starts.state starts.read starts.found (history_of s) starts.told
+      (starts.openable openable) starts.is_read starts.shown);
+  merges = none_merges g.D.Writer.Writer g.D.Held.HeldFile.bytes _ c.in-Ok.ensures.merging s.store.things s.store.layout
+      (ap (λ (l : Layout). l.job) starts.layout) starts.things;
+}
 
 pub returns-in-Ok-clause-holds : goal.returns-in-Ok-clause-holds
 returns-in-Ok-clause-holds g c s starts openable =

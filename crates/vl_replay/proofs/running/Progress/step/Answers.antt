@@ -21,8 +21,8 @@ returns-in-Ok-Line-clause-runs g c script to_do =
     let reads = reads_script WholeLine script.bytes (c.args.self.now.buffer ++ to_do.rest) c.read_line.new.line.items c.read_line.new.buffer (g.S.Source.left c.read_line.new.source) to_do.bytes_are (rw c.in-Ok-Line.field-0-is at (c.in-Ok-Line.ensures.line to_do.rest to_do.left_is)) in
     let old = outside g.S.Source g.K.Sink c.args.source.now c.args.sink.now (disk_of c.args.self.now.replayer) in
     let new = outside g.S.Source g.K.Sink c.read_line.new.source c.answer.new.sink (disk_of c.answer.new.self.replayer) in
-    subst (λ (b : List ℕ). Steps g.D.Watched IsStored Shown IsStopped script old new (kept (StandsFor g.D.Watched g.D.Held.HeldFile.bytes c.answer.new.self.replayer) b c.answer.new.self.answered) c.answer.result) (sym c.answer.ensures.same)
-    (step_line g.D.Watched (record { only_now = g.met.D.Disk.only_now; counts_now = g.met.D.Disk.counts_now }) IsStored Shown IsStopped shown_stays stored_exactly script old new c.read_line.new.line.items (StandsFor g.D.Watched g.D.Held.HeldFile.bytes c.answer.new.self.replayer) c.read_line.new.buffer c.answer.new.self.answered c.answer.result (c.answer.ensures.counted script.before to_do.count) reads
+    subst (λ (b : List ℕ). Steps g.D.Watched IsStored Shown IsStopped script old new (kept (StandsFor g.D.Watched g.D.Writer.Writer g.D.Held.HeldFile.bytes c.answer.new.self.replayer) b c.answer.new.self.answered) c.answer.result) (sym c.answer.ensures.same)
+    (step_line g.D.Watched (record { only_now = g.met.D.Disk.only_now; counts_now = g.met.D.Disk.counts_now }) IsStored Shown IsStopped shown_stays stored_exactly script old new c.read_line.new.line.items (StandsFor g.D.Watched g.D.Writer.Writer g.D.Held.HeldFile.bytes c.answer.new.self.replayer) c.read_line.new.buffer c.answer.new.self.answered c.answer.result (c.answer.ensures.counted script.before to_do.count) reads
     (c.answer.ensures.printed script to_do.stands to_do.count (next_line script c.read_line.new.line.items c.read_line.new.buffer (g.S.Source.left c.read_line.new.source) reads)) (c.answer.ensures.moves script.start to_do.stands) (still_keeps_up script.bytes (c.args.self.now.buffer ++ to_do.rest) (g.S.Source.asked c.args.source.now) (g.S.Source.asked c.read_line.new.source) to_do.bytes_are (c.read_line.ensures.keeps_up to_do.rest to_do.left_is) to_do.kept_up))
 
 pub returns-in-Ok-LastLine-clause-runs : goal.returns-in-Ok-LastLine-clause-runs
@@ -31,7 +31,7 @@ returns-in-Ok-LastLine-clause-runs g c script to_do =
     let answered = c.answer-in-Ok-LastLine in
     let old = outside g.S.Source g.K.Sink c.args.source.now c.args.sink.now (disk_of c.args.self.now.replayer) in
     let new = outside g.S.Source g.K.Sink c.read_line.new.source answered.new.sink (disk_of answered.new.self.replayer) in
-    step_last g.D.Watched (record { only_now = g.met.D.Disk.only_now; counts_now = g.met.D.Disk.counts_now }) IsStored Shown IsStopped shown_stays stored_exactly script old new c.read_line.new.line.items (StandsFor g.D.Watched g.D.Held.HeldFile.bytes answered.new.self.replayer) c.read_line.new.buffer answered.result c.unwrap_or.result c.unwrap_or.ensures reads
+    step_last g.D.Watched (record { only_now = g.met.D.Disk.only_now; counts_now = g.met.D.Disk.counts_now }) IsStored Shown IsStopped shown_stays stored_exactly script old new c.read_line.new.line.items (StandsFor g.D.Watched g.D.Writer.Writer g.D.Held.HeldFile.bytes answered.new.self.replayer) c.read_line.new.buffer answered.result c.unwrap_or.result c.unwrap_or.ensures reads
     (answered.ensures.printed script to_do.stands to_do.count (next_last script c.read_line.new.line.items c.read_line.new.buffer (g.S.Source.left c.read_line.new.source) reads)) (answered.ensures.moves script.start to_do.stands) (still_keeps_up script.bytes (c.args.self.now.buffer ++ to_do.rest) (g.S.Source.asked c.args.source.now) (g.S.Source.asked c.read_line.new.source) to_do.bytes_are (c.read_line.ensures.keeps_up to_do.rest to_do.left_is) to_do.kept_up)
 
 pub returns-in-Ok-TooLong-clause-runs : goal.returns-in-Ok-TooLong-clause-runs

@@ -1,0 +1,81 @@
+-- The merge that waits can be handed in, and still can behind a call of the engine that leaves it alone.
+use Rattle.std.proofs.Common.{◌≡◌, ℕ, Bool, true, false, ◌&&◌, not, List, [], ◌∷◌, refl, ap, sym, ◌∙◌, subst}
+use Rattle.std.proofs.lemmas.List.Elements.{recursion_from_All}
+use Rattle.std.specs.List.{AllByRecursion}
+use Rattle.std.specs.Prelude.{Option, None, Some, IsSome, Ok, Err, OnOk, Result, is_some}
+use Rattle.std.specs.Option.{ForSome}
+use Rattle.vl_compact.specs.declared.files.Synced.{Synced}
+use Rattle.vl_compact.specs.declared.job.Job.{Job}
+use Rattle.vl_disk.specs.DiskState.{DiskState}
+use Rattle.vl_disk.specs.declared.name.Name.{Name}
+use Rattle.vl_disk.specs.declared.watched.Watched.{Ghosts}
+use Rattle.vl_disk.specs.declared.writer.Writer.{Ghosts as Writers}
+use Rattle.vl_engine.specs.Carries.{StaysUntold}
+use Rattle.vl_engine.specs.Installing.{IsHandedIn, numbers_in}
+use Rattle.vl_engine.specs.declared.open.OpenMerge.{OpenMerge}
+use Rattle.vl_layout.specs.Jobs.{AreDistinct}
+use Rattle.vl_model.specs.Numbers.{has}
+use Rattle.vl_replay.specs.Handed.{CanHandIn, MayHandIn, are_distinct}
+use Rattle.vl_replay.specs.declared.fails.Halt.{Halt}
+use Rattle.vl_replay.specs.declared.replayer.planned.Planned.{Planned}
+
+none_some : {T : Type 0} (x : T) → None ≡ Some x → ⊥
+none_some x e = cc
+
+and_both : (a b : Bool) → (a && b) ≡ true → (a ≡ true) × (b ≡ true)
+and_both true b is = (refl, is)
+and_both false b is = absurd cc
+
+not_true : (b : Bool) → not b ≡ true → b ≡ false
+not_true true is = absurd cc
+not_true false is = refl
+
+distinct_so : (ns : List ℕ) → are_distinct ns ≡ true → AreDistinct ns
+distinct_so [] is = tt
+distinct_so (n ∷ ns) is =
+    let (other, later) = and_both (not (has n ns)) (are_distinct ns) is in (not_true (has n ns) other, distinct_so ns later)
+
+-- what told nothing tells nothing
+told_before : (old new : Option DiskState) (state : DiskState) → StaysUntold old new → new ≡ Some state → (before : DiskState) × (old ≡ Some before)
+told_before None new state stays is = absurd (none_some state (sym (stays refl) ∙ is))
+told_before (Some before) new state stays is = (before, refl)
+
+module _ {D V H W : Type 0} (g : Ghosts D) (w : Writers W) {s : _} where
+  -- it can be handed in
+  pub handed_in : (disk : D) (halted : Option Name) (merging : Option OpenMerge) (job : Job V H W s) → MayHandIn g w disk merging job
+      → IsHandedIn g w disk halted merging job
+  handed_in disk halted merging job may = of merging refl may.is_open
+    where
+      of : (o : Option OpenMerge) → merging ≡ o → is_some o ≡ true → IsHandedIn g w disk halted merging job
+      of None is some = absurd cc
+      of (Some merge) is some = record {
+        ended = may.ended;
+        merge = merge;
+        is_open = is;
+        drawn = recursion_from_All (λ (n : ℕ). has n merge.lent.items ≡ true) (numbers_in job) (may.drawn merge is);
+        distinct = distinct_so (numbers_in job) may.distinct;
+        tells = λ running state told. recursion_from_All (λ (t : Synced W s). IsSome (w.file t.writer)) job.made.items (may.tells state told);
+      }
+
+  module _ (old new : D) (merging merging' : Option OpenMerge) (planned : Option (Planned V H W s)) (same : merging' ≡ merging) where
+    pub can_still : StaysUntold (g.told old) (g.told new) → CanHandIn g w old merging planned → CanHandIn g w new merging' planned
+    can_still stays can = λ p is.
+        let may = can p is in
+        subst (λ (o : Option OpenMerge). MayHandIn g w new o p.job) (sym same) (record {
+          ended = may.ended;
+          is_open = may.is_open;
+          drawn = may.drawn;
+          distinct = may.distinct;
+          tells = λ state told. (let (before, there) = told_before (g.told old) (g.told new) state stays told in may.tells before there);
+        })
+
+    -- where it was answered
+    pub can_answered : {T : Type 0} (result : Result T Halt) → OnOk result (StaysUntold (g.told old) (g.told new)) → CanHandIn g w old merging planned
+        → OnOk result (CanHandIn g w new merging' planned)
+    can_answered (Ok x) stays can = can_still stays can
+    can_answered (Err e) stays can = tt
+
+    -- the disk is the same
+    pub can_same : {T : Type 0} (result : Result T Halt) → new ≡ old → CanHandIn g w old merging planned → OnOk result (CanHandIn g w new merging' planned)
+    can_same (Ok x) disk can = can_still (λ none. ap (λ (d : D). g.told d) disk ∙ none) can
+    can_same (Err e) disk can = tt

@@ -1,0 +1,22 @@
+use Rattle.std.specs.Prelude.{◌≡◌, ◌-◌, ◌^◌, None}
+use Rattle.vl_layout.specs.declared.job.Job.{Job}
+use Rattle.vl_replay.specs.Drawn.{IsPlanned}
+use Rattle.vl_replay.specs.Rounds.{HasLent}
+use Rattle.vl_replay.specs.Sequential.{State}
+use Rattle.vl_replay.proofs.CarryingTables.{SoFar}
+use Rattle.vl_replay.proofs.carrying.make_tables.Given as goal
+
+abbrev pub invariant-tables : goal.invariant-tables
+invariant-tables g l = record {
+  lent : HasLent g.D.Watched g.D.Writer.Writer l.engine.disk l.engine.merging l.job;
+  steady : g.D.Watched.faults l.engine.disk ≡ g.D.Watched.faults l.fn.engine.disk;
+  running : l.fn.engine.core.front.halted ≡ None → l.engine.core.front.halted ≡ None;
+  so_far : (s : State) (j : Job)
+      → IsPlanned g.D.Writer.Writer g.D.Held.HeldFile.bytes
+      (g.D.Watched.told l.fn.engine.disk) l.fn.engine.core l.fn.engine.merging l.fn.job s j
+      → SoFar g.D.Watched g.D.Writer.Writer g.D.Held.HeldFile.bytes l.fn.engine.disk l.engine.disk l.engine.core l.engine.merging l.job
+      l.reader s j;
+}
+
+abbrev pub decreases-tables : goal.decreases-tables
+decreases-tables g l = 2 ^ 32 - l.engine.core.back.state.next_table

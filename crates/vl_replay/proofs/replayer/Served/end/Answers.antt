@@ -1,0 +1,51 @@
+-- What the name stood for has ended, and the name is free.
+use Rattle.std.proofs.Common.{refl}
+use Rattle.vl_layout.specs.Store.Dispatch.{drop_by}
+use Rattle.vl_replay.specs.Sequential.{history_of}
+use Rattle.vl_replay.proofs.Names.BeginMaking.{transaction_ends, unnamed_makes, view_ends}
+use Rattle.vl_replay.proofs.Names.Returning.{taken_as, taken_out}
+use Rattle.vl_replay.proofs.Names.Serving.{represents}
+use Rattle.vl_replay.proofs.replayer.Served.end.Goals as goal
+
+pub returns-in-None-clause-makes : goal.returns-in-None-clause-makes
+returns-in-None-clause-makes g c s stands none =
+    let bytes = g.D.Held.HeldFile.bytes in
+    let core = c.args.self.now.engine.core in
+    let seen = g.D.Watched.told c.args.self.now.engine.disk in
+    let os = c.args.self.now.opens.items in
+    let left = c.take_out.new.opens.items in
+    let taken = taken_as bytes seen core os left s stands c.as_slice.result.now c.args.name c.as_slice.ensures _ c.in-None.ensures in
+    unnamed_makes bytes seen core os s stands left c.args.name taken none (drop_by s.store c.args.name) refl
+
+pub returns-in-Some-View-clause-makes : goal.returns-in-Some-View-clause-makes
+returns-in-Some-View-clause-makes g c s stands none =
+    let bytes = g.D.Held.HeldFile.bytes in
+    let core = c.args.self.now.engine.core in
+    let seen = g.D.Watched.told c.args.self.now.engine.disk in
+    let os = c.args.self.now.opens.items in
+    let left = c.take_out.new.opens.items in
+    let taken = taken_out bytes seen core os left s stands c.as_slice.result.now c.args.name c.as_slice.ensures _ _
+    c.in-Some-View.field-0-is c.in-Some-View.ensures in
+    view_ends bytes seen (g.D.Watched.told c.release.new.self.disk) core c.release.new.self.core os s stands c.release.ensures.back left c.args.name c.in-Some-View.view taken
+    (record {
+      stands = c.release.ensures.stands (history_of s) s.store.layout stands.engine;
+      fits = c.release.ensures.fits (history_of s) s.store.layout stands.fits;
+      held = λ openable. (c.release.ensures.represents (history_of s) s.store.layout (represents bytes seen core os s stands openable)).held;
+    })
+
+pub returns-clause-makes : goal.returns-clause-makes
+returns-clause-makes g c s stands none =
+    let bytes = g.D.Held.HeldFile.bytes in
+    let core = c.args.self.now.engine.core in
+    let seen = g.D.Watched.told c.args.self.now.engine.disk in
+    let os = c.args.self.now.opens.items in
+    let left = c.take_out.new.opens.items in
+    let taken = taken_out bytes seen core os left s stands c.as_slice.result.now c.args.name c.as_slice.ensures _ _
+    c.in-Some-Transaction.field-0-is c.in-Some-Transaction.ensures in
+    transaction_ends bytes seen (g.D.Watched.told c.forget.new.self.disk) core c.forget.new.self.core os s stands c.forget.ensures.back left c.args.name
+    c.in-Some-Transaction.txn taken
+    (record {
+      stands = c.forget.ensures.stands (history_of s) s.store.layout stands.engine;
+      fits = c.forget.ensures.fits (history_of s) s.store.layout stands.fits;
+      held = λ openable. (c.forget.ensures.represents (history_of s) s.store.layout (represents bytes seen core os s stands openable)).held;
+    })

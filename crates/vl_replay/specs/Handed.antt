@@ -1,0 +1,30 @@
+-- What is so of a merge that waits for its install, so that it can be handed in to the engine.
+use Rattle.std.specs.Prelude.{◌≡◌, ℕ, Bool, true, ◌&&◌, not, is_some, List, [], ◌∷◌, Option, IsSome, All}
+use Rattle.std.specs.Option.{ForSome}
+use Rattle.vl_compact.specs.declared.files.Synced.{Synced}
+use Rattle.vl_compact.specs.declared.job.Job.{Job}
+use Rattle.vl_disk.specs.declared.watched.Watched.{Ghosts}
+use Rattle.vl_disk.specs.declared.writer.Writer.{Ghosts as Writers}
+use Rattle.vl_engine.specs.Installing.{numbers_in}
+use Rattle.vl_engine.specs.declared.open.OpenMerge.{OpenMerge}
+use Rattle.vl_model.specs.Numbers.{has}
+use Rattle.vl_replay.specs.declared.replayer.planned.Planned.{Planned}
+
+-- no number is there twice
+abbrev pub are_distinct : List ℕ → Bool
+are_distinct [] = true
+are_distinct (n ∷ ns) = not (has n ns) && are_distinct ns
+
+-- It has all of its merge. Its files are ones that were lent to the open merge, each with a number of its own; and its writers tell
+-- them where the disk tells its files.
+pub record MayHandIn {D V H W : Type 0} (g : Ghosts D) (w : Writers W) (disk : D) (merging : Option OpenMerge) {s : _} (job : Job V H W s)
+    : Type 0 where
+  pub ended : job.ended ≡ true
+  pub is_open : is_some merging ≡ true
+  pub drawn : ForSome merging (λ (o : OpenMerge). All (λ (n : ℕ). has n o.lent.items ≡ true) (numbers_in job))
+  pub distinct : are_distinct (numbers_in job) ≡ true
+  pub tells : ForSome (g.told disk) (λ _. All (λ (t : Synced W s). IsSome (w.file t.writer)) job.made.items)
+
+-- so it is of the one that waits
+abbrev pub CanHandIn : {D V H W : Type 0} → Ghosts D → Writers W → D → Option OpenMerge → {s : _} → Option (Planned V H W s) → Type 0
+CanHandIn g w disk merging {s} planned = ForSome planned (λ (p : Planned _ _ _ s). MayHandIn g w disk merging p.job)
