@@ -5,33 +5,59 @@ use crate::source::Source;
 use crate::tables::TABLE;
 use std::alloc::Global;
 use std::test::Fail;
+use vl_mem::{MemHeld, MemReader};
 use vl_merge::Merge;
 use vl_model::{Cursor, Way};
-use vl_run::Run;
-use vl_table::TableCursor;
+use vl_run::{Run, RunCursor};
+use vl_table::{TableCursor, TableFault};
 
-// A run of one deletion.
-fn short_run(alloc: Global, key: &[u8], version: u64) -> Result<Run, Fail> {
+type TestSource = Source<MemHeld, MemReader>;
+
+// A cursor over a run of one deletion.
+fn memory(alloc: Global, key: &[u8], version: u64) -> Result<RunCursor, Fail> {
     let mut entries = Vec::new(alloc);
     entries.push(gone(alloc, key, version)?)?;
-    Ok(Run::from_writes(entries)?)
+    Ok(Run::from_writes(entries)?.cursor(Way::Up)?)
+}
+
+fn table(alloc: Global) -> Result<TableCursor<MemHeld, MemReader>, Fail> {
+    let mut tables = Vec::new(alloc);
+    tables.push(open(alloc, 1, &TABLE)?)?;
+    Ok(TableCursor::new(alloc, tables, whole(), Way::Up)?)
+}
+
+fn push_sources(alloc: Global, sources: &mut Vec<TestSource>) -> Result<(), Fail> {
+    sources.push(Source::Memory(memory(alloc, b"b", 2)?))?;
+    sources.push(Source::Table(table(alloc)?))?;
+    Ok(())
+}
+
+fn merge(alloc: Global) -> Result<Merge<TestSource>, Fail> {
+    let mut sources = Vec::new(alloc);
+    push_sources(alloc, &mut sources)?;
+    Ok(Merge::new(sources, Way::Up)?)
+}
+
+// The version of the next entry, if one is left.
+fn next(merge: &mut Merge<TestSource>, reader: &mut MemReader) -> Result<Option<u64>, TableFault> {
+    match merge.next(reader)? {
+        Some(entry) => Ok(Some(entry.version)),
+        None => Ok(None),
+    }
+}
+
+fn gives_all(merge: &mut Merge<TestSource>, reader: &mut MemReader) -> bool {
+    next(merge, reader) == Ok(Some(1))
+        && next(merge, reader) == Ok(Some(2))
+        && next(merge, reader) == Ok(Some(1))
+        && next(merge, reader) == Ok(None)
 }
 
 #[test]
 fn one_reader_serves_memory_and_a_table(rt: HostRuntime) -> Result<(), Fail> {
     let alloc = rt.alloc();
-    let mut tables = Vec::new(alloc);
-    tables.push(open(alloc, 1, &TABLE)?)?;
+    let mut merge = merge(alloc)?;
     let mut reader = failing(alloc, &[])?;
-    let run = short_run(alloc, b"b", 2)?;
-    let mut sources = Vec::new(alloc);
-    sources.push(Source::Memory(run.cursor(Way::Up)?))?;
-    sources.push(Source::Table(TableCursor::new(alloc, tables, whole(), Way::Up)?))?;
-    let mut merge = Merge::new(sources, Way::Up)?;
-    for version in [1, 2, 1] {
-        let entry = merge.next(&mut reader)?.ok_or("none")?;
-        assert_eq!(rt; entry.version, version);
-    }
-    assert!(rt; merge.next(&mut reader)?.is_none());
+    assert!(rt; gives_all(&mut merge, &mut reader));
     Ok(())
 }

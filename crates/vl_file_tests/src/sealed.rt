@@ -1,13 +1,14 @@
 //! Logs that are appended to no more, by their bytes: the values that pointers lead to, and the frames one by one.
 
-ghost use Rattle.std.specs.Prelude.{◌≡◌, IfOk};
+ghost use Rattle.std.specs.Prelude.{◌≡◌};
 
-use std::alloc::Global;
+use crate::disk::failing;
+use std::alloc::{AllocError, Global};
 use std::test::Fail;
-use vl_disk::{Disk, Name, make_file};
-use vl_mem::{MemDisk, MemHeld, MemReader};
+use vl_disk::Name;
+use vl_mem::{MemHeld, MemReader};
 use vl_model::Pointer;
-use vl_seglog::{Filled, LogFault, Said, SealedLog, read_log};
+use vl_seglog::{Filled, Frame, LogFault, Said, SealedLog, read_log};
 
 // Log 1 with a commit and a relocation, as docs/FORMATS.md has them.
 const LOG: [u8; 86] = [
@@ -27,139 +28,127 @@ const OLD_LOG: [u8; 50] = [
     0xa4, 0xb4,
 ];
 
-// The log of these bytes, and a reader.
-fn sealed(alloc: Global, format: u32, bytes: &[u8]) -> Result<(SealedLog<MemHeld>, MemReader), Fail>
-    ensures { IfOk result (λ r. r.0.number ≡ 1) }
-{
-    let name = Name::Log(1);
-    let mut disk = MemDisk::new(alloc, Vec::new(alloc), Vec::new(alloc));
-    disk.ready(name, bytes.len() as u64)?;
-    make_file(&mut disk, name, bytes)?;
-    let held = disk.hold(name)?;
-    let reader = disk.reader(alloc)?;
-    let log = SealedLog {
+// The log of these bytes.
+fn sealed(alloc: Global, format: u32, bytes: &[u8]) -> Result<SealedLog<MemHeld>, AllocError> {
+    let bytes = Vec::from_slice(alloc, bytes)?;
+    Ok(SealedLog {
         number: 1,
         format,
-        held,
-    };
-    Ok((log, reader))
+        held: MemHeld::new(alloc, Name::Log(1), bytes),
+    })
 }
 
-fn at(place: u64, length: u32) -> Pointer
-    ensures { result.segment ≡ 1 }
+// The place of a record in a log.
+fn at(log: &SealedLog<MemHeld>, place: u64, length: u32) -> Pointer
+    ensures { result.segment ≡ log.now.number }
 {
     Pointer {
-        segment: 1,
+        segment: log.number,
         place,
         length,
     }
 }
 
+fn ends(alloc: Global, bytes: &[u8]) -> Result<(Option<u32>, u64), AllocError> {
+    let read = read_log(alloc, bytes, 1)?;
+    Ok((read.header, read.end))
+}
+
 #[test]
 fn a_log_says_its_format(rt: HostRuntime) -> Result<(), Fail> {
-    let alloc = rt.alloc();
-    let new = read_log(alloc, &LOG, 1)?;
-    assert_eq!(rt; new.header, Some(2));
-    assert_eq!(rt; new.end, 86);
-    let old = read_log(alloc, &OLD_LOG, 1)?;
-    assert_eq!(rt; old.header, Some(1));
-    assert_eq!(rt; old.end, 50);
+    assert!(rt; ends(rt.alloc(), &LOG) == Ok((Some(2), 86)));
+    assert!(rt; ends(rt.alloc(), &OLD_LOG) == Ok((Some(1), 50)));
     Ok(())
 }
 
+// Whether a's value in the record at a place is the byte 1, with this tag.
+fn reads(
+    alloc: Global,
+    log: &SealedLog<MemHeld>,
+    reader: &mut MemReader,
+    pointer: Pointer,
+    tag: u8,
+) -> bool
+    requires { pointer.segment ≡ log.now.number }
+{
+    match log.read_at(alloc, reader, pointer, b"a") {
+        Ok(value) => value.as_slice() == [1].as_slice() && value.tag == tag,
+        Err(_) => false,
+    }
+}
+
+// A value of format 1 has tag 0.
 #[test]
 fn a_value_is_read_with_its_tag(rt: HostRuntime) -> Result<(), Fail> {
     let alloc = rt.alloc();
-    let (log, mut reader) = sealed(alloc, 2, &LOG)?;
-    let committed = log.read_at(alloc, &mut reader, at(33, 10), b"a")?;
-    assert_eq!(rt; committed.as_slice(), [1].as_slice());
-    assert_eq!(rt; committed.tag, 7);
-    let moved = log.read_at(alloc, &mut reader, at(68, 10), b"a")?;
-    assert_eq!(rt; moved.as_slice(), [1].as_slice());
-    assert_eq!(rt; moved.tag, 7);
+    let mut reader = failing(alloc, &[])?;
+    let log = sealed(alloc, 2, &LOG)?;
+    assert!(rt; reads(alloc, &log, &mut reader, at(&log, 33, 10), 7));
+    assert!(rt; reads(alloc, &log, &mut reader, at(&log, 68, 10), 7));
+    let old = sealed(alloc, 1, &OLD_LOG)?;
+    assert!(rt; reads(alloc, &old, &mut reader, at(&old, 33, 9), 0));
     Ok(())
 }
 
-#[test]
-fn a_value_of_format_1_has_tag_0(rt: HostRuntime) -> Result<(), Fail> {
-    let alloc = rt.alloc();
-    let (log, mut reader) = sealed(alloc, 1, &OLD_LOG)?;
-    let value = log.read_at(alloc, &mut reader, at(33, 9), b"a")?;
-    assert_eq!(rt; value.as_slice(), [1].as_slice());
-    assert_eq!(rt; value.tag, 0);
-    Ok(())
-}
-
-// Another key, a wrong length, the version of a moved record, and a place past the end.
-#[test]
-fn where_no_value_of_the_key_lies_is_damage(rt: HostRuntime) -> Result<(), Fail> {
-    let alloc = rt.alloc();
-    let (log, mut reader) = sealed(alloc, 2, &LOG)?;
-    assert_eq!(rt;
-        damage_at(alloc, &log, &mut reader, at(33, 10), b"b"),
-        Some(33)
-    );
-    assert_eq!(rt;
-        damage_at(alloc, &log, &mut reader, at(33, 9), b"a"),
-        Some(33)
-    );
-    assert_eq!(rt;
-        damage_at(alloc, &log, &mut reader, at(60, 10), b"a"),
-        Some(60)
-    );
-    assert_eq!(rt;
-        damage_at(alloc, &log, &mut reader, at(80, 10), b"a"),
-        Some(80)
-    );
-    Ok(())
-}
-
-fn damage_at(
+// Whether the place of a record is damage where a value of a key is read there.
+fn is_damaged(
     alloc: Global,
     log: &SealedLog<MemHeld>,
     reader: &mut MemReader,
     pointer: Pointer,
     key: &[u8],
-) -> Option<u64>
+) -> bool
     requires { pointer.segment ≡ log.now.number }
 {
     match log.read_at(alloc, reader, pointer, key) {
-        Err(LogFault::Damaged { place, .. }) => Some(place),
-        _ => None,
+        Err(LogFault::Damaged { place, .. }) => place == pointer.place,
+        _ => false,
     }
+}
+
+// Another key, a wrong length, the version of a moved record, and a place past the end.
+fn finds_each(alloc: Global, log: &SealedLog<MemHeld>, reader: &mut MemReader) -> bool {
+    is_damaged(alloc, log, reader, at(log, 33, 10), b"b")
+        && is_damaged(alloc, log, reader, at(log, 33, 9), b"a")
+        && is_damaged(alloc, log, reader, at(log, 60, 10), b"a")
+        && is_damaged(alloc, log, reader, at(log, 80, 10), b"a")
+}
+
+#[test]
+fn where_no_value_of_the_key_lies_is_damage(rt: HostRuntime) -> Result<(), Fail> {
+    let alloc = rt.alloc();
+    let log = sealed(alloc, 2, &LOG)?;
+    let mut reader = failing(alloc, &[])?;
+    assert!(rt; finds_each(alloc, &log, &mut reader));
+    Ok(())
+}
+
+fn fills(log: &SealedLog<MemHeld>, reader: &mut MemReader) -> bool {
+    let mut out = [9, 9];
+    log.read_into(reader, at(log, 33, 10), b"a", &mut out) == Ok(Filled::Here(1))
+        && out == [1, 9]
+        && log.read_into(reader, at(log, 33, 10), b"a", &mut out[..0]) == Ok(Filled::Small(1))
 }
 
 #[test]
 fn a_value_is_read_into_bytes_that_have_room(rt: HostRuntime) -> Result<(), Fail> {
     let alloc = rt.alloc();
-    let (log, mut reader) = sealed(alloc, 2, &LOG)?;
-    let mut out = [9, 9];
-    let filled = log.read_into(&mut reader, at(33, 10), b"a", &mut out)?;
-    assert_eq!(rt; filled, Filled::Here(1));
-    assert_eq!(rt; out, [1, 9]);
-    let filled = log.read_into(&mut reader, at(33, 10), b"a", &mut out[..0])?;
-    assert_eq!(rt; filled, Filled::Small(1));
+    let log = sealed(alloc, 2, &LOG)?;
+    let mut reader = failing(alloc, &[])?;
+    assert!(rt; fills(&log, &mut reader));
     Ok(())
 }
 
-#[test]
-fn frames_are_scanned_one_by_one(rt: HostRuntime) -> Result<(), Fail> {
-    let alloc = rt.alloc();
-    let (log, mut reader) = sealed(alloc, 2, &LOG)?;
-    assert_eq!(rt;
-        first_record(alloc, &log, &mut reader, 16)?,
-        Some(at(33, 10))
-    );
-    assert_eq!(rt;
-        first_record(alloc, &log, &mut reader, 51)?,
-        Some(at(68, 10))
-    );
-    assert_eq!(rt; first_record(alloc, &log, &mut reader, 86)?, None);
-    match log.scan_from(alloc, &mut reader, 52) {
-        Err(LogFault::Damaged { place, .. }) => assert_eq!(rt; place, 52),
-        _ => assert!(rt; false),
+// The pointer to a frame's first record.
+fn first_of(frame: &Frame) -> Option<Pointer> {
+    let records = match &frame.said {
+        Said::Commit(commit) => &commit.records,
+        Said::Moves(records) => records,
+    };
+    match records.first() {
+        Some(record) => Some(record.pointer),
+        None => None,
     }
-    Ok(())
 }
 
 // The pointer to the first record of the frame at a place.
@@ -168,16 +157,28 @@ fn first_record(
     log: &SealedLog<MemHeld>,
     reader: &mut MemReader,
     place: u64,
-) -> Result<Option<Pointer>, Fail> {
-    let Some(frame) = log.scan_from(alloc, reader, place)? else {
-        return Ok(None);
-    };
-    let records = match &frame.said {
-        Said::Commit(commit) => &commit.records,
-        Said::Moves(records) => records,
-    };
-    match records.first() {
-        Some(record) => Ok(Some(record.pointer)),
+) -> Result<Option<Pointer>, LogFault> {
+    match log.scan_from(alloc, reader, place)? {
+        Some(frame) => Ok(first_of(&frame)),
         None => Ok(None),
     }
+}
+
+fn scans(alloc: Global, log: &SealedLog<MemHeld>, reader: &mut MemReader) -> bool {
+    first_record(alloc, log, reader, 16) == Ok(Some(at(log, 33, 10)))
+        && first_record(alloc, log, reader, 51) == Ok(Some(at(log, 68, 10)))
+        && first_record(alloc, log, reader, 86) == Ok(None)
+        && matches!(
+            first_record(alloc, log, reader, 52),
+            Err(LogFault::Damaged { place: 52, .. })
+        )
+}
+
+#[test]
+fn frames_are_scanned_one_by_one(rt: HostRuntime) -> Result<(), Fail> {
+    let alloc = rt.alloc();
+    let log = sealed(alloc, 2, &LOG)?;
+    let mut reader = failing(alloc, &[])?;
+    assert!(rt; scans(alloc, &log, &mut reader));
+    Ok(())
 }

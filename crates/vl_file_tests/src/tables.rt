@@ -1,12 +1,12 @@
 //! The bytes of a whole table, which were computed apart from this crate; look-ups in it; and each damage once.
 
-use crate::disk::{blocks, failing, held, open};
-use std::alloc::Global;
+use crate::disk::{blocks, exact, far, find, open, valued, written};
+use std::alloc::{AllocError, Global};
 use std::test::Fail;
 use vl_block::FoundBody;
-use vl_model::{Body, Bytes, Entry, Pointer, Value};
-use vl_table::{Table, TableFault};
-use vl_table_writer::TableWriter;
+use vl_disk::Name;
+use vl_mem::{MemHeld, MemReader};
+use vl_table::{BlockReader, Table, TableFault};
 
 // Table 1 of docs/FORMATS.md in format 1.
 pub const TABLE: [u8; 241] = [
@@ -70,98 +70,114 @@ const TAGGED: [u8; 242] = [
     0x00, 0xab,
 ];
 
+// The table with bits of the byte at a place flipped.
+pub fn flipped(alloc: Global, at: usize, bits: u8) -> Result<Vec<u8>, AllocError> {
+    let mut bytes = Vec::from_slice(alloc, &FILTERED)?;
+    if let Some(byte) = bytes.get_mut(at) {
+        *byte ^= bits;
+    }
+    Ok(bytes)
+}
+
 #[test]
 fn a_table_has_its_bytes(rt: HostRuntime) -> Result<(), Fail> {
     let alloc = rt.alloc();
-    let short = Entry {
-        key: Bytes::copy_of(alloc, b"a")?,
-        version: 1,
-        body: Body::Inline(Value::copy_of(alloc, &[0xaa; 64], 0)?),
-    };
-    let long = Entry {
-        key: Bytes::copy_of(alloc, b"b")?,
-        version: 1,
-        body: Body::Far(Pointer {
-            segment: 1,
-            place: 106,
-            length: 74,
-        }),
-    };
-    let mut out = Vec::new(alloc);
-    let mut writer = TableWriter::begin(alloc, &mut out, 1, &short)?;
-    writer.add(&mut out, &long)?;
-    writer.finish(alloc)?.append_to(&mut out)?;
-    assert_eq!(rt; out.as_slice(), FILTERED.as_slice());
+    let entries = [valued(alloc, b"a", 1)?, far(alloc, b"b", 1)?];
+    let bytes = written(alloc, 1, &entries)?;
+    assert!(rt; bytes.as_slice() == FILTERED.as_slice());
     Ok(())
 }
 
-// Whether the keys a and b are found in a table, and the tag of a's value is this.
-fn finds_both(alloc: Global, bytes: &[u8], tag: u8) -> Result<bool, Fail> {
-    let table = open(alloc, 1, bytes)?;
-    let mut reader = blocks(alloc, &[])?;
-    let far = table.find(&mut reader, b"b", 9)?;
-    let short = table.exact(&mut reader, b"a", 1)?.ok_or("none")?;
-    let none = table.exact(&mut reader, b"a", 2)?;
-    Ok(far.is_some() && none.is_none() && has_tag(&short.body, tag))
+// The tag of the value of the key a at version 1, if it has one.
+fn tag(
+    table: &Table<MemHeld>,
+    reader: &mut BlockReader<MemReader>,
+) -> Result<Option<u8>, TableFault> {
+    match table.exact(reader, b"a", 1)? {
+        Some(found) => Ok(tag_of(&found.body)),
+        None => Ok(None),
+    }
 }
 
-// Whether a body is a value with this tag.
-fn has_tag(body: &FoundBody, tag: u8) -> bool {
+fn tag_of(body: &FoundBody) -> Option<u8> {
     match body {
-        FoundBody::Inline(value) => value.tag() == tag,
-        _ => false,
+        FoundBody::Inline(value) => Some(value.tag()),
+        _ => None,
     }
+}
+
+fn has_both(table: &Table<MemHeld>, reader: &mut BlockReader<MemReader>, wanted: u8) -> bool {
+    find(table, reader, b"b", 9) == Ok(Some(1))
+        && exact(table, reader, b"a", 2) == Ok(None)
+        && tag(table, reader) == Ok(Some(wanted))
+}
+
+// Whether the keys a and b are found in a table, and the tag of a's value is this.
+fn finds_both(alloc: Global, bytes: &[u8], wanted: u8) -> Result<bool, TableFault> {
+    let table = open(alloc, 1, bytes)?;
+    let mut reader = blocks(alloc, &[])?;
+    Ok(has_both(&table, &mut reader, wanted))
 }
 
 #[test]
 fn entries_are_found_in_tables_of_each_format(rt: HostRuntime) -> Result<(), Fail> {
     let alloc = rt.alloc();
-    assert!(rt; finds_both(alloc, &TABLE, 0)?);
-    assert!(rt; finds_both(alloc, &TAGGED, 7)?);
-    assert!(rt; finds_both(alloc, &FILTERED, 0)?);
-    let mut newer = FILTERED;
-    newer[7] = 4;
-    assert_eq!(rt; damage(alloc, &newer)?, Some(0));
+    assert!(rt; finds_both(alloc, &TABLE, 0) == Ok(true));
+    assert!(rt; finds_both(alloc, &TAGGED, 7) == Ok(true));
+    assert!(rt; finds_both(alloc, &FILTERED, 0) == Ok(true));
     Ok(())
 }
 
-// Where a table is damaged that has these bytes: at opening, or at looking up its first key.
-fn damage(alloc: Global, bytes: &[u8]) -> Result<Option<u64>, Fail> {
-    let mut plain = failing(alloc, &[])?;
-    let table = match Table::open(alloc, &mut plain, held(alloc, 1, bytes)?, 1) {
-        Ok(table) => table,
-        Err(TableFault::Damaged { place, .. }) => return Ok(Some(place)),
-        Err(_) => return Err("no damage".into()),
-    };
+// What it comes to that a table with these bytes is opened, and its first key looked up.
+fn look_up(alloc: Global, bytes: &[u8]) -> Result<(), TableFault> {
+    let table = open(alloc, 1, bytes)?;
     let mut reader = blocks(alloc, &[])?;
-    match table.find(&mut reader, b"a", 1) {
-        Ok(_) => Ok(None),
-        Err(TableFault::Damaged { place, .. }) => Ok(Some(place)),
-        Err(_) => Err("no damage".into()),
-    }
+    find(&table, &mut reader, b"a", 1)?;
+    Ok(())
 }
 
+// Whether the table is damaged at this place.
+fn is_damaged(alloc: Global, bytes: &[u8], place: u64) -> bool {
+    let damage = TableFault::Damaged {
+        name: Name::Table(1),
+        place,
+    };
+    look_up(alloc, bytes) == Err(damage)
+}
+
+// Whether flipped bits of the byte at a place are damage at another.
+fn is_damaged_by(alloc: Global, at: usize, bits: u8, place: u64) -> Result<bool, AllocError> {
+    let bytes = flipped(alloc, at, bits)?;
+    Ok(is_damaged(alloc, &bytes, place))
+}
+
+// Whether each flipped bit is damage at the place that stands beside it.
+fn finds_each(alloc: Global, cases: &[(usize, u64)]) -> Result<bool, AllocError> {
+    for (at, place) in cases {
+        if !is_damaged_by(alloc, *at, 1, *place)? {
+            return Ok(false);
+        }
+    }
+    Ok(true)
+}
+
+// A table of format 4 is one too.
 #[test]
 fn each_damage_is_found(rt: HostRuntime) -> Result<(), Fail> {
     let alloc = rt.alloc();
-    assert_eq!(rt; damage(alloc, &TABLE)?, None);
-    assert_eq!(rt; damage(alloc, &FILTERED)?, None);
-    assert_eq!(rt; damage(alloc, &FILTERED[..23])?, Some(0));
-    let mut places = Vec::new(alloc);
-    for at in [0, 16, 144, 175, 201, 271, 278] {
-        let mut bytes = FILTERED;
-        bytes[at] ^= 1;
-        places.push(damage(alloc, &bytes)?)?;
-    }
-    let expected = [
-        Some(0),
-        Some(16),
-        Some(139),
-        Some(171),
-        Some(196),
-        Some(271),
-        Some(197),
+    assert!(rt; look_up(alloc, &TABLE).is_ok());
+    assert!(rt; look_up(alloc, &FILTERED).is_ok());
+    assert!(rt; is_damaged(alloc, &FILTERED[..23], 0));
+    assert!(rt; is_damaged_by(alloc, 7, 3 ^ 4, 0)?);
+    let cases = [
+        (0, 0),
+        (16, 16),
+        (144, 139),
+        (175, 171),
+        (201, 196),
+        (271, 271),
+        (278, 197),
     ];
-    assert_eq!(rt; places.as_slice(), expected.as_slice());
+    assert!(rt; finds_each(alloc, &cases)?);
     Ok(())
 }

@@ -1,41 +1,42 @@
 //! How many reads look-ups need, by a reader of which a read fails that isn't to be made.
 
-use crate::disk::{blocks, failing, held, open};
+use crate::disk::{blocks, exact, failing, find, is_disk_fault, open, open_by, valued, written};
 use crate::tables::FILTERED;
-use std::alloc::Global;
+use std::alloc::{AllocError, Global};
 use std::test::Fail;
-use vl_mem::MemHeld;
-use vl_model::{Body, Bytes, Entry, Value};
-use vl_table::{BlockReader, Table, TableFault};
-use vl_table_writer::TableWriter;
+use vl_mem::{MemHeld, MemReader};
+use vl_model::Entry;
+use vl_table::{BlockReader, Table};
+use vl_table_writer::AddFail;
 
-// The entry of the key k at a version, with a value of 64 bytes.
-fn long(alloc: Global, version: u64) -> Result<Entry, Fail> {
-    Ok(Entry {
-        key: Bytes::copy_of(alloc, b"k")?,
-        version,
-        body: Body::Inline(Value::copy_of(alloc, &[0xaa; 64], 0)?),
-    })
+fn push_versions(alloc: Global, entries: &mut Vec<Entry>) -> Result<(), AllocError> {
+    for past in 0..100u64 {
+        entries.push(valued(alloc, b"k", 100 - past)?)?;
+    }
+    Ok(())
 }
 
 // The bytes of table 1 of the key k at the versions from 100 down to 1. Its two blocks have 52 and 48 of them.
-fn two_blocks_of(alloc: Global) -> Result<Vec<u8>, Fail> {
-    let mut out = Vec::new(alloc);
-    let mut writer = TableWriter::begin(alloc, &mut out, 1, &long(alloc, 100)?)?;
-    for past in 1..100u64 {
-        writer.add(&mut out, &long(alloc, 100 - past)?)?;
-    }
-    writer.finish(alloc)?.append_to(&mut out)?;
-    Ok(out)
+fn two_blocks_of(alloc: Global) -> Result<Vec<u8>, AddFail> {
+    let mut entries = Vec::new(alloc);
+    push_versions(alloc, &mut entries)?;
+    written(alloc, 1, &entries)
 }
 
 fn two_blocks(alloc: Global) -> Result<Table<MemHeld>, Fail> {
-    open(alloc, 1, &two_blocks_of(alloc)?)
+    let bytes = two_blocks_of(alloc)?;
+    Ok(open(alloc, 1, &bytes)?)
 }
 
-// Whether reading failed, and not otherwise.
-fn is_disk_fault<T>(answer: &Result<T, TableFault>) -> bool {
-    matches!(answer, Err(TableFault::Disk { .. }))
+fn finds_each(table: &Table<MemHeld>, reader: &mut BlockReader<MemReader>) -> bool {
+    for version in [100, 49, 48, 1] {
+        if find(table, reader, b"k", version) != Ok(Some(version))
+            || exact(table, reader, b"k", version) != Ok(Some(version))
+        {
+            return false;
+        }
+    }
+    find(table, reader, b"k", 0) == Ok(None) && exact(table, reader, b"k", 101) == Ok(None)
 }
 
 #[test]
@@ -43,15 +44,16 @@ fn one_key_is_found_over_blocks(rt: HostRuntime) -> Result<(), Fail> {
     let alloc = rt.alloc();
     let table = two_blocks(alloc)?;
     let mut reader = blocks(alloc, &[])?;
-    for version in [100, 49, 48, 1] {
-        let found = table.find(&mut reader, b"k", version)?.ok_or("none")?;
-        assert_eq!(rt; found.version, version);
-        let exact = table.exact(&mut reader, b"k", version)?.ok_or("none")?;
-        assert_eq!(rt; exact.version, version);
-    }
-    assert!(rt; table.find(&mut reader, b"k", 0)?.is_none());
-    assert!(rt; table.exact(&mut reader, b"k", 101)?.is_none());
+    assert!(rt; finds_each(&table, &mut reader));
     Ok(())
+}
+
+fn reads_once(table: &Table<MemHeld>, reader: &mut BlockReader<MemReader>) -> bool {
+    find(table, reader, b"k", 100) == Ok(Some(100))
+        && exact(table, reader, b"k", 49) == Ok(Some(49))
+        && is_disk_fault(&find(table, reader, b"k", 48))
+        && find(table, reader, b"k", 100) == Ok(Some(100))
+        && find(table, reader, b"k", 48) == Ok(Some(48))
 }
 
 #[test]
@@ -59,25 +61,32 @@ fn a_block_that_is_kept_is_not_read(rt: HostRuntime) -> Result<(), Fail> {
     let alloc = rt.alloc();
     let table = two_blocks(alloc)?;
     let mut reader = blocks(alloc, &[2])?;
-    assert!(rt; table.find(&mut reader, b"k", 100)?.is_some());
-    assert!(rt; table.exact(&mut reader, b"k", 49)?.is_some());
-    assert!(rt; is_disk_fault(&table.find(&mut reader, b"k", 48)));
-    assert!(rt; table.find(&mut reader, b"k", 100)?.is_some());
-    assert!(rt; table.find(&mut reader, b"k", 48)?.is_some());
+    assert!(rt; reads_once(&table, &mut reader));
     Ok(())
+}
+
+// All entries are of one key, so each look-up begins in the first block.
+fn reads_the_first_again(table: &Table<MemHeld>, reader: &mut BlockReader<MemReader>) -> bool {
+    find(table, reader, b"k", 100) == Ok(Some(100))
+        && find(table, reader, b"k", 49) == Ok(Some(49))
+        && find(table, reader, b"k", 48) == Ok(Some(48))
+        && is_disk_fault(&find(table, reader, b"k", 100))
 }
 
 #[test]
 fn a_reader_of_one_block_keeps_the_last(rt: HostRuntime) -> Result<(), Fail> {
     let alloc = rt.alloc();
     let table = two_blocks(alloc)?;
-    // All entries are of one key, so each look-up begins in the first block.
     let mut reader = BlockReader::new(alloc, failing(alloc, &[3])?, 1)?;
-    assert!(rt; table.find(&mut reader, b"k", 100)?.is_some());
-    assert!(rt; table.find(&mut reader, b"k", 49)?.is_some());
-    assert!(rt; table.find(&mut reader, b"k", 48)?.is_some());
-    assert!(rt; is_disk_fault(&table.find(&mut reader, b"k", 100)));
+    assert!(rt; reads_the_first_again(&table, &mut reader));
     Ok(())
+}
+
+fn reads_for_one_alone(table: &Table<MemHeld>, reader: &mut BlockReader<MemReader>) -> bool {
+    find(table, reader, b"c", 9) == Ok(None)
+        && find(table, reader, b"A", 9) == Ok(None)
+        && find(table, reader, b"ab", 9) == Ok(None)
+        && is_disk_fault(&find(table, reader, b"a", 9))
 }
 
 #[test]
@@ -85,18 +94,14 @@ fn nothing_is_read_where_the_key_is_refused(rt: HostRuntime) -> Result<(), Fail>
     let alloc = rt.alloc();
     let table = open(alloc, 1, &FILTERED)?;
     let mut reader = blocks(alloc, &[1])?;
-    assert!(rt; table.find(&mut reader, b"c", 9)?.is_none());
-    assert!(rt; table.find(&mut reader, b"A", 9)?.is_none());
-    assert!(rt; table.find(&mut reader, b"ab", 9)?.is_none());
-    assert!(rt; is_disk_fault(&table.find(&mut reader, b"a", 9)));
+    assert!(rt; reads_for_one_alone(&table, &mut reader));
     Ok(())
 }
 
 // Whether the table with these bytes is opened by the reads before one.
-fn opens_before(alloc: Global, bytes: &[u8], read: u64) -> Result<bool, Fail> {
+fn opens_before(alloc: Global, bytes: &[u8], read: u64) -> Result<bool, AllocError> {
     let mut reader = failing(alloc, &[read])?;
-    let held = held(alloc, 1, bytes)?;
-    Ok(Table::open(alloc, &mut reader, held, 1).is_ok())
+    Ok(open_by(alloc, &mut reader, 1, bytes).is_ok())
 }
 
 #[test]

@@ -1,16 +1,9 @@
-//! Tests of the command line and of its engine over disks in memory: what runs print, what they leave, and how a store is opened
-//! again.
+//! Tests of stores that are opened again, over disks in memory: what runs leave, files that were changed, and steps that fail.
 #![tactic(auto)]
 
 #[cfg(test)]
 mod opening;
 #[cfg(test)]
-mod replays;
-#[cfg(test)]
-mod steps;
-#[cfg(test)]
 mod stores;
 #[cfg(test)]
 mod tables;
-#[cfg(test)]
-mod words;

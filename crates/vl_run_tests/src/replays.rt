@@ -5,7 +5,6 @@ use std::alloc::Global;
 use std::test::Fail;
 use vl_cli::{Ended, run};
 use vl_disk::{Failed, Name};
-use vl_engine::{CommitFail, Done, Engine};
 use vl_io::{SliceSource, VecSink};
 use vl_mem::MemDisk;
 use vl_replay::Halt;
@@ -51,6 +50,11 @@ const RUNS: &str = "\
     replay .|||begin t;set t 61 01;commit t;begin t;set t 61 02;commit t;begin t;set t 61 03;commit t;keep 3;view v;getat v 61 2;begin t;set t 61 04;commit t;view w;getat w 61 4;getat w 61 3;getat w 61 2;getat v 61 3;keep 1;view x;getat x 61 3;drop v;drop w;drop x;view y;getat y 61 3;|ok 0;ok;ok 1;ok 1;ok;ok 2;ok 2;ok;ok 3;ok;ok 3;dropped 3;ok 3;ok;ok 4;ok 4;value 04;value 03;dropped 3;value 03;ok;ok 4;value 03;ok;ok;ok;ok 4;dropped 4;|0\n\
     replay .|||keep 2;begin t;set t 61 *65*;commit t;rotate;flush;begin t;del t 61;commit t;rotate;flush;begin t;set t 61 02;getat t 61 2;getat t 61 1;getat t 61 0;|ok;ok 0;ok;ok 1;ok 1;ok 1;ok 1;ok;ok 2;ok 2;ok 2;ok 2;ok;none;value *65*;dropped 1;|0\n\
     replay .|||keep 2;begin a;getat a 61 0;begin b;set b 61 01;commit b;set a 62 01;commit a;|ok;ok 0;none;ok 0;ok;ok 1;ok;ok 2;|0\n\
+    replay .|||begin t;set t 61 *65*;commit t;rotate;flush;begin t;del t 61;commit t;rotate;flush;begin t;set t 62 01;commit t;rotate;flush;begin t;set t 63 01;commit t;rotate;flush;plan j;install j;view w;get w 61;scan w - - 9;plan k;|ok 0;ok;ok 1;ok 1;ok 1;ok 1;ok;ok 2;ok 2;ok 2;ok 2;ok;ok 3;ok 3;ok 3;ok 3;ok;ok 4;ok 4;ok 4;ok 2;ok;ok 4;none;rows 2;62 01;63 01;idle;|0\n\
+    replay .|||begin t;set t 61 *65*;commit t;rotate;flush;view o;begin t;del t 61;commit t;rotate;flush;begin t;set t 62 01;commit t;rotate;flush;begin t;set t 63 01;commit t;rotate;flush;plan j;install j;get o 61;view w;get w 61;|ok 0;ok;ok 1;ok 1;ok 1;ok 1;ok 1;ok;ok 2;ok 2;ok 2;ok 2;ok;ok 3;ok 3;ok 3;ok 3;ok;ok 4;ok 4;ok 4;ok 4;ok;value *65*;ok 4;none;|0\n\
+    replay .|||keep 2;begin t;set t 61 *65*;commit t;rotate;flush;begin t;del t 61;commit t;rotate;flush;begin t;set t 62 01;commit t;rotate;flush;begin t;set t 63 01;commit t;rotate;flush;plan j;install j;view v;getat v 61 1;get v 61;|ok;ok 0;ok;ok 1;ok 1;ok 1;ok 1;ok;ok 2;ok 2;ok 2;ok 2;ok;ok 3;ok 3;ok 3;ok 3;ok;ok 4;ok 4;ok 4;ok 4;ok;ok 4;value *65*;none;|0\n\
+    replay .|||begin t;set t 61 *65*;commit t;rotate;flush;begin t;del t 61;commit t;rotate;flush;begin t;set t 62 01;commit t;rotate;flush;begin t;set t 63 01;commit t;rotate;flush;plan j;plan j;plan k;view j;get j 61;drop j;install j;plan k;begin t;set t 64 01;commit t;rotate;flush;install k;install k;view v;scan v - - 9;|ok 0;ok;ok 1;ok 1;ok 1;ok 1;ok;ok 2;ok 2;ok 2;ok 2;ok;ok 3;ok 3;ok 3;ok 3;ok;ok 4;ok 4;ok 4;ok 2;taken j;idle;taken j;unknown j;ok;unknown j;ok 2;ok 4;ok;ok 5;ok 5;ok 7;ok;unknown k;ok 5;rows 3;62 01;63 01;64 01;|0\n\
+    replay .|||plan j;install j;begin t;install t;plan t;|idle;unknown j;ok 0;unknown t;taken t;|0\n\
     replay .|3||begin a;get a 61|ok 0;none;|0\n\
     replay .|2||begin a;get a 61|ok 0;read fault;|6\n\
     replay .||2|begin a;get a 61;|ok 0;|7\n\
@@ -66,6 +70,14 @@ const RUNS: &str = "\
     trial 5 1|1||begin a;set a 61 01;commit a;|read fault;|6\n\
     trial 6 0|2||begin a;set a 61 01;commit a|ok 0;ok;read fault;|6\n\
     trial 7 1||3|begin a;set a 61 01;commit a;|ok 0;ok;|7\n\
+    trial 46 0|||begin t;set t 61 *65*;commit t;rotate;flush;begin t;del t 61;commit t;rotate;flush;begin t;set t 62 01;commit t;rotate;flush;begin t;set t 63 01;commit t;rotate;flush;plan j;install j;|ok 0;ok;ok 1;ok 1;ok 1;ok 1;ok;ok 2;ok 2;ok 2;ok 2;ok;ok 3;ok 3;ok 3;ok 3;ok;ok 4;ok 4;ok 4;reopened 4;rows 2;62 01;63 01;|0\n\
+    trial 47 0|||begin t;set t 61 *65*;commit t;rotate;flush;begin t;del t 61;commit t;rotate;flush;begin t;set t 62 01;commit t;rotate;flush;begin t;set t 63 01;commit t;rotate;flush;plan j;install j;|ok 0;ok;ok 1;ok 1;ok 1;ok 1;ok;ok 2;ok 2;ok 2;ok 2;ok;ok 3;ok 3;ok 3;ok 3;ok;ok 4;ok 4;ok 4;ok 2;reopened 4;rows 2;62 01;63 01;|0\n\
+    trial 47 1|||begin t;set t 61 *65*;commit t;rotate;flush;begin t;del t 61;commit t;rotate;flush;begin t;set t 62 01;commit t;rotate;flush;begin t;set t 63 01;commit t;rotate;flush;plan j;install j;|ok 0;ok;ok 1;ok 1;ok 1;ok 1;ok;ok 2;ok 2;ok 2;ok 2;ok;ok 3;ok 3;ok 3;ok 3;ok;ok 4;ok 4;ok 4;ok 2;reopened 4;rows 2;62 01;63 01;|0\n\
+    trial 47 2|||begin t;set t 61 *65*;commit t;rotate;flush;begin t;del t 61;commit t;rotate;flush;begin t;set t 62 01;commit t;rotate;flush;begin t;set t 63 01;commit t;rotate;flush;plan j;install j;|ok 0;ok;ok 1;ok 1;ok 1;ok 1;ok;ok 2;ok 2;ok 2;ok 2;ok;ok 3;ok 3;ok 3;ok 3;ok;ok 4;ok 4;ok 4;ok 2;reopened 4;rows 2;62 01;63 01;|0\n\
+    trial 48 0|||begin t;set t 61 *65*;commit t;rotate;flush;begin t;del t 61;commit t;rotate;flush;begin t;set t 62 01;commit t;rotate;flush;begin t;set t 63 01;commit t;rotate;flush;plan j;install j;|ok 0;ok;ok 1;ok 1;ok 1;ok 1;ok;ok 2;ok 2;ok 2;ok 2;ok;ok 3;ok 3;ok 3;ok 3;ok;ok 4;ok 4;ok 4;ok 2;reopened 4;rows 2;62 01;63 01;|0\n\
+    trial 48 1|||begin t;set t 61 *65*;commit t;rotate;flush;begin t;del t 61;commit t;rotate;flush;begin t;set t 62 01;commit t;rotate;flush;begin t;set t 63 01;commit t;rotate;flush;plan j;install j;|ok 0;ok;ok 1;ok 1;ok 1;ok 1;ok;ok 2;ok 2;ok 2;ok 2;ok;ok 3;ok 3;ok 3;ok 3;ok;ok 4;ok 4;ok 4;ok 2;reopened 4;rows 2;62 01;63 01;|0\n\
+    trial 48 2|||begin t;set t 61 *65*;commit t;rotate;flush;begin t;del t 61;commit t;rotate;flush;begin t;set t 62 01;commit t;rotate;flush;begin t;set t 63 01;commit t;rotate;flush;plan j;install j;|ok 0;ok;ok 1;ok 1;ok 1;ok 1;ok;ok 2;ok 2;ok 2;ok 2;ok;ok 3;ok 3;ok 3;ok 3;ok;ok 4;ok 4;ok 4;ok 2;reopened 4;rows 2;62 01;63 01;|0\n\
+    trial 49 0|||begin t;set t 61 *65*;commit t;rotate;flush;begin t;del t 61;commit t;rotate;flush;begin t;set t 62 01;commit t;rotate;flush;begin t;set t 63 01;commit t;rotate;flush;plan j;install j;|ok 0;ok;ok 1;ok 1;ok 1;ok 1;ok;ok 2;ok 2;ok 2;ok 2;ok;ok 3;ok 3;ok 3;ok 3;ok;ok 4;ok 4;ok 4;ok 2;ok;reopened 4;rows 2;62 01;63 01;|0\n\
     trial 1000000 0|||begin a;set a 61 01;commit a;|ok 0;ok;ok 1;reopened 1;rows 1;61 01;|0";
 
 /// Three commits: of two keys, of a deletion, and of an empty value. They make the calls 7 and 8, 9 and 10, 11 and 12.
@@ -215,18 +227,12 @@ fn first_wrong(alloc: Global, script: &str, stops: &str) -> Result<Option<String
 }
 
 #[test]
-fn commits_are_tried_under_each_stop(rt: HostRuntime) -> Result<(), Fail> {
-    let wrong = first_wrong(rt.alloc(), COMMITS, STOPS)?;
-    let words = wrong.as_ref().map_or("", |it| it.as_str());
-    assert!(rt; wrong.is_none(), "{words}");
-    Ok(())
-}
-
-#[test]
-fn a_rotation_and_a_flush_are_tried_under_each_stop(rt: HostRuntime) -> Result<(), Fail> {
-    let wrong = first_wrong(rt.alloc(), STEPS, STEP_STOPS)?;
-    let words = wrong.as_ref().map_or("", |it| it.as_str());
-    assert!(rt; wrong.is_none(), "{words}");
+fn steps_are_tried_under_each_stop(rt: HostRuntime) -> Result<(), Fail> {
+    for (script, stops) in [(COMMITS, STOPS), (STEPS, STEP_STOPS)] {
+        let wrong = first_wrong(rt.alloc(), script, stops)?;
+        let words = wrong.as_ref().map_or("", |it| it.as_str());
+        assert!(rt; wrong.is_none(), "{words}");
+    }
     Ok(())
 }
 
@@ -284,39 +290,6 @@ fn one_key_more_than_a_transaction_may_write_is_refused(rt: HostRuntime) -> Resu
     let (printed, status) = ran(alloc, "replay .", "", "", input.as_str())?;
     assert!(rt; printed.as_slice() == wanted.as_slice());
     assert!(rt; status.as_str() == "0");
-    Ok(())
-}
-
-/// Over a log with room for 100 bytes, of which the header takes 16 and each of these commits 35, the third finds none.
-#[test]
-fn a_commit_without_room_is_refused(rt: HostRuntime) -> Result<(), Fail> {
-    let alloc = rt.alloc();
-    let disk = MemDisk::new(alloc, Vec::new(alloc), Vec::new(alloc));
-    let Ok(mut engine) = Engine::open(alloc, disk, 100) else {
-        assert!(rt; false, "not opened");
-        return Ok(());
-    };
-    for number in 1..4 {
-        let Ok(mut txn) = engine.begin() else {
-            assert!(rt; false, "not begun");
-            return Ok(());
-        };
-        assert!(rt; txn.set(b"a", b"\x01").is_ok());
-        let answer = engine.commit(txn);
-        let wanted = if number < 3 {
-            matches!(answer, Ok(Done::At(given)) if given == number)
-        } else {
-            matches!(
-                answer,
-                Err(CommitFail::Full {
-                    length: 86,
-                    frame: 35,
-                    ..
-                })
-            )
-        };
-        assert!(rt; wanted, "commit {number}");
-    }
     Ok(())
 }
 

@@ -106,7 +106,15 @@ fn goes_on(alloc: Global) -> bool {
     if txn.set(b"a", &[1]).is_err() {
         return false;
     }
-    let Err(CommitFail::Full { txn, .. }) = store.commit(txn) else {
+    // The header takes 16 bytes, and each of these commits 35.
+    let Err(
+        CommitFail::Full {
+            txn,
+            length: 86,
+            frame: 35,
+        },
+    ) = store.commit(txn)
+    else {
         return false;
     };
     if store.rotate() != Ok(Some(1)) || !matches!(store.commit(txn), Ok(Done::At(3))) {
