@@ -6,13 +6,16 @@ mod refusals;
 mod stock;
 
 use crate::refusals::{go_on, not_opened};
-use crate::stock::{add, change, make_room, rows};
+use crate::stock::{add, change, make_room, merge_once, rows};
 use anyhow::{Result, bail};
 use std::env;
 use vlstore::{CommitFail, Disk, Engine, FolderDisk, MAX_ROOM};
 
 /// The store in a folder.
 type Store<'a> = Engine<FolderDisk<&'a HostRuntime>>;
+
+/// So many merges are done in a row at most, so that a service gets on with its work.
+const MOST_MERGES: u32 = 10;
 
 fn main(rt: HostRuntime) -> Result<()> {
     let alloc = rt.alloc();
@@ -32,6 +35,14 @@ fn main(rt: HostRuntime) -> Result<()> {
     if let Some(number) = make_room(&mut store)? {
         println!(rt; "written to table {number}")?;
     }
+
+    // Many small tables are merged into one, which has what is still read of each key.
+    for more in 1..=3 {
+        let number = change(alloc, &mut store, "apples", more)?;
+        println!(rt; "{more} apples came, by commit {number}")?;
+        make_room(&mut store)?;
+    }
+    while_due(&rt, &mut store)?;
 
     // The folder is free for the next store once its disk is gone.
     drop(store.close());
@@ -75,6 +86,17 @@ fn overtake<D: Disk>(rt: &HostRuntime, store: &mut Engine<D>) -> Result<()> {
     }
     let number = change(alloc, store, "apples", 10)?;
     println!(rt; "so they were counted anew, by commit {number}")?;
+    Ok(())
+}
+
+/// Merges tables until no level of them is due.
+fn while_due<D: Disk>(rt: &HostRuntime, store: &mut Engine<D>) -> Result<()> {
+    for _ in 0..MOST_MERGES {
+        let Some(kept) = merge_once(store)? else {
+            return Ok(());
+        };
+        println!(rt; "tables were merged, which keeps {kept} entries")?;
+    }
     Ok(())
 }
 

@@ -2,7 +2,7 @@
 
 use crate::stock::make_room;
 use anyhow::{Error, Result, anyhow};
-use vlstore::{CommitFail, Disk, Engine, OpenError, StepFail};
+use vlstore::{CommitFail, Disk, Engine, MergeFail, OpenError, StepFail};
 
 /// Why a store wasn't opened, and what may be done.
 pub fn not_opened(why: OpenError) -> Error {
@@ -48,5 +48,21 @@ pub fn not_done(fail: StepFail) -> Error {
         StepFail::Disk { name } => anyhow!("the disk failed at {name:?}: open again"),
         StepFail::Exhausted(counter) => anyhow!("no number is left: {counter:?}"),
         StepFail::NoMemory => anyhow!("no memory: try again"),
+    }
+}
+
+/// Why no tables were merged, and what may be done. The tables stand as before, and the store goes on unless it is halted.
+pub fn not_merged(fail: MergeFail) -> Error {
+    match fail {
+        MergeFail::Halted { name } => anyhow!("the disk failed at {name:?}: open again"),
+        MergeFail::Disk { name } => anyhow!(
+            "the disk failed at {name:?}: mend it, and merge again"
+        ),
+        MergeFail::Damaged { name, place } => {
+            anyhow!("{name:?} is damaged at {place}: restore a backup")
+        }
+        MergeFail::Exhausted(counter) => anyhow!("no number is left: {counter:?}"),
+        MergeFail::Raced => anyhow!("a record was moved meanwhile: merge again"),
+        MergeFail::NoMemory => anyhow!("no memory: try again"),
     }
 }

@@ -1,6 +1,6 @@
 //! The stock: under each fruit's name how many there are, as text.
 
-use crate::refusals::{go_on, not_done};
+use crate::refusals::{go_on, not_done, not_merged};
 use anyhow::{Result, bail};
 use std::alloc::Global;
 use vlstore::{Disk, Done, Engine, HeldFile, Reader, Rows, Txn, Way};
@@ -67,5 +67,14 @@ pub fn make_room<D: Disk>(store: &mut Engine<D>) -> Result<Option<u32>> {
     match store.flush() {
         Ok(table) => Ok(table),
         Err(fail) => Err(not_done(fail)),
+    }
+}
+
+/// Merges the tables of one level, if one is due, and gives how many entries the new tables have. A service does so behind its
+/// flushes, until none is due.
+pub fn merge_once<D: Disk>(store: &mut Engine<D>) -> Result<Option<u64>> {
+    match store.merge() {
+        Ok(kept) => Ok(kept),
+        Err(fail) => Err(not_merged(fail)),
     }
 }
