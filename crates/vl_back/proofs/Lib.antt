@@ -4,6 +4,7 @@ mod Files
 mod Holding
 mod Named
 mod Spelled
+mod SwitchEdits
 mod Switching
 mod Unmoved
 mod Untold

@@ -1,9 +1,10 @@
 pub mod Deciding
 pub mod Failing
 pub mod FlushEdits
-pub mod Room
 pub mod InstallEdits
 pub mod InstallSays
+pub mod InstallStaging
+pub mod Room
 pub mod Staging
 pub mod Tables
 pub mod Writing

@@ -2,6 +2,7 @@
 
 ghost use Rattle.std.specs.Prelude.{◌≡◌, ◌≤◌, ◌<◌, ◌+◌, ◌++◌, ◌∷◌, [], drop, OnOk, vec_capacity, vec_len};
 ghost use Rattle.vl_back.specs.Deciding.{MayFlush, MayRotate};
+ghost use Rattle.vl_model.specs.Limits.{max_version_number};
 
 use crate::{Back, Waiting};
 use std::alloc::AllocError;
@@ -19,6 +20,17 @@ impl Back {
     {
         self.state = state;
         let _ = self.waiting.remove(0);
+        self.version_number += 1;
+    }
+
+    /// Tables that a merge made were put in the place of its inputs, by a switch behind which the manifest says this.
+    pub fn apply_install(&mut self, state: ManifestState)
+        requires { self.old.version_number < max_version_number }
+        ensures state { self.new.state ≡ state }
+        ensures version { self.new.version_number ≡ self.old.version_number + 1 }
+        ensures others { self.new ≡ record self.old { state = state; version_number = self.new.version_number } }
+    {
+        self.state = state;
         self.version_number += 1;
     }
 

@@ -1,6 +1,7 @@
-ghost use Rattle.std.specs.Prelude.{◌≡◌};
+ghost use Rattle.std.specs.Prelude.{◌≡◌, ◌<◌, false, nat_le};
 ghost use Rattle.vl_back.specs.Deciding.{MayFlush, MayRotate, flush_decision, numbers_decision, rotation_decision};
 ghost use Rattle.vl_back.specs.declared.decision.Decision.TheVariants.{Go};
+ghost use Rattle.vl_model.specs.Limits.{max_version_number};
 
 use crate::{Back, Decision};
 use vl_model::{Counter, MAX_FILE_NUMBER, MAX_VERSION_NUMBER};
@@ -28,6 +29,14 @@ impl Back {
         self.decide_by_numbers(self.next_log, Counter::Log)
     }
 
+    /// Whether no version number is left for a step that changes which files are used.
+    pub fn has_no_version(&self) -> bool
+        ensures tells { result ≡ nat_le max_version_number self.now.version_number }
+        ensures left { result ≡ false → self.now.version_number < max_version_number }
+    {
+        self.version_number >= MAX_VERSION_NUMBER
+    }
+
     // By the number that the step would give to a file of this kind, and the version number.
     fn decide_by_numbers(&self, next: u32, counter: Counter) -> Decision
         ensures { result ≡ numbers_decision next counter self.now.version_number }
@@ -35,7 +44,7 @@ impl Back {
         if next > MAX_FILE_NUMBER {
             return Decision::Exhausted(counter);
         }
-        if self.version_number >= MAX_VERSION_NUMBER {
+        if self.has_no_version() {
             return Decision::Exhausted(Counter::Version);
         }
         Decision::Go

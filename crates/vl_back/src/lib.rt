@@ -7,8 +7,11 @@
 //! changing calls, holds it for readers, and has the manifest name it by two more. `make_log` makes
 //! a rotation's log by three.
 //!
-//! `apply_flush` and `apply_rotation` change what is in memory behind that, and want no more of it:
-//! `make_room` took what a rotation wants.
+//! `stage_install` does the same for the switch by which tables that a merge made take the place of
+//! its inputs.
+//!
+//! `apply_flush`, `apply_install` and `apply_rotation` change what is in memory behind that, and want
+//! no more of it: `make_room` took what a rotation wants.
 #![tactic(auto)]
 
 mod applying;
@@ -16,6 +19,7 @@ mod back;
 mod deciding;
 mod decision;
 mod edits;
+mod installing;
 mod making;
 mod placing;
 mod stage_fail;
@@ -25,6 +29,7 @@ mod writing;
 
 pub use back::Back;
 pub use decision::Decision;
+pub use installing::StagedInstall;
 pub use making::{make_log, make_table};
 pub use stage_fail::StageFail;
 pub use staging::StagedFlush;

@@ -1,4 +1,4 @@
--- How entries that are kept are added to a table, one by one, and which needless keys lie behind it.
+-- How entries that are kept are added to a table, one by one, and which needless deletions lie behind it.
 use Rattle.std.proofs.Common.{◌≡◌, ℕ, Bool, true, false, cond, not, List, [], ◌∷◌, ◌++◌, refl, ap, sym, subst, ◌∙◌, append-nil, Option, Some, None}
 use Rattle.std.proofs.lemmas.Bool.{and_parts}
 use Rattle.std.proofs.lemmas.List.Elements.{filter-append}
@@ -9,9 +9,9 @@ use Rattle.std.specs.Prelude.{nat_le}
 use Rattle.std.specs.declared.cmp.Ordering.{Ordering}
 use Rattle.std.specs.declared.cmp.Ordering.TheVariants.{Less, Equal, Greater}
 use Rattle.vl_block.specs.Cutting.{last_key}
-use Rattle.vl_compact.specs.Filling.{Adds, Fills, IsWhole, IsWrittenTo, keys_up_to}
+use Rattle.vl_compact.specs.Filling.{Adds, Fills, IsWhole, IsWrittenTo, named_up_to}
 use Rattle.vl_compact.specs.Keeps.{GivesNext, Stage, place_in, stage}
-use Rattle.vl_compact.specs.Keys.{keys_of, up_to}
+use Rattle.vl_compact.specs.Keys.{all_named, named_of, up_to}
 use Rattle.vl_compact.specs.Walking.{is_behind, spent, walk}
 use Rattle.vl_compact.specs.laws.BehindLaws.{all_spent, behind_later}
 use Rattle.vl_compact.specs.laws.FirstTable.{closes, first_table, frames_length, last-append, table_and_rest}
@@ -23,6 +23,7 @@ use Rattle.vl_disk.specs.declared.writer.Writer.{Ghosts}
 use Rattle.vl_layout.specs.Tables.{full_table_bytes}
 use Rattle.vl_layout.specs.declared.job.Job.{Job}
 use Rattle.vl_merge.specs.Merging.{IsAlong, IsFirst}
+use Rattle.vl_model.specs.Conflicts.{Named}
 use Rattle.vl_model.specs.Entries.{entry_cmp}
 use Rattle.vl_model.specs.Keys.{key_cmp}
 use Rattle.vl_model.specs.declared.entry.Entry.{Entry}
@@ -47,33 +48,33 @@ all_later : (at : Option (List ℕ)) (e : Entry) (es : List Entry) → IsFirst U
 all_later at e [] first behind = tt
 all_later at e (f ∷ fs) first behind = (behind_later at e f first.0 behind, all_later at e fs first.1 behind)
 
-all_keys : (k : List ℕ) (es : List Entry) → AllByRecursion (λ (f : Entry). is_behind (Some k) f ≡ true) es
-    → AllByRecursion (λ (key : List ℕ). is_past (Some k) key ≡ true) (keys_of es)
-all_keys k [] all = tt
-all_keys k (e ∷ es) all = (all.0, all_keys k es all.1)
+all_past : (k : List ℕ) (es : List Entry) → AllByRecursion (λ (f : Entry). is_behind (Some k) f ≡ true) es
+    → AllByRecursion (λ (n : Named). is_past (Some k) n.0 ≡ true) (all_named es)
+all_past k [] all = tt
+all_past k (e ∷ es) all = (all.0, all_past k es all.1)
 
-none_up_to : (k : List ℕ) (keys : List (List ℕ)) → AllByRecursion (λ (key : List ℕ). is_past (Some k) key ≡ true) keys
-    → keys_up_to k keys ≡ []
+none_up_to : (k : List ℕ) (ns : List Named) → AllByRecursion (λ (n : Named). is_past (Some k) n.0 ≡ true) ns
+    → named_up_to k ns ≡ []
 none_up_to k [] all = refl
-none_up_to k (key ∷ keys) all =
-    ap (λ b. cond (not b) (key ∷ keys_up_to k keys) (keys_up_to k keys)) all.0 ∙ none_up_to k keys all.1
+none_up_to k (n ∷ ns) all =
+    ap (λ b. cond (not b) (n ∷ named_up_to k ns) (named_up_to k ns)) all.0 ∙ none_up_to k ns all.1
 
-keys_filtered : (k : List ℕ) (es : List Entry) → keys_up_to k (keys_of es) ≡ keys_of (up_to (Some k) es)
-keys_filtered k [] = refl
-keys_filtered k (e ∷ es) = by (is_past (Some k) e.key) (keys_filtered k es)
+named_filtered : (k : List ℕ) (es : List Entry) → named_up_to k (all_named es) ≡ all_named (up_to (Some k) es)
+named_filtered k [] = refl
+named_filtered k (e ∷ es) = by (is_past (Some k) e.key) (named_filtered k es)
   where
-    by : (b : Bool) → keys_up_to k (keys_of es) ≡ keys_of (up_to (Some k) es)
-        → cond (not b) (e.key ∷ keys_up_to k (keys_of es)) (keys_up_to k (keys_of es))
-        ≡ keys_of (cond (not b) (e ∷ up_to (Some k) es) (up_to (Some k) es))
+    by : (b : Bool) → named_up_to k (all_named es) ≡ all_named (up_to (Some k) es)
+        → cond (not b) (named_of e ∷ named_up_to k (all_named es)) (named_up_to k (all_named es))
+        ≡ all_named (cond (not b) (e ∷ up_to (Some k) es) (up_to (Some k) es))
     by true later = later
-    by false later = ap (λ l. e.key ∷ l) later
+    by false later = ap (λ l. named_of e ∷ l) later
 
 -- ---- one by one
 
 module _ {W : Type 0} (writer : Ghosts W) where
   -- Entries that are kept were added behind the first one, and nothing closed the table yet.
   pub record Adding {g : _} (j : Job) (first : Entry) (old : Stage) (lent : Lent W g) (table : TableWriter) (last : List ℕ) (at : Option Last)
-      (left : Option (List Entry)) (found : List (List ℕ)) : Type 0 where
+      (left : Option (List Entry)) (found : List Named) : Type 0 where
     pub all : List Entry
     pub lastly : Entry
     pub rest : List Entry
@@ -82,10 +83,10 @@ module _ {W : Type 0} (writer : Ghosts W) where
     pub last_is : last ≡ lastly.key
     pub left_is : left ≡ Some rest
     pub cut : table_and_rest (first ∷ []) (walk j old.place old.left) ≡ table_and_rest all (walk j (place_in at) rest)
-    pub found_are : old.found ++ keys_of (spent j old.place old.left) ≡ found ++ keys_of (spent j (place_in at) rest)
+    pub found_are : old.found ++ all_named (spent j old.place old.left) ≡ found ++ all_named (spent j (place_in at) rest)
     pub along : IsAlong Up (first ∷ old.left) → IsAlong Up (lastly ∷ rest)
 
-  pub adding_begins : {g : _} (j : Job) (first : Entry) (at : Option Last) (left : List Entry) (now : Option (List Entry)) (found : List (List ℕ))
+  pub adding_begins : {g : _} (j : Job) (first : Entry) (at : Option Last) (left : List Entry) (now : Option (List Entry)) (found : List Named)
       (lent : Lent W g) (table : TableWriter) → now ≡ Some left → IsWrittenTo writer lent table (first ∷ [])
       → Adding j first (stage at left found) lent table first.key at now found
   adding_begins j first at left now found lent table is written = record {
@@ -102,8 +103,8 @@ module _ {W : Type 0} (writer : Ghosts W) where
   }
 
   module _ {g : _} (j : Job) (first : Entry) (old : Stage) (lent : Lent W g) (table : TableWriter) (last : List ℕ) (at : Option Last)
-      (left : Option (List Entry)) (found : List (List ℕ)) (so : Adding {g = g} j first old lent table last at left found)
-      (at_now : Option Last) (left_now : Option (List Entry)) (found_now : List (List ℕ)) where
+      (left : Option (List Entry)) (found : List Named) (so : Adding {g = g} j first old lent table last at left found)
+      (at_now : Option Last) (left_now : Option (List Entry)) (found_now : List Named) where
     module _ (e : Entry) (n : GivesNext j (stage at so.rest found) at_now left_now found_now (Some e)) where
       abbrev kept_then : List Entry
       kept_then = walk j (place_in at_now) n.rest
@@ -139,12 +140,12 @@ module _ {W : Type 0} (writer : Ghosts W) where
       adding_closes closed = record {
         all = so.all;
         others = e ∷ kept_then;
-        later = keys_of (spent j (place_in at_now) n.rest);
+        later = all_named (spent j (place_in at_now) n.rest);
         written = so.written;
         cut = cut_here ∙ ap (λ b. cond b (so.all, e ∷ kept_then) (table_and_rest (so.all ++ e ∷ []) kept_then)) closed;
         found_are = so.found_are ∙ n.goes.found_are;
         behind = λ along.
-            all_keys (last_key so.all) (spent j (place_in at_now) n.rest)
+            all_past (last_key so.all) (spent j (place_in at_now) n.rest)
             (all_spent (λ (f : Entry). is_behind (Some (last_key so.all)) f ≡ true) j (place_in at_now) n.rest
             (all_later (Some (last_key so.all)) e n.rest (n.goes.along (so.along along).1).0 (past_it along closed)));
       }
@@ -157,24 +158,24 @@ module _ {W : Type 0} (writer : Ghosts W) where
       later = [];
       written = so.written;
       cut = so.cut ∙ ap (table_and_rest so.all) (n.goes.kept ∙ ap (walk j (place_in at_now)) n.none);
-      found_are = so.found_are ∙ n.goes.found_are ∙ ap (λ es. found_now ++ keys_of (spent j (place_in at_now) es)) n.none;
+      found_are = so.found_are ∙ n.goes.found_are ∙ ap (λ es. found_now ++ all_named (spent j (place_in at_now) es)) n.none;
       behind = λ along. tt;
     }
 
   -- ---- the first table
 
-  pub filled_with : {g : _} (j : Job) (left : List Entry) (before at : Option Last) (left_now : Option (List Entry)) (none found found_now : List (List ℕ)) (e : Entry)
+  pub filled_with : {g : _} (j : Job) (left : List Entry) (before at : Option Last) (left_now : Option (List Entry)) (none found found_now : List Named) (e : Entry)
       → before ≡ None → none ≡ [] → (n : GivesNext j (stage before left none) at left_now found (Some e)) → (lent : Lent W g) (table : TableWriter)
       → (a : Adds writer j e (stage at n.rest found) found_now lent table) → IsAlong Up left → (lent_now : Lent W g) (filled : Filled)
       → IsWhole writer lent_now a.all (arc_value filled.shape) → filled.last ≡ last_key a.all
-      → filled.found.items ≡ keys_up_to filled.last found_now → Fills writer j left lent_now filled
+      → filled.found.items ≡ named_up_to filled.last found_now → Fills writer j left lent_now filled
   filled_with j left before at left_now none found found_now e first nothing n lent table a along lent_now filled whole last found_are =
       let more : List Entry = walk j (place_in at) n.rest in
       let is_all : (first_table (e ∷ more)).0 ≡ a.all = ap (λ (p : List Entry × List Entry). p.0) a.cut in
       let needless : List Entry = spent j None left in
-      let total : keys_of needless ≡ found_now ++ a.later =
-      ap (λ l. l ++ keys_of needless) (sym nothing)
-      ∙ ap (λ (o : Option Last). none ++ keys_of (spent j (place_in o) left)) (sym first) ∙ n.goes.found_are ∙ a.found_are in
+      let total : all_named needless ≡ found_now ++ a.later =
+      ap (λ l. l ++ all_named needless) (sym nothing)
+      ∙ ap (λ (o : Option Last). none ++ all_named (spent j (place_in o) left)) (sym first) ∙ n.goes.found_are ∙ a.found_are in
       record {
         first = e;
         more = more;
@@ -182,10 +183,10 @@ module _ {W : Type 0} (writer : Ghosts W) where
         whole = subst (λ es. IsWhole writer lent_now es (arc_value filled.shape)) (sym is_all) whole;
         last = last ∙ ap last_key (sym is_all);
         found_are =
-            found_are ∙ sym (append-nil (keys_up_to filled.last found_now))
-            ∙ ap (λ l. keys_up_to filled.last found_now ++ l)
+            found_are ∙ sym (append-nil (named_up_to filled.last found_now))
+            ∙ ap (λ l. named_up_to filled.last found_now ++ l)
             (sym (none_up_to filled.last a.later
-            (subst (λ k. AllByRecursion (λ (key : List ℕ). is_past (Some k) key ≡ true) a.later) (sym last) (a.behind (n.goes.along along)))))
-            ∙ sym (filter-append (λ (key : List ℕ). not (is_past (Some filled.last) key)) found_now a.later)
-            ∙ ap (keys_up_to filled.last) (sym total) ∙ keys_filtered filled.last needless;
+            (subst (λ k. AllByRecursion (λ (n : Named). is_past (Some k) n.0 ≡ true) a.later) (sym last) (a.behind (n.goes.along along)))))
+            ∙ sym (filter-append (λ (n : Named). not (is_past (Some filled.last) n.0)) found_now a.later)
+            ∙ ap (named_up_to filled.last) (sym total) ∙ named_filtered filled.last needless;
       }

@@ -3,6 +3,7 @@ mod Choices
 mod DueLaws
 mod Fates
 mod Finding
+mod Greatest
 mod Into
 mod Lefts
 mod LevelAt

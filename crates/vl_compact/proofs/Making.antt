@@ -15,7 +15,7 @@ use Rattle.vl_block.specs.declared.shape.TableShape.{TableShape}
 use Rattle.vl_compact.proofs.Zips.{zip_length, zip_push}
 use Rattle.vl_compact.specs.Filling.{Fills, IsWhole}
 use Rattle.vl_compact.specs.Keeps.{AreRulesOf, GivesNext, place_in, stage, with_entry}
-use Rattle.vl_compact.specs.Keys.{behind, keys_of, up_to}
+use Rattle.vl_compact.specs.Keys.{all_named, behind, named_of, up_to}
 use Rattle.vl_compact.specs.Progress.{Answers, Has, HasAll, HasTaken, IsFresh, IsJobOf, IsSettled, IsTableFile, done_by, made_of}
 use Rattle.vl_compact.specs.Racing.{entry_count}
 use Rattle.vl_compact.specs.Walking.{spent, walk}
@@ -39,6 +39,7 @@ use Rattle.vl_layout.specs.declared.table.Table as laid
 use Rattle.vl_layout.specs.declared.job.Job as laid_job
 use Rattle.vl_merge.specs.Marked.{Marked}
 use Rattle.vl_merge.specs.Merging.{merged}
+use Rattle.vl_model.specs.Conflicts.{Named}
 use Rattle.vl_model.specs.Entries.{in_order}
 use Rattle.vl_model.specs.Formats.{table_format}
 use Rattle.vl_model.specs.declared.entry.Entry.{Entry}
@@ -71,9 +72,9 @@ length_more : {A : Type 0} (xs : List A) (x : A) → length (xs ++ x ∷ []) ≡
 length_more [] x = refl
 length_more (y ∷ ys) x = let later = length_more ys x in omega (arith, later)
 
-keys_both : (es fs : List Entry) → keys_of (es ++ fs) ≡ keys_of es ++ keys_of fs
-keys_both [] fs = refl
-keys_both (e ∷ es) fs = ap (λ l. e.key ∷ l) (keys_both es fs)
+named_both : (es fs : List Entry) → all_named (es ++ fs) ≡ all_named es ++ all_named fs
+named_both [] fs = refl
+named_both (e ∷ es) fs = ap (λ l. named_of e ∷ l) (named_both es fs)
 
 none_up_to : (es : List Entry) → up_to None es ≡ []
 none_up_to [] = refl
@@ -85,15 +86,15 @@ module _ {V H W : Type 0} (writer : Ghosts W) (bytes : H → Option (List ℕ)) 
   -- at first it has nothing, and all is behind
   pub begun : {g : _} (job : Job V H W g) (j : laid_job.Job) → IsJobOf writer bytes has job j → job.made.items ≡ [] → job.needless.items ≡ []
       → job.after ≡ None → job.waits ≡ false → job.ended ≡ false → Has writer bytes has job j
-  begun job j is made keys after waits ended = record {
+  begun job j is made none after waits ended = record {
     is = is;
     made = subst (λ l. AllZip (IsTableFile writer) l (take (length l) (outputs j))) (sym made) tt;
     others = ap (λ l. drop (length l) (outputs j)) made ∙ others_first (merged_entries j)
         ∙ ap (λ (o : Option (List ℕ)). cut_into_tables (behind o (merged_entries j))) (sym after);
     needless_are =
-        keys ∙ ap keys_of (sym (none_up_to (in_order (needless j))))
-        ∙ ap (λ (o : Option (List ℕ)). keys_of (up_to o (in_order (needless j)))) (sym after)
-        ∙ ap (λ b. keys_of (done_by b job.after (in_order (needless j)))) (sym ended);
+        none ∙ ap all_named (sym (none_up_to (in_order (needless j))))
+        ∙ ap (λ (o : Option (List ℕ)). all_named (up_to o (in_order (needless j)))) (sym after)
+        ∙ ap (λ b. all_named (done_by b job.after (in_order (needless j)))) (sym ended);
     waits = λ is. absurd (let no_such : true ≡ false = sym is ∙ waits in cc);
     ended = λ is. absurd (let no_such : true ≡ false = sym is ∙ ended in cc);
   }
@@ -119,7 +120,7 @@ module _ {V H W : Type 0} (writer : Ghosts W) (bytes : H → Option (List ℕ)) 
     is = h.is;
     made = subst (AllZip (IsTableFile writer) job.made.items)
         (ap (λ n. take n (outputs j)) (h.ended ended) ∙ take_all (outputs j)) h.made;
-    needless_are = h.needless_are ∙ ap (λ b. keys_of (done_by b job.after (in_order (needless j)))) ended;
+    needless_are = h.needless_are ∙ ap (λ b. all_named (done_by b job.after (in_order (needless j)))) ended;
   }
 
   -- and then its tables are the outputs
@@ -191,9 +192,9 @@ module _ {V H W : Type 0} (writer : Ghosts W) (bytes : H → Option (List ℕ)) 
   }
 
   pub ends_with : {g : _} (job : Job V H W g) (j : laid_job.Job) → Has writer bytes has job j → job.ended ≡ false
-      → walk j None (left_of job.after j) ≡ [] → (keys : Vec (List ℕ) Global) → keys.items ≡ job.needless.items ++ keys_of (spent j None (left_of job.after j))
-      → Answers writer bytes has (record job { needless = keys; waits = false; ended = true }) j false
-  ends_with job j h going none keys keys_are =
+      → walk j None (left_of job.after j) ≡ [] → (deletions : Vec Named Global) → deletions.items ≡ job.needless.items ++ all_named (spent j None (left_of job.after j))
+      → Answers writer bytes has (record job { needless = deletions; waits = false; ended = true }) j false
+  ends_with job j h going none deletions are =
       let es : List Entry = merged_entries j in
       let n : ℕ = length job.made.items in
       let x : List Entry = in_order (needless j) in
@@ -201,14 +202,14 @@ module _ {V H W : Type 0} (writer : Ghosts W) (bytes : H → Option (List ℕ)) 
       (let same = zip_length (IsTableFile writer) job.made.items (take n (outputs j)) h.made in
       let short = short_take n (outputs j) in omega (arith, same, short)) in
       let all : n ≡ length (outputs j) = all_there n es job.after within h.others (kept_is j job.after [] h.is.some none) in
-      let found : keys.items ≡ keys_of x =
-      keys_are
-      ∙ ap (λ l. l ++ keys_of (spent j None (left_of job.after j)))
-      (h.needless_are ∙ ap (λ b. keys_of (done_by b job.after x)) going)
-      ∙ ap (λ l. keys_of (up_to job.after x) ++ keys_of l) (needless-behind j job.after h.is.some)
-      ∙ sym (keys_both (up_to job.after x) (behind job.after x))
-      ∙ ap keys_of (parted-rising job.after x (rising-in_order (needless j))) in
-      let is : IsJobOf writer bytes has (record job { needless = keys; waits = false; ended = true }) j =
+      let found : deletions.items ≡ all_named x =
+      are
+      ∙ ap (λ l. l ++ all_named (spent j None (left_of job.after j)))
+      (h.needless_are ∙ ap (λ b. all_named (done_by b job.after x)) going)
+      ∙ ap (λ l. all_named (up_to job.after x) ++ all_named l) (needless-behind j job.after h.is.some)
+      ∙ sym (named_both (up_to job.after x) (behind job.after x))
+      ∙ ap all_named (parted-rising job.after x (rising-in_order (needless j))) in
+      let is : IsJobOf writer bytes has (record job { needless = deletions; waits = false; ended = true }) j =
       record {
         tables = h.is.tables;
         inputs = h.is.inputs;
@@ -238,7 +239,7 @@ module _ {V H W : Type 0} (writer : Ghosts W) (bytes : H → Option (List ℕ)) 
       }
 
   module _ {g : _} (job : Job V H W g) (j : laid_job.Job) (h : Has writer bytes has job j) (last at : Option Last)
-      (found_first found : List (List ℕ)) (now : Option (List Entry)) (next : Option Entry)
+      (found_first found : List Named) (now : Option (List Entry)) (next : Option Entry)
       (n : GivesNext j (stage last (left_of job.after j) found_first) at now found next) (first : last ≡ None) where
     left_is : walk j None (left_of job.after j) ≡ with_entry next (walk j (place_in at) n.rest)
     left_is = ap (λ (o : Option Last). walk j (place_in o) (left_of job.after j)) (sym first) ∙ n.goes.kept
@@ -253,24 +254,24 @@ module _ {V H W : Type 0} (writer : Ghosts W) (bytes : H → Option (List ℕ)) 
             (left_is ∙ ap (λ o. with_entry o (walk j (place_in at) n.rest)) is)
 
     -- none is
-    pub ready_none : is_some next ≡ false → job.ended ≡ false → found_first ≡ [] → (keys : Vec (List ℕ) Global)
-        → keys.items ≡ job.needless.items ++ found → Answers writer bytes has (record job { needless = keys; waits = false; ended = true }) j false
-    ready_none none going nothing keys keys_are = by next refl
+    pub ready_none : is_some next ≡ false → job.ended ≡ false → found_first ≡ [] → (deletions : Vec Named Global)
+        → deletions.items ≡ job.needless.items ++ found → Answers writer bytes has (record job { needless = deletions; waits = false; ended = true }) j false
+    ready_none none going nothing deletions are = by next refl
       where
-        needless_keys : List (List ℕ)
-        needless_keys = keys_of (spent j None (left_of job.after j))
+        needless_left : List Named
+        needless_left = all_named (spent j None (left_of job.after j))
 
-        by : (o : Option Entry) → next ≡ o → Answers writer bytes has (record job { needless = keys; waits = false; ended = true }) j false
+        by : (o : Option Entry) → next ≡ o → Answers writer bytes has (record job { needless = deletions; waits = false; ended = true }) j false
         by (Some e) is = absurd (let no_such : true ≡ false = sym (ap is_some is) ∙ none in cc)
         by None is =
             let rest : n.rest ≡ [] = subst (λ (o : Option Entry). IfNone o (n.rest ≡ [])) is n.none in
-            let all : needless_keys ≡ found =
-            ap (λ l. l ++ needless_keys) (sym nothing)
-            ∙ ap (λ (o : Option Last). found_first ++ keys_of (spent j (place_in o) (left_of job.after j))) (sym first)
-            ∙ n.goes.found_are ∙ ap (λ es. found ++ keys_of (spent j (place_in at) es)) rest ∙ append-nil found in
+            let all : needless_left ≡ found =
+            ap (λ l. l ++ needless_left) (sym nothing)
+            ∙ ap (λ (o : Option Last). found_first ++ all_named (spent j (place_in o) (left_of job.after j))) (sym first)
+            ∙ n.goes.found_are ∙ ap (λ es. found ++ all_named (spent j (place_in at) es)) rest ∙ append-nil found in
             ends_with job j h going
             (left_is ∙ ap (λ o. with_entry o (walk j (place_in at) n.rest)) is ∙ ap (walk j (place_in at)) rest)
-            keys (keys_are ∙ ap (λ l. job.needless.items ++ l) (sym all))
+            deletions (are ∙ ap (λ l. job.needless.items ++ l) (sym all))
 
   -- ---- one table more
 
@@ -318,9 +319,9 @@ module _ {V H W : Type 0} (writer : Ghosts W) (bytes : H → Option (List ℕ)) 
 
   pub makes_one : {g : _} (job : Job V H W g) (j : laid_job.Job) → Has writer bytes has job j → job.waits ≡ true → (lent : Lent W g) (filled : Filled)
       → Fills writer j (left_of job.after j) lent filled → IsSettled writer lent → (made : Vec (Synced W g) Global) → HasTaken lent filled job.made.items made.items
-      → (keys : Vec (List ℕ) Global) → keys.items ≡ job.needless.items ++ filled.found.items
-      → Has writer bytes has (record job { after = Some filled.last; made = made; needless = keys; waits = false }) j
-  makes_one job j h waits lent filled fills settled_is made taken keys keys_are =
+      → (deletions : Vec Named Global) → deletions.items ≡ job.needless.items ++ filled.found.items
+      → Has writer bytes has (record job { after = Some filled.last; made = made; needless = deletions; waits = false }) j
+  makes_one job j h waits lent filled fills settled_is made taken deletions are =
       let es : List Entry = merged_entries j in
       let n : ℕ = length job.made.items in
       let x : List Entry = in_order (needless j) in
@@ -350,13 +351,13 @@ module _ {V H W : Type 0} (writer : Ghosts W) (bytes : H → Option (List ℕ)) 
             (file_is lent filled table fills.whole settled_is taken.table taken.number taken.writer taken.shape)));
         others = ap (λ m. drop m (outputs j)) count ∙ next.1 ∙ ap (λ k. cut_into_tables (behind (Some k) es)) (sym fills.last);
         needless_are =
-            keys_are
-            ∙ ap (λ l. l ++ filled.found.items) (h.needless_are ∙ ap (λ b. keys_of (done_by b job.after x)) going)
-            ∙ ap (λ l. keys_of (up_to job.after x) ++ l)
-            (fills.found_are ∙ ap (λ l. keys_of (up_to (Some filled.last) l)) (needless-behind j job.after h.is.some))
-            ∙ sym (keys_both (up_to job.after x) (up_to (Some filled.last) (behind job.after x)))
-            ∙ ap keys_of (sym (up_to-further job.after filled.last x (rising-in_order (needless j)) past))
-            ∙ ap (λ b. keys_of (done_by b (Some filled.last) x)) (sym going);
+            are
+            ∙ ap (λ l. l ++ filled.found.items) (h.needless_are ∙ ap (λ b. all_named (done_by b job.after x)) going)
+            ∙ ap (λ l. all_named (up_to job.after x) ++ l)
+            (fills.found_are ∙ ap (λ l. all_named (up_to (Some filled.last) l)) (needless-behind j job.after h.is.some))
+            ∙ sym (named_both (up_to job.after x) (up_to (Some filled.last) (behind job.after x)))
+            ∙ ap all_named (sym (up_to-further job.after filled.last x (rising-in_order (needless j)) past))
+            ∙ ap (λ b. all_named (done_by b (Some filled.last) x)) (sym going);
         waits = λ no. absurd (let no_such : false ≡ true = no in cc);
         ended = λ ended. absurd (let no_such : true ≡ false = sym ended ∙ going in cc);
       }

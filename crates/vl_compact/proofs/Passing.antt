@@ -2,7 +2,7 @@
 use Rattle.std.proofs.Common.{◌≡◌, ℕ, ◌+◌, Bool, true, false, not, ◌&&◌, ◌||◌, List, [], ◌∷◌, ◌++◌, refl, ap, sym, subst, ◌∙◌, append_assoc, Option, Some, None}
 use Rattle.std.specs.Prelude.{nat_le, if◌then◌else◌}
 use Rattle.vl_compact.specs.Keeps.{AreRulesOf, GivesNext, Passes, Stage, Walked, fate_by, fate_of, is_kept, noted, place_in, stage}
-use Rattle.vl_compact.specs.Keys.{keys_of}
+use Rattle.vl_compact.specs.Keys.{all_named}
 use Rattle.vl_compact.specs.Walking.{Place, comes_again, is_hidden, is_let_go, is_old, is_spent, is_spent_alone, place_of, seen_before, spent, walk}
 use Rattle.vl_compact.specs.declared.last.Last.{Last}
 use Rattle.vl_compact.specs.declared.rules.Fate.{Fate}
@@ -10,6 +10,7 @@ use Rattle.vl_compact.specs.declared.rules.Rules.{Rules}
 use Rattle.vl_layout.specs.Merging.{if_so}
 use Rattle.vl_layout.specs.declared.job.Job.{Job}
 use Rattle.vl_merge.specs.Merging.{IsAlong, IsFirst}
+use Rattle.vl_model.specs.Conflicts.{Named}
 use Rattle.vl_model.specs.Cursors.{Gives}
 use Rattle.vl_model.specs.declared.entry.Entry.{Entry}
 use Rattle.vl_model.specs.declared.way.Way.TheVariants.{Up}
@@ -24,21 +25,21 @@ kept_by false false true = refl
 kept_by false false false = refl
 
 noted_by : (old hidden needless : Bool) (e : Entry) (es : List Entry)
-    → keys_of (if_so (not hidden && (not old && needless)) e es) ≡ noted (fate_by old hidden needless) e ++ keys_of es
+    → all_named (if_so (not hidden && (not old && needless)) e es) ≡ noted (fate_by old hidden needless) e ++ all_named es
 noted_by true true s e es = refl
 noted_by true false s e es = refl
 noted_by false true s e es = refl
 noted_by false false true e es = refl
 noted_by false false false e es = refl
 
-pub again : (j : Job) (at : Option Place) (e : Entry) (found : List (List ℕ)) → comes_again at e ≡ true → Passes j at at e found found false
+pub again : (j : Job) (at : Option Place) (e : Entry) (found : List Named) → comes_again at e ≡ true → Passes j at at e found found false
 again j at e found is = record {
   walked = λ es. ap (λ b. if b then walk j at es else if_so (not (is_let_go j (seen_before at e) e)) e (walk j (Some (place_of j.floor at e)) es)) is;
-  found_are = λ es. ap (λ b. found ++ keys_of (if b then spent j at es
+  found_are = λ es. ap (λ b. found ++ all_named (if b then spent j at es
       else if_so (is_spent_alone j (seen_before at e) e) e (spent j (Some (place_of j.floor at e)) es))) is;
 }
 
-pub passes : (j : Job) (at now : Option Place) (e : Entry) (found found_now : List (List ℕ)) (fate : Fate) (kept : Bool)
+pub passes : (j : Job) (at now : Option Place) (e : Entry) (found found_now : List Named) (fate : Fate) (kept : Bool)
     → comes_again at e ≡ false → fate ≡ fate_of j (seen_before at e) e → now ≡ Some (place_of j.floor at e)
     → found_now ≡ found ++ noted fate e → kept ≡ is_kept fate → Passes j at now e found found_now kept
 passes j at now e found found_now fate kept first fate_is now_is found_is kept_is =
@@ -51,12 +52,12 @@ passes j at now e found found_now fate kept first fate_is now_is found_is kept_i
           (kept_by (is_old j seen e) (is_hidden j e) (is_spent j e) ∙ ap is_kept (sym fate_is) ∙ sym kept_is)
           ∙ ap (λ p. if_so kept e (walk j p es)) (sym now_is);
       found_are = λ es.
-          ap (λ b. found ++ keys_of (if b then spent j at es else if_so (is_spent_alone j seen e) e (spent j place es))) first
-          ∙ ap (λ keys. found ++ keys) (noted_by (is_old j seen e) (is_hidden j e) (is_spent j e) e (spent j place es)
-          ∙ ap (λ f. noted f e ++ keys_of (spent j place es)) (sym fate_is)
-          ∙ ap (λ p. noted fate e ++ keys_of (spent j p es)) (sym now_is))
-          ∙ sym (append_assoc found (noted fate e) (keys_of (spent j now es)))
-          ∙ ap (λ keys. keys ++ keys_of (spent j now es)) (sym found_is);
+          ap (λ b. found ++ all_named (if b then spent j at es else if_so (is_spent_alone j seen e) e (spent j place es))) first
+          ∙ ap (λ ns. found ++ ns) (noted_by (is_old j seen e) (is_hidden j e) (is_spent j e) e (spent j place es)
+          ∙ ap (λ f. noted f e ++ all_named (spent j place es)) (sym fate_is)
+          ∙ ap (λ p. noted fate e ++ all_named (spent j p es)) (sym now_is))
+          ∙ sym (append_assoc found (noted fate e) (all_named (spent j now es)))
+          ∙ ap (λ ns. ns ++ all_named (spent j now es)) (sym found_is);
     }
 
 abbrev place_with : List ℕ → ℕ → ℕ → Place
@@ -77,12 +78,12 @@ placed rules j are at e last seen seen_is key version count =
 
 -- ---- many
 
-pub starts : (j : Job) (last : Option Last) (left : List Entry) (found : List (List ℕ)) (now : Option (List Entry)) → now ≡ Some left
+pub starts : (j : Job) (last : Option Last) (left : List Entry) (found : List Named) (now : Option (List Entry)) → now ≡ Some left
     → Walked j (stage last left found) last now found
 starts j last left found now is = record { rest = left; left_is = is; goes = record { kept = refl; found_are = refl; along = λ along. along; from = λ e first. first } }
 
-module _ (j : Job) (old : Stage) (last : Option Last) (left : Option (List Entry)) (found : List (List ℕ)) (so : Walked j old last left found) where
-  module _ (last_now : Option Last) (left_now : Option (List Entry)) (found_now : List (List ℕ)) (e : Entry) (gives : Gives left left_now (Some e)) where
+module _ (j : Job) (old : Stage) (last : Option Last) (left : Option (List Entry)) (found : List Named) (so : Walked j old last left found) where
+  module _ (last_now : Option Last) (left_now : Option (List Entry)) (found_now : List Named) (e : Entry) (gives : Gives left left_now (Some e)) where
     abbrev rest_now : List Entry
     rest_now = (gives so.rest so.left_is).0
 
@@ -90,8 +91,8 @@ module _ (j : Job) (old : Stage) (last : Option Last) (left : Option (List Entry
     split = (gives so.rest so.left_is).1
 
     found_on : (kept : Bool) → Passes j (place_in last) (place_in last_now) e found found_now kept
-        → old.found ++ keys_of (spent j old.place old.left) ≡ found_now ++ keys_of (spent j (place_in last_now) rest_now)
-    found_on kept p = so.goes.found_are ∙ ap (λ es. found ++ keys_of (spent j (place_in last) es)) split ∙ p.found_are rest_now
+        → old.found ++ all_named (spent j old.place old.left) ≡ found_now ++ all_named (spent j (place_in last_now) rest_now)
+    found_on kept p = so.goes.found_are ∙ ap (λ es. found ++ all_named (spent j (place_in last) es)) split ∙ p.found_are rest_now
 
     kept_on : (kept : Bool) → Passes j (place_in last) (place_in last_now) e found found_now kept
         → walk j old.place old.left ≡ if_so kept e (walk j (place_in last_now) rest_now)
@@ -133,7 +134,7 @@ module _ (j : Job) (old : Stage) (last : Option Last) (left : Option (List Entry
         left_is = ends.1;
         goes = record {
           kept = so.goes.kept ∙ ap (walk j (place_in last)) ends.0;
-          found_are = so.goes.found_are ∙ ap (λ es. found ++ keys_of (spent j (place_in last) es)) ends.0;
+          found_are = so.goes.found_are ∙ ap (λ es. found ++ all_named (spent j (place_in last) es)) ends.0;
           along = λ along. tt;
           from = λ f first. tt;
         };

@@ -8,7 +8,7 @@ use Rattle.vl_block.specs.Cutting.{last_key}
 use Rattle.vl_block.specs.Shapes.{IsShapeOf}
 use Rattle.vl_block.specs.declared.shape.TableShape.{TableShape}
 use Rattle.vl_compact.specs.Keeps.{Stage}
-use Rattle.vl_compact.specs.Keys.{keys_of, up_to}
+use Rattle.vl_compact.specs.Keys.{all_named, up_to}
 use Rattle.vl_compact.specs.Lending.{FailsWriting, IsSteady}
 use Rattle.vl_compact.specs.Reading.{Counts, NoneRose}
 use Rattle.vl_compact.specs.Walking.{spent, walk}
@@ -19,6 +19,7 @@ use Rattle.vl_compact.specs.declared.filling.Filled.{Filled}
 use Rattle.vl_disk.specs.declared.writer.Writer.{Ghosts}
 use Rattle.vl_layout.specs.declared.job.Job.{Job}
 use Rattle.vl_merge.specs.Merging.{IsAlong}
+use Rattle.vl_model.specs.Conflicts.{Named}
 use Rattle.vl_model.specs.Formats.{table_format}
 use Rattle.vl_model.specs.declared.entry.Entry.{Entry}
 use Rattle.vl_model.specs.declared.way.Way.TheVariants.{Up}
@@ -40,30 +41,30 @@ module _ {W : Type 0} (writer : Ghosts W) where
     pub file : ForSome (writer.file lent.writer) (λ f. f.bytes ≡ table_bytes table_format lent.number es)
 
   -- Entries that are kept were added behind the first one, up to one that closes the table, or all of them; and what of the
-  -- needless keys wasn't found lies behind the last of them.
-  pub record Adds {g : _} (j : Job) (first : Entry) (old : Stage) (found : List (List ℕ)) (lent : Lent W g) (table : TableWriter) : Type 0 where
+  -- needless deletions wasn't found lies behind the last of them.
+  pub record Adds {g : _} (j : Job) (first : Entry) (old : Stage) (found : List Named) (lent : Lent W g) (table : TableWriter) : Type 0 where
     pub all : List Entry
     pub others : List Entry
-    pub later : List (List ℕ)
+    pub later : List Named
     pub written : IsWrittenTo lent table all
     pub cut : table_and_rest (first ∷ []) (walk j old.place old.left) ≡ (all, others)
-    pub found_are : old.found ++ keys_of (spent j old.place old.left) ≡ found ++ later
-    pub behind : IsAlong Up (first ∷ old.left) → AllByRecursion (λ key. is_past (Some (last_key all)) key ≡ true) later
+    pub found_are : old.found ++ all_named (spent j old.place old.left) ≡ found ++ later
+    pub behind : IsAlong Up (first ∷ old.left) → AllByRecursion (λ (n : Named). is_past (Some (last_key all)) n.0 ≡ true) later
 
-  -- The first table of what is left was written, and the needless keys up to its last key were found.
+  -- The first table of what is left was written, and the needless deletions up to its last key were found.
   pub record Fills {g : _} (j : Job) (left : List Entry) (lent : Lent W g) (filled : Filled) : Type 0 where
     pub first : Entry
     pub more : List Entry
     pub kept : walk j None left ≡ first ∷ more
     pub whole : IsWhole lent (first_table (first ∷ more)).0 (arc_value filled.shape)
     pub last : filled.last ≡ last_key (first_table (first ∷ more)).0
-    pub found_are : filled.found.items ≡ keys_of (up_to (Some filled.last) (spent j None left))
+    pub found_are : filled.found.items ≡ all_named (up_to (Some filled.last) (spent j None left))
 
   -- A call that reads and writes failed: reading did, by what a fault of that is, or writing.
   abbrev pub FailsFilling : {g : _} → (Counts → TableFault → Type 0) → Counts → (old new : Lent W g) → TableFault → Type 0
   FailsFilling reads c old new fault =
       (reads c fault × IsSteady writer old new) ⊎ (FailsWriting writer old new fault × NoneRose c)
 
--- those of some keys that aren't behind this one
-abbrev pub keys_up_to : List ℕ → List (List ℕ) → List (List ℕ)
-keys_up_to last keys = filter (λ key. not (is_past (Some last) key)) keys
+-- those of some keys with their versions that aren't behind this key
+abbrev pub named_up_to : List ℕ → List Named → List Named
+named_up_to last ns = filter (λ (n : Named). not (is_past (Some last) n.0)) ns

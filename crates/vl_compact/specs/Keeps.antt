@@ -9,9 +9,10 @@ use Rattle.vl_compact.specs.declared.rules.Rules.{Rules}
 use Rattle.vl_layout.specs.Merging.{if_so}
 use Rattle.vl_layout.specs.declared.job.Job.{Job}
 use Rattle.vl_merge.specs.Merging.{IsAlong, IsFirst}
+use Rattle.vl_model.specs.Conflicts.{Named}
 use Rattle.vl_model.specs.declared.entry.Entry.{Entry}
 use Rattle.vl_model.specs.declared.way.Way.TheVariants.{Up}
-use Rattle.vl_compact.specs.Keys.{keys_of}
+use Rattle.vl_compact.specs.Keys.{all_named, named_of}
 
 abbrev pub place_at : Last → Place
 place_at last = record { key = last.key; version = last.version; seen = last.seen }
@@ -42,26 +43,26 @@ is_kept Kept = true
 is_kept Dropped = false
 is_kept Needless = false
 
--- the key of a needless deletion
-abbrev pub noted : Fate → Entry → List (List ℕ)
+-- a needless deletion, by its key and version
+abbrev pub noted : Fate → Entry → List Named
 noted Kept e = []
 noted Dropped e = []
-noted Needless e = e.key ∷ []
+noted Needless e = named_of e ∷ []
 
 -- One entry came. It is kept or not, and what is needless of it was found: whatever comes behind it.
-pub record Passes (j : Job) (at now : Option Place) (e : Entry) (found found_now : List (List ℕ)) (kept : Bool) : Type 0 where
+pub record Passes (j : Job) (at now : Option Place) (e : Entry) (found found_now : List Named) (kept : Bool) : Type 0 where
   pub walked : (es : List Entry) → walk j at (e ∷ es) ≡ if_so kept e (walk j now es)
-  pub found_are : (es : List Entry) → found ++ keys_of (spent j at (e ∷ es)) ≡ found_now ++ keys_of (spent j now es)
+  pub found_are : (es : List Entry) → found ++ all_named (spent j at (e ∷ es)) ≡ found_now ++ all_named (spent j now es)
 
 -- ---- many
 
--- how far it is: its place, what is left of its inputs, and the keys of needless deletions that it found
+-- how far it is: its place, what is left of its inputs, and the needless deletions that it found
 pub record Stage : Type 0 where
   pub place : Option Place
   pub left : List Entry
-  pub found : List (List ℕ)
+  pub found : List Named
 
-abbrev pub stage : Option Last → List Entry → List (List ℕ) → Stage
+abbrev pub stage : Option Last → List Entry → List Named → Stage
 stage last left found = record { place = place_in last; left = left; found = found }
 
 abbrev pub with_entry : Option Entry → List Entry → List Entry
@@ -72,12 +73,12 @@ with_entry (Some e) es = e ∷ es
 -- found stays.
 pub record GoesOn (j : Job) (old new : Stage) (next : Option Entry) : Type 0 where
   pub kept : walk j old.place old.left ≡ with_entry next (walk j new.place new.left)
-  pub found_are : old.found ++ keys_of (spent j old.place old.left) ≡ new.found ++ keys_of (spent j new.place new.left)
+  pub found_are : old.found ++ all_named (spent j old.place old.left) ≡ new.found ++ all_named (spent j new.place new.left)
   pub along : IsAlong Up old.left → IsAlong Up (with_entry next new.left)
   pub from : (e : Entry) → IsFirst Up e old.left → IsFirst Up e (with_entry next new.left)
 
 -- It gave the next entry that is kept; where there is none nothing is left.
-pub record GivesNext (j : Job) (old : Stage) (last : Option Last) (left : Option (List Entry)) (found : List (List ℕ)) (next : Option Entry)
+pub record GivesNext (j : Job) (old : Stage) (last : Option Last) (left : Option (List Entry)) (found : List Named) (next : Option Entry)
     : Type 0 where
   pub rest : List Entry
   pub left_is : left ≡ Some rest
@@ -85,7 +86,7 @@ pub record GivesNext (j : Job) (old : Stage) (last : Option Last) (left : Option
   pub none : IfNone next (rest ≡ [])
 
 -- It gave nothing so far.
-pub record Walked (j : Job) (old : Stage) (last : Option Last) (left : Option (List Entry)) (found : List (List ℕ)) : Type 0 where
+pub record Walked (j : Job) (old : Stage) (last : Option Last) (left : Option (List Entry)) (found : List Named) : Type 0 where
   pub rest : List Entry
   pub left_is : left ≡ Some rest
   pub goes : GoesOn j old (stage last rest found) None

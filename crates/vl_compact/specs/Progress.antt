@@ -6,7 +6,7 @@ use Rattle.std.specs.Option.{ForSome}
 use Rattle.vl_block.specs.Bytes.{table_bytes}
 use Rattle.vl_block.specs.Shapes.{IsShapeOf}
 use Rattle.vl_compact.specs.Filling.{FailsFilling}
-use Rattle.vl_compact.specs.Keys.{behind, keys_of, up_to}
+use Rattle.vl_compact.specs.Keys.{all_named, behind, up_to}
 use Rattle.vl_compact.specs.Laid.{AreTablesOf}
 use Rattle.vl_compact.specs.Reading.{Counts}
 use Rattle.vl_compact.specs.declared.filling.Filled.{Filled}
@@ -62,12 +62,12 @@ module _ {W : Type 0} (writer : Ghosts W) where
       pub some : 1 ≤ j.keep
 
     -- The job has made the first tables of its merge. The others are made of what the merge keeps behind a key, and of the
-    -- keys up to that one, or of all once it has ended, it has those whose deletions were needless.
+    -- keys up to that one, or of all once it has ended, it has the deletions that were needless.
     pub record Has {g : _} (job : Job V H W g) (j : laid_job.Job) : Type 0 where
       pub is : IsJobOf job j
       pub made : AllZip IsTableFile job.made.items (take (length job.made.items) (outputs j))
       pub others : drop (length job.made.items) (outputs j) ≡ cut_into_tables (behind job.after (merged_entries j))
-      pub needless_are : job.needless.items ≡ keys_of (done_by job.ended job.after (in_order (needless j)))
+      pub needless_are : job.needless.items ≡ all_named (done_by job.ended job.after (in_order (needless j)))
       -- where it waits for a file, a table is missing
       pub waits : job.waits ≡ true → length job.made.items < length (outputs j)
       -- where it has ended, none is
@@ -77,7 +77,7 @@ module _ {W : Type 0} (writer : Ghosts W) where
     pub record HasAll {g : _} (job : Job V H W g) (j : laid_job.Job) : Type 0 where
       pub is : IsJobOf job j
       pub made : AllZip IsTableFile job.made.items (outputs j)
-      pub needless_are : job.needless.items ≡ keys_of (in_order (needless j))
+      pub needless_are : job.needless.items ≡ all_named (in_order (needless j))
 
     -- Whether more is kept than its tables have: where nothing is, it has all of its merge.
     pub record Answers {g : _} (job : Job V H W g) (j : laid_job.Job) (more : Bool) : Type 0 where

@@ -1,5 +1,5 @@
--- Which of some keys was moved first, and how many entries tables have.
-use Rattle.std.specs.Prelude.{ℕ, List, [], ◌∷◌, Option, None}
+-- Which of some keys was moved first, which version is the greatest, and how many entries tables have.
+use Rattle.std.specs.Prelude.{ℕ, max, List, [], ◌∷◌, Option, None}
 use Rattle.std.specs.Arc.{arc_value}
 use Rattle.std.specs.FinMap.{find}
 use Rattle.std.specs.List.{sum_by}
@@ -9,9 +9,14 @@ use Rattle.vl_model.specs.Conflicts.{Named}
 use Rattle.vl_model.specs.Keys.{key_cmp}
 
 -- the first of these keys that was moved, with the number of its last move, which comes first
-abbrev pub least_moved : List Named → List (List ℕ) → Option Named
+abbrev pub least_moved : List Named → List Named → Option Named
 least_moved moved [] = None
-least_moved moved (key ∷ keys) = moved_or key (find key_cmp key moved) (least_moved moved keys)
+least_moved moved (n ∷ ns) = moved_or n.0 (find key_cmp n.0 moved) (least_moved moved ns)
+
+-- the greatest version of these, 0 where there is none
+abbrev pub greatest : List Named → ℕ
+greatest [] = 0
+greatest (n ∷ ns) = max n.1 (greatest ns)
 
 -- how many entries tables have, as their footers say it
 abbrev pub entry_count : {W : Type 0} {g : _} → List (Synced W g) → ℕ

@@ -2,13 +2,13 @@ ghost use Rattle.std.specs.Prelude.{◌≡◌, ◌≤◌, ◌+◌, ◌++◌, vec
 
 use vl_model::Key;
 
-/// Puts keys behind others, for which there is room.
-pub fn append_reserved(keys: &mut Vec<Key>, found: Vec<Key>)
-    requires { vec_len keys.old + vec_len found ≤ vec_capacity keys.old }
-    ensures { keys.new.items ≡ keys.old.items ++ found.items }
+/// Puts keys with their versions behind others, for which there is room.
+pub fn append_reserved(deletions: &mut Vec<(Key, u64)>, found: Vec<(Key, u64)>)
+    requires { vec_len deletions.old + vec_len found ≤ vec_capacity deletions.old }
+    ensures { deletions.new.items ≡ deletions.old.items ++ found.items }
 {
     let mut found = found;
-    let Ok(()) = keys.append(&mut found) else {
+    let Ok(()) = deletions.append(&mut found) else {
         unreachable!()
     };
 }

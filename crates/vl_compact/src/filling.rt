@@ -5,7 +5,7 @@ ghost use Rattle.std.specs.Arc.{arc_value};
 ghost use Rattle.std.specs.Option.{ForSome};
 ghost use Rattle.std.specs.Ordering.{eq_by_cmp};
 ghost use Rattle.vl_block.specs.Cutting.{last_key};
-ghost use Rattle.vl_compact.specs.Filling.{Adds, FailsFilling, Fills, IsWhole, IsWrittenTo, keys_up_to};
+ghost use Rattle.vl_compact.specs.Filling.{Adds, FailsFilling, Fills, IsWhole, IsWrittenTo, named_up_to};
 ghost use Rattle.vl_compact.specs.Keeps.{AreRulesOf, stage};
 ghost use Rattle.vl_compact.specs.Lending.{FailsWriting, IsSteady};
 ghost use Rattle.vl_compact.specs.Reading.{FailsReading, NoneRose, counts};
@@ -36,13 +36,13 @@ use vl_table_writer::{AddFail, TableWriter, Tail};
 // A merge closes a table whose block frames have so many bytes.
 const FULL_TABLE_BYTES: u64 = 2_097_152;
 
-/// What a table that was written leaves: what is known of it beside its blocks, its last key, and the keys up to that one of
-/// needless deletions.
+/// What a table that was written leaves: what is known of it beside its blocks, its last key, and the needless deletions
+/// up to that one, by key and version.
 #[derive(Drop)]
 pub struct Filled {
     pub shape: Arc<TableShape, Global>,
     pub last: Key,
-    pub found: Vec<Key>,
+    pub found: Vec<(Key, u64)>,
 }
 
 /// Writes the first table of what is kept to its file. Nothing of it is durable yet.
@@ -106,7 +106,7 @@ fn add_kept<C: Cursor<Fault = TableFault>, V: Sources<Fault = TableFault>, W: Wr
     base: &V,
     reader: &mut JobReader<C::Reader, V::Reader>,
     keeping: &mut Keeping<C>,
-    found: &mut Vec<Key>,
+    found: &mut Vec<(Key, u64)>,
     lent: &mut Lent<W>,
     table: &mut TableWriter,
     first: Entry,
@@ -194,17 +194,17 @@ fn is_full(table: &TableWriter) -> bool
     FULL_TABLE_BYTES <= table.block_bytes()
 }
 
-// Ends the table, and hands out the rest of it. Of the keys that were found those up to its last one are left.
+// Ends the table, and hands out the rest of it. Of the deletions that were found those up to its last key are left.
 fn finish<W: Writer>(
     alloc: Global,
     lent: &mut Lent<W>,
     table: TableWriter,
-    found: Vec<Key>,
+    found: Vec<(Key, u64)>,
 ) -> Result<Filled, TableFault>
     ensures whole { (es : List Entry) → IsWrittenTo W.Writer lent.old table es
         → IfOk result (λ filled. IsWhole W.Writer lent.new es (arc_value filled.shape)) }
     ensures last { (es : List Entry) → IsWrittenTo W.Writer lent.old table es → IfOk result (λ filled. filled.last ≡ last_key es) }
-    ensures found { IfOk result (λ filled. filled.found.items ≡ keys_up_to filled.last found.items) }
+    ensures found { IfOk result (λ filled. filled.found.items ≡ named_up_to filled.last found.items) }
     ensures number { lent.new.number ≡ lent.old.number }
     ensures tells { IsSome (W.file lent.old.writer) → IsSome (W.file lent.new.writer) }
     ensures steady { OnOk result (IsSteady W.Writer lent.old lent.new) }
@@ -248,19 +248,19 @@ fn append_behind<W: Writer>(lent: &mut Lent<W>, one: &[u8], two: &[u8]) -> Resul
     lent.append(two)
 }
 
-// Those of these keys that aren't behind a key.
-fn up_to(keys: Vec<Key>, last: &Key) -> Vec<Key>
-    ensures { result.items ≡ keys_up_to last.now keys.items }
+// Those of these that aren't behind a key.
+fn up_to(found: Vec<(Key, u64)>, last: &Key) -> Vec<(Key, u64)>
+    ensures { result.items ≡ named_up_to last.now found.items }
 {
-    let mut keys = keys;
-    keys.retain(|key| is_up_to(last, key));
-    keys
+    let mut found = found;
+    found.retain(|deletion| is_up_to(last, deletion));
+    found
 }
 
-fn is_up_to(last: &Key, key: &Key) -> bool
-    ensures { result ≡ not (is_past (Some last.now) key.now) }
+fn is_up_to(last: &Key, deletion: &(Key, u64)) -> bool
+    ensures { result ≡ not (is_past (Some last.now) deletion.now.0) }
 {
-    !last.as_slice().cmp(&key.as_slice()).is_lt()
+    !last.as_slice().cmp(&deletion.0.as_slice()).is_lt()
 }
 
 // What refuses an entry is want of memory: the entries of true tables may all stand in one, in their order.

@@ -11,7 +11,7 @@ use crate::job_reader::JobReader;
 use crate::keeping::Keeping;
 use crate::merging::merged;
 use crate::parts::Parts;
-use crate::racing::{least_moved, numbers_of, total};
+use crate::racing::{greatest, least_moved, numbers_of, total};
 use crate::rules::Rules;
 use std::alloc::{AllocError, Global};
 use vl_disk::{HeldFile, Reader, Writer};
@@ -33,9 +33,9 @@ pub struct Job<V, H, W: Writer> {
     made: Vec<Synced<W>>,
     // Files that didn't become tables.
     leavings: Vec<Lent<W>>,
-    // The keys up to that one, or all once it has ended, of which a deletion was dropped since no older version stands
-    // outside the inputs.
-    needless: Vec<Key>,
+    // The deletions, by key and version, of the keys up to that one, or of all once it has ended, that were dropped since no
+    // older version stands outside the inputs.
+    needless: Vec<(Key, u64)>,
     // Whether an entry was found that isn't in a table yet, and no table was made since.
     waits: bool,
     // Whether it has all of its merge.
@@ -46,7 +46,7 @@ impl<V, H, W: Writer> Job<V, H, W> {
     ghost use Rattle.std.specs.Prelude.{◌≡◌, OnOk};
     ghost use Rattle.std.specs.Option.{option_map};
     ghost use Rattle.vl_compact.specs.Progress.{HasRoom};
-    ghost use Rattle.vl_compact.specs.Racing.{least_moved};
+    ghost use Rattle.vl_compact.specs.Racing.{greatest, least_moved};
 
     /// Room for the next table, or for its file where it doesn't become one.
     pub fn make_room(&mut self) -> Result<(), AllocError>
@@ -79,6 +79,13 @@ impl<V, H, W: Writer> Job<V, H, W> {
     {
         least_moved(&self.needless, moved)
     }
+
+    // The greatest version of the needless deletions, 0 where there is none.
+    fn greatest_gone(&self) -> u64
+        ensures { result ≡ greatest self.now.needless.items }
+    {
+        greatest(&self.needless)
+    }
 }
 
 impl<V: Drop, H: Drop, W: Writer + Drop> Job<V, H, W> {
@@ -103,7 +110,7 @@ impl<V: Sources, H: HeldFile, W: Writer> Job<V, H, W> {
     ghost use Rattle.std.specs.Option.{option_map};
     ghost use Rattle.vl_compact.specs.Progress.{Has, HasAll, IsJobOf, IsNew, made_of};
     ghost use Rattle.vl_layout.specs.Jobs.{AreOutputs};
-    ghost use Rattle.vl_layout.specs.Merging.{merged_entries};
+    ghost use Rattle.vl_layout.specs.Merging.{gone_after, merged_entries, needless};
     ghost use Rattle.vl_layout.specs.Rulings.Install.{race};
     ghost use Rattle.vl_layout.specs.declared.job.Job as laid;
 
@@ -138,6 +145,14 @@ impl<V: Sources, H: HeldFile, W: Writer> Job<V, H, W> {
             → option_map (λ r. (r.0.now, r.1)) result ≡ race j moved.now }
     {
         self.first_moved(moved)
+    }
+
+    /// The greatest version among the deletions that it dropped since no older version stands outside the inputs, 0 where
+    /// there is none.
+    pub fn gone(&self) -> u64
+        ensures { (j : laid.Job) → HasAll W.Writer H.bytes V.has self.now j → result ≡ gone_after 0 (needless j) }
+    {
+        self.greatest_gone()
     }
 
     /// Where it has all of its merge, its tables are the merge's outputs.

@@ -27,12 +27,12 @@ pub struct Keeping<C> {
 }
 
 impl<C: Cursor<Fault = TableFault>> Keeping<C> {
-    /// The next entry that it keeps. The keys of needless deletions that it passes are put behind the others.
+    /// The next entry that it keeps. The needless deletions that it passes are put behind the others, by key and version.
     pub fn next<V: Sources<Fault = TableFault>>(
         &mut self,
         base: &V,
         reader: &mut JobReader<C::Reader, V::Reader>,
-        found: &mut Vec<Key>,
+        found: &mut Vec<(Key, u64)>,
     ) -> Result<Option<Entry>, TableFault>
         ensures next { (j : laid.Job) (left : List Entry) → AreRulesOf self.old.rules j → V.has base.now j.inputs j.base
             → V.fits base.now reader.old.looks → C.left self.old.cursor ≡ Some left
@@ -63,14 +63,14 @@ impl<C: Cursor<Fault = TableFault>> Keeping<C> {
     }
 }
 
-// Whether the entry that comes now is kept. If it is a needless deletion, its key is put behind the others.
+// Whether the entry that comes now is kept. If it is a needless deletion, its key and version are put behind the others.
 fn pass<V: Sources<Fault = TableFault>>(
     rules: &Rules,
     last: &mut Option<Last>,
     base: &V,
     looks: &mut V::Reader,
     entry: &Entry,
-    found: &mut Vec<Key>,
+    found: &mut Vec<(Key, u64)>,
 ) -> Result<bool, TableFault>
     ensures passes { (j : laid.Job) → AreRulesOf rules.now j → V.has base.now j.inputs j.base → V.fits base.now looks.old
         → IfOk result (Passes j (place_in last.old) (place_in last.new) entry.now found.old.items found.new.items) }
@@ -131,13 +131,13 @@ fn seen_of(last: &Last, entry: &Entry) -> u64
     }
 }
 
-// Puts the key of a needless deletion behind others.
-fn note(found: &mut Vec<Key>, fate: Fate, entry: &Entry) -> Result<(), AllocError>
+// Puts the key and the version of a needless deletion behind others.
+fn note(found: &mut Vec<(Key, u64)>, fate: Fate, entry: &Entry) -> Result<(), AllocError>
     ensures { OnOk result (found.new.items ≡ found.old.items ++ noted fate entry.now) }
 {
     match fate {
         Fate::Needless => {
-            found.push(entry.key.share()?)?;
+            found.push((entry.key.share()?, entry.version))?;
             Ok(())
         }
         Fate::Kept | Fate::Dropped => Ok(()),

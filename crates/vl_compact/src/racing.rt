@@ -1,10 +1,10 @@
-//! What is asked of a job's tables and keys.
+//! What is asked of a job's tables, and of the deletions that it dropped.
 
 ghost use Rattle.std.specs.Prelude.{◌≡◌, map, min, ◌^◌, ◌-◌, IfOk};
 ghost use Rattle.std.specs.Option.{option_map};
 ghost use Rattle.std.specs.Ordering.{eq_by_cmp};
 ghost use Rattle.std.specs.FinMap.{find};
-ghost use Rattle.vl_compact.specs.Racing.{entry_count, least_moved};
+ghost use Rattle.vl_compact.specs.Racing.{entry_count, greatest, least_moved};
 ghost use Rattle.vl_model.specs.Keys.{key_cmp};
 ghost use Rattle.vl_table.specs.Tables.{number_of};
 
@@ -14,16 +14,28 @@ use vl_disk::{HeldFile, Writer};
 use vl_model::Key;
 use vl_table::Table;
 
-/// The first of these keys that was moved, with the number of its last move, of moves of which the latest comes first.
-pub fn least_moved<'a>(keys: &'a [Key], moved: &[(Key, u64)]) -> Option<(&'a Key, u64)>
+/// The first of these keys, which come with their versions, that was moved, with the number of its last move, of moves of
+/// which the latest comes first.
+pub fn least_moved<'a>(keys: &'a [(Key, u64)], moved: &[(Key, u64)]) -> Option<(&'a Key, u64)>
     ensures { option_map (λ r. (r.0.now, r.1)) result ≡ least_moved moved.now keys.now }
 {
-    for key in keys {
-        if let Some(number) = last_move(moved, key) {
-            return Some((key, number));
+    for entry in keys {
+        if let Some(number) = last_move(moved, &entry.0) {
+            return Some((&entry.0, number));
         }
     }
     None
+}
+
+/// The greatest version of keys with their versions, 0 where there is none.
+pub fn greatest(keys: &[(Key, u64)]) -> u64
+    ensures { result ≡ greatest keys.now }
+{
+    let mut most = 0u64;
+    for entry in keys {
+        most = most.max(entry.1);
+    }
+    most
 }
 
 // The number of the first of these moves that is of a key.

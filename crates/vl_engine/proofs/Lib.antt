@@ -3,6 +3,9 @@ pub mod Beginning
 pub mod Begins
 pub mod Carrying
 pub mod Committing
+pub mod DrawFits
+pub mod DrawSteps
+pub mod Drawing
 pub mod Filing
 pub mod FitsAtStart
 pub mod Fitted
@@ -12,14 +15,17 @@ pub mod FlushLawful
 pub mod FlushSteps
 pub mod Flushed
 pub mod Halted
+pub mod HandedIn
 pub mod Headed
 pub mod KeepSteps
 pub mod KeptBy
 pub mod Knowing
 pub mod Leaving
 pub mod Lending
+pub mod LendsNew
 pub mod Merged
 pub mod Opened
+pub mod Planning
 pub mod ReadingPast
 pub mod Represented
 pub mod RotateFit
@@ -30,5 +36,7 @@ pub mod Seeing
 pub mod Staged
 pub mod Standing
 pub mod Stepped
+pub mod TakenFiles
+pub mod Taking
 pub mod Untouched
 pub mod Written

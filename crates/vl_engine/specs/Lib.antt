@@ -2,12 +2,15 @@ pub mod Answers
 pub mod Begun
 pub mod Carries
 pub mod Files
+pub mod Drawing
 pub mod Fit
 pub mod Flushing
 pub mod Held
+pub mod Installing
 pub mod Keeping
 pub mod Known
 pub mod Lent
+pub mod Merging
 pub mod Laid
 pub mod laws
 pub mod Opening
@@ -24,4 +27,5 @@ pub mod Spared
 pub mod Staging
 pub mod Stepping
 pub mod Steps
+pub mod Taking
 pub mod Writing

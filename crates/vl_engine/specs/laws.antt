@@ -1,4 +1,5 @@
 pub mod AmongLaws
+pub mod AsideLaws
 pub mod BegunBare
 pub mod BegunHolds
 pub mod BegunLaws
@@ -23,12 +24,14 @@ pub mod InstallRulings
 pub mod InstallSpared
 pub mod InstallSpares
 pub mod InstallTables
+pub mod InstallTaken
 pub mod IntactLaws
 pub mod KeepLaws
 pub mod KeptLaws
 pub mod KnownLaws
 pub mod LaidBegun
 pub mod LaidFlush
+pub mod LaidInstall
 pub mod LaidLaws
 pub mod LaidRotate
 pub mod LaidTables
@@ -40,6 +43,8 @@ pub mod MemtablePlaces
 pub mod MemtableSpelled
 pub mod OpensAgain
 pub mod PastLaws
+pub mod PlanSources
+pub mod PlannedJobs
 pub mod ReadLaws
 pub mod ReopenedLaws
 pub mod ReopenedShown

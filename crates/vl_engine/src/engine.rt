@@ -7,10 +7,13 @@ ghost use Rattle.vl_engine.specs.Lent.{AreLent};
 
 mod beginning;
 mod committing;
+mod drawing;
 mod ending;
 mod flushing;
+mod installing;
 mod keeping;
 mod opening;
+mod planning;
 mod rotating;
 
 use crate::kept::Core;

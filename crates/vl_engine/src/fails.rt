@@ -4,7 +4,8 @@ ghost use Rattle.std.specs.Prelude.{◌≡◌};
 use crate::Txn;
 use std::alloc::AllocError;
 use thiserror::Error;
-use vl_disk::Name;
+use vl_compact::Job;
+use vl_disk::{Name, Writer};
 use vl_model::{Counter, Key};
 use vl_txn::KeyFail;
 use vl_version::ReadFault as VersionFault;
@@ -203,4 +204,28 @@ pub enum KeepFail {
     /// The disk failed at this file, and the engine is halted.
     #[error("the disk failed at {name:?}")]
     Disk { name: Name },
+}
+
+/// Why the tables of a merge didn't take the place of its inputs. Where the merge is handed back it is as it was. Else it has
+/// ended: no call reads its files any more, and the next opening removes them.
+#[derive(Drop)]
+pub enum InstallFail<V, H, W: Writer> {
+    /// An earlier step failed at this file, and nothing is changed any more.
+    Halted {
+        name: Name,
+    },
+    /// The merge dropped the deletion of a key of which a record was relocated meanwhile, by the step that made this version
+    /// number. It is the least such key. Plan the merge again.
+    Raced {
+        key: Key,
+        version_number: u64,
+    },
+    /// No version number is left.
+    Exhausted(Counter),
+    NoMemory(Job<V, H, W>),
+    /// The disk failed at this file, and the engine is halted. When the store is opened again it has either the inputs or the
+    /// merge's tables, with the same contents.
+    Disk {
+        name: Name,
+    },
 }

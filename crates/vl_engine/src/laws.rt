@@ -1,11 +1,12 @@
 // Laws of what is seen: each is the contract of a function that does nothing.
-ghost use Rattle.std.specs.Prelude.{List, Some, ℕ};
+ghost use Rattle.std.specs.Prelude.{List, Some, ℕ, ◌≡◌};
 ghost use Rattle.vl_disk.specs.Crash.{Image, WhileCreating, WhileRemoving};
 ghost use Rattle.vl_disk.specs.DiskState.{DiskState, created, settled, without};
 ghost use Rattle.vl_disk.specs.Lending.{WhileAdopting, adopted};
 ghost use Rattle.vl_disk.specs.Name.{IsNumbered};
 ghost use Rattle.vl_disk.specs.declared.name.Name.TheVariants.{Table};
 ghost use Rattle.vl_engine.specs.Held.{Base, Holds, IsBase};
+ghost use Rattle.vl_engine.specs.Laid.{AreLevelsOf, HasLayout};
 ghost use Rattle.vl_engine.specs.Pointed.{layout_logs};
 ghost use Rattle.vl_engine.specs.Sees.{Sees, SeesAlone};
 ghost use Rattle.vl_engine.specs.Shown.{LeavesBetween, Shown};
@@ -20,7 +21,7 @@ ghost use Rattle.vl_engine.specs.laws.SwitchLaws.{switch_frame};
 ghost use Rattle.vl_layout.specs.Jobs.{AreOutputs, Made};
 ghost use Rattle.vl_layout.specs.OpenJobs.{IsOpenWell};
 ghost use Rattle.vl_layout.specs.Rulings.Fresh.{drawn};
-ghost use Rattle.vl_layout.specs.Rulings.Install.{install_ruling};
+ghost use Rattle.vl_layout.specs.Rulings.Install.{install_ruling, installed};
 ghost use Rattle.vl_layout.specs.Sources.{tables};
 ghost use Rattle.vl_layout.specs.Tidy.{IsTidy};
 ghost use Rattle.vl_layout.specs.declared.job.OpenJob.{OpenJob};
@@ -30,6 +31,8 @@ ghost use Rattle.vl_model.specs.History.{Extends, History};
 ghost use Rattle.vl_model.specs.Reads.{Read};
 ghost use Rattle.vl_recover.specs.crash.Starts.{MayOpen};
 ghost use Rattle.vl_recover.specs.opening.Intact.{IsIntact};
+ghost use Rattle.vl_version.specs.Shared.{AreSameLogs};
+ghost use Rattle.vl_version.specs.declared.version.Version.{Version};
 
 use vl_disk::{HeldFile, Reader};
 
@@ -86,4 +89,15 @@ pub fn a_merge_writes_beside_the_layout()
     ensures adopted { (b : Base) (l : Layout) (h : History) (disk : DiskState) (n : ℕ) (bytes : List ℕ) → IsBase b l h
         → IsTidy (layout_logs l) l h → Holds b l disk → AreOtherTables (Table n) (tables l) → IsNumbered (Table n)
         → Holds b l (adopted (Table n) (settled bytes) disk) }
+{}
+
+/// Where the tables of an install take the place of its inputs in a version, and the rest stays, the version has the layout that
+/// the ruling leaves.
+pub fn a_version_has_what_is_installed<H: HeldFile>()
+    ensures { (before after : Version H) (b : Base) (l : Layout) (h : History) (o : OpenJob) (made : Made) (disk : DiskState)
+        → IsBase b l h → IsTidy (layout_logs l) l h → Holds b l disk → CanInstall b l o made disk → HasLayout H.bytes before l
+        → AreLevelsOf H.bytes after.behind.levels (installed o.job made l).levels → after.active ≡ before.active
+        → after.behind.frozen.items ≡ before.behind.frozen.items
+        → AreSameLogs H.bytes before.behind.logs.items after.behind.logs.items
+        → HasLayout H.bytes after (installed o.job made l) }
 {}

@@ -10,8 +10,10 @@
 mod engine;
 mod fails;
 mod flushing;
+mod installing;
 mod kept;
 mod laws;
+mod making;
 mod open;
 mod past;
 mod rotating;
@@ -21,7 +23,7 @@ mod view;
 mod writing;
 
 pub use engine::{Done, Engine};
-pub use fails::{AtFail, CommitFail, KeepFail, ReadFail, ReadFault, StepFail};
+pub use fails::{AtFail, CommitFail, InstallFail, KeepFail, ReadFail, ReadFault, StepFail};
 pub use laws::what_is_seen_stays;
 pub use txn::Txn;
 pub use view::View;

@@ -13,6 +13,7 @@ pub mod Over
 pub mod Own
 pub mod Past
 pub mod Place
+pub mod Replacing
 pub mod Rotating
 pub mod Rows
 pub mod Scans

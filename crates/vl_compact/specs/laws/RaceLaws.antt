@@ -178,15 +178,15 @@ module _ (moved : List Named) where
   lesser-first key (Some n) None up = refl
   lesser-first key (Some n) (Some y) up = ap (λ b. cond b (Some y) (Some (key, n))) up
 
-  module _ (least : List (List ℕ) → Option Named) (none : least [] ≡ None)
-      (more : (key : List ℕ) (keys : List (List ℕ)) → least (key ∷ keys) ≡ moved_or key (find key_cmp key moved) (least keys)) where
-    least-rising : (es : List Entry) → IsRising es → least_of es ≡ least (map (λ (e : Entry). e.key) es)
+  module _ (least : List Named → Option Named) (none : least [] ≡ None)
+      (more : (n : Named) (ns : List Named) → least (n ∷ ns) ≡ moved_or n.0 (find key_cmp n.0 moved) (least ns)) where
+    least-rising : (es : List Entry) → IsRising es → least_of es ≡ least (map (λ (e : Entry). (e.key, e.version)) es)
     least-rising [] up = sym none
     least-rising (e ∷ es) up =
         least-more e es ∙ lesser-first e.key (find key_cmp e.key moved) (least_of es) (up_to_least e es up.0)
         ∙ ap (moved_or e.key (find key_cmp e.key moved)) (least-rising es up.1)
-        ∙ sym (more e.key (map (λ (e : Entry). e.key) es))
+        ∙ sym (more (e.key, e.version) (map (λ (e : Entry). (e.key, e.version)) es))
 
     -- the least key of a needless deletion that was moved is the first that was moved of these in order
-    pub race-in_order : (j : Job) → race j moved ≡ least (map (λ (e : Entry). e.key) (in_order (needless j)))
+    pub race-in_order : (j : Job) → race j moved ≡ least (map (λ (e : Entry). (e.key, e.version)) (in_order (needless j)))
     race-in_order j = sym (least-in_order (needless j)) ∙ least-rising (in_order (needless j)) (rising-in_order (needless j))

@@ -1,6 +1,6 @@
 -- What an install stages isn't refused: its switch can be applied to what the manifest says, and makes of it what the ruling
 -- makes of the layout.
-use Rattle.std.specs.Prelude.{◌≡◌, ◌⊎◌, ◌==◌, ◌&&◌, ◌||◌, ◌≤◌, ◌<◌, ◌^◌, ◌-◌, ℕ, Bool, true, false, not, nat_le, if◌then◌else◌, List, [], ◌∷◌, ◌++◌, length, map, Some, refl}
+use Rattle.std.specs.Prelude.{◌≡◌, ◌⊎◌, ◌==◌, ◌&&◌, ◌||◌, ◌≤◌, ◌<◌, ◌^◌, ◌-◌, ℕ, max, Bool, true, false, not, nat_le, if◌then◌else◌, List, [], ◌∷◌, ◌++◌, length, map, Some, refl}
 use Rattle.std.specs.List.{AllByRecursion, flat_map, list_any}
 use Rattle.std.proofs.Common.{sym, ap, subst, ◌∙◌, arith, inl, inr, ⊎_elim}
 use Rattle.std.proofs.lemmas.Bool.Decides.{nat_tests}
@@ -154,6 +154,11 @@ module _ (keep : ℕ) (I O : List Entry) (floor : ℕ) where
       let low = six.0 in
       let le : s.1.version ≤ floor = grind (arith, nat_tests, low) in le)
       (low_needless (s.1 ∷ newer) ss)
+
+-- It is the greatest version of those, or what was dropped before.
+pub gone_most : (gone : ℕ) (es : List Entry) → gone_after gone es ≡ max gone (gone_after 0 es)
+gone_most gone [] = omega arith
+gone_most gone (e ∷ es) = let later = gone_most gone es in omega (arith, later)
 
 -- ---- the whole
 

@@ -1,0 +1,20 @@
+use Rattle.std.proofs.Common.{◌≡◌, ℕ, refl, subst, sym, true, Some}
+use Rattle.vl_engine.proofs.Fitting.{fit_still}
+use Rattle.vl_engine.proofs.Planning.{none_lent}
+use Rattle.vl_engine.specs.Known.{are_known}
+use Rattle.vl_version.specs.declared.version.Version.{Version}
+use Rattle.vl_engine.proofs.engine.Engine.begin_merge.Goals as goal
+
+pub invariant_of-self-2-clause-ready : goal.invariant_of-self-2-clause-ready
+invariant_of-self-2-clause-ready g c state told =
+    fit_still c.args.self.now.core _ refl refl refl state (c.args.self.now.ready state told)
+
+pub invariant_of-self-2-clause-lent : goal.invariant_of-self-2-clause-lent
+invariant_of-self-2-clause-lent g c =
+    none_lent g.D.Watched c.args.self.now.disk c.args.self.now.core.back.state.next_table (Some c.new.result)
+    (record { merge = c.new.result; is_open = refl; lent = c.new.ensures.lent; moved = c.new.ensures.moved })
+
+pub invariant_of-self-2-clause-known : goal.invariant_of-self-2-clause-known
+invariant_of-self-2-clause-known g c =
+    subst (λ (v : Version g.row.D-Held.Denot). are_known c.args.self.now.core.front.oracle.last v.active.entries ≡ true)
+    (sym c.share.ensures.same) c.args.self.now.known

@@ -1,0 +1,153 @@
+use Rattle.std.proofs.Common.{arith, refl, subst, ◌≡◌, ◌∙◌}
+use Rattle.vl_disk.specs.declared.name.Name.TheVariants as names
+use Rattle.vl_engine.proofs.Carrying.{IsWatched}
+use Rattle.vl_engine.proofs.DrawFits.{fit_drawn, fit_told, is_new, lent_failed, lent_then, log_kept, more_then, same_itself}
+use Rattle.vl_engine.proofs.DrawSteps.{carries_done, carries_exhausted, carries_failing, carries_short, decides_drawn, decides_undrawn, stops_drawing, writes_err, writes_ok}
+use Rattle.vl_engine.proofs.Drawing.{fits_drawn, opens_more, opens_same, runs, stands_drawn, stands_undrawn}
+use Rattle.vl_engine.proofs.Fitting.{fit_halted}
+use Rattle.vl_engine.proofs.FlushKeeps.{kept_from}
+use Rattle.vl_engine.specs.Drawing.{StopsDrawing, drawn_core}
+use Rattle.vl_engine.specs.Merging.{StandsOpen}
+use Rattle.vl_engine.specs.Stepping.{Fits}
+use Rattle.vl_layout.specs.Decides.{no_effects}
+use Rattle.vl_engine.proofs.engine.Engine.fresh.Goals as goal
+
+pub returns-in-Some-clause-refused : goal.returns-in-Some-clause-refused
+returns-in-Some-clause-refused g c = same_itself c.args.self.now.merging c.requires
+
+pub returns-then-number-gt-MAX_FILE_NUMBER-clause-carries : goal.returns-then-number-gt-MAX_FILE_NUMBER-clause-carries
+returns-then-number-gt-MAX_FILE_NUMBER-clause-carries g c h l is =
+    let watched : IsWatched g.D.Watched = record { only_now = g.met.D.Disk.only_now; counts_now = g.met.D.Disk.counts_now } in
+    carries_exhausted g.D.Watched watched g.D.Held.HeldFile.bytes c.args.self.now.core h l c.args.self.now.disk is c.in_default.is
+    c.if-number-gt-MAX_FILE_NUMBER.true
+
+pub returns-then-number-gt-MAX_FILE_NUMBER-clause-refused : goal.returns-then-number-gt-MAX_FILE_NUMBER-clause-refused
+returns-then-number-gt-MAX_FILE_NUMBER-clause-refused g c = same_itself c.args.self.now.merging c.requires
+
+pub returns-in_default-ready_fresh-clause-carries : goal.returns-in_default-ready_fresh-clause-carries
+returns-in_default-ready_fresh-clause-carries g c h l is =
+    let watched : IsWatched g.D.Watched = record { only_now = g.met.D.Disk.only_now; counts_now = g.met.D.Disk.counts_now } in
+    carries_short g.D.Watched watched g.D.Held.HeldFile.bytes c.args.self.now.core h l c.args.self.now.disk is c.ready_fresh.new.disk
+    c.ready_fresh.ensures.no_change
+
+pub invariant_of-self-in-Ok-lend_new : goal.invariant_of-self-in-Ok-lend_new
+invariant_of-self-in-Ok-lend_new g c =
+    let core = c.args.self.now.core in
+    let told = g.D.Watched.told in
+    let ready = c.ready_fresh.ensures in
+    let lends = c.in-Ok-lend_new.ensures.lends in
+    let first = c.args.self.now.numbered in
+    record {
+      ready = fit_drawn core (told c.ready_fresh.new.disk) (told c.lend_new.new.disk) lends.performs.done
+          (fit_told core (told c.args.self.now.disk) (told c.ready_fresh.new.disk) ready.no_change.told c.args.self.now.ready);
+      numbered = (first.0, omega arith);
+      lent = lent_then g.D.Watched c.args.self.now.disk c.ready_fresh.new.disk core.back.state.next_table c.args.self.now.merging
+          c.ready_fresh.new.merging ready.elsewhere ready.no_change.told ready.merging c.args.self.now.lent c.lend_new.new.disk
+          c.in-Ok-lend_new.writer lends c.note_lent.new.merging c.note_lent.ensures;
+      known = c.args.self.now.known;
+    }
+
+pub returns-in-Ok-lend_new-clause-stands : goal.returns-in-Ok-lend_new-clause-stands
+returns-in-Ok-lend_new-clause-stands g c h l is numbers =
+    let core = c.args.self.now.core in
+    let bytes = g.D.Held.HeldFile.bytes in
+    let number = (numbers (runs core h l is.stands.fronts c.in_default.is)).next_table in
+    decides_drawn core h l is.stands.fronts (StandsOpen bytes (drawn_core core) c.note_lent.new.merging) c.in_default.is numbers
+    c.if-number-gt-MAX_FILE_NUMBER.false (record {
+      stands = stands_drawn core h l bytes is.stands (drawn_core core) refl;
+      opens = opens_more c.args.self.now.merging c.note_lent.new.merging l.job core.back.state.next_table l.next_table number
+          (more_then c.args.self.now.merging c.ready_fresh.new.merging c.note_lent.new.merging core.back.state.next_table
+          c.ready_fresh.ensures.merging c.note_lent.ensures) is.opens;
+    })
+
+pub returns-in-Ok-lend_new-clause-carries : goal.returns-in-Ok-lend_new-clause-carries
+returns-in-Ok-lend_new-clause-carries g c h l is =
+    let watched : IsWatched g.D.Watched = record { only_now = g.met.D.Disk.only_now; counts_now = g.met.D.Disk.counts_now } in
+    let core = c.args.self.now.core in
+    let lends = c.in-Ok-lend_new.ensures.lends in
+    carries_done g.D.Watched watched g.D.Held.HeldFile.bytes core h l c.args.self.now.disk is c.in_default.is c.args.self.now.numbered.1
+    c.if-number-gt-MAX_FILE_NUMBER.false (drawn_core core) c.lend_new.new.disk
+    (writes_ok g.D.Watched core c.args.self.now.disk c.ready_fresh.new.disk c.lend_new.new.disk c.ready_fresh.ensures.no_change
+    c.in-Ok-lend_new.writer lends) lends.performs.done refl
+
+pub returns-in-Ok-lend_new-clause-fits : goal.returns-in-Ok-lend_new-clause-fits
+returns-in-Ok-lend_new-clause-fits g c h l is fits =
+    let core = c.args.self.now.core in
+    let lends = c.in-Ok-lend_new.ensures.lends in
+    decides_drawn core h l is (Fits (g.D.Watched.told c.lend_new.new.disk) (drawn_core core)) c.in_default.is
+    (λ running. (fits.running running).numbers) c.if-number-gt-MAX_FILE_NUMBER.false
+    (fits_drawn g.D.Watched core (drawn_core core) h l c.args.self.now.disk c.lend_new.new.disk (record {
+      writes = writes_ok g.D.Watched core c.args.self.now.disk c.ready_fresh.new.disk c.lend_new.new.disk
+          c.ready_fresh.ensures.no_change c.in-Ok-lend_new.writer lends;
+      changed = lends.performs.done;
+      core = refl;
+    }) fits)
+
+pub returns-in-Ok-lend_new-clause-merging : goal.returns-in-Ok-lend_new-clause-merging
+returns-in-Ok-lend_new-clause-merging g c =
+    more_then c.args.self.now.merging c.ready_fresh.new.merging c.note_lent.new.merging c.args.self.now.core.back.state.next_table
+    c.ready_fresh.ensures.merging c.note_lent.ensures
+
+pub returns-in-Ok-lend_new-clause-fresh : goal.returns-in-Ok-lend_new-clause-fresh
+returns-in-Ok-lend_new-clause-fresh g c =
+    is_new g.D.Watched c.args.self.now.disk c.args.self.now.core.back.state.next_table c.args.self.now.merging c.args.self.now.lent
+
+pub returns-in-Ok-lend_new-clause-files : goal.returns-in-Ok-lend_new-clause-files
+returns-in-Ok-lend_new-clause-files g c =
+    kept_from (names.Table c.args.self.now.core.back.state.next_table) (g.D.Watched.told c.args.self.now.disk)
+    (g.D.Watched.told c.ready_fresh.new.disk) (g.D.Watched.told c.lend_new.new.disk) c.ready_fresh.ensures.no_change.told
+    c.in-Ok-lend_new.ensures.lends.files
+
+pub invariant_of-self-in-Err : goal.invariant_of-self-in-Err
+invariant_of-self-in-Err g c =
+    let core = c.args.self.now.core in
+    let told = g.D.Watched.told in
+    let ready = c.ready_fresh.ensures in
+    let lends = c.in-Err.ensures.lends in
+    record {
+      ready = fit_halted _ (names.Table core.back.state.next_table) refl (told c.lend_new.new.disk)
+          (log_kept core (told c.ready_fresh.new.disk) (told c.lend_new.new.disk) lends.files lends.untold
+          (fit_told core (told c.args.self.now.disk) (told c.ready_fresh.new.disk) ready.no_change.told c.args.self.now.ready));
+      numbered = c.args.self.now.numbered;
+      lent = lent_failed g.D.Watched c.args.self.now.disk c.ready_fresh.new.disk core.back.state.next_table c.args.self.now.merging
+          c.ready_fresh.new.merging ready.elsewhere ready.no_change.told ready.merging c.args.self.now.lent c.lend_new.new.disk _ lends;
+      known = c.args.self.now.known;
+    }
+
+pub returns-in-Err-clause-stands : goal.returns-in-Err-clause-stands
+returns-in-Err-clause-stands g c h l is numbers =
+    let core = c.args.self.now.core in
+    let bytes = g.D.Held.HeldFile.bytes in
+    decides_undrawn core h l is.stands.fronts (StandsOpen bytes _ c.ready_fresh.new.merging) (names.Table core.back.state.next_table)
+    no_effects c.in_default.is (record {
+      stands = stands_undrawn core h l bytes is.stands (names.Table core.back.state.next_table) _ refl;
+      opens = opens_same c.args.self.now.merging c.ready_fresh.new.merging l.job c.ready_fresh.ensures.merging is.opens;
+    })
+
+pub returns-in-Err-clause-carries : goal.returns-in-Err-clause-carries
+returns-in-Err-clause-carries g c h l is =
+    let watched : IsWatched g.D.Watched = record { only_now = g.met.D.Disk.only_now; counts_now = g.met.D.Disk.counts_now } in
+    let core = c.args.self.now.core in
+    carries_failing g.D.Watched watched g.D.Held.HeldFile.bytes core h l c.args.self.now.disk is c.in_default.is c.args.self.now.numbered.1
+    c.if-number-gt-MAX_FILE_NUMBER.false _ c.lend_new.new.disk
+    (writes_err g.D.Watched core c.args.self.now.disk c.ready_fresh.new.disk c.lend_new.new.disk c.ready_fresh.ensures.no_change
+    c.in-Err.field-0 c.in-Err.ensures.lends) no_effects refl
+
+pub returns-in-Err-clause-files : goal.returns-in-Err-clause-files
+returns-in-Err-clause-files g c =
+    kept_from (names.Table c.args.self.now.core.back.state.next_table) (g.D.Watched.told c.args.self.now.disk)
+    (g.D.Watched.told c.ready_fresh.new.disk) (g.D.Watched.told c.lend_new.new.disk) c.ready_fresh.ensures.no_change.told
+    c.in-Err.ensures.lends.files
+
+pub returns-in-Err-clause-stopped : goal.returns-in-Err-clause-stopped
+returns-in-Err-clause-stopped g c name said =
+    let core = c.args.self.now.core in
+    let same : names.Table core.back.state.next_table ≡ name = cc in
+    subst (StopsDrawing core.back.state.next_table (g.D.Watched.calls c.args.self.now.disk) (g.D.Watched.calls c.lend_new.new.disk)) same
+    (stops_drawing g.D.Watched core c.args.self.now.disk c.lend_new.new.disk
+    (writes_err g.D.Watched core c.args.self.now.disk c.ready_fresh.new.disk c.lend_new.new.disk c.ready_fresh.ensures.no_change
+    c.in-Err.field-0 c.in-Err.ensures.lends))
+
+pub returns-in-Ok-lend_new-clause-empty : goal.returns-in-Ok-lend_new-clause-empty
+returns-in-Ok-lend_new-clause-empty g c state told =
+    c.in-Ok-lend_new.ensures.file state (c.in-Ok.ensures.no_change.told ∙ told)

@@ -1,0 +1,165 @@
+ghost use Rattle.std.specs.Prelude.{◌≡◌, ◌<◌, ℕ, Err, None, Some, OnOk};
+ghost use Rattle.vl_compact.specs.Progress.{made_of};
+ghost use Rattle.vl_disk.specs.Calls.{ChangesNothing};
+ghost use Rattle.vl_disk.specs.DiskState.{DiskState};
+ghost use Rattle.vl_disk.specs.Faults.{HasCause, after_calls};
+ghost use Rattle.vl_disk.specs.declared.name.Name.{Name};
+ghost use Rattle.vl_engine.specs.Carries.{Carries};
+ghost use Rattle.vl_engine.specs.Installing.{HandsBack, InstallFailed, InstallLeavesDisk, InstallsAs, IsAtInstall, IsHandedIn, KeepsAllBut, install_otherwise};
+ghost use Rattle.vl_engine.specs.Merging.{HasAllMerge, StandsOpen, install_effects, install_outcome, made_numbers};
+ghost use Rattle.vl_engine.specs.Represents.{Represents};
+ghost use Rattle.vl_engine.specs.Stepping.{AreLogFiles, Fits};
+ghost use Rattle.vl_engine.specs.declared.fails.InstallFail.TheVariants as fails;
+ghost use Rattle.vl_layout.specs.Decides.{Decides};
+ghost use Rattle.vl_layout.specs.Jobs.{AreLent};
+ghost use Rattle.vl_layout.specs.Rulings.Install.{install_ruling};
+ghost use Rattle.vl_layout.specs.declared.job.OpenJob.{OpenJob};
+ghost use Rattle.vl_layout.specs.declared.layout.Layout.{Layout};
+ghost use Rattle.vl_model.specs.History.{History};
+ghost use Rattle.vl_model.specs.Limits.{max_version_number};
+
+use crate::installing::{ReadyInstall, ready_install, write_install};
+use crate::{Engine, InstallFail};
+use std::alloc::AllocError;
+use vl_compact::{Job, Parts};
+use vl_disk::Disk;
+use vl_model::{Counter, Key};
+use vl_version::Base;
+
+impl<D: Disk> Engine<D> {
+    /// Puts the tables of a merge, which has made all of them, into the place of its inputs, and ends it. All memory is taken
+    /// first; then the disk takes its files back, and the manifest says it, by an append and a sync. Where it is refused for want
+    /// of memory the merge is handed back as it was, and else it has ended: where its tables weren't put in, no call reads its
+    /// files any more, and the next opening removes them.
+    pub fn install(
+        &mut self,
+        job: Job<Base<D::Held, D::Reader>, D::Held, D::Writer>,
+    ) -> Result<(), InstallFail<Base<D::Held, D::Reader>, D::Held, D::Writer>>
+        requires { IsHandedIn D.Watched D.Writer.Writer self.old.disk self.old.merging job }
+
+        // It is answered as the ruling has it.
+        ensures stands { (state : DiskState) (h : History) (l : Layout) (o : OpenJob) → D.told self.old.disk ≡ Some state
+            → StandsOpen D.Held.bytes self.old.core self.old.merging h l → l.job ≡ Some o → (l.halted ≡ None → AreLogFiles l)
+            → HasAllMerge D.Writer.Writer D.Held.bytes job o.job → AreLent o.lent (made_of job o.job)
+            → Decides (StandsOpen D.Held.bytes self.new.core self.new.merging) h l (install_ruling l h o.job (made_of job o.job))
+            (install_otherwise l (made_of job o.job)) (install_outcome result) (install_effects result) }
+
+        // Over a disk that holds the layout: what a crash meanwhile leaves shows the history, and however it ends, a store may be
+        // opened on the disk again.
+        ensures carries { (h : History) (l : Layout) (o : OpenJob)
+            → Represents D.Held.bytes self.old.core (D.told self.old.disk) h l
+            → StandsOpen D.Held.bytes self.old.core self.old.merging h l → l.job ≡ Some o
+            → HasAllMerge D.Writer.Writer D.Held.bytes job o.job → AreLent o.lent (made_of job o.job)
+            → Carries D.Watched D.Held.bytes self.old.disk self.new.disk self.new.core h l
+            (install_ruling l h o.job (made_of job o.job)) (install_otherwise l (made_of job o.job)) (install_outcome result)
+            (install_effects result) }
+
+        // What steps on files ask is so behind it.
+        ensures fits { (h : History) (l : Layout) (o : OpenJob) → StandsOpen D.Held.bytes self.old.core self.old.merging h l
+            → l.job ≡ Some o → HasAllMerge D.Writer.Writer D.Held.bytes job o.job → AreLent o.lent (made_of job o.job)
+            → Fits (D.told self.old.disk) self.old.core h l
+            → Decides (Fits (D.told self.new.disk) self.new.core) h l (install_ruling l h o.job (made_of job o.job))
+            (install_otherwise l (made_of job o.job)) (install_outcome result) (install_effects result) }
+
+        // Where it was refused, the disk was left alone, at each moment; and where memory was wanting, the job is handed back as
+        // it was, and nothing of the engine was changed.
+        ensures untouched { InstallLeavesDisk result → ChangesNothing D.Watched self.old.disk self.new.disk ⊥ }
+        ensures core { InstallLeavesDisk result → self.new.core ≡ self.old.core }
+        ensures handed { HandsBack job self.old.merging self.new.merging result }
+
+        // However it ends, the files but the job's tables stand as before, and none but these may have come.
+        ensures files { KeepsAllBut (made_numbers job) (D.told self.old.disk) (D.told self.new.disk) }
+        ensures calls { OnOk result (D.calls self.new.disk ≡ after_calls 2 (D.calls self.old.disk)) }
+
+        // A fault of the disk is counted, and nothing else raises the count. It is at one of the job's tables, or at the manifest.
+        ensures cause { HasCause (D.faults self.old.disk) (D.faults self.new.disk) (InstallFailed result) }
+        ensures stopped { (name : Name) → result ≡ Err (fails.Disk name)
+            → IsAtInstall job self.old.core.back.manifest.number name }
+    {
+        if let Some(name) = self.core.front.halted {
+            self.merging = None;
+            return Err(InstallFail::Halted { name });
+        }
+        match self.raced(&job) {
+            Ok(None) => self.install_unraced(job),
+            Ok(Some((key, version_number))) => {
+                self.merging = None;
+                Err(InstallFail::Raced {
+                    key,
+                    version_number,
+                })
+            }
+            Err(_) => Err(InstallFail::NoMemory(job)),
+        }
+    }
+
+    // The least key of which the merge dropped a deletion and a record was relocated meanwhile, with the version number that this
+    // made.
+    fn raced(
+        &self,
+        job: &Job<Base<D::Held, D::Reader>, D::Held, D::Writer>,
+    ) -> Result<Option<(Key, u64)>, AllocError> {
+        let Some(merge) = &self.merging else {
+            return Ok(None);
+        };
+        match job.race(&merge.moved) {
+            Some((key, number)) => Ok(Some((key.share()?, number))),
+            None => Ok(None),
+        }
+    }
+
+    // No deletion that it dropped stands against it.
+    fn install_unraced(
+        &mut self,
+        job: Job<Base<D::Held, D::Reader>, D::Held, D::Writer>,
+    ) -> Result<(), InstallFail<Base<D::Held, D::Reader>, D::Held, D::Writer>> {
+        if self.core.back.has_no_version() {
+            self.merging = None;
+            return Err(InstallFail::Exhausted(Counter::Version));
+        }
+        self.put_in(job)
+    }
+
+    // Nothing stands against it.
+    fn put_in(
+        &mut self,
+        job: Job<Base<D::Held, D::Reader>, D::Held, D::Writer>,
+    ) -> Result<(), InstallFail<Base<D::Held, D::Reader>, D::Held, D::Writer>>
+        requires handed { IsHandedIn D.Watched D.Writer.Writer self.old.disk self.old.merging job }
+        requires running { self.old.core.front.halted ≡ None }
+        requires version { self.old.core.back.version_number < max_version_number }
+        ensures as_installed { InstallsAs D.Watched D.Held.bytes D.Writer.Writer job self.old.disk self.new.disk
+            self.old.core self.new.core result }
+        ensures handed { HandsBack job self.old.merging self.new.merging result }
+        ensures cause { HasCause (D.faults self.old.disk) (D.faults self.new.disk) (InstallFailed result) }
+    {
+        let Ok(ready) = ready_install(self.alloc, &mut self.disk, &self.core, &job) else {
+            return Err(InstallFail::NoMemory(job));
+        };
+        let ReadyInstall {
+            staged,
+            version,
+            levels,
+        } = ready;
+        self.merging = None;
+        let Parts { made, .. } = job.into_parts();
+        let mut levels = levels;
+        match write_install(
+            &mut self.disk,
+            &mut self.core.back.manifest,
+            made,
+            &mut levels,
+            &staged.edits,
+        ) {
+            Ok(()) => {
+                self.core.version = version.with_levels(levels.into_levels());
+                self.core.back.apply_install(staged.state);
+                Ok(())
+            }
+            Err(name) => {
+                self.core.front.halted = Some(name);
+                Err(InstallFail::Disk { name })
+            }
+        }
+    }
+}

@@ -1,0 +1,125 @@
+ghost use Rattle.std.specs.Prelude.{◌≡◌, None, Some, IfOk, OnErr, OnOk};
+ghost use Rattle.std.specs.Option.{ForSome};
+ghost use Rattle.vl_compact.specs.Laid.{AreBoth};
+ghost use Rattle.vl_compact.specs.Progress.{IsNew};
+ghost use Rattle.vl_engine.specs.Merging.{HasMerge, IsJustOpen, IsMergeFor, IsMergeOf, OpensMerge, StandsOpen, plan_outcome};
+ghost use Rattle.vl_engine.specs.Represents.{Represents, StandsFor};
+ghost use Rattle.vl_engine.specs.Stepping.{Fits};
+ghost use Rattle.vl_layout.specs.Decides.{Decides, as_before, no_effects};
+ghost use Rattle.vl_layout.specs.Rulings.Plan.{plan_ruling};
+ghost use Rattle.vl_layout.specs.Jobs.{AreLent, Made};
+ghost use Rattle.vl_layout.specs.Rulings.Abandon.{abandon_ruling};
+ghost use Rattle.vl_layout.specs.declared.job.Job as laid_job;
+ghost use Rattle.vl_layout.specs.declared.job.OpenJob.{OpenJob};
+ghost use Rattle.vl_layout.specs.declared.layout.Layout.{Layout};
+ghost use Rattle.vl_model.specs.History.{History};
+ghost use Rattle.vl_table.specs.Kept.{Files};
+ghost use Rattle.vl_table.specs.KeptBlocks.{AreKept};
+
+use crate::Engine;
+use crate::open::OpenMerge;
+use std::alloc::AllocError;
+use vl_compact::{Inputs, Job, JobReader, planned};
+use vl_disk::{Disk, NoMemory};
+use vl_table::{BlockReader, KEPT_BLOCKS};
+use vl_version::Base;
+
+impl<D: Disk> Engine<D> {
+    /// Plans a merge of tables, which is open from then on until it is given back to `install` or `abandon`: of all tables of
+    /// level 0, where these are four or more; else of the table with the least number of the first deeper level that has too
+    /// many bytes; and of those of the next level whose keys meet theirs. None where a merge is open, or no level is due. What
+    /// the merge itself does, `ready` and `fill`, goes on beside the engine's other calls. The disk isn't asked.
+    pub fn plan(
+        &mut self,
+    ) -> Result<Option<Job<Base<D::Held, D::Reader>, D::Held, D::Writer>>, NoMemory>
+        // It is planned as the ruling has it.
+        ensures stands { (h : History) (l : Layout) → StandsOpen D.Held.bytes self.old.core self.old.merging h l
+            → Decides (StandsOpen D.Held.bytes self.new.core self.new.merging) h l (plan_ruling l h) (as_before l l)
+            (plan_outcome (plan_ruling l h).answer result) no_effects }
+        ensures represents { (h : History) (l : Layout) → Represents D.Held.bytes self.old.core (D.told self.old.disk) h l
+            → StandsOpen D.Held.bytes self.old.core self.old.merging h l
+            → Decides (Represents D.Held.bytes self.new.core (D.told self.new.disk)) h l (plan_ruling l h) (as_before l l)
+            (plan_outcome (plan_ruling l h).answer result) no_effects }
+
+        // What steps on files ask stays.
+        ensures fits { (h : History) (l : Layout) → StandsOpen D.Held.bytes self.old.core self.old.merging h l
+            → Fits (D.told self.old.disk) self.old.core h l
+            → Decides (Fits (D.told self.new.disk) self.new.core) h l (plan_ruling l h) (as_before l l)
+            (plan_outcome (plan_ruling l h).answer result) no_effects }
+
+        // The merge does what the ruling's job says, and has made nothing yet.
+        ensures job { (h : History) (l : Layout) → StandsOpen D.Held.bytes self.old.core self.old.merging h l
+            → IfOk result (λ job. AreBoth (HasMerge D.Writer.Writer D.Held.bytes) job (plan_ruling l h).answer) }
+        ensures new { IfOk result (λ job. ForSome job IsNew) }
+
+        // It is open then, and nothing was lent to it. In memory nothing else changes, and the disk isn't asked.
+        ensures merging { OpensMerge self.old.merging self.new.merging result }
+        ensures core { self.new.core ≡ self.old.core }
+        ensures disk { self.new.disk ≡ self.old.disk }
+    {
+        if self.merging.is_some() {
+            return Ok(None);
+        }
+        match planned(self.alloc, self.core.version.levels()) {
+            Ok(None) => Ok(None),
+            Ok(Some(inputs)) => Ok(Some(self.begin_merge(inputs)?)),
+            Err(_) => Err(NoMemory),
+        }
+    }
+
+    // Begins a merge of these inputs.
+    fn begin_merge(
+        &mut self,
+        inputs: Inputs<D::Held>,
+    ) -> Result<Job<Base<D::Held, D::Reader>, D::Held, D::Writer>, AllocError>
+        ensures merge { IfOk result (IsMergeOf self.old.core inputs) }
+        ensures has { (j : laid_job.Job) → IfOk result (λ job. IsMergeFor D.Writer.Writer D.Held.bytes job j
+            → HasMerge D.Writer.Writer D.Held.bytes job j) }
+        ensures new { IfOk result (λ job. IsNew job) }
+        ensures begun { OnOk result (IsJustOpen self.new.merging) }
+        ensures core { self.new.core ≡ self.old.core }
+        ensures disk { self.new.disk ≡ self.old.disk }
+        ensures refused { OnErr result (self.new.merging ≡ self.old.merging) }
+    {
+        let version = self.core.version.share()?;
+        let floor = self.core.front.oracle.floor();
+        let keep = self.core.back.state.keep;
+        self.merging = Some(OpenMerge::new(self.alloc));
+        Ok(Job::new(self.alloc, Base::new(version), inputs, floor, keep))
+    }
+
+    /// What a merge is read with. It keeps no block yet.
+    pub fn reader(&self) -> Result<JobReader<D::Reader, BlockReader<D::Reader>>, NoMemory>
+        ensures blocks { (files : Files) → IfOk result (λ reader. AreKept files reader.looks) }
+        ensures faults { IfOk result (λ reader. (D.Reader.faults reader.files ≡ 0) × (D.Reader.faults reader.looks.reader ≡ 0)) }
+    {
+        let files = self.disk.reader(self.alloc)?;
+        let inner = self.disk.reader(self.alloc)?;
+        match BlockReader::new(self.alloc, inner, KEPT_BLOCKS) {
+            Ok(looks) => Ok(JobReader { files, looks }),
+            Err(_) => Err(NoMemory),
+        }
+    }
+
+    /// Gives up a merge. No call reads its files any more, and the next opening removes what is left of them. It wants no memory,
+    /// and the disk isn't asked.
+    pub fn abandon(&mut self, job: Job<Base<D::Held, D::Reader>, D::Held, D::Writer>)
+        // So it is with whatever files of those that were lent to it it made.
+        ensures stands { (h : History) (l : Layout) (o : OpenJob) (made : Made)
+            → StandsOpen D.Held.bytes self.old.core self.old.merging h l → l.job ≡ Some o → AreLent o.lent made
+            → StandsOpen D.Held.bytes self.new.core self.new.merging h (abandon_ruling l h o.job made).layout }
+        ensures represents { (h : History) (l : Layout) (o : OpenJob) (made : Made)
+            → Represents D.Held.bytes self.old.core (D.told self.old.disk) h l → l.job ≡ Some o → AreLent o.lent made
+            → Represents D.Held.bytes self.new.core (D.told self.new.disk) h (abandon_ruling l h o.job made).layout }
+        ensures fits { (h : History) (l : Layout) (o : OpenJob) (made : Made)
+            → Fits (D.told self.old.disk) self.old.core h l
+            → Fits (D.told self.new.disk) self.new.core h (abandon_ruling l h o.job made).layout }
+
+        ensures core { self.new.core ≡ self.old.core }
+        ensures disk { self.new.disk ≡ self.old.disk }
+        ensures merging { self.new.merging ≡ None }
+    {
+        let _ = job;
+        self.merging = None;
+    }
+}
