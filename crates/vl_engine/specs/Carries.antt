@@ -46,3 +46,7 @@ HasSameFiles old new = (name : Name) → (get new.standing name ≡ None ↔ (ge
 -- so it is of what is told
 abbrev pub SameFiles : (old new : Option DiskState) → Type 0
 SameFiles old new = (before now : DiskState) → old ≡ Some before → new ≡ Some now → HasSameFiles before now
+
+-- what told nothing goes on telling nothing
+abbrev pub StaysUntold : (old new : Option DiskState) → Type 0
+StaysUntold old new = old ≡ None → new ≡ None

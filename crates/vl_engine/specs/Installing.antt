@@ -51,16 +51,17 @@ abbrev pub numbers_in : {V H W : Type 0} {s : _} → Job V H W s → List ℕ
 numbers_in {W = W} job =
     map (λ (t : Synced W _). t.number) job.made.items ++ map (λ (f : Lent W _). f.number) job.leavings.items
 
--- The job has all of its merge. Its files are ones that were lent to the open merge, each with a number of its own, and its
--- writers tell them where the disk tells its files.
-pub record IsHandedIn {D V H W : Type 0} (g : Ghosts D) (w : Writers W) (disk : D) (merging : Option OpenMerge) {s : _}
-    (job : Job V H W s) : Type 0 where
+-- The job has all of its merge. Its files are ones that were lent to the open merge, each with a number of its own. While the
+-- engine isn't halted, its writers tell them where the disk tells its files.
+pub record IsHandedIn {D V H W : Type 0} (g : Ghosts D) (w : Writers W) (disk : D) (halted : Option Name)
+    (merging : Option OpenMerge) {s : _} (job : Job V H W s) : Type 0 where
   pub ended : job.ended ≡ true
   pub merge : OpenMerge
   pub is_open : merging ≡ Some merge
   pub drawn : AllByRecursion (λ (n : ℕ). has n merge.lent.items ≡ true) (numbers_in job)
   pub distinct : AreDistinct (numbers_in job)
-  pub tells : ForSome (g.told disk) (λ _. AllByRecursion (λ (t : Synced W s). IsSome (w.file t.writer)) job.made.items)
+  pub tells : halted ≡ None
+      → ForSome (g.told disk) (λ _. AllByRecursion (λ (t : Synced W s). IsSome (w.file t.writer)) job.made.items)
 
 -- ---- what is staged
 

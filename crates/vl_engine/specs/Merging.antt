@@ -98,13 +98,6 @@ fresh_effects (Err why) = no_effects
 abbrev pub made_numbers : {V H W : Type 0} {g : _} → Job V H W g → List ℕ
 made_numbers {V} {H} {W} {g} job = map (λ (t : Synced W g). t.number) job.made.items
 
--- The files of the job are ones that were lent to the open merge, each for one table.
-pub record IsMadeFor {V H W : Type 0} {g : _} (merging : Option OpenMerge) (job : Job V H W g) : Type 0 where
-  pub merge : OpenMerge
-  pub is_open : merging ≡ Some merge
-  pub drawn : AllByRecursion (λ (n : ℕ). has n merge.lent.items ≡ true) (made_numbers job)
-  pub distinct : AreDistinct (made_numbers job)
-
 -- ---- installs
 
 abbrev pub install_outcome : {V H W : Type 0} {g : _} → Result (Unit {0}) (InstallFail V H W g) → Outcome InstallAnswer

@@ -35,7 +35,7 @@ impl<D: Disk> Engine<D> {
         &mut self,
         job: Job<Base<D::Held, D::Reader>, D::Held, D::Writer>,
     ) -> Result<(), InstallFail<Base<D::Held, D::Reader>, D::Held, D::Writer>>
-        requires { IsHandedIn D.Watched D.Writer.Writer self.old.disk self.old.merging job }
+        requires { IsHandedIn D.Watched D.Writer.Writer self.old.disk self.old.core.front.halted self.old.merging job }
 
         // It is answered as the ruling has it.
         ensures stands { (state : DiskState) (h : History) (l : Layout) (o : OpenJob) → D.told self.old.disk ≡ Some state
@@ -125,7 +125,7 @@ impl<D: Disk> Engine<D> {
         &mut self,
         job: Job<Base<D::Held, D::Reader>, D::Held, D::Writer>,
     ) -> Result<(), InstallFail<Base<D::Held, D::Reader>, D::Held, D::Writer>>
-        requires handed { IsHandedIn D.Watched D.Writer.Writer self.old.disk self.old.merging job }
+        requires handed { IsHandedIn D.Watched D.Writer.Writer self.old.disk self.old.core.front.halted self.old.merging job }
         requires running { self.old.core.front.halted ≡ None }
         requires version { self.old.core.back.version_number < max_version_number }
         ensures as_installed { InstallsAs D.Watched D.Held.bytes D.Writer.Writer job self.old.disk self.new.disk
