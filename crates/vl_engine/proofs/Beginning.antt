@@ -37,6 +37,7 @@ use Rattle.vl_oracle.specs.declared.begin_fail.BeginFail.TheVariants as fails
 use Rattle.vl_table.specs.Kept.{Files}
 use Rattle.vl_table.specs.KeptBlocks.{AreKept, ReadsOf}
 use Rattle.vl_table.specs.declared.block_reader.BlockReader.{BlockReader}
+use Rattle.vl_version.specs.Bases as bases
 use Rattle.vl_version.specs.Sources.{tables_in}
 use Rattle.vl_version.specs.declared.version.Version.{Version}
 
@@ -183,6 +184,12 @@ module _ {H : Type 0} (bytes : H → Option (List ℕ)) (core : Core H) (h : His
   reads_version : {R : Type 0} (reader : BlockReader R) → AreKept (file_in bytes (tables_in core.version)) reader
       → ReadsOf bytes (file_in bytes (tables_in core.version)) reader (tables_in core.version)
   reads_version reader kept = record { kept = kept; told = files_laid bytes core.version l is.has is.tidy.levels }
+
+  -- so that look-ups of its sources are told
+  pub looks_told : {R : Type 0} (reader : BlockReader R) → ((files : Files) → AreKept files reader)
+      → bases.Fits bytes core.version reader
+  looks_told reader kept =
+      (file_in bytes (tables_in core.version), reads_version reader (kept (file_in bytes (tables_in core.version))))
 
   pub sees_now : {R : Type 0} (view : View H R) → view.version ≡ core.version → view.number ≡ last_number h
       → view.past ≡ past_now core → ((files : Files) → AreKept files view.reader) → SeesAlone bytes view h

@@ -20,6 +20,7 @@ use Rattle.vl_engine.proofs.Carrying.{IsWatched, carries_leaving, carries_no_mem
 use Rattle.vl_engine.proofs.Committing.{decides_answered, decides_failed, decides_leaving, decides_short}
 use Rattle.vl_engine.proofs.FlushKeeps.{as_many}
 use Rattle.vl_engine.proofs.FlushSteps.{fronts_unflushed}
+use Rattle.vl_engine.proofs.Leaving.{base_numbers, manifest_held}
 use Rattle.vl_engine.proofs.Represented.{represents_halted}
 use Rattle.vl_engine.proofs.Standing.{stands_halted}
 use Rattle.vl_engine.proofs.Stepped.{fits_halted}
@@ -31,13 +32,13 @@ use Rattle.vl_engine.specs.Merging.{StandsOpen}
 use Rattle.vl_engine.specs.Pointed.{layout_logs}
 use Rattle.vl_engine.specs.Represents.{Fronts, IsHeld, Represents, StandsFor, file_of}
 use Rattle.vl_engine.specs.Shown.{LeavesBetween}
-use Rattle.vl_engine.specs.Stepping.{Fits, HasNumbers, MayStep}
+use Rattle.vl_engine.specs.Stepping.{Fits, HasNumbers, LeavesNumbers, MayStep}
 use Rattle.vl_engine.specs.declared.kept.Core.{Core}
 use Rattle.vl_engine.specs.declared.open.OpenMerge.{OpenMerge}
 use Rattle.vl_engine.specs.laws.AsideLaws.{base_aside, fronts_aside, holds_aside, stands_aside}
 use Rattle.vl_engine.specs.laws.HeldLaws.{held_opens_again}
-use Rattle.vl_engine.specs.laws.InstallBeside.{creating_leaves, creating_opens_again, lending_leaves, lending_opens_again, lent_holds, tables_below}
-use Rattle.vl_engine.specs.laws.KeptLaws.{AreOtherTables}
+use Rattle.vl_engine.specs.laws.InstallBeside.{base_beside, creating_leaves, creating_opens_again, lending_leaves, lending_opens_again, lent_holds, tables_below}
+use Rattle.vl_engine.specs.laws.KeptLaws.{AreOtherTables, nothing_elsewhere}
 use Rattle.vl_layout.specs.Decides.{Answered, Decides, Effects, Failed, NoMemory, as_before, no_effects}
 use Rattle.vl_layout.specs.Ruling.{Ruling, halted_at, has_no_number, leaving}
 use Rattle.vl_layout.specs.Rulings.Fresh as ruling
@@ -55,6 +56,7 @@ use Rattle.vl_model.specs.declared.counter.Counter.TheVariants as counter
 use Rattle.vl_recover.specs.crash.Held.{IsNowhere}
 use Rattle.vl_recover.specs.crash.Starts.{MayOpen}
 use Rattle.vl_recover.specs.laws.crash.OneName.{elsewhere_then}
+use Rattle.vl_recover.specs.laws.opening.HeldLaws.{held_state}
 
 -- ---- the ruling
 
@@ -235,6 +237,44 @@ module _ {D H : Type 0} (g : Ghosts D) (watched : IsWatched g) (bytes : H → Op
 
   opens_then : Tells g new MayOpen
   opens_then = let (now, told) = writes.tells held.state told_mid in (now, told, now_may_open now told)
+
+  -- ---- what numbers a crash leaves
+
+  -- the files but that of the table are as they were,
+  same_elsewhere : (now : DiskState) → WhileLent name held.state now → SameElsewhere name held.state now
+  same_elsewhere now during = ⊎_elim
+      (λ (making : WhileCreating name held.state now). ⊎_elim
+      (λ (is : now ≡ held.state). subst (SameElsewhere name held.state) (sym is) (nothing_elsewhere name held.state))
+      (λ (is : now ≡ created name held.state).
+      subst (SameElsewhere name held.state) (sym is) (created_elsewhere name held.state))
+      making)
+      (λ (lending : WhileRemoving name (created name held.state) now). ⊎_elim
+      (λ (is : now ≡ created name held.state).
+      subst (SameElsewhere name held.state) (sym is) (created_elsewhere name held.state))
+      (λ (is : now ≡ without name (created name held.state)).
+      subst (SameElsewhere name held.state) (sym is) (lent_elsewhere name held.state))
+      lending)
+      during
+
+  now_elsewhere : (now : DiskState) → g.told new ≡ Some now → SameElsewhere name held.state now
+  now_elsewhere now told = ⊎_elim
+      (λ (early : g.states_since writes.mid (g.moment writes.mid) now).
+      subst (SameElsewhere name held.state) (sym (watched.only_now writes.mid held.state now told_mid early))
+      (nothing_elsewhere name held.state))
+      (λ (during : While (g.told writes.mid) (WhileLent name) now). same_elsewhere now (during held.state told_mid))
+      (writes.time.nothing_else (g.moment writes.mid) now (omega arith)
+      (watched.counts_now new now (g.moment writes.mid) told writes.time.later))
+
+  -- so that what is left opens with the state that was held, which gives no number above the next ones
+  pub leaves_numbers : before.back.state.next_log ≤ before.back.next_log → (now : DiskState) → g.told new ≡ Some now
+      → LeavesNumbers l.next_log l.next_table now
+  leaves_numbers within now told image o left opens =
+      let same = held_state b.state now (manifest_held b l h held.is_base now (base_beside b l h held.state n held.is_base tidy
+      held.holds apart now (now_elsewhere now told))) image o left.left opens in
+      let (log, table, head) = base_numbers before.back b l h held.is_base tidy held.state held.holds held.back_is within o same in
+      let given = ap (λ (s : ManifestState). s.next_table) same in
+      let low = held.back_is.next_table in
+      (log, omega (arith, given, low), head)
 
   -- ---- it failed
 

@@ -38,5 +38,6 @@ pub mod Standing
 pub mod Stepped
 pub mod TakenFiles
 pub mod Taking
+pub mod Untold
 pub mod Untouched
 pub mod Written

@@ -26,6 +26,10 @@ use Rattle.vl_layout.specs.declared.layout.Layout.{Layout}
 use Rattle.vl_model.specs.History.{History}
 use Rattle.vl_model.specs.Numbers.{has}
 use Rattle.vl_oracle.specs.LiveTickets.{floor_of}
+use Rattle.vl_table.specs.Kept.{Files}
+use Rattle.vl_table.specs.KeptBlocks.{AreKept}
+use Rattle.vl_table.specs.declared.block_reader.BlockReader.{BlockReader}
+use Rattle.vl_version.specs.Bases as bases
 use Rattle.vl_version.specs.Bases.{HasSources}
 use Rattle.vl_version.specs.declared.base.Base.{Base}
 
@@ -65,6 +69,11 @@ HasMerge writers bytes job j = Has writers bytes (λ base inputs ms. HasSources 
 abbrev pub HasAllMerge : {W H R : Type 0} → Writers W → (H → Option (List ℕ)) → {g : _} → Job (Base H R) H W g → laid_job.Job
     → Type 0
 HasAllMerge writers bytes job j = HasAll writers bytes (λ base inputs ms. HasSources bytes base.version inputs ms) job j
+
+-- Whatever keeps no block that doesn't stand, as a reader that has kept none yet, fits its sources: look-ups by it are told.
+abbrev pub FitsReaders : {W H R : Type 0} → (H → Option (List ℕ)) → {g : _} → Job (Base H R) H W g → Type 0
+FitsReaders {R = R} bytes job =
+    (reader : BlockReader R) → ((files : Files) → AreKept files reader) → bases.Fits bytes job.base.version reader
 
 -- a merge that was planned is that of the ruling: what it does is said beside this
 abbrev pub plan_outcome : {J E : Type 0} → Option laid_job.Job → Result (Option J) E → Outcome (Option laid_job.Job)

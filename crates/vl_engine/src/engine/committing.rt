@@ -1,4 +1,4 @@
-ghost use Rattle.std.specs.Prelude.{◌≡◌, ℕ, List, IsTrue, None, Ok, Some};
+ghost use Rattle.std.specs.Prelude.{◌≡◌, ℕ, List, IsTrue, None, Ok, OnOk, Some};
 ghost use Rattle.std.specs.FinMap.{entries};
 ghost use Rattle.vl_disk.specs.DiskState.{DiskState};
 ghost use Rattle.vl_disk.specs.Calls.{ChangesNothing};
@@ -6,7 +6,7 @@ ghost use Rattle.vl_disk.specs.Faults.{HasCause};
 ghost use Rattle.vl_disk.specs.declared.name.Name.{Name};
 ghost use Rattle.vl_disk.specs.declared.name.Name.TheVariants as names;
 ghost use Rattle.vl_engine.specs.Answers.{CommitFailed, IsWritable, LeavesDisk, commit_effects, commit_outcome, handed_back};
-ghost use Rattle.vl_engine.specs.Carries.{Carries, SameFiles};
+ghost use Rattle.vl_engine.specs.Carries.{Carries, SameFiles, StaysUntold};
 ghost use Rattle.vl_engine.specs.Represents.{Fronts, IsLive, Represents, StandsFor};
 ghost use Rattle.vl_engine.specs.Sees.{Sees, asked};
 ghost use Rattle.vl_engine.specs.Stepping.{Fits};
@@ -72,6 +72,9 @@ impl<D: Disk> Engine<D> {
 
         // Where nothing is committed and the disk didn't fail, the disk was left alone, at each moment.
         ensures untouched { LeavesDisk result → ChangesNothing D.Watched self.old.disk self.new.disk ⊥ }
+
+        // A disk that told nothing tells nothing then.
+        ensures untold { OnOk result (StaysUntold (D.told self.old.disk) (D.told self.new.disk)) }
 
         // One that is handed back is as it was.
         ensures back { (back : Txn D.Held D.Reader) → handed_back result ≡ Some back → back ≡ txn }

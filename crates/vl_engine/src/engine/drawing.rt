@@ -1,18 +1,18 @@
-ghost use Rattle.std.specs.Prelude.{◌≡◌, true, is_some, Err, None, Some, IfOk, OnErr, OnOk};
+ghost use Rattle.std.specs.Prelude.{◌≡◌, ◌≤◌, true, is_some, Err, None, Some, IfOk, OnErr, OnOk};
 ghost use Rattle.std.specs.Option.{ForSome};
 ghost use Rattle.vl_back.specs.Writing.{KeepsOthers};
 ghost use Rattle.vl_compact.specs.Progress.{HasRoom};
 ghost use Rattle.vl_disk.specs.Calls.{ChangesNothing};
 ghost use Rattle.vl_disk.specs.Disk.{IsChangedBy};
-ghost use Rattle.vl_disk.specs.DiskState.{new_file};
+ghost use Rattle.vl_disk.specs.DiskState.{DiskState, new_file};
 ghost use Rattle.vl_disk.specs.Faults.{HasCause, after_calls};
 ghost use Rattle.vl_disk.specs.declared.name.Name.TheVariants as names;
 ghost use Rattle.vl_disk.specs.declared.name.Name.{Name};
-ghost use Rattle.vl_engine.specs.Carries.{Carries};
-ghost use Rattle.vl_engine.specs.Drawing.{DrawsCore, FreshLeavesDisk, IsLentMore, IsNewTo, IsSameJob, IsSameMerge, MayDraw, StopsDrawing, lent_new};
+ghost use Rattle.vl_engine.specs.Carries.{Carries, StaysUntold};
+ghost use Rattle.vl_engine.specs.Drawing.{DrawsCore, FreshLeavesDisk, IsLentMore, IsNewTo, IsSameJob, IsSameMerge, MayDraw, StopsDrawing, WritesFresh, lent_new};
 ghost use Rattle.vl_engine.specs.Merging.{StandsOpen, fresh_effects, fresh_outcome};
 ghost use Rattle.vl_engine.specs.Represents.{Fronts, Represents};
-ghost use Rattle.vl_engine.specs.Stepping.{Fits, HasNumbers, StepFailed};
+ghost use Rattle.vl_engine.specs.Stepping.{Fits, HasNumbers, LeavesNumbers, StepFailed};
 ghost use Rattle.vl_engine.specs.declared.fails.StepFail.TheVariants as fails;
 ghost use Rattle.vl_layout.specs.Decides.{Decides, as_before};
 ghost use Rattle.vl_layout.specs.Rulings.Fresh.{fresh_ruling};
@@ -71,6 +71,9 @@ impl<D: Disk> Engine<D> {
         // Where nothing was made and the disk didn't fail, it was left alone, at each moment.
         ensures untouched { FreshLeavesDisk result → ChangesNothing D.Watched self.old.disk self.new.disk ⊥ }
 
+        // A disk that told nothing tells nothing then.
+        ensures untold { OnOk result (StaysUntold (D.told self.old.disk) (D.told self.new.disk)) }
+
         // However it ends, the files but that of the table stand as before. Where the file is lent, it counts as removed, and the
         // disk is as before else, after one changing call.
         ensures files { KeepsOthers (names.Table self.old.core.back.state.next_table) (D.told self.old.disk) (D.told self.new.disk) }
@@ -84,6 +87,16 @@ impl<D: Disk> Engine<D> {
         ensures stopped { (name : Name) → result ≡ Err (fails.Disk name)
             → StopsDrawing self.old.core.back.state.next_table (D.calls self.old.disk) (D.calls self.new.disk) name }
         ensures failed { StepFailed result → MayDraw self.old.core }
+        // By then the file was made in part, if at all; and whatever a crash leaves gives no number above the next ones.
+        ensures meanwhile { StepFailed result → WritesFresh D.Watched self.old.core self.old.disk self.new.disk }
+        ensures leaves { (h : History) (l : Layout) (now : DiskState)
+            → Represents D.Held.bytes self.old.core (D.told self.old.disk) h l
+            → self.old.core.back.state.next_log ≤ self.old.core.back.next_log → StepFailed result
+            → D.told self.new.disk ≡ Some now → LeavesNumbers l.next_log l.next_table now }
+
+        // The manifest gives the next log no number above that which it gets.
+        ensures within { (StepFailed result → ⊥) → self.old.core.back.state.next_log ≤ self.old.core.back.next_log
+            → self.new.core.back.state.next_log ≤ self.new.core.back.next_log }
 
         // In memory just the next table's number changes beside the open merge, unless a fault halts. A halted engine does nothing.
         ensures core { DrawsCore self.old.core self.new.core result }

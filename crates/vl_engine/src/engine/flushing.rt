@@ -6,7 +6,7 @@ ghost use Rattle.vl_disk.specs.DiskState.{DiskState};
 ghost use Rattle.vl_disk.specs.Faults.{HasCause, after_calls};
 ghost use Rattle.vl_disk.specs.declared.name.Name.TheVariants as names;
 ghost use Rattle.vl_disk.specs.declared.name.Name.{Name};
-ghost use Rattle.vl_engine.specs.Carries.{Carries};
+ghost use Rattle.vl_engine.specs.Carries.{Carries, StaysUntold};
 ghost use Rattle.vl_back.specs.declared.staging.StagedFlush.{StagedFlush};
 ghost use Rattle.vl_engine.specs.Flushing.{FlushesAs, IsFlushWritten, StopsFlushing, WritesFlush, flush_effects};
 ghost use Rattle.vl_engine.specs.Represents.{Fronts, Represents, StandsFor};
@@ -50,6 +50,9 @@ impl<D: Disk> Engine<D> {
 
         // Where no table was made and the disk didn't fail, it was left alone, at each moment.
         ensures untouched { StepLeavesDisk result → ChangesNothing D.Watched self.old.disk self.new.disk ⊥ }
+
+        // A disk that told nothing tells nothing then.
+        ensures untold { OnOk result (StaysUntold (D.told self.old.disk) (D.told self.new.disk)) }
 
         // However it ends, the files but that of the table stand as before, and none but that may have come.
         ensures files { KeepsOthers (names.Table self.old.core.back.state.next_table) (D.told self.old.disk) (D.told self.new.disk) }

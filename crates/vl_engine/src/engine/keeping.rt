@@ -3,7 +3,7 @@ ghost use Rattle.vl_disk.specs.Calls.{ChangesNothing};
 ghost use Rattle.vl_disk.specs.DiskState.{DiskState};
 ghost use Rattle.vl_disk.specs.Faults.{HasCause, after_calls};
 ghost use Rattle.vl_disk.specs.declared.name.Name.{Name};
-ghost use Rattle.vl_engine.specs.Carries.{Carries, SameFiles};
+ghost use Rattle.vl_engine.specs.Carries.{Carries, SameFiles, StaysUntold};
 ghost use Rattle.vl_engine.specs.Keeping.{IsKeepWritten, KeepFailed, KeepLeavesDisk, KeepsAs, MayKeep, StopsKeeping, WritesKeep, keep_calls, keep_effects, keep_outcome};
 ghost use Rattle.vl_engine.specs.Keeping as keeping;
 ghost use Rattle.vl_engine.specs.Represents.{Fronts, Represents, StandsFor};
@@ -51,6 +51,9 @@ impl<D: Disk> Engine<D> {
         // Where nothing is changed and the disk didn't fail, it was left alone, at each moment.
         ensures untouched { KeepLeavesDisk self.old.core.back.state.keep versions result
             → ChangesNothing D.Watched self.old.disk self.new.disk ⊥ }
+
+        // A disk that told nothing tells nothing then.
+        ensures untold { OnOk result (StaysUntold (D.told self.old.disk) (D.told self.new.disk)) }
 
         // However it ends, no file comes or goes. Where another number is kept then, the manifest has the frame that says it,
         // and the disk is as before else, after two changing calls.

@@ -2,7 +2,7 @@ ghost use Rattle.std.specs.Prelude.{◌≡◌, None, Some, IfOk, OnErr, OnOk};
 ghost use Rattle.std.specs.Option.{ForSome};
 ghost use Rattle.vl_compact.specs.Laid.{AreBoth};
 ghost use Rattle.vl_compact.specs.Progress.{IsNew};
-ghost use Rattle.vl_engine.specs.Merging.{HasMerge, IsJustOpen, IsMergeFor, IsMergeOf, OpensMerge, StandsOpen, plan_outcome};
+ghost use Rattle.vl_engine.specs.Merging.{FitsReaders, HasMerge, IsJustOpen, IsMergeFor, IsMergeOf, OpensMerge, StandsOpen, plan_outcome};
 ghost use Rattle.vl_engine.specs.Represents.{Represents, StandsFor};
 ghost use Rattle.vl_engine.specs.Stepping.{Fits};
 ghost use Rattle.vl_layout.specs.Decides.{Decides, as_before, no_effects};
@@ -51,6 +51,10 @@ impl<D: Disk> Engine<D> {
         ensures job { (h : History) (l : Layout) → StandsOpen D.Held.bytes self.old.core self.old.merging h l
             → IfOk result (λ job. AreBoth (HasMerge D.Writer.Writer D.Held.bytes) job (plan_ruling l h).answer) }
         ensures new { IfOk result (λ job. ForSome job IsNew) }
+
+        // A reader that keeps no block that doesn't stand, as `reader` gives, fits its sources: look-ups by it are told.
+        ensures looks { (h : History) (l : Layout) → StandsOpen D.Held.bytes self.old.core self.old.merging h l
+            → IfOk result (λ job. ForSome job (FitsReaders D.Held.bytes)) }
 
         // It is open then, and nothing was lent to it. In memory nothing else changes, and the disk isn't asked.
         ensures merging { OpensMerge self.old.merging self.new.merging result }

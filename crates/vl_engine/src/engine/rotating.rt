@@ -1,11 +1,11 @@
-ghost use Rattle.std.specs.Prelude.{◌≡◌, ◌≤◌, ◌+◌, ℕ, Err, IfOk, None, Some};
+ghost use Rattle.std.specs.Prelude.{◌≡◌, ◌≤◌, ◌+◌, ℕ, Err, IfOk, None, OnOk, Some};
 ghost use Rattle.vl_back.specs.Writing.{KeepsOthers};
 ghost use Rattle.vl_disk.specs.Calls.{ChangesNothing};
 ghost use Rattle.vl_disk.specs.DiskState.{DiskState};
 ghost use Rattle.vl_disk.specs.Faults.{HasCause, after_calls};
 ghost use Rattle.vl_disk.specs.declared.name.Name.{Name};
 ghost use Rattle.vl_disk.specs.declared.name.Name.TheVariants as names;
-ghost use Rattle.vl_engine.specs.Carries.{Carries};
+ghost use Rattle.vl_engine.specs.Carries.{Carries, StaysUntold};
 ghost use Rattle.vl_engine.specs.Represents.{Fronts, Represents, StandsFor};
 ghost use Rattle.vl_engine.specs.Rotating.{BeginsLog, HasActive, MayBegin, RotatesAs, StopsRotating, rotate_calls, rotate_effects};
 ghost use Rattle.vl_engine.specs.Stepping.{Fits, HasNumbers, LeavesNumbers, StepFailed, StepLeavesDisk, step_outcome};
@@ -51,6 +51,9 @@ impl<D: Disk> Engine<D> {
 
         // Where no log was begun and the disk didn't fail, it was left alone, at each moment.
         ensures untouched { StepLeavesDisk result → ChangesNothing D.Watched self.old.disk self.new.disk ⊥ }
+
+        // A disk that told nothing tells nothing then.
+        ensures untold { OnOk result (StaysUntold (D.told self.old.disk) (D.told self.new.disk)) }
 
         // However it ends, no file but the new log comes or goes. Where a log was begun, three more calls changed a file.
         ensures files { KeepsOthers (names.Log self.old.core.back.next_log) (D.told self.old.disk) (D.told self.new.disk) }

@@ -10,6 +10,7 @@ use Rattle.vl_engine.specs.Stepping.{Fits}
 use Rattle.vl_front.specs.declared.decision.Decision.TheVariants as decisions
 use Rattle.vl_layout.specs.Ruling.{ended}
 use Rattle.vl_layout.specs.Rulings.Commit as answers
+use Rattle.vl_engine.proofs.Untold.{commit_untold}
 use Rattle.vl_model.specs.declared.counter.Counter.TheVariants as counters
 
 pub returns-in_default-clause-carries : goal.returns-in_default-clause-carries
@@ -256,3 +257,8 @@ returns-in-Conflict-clause-untouched g c leaves = alone g.D.Watched _ _ c.end-in
 
 pub returns-in-Full-clause-untouched : goal.returns-in-Full-clause-untouched
 returns-in-Full-clause-untouched g c leaves = alone g.D.Watched _ _ refl
+
+pub returns-in-Write-clause-untold : goal.returns-in-Write-clause-untold
+returns-in-Write-clause-untold g c =
+    commit_untold g.D.Watched c.args.self.now.core c.write.new.self.core c.args.self.now.disk c.write.new.self.disk
+    c.args.txn.ticket c.args.txn.writes c.write.result c.write.ensures.as_written

@@ -13,6 +13,7 @@ use Rattle.vl_engine.specs.laws.FlushRulings.{flush_waits}
 use Rattle.vl_layout.specs.Decides.{as_before}
 use Rattle.vl_layout.specs.Ruling.{Exhausted, Halted, Idle}
 use Rattle.vl_layout.specs.Rulings.Flush.{flush_ruling}
+use Rattle.vl_engine.proofs.Untold.{flush_untold}
 use Rattle.vl_engine.proofs.engine.Engine.flush.Goals as goal
 
 -- it is halted
@@ -287,3 +288,8 @@ pub returns-in-Go-clause-within : goal.returns-in-Go-clause-within
 returns-in-Go-clause-within g c fine within =
     flush_within g.D.Watched g.D.Held.HeldFile.bytes c.args.self.now.core c.make_table.new.self.core c.args.self.now.disk
     c.make_table.new.self.disk within (sym c.in-Go.ensures.decided) c.make_table.result c.make_table.ensures.as_flushed fine
+
+pub returns-in-Go-clause-untold : goal.returns-in-Go-clause-untold
+returns-in-Go-clause-untold g c =
+    flush_untold g.D.Watched c.args.self.now.core c.make_table.new.self.core c.args.self.now.disk c.make_table.new.self.disk
+    g.D.Held.HeldFile.bytes c.make_table.result c.make_table.ensures.as_flushed

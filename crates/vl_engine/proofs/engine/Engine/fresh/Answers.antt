@@ -3,7 +3,7 @@ use Rattle.vl_disk.specs.declared.name.Name.TheVariants as names
 use Rattle.vl_engine.proofs.Carrying.{IsWatched}
 use Rattle.vl_engine.proofs.DrawFits.{fit_drawn, fit_told, is_new, lent_failed, lent_then, log_kept, more_then, same_itself}
 use Rattle.vl_engine.proofs.DrawSteps.{carries_done, carries_exhausted, carries_failing, carries_short, decides_drawn, decides_undrawn, stops_drawing, writes_err, writes_ok}
-use Rattle.vl_engine.proofs.Drawing.{fits_drawn, opens_more, opens_same, runs, stands_drawn, stands_undrawn}
+use Rattle.vl_engine.proofs.Drawing.{fits_drawn, leaves_numbers, opens_more, opens_same, runs, stands_drawn, stands_undrawn}
 use Rattle.vl_engine.proofs.Fitting.{fit_halted}
 use Rattle.vl_engine.proofs.FlushKeeps.{kept_from}
 use Rattle.vl_engine.specs.Drawing.{StopsDrawing, drawn_core}
@@ -151,3 +151,24 @@ returns-in-Err-clause-stopped g c name said =
 pub returns-in-Ok-lend_new-clause-empty : goal.returns-in-Ok-lend_new-clause-empty
 returns-in-Ok-lend_new-clause-empty g c state told =
     c.in-Ok-lend_new.ensures.file state (c.in-Ok.ensures.no_change.told ∙ told)
+
+pub returns-in-Err-clause-meanwhile : goal.returns-in-Err-clause-meanwhile
+returns-in-Err-clause-meanwhile g c failed =
+    writes_err g.D.Watched c.args.self.now.core c.args.self.now.disk c.ready_fresh.new.disk c.lend_new.new.disk
+    c.ready_fresh.ensures.no_change c.in-Err.field-0 c.in-Err.ensures.lends
+
+pub returns-in-Err-clause-leaves : goal.returns-in-Err-clause-leaves
+returns-in-Err-clause-leaves g c h l now is within failed told =
+    let watched : IsWatched g.D.Watched = record { only_now = g.met.D.Disk.only_now; counts_now = g.met.D.Disk.counts_now } in
+    let core = c.args.self.now.core in
+    leaves_numbers g.D.Watched watched g.D.Held.HeldFile.bytes core core h l c.args.self.now.disk c.lend_new.new.disk is
+    (runs core h l is.stands.fronts c.in_default.is) c.args.self.now.numbered.1 c.if-number-gt-MAX_FILE_NUMBER.false
+    (writes_err g.D.Watched core c.args.self.now.disk c.ready_fresh.new.disk c.lend_new.new.disk c.ready_fresh.ensures.no_change
+    c.in-Err.field-0 c.in-Err.ensures.lends) within now told
+
+pub returns-in-Ok-lend_new-clause-untold : goal.returns-in-Ok-lend_new-clause-untold
+returns-in-Ok-lend_new-clause-untold g c none =
+    c.in-Ok-lend_new.ensures.lends.untold (c.ready_fresh.ensures.no_change.told ∙ none)
+
+pub returns-in-Ok-lend_new-clause-within : goal.returns-in-Ok-lend_new-clause-within
+returns-in-Ok-lend_new-clause-within g c fine within = within

@@ -7,6 +7,7 @@ use Rattle.vl_engine.specs.Represents.{Fronts, StandsFor, file_of}
 use Rattle.vl_engine.specs.Stepping.{Fits}
 use Rattle.vl_layout.specs.Decides.{as_before}
 use Rattle.vl_layout.specs.Rulings.Keep.{Halted, InvalidRequest, keep_ruling}
+use Rattle.vl_engine.proofs.Untold.{keep_untold}
 use Rattle.vl_engine.proofs.engine.Engine.keep.Goals as goal
 
 -- it is halted
@@ -169,3 +170,8 @@ pub returns-clause-within : goal.returns-clause-within
 returns-clause-within g c fine within =
     within_by g.D.Watched c.args.self.now.core c.switch_kept.new.self.core c.args.self.now.disk c.switch_kept.new.self.disk
     c.args.versions c.switch_kept.result c.switch_kept.ensures.as_kept fine within
+
+pub returns-clause-untold : goal.returns-clause-untold
+returns-clause-untold g c =
+    keep_untold g.D.Watched c.args.self.now.core c.switch_kept.new.self.core c.args.self.now.disk c.switch_kept.new.self.disk
+    c.args.versions c.switch_kept.result c.switch_kept.ensures.as_kept

@@ -6,6 +6,7 @@ use Rattle.vl_engine.proofs.RotateSteps.{leaves_numbers, running_so}
 use Rattle.vl_engine.proofs.Rotated.{begins_by, calls_by, can_by, carries_as_refused, carries_by, fronts_as_refused, fronts_by, numbers_held, refused_calls, refused_no_disk, stands_as_refused, stands_by, stopped_by, untouched_by}
 use Rattle.vl_engine.proofs.Untouched.{alone}
 use Rattle.vl_engine.specs.Stepping.{StepFailed}
+use Rattle.vl_engine.proofs.Untold.{rotate_untold, untold_same}
 use Rattle.vl_engine.proofs.engine.Engine.rotate.Goals as goal
 
 -- none is begun
@@ -146,3 +147,11 @@ pub returns-in-None-clause-within : goal.returns-in-None-clause-within
 returns-in-None-clause-within g c fine within =
     rotate_within g.D.Watched g.D.Held.HeldFile.bytes c.args.self.now.core c.begin_log.new.self.core c.args.self.now.disk
     c.begin_log.new.self.disk within c.begin_log.result c.begin_log.ensures.as_rotated fine
+
+pub returns-in-Some-clause-untold : goal.returns-in-Some-clause-untold
+returns-in-Some-clause-untold g c = untold_same (g.D.Watched.told c.args.self.now.disk) c.in-Some.answer
+
+pub returns-in-None-clause-untold : goal.returns-in-None-clause-untold
+returns-in-None-clause-untold g c =
+    rotate_untold g.D.Watched c.args.self.now.core c.begin_log.new.self.core c.args.self.now.disk c.begin_log.new.self.disk
+    g.D.Held.HeldFile.bytes c.begin_log.result c.begin_log.ensures.as_rotated
