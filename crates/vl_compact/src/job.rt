@@ -226,8 +226,7 @@ impl<V: Sources<Fault = TableFault>, H: HeldFile, W: Writer> Job<V, H, W> {
     }
 
     /// Makes the next table in this file, which `ready` waits for: one append for the header, each block, the index, the
-    /// filter, the footer and the last eight bytes, then one sync. No clause says how many calls these are, since a writer
-    /// counts nothing but its faults. After a fault it is as before, and the file is a leaving.
+    /// filter, the footer and the last eight bytes, then one sync. After a fault it is as before, and the file is a leaving.
     pub fn fill<R: Reader<Held = H> + Drop>(
         &mut self,
         alloc: Global,
