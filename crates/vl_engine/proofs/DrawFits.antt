@@ -1,8 +1,6 @@
 -- What an engine's next calls ask of its disk, and of the files that are lent, is so behind the making of a merge's next table.
-use Rattle.std.specs.Prelude.{◌≡◌, ◌≢◌, ◌≤◌, ◌<◌, ℕ, ◌+◌, ◌==◌, ◌||◌, true, false, All, List, [], ◌∷◌, ◌++◌, length, Option, None, Some, Result, Ok, Err, IsTrue, OnOk, Vec, is_some, refl}
-use Rattle.std.specs.FinMap.{get}
+use Rattle.std.specs.Prelude.{◌≡◌, ◌≢◌, ◌≤◌, ◌<◌, ℕ, ◌+◌, ◌==◌, ◌||◌, true, false, All, List, [], ◌∷◌, ◌++◌, Option, None, Some, Result, Ok, Err, OnOk, Vec, is_some, refl}
 use Rattle.std.specs.Global.{Global}
-use Rattle.std.specs.List.{slice_index_or}
 use Rattle.std.specs.Option.{ForSome}
 use Rattle.std.proofs.Common.{ap, arith, subst, sym, ◌∙◌}
 use Rattle.std.proofs.lemmas.Bool.Decides.{nat_tests}
@@ -10,7 +8,7 @@ use Rattle.std.proofs.lemmas.List.Elements.{All-append, All-cons, All-nil, All-t
 use Rattle.vl_back.specs.Writing.{KeepsOthers}
 use Rattle.vl_disk.specs.Changes.{SameElsewhere, created_elsewhere, without_elsewhere}
 use Rattle.vl_disk.specs.Disk.{IsChangedBy, IsFree, Stands}
-use Rattle.vl_disk.specs.DiskState.{DiskState, File, created}
+use Rattle.vl_disk.specs.DiskState.{DiskState, created}
 use Rattle.vl_disk.specs.Spare.{SameSpareElsewhere}
 use Rattle.vl_disk.specs.declared.name.Name.TheVariants as names
 use Rattle.vl_disk.specs.declared.name.Name.{Name}
@@ -19,7 +17,7 @@ use Rattle.vl_disk.specs.laws.NameMap.{get_removed}
 use Rattle.vl_engine.proofs.FlushKeeps.{stands_kept}
 use Rattle.vl_engine.proofs.Lending.{leaves_staged, leaves_written, still_lent}
 use Rattle.vl_engine.specs.Drawing.{IsLentMore, IsNewTo, IsSameMerge, LendsNew, drawn_core, lent_new}
-use Rattle.vl_engine.specs.Fit.{IsFitFor, IsFitForSteps}
+use Rattle.vl_engine.specs.Fit.{IsFitFor}
 use Rattle.vl_engine.specs.Lent.{AreLent, IsLent, LeavesLent}
 use Rattle.vl_engine.specs.declared.kept.Core.{Core}
 use Rattle.vl_engine.specs.declared.open.OpenMerge.{OpenMerge}

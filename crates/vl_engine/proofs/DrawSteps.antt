@@ -1,6 +1,5 @@
 -- What making a merge's next table answers at each of its ends, as the ruling has it.
-use Rattle.std.specs.Prelude.{◌≡◌, ◌≤◌, ◌<◌, ℕ, ◌+◌, Bool, true, false, if◌then◌else◌, List, [], ◌∷◌, Option, None, Some, Result, Ok, Err, IsErr, refl}
-use Rattle.std.specs.Option.{option_map}
+use Rattle.std.specs.Prelude.{◌≡◌, ◌≤◌, ◌<◌, ℕ, Bool, true, false, if◌then◌else◌, List, [], Option, None, Some, Ok, Err, refl}
 use Rattle.std.proofs.Common.{sym, ap, subst, ◌∙◌, arith}
 use Rattle.vl_disk.specs.Calls.{ChangesNothing}
 use Rattle.vl_disk.specs.Disk.{IsChangedBy}
@@ -10,11 +9,11 @@ use Rattle.vl_disk.specs.declared.name.Name.TheVariants as names
 use Rattle.vl_disk.specs.declared.name.Name.{Name}
 use Rattle.vl_disk.specs.declared.watched.Watched.{Ghosts}
 use Rattle.vl_engine.proofs.Carrying.{IsWatched, carries_leaving, carries_no_memory, extends_itself}
-use Rattle.vl_engine.proofs.Committing.{decides_answered, decides_failed, decides_leaving, decides_short}
-use Rattle.vl_engine.proofs.Drawing.{carries_drawn, carries_undrawn, drawn_ruling, is_drawn, is_exhausted, is_halted, number_is, runs}
+use Rattle.vl_engine.proofs.Committing.{decides_answered, decides_failed, decides_leaving}
+use Rattle.vl_engine.proofs.Drawing.{carries_drawn, carries_undrawn, drawn_ruling, is_drawn, is_exhausted, is_halted, runs}
 use Rattle.vl_engine.specs.Carries.{Carries}
 use Rattle.vl_engine.specs.Drawing.{LendsNew, StopsDrawing, WritesFresh, drawn_core, lent_new}
-use Rattle.vl_engine.specs.Represents.{Fronts, Represents, StandsFor, file_of}
+use Rattle.vl_engine.specs.Represents.{Fronts, Represents, file_of}
 use Rattle.vl_engine.specs.Stepping.{HasNumbers}
 use Rattle.vl_engine.specs.declared.kept.Core.{Core}
 use Rattle.vl_layout.specs.Decides.{Answered, Decides, Effects, Failed, NoMemory, as_before, no_effects}

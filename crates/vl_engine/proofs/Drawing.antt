@@ -1,11 +1,10 @@
 -- What making and lending the file of a merge's next table leaves, in memory and on the disk.
-use Rattle.std.specs.Prelude.{◌≡◌, ◌≢◌, ◌⊎◌, ◌≤◌, ◌<◌, ◌^◌, ℕ, ◌+◌, ◌-◌, true, false, nat_lt, if◌then◌else◌, List, [], ◌∷◌, ◌++◌, Option, None, Some, unwrap_or, refl}
+use Rattle.std.specs.Prelude.{◌≡◌, ◌≢◌, ◌⊎◌, ◌≤◌, ◌<◌, ℕ, ◌+◌, true, false, if◌then◌else◌, List, [], ◌∷◌, ◌++◌, Option, None, Some, unwrap_or, refl}
 use Rattle.std.specs.FinMap.{get}
 use Rattle.std.specs.Option.{option_map}
-use Rattle.std.proofs.Common.{sym, ap, subst, ◌∙◌, arith, inl, inr, ⊎_elim, append-nil}
+use Rattle.std.proofs.Common.{sym, ap, subst, ◌∙◌, arith, inl, inr, ⊎_elim}
 use Rattle.std.proofs.lemmas.Bool.{cases_lt}
 use Rattle.std.proofs.lemmas.Bool.Decides.{nat_tests}
-use Rattle.vl_disk.specs.Calls.{ChangesNothing}
 use Rattle.vl_disk.specs.Changes.{SameElsewhere, created_elsewhere, created_there, without_elsewhere, without_removed}
 use Rattle.vl_disk.specs.Crash.{WhileCreating, WhileRemoving, last_file}
 use Rattle.vl_disk.specs.Disk.{IsChangedBy}
@@ -16,30 +15,28 @@ use Rattle.vl_disk.specs.Name.{IsNumbered}
 use Rattle.vl_disk.specs.declared.name.Name.TheVariants as names
 use Rattle.vl_disk.specs.declared.name.Name.{Name}
 use Rattle.vl_disk.specs.declared.watched.Watched.{Ghosts}
-use Rattle.vl_engine.proofs.Carrying.{IsWatched, carries_leaving, carries_no_memory, extends_itself, looked}
-use Rattle.vl_engine.proofs.Committing.{decides_answered, decides_failed, decides_leaving, decides_short}
+use Rattle.vl_engine.proofs.Carrying.{IsWatched, looked}
+use Rattle.vl_engine.proofs.Committing.{decides_answered, decides_failed}
 use Rattle.vl_engine.proofs.FlushKeeps.{as_many}
 use Rattle.vl_engine.proofs.FlushSteps.{fronts_unflushed}
 use Rattle.vl_engine.proofs.Leaving.{base_numbers, manifest_held}
 use Rattle.vl_engine.proofs.Represented.{represents_halted}
 use Rattle.vl_engine.proofs.Standing.{stands_halted}
-use Rattle.vl_engine.proofs.Stepped.{fits_halted}
 use Rattle.vl_engine.specs.Carries.{Carries, CrashesShow, Tells}
-use Rattle.vl_engine.specs.Drawing.{IsDrawn, IsLentMore, IsSameMerge, IsUndrawn, MayDraw, WhileLent, WritesFresh, drawn_core, lent_new}
+use Rattle.vl_engine.specs.Drawing.{IsDrawn, IsLentMore, IsSameMerge, WhileLent, WritesFresh, drawn_core, lent_new}
 use Rattle.vl_engine.specs.Held.{AreBegun, Base}
-use Rattle.vl_engine.specs.Lent.{IsOpenAs, Opens}
-use Rattle.vl_engine.specs.Merging.{StandsOpen}
+use Rattle.vl_engine.specs.Lent.{Opens}
 use Rattle.vl_engine.specs.Pointed.{layout_logs}
 use Rattle.vl_engine.specs.Represents.{Fronts, IsHeld, Represents, StandsFor, file_of}
 use Rattle.vl_engine.specs.Shown.{LeavesBetween}
-use Rattle.vl_engine.specs.Stepping.{Fits, HasNumbers, LeavesNumbers, MayStep}
+use Rattle.vl_engine.specs.Stepping.{Fits, LeavesNumbers, MayStep}
 use Rattle.vl_engine.specs.declared.kept.Core.{Core}
 use Rattle.vl_engine.specs.declared.open.OpenMerge.{OpenMerge}
 use Rattle.vl_engine.specs.laws.AsideLaws.{base_aside, fronts_aside, holds_aside, stands_aside}
 use Rattle.vl_engine.specs.laws.HeldLaws.{held_opens_again}
 use Rattle.vl_engine.specs.laws.InstallBeside.{base_beside, creating_leaves, creating_opens_again, lending_leaves, lending_opens_again, lent_holds, tables_below}
 use Rattle.vl_engine.specs.laws.KeptLaws.{AreOtherTables, nothing_elsewhere}
-use Rattle.vl_layout.specs.Decides.{Answered, Decides, Effects, Failed, NoMemory, as_before, no_effects}
+use Rattle.vl_layout.specs.Decides.{Answered, Effects, Failed, as_before, no_effects}
 use Rattle.vl_layout.specs.Ruling.{Ruling, halted_at, has_no_number, leaving}
 use Rattle.vl_layout.specs.Rulings.Fresh as ruling
 use Rattle.vl_layout.specs.Rulings.Fresh.{Drawn, FreshAnswer, drawn, fresh_ruling, fresh_unless, lent_to}
@@ -50,10 +47,9 @@ use Rattle.vl_layout.specs.declared.job.OpenJob.{OpenJob}
 use Rattle.vl_layout.specs.declared.layout.Layout.{Layout}
 use Rattle.vl_layout_laws.specs.laws.TidySteps.{tidy_drawn}
 use Rattle.vl_manifest.specs.declared.state.ManifestState.{ManifestState}
-use Rattle.vl_model.specs.History.{Extends, History}
+use Rattle.vl_model.specs.History.{History}
 use Rattle.vl_model.specs.Limits.{max_file_number}
 use Rattle.vl_model.specs.declared.counter.Counter.TheVariants as counter
-use Rattle.vl_recover.specs.crash.Held.{IsNowhere}
 use Rattle.vl_recover.specs.crash.Starts.{MayOpen}
 use Rattle.vl_recover.specs.laws.crash.OneName.{elsewhere_then}
 use Rattle.vl_recover.specs.laws.opening.HeldLaws.{held_state}

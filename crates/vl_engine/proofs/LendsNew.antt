@@ -1,6 +1,5 @@
 -- The two calls that make and lend a file.
-use Rattle.std.proofs.Common.{◌≡◌, ◌≢◌, ◌⊎◌, inl, inr, ⊎_elim, ℕ, ◌≤◌, true, false, Option, None, Some, Result, Ok, Err, IsErr, IsTrue, OnOk, OnErr, ◌∙◌, ap, subst, sym, arith, refl}
-use Rattle.std.proofs.lemmas.Result.{on_ok_weaker}
+use Rattle.std.proofs.Common.{◌≡◌, ◌≢◌, ◌⊎◌, inl, inr, ⊎_elim, ℕ, true, false, Option, None, Some, Result, Ok, Err, IsErr, ◌∙◌, subst, sym, arith, refl}
 use Rattle.std.specs.Option.{ForSome}
 use Rattle.vl_back.specs.Writing.{IsKept, KeepsOthers}
 use Rattle.vl_disk.specs.Calls.{Creates}
@@ -8,7 +7,7 @@ use Rattle.vl_disk.specs.Changes.{SameElsewhere, created_elsewhere, created_ther
 use Rattle.vl_disk.specs.Crash.{WhileCreating, WhileRemoving}
 use Rattle.vl_disk.specs.Disk.{IsChangedBy}
 use Rattle.vl_disk.specs.DiskState.{DiskState, created, without}
-use Rattle.vl_disk.specs.Faults.{HasCause, after_calls, one_more}
+use Rattle.vl_disk.specs.Faults.{HasCause, after_calls}
 use Rattle.vl_disk.specs.Lending.{IsJustMade, Lends}
 use Rattle.vl_disk.specs.Moments.{While, passes_then, passes_weaker}
 use Rattle.vl_disk.specs.Performs.{GoesOnTelling}

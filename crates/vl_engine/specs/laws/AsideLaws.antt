@@ -1,23 +1,21 @@
 -- What an engine stands for, in memory and on the disk, looks at neither the job that is open, nor the files that are retired, nor,
 -- in memory, the next table's number.
-use Rattle.std.specs.Prelude.{◌≡◌, ◌≤◌, ℕ, List, Option, None, refl}
+use Rattle.std.specs.Prelude.{◌≡◌, ℕ, List, Option, refl}
 use Rattle.std.specs.Option.{option_map}
 use Rattle.std.proofs.Common.{sym, ap, subst, ◌∙◌}
 use Rattle.vl_back.specs.declared.back.Back.{Back}
 use Rattle.vl_disk.specs.DiskState.{DiskState}
-use Rattle.vl_engine.specs.Held.{AreBegun, Base, Holds, IsBase}
+use Rattle.vl_engine.specs.Held.{Base, Holds, IsBase}
 use Rattle.vl_engine.specs.Laid.{HasLayout}
 use Rattle.vl_engine.specs.Pointed.{layout_logs}
-use Rattle.vl_engine.specs.Represents.{Fronts, IsBack, IsFront, IsHeld, Represents, StandsFor, file_of}
-use Rattle.vl_engine.specs.Rotating.{HasActive}
-use Rattle.vl_engine.specs.Stepping.{Fits, MayStep}
+use Rattle.vl_engine.specs.Represents.{Fronts, IsFront, IsHeld, Represents, StandsFor, file_of}
+use Rattle.vl_engine.specs.Stepping.{Fits}
 use Rattle.vl_engine.specs.declared.kept.Core.{Core}
 use Rattle.vl_front.specs.declared.front.Front.{Front}
 use Rattle.vl_layout.specs.Tidy.{IsTidy}
 use Rattle.vl_layout.specs.declared.file_name.Retired.{Retired}
 use Rattle.vl_layout.specs.declared.job.OpenJob.{OpenJob}
 use Rattle.vl_layout.specs.declared.layout.Layout.{Layout}
-use Rattle.vl_manifest.specs.declared.state.ManifestState.{ManifestState}
 use Rattle.vl_model.specs.Conflicts.{Named}
 use Rattle.vl_model.specs.History.{History}
 use Rattle.vl_oracle.specs.LiveTickets.{LiveTickets}

@@ -1,4 +1,4 @@
-use Rattle.std.proofs.Common.{ap, refl}
+use Rattle.std.proofs.Common.{refl}
 use Rattle.vl_engine.proofs.DrawFits.{on_ok_always, same_merge}
 use Rattle.vl_engine.proofs.making.ready_fresh.Goals as goal
 
