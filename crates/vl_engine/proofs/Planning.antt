@@ -1,17 +1,18 @@
 -- What a plan and the end of a merge that is given up leave, in memory and on the disk.
 use Rattle.std.specs.Prelude.{◌≡◌, ℕ, ◌+◌, false, true, is_some, List, [], ◌++◌, length, Option, None, Some, refl}
-use Rattle.std.specs.Option.{option_map}
+use Rattle.std.specs.Option.{ForSome, option_map}
 use Rattle.std.proofs.Common.{sym, ap, subst, arith, ◌∙◌}
 use Rattle.vl_compact.specs.Laid as compact
 use Rattle.vl_compact.specs.Merges.{AreInputsOf, IsMerge, plan_in}
 use Rattle.vl_compact.specs.declared.inputs.Inputs.{Inputs}
 use Rattle.vl_compact.specs.declared.job.Job.{Job as Merging}
 use Rattle.vl_disk.specs.DiskState.{DiskState}
-use Rattle.vl_engine.proofs.Committing.{decides_answered, decides_leaving}
+use Rattle.vl_engine.proofs.Beginning.{looks_told}
+use Rattle.vl_engine.proofs.Committing.{decides_answered}
 use Rattle.vl_disk.specs.declared.watched.Watched.{Ghosts}
 use Rattle.vl_disk.specs.declared.writer.Writer.{Ghosts as Writers}
-use Rattle.vl_engine.specs.Lent.{AreLent as AreLentTo, IsOpenAs, Opens}
-use Rattle.vl_engine.specs.Merging.{IsJustOpen, IsMergeFor, IsMergeOf, StandsOpen}
+use Rattle.vl_engine.specs.Lent.{AreLent as AreLentTo, Opens}
+use Rattle.vl_engine.specs.Merging.{FitsReaders, IsJustOpen, IsMergeFor, IsMergeOf, StandsOpen}
 use Rattle.vl_engine.specs.Pointed.{layout_logs}
 use Rattle.vl_engine.specs.Represents.{Represents, StandsFor}
 use Rattle.vl_engine.specs.Stepping.{Fits}
@@ -34,8 +35,10 @@ use Rattle.vl_layout.specs.declared.layout.Layout.{Layout}
 use Rattle.vl_layout.specs.declared.table.Table as laid
 use Rattle.vl_layout_laws.specs.laws.TidyRulings.{abandon_tidy, plan_tidy}
 use Rattle.vl_model.specs.History.{History}
+use Rattle.vl_version.specs.Bases as bases
 use Rattle.vl_version.specs.declared.base.Base.{Base}
 use Rattle.vl_version.specs.declared.levels.Levels.{Levels}
+use Rattle.vl_version.specs.declared.version.Version.{Version}
 
 -- ---- what the ruling is
 
@@ -103,6 +106,16 @@ pub merge_for : {H R W : Type 0} (bytes : H → Option (List ℕ)) (core : Core 
 merge_for {H} bytes core h l inputs level are is writers job of = job_is bytes core h l is writers job level
     (subst (λ (i : Inputs H). compact.AreTablesOf bytes i.tables.items (inputs_at level l.levels)) (sym of.inputs_are) are.tables)
     (ap (λ (i : Inputs H). i.target) of.inputs_are ∙ are.target) of.version of.floor of.keep
+
+-- and readers that keep no block that doesn't stand fit its sources
+pub fits_readers : {H R W : Type 0} (bytes : H → Option (List ℕ)) (core : Core H) (h : History) (l : Layout) (inputs : Inputs H) {g : _}
+    (job : Merging (Base H R) H W g) → StandsFor bytes core h l → IsMergeOf core inputs job → ForSome (Some job) (FitsReaders bytes)
+fits_readers {H} {R} {W} bytes core h l inputs {g} job is of other same reader kept =
+    subst (λ (v : Version H). bases.Fits bytes v reader) (sym of.version ∙ ap (λ (j : Merging (Base H R) H W g). j.base.version) one)
+    (looks_told bytes core h l is reader kept)
+  where
+    one : job ≡ other
+    one = cc
 
 -- ---- what it leaves
 

@@ -1,13 +1,12 @@
 -- What the calls of a merge come to, as the rulings on them have it.
-use Rattle.std.specs.Prelude.{◌≡◌, ℕ, true, List, [], ◌∷◌, map, Option, None, Some, Result, Ok, Err}
-use Rattle.std.specs.List.{AllByRecursion}
+use Rattle.std.specs.Prelude.{◌≡◌, ℕ, List, [], map, Option, None, Some, Result, Ok, Err}
 use Rattle.vl_compact.specs.declared.inputs.Inputs.{Inputs}
 use Rattle.vl_compact.specs.declared.job.Job.{Job}
 use Rattle.vl_compact.specs.declared.files.Lent.{Lent}
 use Rattle.vl_compact.specs.declared.files.Synced.{Synced}
 use Rattle.vl_compact.specs.Progress.{Has, HasAll, IsJobOf}
 use Rattle.vl_disk.specs.declared.writer.Writer.{Ghosts as Writers}
-use Rattle.vl_engine.specs.Represents.{StandsFor, Represents, file_of}
+use Rattle.vl_engine.specs.Represents.{StandsFor, file_of}
 use Rattle.vl_engine.specs.Lent.{Opens}
 use Rattle.vl_engine.specs.declared.fails.InstallFail.{InstallFail}
 use Rattle.vl_engine.specs.declared.fails.InstallFail.TheVariants as install
@@ -16,7 +15,6 @@ use Rattle.vl_engine.specs.declared.fails.StepFail.TheVariants as fails
 use Rattle.vl_engine.specs.declared.kept.Core.{Core}
 use Rattle.vl_engine.specs.declared.open.OpenMerge.{OpenMerge}
 use Rattle.vl_layout.specs.Decides.{Answered, Effects, Failed, NoMemory, Outcome, no_effects}
-use Rattle.vl_layout.specs.Jobs.{AreDistinct, Made}
 use Rattle.vl_layout.specs.Rulings.Fresh.{Drawn, FreshAnswer}
 use Rattle.vl_layout.specs.Rulings.Fresh as fresh
 use Rattle.vl_layout.specs.Rulings.Install.{InstallAnswer, Installed}
@@ -24,7 +22,6 @@ use Rattle.vl_layout.specs.Rulings.Install as ruling
 use Rattle.vl_layout.specs.declared.job.Job as laid_job
 use Rattle.vl_layout.specs.declared.layout.Layout.{Layout}
 use Rattle.vl_model.specs.History.{History}
-use Rattle.vl_model.specs.Numbers.{has}
 use Rattle.vl_oracle.specs.LiveTickets.{floor_of}
 use Rattle.vl_table.specs.Kept.{Files}
 use Rattle.vl_table.specs.KeptBlocks.{AreKept}

@@ -1,18 +1,17 @@
 -- The entries that a planned merge has of its sources are those of its inputs, end to end.
-use Rattle.std.proofs.Common.{◌≡◌, ◌≢◌, ◌⊎◌, inl, inr, ⊎_elim, ℕ, ◌+◌, ◌-◌, ◌<◌, Bool, true, false, cond, ◌||◌, List, [], ◌∷◌, ◌++◌, refl, ap, sym, ◌∙◌, subst, arith}
+use Rattle.std.proofs.Common.{◌≡◌, ◌≢◌, ◌⊎◌, inl, inr, ⊎_elim, ℕ, ◌+◌, ◌-◌, ◌<◌, Bool, true, false, ◌||◌, List, [], ◌∷◌, ◌++◌, refl, ap, sym, ◌∙◌, subst, arith}
 use Rattle.std.proofs.lemmas.Bool.Decides.{nat_tests}
 use Rattle.std.specs.Prelude.{Option, Some, None, ◌==◌, nat_lt, if◌then◌else◌}
 use Rattle.std.specs.List.{AllByRecursion, filter, flat_map}
 use Rattle.vl_layout.specs.Levels.{due_inputs, inputs_at, is_among, least_table, lesser_table, level_at, meets, one_or_none, range_of}
 use Rattle.vl_layout.specs.Logs.{memtable}
-use Rattle.vl_layout.specs.Merging.{Sourced, if_so, inputs_of}
+use Rattle.vl_layout.specs.Merging.{Sourced, inputs_of}
 use Rattle.vl_layout.specs.Rulings.Plan.{marked_as, sourced}
 use Rattle.vl_layout.specs.Sources.{numbers_of, table_entries, tables}
 use Rattle.vl_layout.specs.TidyLevels.{AreLevels, IsDistinct}
 use Rattle.vl_layout.specs.declared.layout.Layout.{Layout}
 use Rattle.vl_layout.specs.declared.table.Table.{Table}
-use Rattle.vl_layout_laws.specs.laws.Lists.{or_left, or_right}
-use Rattle.vl_layout_laws.specs.laws.Pairs.{all_weaker, not_one_of}
+use Rattle.vl_layout_laws.specs.laws.Pairs.{not_one_of}
 use Rattle.vl_model.specs.declared.entry.Entry.{Entry}
 
 -- ---- some of the tables, in their order

@@ -1,29 +1,25 @@
 -- A merge that is planned of a version that has a layout does what the ruling's job says.
-use Rattle.std.specs.Prelude.{◌≡◌, ℕ, ◌+◌, ◌==◌, Bool, false, List, [], ◌∷◌, ◌++◌, map, Option, None, Some, refl}
+use Rattle.std.specs.Prelude.{◌≡◌, ℕ, ◌+◌, ◌==◌, false, List, [], ◌∷◌, ◌++◌, map, Option, refl}
 use Rattle.std.specs.List.{AllByRecursion, AllZip, flat_map, list_any}
 use Rattle.std.proofs.Common.{sym, ap, subst, ◌∙◌}
 use Rattle.vl_compact.specs.Laid as compact
 use Rattle.vl_compact.specs.Laid.{AreBoth}
-use Rattle.vl_compact.specs.Merges.{AreInputsOf, IsMerge, plan_in}
 use Rattle.vl_compact.specs.Progress.{IsJobOf}
-use Rattle.vl_compact.specs.declared.inputs.Inputs.{Inputs}
 use Rattle.vl_compact.specs.declared.job.Job.{Job}
 use Rattle.vl_disk.specs.declared.writer.Writer.{Ghosts as Writers}
-use Rattle.vl_engine.specs.Laid.{AreLevelsOf, AreTablesOf, HasLayout, IsMemtableOf, IsTableOf, by_level}
+use Rattle.vl_engine.specs.Laid.{AreTablesOf, HasLayout, IsMemtableOf, IsTableOf, by_level}
 use Rattle.vl_engine.specs.Pointed.{layout_logs}
-use Rattle.vl_engine.specs.Represents.{Fronts, StandsFor}
+use Rattle.vl_engine.specs.Represents.{StandsFor}
 use Rattle.vl_engine.specs.declared.kept.Core.{Core}
 use Rattle.vl_engine.specs.laws.LaidTables.{tables_are}
 use Rattle.vl_engine.specs.laws.LiveLaws.{same_floor}
 use Rattle.vl_engine.specs.laws.PlanSources.{sourced_level}
-use Rattle.vl_layout.specs.Levels.{due_from, inputs_at, is_among}
+use Rattle.vl_layout.specs.Levels.{inputs_at, is_among}
 use Rattle.vl_layout.specs.Logs.{memtable}
-use Rattle.vl_layout.specs.Rulings.Plan.{job_of, plan_of, plan_ruling, plan_unless, sourced}
+use Rattle.vl_layout.specs.Rulings.Plan.{job_of, sourced}
 use Rattle.vl_layout.specs.Sources.{floor, numbers_of, table_entries, tables}
 use Rattle.vl_layout.specs.Tidy.{IsTidy, IsTrueTable}
-use Rattle.vl_layout.specs.declared.job.Job as laid_job
 use Rattle.vl_layout.specs.declared.job.Target.TheVariants.{Level}
-use Rattle.vl_layout.specs.declared.job.Target.{Target}
 use Rattle.vl_layout.specs.declared.layout.Layout.{Layout}
 use Rattle.vl_layout.specs.declared.segment.Segment.{Segment}
 use Rattle.vl_layout.specs.declared.table.Table as laid

@@ -1,4 +1,4 @@
-use Rattle.std.proofs.Common.{◌≡◌, ℕ, refl, subst, sym, true, Some}
+use Rattle.std.proofs.Common.{◌≡◌, refl, subst, sym, true, Some}
 use Rattle.vl_engine.proofs.Fitting.{fit_still}
 use Rattle.vl_engine.proofs.Planning.{none_lent}
 use Rattle.vl_engine.specs.Known.{are_known}

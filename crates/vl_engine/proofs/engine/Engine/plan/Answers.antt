@@ -2,13 +2,10 @@ use Rattle.std.proofs.Common.{◌+◌, None, Some, ap, subst, sym, ◌∙◌}
 use Rattle.std.specs.Prelude.{Option}
 use Rattle.vl_compact.specs.Laid.{AreBoth}
 use Rattle.vl_disk.specs.DiskState.{DiskState}
-use Rattle.vl_engine.proofs.Beginning.{looks_told}
 use Rattle.vl_engine.proofs.Committing.{decides_leaving}
-use Rattle.vl_engine.proofs.Planning.{decides_planned, fits_planned, is_idle, is_planned, merge_for, merge_is, represents_planned, stands_planned}
+use Rattle.vl_engine.proofs.Planning.{decides_planned, fits_planned, fits_readers, is_idle, is_planned, merge_for, merge_is, represents_planned, stands_planned}
 use Rattle.vl_engine.proofs.engine.Engine.plan.Goals as goal
 use Rattle.vl_engine.specs.Merging.{HasMerge, StandsOpen}
-use Rattle.vl_version.specs.Bases as bases
-use Rattle.vl_version.specs.declared.version.Version.{Version}
 use Rattle.vl_engine.specs.Represents.{Represents}
 use Rattle.vl_engine.specs.Stepping.{Fits}
 use Rattle.vl_engine.specs.declared.kept.Core.{Core}
@@ -127,8 +124,6 @@ returns-in_ok-begin_merge-in-Ok-Some-clause-job g c h l is =
     c.in_ok-begin_merge-in-Ok-Some.ensures.merge))
 
 pub returns-in_ok-begin_merge-in-Ok-Some-clause-looks : goal.returns-in_ok-begin_merge-in-Ok-Some-clause-looks
-returns-in_ok-begin_merge-in-Ok-Some-clause-looks g c h l is reader kept =
-    let core = c.args.self.now.core in
-    subst (λ (v : Version g.row.D-Held.Denot). bases.Fits g.D.Held.HeldFile.bytes v reader)
-    (sym c.in_ok-begin_merge-in-Ok-Some.ensures.merge.version)
-    (looks_told g.D.Held.HeldFile.bytes core h l is.stands reader kept)
+returns-in_ok-begin_merge-in-Ok-Some-clause-looks g c h l is =
+    fits_readers g.D.Held.HeldFile.bytes c.args.self.now.core h l c.in-Ok-Some.inputs c.in_ok-begin_merge-in-Ok-Some.field-0
+    is.stands c.in_ok-begin_merge-in-Ok-Some.ensures.merge
