@@ -1,5 +1,5 @@
 -- What an install is made ready of, as the calls that made its parts have it.
-use Rattle.std.specs.Prelude.{◌≡◌, ◌+◌, ℕ, List, [], ◌∷◌, length, map, Option}
+use Rattle.std.specs.Prelude.{◌≡◌, ℕ, suc, List, [], ◌∷◌, length, map, Option}
 use Rattle.std.proofs.Common.{sym, ap, subst, ◌∙◌, refl}
 use Rattle.vl_back.specs.InstallStaging.{IsStagedInstall, replacing_of}
 use Rattle.vl_compact.specs.Laid.{AreLevelsOf}
@@ -22,9 +22,9 @@ use Rattle.vl_version.specs.Replacing.{IsReplaced}
 use Rattle.vl_version.specs.declared.base.Base.{Base}
 use Rattle.vl_version.specs.declared.levels.Levels.{Levels}
 
-as_many : {A B : Type 0} (f : A → B) (xs : List A) → length (map f xs) ≡ length xs
+pub as_many : {A B : Type 0} (f : A → B) (xs : List A) → length (map f xs) ≡ length xs
 as_many f [] = refl
-as_many f (x ∷ xs) = ap (λ (n : ℕ). n + 1) (as_many f xs)
+as_many f (x ∷ xs) = ap suc (as_many f xs)
 
 module _ {H R W : Type 0} (bytes : H → Option (List ℕ)) (w : Writers W) (core : Core H) {s : _} (job : Job (Base H R) H W s)
     (ready : ReadyInstall H) where
@@ -37,16 +37,16 @@ module _ {H R W : Type 0} (bytes : H → Option (List ℕ)) (w : Writers W) (cor
   pub ready_by : (gone : ℕ)
       → ((j : laid_job.Job) → HasAll w bytes (λ (b : Base H R) inputs ms. HasSources bytes b.version inputs ms) job j
       → gone ≡ gone_after 0 (needless j))
-      → (inputs made : List ℕ) (first : Option (List ℕ)) (levels : Levels H) (target : Target) (count : ℕ)
-      → inputs ≡ inputs_in → made ≡ made_in → first ≡ first_made job.made.items → levels ≡ core.version.behind.levels
-      → target ≡ job.inputs.target → count ≡ length made
+      → (inputs without made : List ℕ) (first : Option (List ℕ)) (levels : Levels H) (target : Target) (count : ℕ)
+      → inputs ≡ inputs_in → without ≡ inputs_in → made ≡ made_in → first ≡ first_made job.made.items
+      → levels ≡ core.version.behind.levels → target ≡ job.inputs.target → count ≡ length job.made.items
       → IsStagedInstall core.back (replacing_of core.back inputs made ready.levels.level ready.levels.position gone) ready.staged
       → IsReplaced bytes core.version ready.version
-      → ((ls : List (List laid.Table)) → AreLevelsOf bytes levels ls → HasPlace target inputs ls
-      → AreReady bytes target inputs first ls [] ready.levels)
+      → ((ls : List (List laid.Table)) → AreLevelsOf bytes levels ls → HasPlace target without ls
+      → AreReady bytes target without first ls [] ready.levels)
       → HasRoom count ready.levels → IsReadyFor bytes w core job ready
-  ready_by gone gone_is inputs made first levels target count inputs_are made_are first_is levels_are target_is count_is staged version
-      laid_out room = record {
+  ready_by gone gone_is inputs without made first levels target count inputs_are without_are made_are first_is levels_are target_is count_is
+      staged version laid_out room = record {
     gone = gone;
     gone_is = gone_is;
     staged = subst
@@ -57,12 +57,11 @@ module _ {H R W : Type 0} (bytes : H → Option (List ℕ)) (w : Writers W) (cor
         ready.staged) inputs_are staged);
     version = version;
     levels = λ ls are place.
-        let placed : HasPlace target inputs ls = subst (λ (t : Target). HasPlace t inputs ls) (sym target_is)
-        (subst (λ (is : List ℕ). HasPlace job.inputs.target is ls) (sym inputs_are) place) in
+        let placed : HasPlace target without ls = subst (λ (t : Target). HasPlace t without ls) (sym target_is)
+        (subst (λ (is : List ℕ). HasPlace job.inputs.target is ls) (sym without_are) place) in
         let made_ready = laid_out ls (subst (λ (lv : Levels H). AreLevelsOf bytes lv ls) (sym levels_are) are) placed in
         subst (λ (f : Option (List ℕ)). AreReady bytes job.inputs.target inputs_in f ls [] ready.levels) first_is
-        (subst (λ (is : List ℕ). AreReady bytes job.inputs.target is first ls [] ready.levels) inputs_are
-        (subst (λ (t : Target). AreReady bytes t inputs first ls [] ready.levels) target_is made_ready));
-    room = subst (λ (n : ℕ). HasRoom n ready.levels)
-        (count_is ∙ ap (λ (ms : List ℕ). length ms) made_are ∙ as_many (λ (t : Synced W s). t.number) job.made.items) room;
+        (subst (λ (is : List ℕ). AreReady bytes job.inputs.target is first ls [] ready.levels) without_are
+        (subst (λ (t : Target). AreReady bytes t without first ls [] ready.levels) target_is made_ready));
+    room = subst (λ (n : ℕ). HasRoom n ready.levels) count_is room;
   }

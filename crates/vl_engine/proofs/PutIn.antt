@@ -21,6 +21,7 @@ use Rattle.vl_engine.proofs.Fitting.{fit_for, fit_halted}
 use Rattle.vl_engine.proofs.KeptBy.{files_in_part, files_switched, fit_by}
 use Rattle.vl_engine.specs.Fit.{IsFitFor}
 use Rattle.vl_engine.specs.Installing.{InstallsAll, StopsInstalling, StopsSwitching}
+use Rattle.vl_engine.specs.Lent.{AreLent}
 use Rattle.vl_engine.specs.Taking.{StopsTaking, Takes, file_of_table, with_files}
 use Rattle.vl_engine.specs.declared.kept.Core.{Core}
 use Rattle.vl_manifest.specs.Levels.{all_tables}
@@ -85,6 +86,14 @@ install_next r s u is =
     (behind_front r.next_log r.next_table u (level_adds r.level r.position r.made)
     (Next r.next_log r.next_table ∷ gone_since s.gone r.gone)
     (behind_next r.next_log r.next_table u s.gone r.gone)) (as_draft s) is
+
+-- ---- no merge is open
+
+pub none_open : {D : Type 0} (g : Ghosts D) (disk : D) (next : ℕ) → AreLent g disk next None
+none_open g disk next o is = absurd (never is)
+  where
+    never : None ≡ Some o → ⊥
+    never e = cc
 
 -- ---- faults
 
