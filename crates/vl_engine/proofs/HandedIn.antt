@@ -1,5 +1,5 @@
 -- The files of a job that is handed in can be taken back.
-use Rattle.std.specs.Prelude.{◌≡◌, ◌<◌, ℕ, ◌||◌, ◌==◌, Bool, true, false, All, List, [], ◌∷◌, ◌++◌, map, Option, None, Some, IsSome, IsTrue}
+use Rattle.std.specs.Prelude.{◌≡◌, ◌<◌, ℕ, ◌||◌, ◌==◌, Bool, true, false, List, [], ◌∷◌, ◌++◌, map, Option, None, IsSome, IsTrue}
 use Rattle.std.specs.List.{AllByRecursion}
 use Rattle.std.specs.Option.{ForSome}
 use Rattle.std.proofs.Common.{sym, subst, ◌∙◌, arith, refl}
@@ -8,8 +8,6 @@ use Rattle.std.proofs.lemmas.List.Elements.{recursion_from_All}
 use Rattle.vl_compact.specs.declared.files.Lent.{Lent}
 use Rattle.vl_compact.specs.declared.files.Synced.{Synced}
 use Rattle.vl_compact.specs.declared.job.Job.{Job}
-use Rattle.vl_disk.specs.Disk.{IsFree}
-use Rattle.vl_disk.specs.DiskState.{DiskState}
 use Rattle.vl_disk.specs.Spare.{SameSpareElsewhere, Spare}
 use Rattle.vl_disk.specs.declared.name.Name.TheVariants.{Manifest, Table}
 use Rattle.vl_disk.specs.declared.name.Name.{Name}
@@ -69,10 +67,10 @@ module _ {D V H W : Type 0} (g : Ghosts D) (w : Writers W) (old mid : D) (next m
 
   module _ (halted : Option Name) (merging : Option OpenMerge) (lent : AreLent g old next merging)
       (handed : IsHandedIn g w old halted merging job) where
-    made : List ℕ
+    abbrev made : List ℕ
     made = map (λ (t : Synced W s). t.number) job.made.items
 
-    left : List ℕ
+    abbrev left : List ℕ
     left = map (λ (f : Lent W s). f.number) job.leavings.items
 
     all_lent : (ns : List ℕ) → AllByRecursion (IsLent g old next) handed.merge.lent.items

@@ -1,6 +1,6 @@
 -- What an install is made ready of, as the calls that made its parts have it.
 use Rattle.std.specs.Prelude.{◌≡◌, ℕ, suc, List, [], ◌∷◌, length, map, Option}
-use Rattle.std.proofs.Common.{sym, ap, subst, ◌∙◌, refl}
+use Rattle.std.proofs.Common.{sym, ap, subst, refl}
 use Rattle.vl_back.specs.InstallStaging.{IsStagedInstall, replacing_of}
 use Rattle.vl_compact.specs.Laid.{AreLevelsOf}
 use Rattle.vl_compact.specs.Places.{HasPlace}
@@ -47,21 +47,21 @@ module _ {H R W : Type 0} (bytes : H → Option (List ℕ)) (w : Writers W) (cor
       → HasRoom count ready.levels → IsReadyFor bytes w core job ready
   ready_by gone gone_is inputs without made first levels target count inputs_are without_are made_are first_is levels_are target_is count_is
       staged version laid_out room = record {
-    gone = gone;
-    gone_is = gone_is;
-    staged = subst
-        (λ (ms : List ℕ). IsStagedInstall core.back (replacing_of core.back inputs_in ms ready.levels.level ready.levels.position gone)
-        ready.staged) made_are
-        (subst
-        (λ (is : List ℕ). IsStagedInstall core.back (replacing_of core.back is made ready.levels.level ready.levels.position gone)
-        ready.staged) inputs_are staged);
-    version = version;
-    levels = λ ls are place.
-        let placed : HasPlace target without ls = subst (λ (t : Target). HasPlace t without ls) (sym target_is)
-        (subst (λ (is : List ℕ). HasPlace job.inputs.target is ls) (sym without_are) place) in
-        let made_ready = laid_out ls (subst (λ (lv : Levels H). AreLevelsOf bytes lv ls) (sym levels_are) are) placed in
-        subst (λ (f : Option (List ℕ)). AreReady bytes job.inputs.target inputs_in f ls [] ready.levels) first_is
-        (subst (λ (is : List ℕ). AreReady bytes job.inputs.target is first ls [] ready.levels) without_are
-        (subst (λ (t : Target). AreReady bytes t without first ls [] ready.levels) target_is made_ready));
-    room = subst (λ (n : ℕ). HasRoom n ready.levels) count_is room;
-  }
+        gone = gone;
+        gone_is = gone_is;
+        staged = subst
+            (λ (ms : List ℕ). IsStagedInstall core.back (replacing_of core.back inputs_in ms ready.levels.level ready.levels.position gone)
+            ready.staged) made_are
+            (subst
+            (λ (is : List ℕ). IsStagedInstall core.back (replacing_of core.back is made ready.levels.level ready.levels.position gone)
+            ready.staged) inputs_are staged);
+        version = version;
+        levels = λ ls are place.
+            let placed : HasPlace target without ls = subst (λ (t : Target). HasPlace t without ls) (sym target_is)
+            (subst (λ (is : List ℕ). HasPlace job.inputs.target is ls) (sym without_are) place) in
+            let made_ready = laid_out ls (subst (λ (lv : Levels H). AreLevelsOf bytes lv ls) (sym levels_are) are) placed in
+            subst (λ (f : Option (List ℕ)). AreReady bytes job.inputs.target inputs_in f ls [] ready.levels) first_is
+            (subst (λ (is : List ℕ). AreReady bytes job.inputs.target is first ls [] ready.levels) without_are
+            (subst (λ (t : Target). AreReady bytes t without first ls [] ready.levels) target_is made_ready));
+        room = subst (λ (n : ℕ). HasRoom n ready.levels) count_is room;
+      }

@@ -72,11 +72,13 @@ module _ (log next : ℕ) (u : ManifestState) where
   behind_front : (es fs : List Edit) → ((d : VersionBuilder) → finish (all_applied fs d) ≡ Some u → u.next_table ≡ next)
       → (d : VersionBuilder) → finish (all_applied (es ++ fs) d) ≡ Some u → u.next_table ≡ next
   behind_front [] fs later d is = later d is
-  behind_front (e ∷ es) fs later d is = by (applied e d) is
+  behind_front (e ∷ es) fs later d is = by (applied e d) (behind_front es fs later) is
     where
-      by : (o : Option VersionBuilder) → finish (then_applied (all_applied (es ++ fs)) o) ≡ Some u → u.next_table ≡ next
-      by None none = absurd cc
-      by (Some f) is = behind_front es fs later f is
+      by : (o : Option VersionBuilder)
+          → ((f : VersionBuilder) → finish (all_applied (es ++ fs) f) ≡ Some u → u.next_table ≡ next)
+          → finish (then_applied (all_applied (es ++ fs)) o) ≡ Some u → u.next_table ≡ next
+      by None rest none = absurd cc
+      by (Some f) rest is = rest f is
 
 -- Behind an install's switch the next table is the one that this says.
 pub install_next : (r : Replacing) (s u : ManifestState) → next_state (install_switch r s) s ≡ Some u → u.next_table ≡ r.next_table

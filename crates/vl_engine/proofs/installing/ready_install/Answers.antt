@@ -1,7 +1,6 @@
-use Rattle.std.proofs.Common.{List, ap, length, map, ◌∙◌, ℕ}
+use Rattle.std.proofs.Common.{ap, length, map, ◌∙◌}
 use Rattle.std.specs.Option.{option_copied}
 use Rattle.vl_compact.specs.declared.files.Synced.{Synced}
-use Rattle.vl_compact.specs.declared.inputs.Inputs.{Inputs}
 use Rattle.vl_engine.proofs.InstallReady.{as_many, ready_by}
 use Rattle.vl_engine.specs.Installing.{first_made}
 use Rattle.vl_table.specs.Tables.{number_of}
@@ -16,5 +15,6 @@ returns-clause-ready g c =
     c.inputs-2.result.now.target c.len.result
     (c.deref-3.ensures.value ∙ inputs_are) (c.deref-2.ensures.value ∙ inputs_are) (c.deref-4.ensures.value ∙ made_are)
     (c.first_key.ensures ∙ ap first_made c.made-2.ensures) c.levels.ensures (ap (λ i. i.target) c.inputs-2.ensures)
-    (c.len.ensures ∙ c.in_ok-made.made.ok.0 ∙ ap (λ ns. length ns) made_are ∙ as_many (λ (t : Synced _ _). t.number) c.args.job.now.made.items)
+    (c.len.ensures ∙ c.in_ok-made.made.ok.0 ∙ ap (λ ns. length ns) made_are
+    ∙ as_many (λ (t : Synced _ _). t.number) c.args.job.now.made.items)
     c.in_ok-staged.ensures.staged c.in_ok-version.ensures c.in_ok-levels.ensures.ready c.in_ok-levels.ensures.room
