@@ -17,6 +17,7 @@ pub mod Flushed
 pub mod Halted
 pub mod HandedIn
 pub mod Headed
+pub mod InstallReady
 pub mod KeepSteps
 pub mod KeptBy
 pub mod Knowing
@@ -26,6 +27,7 @@ pub mod LendsNew
 pub mod Merged
 pub mod Opened
 pub mod Planning
+pub mod PutIn
 pub mod ReadingPast
 pub mod Represented
 pub mod RotateFit
