@@ -17,6 +17,9 @@ pub mod Flushed
 pub mod Halted
 pub mod HandedIn
 pub mod Headed
+pub mod InstallExits
+pub mod InstallKeeps
+pub mod InstallPut
 pub mod KeepSteps
 pub mod KeptBy
 pub mod Knowing

@@ -1,5 +1,5 @@
 -- What an install does, whatever the engine stands for: to the disk, and in memory.
-use Rattle.std.specs.Prelude.{◌≡◌, ◌≢◌, ◌⊎◌, ℕ, ◌+◌, ◌-◌, ◌^◌, true, List, [], ◌∷◌, ◌++◌, length, map, min, Option, None, Some, IsSome, Result, Ok, Err}
+use Rattle.std.specs.Prelude.{◌≡◌, ◌≢◌, ◌⊎◌, ℕ, ◌+◌, ◌-◌, ◌^◌, false, nat_le, true, List, [], ◌∷◌, ◌++◌, length, map, min, Option, None, Some, IsSome, Result, Ok, Err}
 use Rattle.std.specs.Arc.{arc_value}
 use Rattle.std.specs.List.{AllByRecursion}
 use Rattle.std.specs.Option.{ForSome}
@@ -38,7 +38,10 @@ use Rattle.vl_layout.specs.declared.job.Target.{Target}
 use Rattle.vl_layout.specs.declared.layout.Layout.{Layout}
 use Rattle.vl_layout.specs.declared.table.Table as laid
 use Rattle.vl_manifest.specs.Switching.{Switches}
+use Rattle.vl_model.specs.Limits.{max_version_number}
 use Rattle.vl_model.specs.Numbers.{has}
+use Rattle.vl_model.specs.declared.counter.Counter.TheVariants as counters
+use Rattle.vl_model.specs.declared.counter.Counter.{Counter}
 use Rattle.vl_table.specs.Tables.{number_of}
 use Rattle.vl_version.specs.Bases.{HasSources}
 use Rattle.vl_version.specs.Replacing.{IsReplaced}
@@ -170,6 +173,30 @@ InstallsAs g bytes w job old new before after (Err (install.Exhausted counter)) 
 InstallsAs g bytes w job old new before after (Err (install.NoMemory back)) =
     (back ≡ job) × (after ≡ before) × ChangesNothing g old new ⊥
 InstallsAs g bytes w job old new before after (Err (install.Disk name)) = IsUninstalled g bytes w job old new before after name
+
+-- No version number is left, and nothing was done.
+pub record IsUsedUp {D H : Type 0} (old new : D) (before after : Core H) (counter : Counter) : Type 0 where
+  pub counter_is : counter ≡ counters.Version
+  pub used : nat_le max_version_number before.back.version_number ≡ true
+  pub disk : new ≡ old
+  pub core : after ≡ before
+
+-- a version number is left
+abbrev pub HasVersion : {H : Type 0} → Core H → Type 0
+HasVersion core = nat_le max_version_number core.back.version_number ≡ false
+
+-- so it is where a version number may be wanting, too
+abbrev pub InstallsUnraced : {D H R W : Type 0} → Ghosts D → (H → Option (List ℕ)) → Writers W → {s : _} → Job (Base H R) H W s
+    → (old new : D) → (before after : Core H) → Result (Unit {0}) (InstallFail (Base H R) H W s) → Type 0
+InstallsUnraced g bytes w job old new before after (Ok done) =
+    HasVersion before × IsInstalled g bytes w job old new before after
+InstallsUnraced g bytes w job old new before after (Err (install.Halted name)) = ⊥
+InstallsUnraced g bytes w job old new before after (Err (install.Raced key number)) = ⊥
+InstallsUnraced g bytes w job old new before after (Err (install.Exhausted counter)) = IsUsedUp old new before after counter
+InstallsUnraced g bytes w job old new before after (Err (install.NoMemory back)) =
+    (back ≡ job) × (after ≡ before) × ChangesNothing g old new ⊥
+InstallsUnraced g bytes w job old new before after (Err (install.Disk name)) =
+    HasVersion before × IsUninstalled g bytes w job old new before after name
 
 -- ---- what is answered
 
