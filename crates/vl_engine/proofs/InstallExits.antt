@@ -1,9 +1,10 @@
 -- What an install comes to, at each of its exits, by the ruling on it.
-use Rattle.std.specs.Prelude.{◌≡◌, ◌≢◌, ◌==◌, ◌||◌, ℕ, Bool, true, nat_le, List, [], ◌∷◌, ◌++◌, length, map, if◌then◌else◌, false, Option, None, Some, Result, Ok, Err, OnOk, refl}
+use Rattle.std.specs.Prelude.{◌≡◌, ◌≢◌, ◌==◌, ◌||◌, ◌≤◌, ℕ, zero, suc, Bool, true, nat_le, List, [], ◌∷◌, ◌++◌, length, map, if◌then◌else◌, false, Option, None, Some, Result, Ok, Err, OnOk, refl}
 use Rattle.std.specs.FinMap.{get}
 use Rattle.std.specs.Option.{ForSome, option_map}
 use Rattle.std.proofs.Common.{sym, ap, subst, arith, append_assoc, ◌∙◌, ⊎_elim}
 use Rattle.std.proofs.lemmas.Bool.Decides.{nat_tests}
+use Rattle.vl_back.specs.InstallStaging.{replacing_of}
 use Rattle.vl_back.specs.Writing.{IsKept}
 use Rattle.vl_compact.specs.Progress.{made_of}
 use Rattle.vl_compact.specs.declared.files.Synced.{Synced}
@@ -14,6 +15,7 @@ use Rattle.vl_disk.specs.Disk.{IsChangedBy}
 use Rattle.vl_disk.specs.DiskState.{DiskState, File, appended, lengthened, synced_file, with_file}
 use Rattle.vl_disk.specs.Faults.{after_calls}
 use Rattle.vl_disk.specs.Lending.{adopted}
+use Rattle.vl_disk.specs.Performs.{FailedAt, StopsAmong, calls_on}
 use Rattle.vl_disk.specs.declared.name.Name.TheVariants as names
 use Rattle.vl_disk.specs.declared.name.Name.{Name}
 use Rattle.vl_disk.specs.declared.watched.Watched.{Ghosts}
@@ -22,11 +24,12 @@ use Rattle.vl_disk.specs.laws.NameMap.{get_inserted_other, get_removed_other, sa
 use Rattle.vl_engine.proofs.Carrying.{IsWatched, carries_leaving, carries_no_memory, extends_itself}
 use Rattle.vl_engine.proofs.Committing.{decides_answered, decides_failed, decides_leaving, decides_short}
 use Rattle.vl_engine.proofs.Flushed.{runs_on}
+use Rattle.vl_engine.proofs.InstallKeeps.{log_installed}
 use Rattle.vl_engine.proofs.InstallPut.{stands_lost, stands_put}
 use Rattle.vl_engine.proofs.Planning.{fits_abandoned, represents_abandoned, stands_abandoned}
 use Rattle.vl_engine.proofs.Untouched.{alone}
-use Rattle.vl_engine.specs.Carries.{Carries}
-use Rattle.vl_engine.specs.Installing.{HandsBack, HasVersion, InstallLeavesDisk, InstallsUnraced, IsAtInstall, IsHandedIn, IsInstalled, IsUninstalled, KeepsAllBut, StopsInstalling, StopsSwitching, install_otherwise}
+use Rattle.vl_engine.specs.Carries.{Carries, StaysUntold}
+use Rattle.vl_engine.specs.Installing.{HandsBack, HasVersion, InstallFailed, InstallLeavesDisk, InstallsUnraced, IsHandedIn, IsInstalled, IsUninstalled, KeepsAllBut, MayInstall, StopsInstall, StopsInstalling, StopsSwitching, WritesInstall, at_manifest, at_table, install_otherwise}
 use Rattle.vl_engine.specs.Lent.{IsOpenAs, Opens}
 use Rattle.vl_engine.specs.Merging.{HasAllMerge, StandsOpen, install_effects, install_outcome, made_numbers}
 use Rattle.vl_engine.specs.Represents.{Represents, file_of}
@@ -47,12 +50,14 @@ use Rattle.vl_layout.specs.declared.job.Job.{Job}
 use Rattle.vl_layout.specs.declared.job.OpenJob.{OpenJob}
 use Rattle.vl_layout.specs.declared.layout.Layout.{Layout}
 use Rattle.vl_manifest.specs.Switching.{switched}
+use Rattle.vl_manifest.specs.declared.state.ManifestState.{ManifestState}
 use Rattle.vl_model.specs.Conflicts.{Named}
 use Rattle.vl_model.specs.History.{Extends, History}
 use Rattle.vl_model.specs.Limits.{max_version_number}
 use Rattle.vl_model.specs.Numbers.{has}
 use Rattle.vl_model.specs.declared.counter.Counter.TheVariants as counters
 use Rattle.vl_model.specs.declared.counter.Counter.{Counter}
+use Rattle.vl_table.specs.Tables.{number_of}
 use Rattle.vl_version.specs.declared.base.Base.{Base}
 
 -- ---- what the ruling is
@@ -82,12 +87,12 @@ opens_as merging merge job o is opened opens =
 
 module _ {D H R W : Type 0} (g : Ghosts D) (bytes : H → Option (List ℕ)) (w : Writers W) {s : _}
     (job : Merging (Base H R) H W s) (old : D) (before : Core H) (merging : Option OpenMerge) (h : History) (l : Layout)
-    (o : OpenJob) (is : StandsOpen bytes before merging h l) (opened : l.job ≡ Some o) (has : HasAllMerge w bytes job o.job)
+    (o : OpenJob) (is : StandsOpen bytes before merging h l) (opened : l.job ≡ Some o) (whole : HasAllMerge w bytes job o.job)
     (lent : AreLent o.lent (made_of job o.job)) where
-  abbrev made : Made
+  abbrev pub made : Made
   made = made_of job o.job
 
-  abbrev rules : Ruling InstallAnswer
+  abbrev pub rules : Ruling InstallAnswer
   rules = install_ruling l h o.job made
 
   -- ---- before anything is tried
@@ -103,7 +108,7 @@ module _ {D H R W : Type 0} (g : Ghosts D) (bytes : H → Option (List ℕ)) (w 
       → ForSome merging (λ (m : OpenMerge). (j : Job) → HasAllMerge w bytes job j → named ≡ race j m.moved.items)
       → race o.job o.moved ≡ named
   raced_so handed named told =
-      sym (told handed.merge handed.is_open o.job has
+      sym (told handed.merge handed.is_open o.job whole
       ∙ ap (race o.job) (opens_as merging handed.merge l.job o handed.is_open opened is.opens).moved)
 
   -- or a deletion that it dropped was moved meanwhile.
@@ -115,11 +120,11 @@ module _ {D H R W : Type 0} (g : Ghosts D) (bytes : H → Option (List ℕ)) (w 
   -- ---- where it ends before anything was written
 
   module _ (answer : InstallAnswer) (ruled : leaving answer h (job_ended made l) ≡ rules) where
-    pub stands_ended : (then : Option OpenMerge) → then ≡ None
-        → Decides (StandsOpen bytes before then) h l rules (install_otherwise l made) (Answered answer) no_effects
-    stands_ended then none =
-        decides_leaving (StandsOpen bytes before then) h l rules (install_otherwise l made) answer (job_ended made l) ruled
-        (stands_abandoned bytes before h l o made opened lent then none is.stands)
+    pub stands_ended : (left : Option OpenMerge) → left ≡ None
+        → Decides (StandsOpen bytes before left) h l rules (install_otherwise l made) (Answered answer) no_effects
+    stands_ended left none =
+        decides_leaving (StandsOpen bytes before left) h l rules (install_otherwise l made) answer (job_ended made l) ruled
+        (stands_abandoned bytes before h l o made opened lent left none is.stands)
 
     pub carries_ended : IsWatched g → Represents bytes before (g.told old) h l
         → Carries g bytes old old before h l rules (install_otherwise l made) (Answered answer) no_effects
@@ -178,34 +183,34 @@ module _ {D H R W : Type 0} (g : Ghosts D) (bytes : H → Option (List ℕ)) (w 
     }
 
     module _ (new : D) (after : Core H) where
-      pub stands_by : (state : DiskState) → g.told old ≡ Some state → (l.halted ≡ None → AreLogFiles l) → (then : Option OpenMerge)
+      pub stands_by : (state : DiskState) → g.told old ≡ Some state → (l.halted ≡ None → AreLogFiles l) → (left : Option OpenMerge)
           → (result : Result (Unit {0}) (InstallFail (Base H R) H W s)) → InstallsUnraced g bytes w job old new before after result
-          → HandsBack job merging then result
-          → Decides (StandsOpen bytes after then) h l rules (install_otherwise l made) (install_outcome result)
+          → HandsBack job merging left result
+          → Decides (StandsOpen bytes after left) h l rules (install_otherwise l made) (install_outcome result)
           (install_effects result)
-      stands_by state told files then (Ok done) did over =
-          subst (λ (r : Ruling InstallAnswer). Decides (StandsOpen bytes after then) h l r (install_otherwise l made)
+      stands_by state told files left (Ok done) did over =
+          subst (λ (r : Ruling InstallAnswer). Decides (StandsOpen bytes after left) h l r (install_otherwise l made)
           (Answered Installed) (record no_effects { calls = 2 })) (install_made_so l h o made (goes_on did.0))
-          (decides_answered (StandsOpen bytes after then) h l (install_made l h o made) (install_otherwise l made) Installed
+          (decides_answered (StandsOpen bytes after left) h l (install_made l h o made) (install_otherwise l made) Installed
           (record no_effects { calls = 2 }) refl refl (record {
-            stands = stands_put g bytes w job old new before after h l o is.stands opened has state told
+            stands = stands_put g bytes w job old new before after h l o is.stands opened whole state told
                 (handed.tells none state told) did.1 (goes_on did.0) lent (files running);
             opens = subst (λ (m : Option OpenMerge). Opens m None) (sym over) tt;
           }))
-      stands_by state told files then (Err (install.Halted name)) did over = absurd did
-      stands_by state told files then (Err (install.Raced key number)) did over = absurd did
-      stands_by state told files then (Err (install.Exhausted counter)) did over =
-          subst (λ (c : Core H). Decides (StandsOpen bytes c then) h l rules (install_otherwise l made)
+      stands_by state told files left (Err (install.Halted name)) did over = absurd did
+      stands_by state told files left (Err (install.Raced key number)) did over = absurd did
+      stands_by state told files left (Err (install.Exhausted counter)) did over =
+          subst (λ (c : Core H). Decides (StandsOpen bytes c left) h l rules (install_otherwise l made)
           (Answered (ruling.Exhausted counter)) no_effects) (sym did.core)
-          (stands_ended (ruling.Exhausted counter) (ruled_used counter did.counter_is did.used) then over)
-      stands_by state told files then (Err (install.NoMemory back)) did over =
+          (stands_ended (ruling.Exhausted counter) (ruled_used counter did.counter_is did.used) left over)
+      stands_by state told files left (Err (install.NoMemory back)) did over =
           subst (λ (m : Option OpenMerge). Decides (StandsOpen bytes after m) h l rules (install_otherwise l made) NoMemory
           no_effects) (sym over.1)
           (subst (λ (c : Core H). Decides (StandsOpen bytes c merging) h l rules (install_otherwise l made) NoMemory no_effects)
           (sym did.1) stands_short)
-      stands_by state told files then (Err (install.Disk name)) did over =
-          decides_failed (StandsOpen bytes after then) h l rules (install_lost made l) (file_of name) no_effects running (record {
-            stands = stands_lost g bytes w job old new before after h l o is.stands opened has name lent did.1;
+      stands_by state told files left (Err (install.Disk name)) did over =
+          decides_failed (StandsOpen bytes after left) h l rules (install_lost made l) (file_of name) no_effects running (record {
+            stands = stands_lost g bytes w job old new before after h l o is.stands opened whole name lent did.1;
             opens = subst (λ (m : Option OpenMerge). Opens m None) (sym over) tt;
           })
 
@@ -303,23 +308,41 @@ has_number {W} {s} (t ∷ before) left at =
     or_true true = refl
     or_true false = refl
 
+-- of two calls on a file the last that was made failed
+two_calls : (name : Name) (before now : ℕ) → StopsAmong 2 before now → FailedAt (calls_on 2 name) before now name
+two_calls name before now (n, least, most, is) = by n least most is
+  where
+    by : (n : ℕ) → 1 ≤ n → n ≤ 2 → now ≡ after_calls n before → FailedAt (calls_on 2 name) before now name
+    by zero least most is = absurd (omega (arith, least))
+    by (suc zero) least most is = record { front = []; back = name ∷ []; files_are = refl; calls = is }
+    by (suc (suc zero)) least most is = record { front = name ∷ []; back = []; files_are = refl; calls = is }
+    by (suc (suc (suc n))) least most is = absurd (omega (arith, most))
+
 module _ {D H R W : Type 0} (g : Ghosts D) (bytes : H → Option (List ℕ)) (w : Writers W) {s : _}
     (job : Merging (Base H R) H W s) (old new : D) (before after : Core H) where
-  at_install : (begun : D) {frame : List ℕ} {ready levels : _} (name : Name)
-      → StopsInstalling g bytes w job.made.items before.back.manifest.number frame begun new ready levels name
-      → IsAtInstall job before.back.manifest.number name
-  at_install begun {frame} {ready} {levels} name stops = ⊎_elim
-      (λ (at : StopsTaking g w job.made.items begun new name).
-      subst (IsAtInstall job before.back.manifest.number) (sym at.name_is)
-      (subst (λ (ts : List (Synced W s)). has at.at.number (map (λ (t : Synced W s). t.number) ts) ≡ true) (sym at.made_are)
-      (has_number at.before at.left at.at)))
-      (λ (at : StopsSwitching g bytes w job.made.items before.back.manifest.number frame begun new ready levels name).
-      subst (IsAtInstall job before.back.manifest.number) (sym at.name_is) refl)
-      stops
+  abbrev manifest : ℕ
+  manifest = before.back.manifest.number
+
+  stops_at : (name : Name) → IsUninstalled g bytes w job old new before after name
+      → StopsInstall job manifest (g.calls old) (g.calls new) name
+  stops_at name did = ⊎_elim
+      (λ (stop : StopsTaking g w job.made.items did.begun new name).
+      at_table stop.at.number stop.name_is
+      (subst (λ (ts : List (Synced W s)). has stop.at.number (map (λ (t : Synced W s). t.number) ts) ≡ true) (sym stop.made_are)
+      (has_number stop.before stop.left stop.at))
+      (stop.takes.calls ∙ did.unchanged.calls))
+      (λ (stop : StopsSwitching g bytes w job.made.items manifest did.ready.staged.edits.frame.items did.begun new
+      did.ready.levels did.levels name).
+      at_manifest (subst (λ (n : Name). FailedAt (calls_on 2 (names.Manifest manifest)) (g.calls old) (g.calls new) n)
+      (sym stop.name_is)
+      (subst (λ (c : ℕ). FailedAt (calls_on 2 (names.Manifest manifest)) c (g.calls new) (names.Manifest manifest))
+      (stop.took.takes.calls ∙ did.unchanged.calls)
+      (two_calls (names.Manifest manifest) (g.calls stop.mid) (g.calls new) stop.switches.performs.stops))))
+      did.stops
 
   pub stopped_by : (result : Result (Unit {0}) (InstallFail (Base H R) H W s))
       → InstallsUnraced g bytes w job old new before after result → (name : Name) → result ≡ Err (install.Disk name)
-      → IsAtInstall job before.back.manifest.number name
+      → StopsInstall job manifest (g.calls old) (g.calls new) name
   stopped_by (Ok done) did name failed = absurd cc
   stopped_by (Err (install.Halted at)) did name failed = absurd did
   stopped_by (Err (install.Raced key number)) did name failed = absurd did
@@ -327,7 +350,58 @@ module _ {D H R W : Type 0} (g : Ghosts D) (bytes : H → Option (List ℕ)) (w 
   stopped_by (Err (install.NoMemory back)) did name failed = absurd cc
   stopped_by (Err (install.Disk at)) did name failed =
       let same : at ≡ name = cc in
-      subst (IsAtInstall job before.back.manifest.number) same (at_install did.1.begun at did.1.stops)
+      subst (StopsInstall job manifest (g.calls old) (g.calls new)) same (stops_at at did.1)
+
+  -- where it may fail,
+  pub failed_by : before.front.halted ≡ None → (result : Result (Unit {0}) (InstallFail (Base H R) H W s))
+      → InstallsUnraced g bytes w job old new before after result → InstallFailed result → MayInstall before
+  failed_by none (Ok done) did failed = absurd failed
+  failed_by none (Err (install.Halted at)) did failed = absurd did
+  failed_by none (Err (install.Raced key number)) did failed = absurd did
+  failed_by none (Err (install.Exhausted counter)) did failed = absurd failed
+  failed_by none (Err (install.NoMemory back)) did failed = absurd failed
+  failed_by none (Err (install.Disk at)) did failed =
+      let left : nat_le max_version_number before.back.version_number ≡ false = did.0 in
+      record { running = none; version = grind (arith, nat_tests, left) }
+
+  -- and what was written by then.
+  pub meanwhile_by : (result : Result (Unit {0}) (InstallFail (Base H R) H W s))
+      → InstallsUnraced g bytes w job old new before after result → InstallFailed result
+      → WritesInstall g bytes w job before old new
+  meanwhile_by (Ok done) did failed = absurd failed
+  meanwhile_by (Err (install.Halted at)) did failed = absurd did
+  meanwhile_by (Err (install.Raced key number)) did failed = absurd did
+  meanwhile_by (Err (install.Exhausted counter)) did failed = absurd failed
+  meanwhile_by (Err (install.NoMemory back)) did failed = absurd failed
+  meanwhile_by (Err (install.Disk at)) did failed = record {
+    ready = did.1.ready;
+    is_ready = did.1.is_ready;
+    begun = did.1.begun;
+    unchanged = did.1.unchanged;
+    levels = did.1.levels;
+    name = at;
+    stops = did.1.stops;
+  }
+
+  -- Where it was refused or done, the manifest gives the next log no number above that which it gets.
+  pub within_by : (result : Result (Unit {0}) (InstallFail (Base H R) H W s))
+      → InstallsUnraced g bytes w job old new before after result → (InstallFailed result → ⊥)
+      → before.back.state.next_log ≤ before.back.next_log → after.back.state.next_log ≤ after.back.next_log
+  within_by (Ok done) did fine within =
+      let said = log_installed
+      (replacing_of before.back (map number_of job.inputs.tables.items) (map (λ (t : Synced W s). t.number) job.made.items)
+      did.1.ready.levels.level did.1.ready.levels.position did.1.is_ready.gone)
+      before.back.state did.1.ready.staged.state did.1.is_ready.staged.says in
+      let state = ap (λ (x : ManifestState). x.next_log) did.1.back.state in
+      let log = did.1.back.next_log in
+      omega (arith, said, state, log)
+  within_by (Err (install.Halted name)) did fine within = absurd did
+  within_by (Err (install.Raced key number)) did fine within = absurd did
+  within_by (Err (install.Exhausted counter)) did fine within =
+      subst (λ (c : Core H). c.back.state.next_log ≤ c.back.next_log) (sym did.core) within
+  within_by (Err (install.NoMemory back)) did fine within =
+      subst (λ (c : Core H). c.back.state.next_log ≤ c.back.next_log) (sym did.1) within
+  within_by (Err (install.Disk name)) did fine within = absurd (fine tt)
 
 -- ---- which files stand
 
@@ -385,8 +459,8 @@ then_kept tables old mid new first second = record {
     twice (Some disk) = refl
 
 keeps_changed : (tables : List ℕ) (old new : Option DiskState) → IsChangedKept tables old new → KeepsAllBut tables old new
-keeps_changed tables old new is disk now was then name beside =
-    subst (IsKept name disk) (one (is.change disk) now (sym (is.changed ∙ ap (option_map is.change) was) ∙ then))
+keeps_changed tables old new is disk now was left name beside =
+    subst (IsKept name disk) (one (is.change disk) now (sym (is.changed ∙ ap (option_map is.change) was) ∙ left))
     (is.kept disk name beside)
   where
     one : (a b : DiskState) → Some a ≡ Some b → a ≡ b
@@ -484,21 +558,23 @@ module _ {D H R W : Type 0} (g : Ghosts D) (bytes : H → Option (List ℕ)) (w 
       }))
       stops
 
-  pub files_by : (result : Result (Unit {0}) (InstallFail (Base H R) H W s))
-      → InstallsUnraced g bytes w job old new before after result → KeepsAllBut (made_numbers job) (g.told old) (g.told new)
-  files_by (Ok done) did =
+  put_kept : IsInstalled g bytes w job old new before after → IsChangedKept ours (g.told old) (g.told new)
+  put_kept did =
       let manifest = names.Manifest before.back.manifest.number in
-      let writes = did.1.writes in
-      let frame = did.1.ready.staged.edits.frame.items in
-      keeps_changed ours (g.told old) (g.told new)
-      (then_kept ours (g.told old) (g.told did.1.begun) (g.told new) (quiet_kept did.1.begun did.1.unchanged)
-      (then_kept ours (g.told did.1.begun) (g.told writes.mid) (g.told new) (took_kept did.1.begun writes.mid writes.took) (record {
+      let frame = did.ready.staged.edits.frame.items in
+      let mid = did.writes.mid in
+      then_kept ours (g.told old) (g.told did.begun) (g.told new) (quiet_kept did.begun did.unchanged)
+      (then_kept ours (g.told did.begun) (g.told mid) (g.told new) (took_kept did.begun mid did.writes.took) (record {
         change = switched before.back.manifest.number frame;
-        changed = writes.switches.performs.done;
+        changed = did.writes.switches.performs.done;
         kept = λ disk name beside. kept_then name disk (appended manifest frame (length frame) disk)
             (switched before.back.manifest.number frame disk) (changed_kept manifest (lengthened frame (length frame)) disk name)
             (changed_kept manifest synced_file (appended manifest frame (length frame) disk) name);
-      })))
+      }))
+
+  pub files_by : (result : Result (Unit {0}) (InstallFail (Base H R) H W s))
+      → InstallsUnraced g bytes w job old new before after result → KeepsAllBut (made_numbers job) (g.told old) (g.told new)
+  files_by (Ok done) did = keeps_changed ours (g.told old) (g.told new) (put_kept did.1)
   files_by (Err (install.Halted name)) did = absurd did
   files_by (Err (install.Raced key number)) did = absurd did
   files_by (Err (install.Exhausted counter)) did =
@@ -508,3 +584,11 @@ module _ {D H R W : Type 0} (g : Ghosts D) (bytes : H → Option (List ℕ)) (w 
       keeps_changed ours (g.told old) (g.told new)
       (then_kept ours (g.told old) (g.told did.1.begun) (g.told new) (quiet_kept did.1.begun did.1.unchanged)
       (stops_kept did.1.begun name did.1.stops))
+
+  -- What told nothing goes on telling nothing.
+  pub untold_by : (result : Result (Unit {0}) (InstallFail (Base H R) H W s))
+      → InstallsUnraced g bytes w job old new before after result → OnOk result (StaysUntold (g.told old) (g.told new))
+  untold_by (Ok done) did untold =
+      let put = put_kept did.1 in
+      put.changed ∙ ap (option_map put.change) untold
+  untold_by (Err why) did = tt

@@ -1,9 +1,9 @@
--- An install's switch says nothing of how many versions are kept.
+-- An install's switch says nothing of how many versions are kept, and the next log as it is.
 use Rattle.std.specs.Prelude.{◌≡◌, ◌==◌, ◌&&◌, ℕ, ◌+◌, Bool, true, false, not, if◌then◌else◌, List, [], ◌∷◌, ◌++◌, map, Option, None, Some, refl}
 use Rattle.std.specs.List.{AllByRecursion, filter}
 use Rattle.std.specs.Option.{option_map}
 use Rattle.std.proofs.Common.{sym, ap, ◌∙◌}
-use Rattle.vl_back.specs.InstallEdits.{Replacing, gone_since, install_switch}
+use Rattle.vl_back.specs.InstallEdits.{Replacing, drops_of, gone_since, install_switch}
 use Rattle.vl_engine.proofs.FlushKeeps.{KeepsAsMany}
 use Rattle.vl_manifest.specs.Levels.{all_tables, is_in, put_at, taken_out}
 use Rattle.vl_manifest.specs.States.{all_applied, applied, are_next, as_draft, finish, finished, given_if, is_file_number, is_gone, is_head, level_adds, next_state, then_applied, with_both, with_levels}
@@ -52,15 +52,16 @@ edit_kept (Gone number) d other = given_kept d (record d { gone = number }) (is_
 
 all_kept : (es : List Edit) (d : VersionBuilder) → AllByRecursion IsOther es → AreKept d (all_applied es d)
 all_kept [] d others = (refl, refl)
-all_kept (e ∷ es) d others = by (applied e d) (edit_kept e d others.0)
+all_kept (e ∷ es) d others = by (applied e d) (edit_kept e d others.0) (λ x. all_kept es x others.1)
   where
-    then : (x : VersionBuilder) → AreKept d (Some x) → (o : Option VersionBuilder) → AreKept x o → AreKept d o
-    then x kept None more = tt
-    then x kept (Some y) more = (more.0 ∙ kept.0, more.1 ∙ kept.1)
+    further : (x : VersionBuilder) → AreKept d (Some x) → (o : Option VersionBuilder) → AreKept x o → AreKept d o
+    further x kept None more = tt
+    further x kept (Some y) more = (more.0 ∙ kept.0, more.1 ∙ kept.1)
 
-    by : (o : Option VersionBuilder) → AreKept d o → AreKept d (then_applied (all_applied es) o)
-    by None kept = tt
-    by (Some x) kept = then x kept (all_applied es x) (all_kept es x others.1)
+    by : (o : Option VersionBuilder) → AreKept d o → ((x : VersionBuilder) → AreKept x (all_applied es x))
+        → AreKept d (then_applied (all_applied es) o)
+    by None kept rest = tt
+    by (Some x) kept rest = further x kept (all_applied es x) (rest x)
 
 module _ (s u : ManifestState) where
   finished_kept : (d : VersionBuilder) → AreKept (as_draft s) (Some d) → finished d ≡ Some u → KeepsAsMany s u
@@ -111,3 +112,58 @@ kept_installed r s u is = kept_behind s u (install_switch r s)
     (adds_other r.level r.position r.made (Next r.next_log r.next_table ∷ gone_since s.gone r.gone)
     (tt, gone_other s.gone r.gone)))
     is
+
+-- ---- the next log
+
+-- what is so of whatever edits make behind others is so behind these
+behind_front : (P : Option VersionBuilder → Type 0) → P None → (rest : List Edit)
+    → ((d : VersionBuilder) → P (all_applied rest d)) → (front : List Edit) (d : VersionBuilder) → P (all_applied (front ++ rest) d)
+behind_front P none rest each [] d = each d
+behind_front P none rest each (e ∷ front) d = by (applied e d) (λ x. behind_front P none rest each front x)
+  where
+    by : (o : Option VersionBuilder) → ((x : VersionBuilder) → P (all_applied (front ++ rest) x))
+        → P (then_applied (all_applied (front ++ rest)) o)
+    by None more = none
+    by (Some x) more = more x
+
+module _ (log table : ℕ) (u : ManifestState) where
+  abbrev SaysLog : Option VersionBuilder → Type 0
+  SaysLog o = finish o ≡ Some u → u.next_log ≡ log
+
+  said_log : (d : VersionBuilder) → d.next ≡ Some (log, table) → SaysLog (Some d)
+  said_log d next is = by d.head (ap (with_both d d.head) (sym next) ∙ is)
+    where
+      same : (a b : ManifestState) → Some a ≡ Some b → a ≡ b
+      same a b e = cc
+
+      by : (head : Option (ℕ × ℕ)) → with_both d head (Some (log, table)) ≡ Some u → u.next_log ≡ log
+      by None is = absurd cc
+      by (Some head) is = ap (λ (o : ManifestState). o.next_log) (sym (same _ u is))
+
+  next_log_said : (before after : ℕ) (d : VersionBuilder) → SaysLog (all_applied (Next log table ∷ gone_since before after) d)
+  next_log_said before after d = by (are_next log table) (before == after)
+    where
+      none : SaysLog None
+      none is = absurd cc
+
+      gone : (b : Bool) (x : VersionBuilder) → x.next ≡ Some (log, table)
+          → SaysLog (then_applied (all_applied []) (given_if b (record x { gone = after })))
+      gone true x next = said_log (record x { gone = after }) next
+      gone false x next = none
+
+      by : (fits same : Bool)
+          → SaysLog (then_applied (all_applied (if same then [] else Gone after ∷ [])) (given_if fits (record d { next = Some (log, table) })))
+      by true true = said_log (record d { next = Some (log, table) }) refl
+      by true false = gone (is_gone after) (record d { next = Some (log, table) }) refl
+      by false same = none
+
+-- Behind an install's switch it is the one that this says.
+pub log_installed : (r : Replacing) (s u : ManifestState) → next_state (install_switch r s) s ≡ Some u → u.next_log ≡ r.next_log
+log_installed r s u = behind_front (SaysLog r.next_log r.next_table u) (λ is. absurd cc)
+    (level_adds r.level r.position r.made ++ rest)
+    (λ d. behind_front (SaysLog r.next_log r.next_table u) (λ is. absurd cc) rest
+    (λ x. next_log_said r.next_log r.next_table u s.gone r.gone x) (level_adds r.level r.position r.made) d)
+    (drops_of r.inputs (all_tables s.levels)) (as_draft s)
+  where
+    rest : List Edit
+    rest = Next r.next_log r.next_table ∷ gone_since s.gone r.gone

@@ -3,6 +3,7 @@ use Rattle.std.specs.Prelude.{◌≡◌, ℕ, ◌+◌, List, [], ◌∷◌, leng
 use Rattle.std.specs.List.{AllZip}
 use Rattle.std.specs.Option.{option_map}
 use Rattle.std.proofs.Common.{sym, ap, subst, arith, append-nil, ◌∙◌}
+use Rattle.vl_back.specs.InstallStaging.{replacing_of}
 use Rattle.vl_block.specs.Footer.{Foot}
 use Rattle.vl_compact.specs.Laid as compact
 use Rattle.vl_compact.specs.Places.{HasPlace, first_key}
@@ -145,16 +146,16 @@ module _ {H : Type 0} (bytes : H → Option (List ℕ)) where
 module _ {D H R W : Type 0} (g : Ghosts D) (bytes : H → Option (List ℕ)) (w : Writers W) {s : _}
     (job : Merging (Base H R) H W s) (old new : D) (before after : Core H) (h : History) (l : Layout) (o : OpenJob)
     (is : StandsFor bytes before h l) (opened : l.job ≡ Some o) (has : HasAllMerge w bytes job o.job) where
-  abbrev made : Made
+  abbrev pub made : Made
   made = made_of job o.job
 
   -- where its tables were put
   module _ (state : DiskState) (told : g.told old ≡ Some state) (tells : AreTold w job.made.items)
       (did : IsInstalled g bytes w job old new before after) where
-    abbrev ins : List ℕ
+    abbrev pub ins : List ℕ
     ins = map number_of job.inputs.tables.items
 
-    abbrev first : Option (List ℕ)
+    abbrev pub first : Option (List ℕ)
     first = first_made job.made.items
 
     there : HasPlace job.inputs.target ins l.levels
@@ -184,7 +185,10 @@ module _ {D H R W : Type 0} (g : Ghosts D) (bytes : H → Option (List ℕ)) (w 
 
     fronts_put : Fronts after h (installed o.job made l)
     fronts_put =
-        let keeps = kept_installed _ before.back.state did.ready.staged.state did.is_ready.staged.says in
+        let keeps = kept_installed
+        (replacing_of before.back ins (map (λ (t : Synced W s). t.number) job.made.items) did.ready.levels.level
+        did.ready.levels.position did.is_ready.gone)
+        before.back.state did.ready.staged.state did.is_ready.staged.says in
         record {
           front = subst (λ (f : Front). IsFront f.oracle f.recent.named h (installed o.job made l)) (sym did.front) (record {
             last = is.fronts.front.last;
@@ -215,9 +219,9 @@ module _ {D H R W : Type 0} (g : Ghosts D) (bytes : H → Option (List ℕ)) (w 
       -- the version has it,
       pub laid_put : HasLayout bytes after.version (installed o.job made l)
       laid_put =
-          let then = tidy_put l h o made tidy in
-          laid_installed bytes before.version after.version l o.job made is.has (logs_put l h o made tidy) then.levels
-          then.true_tables levels_put (did.active ∙ did.is_ready.version.active) (did.frozen ∙ did.is_ready.version.frozen)
+          let next = tidy_put l h o made tidy in
+          laid_installed bytes before.version after.version l o.job made is.has (logs_put l h o made tidy) next.levels
+          next.true_tables levels_put (did.active ∙ did.is_ready.version.active) (did.frozen ∙ did.is_ready.version.frozen)
           logs_same
 
       -- and the engine stands for it.

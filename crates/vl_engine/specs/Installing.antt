@@ -1,5 +1,5 @@
 -- What an install does, whatever the engine stands for: to the disk, and in memory.
-use Rattle.std.specs.Prelude.{◌≡◌, ◌≢◌, ◌⊎◌, ℕ, ◌+◌, ◌-◌, ◌^◌, false, nat_le, true, List, [], ◌∷◌, ◌++◌, length, map, min, Option, None, Some, IsSome, Result, Ok, Err}
+use Rattle.std.specs.Prelude.{◌≡◌, ◌≢◌, ◌⊎◌, ℕ, ◌+◌, ◌-◌, ◌<◌, ◌^◌, false, nat_le, true, List, [], ◌∷◌, ◌++◌, length, map, min, Option, None, Some, IsSome, Result, Ok, Err}
 use Rattle.std.specs.Arc.{arc_value}
 use Rattle.std.specs.List.{AllByRecursion}
 use Rattle.std.specs.Option.{ForSome}
@@ -17,6 +17,7 @@ use Rattle.vl_compact.specs.declared.job.Job.{Job}
 use Rattle.vl_compact.specs.declared.ready.ReadyLevels.{ReadyLevels}
 use Rattle.vl_disk.specs.Calls.{ChangesNothing}
 use Rattle.vl_disk.specs.DiskState.{DiskState}
+use Rattle.vl_disk.specs.Performs.{FailedAt, calls_on}
 use Rattle.vl_disk.specs.declared.errors.Failed.{Failed}
 use Rattle.vl_disk.specs.declared.name.Name.TheVariants as names
 use Rattle.vl_disk.specs.declared.name.Name.{Name}
@@ -228,11 +229,30 @@ HandsBack job old new (Err (install.Exhausted counter)) = new ≡ None
 HandsBack job old new (Err (install.NoMemory back)) = (back ≡ job) × (new ≡ old)
 HandsBack job old new (Err (install.Disk name)) = new ≡ None
 
--- a file that it fails at: one of the job's tables, or the manifest
-abbrev pub IsAtInstall : {V H W : Type 0} {s : _} → Job V H W s → (manifest : ℕ) → Name → Type 0
-IsAtInstall job manifest (names.Log n) = ⊥
-IsAtInstall {W = W} job manifest (names.Table n) = has n (map (λ (t : Synced W _). t.number) job.made.items) ≡ true
-IsAtInstall job manifest (names.Manifest n) = n ≡ manifest
+-- It failed at this file, by this count of changing calls before and behind it.
+pub data StopsInstall {V H W : Type 0} {s : _} (job : Job V H W s) (manifest before now : ℕ) (name : Name) : Type 0 where
+  -- at one of the job's tables, which are taken back by no changing call
+  at_table : (n : ℕ) → name ≡ names.Table n → has n (map (λ (t : Synced W _). t.number) job.made.items) ≡ true → now ≡ before
+      → StopsInstall job manifest before now name
+  -- at the manifest: of two calls on it the last that was made failed
+  at_manifest : FailedAt (calls_on 2 (names.Manifest manifest)) before now name → StopsInstall job manifest before now name
+
+-- where it may fail: nothing failed before, and a version number is left
+pub record MayInstall {H : Type 0} (core : Core H) : Type 0 where
+  pub running : core.front.halted ≡ None
+  pub version : core.back.version_number < max_version_number
+
+-- By then it was staged, and some of the job's tables were taken back, or all, and then named in part.
+pub record WritesInstall {D H R W : Type 0} (g : Ghosts D) (bytes : H → Option (List ℕ)) (w : Writers W) {s : _}
+    (job : Job (Base H R) H W s) (core : Core H) (old new : D) : Type 0 where
+  pub ready : ReadyInstall H
+  pub is_ready : IsReadyFor bytes w core job ready
+  pub begun : D
+  pub unchanged : ChangesNothing g old begun ⊥
+  pub levels : ReadyLevels H
+  pub name : Name
+  pub stops : StopsInstalling g bytes w job.made.items core.back.manifest.number ready.staged.edits.frame.items begun new
+      ready.levels levels name
 
 -- The files stand as before, and none but the job's tables may have come.
 abbrev pub KeepsAllBut : List ℕ → (old new : Option DiskState) → Type 0

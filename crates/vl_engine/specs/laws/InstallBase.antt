@@ -17,7 +17,7 @@ use Rattle.vl_engine.specs.laws.HeldLaws.{sources_held}
 use Rattle.vl_engine.specs.laws.InstallApplies.{edits_of, install_applies, levels_are, state}
 use Rattle.vl_engine.specs.laws.InstallRulings.{GoesOn}
 use Rattle.vl_engine.specs.laws.InstallSpares.{rest_spares_installed}
-use Rattle.vl_engine.specs.laws.InstallTidy.{IsPutTidy, entries_put, logs_put, still_put, tables_put, tidy_put}
+use Rattle.vl_engine.specs.laws.InstallTidy.{IsPutTidy, each_entry_put, logs_put, still_put, each_put, tidy_put}
 use Rattle.vl_engine.specs.laws.LedLaws.{AreFarTo, IsFarTo, among_in, led_in, points_led}
 use Rattle.vl_engine.specs.laws.SwitchLaws.{switched_base}
 use Rattle.vl_frame.specs.Runs.{HasFrame}
@@ -126,8 +126,8 @@ module _ (b : Base) (l : Layout) (h : History) (o : OpenJob) (made : Made) (disk
     where
       was : WasLed n
       was = among_in WasLed (led_into (found_levels next.levels)) n
-          (led_in WasLed next.levels (tables_put l h o made put (λ (t : Table). AreFarTo WasLed t.entries) were_led
-          (entries_put l h o made put (λ (e : Entry). IsFarTo WasLed e.body) were_led))) among
+          (led_in WasLed next.levels (each_put l h o made put (λ (t : Table). AreFarTo WasLed t.entries) were_led
+          (each_entry_put l h o made put (λ (e : Entry). IsFarTo WasLed e.body) were_led))) among
 
       some_same : (x y : Segment) → Some x ≡ Some y → x ≡ y
       some_same x y e = cc
@@ -166,6 +166,6 @@ module _ (b : Base) (l : Layout) (h : History) (o : OpenJob) (made : Made) (disk
   pub files_then : HoldsFiles later next disk
   files_then = record {
     logs = holds.files.logs;
-    tables = tables_put l h o made put (HoldsTable disk) holds.files.tables can.stand;
+    tables = each_put l h o made put (HoldsTable disk) holds.files.tables can.stand;
     flushed = all_filtered (HoldsLog disk) (λ (x : Segment). not (is_idle (put_in o.job made l) x)) l.flushed holds.files.flushed;
   }

@@ -39,21 +39,21 @@ pub record IsPutTidy (l : Layout) (h : History) (o : OpenJob) (made : Made) : Ty
   pub logs : AllByRecursion IsLogFile (l.active ∷ l.frozen)
 
 module _ (l : Layout) (h : History) (o : OpenJob) (made : Made) (put : IsPutTidy l h o made) where
-  abbrev next : Layout
+  abbrev pub next : Layout
   next = installed o.job made l
 
   -- ---- tables
 
   -- What is so of all tables and of those that were made is so of all tables then,
-  pub tables_put : (P : Table → Type 0) → AllByRecursion P (tables l) → AllByRecursion P made.tables
+  pub each_put : (P : Table → Type 0) → AllByRecursion P (tables l) → AllByRecursion P made.tables
       → AllByRecursion P (tables next)
-  tables_put P were are = all_replaced P o.job.inputs made.tables are o.job.target l.levels
+  each_put P were are = all_replaced P o.job.inputs made.tables are o.job.target l.levels
       (all_each P (λ (t : Table). is_among o.job.inputs t ≡ false → P t) (tables l) (λ t so out. so) were)
 
   -- and what is so of all tables' entries is so of those of the tables that were made.
-  pub entries_put : (Q : Entry → Type 0) → AllByRecursion (λ (t : Table). AllByRecursion Q t.entries) (tables l)
+  pub each_entry_put : (Q : Entry → Type 0) → AllByRecursion (λ (t : Table). AllByRecursion Q t.entries) (tables l)
       → AllByRecursion (λ (t : Table). AllByRecursion Q t.entries) made.tables
-  entries_put Q each = subst (AllByRecursion (λ (t : Table). AllByRecursion Q t.entries)) (sym put.all.tables)
+  each_entry_put Q each = subst (AllByRecursion (λ (t : Table). AllByRecursion Q t.entries)) (sym put.all.tables)
       (all_made (AllByRecursion Q) (λ (t : Table). AllByRecursion Q t.entries) (λ n es these. these) put.all.numbers
       (outputs o.job)
       (made_from l h o.job o.moved (put.tidy.job o put.goes.open_is) made put.all Q each))
