@@ -17,6 +17,11 @@ pub mod Flushed
 pub mod Halted
 pub mod HandedIn
 pub mod Headed
+pub mod InstallDisk
+pub mod InstallDiskEdits
+pub mod InstallDiskStaged
+pub mod InstallDiskTables
+pub mod InstallDiskTaken
 pub mod KeepSteps
 pub mod KeptBy
 pub mod Knowing
