@@ -127,7 +127,7 @@ module _ {H R W : Type 0} (bytes : H → Option (List ℕ)) (w : Writers W) {s :
   table_is : before.back.state.next_table ≡ l.next_table
   table_is = ap (λ (x : ManifestState). x.next_table) held.back_is.state
 
-  replacing_is : staged_for ≡ replacing l o.job made
+  pub replacing_is : staged_for ≡ replacing l o.job made
   replacing_is =
       ap (λ (ns : List ℕ). record staged_for { inputs = ns }) inputs_are
       ∙ ap (λ (ns : List ℕ). record staged_for { inputs = o.job.inputs; made = ns }) numbers_are
@@ -160,7 +160,7 @@ module _ {H R W : Type 0} (bytes : H → Option (List ℕ)) (w : Writers W) {s :
   apart = apart_from (tables l) made.tables file_numbers
       (other_made l h o goes.open_is made tidy.files tidy.levels open_well all lent)
 
-  once : AreApart made.tables
+  pub once : AreApart made.tables
   once = apart_each made.tables (distinct_made l h o goes.open_is made tidy.files tidy.levels open_well all lent)
 
   -- the disk with the tables

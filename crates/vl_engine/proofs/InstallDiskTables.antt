@@ -20,6 +20,7 @@ use Rattle.vl_engine.specs.Installing.{first_made}
 use Rattle.vl_engine.specs.laws.InstallTaken.{AreApart, IsApart}
 use Rattle.vl_engine.specs.laws.KeptLaws.{AreOtherTables, table_same}
 use Rattle.vl_layout.specs.Sources.{numbers_of}
+use Rattle.vl_layout.specs.Tables.{new_table}
 use Rattle.vl_layout.specs.TidyLevels.{IsDistinct}
 use Rattle.vl_layout.specs.declared.table.Table as laid
 use Rattle.vl_layout_laws.specs.laws.Pairs.{AreOther}
@@ -122,4 +123,4 @@ module _ {W : Type 0} (w : Writers W) {s : _} where
       → tables_of w (ts ++ left) outs ≡ tables_of w ts (take (length ts) outs) ++ tables_of w left (drop (length ts) outs)
   tables_front [] left outs zip = refl
   tables_front (t ∷ ts) left [] zip = absurd zip
-  tables_front (t ∷ ts) left (es ∷ outs) zip = ap (λ (us : List laid.Table). _ ∷ us) (tables_front ts left outs zip.1)
+  tables_front (t ∷ ts) left (es ∷ outs) zip = ap (λ (us : List laid.Table). new_table table_format t.number es ∷ us) (tables_front ts left outs zip.1)
