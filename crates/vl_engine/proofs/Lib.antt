@@ -19,6 +19,7 @@ pub mod HandedIn
 pub mod Headed
 pub mod InstallDisk
 pub mod InstallDiskEdits
+pub mod InstallDiskLeaves
 pub mod InstallDiskStaged
 pub mod InstallDiskTables
 pub mod InstallDiskTaken
