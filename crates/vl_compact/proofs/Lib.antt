@@ -1,6 +1,7 @@
 mod Adding
 mod Choices
 mod DueLaws
+mod Failing
 mod Fates
 mod Finding
 mod Greatest

@@ -114,6 +114,7 @@ module _ {V H W : Type 0} where
   abbrev pub KeepsAll : {g : _} → (old new : Job V H W g) → Type 0
   KeepsAll old new = new ≡ record old { needless = new.needless; waits = new.waits; ended = new.ended }
 
+module _ {V H W : Type 0} (writer : Ghosts W) where
   -- All is as before but that this file, which didn't become a table, is the last of its leavings.
   pub record Leaves {g : _} (fresh : Lent W g) (old new : Job V H W g) : Type 0 where
     pub leaving : Lent W g
@@ -121,8 +122,9 @@ module _ {V H W : Type 0} where
     pub kept : new ≡ record old { leavings = new.leavings; needless = new.needless }
     pub left : new.leavings.items ≡ old.leavings.items ++ leaving ∷ []
     pub needless_are : new.needless.items ≡ old.needless.items
+    -- a writer that told its file tells it
+    pub tells : IsSome (writer.file fresh.writer) → IsSome (writer.file leaving.writer)
 
-module _ {V H W : Type 0} (writer : Ghosts W) where
   -- One table more was made, which has the number of the file.
   pub record Takes {g : _} (fresh : Lent W g) (old new : Job V H W g) : Type 0 where
     pub table : Synced W g
@@ -130,6 +132,9 @@ module _ {V H W : Type 0} (writer : Ghosts W) where
     pub made : new.made.items ≡ old.made.items ++ table ∷ []
     pub leavings : new.leavings ≡ old.leavings
     pub waits : new.waits ≡ false
+    pub ended : new.ended ≡ old.ended
+    -- what it merges, and its other files, are as before
+    pub kept : new ≡ record old { after = new.after; made = new.made; needless = new.needless; waits = new.waits }
     -- a writer that told its file tells it
     pub tells : IsSome (writer.file fresh.writer) → IsSome (writer.file table.writer)
 

@@ -42,6 +42,10 @@ pub record IsOfFiles (is_read : TableFault → Bool) (may : TableFault → Type 
   pub counted : IsCounted (is_read fault) c.files_before c.files_after
   pub steady : c.sources_after ≡ c.sources_before
 
+-- there may be this fault, where something holds
+abbrev pub MayWhere : Type 0 → (TableFault → Type 0) → TableFault → Type 0
+MayWhere holds may fault = holds → may fault
+
 -- a fault of reading is one of these, by which faults say that reading failed, and which there may be
 abbrev pub FailsReading : (TableFault → Bool) → (TableFault → Type 0) → (TableFault → Bool) → (TableFault → Type 0) → Counts → TableFault → Type 0
 FailsReading is_sources_read of_sources is_files_read of_files c fault =

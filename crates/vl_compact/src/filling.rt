@@ -8,7 +8,7 @@ ghost use Rattle.vl_block.specs.Cutting.{last_key};
 ghost use Rattle.vl_compact.specs.Filling.{Adds, FailsFilling, Fills, IsWhole, IsWrittenTo, named_up_to};
 ghost use Rattle.vl_compact.specs.Keeps.{AreRulesOf, stage};
 ghost use Rattle.vl_compact.specs.Lending.{FailsWriting, IsSteady};
-ghost use Rattle.vl_compact.specs.Reading.{FailsReading, NoneRose, counts};
+ghost use Rattle.vl_compact.specs.Reading.{FailsReading, MayWhere, NoneRose, counts};
 ghost use Rattle.vl_compact.specs.laws.FirstTable.{closes, frames_length};
 ghost use Rattle.vl_compact.specs.laws.ProgressLaws.{is_past};
 ghost use Rattle.vl_layout.specs.declared.job.Job as laid;
@@ -61,8 +61,8 @@ pub fn fill<C: Cursor<Fault = TableFault>, V: Sources<Fault = TableFault>, W: Wr
     ensures fits { V.fits base.now reader.old.looks → V.fits base.now reader.new.looks }
     ensures steady { OnOk result (NoneRose (counts (λ l. V.faults l) (λ r. C.faults r) reader.old reader.new)) }
     ensures kept { OnOk result (IsSteady W.Writer lent.old lent.new) }
-    ensures cause { V.fits base.now reader.old.looks → IfErr result (λ fault. FailsFilling W.Writer
-        (FailsReading (λ f. V.is_read_fault f) (V.may_fail base.now) (λ f. C.is_read_fault f) (C.may_fail keeping.old.cursor))
+    ensures cause { IfErr result (λ fault. FailsFilling W.Writer (FailsReading (λ f. V.is_read_fault f)
+        (MayWhere (V.fits base.now reader.old.looks) (V.may_fail base.now)) (λ f. C.is_read_fault f) (C.may_fail keeping.old.cursor))
         (counts (λ l. V.faults l) (λ r. C.faults r) reader.old reader.new) lent.old lent.new fault) }
 {
     let mut found = Vec::new(alloc);
@@ -120,8 +120,8 @@ fn add_kept<C: Cursor<Fault = TableFault>, V: Sources<Fault = TableFault>, W: Wr
     ensures fits { V.fits base.now reader.old.looks → V.fits base.now reader.new.looks }
     ensures steady { OnOk result (NoneRose (counts (λ l. V.faults l) (λ r. C.faults r) reader.old reader.new)) }
     ensures kept { OnOk result (IsSteady W.Writer lent.old lent.new) }
-    ensures cause { V.fits base.now reader.old.looks → IfErr result (λ fault. FailsFilling W.Writer
-        (FailsReading (λ f. V.is_read_fault f) (V.may_fail base.now) (λ f. C.is_read_fault f) (C.may_fail keeping.old.cursor))
+    ensures cause { IfErr result (λ fault. FailsFilling W.Writer (FailsReading (λ f. V.is_read_fault f)
+        (MayWhere (V.fits base.now reader.old.looks) (V.may_fail base.now)) (λ f. C.is_read_fault f) (C.may_fail keeping.old.cursor))
         (counts (λ l. V.faults l) (λ r. C.faults r) reader.old reader.new) lent.old lent.new fault) }
 {
     let mut last = first.key;

@@ -176,7 +176,7 @@ impl<V: Sources<Fault = TableFault>, H: HeldFile, W: Writer> Job<V, H, W> {
     ghost use Rattle.vl_compact.specs.Keys.{behind};
     ghost use Rattle.vl_compact.specs.Laid.{AreTablesOf};
     ghost use Rattle.vl_compact.specs.Progress.{Answers, FailsWith, Has, HasRoom, IsFresh, IsSettled, KeepsAll, Leaves, Takes, HasTaken};
-    ghost use Rattle.vl_compact.specs.Reading.{FailsReading, NoneRose, counts};
+    ghost use Rattle.vl_compact.specs.Reading.{FailsReading, MayWhere, NoneRose, counts};
     ghost use Rattle.vl_layout.specs.Merging.{inputs_of};
     ghost use Rattle.vl_layout.specs.Sources.{table_entries};
     ghost use Rattle.vl_layout.specs.declared.job.Job as laid;
@@ -203,8 +203,10 @@ impl<V: Sources<Fault = TableFault>, H: HeldFile, W: Writer> Job<V, H, W> {
             × (self.new.ended ≡ self.old.ended)) }
         ensures fits { V.fits self.old.base reader.old.looks → V.fits self.old.base reader.new.looks }
         ensures steady { OnOk result (NoneRose (counts (λ l. V.faults l) (λ r. R.faults r) reader.old reader.new)) }
-        ensures cause { V.fits self.old.base reader.old.looks → IfErr result (FailsReading
-            (λ f. V.is_read_fault f) (V.may_fail self.old.base) is_disk_fault (MayFailOn H.bytes self.old.inputs.tables.items)
+        // Reading fails only where a count says so. Which fault of its sources it is hangs on what the reader keeps.
+        ensures cause { IfErr result (FailsReading (λ f. V.is_read_fault f)
+            (MayWhere (V.fits self.old.base reader.old.looks) (V.may_fail self.old.base)) is_disk_fault
+            (MayFailOn H.bytes self.old.inputs.tables.items)
             (counts (λ l. V.faults l) (λ r. R.faults r) reader.old reader.new)) }
     {
         if self.ended {
@@ -236,11 +238,13 @@ impl<V: Sources<Fault = TableFault>, H: HeldFile, W: Writer> Job<V, H, W> {
         ensures next { (j : laid.Job) → V.fits self.old.base reader.old.looks → IsFresh W.Writer fresh
             → Has W.Writer H.bytes V.has self.old j → OnOk result (Has W.Writer H.bytes V.has self.new j) }
         ensures takes { OnOk result (Takes W.Writer fresh self.old self.new) }
-        ensures refused { OnErr result (Leaves fresh self.old self.new) }
+        ensures refused { OnErr result (Leaves W.Writer fresh self.old self.new) }
         ensures fits { V.fits self.old.base reader.old.looks → V.fits self.old.base reader.new.looks }
         ensures steady { OnOk result (NoneRose (counts (λ l. V.faults l) (λ r. R.faults r) reader.old reader.new)) }
-        ensures cause { V.fits self.old.base reader.old.looks → IfErr result (FailsWith W.Writer (FailsReading
-            (λ f. V.is_read_fault f) (V.may_fail self.old.base) is_disk_fault (MayFailOn H.bytes self.old.inputs.tables.items))
+        // Reading and writing fail only where a count says so. Which fault of its sources it is hangs on what the reader keeps.
+        ensures cause { IfErr result (FailsWith W.Writer (FailsReading (λ f. V.is_read_fault f)
+            (MayWhere (V.fits self.old.base reader.old.looks) (V.may_fail self.old.base)) is_disk_fault
+            (MayFailOn H.bytes self.old.inputs.tables.items))
             (counts (λ l. V.faults l) (λ r. R.faults r) reader.old reader.new) fresh self.old self.new) }
     {
         let mut lent = fresh;
@@ -275,8 +279,9 @@ impl<V: Sources<Fault = TableFault>, H: HeldFile, W: Writer> Job<V, H, W> {
         ensures tells { IsSome (W.file lent.old.writer) → IsSome (W.file lent.new.writer) }
         ensures fits { V.fits self.old.base reader.old.looks → V.fits self.old.base reader.new.looks }
         ensures steady { OnOk result (NoneRose (counts (λ l. V.faults l) (λ r. R.faults r) reader.old reader.new)) }
-        ensures cause { V.fits self.old.base reader.old.looks → IfErr result (FailsFilling W.Writer (FailsReading
-            (λ f. V.is_read_fault f) (V.may_fail self.old.base) is_disk_fault (MayFailOn H.bytes self.old.inputs.tables.items))
+        ensures cause { IfErr result (FailsFilling W.Writer (FailsReading (λ f. V.is_read_fault f)
+            (MayWhere (V.fits self.old.base reader.old.looks) (V.may_fail self.old.base)) is_disk_fault
+            (MayFailOn H.bytes self.old.inputs.tables.items))
             (counts (λ l. V.faults l) (λ r. R.faults r) reader.old reader.new) lent.old lent.new) }
     {
         let mut keeping = self.keeping(alloc)?;

@@ -3,7 +3,7 @@
 ghost use Rattle.std.specs.Prelude.{◌≡◌, ◌≤◌, ◌<◌, ◌++◌, if◌then◌else◌, List, Some, IfErr, IfOk, IsSome, OnOk};
 ghost use Rattle.std.specs.Ordering.{eq_by_cmp};
 ghost use Rattle.vl_compact.specs.Keeps.{AreRulesOf, GivesNext, Passes, is_kept, noted, place_in, stage};
-ghost use Rattle.vl_compact.specs.Reading.{FailsLooking, FailsReading, NoneRose, counts};
+ghost use Rattle.vl_compact.specs.Reading.{FailsLooking, FailsReading, MayWhere, NoneRose, counts};
 ghost use Rattle.vl_compact.specs.Walking.{comes_again, seen_before};
 ghost use Rattle.vl_layout.specs.declared.job.Job as laid;
 ghost use Rattle.vl_model.specs.Keys.{key_cmp};
@@ -40,8 +40,8 @@ impl<C: Cursor<Fault = TableFault>> Keeping<C> {
         ensures rules { self.new.rules ≡ self.old.rules }
         ensures fits { V.fits base.now reader.old.looks → V.fits base.now reader.new.looks }
         ensures steady { OnOk result (NoneRose (counts (λ l. V.faults l) (λ r. C.faults r) reader.old reader.new)) }
-        ensures cause { V.fits base.now reader.old.looks → IfErr result (FailsReading
-            (λ f. V.is_read_fault f) (V.may_fail base.now) (λ f. C.is_read_fault f) (C.may_fail self.old.cursor)
+        ensures cause { IfErr result (FailsReading (λ f. V.is_read_fault f)
+            (MayWhere (V.fits base.now reader.old.looks) (V.may_fail base.now)) (λ f. C.is_read_fault f) (C.may_fail self.old.cursor)
             (counts (λ l. V.faults l) (λ r. C.faults r) reader.old reader.new)) }
         ensures keeps { (fault : TableFault) → C.may_fail self.new.cursor fault → C.may_fail self.old.cursor fault }
         ensures spends { C.budget self.new.cursor ≤ C.budget self.old.cursor }
@@ -76,8 +76,8 @@ fn pass<V: Sources<Fault = TableFault>>(
         → IfOk result (Passes j (place_in last.old) (place_in last.new) entry.now found.old.items found.new.items) }
     ensures fits { V.fits base.now looks.old → V.fits base.now looks.new }
     ensures steady { OnOk result (V.faults looks.new ≡ V.faults looks.old) }
-    ensures cause { V.fits base.now looks.old → IfErr result
-        (FailsLooking (λ f. V.is_read_fault f) (V.may_fail base.now) (V.faults looks.old) (V.faults looks.new)) }
+    ensures cause { IfErr result (FailsLooking (λ f. V.is_read_fault f)
+        (MayWhere (V.fits base.now looks.old) (V.may_fail base.now)) (V.faults looks.old) (V.faults looks.new)) }
 {
     if comes_again(last, entry) {
         return Ok(false);

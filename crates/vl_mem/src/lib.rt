@@ -14,6 +14,7 @@ mod names;
 mod outcome;
 mod reading;
 mod steady_reader;
+mod steady_writer;
 mod stopping_disk;
 mod written;
 
@@ -23,4 +24,5 @@ pub use mem_reader::MemReader;
 pub use mem_writer::MemWriter;
 pub use outcome::Outcome;
 pub use steady_reader::SteadyReader;
+pub use steady_writer::SteadyWriter;
 pub use stopping_disk::StoppingDisk;

@@ -30,8 +30,9 @@ pub struct Returned {
 }
 
 impl MemWriter {
-    ghost use Rattle.std.specs.Prelude.{◌≡◌, ◌≤◌, Some, OnOk, length};
+    ghost use Rattle.std.specs.Prelude.{◌≡◌, ◌≤◌, Some, OnErr, OnOk, length};
     ghost use Rattle.vl_disk.specs.DiskState.{IsLawfulFile, lengthened, new_file};
+    ghost use Rattle.vl_disk.specs.Lending.{Settles, TakesAll};
     ghost use Rattle.vl_disk.specs.FaultPlan.{new_plan};
     ghost use Rattle.vl_disk.specs.Name.{IsNumbered};
     ghost use Rattle.vl_mem.specs.MemDisk.{file_by, writes_of};
@@ -103,6 +104,28 @@ impl MemWriter {
         let _ = self.bytes.extend_from_slice(&piece[..taken]);
         self.written.take(piece, taken);
     }
+
+    /// Puts the whole of a piece behind the end of the file, as no call that is counted.
+    pub fn take_all(&mut self, piece: &[u8]) -> Result<(), NoMemory>
+        ensures taken { OnOk result (TakesAll piece.now (file_by self.old) (file_by self.new)) }
+        ensures refused { OnErr result (file_by self.new ≡ file_by self.old) }
+        ensures plan { writes_of self.new ≡ writes_of self.old }
+        ensures name { self.new.name ≡ self.old.name }
+    {
+        let kept = Vec::from_slice(self.alloc, piece)?;
+        self.make_room(piece.len())?;
+        self.take(kept, piece.len());
+        Ok(())
+    }
+
+    /// What was handed over is durable, as no call that is counted.
+    pub fn settle(&mut self)
+        ensures settled { Settles (file_by self.old) (file_by self.new) }
+        ensures plan { writes_of self.new ≡ writes_of self.old }
+        ensures name { self.new.name ≡ self.old.name }
+    {
+        self.written.sync();
+    }
 }
 
 impl Writer for MemWriter {
@@ -151,7 +174,7 @@ impl Writer for MemWriter {
         if self.plan.fails() {
             return Err(Failed);
         }
-        self.written.sync();
+        self.settle();
         Ok(())
     }
 }

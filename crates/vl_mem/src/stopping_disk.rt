@@ -1,14 +1,14 @@
 // A disk in memory for trials: it stops behind so many changing calls, and no other call fails.
 use crate::held::MemHeld;
 use crate::mem_disk::MemDisk;
-use crate::mem_writer::MemWriter;
 use crate::outcome::Outcome;
 use crate::steady_reader::SteadyReader;
+use crate::steady_writer::SteadyWriter;
 use std::alloc::Global;
 use vl_disk::{Disk, DiskFail, Failed, Name, NoMemory, Watched};
 
-/// A disk in memory that lets so many changing calls pass, and fails each later one. Nothing else of it fails, and what reads
-/// the files that it shares never does.
+/// A disk in memory that lets so many changing calls pass, and fails each later one. Nothing else of it fails, and neither what
+/// reads the files that it shares nor what writes those that it lends ever does.
 #[derive(Drop)]
 pub struct StoppingDisk {
     disk: MemDisk,
@@ -72,7 +72,7 @@ impl Disk for StoppingDisk {
 
     type Reader = SteadyReader;
 
-    type Writer = MemWriter;
+    type Writer = SteadyWriter;
 
     ghost use Rattle.vl_mem.specs.Event.{told_lawful, counts_present, only_present};
     ghost use Rattle.vl_mem.specs.FailsPast.{counted_past};
@@ -125,12 +125,12 @@ impl Disk for StoppingDisk {
         self.disk.hold(name)
     }
 
-    fn lend(&mut self, name: Name) -> Result<MemWriter, Failed> {
-        self.disk.lend(name)
+    fn lend(&mut self, name: Name) -> Result<SteadyWriter, Failed> {
+        Ok(SteadyWriter::new(self.disk.lend(name)?))
     }
 
-    fn adopt(&mut self, writer: MemWriter) {
-        self.disk.adopt(writer);
+    fn adopt(&mut self, writer: SteadyWriter) {
+        self.disk.adopt(writer.into_writer());
     }
 
     fn reader(&self, _alloc: Global) -> Result<SteadyReader, NoMemory> {

@@ -1,5 +1,6 @@
 use Rattle.std.proofs.Common.{Option, subst, sym}
 use Rattle.vl_compact.proofs.Adding.{filled_with}
+use Rattle.vl_compact.proofs.Failing.{fills_later, passed_on}
 use Rattle.vl_compact.proofs.Lists.{if_ok_three}
 use Rattle.vl_compact.specs.Keeps.{AreRulesOf, GivesNext, stage}
 use Rattle.vl_compact.specs.declared.rules.Rules.{Rules}
@@ -21,3 +22,14 @@ returns-clause-fills g c = λ j left are has fits told first along fresh.
     (λ filled whole last found_are. filled_with g.W.Writer j left before at now none found c.add_kept.new.found.items c.in-Some.first
     first c.new-found.ensures.items n c.add_kept.new.lent c.add_kept.new.table a along c.finish.new.lent filled whole last found_are)
     (c.finish.ensures.whole a.all a.written) (c.finish.ensures.last a.all a.written) c.finish.ensures.found
+
+pub returns-in_err-add_kept-clause-cause : goal.returns-in_err-add_kept-clause-cause
+returns-in_err-add_kept-clause-cause g c =
+    let base = c.args.base.now in
+    passed_on _ c.from_residual-in_err-add_kept.result _ c.from_residual-in_err-add_kept.ensures.1
+    (fills_later (λ l. g.V.Sources.faults l) (λ r. g.C.Cursor.faults r) (λ f. g.V.Sources.is_read_fault f)
+    (λ f. g.C.Cursor.is_read_fault f) c.args.reader.now c.next.new.reader c.add_kept.new.reader c.in_ok-first.ensures.steady
+    g.W.Writer c.args.lent.now c.begin.new.lent c.add_kept.new.lent c.begin.ensures.number c.in_ok-table.ensures.steady
+    (g.V.Sources.fits base c.args.reader.now.looks) (g.V.Sources.fits base c.next.new.reader.looks) (g.V.Sources.may_fail base)
+    (g.C.Cursor.may_fail c.args.keeping.now.cursor) (g.C.Cursor.may_fail c.next.new.self.cursor) c.next.ensures.fits
+    c.next.ensures.keeps _ c.in_err-add_kept.ensures.cause)

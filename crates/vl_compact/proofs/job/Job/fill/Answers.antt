@@ -1,4 +1,4 @@
-use Rattle.std.proofs.Common.{List, [], ◌∷◌, Some, false, ◌++◌, ap, subst, sym, ◌∙◌}
+use Rattle.std.proofs.Common.{ℕ, Bool, List, [], ◌∷◌, Option, Some, false, ◌++◌, ap, subst, sym, ◌∙◌}
 use Rattle.std.specs.Prelude.{IsSome}
 use Rattle.vl_compact.proofs.Making.{makes_one}
 use Rattle.vl_compact.specs.Progress.{Has, HasTaken}
@@ -37,6 +37,26 @@ returns-in-Ok-clause-takes g c =
       leavings = ap (λ (s : Job g.row.V.Denot g.row.H.Denot g.row.W.Denot W). s.leavings) c.take.ensures.same
           ∙ ap (λ (s : Job g.row.V.Denot g.row.H.Denot g.row.W.Denot W). s.leavings) c.write.ensures.same;
       waits = ap (λ (s : Job g.row.V.Denot g.row.H.Denot g.row.W.Denot W). s.waits) c.take.ensures.same;
+      ended = ap (λ (s : Job g.row.V.Denot g.row.H.Denot g.row.W.Denot W). s.ended) c.take.ensures.same
+          ∙ ap (λ (s : Job g.row.V.Denot g.row.H.Denot g.row.W.Denot W). s.ended) c.write.ensures.same;
+      kept = c.take.ensures.same
+          ∙ ap (λ (s : Job g.row.V.Denot g.row.H.Denot g.row.W.Denot W).
+          record s { after = Some c.in-Ok.filled.last; made = c.take.new.self.made; needless = c.take.new.self.needless; waits = false })
+          c.write.ensures.same
+          ∙ ap (λ (o : Option (List ℕ)). record c.args.self.now {
+            after = o;
+            made = c.take.new.self.made;
+            needless = c.take.new.self.needless;
+            waits = false;
+          })
+          (sym (ap (λ (s : Job g.row.V.Denot g.row.H.Denot g.row.W.Denot W). s.after) c.take.ensures.same))
+          ∙ ap (λ (b : Bool). record c.args.self.now {
+            after = c.take.new.self.after;
+            made = c.take.new.self.made;
+            needless = c.take.new.self.needless;
+            waits = b;
+          })
+          (sym (ap (λ (s : Job g.row.V.Denot g.row.H.Denot g.row.W.Denot W). s.waits) c.take.ensures.same));
       tells = λ told. subst (λ (w : g.row.W.Denot). IsSome (W.file w)) (sym t.writer) (c.write.ensures.tells told);
     }
 
@@ -50,13 +70,14 @@ returns-in-Err-clause-refused g c =
       left = c.push_reserved.ensures.items
           ∙ ap (λ (s : Job g.row.V.Denot g.row.H.Denot g.row.W.Denot W). s.leavings.items ++ c.write.new.lent ∷ []) c.write.ensures.same;
       needless_are = c.write.ensures.items;
+      tells = c.write.ensures.tells;
     }
 
 pub returns-in-Err-clause-cause : goal.returns-in-Err-clause-cause
-returns-in-Err-clause-cause g c = λ fits.
+returns-in-Err-clause-cause g c =
     let W = g.W.Writer in (
       c.write.new.lent,
       c.push_reserved.ensures.items
           ∙ ap (λ (s : Job g.row.V.Denot g.row.H.Denot g.row.W.Denot W). s.leavings.items ++ c.write.new.lent ∷ []) c.write.ensures.same,
-      c.in-Err.ensures.cause fits,
+      c.in-Err.ensures.cause,
     )
