@@ -17,6 +17,15 @@ pub mod Flushed
 pub mod Halted
 pub mod HandedIn
 pub mod Headed
+pub mod InstallDisk
+pub mod InstallDiskEdits
+pub mod InstallDiskLeaves
+pub mod InstallDiskStaged
+pub mod InstallDiskTables
+pub mod InstallDiskTaken
+pub mod InstallExits
+pub mod InstallKeeps
+pub mod InstallPut
 pub mod InstallReady
 pub mod KeepSteps
 pub mod KeptBy
