@@ -23,6 +23,9 @@ pub mod InstallDiskLeaves
 pub mod InstallDiskStaged
 pub mod InstallDiskTables
 pub mod InstallDiskTaken
+pub mod InstallExits
+pub mod InstallKeeps
+pub mod InstallPut
 pub mod KeepSteps
 pub mod KeptBy
 pub mod Knowing
