@@ -26,7 +26,7 @@ use Rattle.vl_engine.proofs.Carrying.{IsWatched}
 use Rattle.vl_engine.proofs.Committing.{decides_answered, decides_failed}
 use Rattle.vl_engine.proofs.FlushSteps.{same_log}
 use Rattle.vl_engine.proofs.InstallDiskEdits.{install_next}
-use Rattle.vl_engine.proofs.InstallDiskStaged.{all, apart, b, can, edits_are, frame_is, held, holds_made, made, state_is, tidy, with_made}
+use Rattle.vl_engine.proofs.InstallDiskStaged.{apart, b, can, frame_is, held, holds_made, state_is, with_made}
 use Rattle.vl_engine.proofs.InstallDiskTables.{tables_front, zip_front}
 use Rattle.vl_engine.proofs.InstallDiskTaken.{goes_taken, opens_taken, taken, told_taken}
 use Rattle.vl_engine.proofs.Represented.{represents_halted}
@@ -34,11 +34,10 @@ use Rattle.vl_engine.proofs.Stepped.{fits_halted}
 use Rattle.vl_engine.proofs.TakenFiles.{AreTold, tables_of}
 use Rattle.vl_engine.specs.Carries.{Carries, CrashesShow}
 use Rattle.vl_engine.specs.Files.{HoldsLog, IsLogFile}
-use Rattle.vl_engine.specs.Held.{Base, Holds, IsBase}
-use Rattle.vl_engine.specs.Installing.{InstallsAll, IsBackInstalled, IsHandedIn, IsInstalled, IsReadyFor, IsUninstalled, StopsSwitching, install_otherwise}
+use Rattle.vl_engine.specs.Held.{Base, Holds}
+use Rattle.vl_engine.specs.Installing.{IsBackInstalled, IsHandedIn, IsInstalled, IsReadyFor, IsUninstalled, StopsSwitching, install_otherwise}
 use Rattle.vl_engine.specs.Merging.{HasAllMerge}
 use Rattle.vl_engine.specs.Represents.{IsHeld, Represents, StandsFor, file_of}
-use Rattle.vl_engine.specs.Rotating.{HasActive}
 use Rattle.vl_engine.specs.Shown.{LeavesBetween}
 use Rattle.vl_engine.specs.Stepping.{AreLogFiles, Fits, MayStep}
 use Rattle.vl_engine.specs.Taking.{StopsTaking, Takes, TakesBack, file_of_table, with_files}
@@ -64,7 +63,6 @@ use Rattle.vl_layout.specs.Start.{newest_first}
 use Rattle.vl_layout.specs.declared.job.OpenJob.{OpenJob}
 use Rattle.vl_layout.specs.declared.layout.Layout.{Layout}
 use Rattle.vl_layout.specs.declared.segment.Segment.{Segment}
-use Rattle.vl_layout.specs.declared.table.Table as laid
 use Rattle.vl_manifest.specs.Switching.{Switches, WhileSwitching, switched}
 use Rattle.vl_manifest.specs.declared.manifest_log.ManifestLog.{ManifestLog}
 use Rattle.vl_manifest.specs.declared.state.ManifestState.{ManifestState}

@@ -1,5 +1,5 @@
 -- What numbers a crash leaves of a disk on which an install failed: none above the next ones.
-use Rattle.std.specs.Prelude.{◌≡◌, ◌≢◌, ◌⊎◌, ◌≤◌, ◌<◌, ◌^◌, ℕ, List, [], ◌∷◌, ◌++◌, map, Option, None, Some, Ok, Err, refl}
+use Rattle.std.specs.Prelude.{◌≡◌, ◌⊎◌, ◌≤◌, ◌<◌, ◌^◌, ℕ, List, [], ◌∷◌, ◌++◌, map, Option, None, Some, Ok, refl}
 use Rattle.std.specs.FinMap.{get}
 use Rattle.std.specs.Option.{option_map}
 use Rattle.std.proofs.Common.{sym, ap, subst, ◌∙◌, arith, inl, inr, ⊎_elim}
@@ -23,7 +23,7 @@ use Rattle.vl_disk.specs.laws.NameMap.{get_inserted_other, get_removed_other}
 use Rattle.vl_engine.proofs.Carrying.{IsWatched}
 use Rattle.vl_engine.proofs.InstallDiskEdits.{install_any_next, install_gives, install_head}
 use Rattle.vl_engine.proofs.Leaving.{base_numbers, either_state, manifest_held}
-use Rattle.vl_engine.specs.Held.{Base, HoldsBase, IsBase, frames_of}
+use Rattle.vl_engine.specs.Held.{Base, HoldsBase, frames_of}
 use Rattle.vl_engine.specs.Installing.{IsReadyFor, StopsInstalling, StopsSwitching}
 use Rattle.vl_engine.specs.Represents.{IsHeld, Represents, file_of}
 use Rattle.vl_engine.specs.Stepping.{LeavesNumbers}

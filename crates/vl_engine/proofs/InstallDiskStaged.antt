@@ -1,10 +1,9 @@
 -- What was staged for an install, over a disk that holds the layout, is the switch that the layout's install asks.
-use Rattle.std.specs.Prelude.{◌≡◌, ℕ, max, true, List, [], map, Option, None, Some, refl}
+use Rattle.std.specs.Prelude.{◌≡◌, ℕ, max, true, List, [], map, Option, None, refl}
 use Rattle.std.specs.List.{AllByRecursion}
 use Rattle.std.proofs.Common.{sym, ap, subst, ◌∙◌}
 use Rattle.vl_back.specs.InstallEdits.{Replacing, install_switch}
 use Rattle.vl_back.specs.InstallStaging.{replacing_of}
-use Rattle.vl_back.specs.declared.back.Back.{Back}
 use Rattle.vl_compact.specs.Places.{HasPlace, place_of}
 use Rattle.vl_compact.specs.Progress.{made_of}
 use Rattle.vl_compact.specs.Replacing.{AreReady}
@@ -14,7 +13,6 @@ use Rattle.vl_disk.specs.DiskState.{DiskState}
 use Rattle.vl_disk.specs.declared.writer.Writer.{Ghosts as Writers}
 use Rattle.vl_engine.proofs.InstallDiskEdits.{edits_fit, next_fits}
 use Rattle.vl_engine.proofs.InstallDiskTables.{apart_each, apart_from, first_is, made_files, made_many, made_numbers_are, numbers_held}
-use Rattle.vl_engine.proofs.TakenFiles.{tables_of}
 use Rattle.vl_engine.specs.Held.{Base, Holds}
 use Rattle.vl_engine.specs.Installing.{IsReadyFor, first_made}
 use Rattle.vl_engine.specs.Merging.{HasAllMerge}
@@ -40,7 +38,6 @@ use Rattle.vl_layout.specs.declared.job.OpenJob.{OpenJob}
 use Rattle.vl_layout.specs.declared.job.Target.TheVariants.{InPlace, Level}
 use Rattle.vl_layout.specs.declared.job.Target.{Target}
 use Rattle.vl_layout.specs.declared.layout.Layout.{Layout}
-use Rattle.vl_layout.specs.declared.table.Table as laid
 use Rattle.vl_layout_laws.specs.laws.InstallTidy.{distinct_made, other_made}
 use Rattle.vl_manifest.specs.Grammar.{edits_grammar}
 use Rattle.vl_manifest.specs.States.{are_next, is_file_number, next_state}
@@ -133,8 +130,11 @@ module _ {H R W : Type 0} (bytes : H → Option (List ℕ)) (w : Writers W) {s :
       ∙ ap (λ (ns : List ℕ). record staged_for { inputs = o.job.inputs; made = ns }) numbers_are
       ∙ ap (λ (p : ℕ × ℕ). record staged_for { inputs = o.job.inputs; made = numbers_of made.tables; level = p.0; position = p.1 })
       (sym place_is)
-      ∙ ap (λ (n : ℕ). record (replacing l o.job made) { next_log = n; next_table = before.back.state.next_table;
-      gone = max before.back.state.gone is_ready.gone }) held.back_is.next_log
+      ∙ ap (λ (n : ℕ). record (replacing l o.job made) {
+        next_log = n;
+        next_table = before.back.state.next_table;
+        gone = max before.back.state.gone is_ready.gone;
+      }) held.back_is.next_log
       ∙ ap (λ (n : ℕ). record (replacing l o.job made) { next_table = n; gone = max before.back.state.gone is_ready.gone }) table_is
       ∙ ap (λ (n : ℕ). record (replacing l o.job made) { gone = n }) gone_is
 

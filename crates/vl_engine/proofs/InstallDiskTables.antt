@@ -1,7 +1,6 @@
 -- The tables of a merge as its layout's job has them: each can be read, has a number of its own that no table of the layout has,
 -- and they begin with the key of the first one.
-use Rattle.std.specs.Prelude.{◌≡◌, ◌≢◌, ◌≤◌, ◌^◌, ◌-◌, ◌&&◌, ℕ, ◌+◌, true, nat_le, List, [], ◌∷◌, ◌++◌, length, map, take, drop, Option, Some, refl}
-use Rattle.std.specs.Arc.{arc_value}
+use Rattle.std.specs.Prelude.{◌≡◌, ◌≢◌, ◌-◌, ℕ, ◌+◌, true, nat_le, List, [], ◌∷◌, ◌++◌, length, map, take, drop, Option, Some, refl}
 use Rattle.std.specs.List.{AllByRecursion, AllZip}
 use Rattle.std.proofs.Common.{sym, ap, subst, ◌∙◌, arith}
 use Rattle.std.proofs.lemmas.Bool.{and_parts, leb-true}
@@ -11,10 +10,9 @@ use Rattle.vl_compact.specs.Laid as compact
 use Rattle.vl_compact.specs.Places.{first_key}
 use Rattle.vl_compact.specs.Progress.{IsTableFile}
 use Rattle.vl_compact.specs.declared.files.Synced.{Synced}
-use Rattle.vl_disk.specs.Name.{IsNumbered}
 use Rattle.vl_disk.specs.declared.name.Name.TheVariants as names
 use Rattle.vl_disk.specs.declared.writer.Writer.{Ghosts as Writers}
-use Rattle.vl_engine.proofs.TakenFiles.{AreTold, tables_of}
+use Rattle.vl_engine.proofs.TakenFiles.{tables_of}
 use Rattle.vl_engine.specs.Files as files
 use Rattle.vl_engine.specs.Installing.{first_made}
 use Rattle.vl_engine.specs.laws.InstallTaken.{AreApart, IsApart}

@@ -1,6 +1,6 @@
 -- While the files of a merge's tables are taken back, one after the other, the disk holds the layout, and whatever a crash leaves
 -- shows the history.
-use Rattle.std.specs.Prelude.{◌≡◌, ℕ, List, Option, None, Some}
+use Rattle.std.specs.Prelude.{◌≡◌, List, Some}
 use Rattle.std.specs.List.{AllByRecursion, AllZip}
 use Rattle.std.specs.Option.{option_map}
 use Rattle.std.proofs.Common.{ap, ◌∙◌}
@@ -24,7 +24,6 @@ use Rattle.vl_engine.specs.laws.InstallTaken.{IsApart, taken_holds, taking_leave
 use Rattle.vl_layout.specs.Sources.{tables}
 use Rattle.vl_layout.specs.Tidy.{IsTidy}
 use Rattle.vl_layout.specs.declared.layout.Layout.{Layout}
-use Rattle.vl_layout.specs.declared.table.Table as laid
 use Rattle.vl_back.specs.declared.back.Back.{Back}
 use Rattle.vl_model.specs.History.{History}
 use Rattle.vl_model.specs.declared.entry.Entry.{Entry}
