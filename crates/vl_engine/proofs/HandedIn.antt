@@ -1,5 +1,5 @@
 -- The files of a job that is handed in can be taken back.
-use Rattle.std.specs.Prelude.{◌≡◌, ℕ, ◌||◌, ◌==◌, Bool, true, false, All, List, [], ◌∷◌, ◌++◌, map, Option, Some, IsSome, IsTrue}
+use Rattle.std.specs.Prelude.{◌≡◌, ◌<◌, ℕ, ◌||◌, ◌==◌, Bool, true, false, List, [], ◌∷◌, ◌++◌, map, Option, None, IsSome, IsTrue}
 use Rattle.std.specs.List.{AllByRecursion}
 use Rattle.std.specs.Option.{ForSome}
 use Rattle.std.proofs.Common.{sym, subst, ◌∙◌, arith, refl}
@@ -8,10 +8,9 @@ use Rattle.std.proofs.lemmas.List.Elements.{recursion_from_All}
 use Rattle.vl_compact.specs.declared.files.Lent.{Lent}
 use Rattle.vl_compact.specs.declared.files.Synced.{Synced}
 use Rattle.vl_compact.specs.declared.job.Job.{Job}
-use Rattle.vl_disk.specs.Disk.{IsFree}
-use Rattle.vl_disk.specs.DiskState.{DiskState}
 use Rattle.vl_disk.specs.Spare.{SameSpareElsewhere, Spare}
 use Rattle.vl_disk.specs.declared.name.Name.TheVariants.{Manifest, Table}
+use Rattle.vl_disk.specs.declared.name.Name.{Name}
 use Rattle.vl_disk.specs.declared.watched.Watched.{Ghosts}
 use Rattle.vl_disk.specs.declared.writer.Writer.{Ghosts as Writers}
 use Rattle.vl_engine.specs.Installing.{IsHandedIn}
@@ -66,17 +65,36 @@ module _ {D V H W : Type 0} (g : Ghosts D) (w : Writers W) (old mid : D) (next m
   may_each (t ∷ ts) lent tells =
       (may_one t lent.0 (λ disk is. (tells disk is).0), may_each ts lent.1 (λ disk is. (tells disk is).1))
 
-  pub may_take_all : (merging : Option OpenMerge) → AreLent g old next merging → IsHandedIn g w old merging job → MayTakeAll g w mid job.made.items
-  may_take_all merging lent handed =
-      let made = map (λ (t : Synced W s). t.number) job.made.items in
-      let left = map (λ (f : Lent W s). f.number) job.leavings.items in
-      let each = recursion_from_All (IsLent g old next) handed.merge.lent.items (lent handed.merge handed.is_open) in
-      record {
-        each = may_each job.made.items (all_lent made each (front_all (λ n. has n handed.merge.lent.items ≡ true) made left handed.drawn)) handed.tells;
-        distinct = front_differ made left handed.distinct;
-      }
-    where
-      all_lent : (ns : List ℕ) → AllByRecursion (IsLent g old next) handed.merge.lent.items
-          → AllByRecursion (λ (n : ℕ). has n handed.merge.lent.items ≡ true) ns → AllByRecursion (IsLent g old next) ns
-      all_lent [] each drawn = tt
-      all_lent (n ∷ ns) each drawn = (of_one (IsLent g old next) n handed.merge.lent.items each drawn.0, all_lent ns each drawn.1)
+  module _ (halted : Option Name) (merging : Option OpenMerge) (lent : AreLent g old next merging)
+      (handed : IsHandedIn g w old halted merging job) where
+    abbrev made : List ℕ
+    made = map (λ (t : Synced W s). t.number) job.made.items
+
+    abbrev left : List ℕ
+    left = map (λ (f : Lent W s). f.number) job.leavings.items
+
+    all_lent : (ns : List ℕ) → AllByRecursion (IsLent g old next) handed.merge.lent.items
+        → AllByRecursion (λ (n : ℕ). has n handed.merge.lent.items ≡ true) ns → AllByRecursion (IsLent g old next) ns
+    all_lent [] each drawn = tt
+    all_lent (n ∷ ns) each drawn = (of_one (IsLent g old next) n handed.merge.lent.items each drawn.0, all_lent ns each drawn.1)
+
+    made_lent : AllByRecursion (IsLent g old next) made
+    made_lent = all_lent made
+        (recursion_from_All (IsLent g old next) handed.merge.lent.items (lent handed.merge handed.is_open))
+        (front_all (λ (n : ℕ). has n handed.merge.lent.items ≡ true) made left handed.drawn)
+
+    -- While the engine isn't halted each table's file can be taken back,
+    pub may_take_all : halted ≡ None → MayTakeAll g w mid job.made.items
+    may_take_all running = record {
+      each = may_each job.made.items made_lent (handed.tells running);
+      distinct = front_differ made left handed.distinct;
+    }
+
+    -- and each table's number was given before.
+    pub made_given : AllByRecursion (λ (t : Synced W s). t.number < next) job.made.items
+    made_given = of_each job.made.items made_lent
+      where
+        of_each : (ts : List (Synced W s)) → AllByRecursion (IsLent g old next) (map (λ (t : Synced W s). t.number) ts)
+            → AllByRecursion (λ (t : Synced W s). t.number < next) ts
+        of_each [] all = tt
+        of_each (t ∷ ts) all = (all.0.drawn, of_each ts all.1)

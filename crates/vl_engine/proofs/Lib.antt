@@ -17,6 +17,16 @@ pub mod Flushed
 pub mod Halted
 pub mod HandedIn
 pub mod Headed
+pub mod InstallDisk
+pub mod InstallDiskEdits
+pub mod InstallDiskLeaves
+pub mod InstallDiskStaged
+pub mod InstallDiskTables
+pub mod InstallDiskTaken
+pub mod InstallExits
+pub mod InstallKeeps
+pub mod InstallPut
+pub mod InstallReady
 pub mod KeepSteps
 pub mod KeptBy
 pub mod Knowing
@@ -26,6 +36,7 @@ pub mod LendsNew
 pub mod Merged
 pub mod Opened
 pub mod Planning
+pub mod PutIn
 pub mod ReadingPast
 pub mod Represented
 pub mod RotateFit

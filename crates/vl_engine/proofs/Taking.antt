@@ -1,6 +1,6 @@
 -- How the disk comes to have the files of a merge's tables, one by one.
-use Rattle.std.specs.Prelude.{◌≡◌, ◌≢◌, ◌⊎◌, ℕ, ◌+◌, Bool, ◌≤◌, get_or, true, false, ◌||◌, ◌==◌, List, [], ◌∷◌, ◌++◌, length, map, Option, None, Some, IsSome, IsTrue, Result, Ok, Err, IfErr, IsErrAnd, refl}
-use Rattle.std.specs.List.{AllByRecursion, AllZip, list_any, remove}
+use Rattle.std.specs.Prelude.{◌≡◌, ◌≢◌, ◌⊎◌, ℕ, Bool, ◌≤◌, get_or, true, false, ◌||◌, ◌==◌, List, [], ◌∷◌, ◌++◌, length, map, Option, None, Some, IsSome, IsTrue, Result, Ok, Err, IfErr, IsErrAnd, refl}
+use Rattle.std.specs.List.{AllByRecursion, AllZip, remove}
 use Rattle.std.specs.Option.{ForSome, option_map, unwrap_or}
 use Rattle.std.proofs.Common.{sym, ap, subst, ◌∙◌, arith, inl, inr, ⊎_elim, append_assoc}
 use Rattle.std.proofs.lemmas.Bool.Decides.{nat_tests}
@@ -21,7 +21,6 @@ use Rattle.vl_disk.specs.declared.writer.Writer.{Ghosts as Writers}
 use Rattle.vl_disk.specs.laws.NameMap.{get_inserted, get_inserted_other}
 use Rattle.vl_disk.specs.laws.Standing.{holds_after}
 use Rattle.vl_engine.specs.Taking.{IsHeldTable, MayTake, MayTakeAll, PutsAll, StopsTaking, Takes, TakesBack, WhileTaking, file_in, file_of_table, with_files}
-use Rattle.vl_layout.specs.Jobs.{AreDistinct}
 use Rattle.vl_layout.specs.declared.job.Target.{Target}
 use Rattle.vl_layout.specs.declared.table.Table as laid
 use Rattle.vl_model.specs.Numbers.{has}
@@ -210,7 +209,8 @@ module _ {D W : Type 0} (g : Ghosts D) (w : Writers W) {s : _} where
         → AllByRecursion (MayTake g w old) us → AllByRecursion (MayTake g w new) us
     each_still [] none may = tt
     each_still (u ∷ us) none may = (
-      still_may u (λ e. not_both (u.number == t.number) refl (has t.number (map (λ (v : Synced W s). v.number) us)) none (table_same u.number t.number e)) may.0,
+      still_may u (λ e. not_both (u.number == t.number) refl (has t.number (map (λ (v : Synced W s). v.number) us)) none
+          (table_same u.number t.number e)) may.0,
       each_still us (rest (u.number == t.number) (has t.number (map (λ (v : Synced W s). v.number) us)) none) may.1,
     )
       where
@@ -281,7 +281,8 @@ module _ {H : Type 0} (bytes : H → Option (List ℕ)) where
 
 module _ {D H W : Type 0} (g : Ghosts D) (bytes : H → Option (List ℕ)) (w : Writers W) {s : _} where
   -- told at the beginning, where it is told later
-  earlier : (ts : List (Synced W s)) (old mid : D) (P : Type 0) → Takes g w ts old mid → ForSome (g.told mid) (λ _. P) → ForSome (g.told old) (λ _. P)
+  earlier : (ts : List (Synced W s)) (old mid : D) (P : Type 0) → Takes g w ts old mid → ForSome (g.told mid) (λ _. P)
+      → ForSome (g.told old) (λ _. P)
   earlier ts old mid P takes so disk is = so (with_files w ts disk) (takes.changed ∙ ap (option_map (with_files w ts)) is)
 
   held_earlier : (ts : List (Synced W s)) (old mid : D) → Takes g w ts old mid → (tables : List (Table H)) (us : List (Synced W s))
@@ -345,7 +346,7 @@ module _ {D H W : Type 0} (g : Ghosts D) (bytes : H → Option (List ℕ)) (w : 
   pub stops_taking : (made : List (Synced W s)) (t : Synced W s) (left : List (Synced W s)) (old mid new : D)
       (before between : ReadyLevels H) (name : Name) → TakesBack g bytes w made (t ∷ left) old mid before between
       → Takes g w (t ∷ []) mid new → name ≡ table_name t.number → StopsTaking g w made old new name
-  stops_taking made t left old mid new before between name so_far one is = record {
+  stops_taking made t left old mid new before between _ so_far one is = record {
     before = so_far.front;
     at = t;
     left = left;

@@ -1,5 +1,5 @@
 -- What an install does, whatever the engine stands for: to the disk, and in memory.
-use Rattle.std.specs.Prelude.{◌≡◌, ◌≢◌, ◌⊎◌, ℕ, ◌+◌, ◌-◌, ◌^◌, true, List, [], ◌∷◌, ◌++◌, length, map, min, Option, None, Some, IsSome, Result, Ok, Err}
+use Rattle.std.specs.Prelude.{◌≡◌, ◌≢◌, ◌⊎◌, ℕ, ◌+◌, ◌-◌, ◌<◌, ◌^◌, false, nat_le, true, List, [], ◌∷◌, ◌++◌, length, map, min, Option, None, Some, IsSome, Result, Ok, Err}
 use Rattle.std.specs.Arc.{arc_value}
 use Rattle.std.specs.List.{AllByRecursion}
 use Rattle.std.specs.Option.{ForSome}
@@ -17,6 +17,7 @@ use Rattle.vl_compact.specs.declared.job.Job.{Job}
 use Rattle.vl_compact.specs.declared.ready.ReadyLevels.{ReadyLevels}
 use Rattle.vl_disk.specs.Calls.{ChangesNothing}
 use Rattle.vl_disk.specs.DiskState.{DiskState}
+use Rattle.vl_disk.specs.Performs.{FailedAt, calls_on}
 use Rattle.vl_disk.specs.declared.errors.Failed.{Failed}
 use Rattle.vl_disk.specs.declared.name.Name.TheVariants as names
 use Rattle.vl_disk.specs.declared.name.Name.{Name}
@@ -38,7 +39,10 @@ use Rattle.vl_layout.specs.declared.job.Target.{Target}
 use Rattle.vl_layout.specs.declared.layout.Layout.{Layout}
 use Rattle.vl_layout.specs.declared.table.Table as laid
 use Rattle.vl_manifest.specs.Switching.{Switches}
+use Rattle.vl_model.specs.Limits.{max_version_number}
 use Rattle.vl_model.specs.Numbers.{has}
+use Rattle.vl_model.specs.declared.counter.Counter.TheVariants as counters
+use Rattle.vl_model.specs.declared.counter.Counter.{Counter}
 use Rattle.vl_table.specs.Tables.{number_of}
 use Rattle.vl_version.specs.Bases.{HasSources}
 use Rattle.vl_version.specs.Replacing.{IsReplaced}
@@ -171,6 +175,30 @@ InstallsAs g bytes w job old new before after (Err (install.NoMemory back)) =
     (back ≡ job) × (after ≡ before) × ChangesNothing g old new ⊥
 InstallsAs g bytes w job old new before after (Err (install.Disk name)) = IsUninstalled g bytes w job old new before after name
 
+-- No version number is left, and nothing was done.
+pub record IsUsedUp {D H : Type 0} (old new : D) (before after : Core H) (counter : Counter) : Type 0 where
+  pub counter_is : counter ≡ counters.Version
+  pub used : nat_le max_version_number before.back.version_number ≡ true
+  pub disk : new ≡ old
+  pub core : after ≡ before
+
+-- a version number is left
+abbrev pub HasVersion : {H : Type 0} → Core H → Type 0
+HasVersion core = nat_le max_version_number core.back.version_number ≡ false
+
+-- so it is where a version number may be wanting, too
+abbrev pub InstallsUnraced : {D H R W : Type 0} → Ghosts D → (H → Option (List ℕ)) → Writers W → {s : _} → Job (Base H R) H W s
+    → (old new : D) → (before after : Core H) → Result (Unit {0}) (InstallFail (Base H R) H W s) → Type 0
+InstallsUnraced g bytes w job old new before after (Ok done) =
+    HasVersion before × IsInstalled g bytes w job old new before after
+InstallsUnraced g bytes w job old new before after (Err (install.Halted name)) = ⊥
+InstallsUnraced g bytes w job old new before after (Err (install.Raced key number)) = ⊥
+InstallsUnraced g bytes w job old new before after (Err (install.Exhausted counter)) = IsUsedUp old new before after counter
+InstallsUnraced g bytes w job old new before after (Err (install.NoMemory back)) =
+    (back ≡ job) × (after ≡ before) × ChangesNothing g old new ⊥
+InstallsUnraced g bytes w job old new before after (Err (install.Disk name)) =
+    HasVersion before × IsUninstalled g bytes w job old new before after name
+
 -- ---- what is answered
 
 -- the disk failed
@@ -201,11 +229,30 @@ HandsBack job old new (Err (install.Exhausted counter)) = new ≡ None
 HandsBack job old new (Err (install.NoMemory back)) = (back ≡ job) × (new ≡ old)
 HandsBack job old new (Err (install.Disk name)) = new ≡ None
 
--- a file that it fails at: one of the job's tables, or the manifest
-abbrev pub IsAtInstall : {V H W : Type 0} {s : _} → Job V H W s → (manifest : ℕ) → Name → Type 0
-IsAtInstall job manifest (names.Log n) = ⊥
-IsAtInstall {W = W} job manifest (names.Table n) = has n (map (λ (t : Synced W _). t.number) job.made.items) ≡ true
-IsAtInstall job manifest (names.Manifest n) = n ≡ manifest
+-- It failed at this file, by this count of changing calls before and behind it.
+pub data StopsInstall {V H W : Type 0} {s : _} (job : Job V H W s) (manifest before now : ℕ) (name : Name) : Type 0 where
+  -- at one of the job's tables, which are taken back by no changing call
+  at_table : (n : ℕ) → name ≡ names.Table n → has n (map (λ (t : Synced W _). t.number) job.made.items) ≡ true → now ≡ before
+      → StopsInstall job manifest before now name
+  -- at the manifest: of two calls on it the last that was made failed
+  at_manifest : FailedAt (calls_on 2 (names.Manifest manifest)) before now name → StopsInstall job manifest before now name
+
+-- where it may fail: nothing failed before, and a version number is left
+pub record MayInstall {H : Type 0} (core : Core H) : Type 0 where
+  pub running : core.front.halted ≡ None
+  pub version : core.back.version_number < max_version_number
+
+-- By then it was staged, and some of the job's tables were taken back, or all, and then named in part.
+pub record WritesInstall {D H R W : Type 0} (g : Ghosts D) (bytes : H → Option (List ℕ)) (w : Writers W) {s : _}
+    (job : Job (Base H R) H W s) (core : Core H) (old new : D) : Type 0 where
+  pub ready : ReadyInstall H
+  pub is_ready : IsReadyFor bytes w core job ready
+  pub begun : D
+  pub unchanged : ChangesNothing g old begun ⊥
+  pub levels : ReadyLevels H
+  pub name : Name
+  pub stops : StopsInstalling g bytes w job.made.items core.back.manifest.number ready.staged.edits.frame.items begun new
+      ready.levels levels name
 
 -- The files stand as before, and none but the job's tables may have come.
 abbrev pub KeepsAllBut : List ℕ → (old new : Option DiskState) → Type 0

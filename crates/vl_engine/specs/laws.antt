@@ -25,6 +25,7 @@ pub mod InstallSpared
 pub mod InstallSpares
 pub mod InstallTables
 pub mod InstallTaken
+pub mod InstallTidy
 pub mod IntactLaws
 pub mod KeepLaws
 pub mod KeptLaws

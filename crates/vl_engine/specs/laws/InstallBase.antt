@@ -1,8 +1,8 @@
 -- What an install's switch makes of the base, and that the layout behind it is tidy: its tables lead where those led that they
 -- take the place of, in logs that stay.
-use Rattle.std.specs.Prelude.{◌≡◌, ℕ, ◌+◌, true, false, not, List, [], ◌∷◌, ◌++◌, Some, refl}
-use Rattle.std.specs.List.{AllByRecursion, flat_map}
-use Rattle.std.proofs.Common.{sym, ap, subst, ◌∙◌, arith}
+use Rattle.std.specs.Prelude.{◌≡◌, ℕ, ◌+◌, true, not, List, [], ◌∷◌, ◌++◌, Some, refl}
+use Rattle.std.specs.List.{AllByRecursion}
+use Rattle.std.proofs.Common.{sym, ap, ◌∙◌, arith}
 use Rattle.std.proofs.lemmas.Bool.Decides.{nat_tests}
 use Rattle.vl_block.specs.Cutting.{points_of}
 use Rattle.vl_block.specs.declared.points.Point.{Point}
@@ -12,33 +12,27 @@ use Rattle.vl_engine.specs.Held.{Base, Holds, HoldsFiles, IsBase}
 use Rattle.vl_engine.specs.Pointed.{IsFramedAmong, layout_logs}
 use Rattle.vl_engine.specs.laws.FileLaws.{all_each, all_filtered, all_front}
 use Rattle.vl_engine.specs.laws.FlushBase.{state_more}
-use Rattle.vl_engine.specs.laws.FlushTidy.{IsThere, IsWider, all_alike, flat_far, memtables_far, tables_far, tidy_with}
+use Rattle.vl_engine.specs.laws.FlushTidy.{IsThere, IsWider, tables_far}
 use Rattle.vl_engine.specs.laws.HeldLaws.{sources_held}
 use Rattle.vl_engine.specs.laws.InstallApplies.{edits_of, install_applies, levels_are, state}
-use Rattle.vl_engine.specs.laws.InstallRulings.{GoesOn, install_made_so}
+use Rattle.vl_engine.specs.laws.InstallRulings.{GoesOn}
 use Rattle.vl_engine.specs.laws.InstallSpares.{rest_spares_installed}
+use Rattle.vl_engine.specs.laws.InstallTidy.{IsPutTidy, each_entry_put, logs_put, still_put, each_put, tidy_put}
 use Rattle.vl_engine.specs.laws.LedLaws.{AreFarTo, IsFarTo, among_in, led_in, points_led}
-use Rattle.vl_engine.specs.laws.SegmentLaws.{segment_wider}
 use Rattle.vl_engine.specs.laws.SwitchLaws.{switched_base}
 use Rattle.vl_frame.specs.Runs.{HasFrame}
 use Rattle.vl_layout.specs.Jobs.{AreLent, AreOutputs, Made}
-use Rattle.vl_layout.specs.Levels.{is_among}
-use Rattle.vl_layout.specs.Logs.{memtable}
-use Rattle.vl_layout.specs.Merging.{outputs}
-use Rattle.vl_layout.specs.Ruling.{Ruling, is_idle}
-use Rattle.vl_layout.specs.Rulings.Install.{InstallAnswer, installed, put_in}
+use Rattle.vl_layout.specs.Ruling.{is_idle}
+use Rattle.vl_layout.specs.Rulings.Install.{installed, put_in}
 use Rattle.vl_layout.specs.Start.{has_frames}
-use Rattle.vl_layout.specs.Sources.{behind_active, sources, table_entries, tables}
+use Rattle.vl_layout.specs.Sources.{tables}
 use Rattle.vl_layout.specs.Stock.{is_into}
 use Rattle.vl_layout.specs.Tidy.{IsTidy, sealed}
 use Rattle.vl_layout.specs.declared.job.OpenJob.{OpenJob}
 use Rattle.vl_layout.specs.declared.layout.Layout.{Layout}
 use Rattle.vl_layout.specs.declared.segment.Segment.{Segment}
 use Rattle.vl_layout.specs.declared.table.Table.{Table}
-use Rattle.vl_layout.specs.laws.ShowsLaws.{all_both}
-use Rattle.vl_layout_laws.specs.laws.JobTables.{IsIntoWell, all_made, entries_into, made_from, of_each_point}
-use Rattle.vl_layout_laws.specs.laws.Switches.{all_replaced}
-use Rattle.vl_layout_laws.specs.laws.TidyRulings.{install_tidy}
+use Rattle.vl_layout_laws.specs.laws.JobTables.{IsIntoWell, entries_into, of_each_point}
 use Rattle.vl_manifest.specs.Grammar.{edits_grammar}
 use Rattle.vl_manifest.specs.States.{are_next}
 use Rattle.vl_model.specs.Formats.{manifest_format}
@@ -82,28 +76,7 @@ module _ (b : Base) (l : Layout) (h : History) (o : OpenJob) (made : Made) (disk
   abbrev pub next : Layout
   next = installed o.job made l
 
-  -- ---- tables
-
-  -- What is so of all tables and of those that were made is so of all tables then.
-  pub tables_then : (P : Table → Type 0) → AllByRecursion P (tables l) → AllByRecursion P made.tables
-      → AllByRecursion P (tables next)
-  tables_then P were are = all_replaced P o.job.inputs made.tables are o.job.target l.levels
-      (all_each P (λ (t : Table). is_among o.job.inputs t ≡ false → P t) (tables l) (λ t so out. so) were)
-
-  -- what is so of all tables' entries is so of those of the tables that were made
-  made_entries : (Q : Entry → Type 0) → AllByRecursion (λ (t : Table). AllByRecursion Q t.entries) (tables l)
-      → AllByRecursion (λ (t : Table). AllByRecursion Q t.entries) made.tables
-  made_entries Q each = subst (AllByRecursion (λ (t : Table). AllByRecursion Q t.entries)) (sym can.all.tables)
-      (all_made (AllByRecursion Q) (λ (t : Table). AllByRecursion Q t.entries) (λ n es these. these) can.all.numbers
-      (outputs o.job)
-      (made_from l h o.job o.moved (tidy.job o can.goes.open_is) made can.all Q each))
-
-  -- ---- logs
-
-  -- Logs that stay are found as before.
-  pub stays : IsWider (sealed next) (sealed l)
-  stays n log at =
-      segment_wider (λ (x : Segment). not (is_idle (put_in o.job made l) x)) n log l.frozen l.flushed tidy.distinct.1 at
+  -- ---- the layout
 
   frozen_held : AllByRecursion (HoldsLog disk) l.frozen
   frozen_held = all_front (HoldsLog disk) l.frozen l.flushed (sources_held b l h base disk holds.files).sealed
@@ -115,30 +88,25 @@ module _ (b : Base) (l : Layout) (h : History) (o : OpenJob) (made : Made) (disk
       of [] least (from, between, readable, have, stands, rest) = record { readable = readable; have = have }
       of (x ∷ ss) least (from, between, readable, have, stands, rest) = of ss (x.number + 1) rest
 
-  memtables : AllByRecursion IsLogFile (l.active ∷ l.frozen)
-  memtables = (active_file, all_each (HoldsLog disk) IsLogFile l.frozen (λ x held. held.is) frozen_held)
+  put : IsPutTidy l h o made
+  put = record {
+    tidy = tidy;
+    goes = can.goes;
+    lent = can.lent;
+    all = can.all;
+    logs = (active_file, all_each (HoldsLog disk) IsLogFile l.frozen (λ x held. held.is) frozen_held);
+  }
 
-  -- ---- the layout
+  -- Logs that stay are found as before.
+  pub stays : IsWider (sealed next) (sealed l)
+  stays = logs_put l h o made put
 
-  -- with the logs of before it is tidy
   still_tidy : IsTidy (layout_logs l) next h
-  still_tidy = subst (λ (r : Ruling InstallAnswer). IsTidy (layout_logs l) r.layout r.history)
-      (sym (install_made_so l h o made can.goes))
-      (install_tidy (layout_logs l) l h tidy o can.goes.open_is made can.all can.lent)
+  still_tidy = still_put l h o made put
 
-  next_far : AreFarTo (IsThere (sealed next)) (sources next)
-  next_far = all_both (λ (e : Entry). IsFarTo (IsThere (sealed next)) e.body) (memtable l.active) (behind_active next)
-      (all_front (λ (e : Entry). IsFarTo (IsThere (sealed next)) e.body) (memtable l.active) []
-      (memtables_far (IsThere (sealed next)) (l.active ∷ []) (memtables.0, tt)))
-      (all_both (λ (e : Entry). IsFarTo (IsThere (sealed next)) e.body) (flat_map memtable l.frozen)
-      (flat_map table_entries (tables next))
-      (memtables_far (IsThere (sealed next)) l.frozen memtables.1)
-      (flat_far (IsThere (sealed next)) (tables next) (tables_far (sealed next) (tables next) still_tidy.placed)))
-
-  -- So it is tidy with the logs that stay.
+  -- It is tidy with the logs that stay.
   pub tidy_then : IsTidy (layout_logs next) next h
-  tidy_then = tidy_with (layout_logs l) (layout_logs next) next h still_tidy
-      (all_alike (sealed next) (sealed l) stays (sources next) next_far)
+  tidy_then = tidy_put l h o made put
 
   -- ---- which logs its tables lead into
 
@@ -158,8 +126,8 @@ module _ (b : Base) (l : Layout) (h : History) (o : OpenJob) (made : Made) (disk
     where
       was : WasLed n
       was = among_in WasLed (led_into (found_levels next.levels)) n
-          (led_in WasLed next.levels (tables_then (λ (t : Table). AreFarTo WasLed t.entries) were_led
-          (made_entries (λ (e : Entry). IsFarTo WasLed e.body) were_led))) among
+          (led_in WasLed next.levels (each_put l h o made put (λ (t : Table). AreFarTo WasLed t.entries) were_led
+          (each_entry_put l h o made put (λ (e : Entry). IsFarTo WasLed e.body) were_led))) among
 
       some_same : (x y : Segment) → Some x ≡ Some y → x ≡ y
       some_same x y e = cc
@@ -198,6 +166,6 @@ module _ (b : Base) (l : Layout) (h : History) (o : OpenJob) (made : Made) (disk
   pub files_then : HoldsFiles later next disk
   files_then = record {
     logs = holds.files.logs;
-    tables = tables_then (HoldsTable disk) holds.files.tables can.stand;
+    tables = each_put l h o made put (HoldsTable disk) holds.files.tables can.stand;
     flushed = all_filtered (HoldsLog disk) (λ (x : Segment). not (is_idle (put_in o.job made l) x)) l.flushed holds.files.flushed;
   }

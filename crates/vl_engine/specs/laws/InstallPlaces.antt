@@ -4,6 +4,7 @@ use Rattle.std.specs.List.{filter, flat_map}
 use Rattle.std.specs.Option.{option_map}
 use Rattle.std.proofs.Common.{sym, ap, subst, ◌∙◌, arith, append-nil}
 use Rattle.std.proofs.lemmas.Bool.Decides.{nat_tests}
+use Rattle.vl_compact.specs.Places.{count_before, found_at, index_of, place_from, place_of}
 use Rattle.vl_layout.specs.Levels.{at_level, in_key_order, is_among, is_before, level_at, replaced, without}
 use Rattle.vl_layout.specs.OpenJobs.{IsFitted, IsIdle, IsRoomy}
 use Rattle.vl_layout.specs.Sources.{tables}
@@ -14,30 +15,6 @@ use Rattle.vl_layout.specs.declared.layout.Layout.{Layout}
 use Rattle.vl_layout.specs.declared.table.Table.{Table}
 
 -- ---- the place
-
--- how many of these come before the new tables, by their last keys
-abbrev pub count_before : List Table → List Table → ℕ
-count_before new [] = 0
-count_before new (t ∷ ts) = if is_before t new then count_before new ts + 1 else 0
-
--- where the first of the inputs stands among these
-abbrev pub index_of : List ℕ → List Table → Option ℕ
-index_of inputs [] = None
-index_of inputs (t ∷ ts) = if is_among inputs t then Some 0 else option_map (λ n. n + 1) (index_of inputs ts)
-
-abbrev pub found_at : ℕ → Option ℕ → ℕ × ℕ → ℕ × ℕ
-found_at level None deeper = deeper
-found_at level (Some position) deeper = (level, position)
-
--- and where in levels, of which the first has this number
-abbrev pub place_from : ℕ → List ℕ → List (List Table) → ℕ × ℕ
-place_from level inputs [] = (level, 0)
-place_from level inputs (ts ∷ deeper) = found_at level (index_of inputs ts) (place_from (level + 1) inputs deeper)
-
--- The level and the position: in key order among the tables of a level that are no inputs, or where the one input stands.
-abbrev pub place_of : Target → List ℕ → List Table → List (List Table) → ℕ × ℕ
-place_of (Level n) inputs new levels = (n, count_before new (without inputs (level_at n levels)))
-place_of InPlace inputs new levels = place_from 0 inputs levels
 
 -- At a place of the levels without the inputs the new tables are put in.
 pub record IsPutAt (inputs : List ℕ) (new : List Table) (levels after : List (List Table)) (level position : ℕ) : Type 0 where

@@ -1,18 +1,20 @@
-ghost use Rattle.std.specs.Prelude.{◌≡◌, ◌<◌, ℕ, Err, None, Some, OnOk};
+ghost use Rattle.std.specs.Prelude.{◌≡◌, ◌<◌, ◌≤◌, ℕ, Err, None, Some, IfOk, OnOk};
+ghost use Rattle.std.specs.Option.{ForSome};
 ghost use Rattle.vl_compact.specs.Progress.{made_of};
 ghost use Rattle.vl_disk.specs.Calls.{ChangesNothing};
 ghost use Rattle.vl_disk.specs.DiskState.{DiskState};
 ghost use Rattle.vl_disk.specs.Faults.{HasCause, after_calls};
 ghost use Rattle.vl_disk.specs.declared.name.Name.{Name};
-ghost use Rattle.vl_engine.specs.Carries.{Carries};
-ghost use Rattle.vl_engine.specs.Installing.{HandsBack, InstallFailed, InstallLeavesDisk, InstallsAs, IsAtInstall, IsHandedIn, KeepsAllBut, install_otherwise};
+ghost use Rattle.vl_engine.specs.Carries.{Carries, StaysUntold};
+ghost use Rattle.vl_engine.specs.Installing.{HandsBack, InstallFailed, InstallLeavesDisk, InstallsAs, InstallsUnraced, IsHandedIn, KeepsAllBut, MayInstall, StopsInstall, WritesInstall, install_otherwise};
 ghost use Rattle.vl_engine.specs.Merging.{HasAllMerge, StandsOpen, install_effects, install_outcome, made_numbers};
 ghost use Rattle.vl_engine.specs.Represents.{Represents};
-ghost use Rattle.vl_engine.specs.Stepping.{AreLogFiles, Fits};
+ghost use Rattle.vl_engine.specs.Stepping.{AreLogFiles, Fits, LeavesNumbers};
 ghost use Rattle.vl_engine.specs.declared.fails.InstallFail.TheVariants as fails;
 ghost use Rattle.vl_layout.specs.Decides.{Decides};
 ghost use Rattle.vl_layout.specs.Jobs.{AreLent};
-ghost use Rattle.vl_layout.specs.Rulings.Install.{install_ruling};
+ghost use Rattle.vl_layout.specs.Rulings.Install.{install_ruling, race};
+ghost use Rattle.vl_layout.specs.declared.job.Job as laid_job;
 ghost use Rattle.vl_layout.specs.declared.job.OpenJob.{OpenJob};
 ghost use Rattle.vl_layout.specs.declared.layout.Layout.{Layout};
 ghost use Rattle.vl_model.specs.History.{History};
@@ -71,10 +73,26 @@ impl<D: Disk> Engine<D> {
         ensures files { KeepsAllBut (made_numbers job) (D.told self.old.disk) (D.told self.new.disk) }
         ensures calls { OnOk result (D.calls self.new.disk ≡ after_calls 2 (D.calls self.old.disk)) }
 
+        ensures untold { OnOk result (StaysUntold (D.told self.old.disk) (D.told self.new.disk)) }
+
         // A fault of the disk is counted, and nothing else raises the count. It is at one of the job's tables, or at the manifest.
         ensures cause { HasCause (D.faults self.old.disk) (D.faults self.new.disk) (InstallFailed result) }
         ensures stopped { (name : Name) → result ≡ Err (fails.Disk name)
-            → IsAtInstall job self.old.core.back.manifest.number name }
+            → StopsInstall job self.old.core.back.manifest.number (D.calls self.old.disk) (D.calls self.new.disk) name }
+
+        // It fails only where nothing failed before and a version number is left. By then some of the tables were taken back, or
+        // all, and named in part; and whatever a crash leaves gives no number above the next ones.
+        ensures failed { InstallFailed result → MayInstall self.old.core }
+        ensures meanwhile { InstallFailed result
+            → WritesInstall D.Watched D.Held.bytes D.Writer.Writer job self.old.core self.old.disk self.new.disk }
+        ensures leaves { (h : History) (l : Layout) (now : DiskState)
+            → Represents D.Held.bytes self.old.core (D.told self.old.disk) h l
+            → self.old.core.back.state.next_log ≤ self.old.core.back.next_log → InstallFailed result
+            → D.told self.new.disk ≡ Some now → LeavesNumbers l.next_log l.next_table now }
+
+        // The manifest gives the next log no number above that which it gets.
+        ensures within { (InstallFailed result → ⊥) → self.old.core.back.state.next_log ≤ self.old.core.back.next_log
+            → self.new.core.back.state.next_log ≤ self.new.core.back.next_log }
     {
         if let Some(name) = self.core.front.halted {
             self.merging = None;
@@ -98,7 +116,10 @@ impl<D: Disk> Engine<D> {
     fn raced(
         &self,
         job: &Job<Base<D::Held, D::Reader>, D::Held, D::Writer>,
-    ) -> Result<Option<(Key, u64)>, AllocError> {
+    ) -> Result<Option<(Key, u64)>, AllocError>
+        ensures raced { IfOk result (λ named. ForSome self.now.merging (λ merge. (j : laid_job.Job)
+            → HasAllMerge D.Writer.Writer D.Held.bytes job.now j → named ≡ race j merge.moved.items)) }
+    {
         let Some(merge) = &self.merging else {
             return Ok(None);
         };
@@ -112,7 +133,14 @@ impl<D: Disk> Engine<D> {
     fn install_unraced(
         &mut self,
         job: Job<Base<D::Held, D::Reader>, D::Held, D::Writer>,
-    ) -> Result<(), InstallFail<Base<D::Held, D::Reader>, D::Held, D::Writer>> {
+    ) -> Result<(), InstallFail<Base<D::Held, D::Reader>, D::Held, D::Writer>>
+        requires handed { IsHandedIn D.Watched D.Writer.Writer self.old.disk self.old.core.front.halted self.old.merging job }
+        requires running { self.old.core.front.halted ≡ None }
+        ensures as_unraced { InstallsUnraced D.Watched D.Held.bytes D.Writer.Writer job self.old.disk self.new.disk
+            self.old.core self.new.core result }
+        ensures handed { HandsBack job self.old.merging self.new.merging result }
+        ensures cause { HasCause (D.faults self.old.disk) (D.faults self.new.disk) (InstallFailed result) }
+    {
         if self.core.back.has_no_version() {
             self.merging = None;
             return Err(InstallFail::Exhausted(Counter::Version));

@@ -1,6 +1,4 @@
-use Rattle.std.proofs.Common.{[], ap, refl, subst, sym, ◌∙◌, ◌∷◌}
-use Rattle.std.specs.Option.{ForSome}
-use Rattle.vl_disk.specs.Disk.{Stands}
+use Rattle.std.proofs.Common.{[], ap, refl, subst, ◌∙◌, ◌∷◌}
 use Rattle.vl_disk.specs.Lending.{Adopts}
 use Rattle.vl_disk.specs.declared.name.Name.TheVariants as names
 use Rattle.vl_disk.specs.declared.name.Name.{Name}
@@ -22,15 +20,18 @@ returns-in-Ok-clause-put g c = record {
       (subst (λ (n : Name). Adopts g.D.Watched n (g.D.Writer.Writer.file c.args.table.writer) c.args.disk.now c.adopt.new.self)
       c.args.table.named c.adopt.ensures) c.in-Ok.ensures.no_change c.in-Ok.ensures.spare;
   tables = c.of.result ∷ [];
-  held = (record {
-    shape = c.of.ensures.shape;
-    held = λ disk told. ap g.D.Held.HeldFile.bytes c.of.ensures.held
-        ∙ held_bytes (names.Table c.args.table.number) (file_in (g.D.Writer.Writer.file c.args.table.writer))
-        (g.D.Watched.told c.args.disk.now) (g.D.Watched.told c.adopt.new.self)
-        (taken g.D.Watched g.D.Writer.Writer c.args.table c.args.disk.now c.adopt.new.self c.adopt.new.self c.requires.may
-        (subst (λ (n : Name). Adopts g.D.Watched n (g.D.Writer.Writer.file c.args.table.writer) c.args.disk.now c.adopt.new.self)
-        c.args.table.named c.adopt.ensures)) (g.D.Held.HeldFile.bytes c.in-Ok.held) c.in-Ok.ensures.held disk told;
-  }, tt);
+  held = (
+    record {
+      shape = c.of.ensures.shape;
+      held = λ disk told. ap g.D.Held.HeldFile.bytes c.of.ensures.held
+          ∙ held_bytes (names.Table c.args.table.number) (file_in (g.D.Writer.Writer.file c.args.table.writer))
+          (g.D.Watched.told c.args.disk.now) (g.D.Watched.told c.adopt.new.self)
+          (taken g.D.Watched g.D.Writer.Writer c.args.table c.args.disk.now c.adopt.new.self c.adopt.new.self c.requires.may
+          (subst (λ (n : Name). Adopts g.D.Watched n (g.D.Writer.Writer.file c.args.table.writer) c.args.disk.now c.adopt.new.self)
+          c.args.table.named c.adopt.ensures)) (g.D.Held.HeldFile.bytes c.in-Ok.held) c.in-Ok.ensures.held disk told;
+    },
+    tt,
+  );
   puts = puts_one g.D.Held.HeldFile.bytes c.args.levels.now c.put.new.self c.of.result
       (λ target inputs first ls new u ready are. c.put.ensures.put target inputs first ls new u ready are.0);
 }

@@ -1,0 +1,149 @@
+use Rattle.std.proofs.Common.{ap, arith, refl, subst, sym, ◌∙◌}
+use Rattle.vl_compact.specs.Laid.{AreLevelsOf}
+use Rattle.vl_disk.specs.declared.name.Name.TheVariants as names
+use Rattle.vl_engine.proofs.HandedIn.{made_given, may_take_all}
+use Rattle.vl_engine.proofs.Lending.{leaves_told, no_manifest, still_lent}
+use Rattle.vl_engine.proofs.PutIn.{fit_installed, fit_uninstalled, install_next, none_open, quiet_then}
+use Rattle.vl_engine.specs.Installing.{InstallsAll, StopsInstalling}
+use Rattle.vl_engine.specs.Known.{are_known}
+use Rattle.vl_engine.specs.Taking.{MayTakeAll}
+use Rattle.vl_layout.specs.Levels.{replaced}
+use Rattle.vl_engine.proofs.engine.Engine.put_in.Goals as goal
+
+-- memory was wanting
+
+pub invariant_of-self : goal.invariant_of-self
+invariant_of-self g c =
+    let core = c.args.self.now.core in
+    let wanted = c.ready_install.ensures in
+    record {
+      ready = λ disk told. c.args.self.now.ready disk (sym wanted.no_change.told ∙ told);
+      numbered = c.args.self.now.numbered;
+      lent = still_lent g.D.Watched c.args.self.now.disk c.ready_install.new.disk core.back.state.next_table core.back.state.next_table
+          c.args.self.now.merging (omega arith)
+          (leaves_told g.D.Watched c.args.self.now.disk c.ready_install.new.disk (names.Manifest core.back.manifest.number)
+          (no_manifest core.back.manifest.number) wanted.no_change.told wanted.elsewhere core.back.state.next_table)
+          c.args.self.now.lent;
+      known = c.args.self.now.known;
+    }
+
+-- what is asked before it is written
+
+pub write_install-requires-clause-may : goal.write_install-requires-clause-may
+write_install-requires-clause-may g c =
+    let core = c.args.self.now.core in
+    subst (λ ts. MayTakeAll g.D.Watched g.D.Writer.Writer c.ready_install.new.disk ts.items) (sym c.into_parts-made.ensures.made)
+    (may_take_all g.D.Watched g.D.Writer.Writer c.args.self.now.disk c.ready_install.new.disk core.back.state.next_table
+    core.back.manifest.number c.args.job c.in-Ok.ensures.no_change.told c.in-Ok.ensures.elsewhere core.front.halted
+    c.args.self.now.merging c.args.self.now.lent c.requires.handed c.requires.running)
+
+pub write_install-requires-clause-stands : goal.write_install-requires-clause-stands
+write_install-requires-clause-stands g c disk told =
+    ((c.args.self.now.ready disk (sym c.in-Ok.ensures.no_change.told ∙ told)).steps c.requires.running).manifest
+
+-- it is written
+
+pub invariant_of-self-in-Ok-write_install : goal.invariant_of-self-in-Ok-write_install
+invariant_of-self-in-Ok-write_install g c =
+    let core = c.args.self.now.core in
+    let ready = c.in-Ok.ready in
+    let wrote = c.in-Ok-write_install.ensures in
+    let others = c.apply_install.ensures.others in
+    let some = c.args.self.now.numbered in
+    let next = ap (λ s. s.next_table) c.apply_install.ensures.state
+    ∙ install_next _ core.back.state ready.staged.state c.in-Ok.ensures.ready.staged.says in
+    let next_log = ap (λ b. b.next_log) others in
+    record {
+      ready = fit_installed g.D.Watched g.D.Held.HeldFile.bytes g.D.Writer.Writer core _ c.ready_install.new.disk c.write_install.new.disk
+          (λ disk told. c.args.self.now.ready disk (sym c.in-Ok.ensures.no_change.told ∙ told)) c.args.job.made.items
+          (made_given g.D.Watched g.D.Writer.Writer c.args.self.now.disk c.ready_install.new.disk core.back.state.next_table
+          core.back.manifest.number c.args.job c.in-Ok.ensures.no_change.told c.in-Ok.ensures.elsewhere core.front.halted
+          c.args.self.now.merging c.args.self.now.lent c.requires.handed)
+          ready.staged.edits.frame.items ready.levels c.write_install.new.levels refl
+          (subst (λ ts. InstallsAll g.D.Watched g.D.Held.HeldFile.bytes g.D.Writer.Writer ts.items core.back.manifest.number
+          ready.staged.edits.frame.items c.ready_install.new.disk c.write_install.new.disk ready.levels c.write_install.new.levels)
+          c.into_parts-made.ensures.made wrote.writes) c.requires.running (ap (λ b. b.manifest.number) others ∙ wrote.number) next_log next;
+      numbered = (omega (arith, some, next_log), omega (arith, some, next));
+      lent = none_open g.D.Watched c.write_install.new.disk c.apply_install.new.self.state.next_table;
+      known = ap (λ m. are_known core.front.oracle.last m.entries)
+          (c.with_levels.ensures.active ∙ c.in-Ok.ensures.ready.version.active) ∙ c.args.self.now.known;
+    }
+
+pub returns-in-Ok-write_install-clause-as_installed : goal.returns-in-Ok-write_install-clause-as_installed
+returns-in-Ok-write_install-clause-as_installed g c =
+    let core = c.args.self.now.core in
+    let bytes = g.D.Held.HeldFile.bytes in
+    let ready = c.in-Ok.ready in
+    let wrote = c.in-Ok-write_install.ensures in
+    let others = c.apply_install.ensures.others in
+    record {
+      ready = ready;
+      is_ready = c.in-Ok.ensures.ready;
+      begun = c.ready_install.new.disk;
+      unchanged = c.in-Ok.ensures.no_change;
+      levels = c.write_install.new.levels;
+      writes = subst (λ ts. InstallsAll g.D.Watched bytes g.D.Writer.Writer ts.items core.back.manifest.number
+          ready.staged.edits.frame.items c.ready_install.new.disk c.write_install.new.disk ready.levels c.write_install.new.levels)
+          c.into_parts-made.ensures.made wrote.writes;
+      front = refl;
+      back = record {
+        number = ap (λ b. b.manifest.number) others ∙ wrote.number;
+        longer = ap (λ b. b.manifest.length) others ∙ wrote.longer;
+        state = c.apply_install.ensures.state;
+        next_log = ap (λ b. b.next_log) others;
+        waiting = ap (λ b. b.waiting.items) others;
+        version = c.apply_install.ensures.version;
+      };
+      active = c.with_levels.ensures.active;
+      frozen = c.with_levels.ensures.frozen;
+      logs = c.with_levels.ensures.logs;
+      put = λ target inputs first ls new_ones are begins.
+          subst (λ lv. AreLevelsOf bytes lv (replaced target inputs new_ones ls)) (sym c.with_levels.ensures.levels)
+          (c.into_levels.ensures target inputs first ls new_ones are begins);
+    }
+
+-- it failed
+
+pub invariant_of-self-in-Err : goal.invariant_of-self-in-Err
+invariant_of-self-in-Err g c =
+    let core = c.args.self.now.core in
+    let ready = c.in-Ok.ready in
+    let wrote = c.in-Err.ensures in
+    record {
+      ready = fit_uninstalled g.D.Watched g.D.Held.HeldFile.bytes g.D.Writer.Writer core _ c.ready_install.new.disk c.write_install.new.disk
+          (λ disk told. c.args.self.now.ready disk (sym c.in-Ok.ensures.no_change.told ∙ told)) c.args.job.made.items
+          (made_given g.D.Watched g.D.Writer.Writer c.args.self.now.disk c.ready_install.new.disk core.back.state.next_table
+          core.back.manifest.number c.args.job c.in-Ok.ensures.no_change.told c.in-Ok.ensures.elsewhere core.front.halted
+          c.args.self.now.merging c.args.self.now.lent c.requires.handed)
+          ready.staged.edits.frame.items ready.levels c.write_install.new.levels refl c.in-Err.name
+          (subst (λ ts. StopsInstalling g.D.Watched g.D.Held.HeldFile.bytes g.D.Writer.Writer ts.items core.back.manifest.number
+          ready.staged.edits.frame.items c.ready_install.new.disk c.write_install.new.disk ready.levels c.write_install.new.levels
+          c.in-Err.name) c.into_parts-made.ensures.made wrote.stops) refl;
+      numbered = c.args.self.now.numbered;
+      lent = none_open g.D.Watched c.write_install.new.disk core.back.state.next_table;
+      known = c.args.self.now.known;
+    }
+
+pub returns-in-Err-clause-as_installed : goal.returns-in-Err-clause-as_installed
+returns-in-Err-clause-as_installed g c =
+    let core = c.args.self.now.core in
+    let ready = c.in-Ok.ready in
+    let wrote = c.in-Err.ensures in
+    record {
+      ready = ready;
+      is_ready = c.in-Ok.ensures.ready;
+      begun = c.ready_install.new.disk;
+      unchanged = c.in-Ok.ensures.no_change;
+      levels = c.write_install.new.levels;
+      stops = subst (λ ts. StopsInstalling g.D.Watched g.D.Held.HeldFile.bytes g.D.Writer.Writer ts.items core.back.manifest.number
+          ready.staged.edits.frame.items c.ready_install.new.disk c.write_install.new.disk ready.levels c.write_install.new.levels
+          c.in-Err.name) c.into_parts-made.ensures.made wrote.stops;
+      front = refl;
+      version_number = refl;
+      state = refl;
+      version = refl;
+    }
+
+pub returns-in-Err-clause-cause : goal.returns-in-Err-clause-cause
+returns-in-Err-clause-cause g c =
+    quiet_then _ _ _ _ (Unit {0}) c.in-Ok.ensures.no_change.cause c.in-Err.ensures.cause (λ _. tt) (λ _. refl)
