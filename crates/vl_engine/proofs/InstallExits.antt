@@ -24,6 +24,8 @@ use Rattle.vl_disk.specs.laws.NameMap.{get_inserted_other, get_removed_other, sa
 use Rattle.vl_engine.proofs.Carrying.{IsWatched, carries_leaving, carries_no_memory, extends_itself}
 use Rattle.vl_engine.proofs.Committing.{decides_answered, decides_failed, decides_leaving, decides_short}
 use Rattle.vl_engine.proofs.Flushed.{runs_on}
+use Rattle.vl_engine.proofs.InstallDisk.{files_held, installed_carries, installed_fits, uninstalled_carries, uninstalled_fits}
+use Rattle.vl_engine.proofs.InstallDiskLeaves.{uninstalled_leaves}
 use Rattle.vl_engine.proofs.InstallKeeps.{log_installed}
 use Rattle.vl_engine.proofs.InstallPut.{stands_lost, stands_put}
 use Rattle.vl_engine.proofs.Planning.{fits_abandoned, represents_abandoned, stands_abandoned}
@@ -33,14 +35,14 @@ use Rattle.vl_engine.specs.Installing.{HandsBack, HasVersion, InstallFailed, Ins
 use Rattle.vl_engine.specs.Lent.{IsOpenAs, Opens}
 use Rattle.vl_engine.specs.Merging.{HasAllMerge, StandsOpen, install_effects, install_outcome, made_numbers}
 use Rattle.vl_engine.specs.Represents.{Represents, file_of}
-use Rattle.vl_engine.specs.Stepping.{AreLogFiles, Fits}
+use Rattle.vl_engine.specs.Stepping.{AreLogFiles, Fits, LeavesNumbers}
 use Rattle.vl_engine.specs.Taking.{StopsTaking, TakesBack, file_of_table, with_files}
 use Rattle.vl_engine.specs.declared.fails.InstallFail.TheVariants as install
 use Rattle.vl_engine.specs.declared.fails.InstallFail.{InstallFail}
 use Rattle.vl_engine.specs.declared.kept.Core.{Core}
 use Rattle.vl_engine.specs.declared.open.OpenMerge.{OpenMerge}
 use Rattle.vl_engine.specs.laws.InstallRulings.{GoesOn, install_exhausted, install_halted, install_made, install_made_so, install_raced, install_version}
-use Rattle.vl_layout.specs.Decides.{Answered, Decides, Effects, Failed, NoMemory, Outcome, no_effects}
+use Rattle.vl_layout.specs.Decides.{Answered, Decides, NoMemory, no_effects}
 use Rattle.vl_layout.specs.Jobs.{AreLent, Made, job_ended}
 use Rattle.vl_layout.specs.Ruling.{Ruling, has_no_version, leaving}
 use Rattle.vl_layout.specs.Rulings.Install as ruling
@@ -214,56 +216,51 @@ module _ {D H R W : Type 0} (g : Ghosts D) (bytes : H → Option (List ℕ)) (w 
             opens = subst (λ (m : Option OpenMerge). Opens m None) (sym over) tt;
           })
 
-      -- over a disk that holds the layout, by what it carries out where its tables were put in, and where the disk failed
-      abbrev pub CarriesOut : Outcome InstallAnswer → Effects → Type 0
-      CarriesOut outcome effects = Carries g bytes old new after h l rules (install_otherwise l made) outcome effects
-
+      -- over a disk that holds the layout,
       pub carries_by : IsWatched g → Represents bytes before (g.told old) h l
-          → (HasVersion before → IsInstalled g bytes w job old new before after
-          → CarriesOut (Answered Installed) (record no_effects { calls = 2 }))
-          → ((name : Name) → HasVersion before → IsUninstalled g bytes w job old new before after name
-          → CarriesOut (Failed (file_of name)) no_effects)
           → (result : Result (Unit {0}) (InstallFail (Base H R) H W s)) → InstallsUnraced g bytes w job old new before after result
-          → CarriesOut (install_outcome result) (install_effects result)
-      carries_by watched represents put lost (Ok done) did = put did.0 did.1
-      carries_by watched represents put lost (Err (install.Halted name)) did = absurd did
-      carries_by watched represents put lost (Err (install.Raced key number)) did = absurd did
-      carries_by watched represents put lost (Err (install.Exhausted counter)) did =
+          → Carries g bytes old new after h l rules (install_otherwise l made) (install_outcome result) (install_effects result)
+      carries_by watched represents (Ok done) did =
+          let held = represents.held running in
+          installed_carries g watched bytes w job merging before after old new handed none h l o represents (goes_on did.0) whole lent
+          (stands_put g bytes w job old new before after h l o is.stands opened whole held.state held.told_is
+          (handed.tells none held.state held.told_is) did.1 (goes_on did.0) lent
+          (files_held before.back (g.told old) h l held))
+          did.1
+      carries_by watched represents (Err (install.Halted name)) did = absurd did
+      carries_by watched represents (Err (install.Raced key number)) did = absurd did
+      carries_by watched represents (Err (install.Exhausted counter)) did =
           subst (λ (d : D). Carries g bytes old d after h l rules (install_otherwise l made) (Answered (ruling.Exhausted counter))
           no_effects) (sym did.disk)
           (subst (λ (c : Core H). Carries g bytes old old c h l rules (install_otherwise l made)
           (Answered (ruling.Exhausted counter)) no_effects) (sym did.core)
           (carries_ended (ruling.Exhausted counter) (ruled_used counter did.counter_is did.used) watched represents))
-      carries_by watched represents put lost (Err (install.NoMemory back)) did =
+      carries_by watched represents (Err (install.NoMemory back)) did =
           subst (λ (c : Core H). Carries g bytes old new c h l rules (install_otherwise l made) NoMemory no_effects)
           (sym did.1) (carries_short watched represents new did.2)
-      carries_by watched represents put lost (Err (install.Disk name)) did = lost name did.0 did.1
+      carries_by watched represents (Err (install.Disk name)) did =
+          uninstalled_carries g watched bytes w job merging before after old new handed none h l o represents (goes_on did.0) whole
+          lent name (stands_lost g bytes w job old new before after h l o is.stands opened whole name lent did.1) did.1
 
-      -- and what steps on files ask, likewise
-      abbrev pub FitsBehind : Outcome InstallAnswer → Effects → Type 0
-      FitsBehind outcome effects =
-          Decides (Fits (g.told new) after) h l rules (install_otherwise l made) outcome effects
-
+      -- and what steps on files ask.
       pub fits_by : Fits (g.told old) before h l
-          → (HasVersion before → IsInstalled g bytes w job old new before after
-          → FitsBehind (Answered Installed) (record no_effects { calls = 2 }))
-          → ((name : Name) → HasVersion before → IsUninstalled g bytes w job old new before after name
-          → FitsBehind (Failed (file_of name)) no_effects)
           → (result : Result (Unit {0}) (InstallFail (Base H R) H W s)) → InstallsUnraced g bytes w job old new before after result
-          → FitsBehind (install_outcome result) (install_effects result)
-      fits_by fits put lost (Ok done) did = put did.0 did.1
-      fits_by fits put lost (Err (install.Halted name)) did = absurd did
-      fits_by fits put lost (Err (install.Raced key number)) did = absurd did
-      fits_by fits put lost (Err (install.Exhausted counter)) did =
+          → Decides (Fits (g.told new) after) h l rules (install_otherwise l made) (install_outcome result) (install_effects result)
+      fits_by fits (Ok done) did =
+          installed_fits g bytes w job before after old new h l o is.stands fits (goes_on did.0) did.1
+      fits_by fits (Err (install.Halted name)) did = absurd did
+      fits_by fits (Err (install.Raced key number)) did = absurd did
+      fits_by fits (Err (install.Exhausted counter)) did =
           subst (λ (d : D). Decides (Fits (g.told d) after) h l rules (install_otherwise l made)
           (Answered (ruling.Exhausted counter)) no_effects) (sym did.disk)
           (subst (λ (c : Core H). Decides (Fits (g.told old) c) h l rules (install_otherwise l made)
           (Answered (ruling.Exhausted counter)) no_effects) (sym did.core)
           (fits_ended (ruling.Exhausted counter) (ruled_used counter did.counter_is did.used) fits))
-      fits_by fits put lost (Err (install.NoMemory back)) did =
+      fits_by fits (Err (install.NoMemory back)) did =
           subst (λ (c : Core H). Decides (Fits (g.told new) c) h l rules (install_otherwise l made) NoMemory no_effects)
           (sym did.1) (fits_short fits new did.2)
-      fits_by fits put lost (Err (install.Disk name)) did = lost name did.0 did.1
+      fits_by fits (Err (install.Disk name)) did =
+          uninstalled_fits g bytes w job before after old new h l o is.stands fits (goes_on did.0) name did.1
 
 -- ---- the disk
 
@@ -382,6 +379,16 @@ module _ {D H R W : Type 0} (g : Ghosts D) (bytes : H → Option (List ℕ)) (w 
     name = at;
     stops = did.1.stops;
   }
+
+  -- Whatever a crash leaves then gives no number above the next ones.
+  pub leaves_by : IsWatched g → before.front.halted ≡ None → (h : History) (l : Layout) → Represents bytes before (g.told old) h l
+      → before.back.state.next_log ≤ before.back.next_log → (result : Result (Unit {0}) (InstallFail (Base H R) H W s))
+      → InstallsUnraced g bytes w job old new before after result → InstallFailed result → (now : DiskState)
+      → g.told new ≡ Some now → LeavesNumbers l.next_log l.next_table now
+  leaves_by watched none h l represents within result did failed now told =
+      let wrote = meanwhile_by result did failed in
+      uninstalled_leaves g watched bytes w job before old new none h l represents within wrote.ready wrote.is_ready wrote.begun
+      wrote.unchanged wrote.levels wrote.name wrote.stops now told
 
   -- Where it was refused or done, the manifest gives the next log no number above that which it gets.
   pub within_by : (result : Result (Unit {0}) (InstallFail (Base H R) H W s))

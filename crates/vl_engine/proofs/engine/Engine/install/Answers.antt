@@ -1,0 +1,338 @@
+use Rattle.std.proofs.Common.{arith, refl, ◌∙◌}
+use Rattle.std.specs.Prelude.{None}
+use Rattle.vl_engine.proofs.InstallExits.{calls_by, carries_by, carries_ended, carries_short, core_by, failed_by, files_by, fits_by, fits_ended, fits_short, keeps_told, leaves_by, meanwhile_by, raced_so, ruled_halted, ruled_raced, stands_by, stands_ended, stands_short, stopped_by, untold_by, untouched_by, within_by}
+use Rattle.vl_engine.proofs.Untouched.{alone}
+use Rattle.vl_engine.specs.Merging.{made_numbers}
+use Rattle.vl_engine.specs.Represents.{file_of}
+use Rattle.vl_layout.specs.Rulings.Install as ruling
+use Rattle.vl_engine.proofs.engine.Engine.install.Goals as goal
+
+-- a call failed before
+
+pub returns-in-Some-clause-stands : goal.returns-in-Some-clause-stands
+returns-in-Some-clause-stands g c state h l o told is opened files whole lent =
+    stands_ended g.D.Watched g.D.Held.HeldFile.bytes g.D.Writer.Writer c.args.job c.args.self.now.disk c.args.self.now.core
+    c.args.self.now.merging h l o is opened whole lent
+    (ruling.Halted (file_of c.in-Some.name))
+    (ruled_halted g.D.Watched g.D.Held.HeldFile.bytes g.D.Writer.Writer c.args.job c.args.self.now.disk c.args.self.now.core
+    c.args.self.now.merging h l o is opened whole lent
+    c.in-Some.name c.in-Some.is) None refl
+
+pub returns-in-Some-clause-carries : goal.returns-in-Some-clause-carries
+returns-in-Some-clause-carries g c h l o represents is opened whole lent =
+    carries_ended g.D.Watched g.D.Held.HeldFile.bytes g.D.Writer.Writer c.args.job c.args.self.now.disk c.args.self.now.core
+    c.args.self.now.merging h l o is opened whole lent
+    (ruling.Halted (file_of c.in-Some.name))
+    (ruled_halted g.D.Watched g.D.Held.HeldFile.bytes g.D.Writer.Writer c.args.job c.args.self.now.disk c.args.self.now.core
+    c.args.self.now.merging h l o is opened whole lent
+    c.in-Some.name c.in-Some.is)
+    (record { only_now = g.met.D.Disk.only_now; counts_now = g.met.D.Disk.counts_now }) represents
+
+pub returns-in-Some-clause-fits : goal.returns-in-Some-clause-fits
+returns-in-Some-clause-fits g c h l o is opened whole lent fits =
+    fits_ended g.D.Watched g.D.Held.HeldFile.bytes g.D.Writer.Writer c.args.job c.args.self.now.disk c.args.self.now.core
+    c.args.self.now.merging h l o is opened whole lent
+    (ruling.Halted (file_of c.in-Some.name))
+    (ruled_halted g.D.Watched g.D.Held.HeldFile.bytes g.D.Writer.Writer c.args.job c.args.self.now.disk c.args.self.now.core
+    c.args.self.now.merging h l o is opened whole lent
+    c.in-Some.name c.in-Some.is) fits
+
+pub returns-in-Some-clause-untouched : goal.returns-in-Some-clause-untouched
+returns-in-Some-clause-untouched g c leaves =
+    alone g.D.Watched c.args.self.now.disk c.args.self.now.disk refl
+
+pub returns-in-Some-clause-core : goal.returns-in-Some-clause-core
+returns-in-Some-clause-core g c leaves =
+    refl
+
+pub returns-in-Some-clause-files : goal.returns-in-Some-clause-files
+returns-in-Some-clause-files g c =
+    keeps_told (made_numbers c.args.job) (g.D.Watched.told c.args.self.now.disk) (g.D.Watched.told c.args.self.now.disk) refl
+
+pub returns-in-Some-clause-calls : goal.returns-in-Some-clause-calls
+returns-in-Some-clause-calls g c =
+    tt
+
+pub returns-in-Some-clause-untold : goal.returns-in-Some-clause-untold
+returns-in-Some-clause-untold g c =
+    tt
+
+pub returns-in-Some-clause-cause : goal.returns-in-Some-clause-cause
+returns-in-Some-clause-cause g c =
+    record { later = omega arith; rose = λ failed. absurd failed; steady = λ fine. refl }
+
+pub returns-in-Some-clause-stopped : goal.returns-in-Some-clause-stopped
+returns-in-Some-clause-stopped g c name failed =
+    absurd cc
+
+pub returns-in-Some-clause-failed : goal.returns-in-Some-clause-failed
+returns-in-Some-clause-failed g c failed =
+    absurd failed
+
+pub returns-in-Some-clause-meanwhile : goal.returns-in-Some-clause-meanwhile
+returns-in-Some-clause-meanwhile g c failed =
+    absurd failed
+
+pub returns-in-Some-clause-leaves : goal.returns-in-Some-clause-leaves
+returns-in-Some-clause-leaves g c h l now represents within failed =
+    absurd failed
+
+pub returns-in-Some-clause-within : goal.returns-in-Some-clause-within
+returns-in-Some-clause-within g c fine within =
+    within
+
+pub returns-in-Some-clause-handed : goal.returns-in-Some-clause-handed
+returns-in-Some-clause-handed g c =
+    refl
+
+-- a deletion that it dropped was moved meanwhile
+
+pub returns-in-Ok-Some-clause-stands : goal.returns-in-Ok-Some-clause-stands
+returns-in-Ok-Some-clause-stands g c state h l o told is opened files whole lent =
+    stands_ended g.D.Watched g.D.Held.HeldFile.bytes g.D.Writer.Writer c.args.job c.args.self.now.disk c.args.self.now.core
+    c.args.self.now.merging h l o is opened whole lent
+    (ruling.Raced c.in-Ok-Some.key c.in-Ok-Some.version_number)
+    (ruled_raced g.D.Watched g.D.Held.HeldFile.bytes g.D.Writer.Writer c.args.job c.args.self.now.disk c.args.self.now.core
+    c.args.self.now.merging h l o is opened whole lent
+    c.in_default.is (c.in-Ok-Some.key, c.in-Ok-Some.version_number)
+    (raced_so g.D.Watched g.D.Held.HeldFile.bytes g.D.Writer.Writer c.args.job c.args.self.now.disk c.args.self.now.core
+    c.args.self.now.merging h l o is opened whole lent
+    c.requires c.in-Ok-Some.field-0 c.in-Ok-Some.ensures.raced ∙ c.in-Ok-Some.field-0-is)) None refl
+
+pub returns-in-Ok-Some-clause-carries : goal.returns-in-Ok-Some-clause-carries
+returns-in-Ok-Some-clause-carries g c h l o represents is opened whole lent =
+    carries_ended g.D.Watched g.D.Held.HeldFile.bytes g.D.Writer.Writer c.args.job c.args.self.now.disk c.args.self.now.core
+    c.args.self.now.merging h l o is opened whole lent
+    (ruling.Raced c.in-Ok-Some.key c.in-Ok-Some.version_number)
+    (ruled_raced g.D.Watched g.D.Held.HeldFile.bytes g.D.Writer.Writer c.args.job c.args.self.now.disk c.args.self.now.core
+    c.args.self.now.merging h l o is opened whole lent
+    c.in_default.is (c.in-Ok-Some.key, c.in-Ok-Some.version_number)
+    (raced_so g.D.Watched g.D.Held.HeldFile.bytes g.D.Writer.Writer c.args.job c.args.self.now.disk c.args.self.now.core
+    c.args.self.now.merging h l o is opened whole lent
+    c.requires c.in-Ok-Some.field-0 c.in-Ok-Some.ensures.raced ∙ c.in-Ok-Some.field-0-is))
+    (record { only_now = g.met.D.Disk.only_now; counts_now = g.met.D.Disk.counts_now }) represents
+
+pub returns-in-Ok-Some-clause-fits : goal.returns-in-Ok-Some-clause-fits
+returns-in-Ok-Some-clause-fits g c h l o is opened whole lent fits =
+    fits_ended g.D.Watched g.D.Held.HeldFile.bytes g.D.Writer.Writer c.args.job c.args.self.now.disk c.args.self.now.core
+    c.args.self.now.merging h l o is opened whole lent
+    (ruling.Raced c.in-Ok-Some.key c.in-Ok-Some.version_number)
+    (ruled_raced g.D.Watched g.D.Held.HeldFile.bytes g.D.Writer.Writer c.args.job c.args.self.now.disk c.args.self.now.core
+    c.args.self.now.merging h l o is opened whole lent
+    c.in_default.is (c.in-Ok-Some.key, c.in-Ok-Some.version_number)
+    (raced_so g.D.Watched g.D.Held.HeldFile.bytes g.D.Writer.Writer c.args.job c.args.self.now.disk c.args.self.now.core
+    c.args.self.now.merging h l o is opened whole lent
+    c.requires c.in-Ok-Some.field-0 c.in-Ok-Some.ensures.raced ∙ c.in-Ok-Some.field-0-is)) fits
+
+pub returns-in-Ok-Some-clause-untouched : goal.returns-in-Ok-Some-clause-untouched
+returns-in-Ok-Some-clause-untouched g c leaves =
+    alone g.D.Watched c.args.self.now.disk c.args.self.now.disk refl
+
+pub returns-in-Ok-Some-clause-core : goal.returns-in-Ok-Some-clause-core
+returns-in-Ok-Some-clause-core g c leaves =
+    refl
+
+pub returns-in-Ok-Some-clause-files : goal.returns-in-Ok-Some-clause-files
+returns-in-Ok-Some-clause-files g c =
+    keeps_told (made_numbers c.args.job) (g.D.Watched.told c.args.self.now.disk) (g.D.Watched.told c.args.self.now.disk) refl
+
+pub returns-in-Ok-Some-clause-calls : goal.returns-in-Ok-Some-clause-calls
+returns-in-Ok-Some-clause-calls g c =
+    tt
+
+pub returns-in-Ok-Some-clause-untold : goal.returns-in-Ok-Some-clause-untold
+returns-in-Ok-Some-clause-untold g c =
+    tt
+
+pub returns-in-Ok-Some-clause-cause : goal.returns-in-Ok-Some-clause-cause
+returns-in-Ok-Some-clause-cause g c =
+    record { later = omega arith; rose = λ failed. absurd failed; steady = λ fine. refl }
+
+pub returns-in-Ok-Some-clause-stopped : goal.returns-in-Ok-Some-clause-stopped
+returns-in-Ok-Some-clause-stopped g c name failed =
+    absurd cc
+
+pub returns-in-Ok-Some-clause-failed : goal.returns-in-Ok-Some-clause-failed
+returns-in-Ok-Some-clause-failed g c failed =
+    absurd failed
+
+pub returns-in-Ok-Some-clause-meanwhile : goal.returns-in-Ok-Some-clause-meanwhile
+returns-in-Ok-Some-clause-meanwhile g c failed =
+    absurd failed
+
+pub returns-in-Ok-Some-clause-leaves : goal.returns-in-Ok-Some-clause-leaves
+returns-in-Ok-Some-clause-leaves g c h l now represents within failed =
+    absurd failed
+
+pub returns-in-Ok-Some-clause-within : goal.returns-in-Ok-Some-clause-within
+returns-in-Ok-Some-clause-within g c fine within =
+    within
+
+pub returns-in-Ok-Some-clause-handed : goal.returns-in-Ok-Some-clause-handed
+returns-in-Ok-Some-clause-handed g c =
+    refl
+
+-- memory was wanting
+
+pub returns-in-Err-clause-stands : goal.returns-in-Err-clause-stands
+returns-in-Err-clause-stands g c state h l o told is opened files whole lent =
+    stands_short g.D.Watched g.D.Held.HeldFile.bytes g.D.Writer.Writer c.args.job c.args.self.now.disk c.args.self.now.core
+    c.args.self.now.merging h l o is opened whole lent
+
+pub returns-in-Err-clause-carries : goal.returns-in-Err-clause-carries
+returns-in-Err-clause-carries g c h l o represents is opened whole lent =
+    carries_short g.D.Watched g.D.Held.HeldFile.bytes g.D.Writer.Writer c.args.job c.args.self.now.disk c.args.self.now.core
+    c.args.self.now.merging h l o is opened whole lent
+    (record { only_now = g.met.D.Disk.only_now; counts_now = g.met.D.Disk.counts_now }) represents c.args.self.now.disk (alone g.D.Watched c.args.self.now.disk c.args.self.now.disk refl)
+
+pub returns-in-Err-clause-fits : goal.returns-in-Err-clause-fits
+returns-in-Err-clause-fits g c h l o is opened whole lent fits =
+    fits_short g.D.Watched g.D.Held.HeldFile.bytes g.D.Writer.Writer c.args.job c.args.self.now.disk c.args.self.now.core
+    c.args.self.now.merging h l o is opened whole lent
+    fits c.args.self.now.disk (alone g.D.Watched c.args.self.now.disk c.args.self.now.disk refl)
+
+pub returns-in-Err-clause-untouched : goal.returns-in-Err-clause-untouched
+returns-in-Err-clause-untouched g c leaves =
+    alone g.D.Watched c.args.self.now.disk c.args.self.now.disk refl
+
+pub returns-in-Err-clause-core : goal.returns-in-Err-clause-core
+returns-in-Err-clause-core g c leaves =
+    refl
+
+pub returns-in-Err-clause-files : goal.returns-in-Err-clause-files
+returns-in-Err-clause-files g c =
+    keeps_told (made_numbers c.args.job) (g.D.Watched.told c.args.self.now.disk) (g.D.Watched.told c.args.self.now.disk) refl
+
+pub returns-in-Err-clause-calls : goal.returns-in-Err-clause-calls
+returns-in-Err-clause-calls g c =
+    tt
+
+pub returns-in-Err-clause-untold : goal.returns-in-Err-clause-untold
+returns-in-Err-clause-untold g c =
+    tt
+
+pub returns-in-Err-clause-cause : goal.returns-in-Err-clause-cause
+returns-in-Err-clause-cause g c =
+    record { later = omega arith; rose = λ failed. absurd failed; steady = λ fine. refl }
+
+pub returns-in-Err-clause-stopped : goal.returns-in-Err-clause-stopped
+returns-in-Err-clause-stopped g c name failed =
+    absurd cc
+
+pub returns-in-Err-clause-failed : goal.returns-in-Err-clause-failed
+returns-in-Err-clause-failed g c failed =
+    absurd failed
+
+pub returns-in-Err-clause-meanwhile : goal.returns-in-Err-clause-meanwhile
+returns-in-Err-clause-meanwhile g c failed =
+    absurd failed
+
+pub returns-in-Err-clause-leaves : goal.returns-in-Err-clause-leaves
+returns-in-Err-clause-leaves g c h l now represents within failed =
+    absurd failed
+
+pub returns-in-Err-clause-within : goal.returns-in-Err-clause-within
+returns-in-Err-clause-within g c fine within =
+    within
+
+pub returns-in-Err-clause-handed : goal.returns-in-Err-clause-handed
+returns-in-Err-clause-handed g c =
+    (refl, refl)
+
+-- nothing stands against it but that a version number may be wanting
+
+pub returns-in-Ok-None-clause-stands : goal.returns-in-Ok-None-clause-stands
+returns-in-Ok-None-clause-stands g c state h l o told is opened files whole lent =
+    stands_by g.D.Watched g.D.Held.HeldFile.bytes g.D.Writer.Writer c.args.job c.args.self.now.disk c.args.self.now.core
+    c.args.self.now.merging h l o is opened whole lent
+    c.requires c.in_default.is
+    (raced_so g.D.Watched g.D.Held.HeldFile.bytes g.D.Writer.Writer c.args.job c.args.self.now.disk c.args.self.now.core
+    c.args.self.now.merging h l o is opened whole lent
+    c.requires c.in-Ok-None.field-0 c.in-Ok-None.ensures.raced ∙ c.in-Ok-None.field-0-is)
+    c.install_unraced.new.self.disk c.install_unraced.new.self.core
+    state told files c.install_unraced.new.self.merging c.install_unraced.result c.install_unraced.ensures.as_unraced
+    c.install_unraced.ensures.handed
+
+pub returns-in-Ok-None-clause-carries : goal.returns-in-Ok-None-clause-carries
+returns-in-Ok-None-clause-carries g c h l o represents is opened whole lent =
+    carries_by g.D.Watched g.D.Held.HeldFile.bytes g.D.Writer.Writer c.args.job c.args.self.now.disk c.args.self.now.core
+    c.args.self.now.merging h l o is opened whole lent
+    c.requires c.in_default.is
+    (raced_so g.D.Watched g.D.Held.HeldFile.bytes g.D.Writer.Writer c.args.job c.args.self.now.disk c.args.self.now.core
+    c.args.self.now.merging h l o is opened whole lent
+    c.requires c.in-Ok-None.field-0 c.in-Ok-None.ensures.raced ∙ c.in-Ok-None.field-0-is)
+    c.install_unraced.new.self.disk c.install_unraced.new.self.core
+    (record { only_now = g.met.D.Disk.only_now; counts_now = g.met.D.Disk.counts_now }) represents
+    c.install_unraced.result c.install_unraced.ensures.as_unraced
+
+pub returns-in-Ok-None-clause-fits : goal.returns-in-Ok-None-clause-fits
+returns-in-Ok-None-clause-fits g c h l o is opened whole lent fits =
+    fits_by g.D.Watched g.D.Held.HeldFile.bytes g.D.Writer.Writer c.args.job c.args.self.now.disk c.args.self.now.core
+    c.args.self.now.merging h l o is opened whole lent
+    c.requires c.in_default.is
+    (raced_so g.D.Watched g.D.Held.HeldFile.bytes g.D.Writer.Writer c.args.job c.args.self.now.disk c.args.self.now.core
+    c.args.self.now.merging h l o is opened whole lent
+    c.requires c.in-Ok-None.field-0 c.in-Ok-None.ensures.raced ∙ c.in-Ok-None.field-0-is)
+    c.install_unraced.new.self.disk c.install_unraced.new.self.core
+    fits c.install_unraced.result c.install_unraced.ensures.as_unraced
+
+pub returns-in-Ok-None-clause-untouched : goal.returns-in-Ok-None-clause-untouched
+returns-in-Ok-None-clause-untouched g c leaves =
+    untouched_by g.D.Watched g.D.Held.HeldFile.bytes g.D.Writer.Writer c.args.job c.args.self.now.disk c.install_unraced.new.self.disk
+    c.args.self.now.core c.install_unraced.new.self.core c.install_unraced.result c.install_unraced.ensures.as_unraced leaves
+
+pub returns-in-Ok-None-clause-core : goal.returns-in-Ok-None-clause-core
+returns-in-Ok-None-clause-core g c leaves =
+    core_by g.D.Watched g.D.Held.HeldFile.bytes g.D.Writer.Writer c.args.job c.args.self.now.disk c.install_unraced.new.self.disk
+    c.args.self.now.core c.install_unraced.new.self.core c.install_unraced.result c.install_unraced.ensures.as_unraced leaves
+
+pub returns-in-Ok-None-clause-handed : goal.returns-in-Ok-None-clause-handed
+returns-in-Ok-None-clause-handed g c =
+    c.install_unraced.ensures.handed
+
+pub returns-in-Ok-None-clause-files : goal.returns-in-Ok-None-clause-files
+returns-in-Ok-None-clause-files g c =
+    files_by g.D.Watched g.D.Held.HeldFile.bytes g.D.Writer.Writer c.args.job c.args.self.now.disk c.install_unraced.new.self.disk
+    c.args.self.now.core c.install_unraced.new.self.core c.install_unraced.result c.install_unraced.ensures.as_unraced
+
+pub returns-in-Ok-None-clause-calls : goal.returns-in-Ok-None-clause-calls
+returns-in-Ok-None-clause-calls g c =
+    calls_by g.D.Watched g.D.Held.HeldFile.bytes g.D.Writer.Writer c.args.job c.args.self.now.disk c.install_unraced.new.self.disk
+    c.args.self.now.core c.install_unraced.new.self.core c.install_unraced.result c.install_unraced.ensures.as_unraced
+
+pub returns-in-Ok-None-clause-untold : goal.returns-in-Ok-None-clause-untold
+returns-in-Ok-None-clause-untold g c =
+    untold_by g.D.Watched g.D.Held.HeldFile.bytes g.D.Writer.Writer c.args.job c.args.self.now.disk c.install_unraced.new.self.disk
+    c.args.self.now.core c.install_unraced.new.self.core c.install_unraced.result c.install_unraced.ensures.as_unraced
+
+pub returns-in-Ok-None-clause-cause : goal.returns-in-Ok-None-clause-cause
+returns-in-Ok-None-clause-cause g c =
+    c.install_unraced.ensures.cause
+
+pub returns-in-Ok-None-clause-stopped : goal.returns-in-Ok-None-clause-stopped
+returns-in-Ok-None-clause-stopped g c name failed =
+    stopped_by g.D.Watched g.D.Held.HeldFile.bytes g.D.Writer.Writer c.args.job c.args.self.now.disk c.install_unraced.new.self.disk
+    c.args.self.now.core c.install_unraced.new.self.core c.install_unraced.result c.install_unraced.ensures.as_unraced name failed
+
+pub returns-in-Ok-None-clause-failed : goal.returns-in-Ok-None-clause-failed
+returns-in-Ok-None-clause-failed g c failed =
+    failed_by g.D.Watched g.D.Held.HeldFile.bytes g.D.Writer.Writer c.args.job c.args.self.now.disk c.install_unraced.new.self.disk
+    c.args.self.now.core c.install_unraced.new.self.core c.in_default.is
+    c.install_unraced.result c.install_unraced.ensures.as_unraced failed
+
+pub returns-in-Ok-None-clause-meanwhile : goal.returns-in-Ok-None-clause-meanwhile
+returns-in-Ok-None-clause-meanwhile g c failed =
+    meanwhile_by g.D.Watched g.D.Held.HeldFile.bytes g.D.Writer.Writer c.args.job c.args.self.now.disk c.install_unraced.new.self.disk
+    c.args.self.now.core c.install_unraced.new.self.core c.install_unraced.result c.install_unraced.ensures.as_unraced failed
+
+pub returns-in-Ok-None-clause-leaves : goal.returns-in-Ok-None-clause-leaves
+returns-in-Ok-None-clause-leaves g c h l now represents within failed told =
+    leaves_by g.D.Watched g.D.Held.HeldFile.bytes g.D.Writer.Writer c.args.job c.args.self.now.disk c.install_unraced.new.self.disk
+    c.args.self.now.core c.install_unraced.new.self.core
+    (record { only_now = g.met.D.Disk.only_now; counts_now = g.met.D.Disk.counts_now }) c.in_default.is h l represents within
+    c.install_unraced.result c.install_unraced.ensures.as_unraced failed now told
+
+pub returns-in-Ok-None-clause-within : goal.returns-in-Ok-None-clause-within
+returns-in-Ok-None-clause-within g c fine within =
+    within_by g.D.Watched g.D.Held.HeldFile.bytes g.D.Writer.Writer c.args.job c.args.self.now.disk c.install_unraced.new.self.disk
+    c.args.self.now.core c.install_unraced.new.self.core c.install_unraced.result c.install_unraced.ensures.as_unraced fine within
