@@ -588,7 +588,5 @@ module _ {D H R W : Type 0} (g : Ghosts D) (bytes : H → Option (List ℕ)) (w 
   -- What told nothing goes on telling nothing.
   pub untold_by : (result : Result (Unit {0}) (InstallFail (Base H R) H W s))
       → InstallsUnraced g bytes w job old new before after result → OnOk result (StaysUntold (g.told old) (g.told new))
-  untold_by (Ok done) did untold =
-      let put = put_kept did.1 in
-      put.changed ∙ ap (option_map put.change) untold
+  untold_by (Ok done) did = λ untold. let put = put_kept did.1 in put.changed ∙ ap (option_map put.change) untold
   untold_by (Err why) did = tt
