@@ -211,21 +211,14 @@ pub enum KeepFail {
 #[derive(Drop)]
 pub enum InstallFail<V, H, W: Writer> {
     /// An earlier step failed at this file, and nothing is changed any more.
-    Halted {
-        name: Name,
-    },
+    Halted { name: Name },
     /// The merge dropped the deletion of a key of which a record was relocated meanwhile, by the step that made this version
     /// number. It is the least such key. Plan the merge again.
-    Raced {
-        key: Key,
-        version_number: u64,
-    },
+    Raced { key: Key, version_number: u64 },
     /// No version number is left.
     Exhausted(Counter),
     NoMemory(Job<V, H, W>),
     /// The disk failed at this file, and the engine is halted. When the store is opened again it has either the inputs or the
     /// merge's tables, with the same contents.
-    Disk {
-        name: Name,
-    },
+    Disk { name: Name },
 }
