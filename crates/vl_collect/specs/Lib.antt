@@ -1,0 +1,3 @@
+pub mod Faults
+pub mod Passing
+pub mod Taking
