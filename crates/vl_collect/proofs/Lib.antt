@@ -1,0 +1,4 @@
+mod Failing
+mod Outcomes
+mod Rooms
+mod Stills

@@ -39,14 +39,14 @@ pub record EndAt (format number : ℕ) (bytes : List ℕ) (place end : ℕ) : Ty
   pub is : end ≡ place + sum_by (frame_length format) frames
 
 -- the frames from a place on end there, and bytes stand behind them
-pub record IsTornAt (format number : ℕ) (bytes : List ℕ) (place torn : ℕ) : Type 0 where
-  pub torn : IsTorn format number torn bytes
-  pub ends : (end : ℕ) → EndAt format number bytes place end → torn ≡ end
+pub record IsTornAt (format number : ℕ) (bytes : List ℕ) (place found : ℕ) : Type 0 where
+  pub torn : IsTorn format number found bytes
+  pub ends : (end : ℕ) → EndAt format number bytes place end → found ≡ end
 
 -- so of the log that a pass goes over, from its place on, where it tells its bytes
 abbrev pub TornBehind : {H : Type 0} → (H → Option (List ℕ)) → SealedLog H → ℕ → ℕ → Type 0
-TornBehind bytes log place torn =
-    ForSome (bytes log.held) (λ told. IsTornAt log.format log.number told place torn)
+TornBehind bytes log place found =
+    ForSome (bytes log.held) (λ told. IsTornAt log.format log.number told place found)
 
 -- ---- the pass
 
@@ -57,6 +57,14 @@ pub record HasEntries {V : Type 0} (has : V → List ℕ → List Marked → Typ
   pub had : has sources inputs marked
   pub are : all_of marked ≡ entries
 
+module _ {H : Type 0} (bytes : H → Option (List ℕ)) where
+  -- From a log's place on a batch took more: it has all that a layout's pass gives, and behind it the pass is there.
+  pub record Walks (log : SealedLog H) (p : layout.Pass) (taken more : List Found) (at : At) : Type 0 where
+    pub told : List ℕ
+    pub tells : bytes log.held ≡ Some told
+    pub left : AreLeft log.format log.number told at (outcome p.base p.segment (candidates taken) p.left).1
+    pub given : candidates more ≡ (outcome p.base p.segment (candidates taken) p.left).0
+
 module _ {V H : Type 0} (bytes : H → Option (List ℕ)) (has : V → List ℕ → List Marked → Type 0) where
   pub record IsPass (pass : Pass V H) (p : layout.Pass) : Type 0 where
     pub segment : pass.log.number ≡ p.segment
@@ -64,13 +72,6 @@ module _ {V H : Type 0} (bytes : H → Option (List ℕ)) (has : V → List ℕ 
     pub told : List ℕ
     pub tells : bytes pass.log.held ≡ Some told
     pub left : AreLeft pass.log.format pass.log.number told pass.at p.left
-
-  -- From a log's place on a batch took more: it has all that a layout's pass gives, and behind it the pass is there.
-  pub record Walks (log : SealedLog H) (p : layout.Pass) (taken more : List Found) (at : At) : Type 0 where
-    pub told : List ℕ
-    pub tells : bytes log.held ≡ Some told
-    pub left : AreLeft log.format log.number told at (outcome p.base p.segment (candidates taken) p.left).1
-    pub has : candidates more ≡ (outcome p.base p.segment (candidates taken) p.left).0
 
   -- it gave this batch of a layout's pass, and is that pass behind it
   pub record Gives (pass : Pass V H) (p : layout.Pass) (batch : Option (List Candidate)) : Type 0 where
