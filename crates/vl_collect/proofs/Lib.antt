@@ -2,3 +2,4 @@ mod Failing
 mod Outcomes
 mod Rooms
 mod Stills
+mod Walking
