@@ -125,12 +125,11 @@ module _ (format number : ℕ) (bytes : List ℕ) where
     reads_on (g ∷ fs) (rest, stands, reads) =
         let one = runs.one_item G number place (drop place bytes) g (frame_of f) rest found.0 stands found.1 in
         let size : length (item_frame G number place g) ≡ f.length =
-        ap (λ (x : LogFrame). length (item_frame G number place x)) one.0 ∙ length-item_frame format number place (frame_of f) ∙ sym at.length_is in
-        (
+        ap (λ (x : LogFrame). length (item_frame G number place x)) one.0 ∙ length-item_frame format number place (frame_of f) ∙ sym at.length_is in (
           fs,
           ap (λ (x : LogFrame). x ∷ fs) one.0,
           subst (λ (n : ℕ). ReadsAs G number (place + n) (drop (place + f.length) bytes) fs) size
-          (subst (λ (l : List ℕ). ReadsAs G number (place + length (item_frame G number place g)) l fs) (one.1 ∙ sym rest_is) reads),
+              (subst (λ (l : List ℕ). ReadsAs G number (place + length (item_frame G number place g)) l fs) (one.1 ∙ sym rest_is) reads),
         )
 
     pub ends_on : (end : ℕ) → EndAt format number bytes place end → EndAt format number bytes (place + f.length) end
@@ -168,7 +167,7 @@ module _ (format number : ℕ) (bytes : List ℕ) where
         let recs = said_are format number place f.said at.records in
         let here : (n : ℕ) → records_as (drop n (records_of f.said)) ++ others ≡ records_behind format (within_it n) (frame_of f ∷ on.0) =
         λ n. ap (λ (l : List LogRecord). l ++ others) (map_drop n (records_of f.said) ∙ ap (drop n) recs)
-            ∙ ap (λ (k : ℕ). drop n (frame_records format place (frame_of f)) ++ records_from format (place + k) on.0) at.length_is in
+        ∙ ap (λ (k : ℕ). drop n (frame_records format place (frame_of f)) ++ records_from format (place + k) on.0) at.length_is in
         record {
           others = others;
           is = are.are ∙ ap (records_behind format (within_it done)) on.1 ∙ sym (here done);
@@ -226,7 +225,7 @@ module _ {H : Type 0} (bytes : H → Option (List ℕ)) where
       walks_to some =
           let rest = records_as (drop done (records_of f.said)) in
           let stops : (rest ≡ []) ⊎ ((others : List LogRecord) → outcome p.base p.segment (candidates now) (rest ++ others) ≡ (candidates now, rest ++ others))
-              → outcome p.base p.segment (candidates now) (rest ++ parts.others) ≡ (candidates now, rest ++ parts.others) = by in
+          → outcome p.base p.segment (candidates now) (rest ++ parts.others) ≡ (candidates now, rest ++ parts.others) = by in
           let all = on ∙ stops passes.stops in
           record {
             told = walked.told;

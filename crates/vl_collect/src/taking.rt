@@ -78,7 +78,14 @@ fn found_in<V: Sources<Fault = TableFault>>(
         return Ok(None);
     };
     let place = read.pointer.place;
-    if !wins_exactly(base, looks, segment, read.key.as_slice(), read.version, place)? {
+    if !wins_exactly(
+        base,
+        looks,
+        segment,
+        read.key.as_slice(),
+        read.version,
+        place,
+    )? {
         return Ok(None);
     }
     Ok(Some(shared(read, value)?))
@@ -87,8 +94,8 @@ fn found_in<V: Sources<Fault = TableFault>>(
 // The record with this value, which is shared.
 fn shared(read: &ReadRecord, value: &Value) -> Result<Found, AllocError>
     ensures { IfOk result (λ found. candidate_of found ≡ record {
-        moved = record { key = read.now.key; version = read.now.version; value = value.now };
-        place = read.now.pointer.place
+      moved = record { key = read.now.key; version = read.now.version; value = value.now };
+      place = read.now.pointer.place;
     }) }
 {
     Ok(Found {

@@ -19,13 +19,13 @@ loop-found-preserved g c = record {
       let are = c.records-found-items.ensures in
       elim c.if-branch.branch [
         | then-branch+in_ok-put w ↦
-          ap (λ v. v.items) w.moved-is ∙ w.in_ok-put.ensures
-          ∙ one_moved entries c.args.segment c.args.last xs c.args.batch.now are c.loop-found.found-index c.found-item.result
-          c.loop-found-test.true c.found-item.is c.loop-found.moved.items so_far (sym tested ∙ w.if-branch.true)
+            ap (λ v. v.items) w.moved-is ∙ w.in_ok-put.ensures
+            ∙ one_moved entries c.args.segment c.args.last xs c.args.batch.now are c.loop-found.found-index c.found-item.result
+            c.loop-found-test.true c.found-item.is c.loop-found.moved.items so_far (sym tested ∙ w.if-branch.true)
         | else-branch w ↦
-          ap (λ v. v.items) w.moved-is
-          ∙ one_stays entries c.args.segment c.args.last xs c.args.batch.now are c.loop-found.found-index c.found-item.result
-          c.loop-found-test.true c.found-item.is c.loop-found.moved.items so_far (sym tested ∙ w.if-branch.false)
+            ap (λ v. v.items) w.moved-is
+            ∙ one_stays entries c.args.segment c.args.last xs c.args.batch.now are c.loop-found.found-index c.found-item.result
+            c.loop-found-test.true c.found-item.is c.loop-found.moved.items so_far (sym tested ∙ w.if-branch.false)
       ];
   fits = λ fits. c.is_moved.ensures.fits (c.loop-found.invariant.fits fits);
   steady = c.in_ok-is_moved.ensures.steady ∙ c.loop-found.invariant.steady;

@@ -25,8 +25,8 @@ returns-then-not-has_room-clause-passes g c = λ entries fits has.
     record {
       same = λ others. c.loop-at.invariant.same entries fits has others;
       stops = inr (λ others. left_out entries c.args.segment c.args.records.now c.loop-at.at c.index-records-at.result c.loop-at-test.true
-      c.index-records-at.is c.loop-at.batch.items c.in-Some.found one
-      (sym (room ∙ ap (has_room (length c.loop-at.batch.items) (value_lengths (candidates c.loop-at.batch.items))) c.len.ensures) ∙ c.if-not-has_room.true) others);
+          c.index-records-at.is c.loop-at.batch.items c.in-Some.found one
+          (sym (room ∙ ap (has_room (length c.loop-at.batch.items) (value_lengths (candidates c.loop-at.batch.items))) c.len.ensures) ∙ c.if-not-has_room.true) others);
     }
 
 pub returns-clause-passes : goal.returns-clause-passes

@@ -51,7 +51,7 @@ loop-at-preserved g c =
     λ told tells. subst (λ (o : Option Frame). IsFound log.format log.number at.place told o) c.in-Some.is (c.in_ok-frame.ensures.answers.answer told tells) in
     let next : (told : List ℕ) → g.H.HeldFile.bytes log.held ≡ Some told → c.saturating_add.result ≡ at.place + f.length =
     λ told tells. let within = (frame_within log.format log.number told at.place f (found told tells) lies).1 in
-        omega (arith, within, g.met.H.HeldFile.sized log.held told tells, c.len.ensures, c.len.type_inv, c.saturating_add.ensures) in
+    omega (arith, within, g.met.H.HeldFile.sized log.held told tells, c.len.ensures, c.len.type_inv, c.saturating_add.ensures) in
     record {
       walked = λ p fits is.
           let w = c.loop-at.invariant.walked p fits is in
@@ -82,7 +82,7 @@ loop-at-preserved-else-done-count g c =
     λ told tells. subst (λ (o : Option Frame). IsFound log.format log.number at.place told o) c.in-Some.is (c.in_ok-frame.ensures.answers.answer told tells) in
     let next : (told : List ℕ) → g.H.HeldFile.bytes log.held ≡ Some told → c.saturating_add.result ≡ at.place + f.length =
     λ told tells. let within = (frame_within log.format log.number told at.place f (found told tells) lies).1 in
-        omega (arith, within, g.met.H.HeldFile.sized log.held told tells, c.len.ensures, c.len.type_inv, c.saturating_add.ensures) in
+    omega (arith, within, g.met.H.HeldFile.sized log.held told tells, c.len.ensures, c.len.type_inv, c.saturating_add.ensures) in
     record {
       walked = λ p fits is.
           let w = c.loop-at.invariant.walked p fits is in
