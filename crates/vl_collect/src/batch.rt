@@ -1,6 +1,6 @@
 //! Records of a log that are to be moved.
 
-ghost use Rattle.std.specs.Prelude.{◌≡◌, length, IfNone, IfSome};
+ghost use Rattle.std.specs.Prelude.{◌≡◌, length};
 
 use std::marker::Model;
 use vl_model::Moved;

@@ -1,11 +1,10 @@
 //! The records of a frame that a batch takes.
 
-ghost use Rattle.std.specs.Prelude.{◌≡◌, ◌++◌, ◌∷◌, [], ◌<◌, ◌≤◌, List, drop, length, map, IfErr, IfOk, OnOk};
+ghost use Rattle.std.specs.Prelude.{◌≡◌, ◌++◌, ◌∷◌, [], ◌<◌, List, drop, length, IfErr, IfOk, OnOk};
 ghost use Rattle.vl_collect.specs.Faults.{FailsLooking, MayWhere};
 ghost use Rattle.vl_collect.specs.Passing.{HasEntries};
 ghost use Rattle.vl_collect.specs.Taking.{Passes, candidate_of, candidates, one_of, record_of, records_as};
 ghost use Rattle.vl_layout.specs.Relocation.{found_in, has_room, value_lengths};
-ghost use Rattle.vl_model.specs.Keys.{value_length};
 ghost use Rattle.vl_model.specs.declared.entry.Entry.{Entry};
 ghost use Rattle.vl_seglog.specs.Placed.{records_of};
 

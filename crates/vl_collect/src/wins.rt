@@ -3,7 +3,7 @@
 ghost use Rattle.std.specs.Prelude.{◌≡◌, List, IfErr, IfOk, OnOk};
 ghost use Rattle.vl_collect.specs.Faults.{IsTheirs, MayWhere};
 ghost use Rattle.vl_collect.specs.Passing.{HasEntries};
-ghost use Rattle.vl_model.specs.Winners.{is_far_to, leads_to, wins_exactly};
+ghost use Rattle.vl_model.specs.Winners.{is_far_to, wins_exactly};
 ghost use Rattle.vl_model.specs.declared.entry.Entry.{Entry};
 
 use crate::fault::PassFault;

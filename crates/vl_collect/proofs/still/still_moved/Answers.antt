@@ -1,4 +1,4 @@
-use Rattle.std.proofs.Common.{ap, sym, ◌∙◌, inr, Vec}
+use Rattle.std.proofs.Common.{ap, sym, ◌∙◌, inr}
 use Rattle.vl_collect.proofs.Failing.{passed_on, theirs_later}
 use Rattle.vl_collect.proofs.Stills.{one_moved, one_stays}
 use Rattle.vl_collect.proofs.still.still_moved.Goals as goal

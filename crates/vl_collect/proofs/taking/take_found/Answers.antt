@@ -1,13 +1,11 @@
-use Rattle.std.proofs.Common.{◌≡◌, Bool, List, ap, sym, subst, ◌∙◌, inl, inr, drop, length, ◌++◌, arith}
+use Rattle.std.proofs.Common.{◌≡◌, List, ap, sym, subst, ◌∙◌, inl, inr, length, ◌++◌, arith}
 use Rattle.std.proofs.Common.{Option}
-use Rattle.std.proofs.Common.{drop_of_length-le}
 use Rattle.vl_collect.proofs.Failing.{passed_on, looks_later}
 use Rattle.vl_collect.proofs.Outcomes.{left_out, records_end}
-use Rattle.vl_collect.specs.Taking.{candidates, one_of, outcome, record_of, records_as}
+use Rattle.vl_collect.specs.Taking.{candidates, one_of, outcome, record_of}
 use Rattle.vl_collect.specs.declared.batch.Found.{Found}
 use Rattle.vl_layout.specs.Logs.{LogRecord}
 use Rattle.vl_layout.specs.Relocation.{found_in, has_room, value_lengths}
-use Rattle.vl_model.specs.Keys.{value_length}
 use Rattle.vl_collect.proofs.taking.take_found.Goals as goal
 
 pub returns-in_err-found_in-clause-cause : goal.returns-in_err-found_in-clause-cause
