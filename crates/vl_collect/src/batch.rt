@@ -12,7 +12,7 @@ pub struct Found {
     pub place: u64,
 }
 
-/// What a pass gives at once: records in their order in the log. Clauses see the list of them.
+/// What a pass gives at once: records in their order in the log, which may be written again. Clauses see the list of them.
 #[derive(Drop)]
 pub struct Batch {
     records: Vec<Found>,
@@ -20,21 +20,26 @@ pub struct Batch {
 
 impl Model for Batch {
     ghost use Rattle.std.specs.Prelude.{List};
+    ghost use Rattle.vl_collect.specs.Batches.{IsBatch};
     ghost use Rattle.vl_collect.specs.Taking.{candidates};
     ghost use Rattle.vl_layout.specs.Relocation.{Candidate};
 
     ghost Value = { List Candidate };
 
     ghost view = { λ b. candidates b.records.items };
+
+    ghost invariant = { λ b. IsBatch b.records.items };
 }
 
 impl Batch {
     ghost use Rattle.std.specs.Prelude.{◌≡◌, length};
+    ghost use Rattle.vl_collect.specs.Batches.{IsBatch};
     ghost use Rattle.vl_collect.specs.Taking.{candidates};
     ghost use Rattle.vl_layout.specs.Relocation.{if_any};
 
     /// These records; None where there are none.
     pub fn of(records: Vec<Found>) -> Option<Self>
+        requires { IsBatch records.items }
         ensures { result ≡ if_any (candidates records.items) }
     {
         if records.is_empty() {
@@ -45,7 +50,8 @@ impl Batch {
     }
 
     pub fn records(&self) -> &[Found]
-        ensures { candidates result.now ≡ self.now }
+        ensures are { candidates result.now ≡ self.now }
+        ensures batch { IsBatch result.now }
     {
         &self.records
     }

@@ -42,7 +42,8 @@ impl<V, H> Pass<V, H> {
 }
 
 impl<V: Sources<Fault = TableFault>, H: HeldFile> Pass<V, H> {
-    ghost use Rattle.std.specs.Prelude.{◌≡◌, IfErr, IfOk, OnErr, OnOk};
+    ghost use Rattle.std.specs.Prelude.{◌≡◌, [], IfErr, IfOk, OnErr, OnOk};
+    ghost use Rattle.vl_collect.specs.Batches.{IsBatch};
     ghost use Rattle.vl_collect.specs.Faults.{FailsPassing, MayWhere, NoneRose, counted};
     ghost use Rattle.vl_collect.specs.Passing.{Begins, Gives, IsPass, TornBehind, Walks};
     ghost use Rattle.vl_layout.specs.Relocation as layout;
@@ -102,6 +103,7 @@ impl<V: Sources<Fault = TableFault>, H: HeldFile> Pass<V, H> {
     ) -> Result<At, PassFault>
         ensures walks { (p : layout.Pass) → V.fits self.now.base looks.old → IsPass H.bytes V.has self.now p
             → IfOk result (Walks H.bytes self.now.log p batch.old.items batch.new.items) }
+        ensures batch { batch.old.items ≡ [] → OnOk result (IsBatch batch.new.items) }
         ensures fits { V.fits self.now.base looks.old → V.fits self.now.base looks.new }
         ensures steady { OnOk result (NoneRose
             (counted (V.faults looks.old) (V.faults looks.new) (R.faults files.old) (R.faults files.new))) }

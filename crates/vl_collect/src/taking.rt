@@ -1,6 +1,7 @@
 //! The records of a frame that a batch takes.
 
-ghost use Rattle.std.specs.Prelude.{◌≡◌, ◌++◌, ◌∷◌, [], ◌<◌, ◌≤◌, List, drop, length, map, IfErr, IfOk, OnOk};
+ghost use Rattle.std.specs.Prelude.{◌≡◌, ◌++◌, ◌∷◌, [], ◌<◌, ◌≤◌, List, drop, length, map, IfErr, IfOk, IfSome, OnOk, All, ℕ};
+ghost use Rattle.vl_collect.specs.Batches.{IsLawful, IsOf, MayMove, Rise, found_place, read_place};
 ghost use Rattle.vl_collect.specs.Faults.{FailsLooking, MayWhere};
 ghost use Rattle.vl_collect.specs.Passing.{HasEntries};
 ghost use Rattle.vl_collect.specs.Taking.{Passes, candidate_of, candidates, one_of, record_of, records_as};
@@ -41,6 +42,10 @@ pub fn take_found<V: Sources<Fault = TableFault>>(
     ensures passes { (entries : List Entry) → V.fits base.now looks.old → HasEntries V.has base.now entries
         → IfOk result (λ now. Passes entries segment (candidates batch.old.items) (records_as (drop done records.now))
         (candidates batch.new.items) (records_as (drop now records.now))) }
+    // Where the records stand behind those of the batch, it keeps their order.
+    ensures rises { (low high : ℕ) → Rise found_place 0 batch.old.items low → Rise read_place low (drop done records.now) high
+        → OnOk result (Rise found_place 0 batch.new.items high) }
+    ensures lawful { All MayMove records.now → All IsLawful batch.old.items → OnOk result (All IsLawful batch.new.items) }
     ensures fits { V.fits base.now looks.old → V.fits base.now looks.new }
     ensures steady { OnOk result (V.faults looks.new ≡ V.faults looks.old) }
     ensures cause { IfErr result (FailsLooking (λ f. V.is_read_fault f)
@@ -69,6 +74,7 @@ fn found_in<V: Sources<Fault = TableFault>>(
 ) -> Result<Option<Found>, PassFault>
     ensures found { (entries : List Entry) → V.fits base.now looks.old → HasEntries V.has base.now entries
         → IfOk result (λ found. one_of found ≡ found_in entries segment (record_of read.now)) }
+    ensures is { IfOk result (λ found. IfSome found (IsOf read.now)) }
     ensures fits { V.fits base.now looks.old → V.fits base.now looks.new }
     ensures steady { OnOk result (V.faults looks.new ≡ V.faults looks.old) }
     ensures cause { IfErr result (FailsLooking (λ f. V.is_read_fault f)
