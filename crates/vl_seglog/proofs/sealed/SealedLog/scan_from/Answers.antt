@@ -41,3 +41,6 @@ returns-clause-answers g c =
           (omega (arith, g.met.H.HeldFile.sized c.args.self.now.held bytes told, c.in_ok-length.ensures.inside)),
       refl,
     )) c.in_ok-fill.ensures.answers)
+
+pub returns-clause-lawful : goal.returns-clause-lawful
+returns-clause-lawful g c = (rw c.in-Some.is at c.in_ok-read_next.ensures.found).lawful
