@@ -1,5 +1,6 @@
 -- The edits of an install's switch, told step by step.
-use Rattle.std.proofs.Common.{◌≡◌, ℕ, zero, suc, ◌+◌, ◌<◌, ◌≤◌, Bool, true, false, List, [], ◌∷◌, ◌++◌, length, drop, get_or, refl, sym, ap, ◌∙◌, arith, append_assoc, append-nil}
+use Rattle.std.proofs.Common.{◌≡◌, ℕ, zero, suc, ◌+◌, ◌<◌, ◌≤◌, Bool, true, false, List, [], ◌∷◌, ◌++◌, length, drop}
+use Rattle.std.proofs.Common.{get_or, refl, sym, ap, ◌∙◌, arith, append_assoc, append-nil}
 use Rattle.std.specs.Prelude.{◌==◌, if◌then◌else◌, map, max}
 use Rattle.std.specs.List.{filter}
 use Rattle.std.proofs.lemmas.Bool.Decides.{nat_tests}
@@ -88,7 +89,8 @@ pub table_added : (first old new : List Edit) (level position at : ℕ) (tables 
     → new ++ level_adds level (position + (at + 1)) rest ≡ first ++ level_adds level position tables
 table_added first old new level position at tables here rest t is_at is so =
     ap (λ (n : ℕ). new ++ level_adds level n rest) next
-    ∙ step_more first old new (Add level (position + at) t ∷ []) (level_adds level ((position + at) + 1) rest) (level_adds level position tables) is
+    ∙ step_more first old new (Add level (position + at) t ∷ []) (level_adds level ((position + at) + 1) rest)
+    (level_adds level position tables) is
     (ap (λ (l : List ℕ). old ++ level_adds level (position + at) l) (sym is_at) ∙ so)
   where
     next : position + (at + 1) ≡ (position + at) + 1

@@ -1,5 +1,6 @@
 -- What the frame of an install makes of a state.
-use Rattle.std.specs.Prelude.{◌≡◌, ◌⊎◌, ◌==◌, ◌&&◌, ◌||◌, ◌+◌, ℕ, Bool, true, false, not, nat_le, if◌then◌else◌, List, [], ◌∷◌, ◌++◌, length, map, drop, Option, None, Some, refl}
+use Rattle.std.specs.Prelude.{◌≡◌, ◌⊎◌, ◌==◌, ◌&&◌, ◌||◌, ◌+◌, ℕ, Bool, true, false, not, nat_le, if◌then◌else◌, List}
+use Rattle.std.specs.Prelude.{[], ◌∷◌, ◌++◌, length, map, drop, Option, None, Some, refl}
 use Rattle.std.specs.List.{AllByRecursion, filter, insert}
 use Rattle.std.specs.Option.{option_map}
 use Rattle.std.proofs.Common.{sym, ap, subst, ◌∙◌, arith, append_assoc, length-append, ⊎_elim}
@@ -8,12 +9,14 @@ use Rattle.std.proofs.lemmas.Bool.Decides.{nat_tests}
 use Rattle.std.proofs.lemmas.List.{take_at, drop_at}
 use Rattle.vl_back.specs.InstallEdits.{Replacing, drops_of, gone_since, install_switch, left_levels, left_tables}
 use Rattle.vl_manifest.specs.Levels.{all_tables, is_in, is_other, put_at, taken_out}
-use Rattle.vl_manifest.specs.States.{all_applied, are_next, as_draft, finish, given_if, is_file_number, is_gone, level_adds, next_state, then_applied, with_levels}
+use Rattle.vl_manifest.specs.States.{all_applied, are_next, as_draft, finish, given_if, is_file_number, is_gone}
+use Rattle.vl_manifest.specs.States.{level_adds, next_state, then_applied, with_levels}
 use Rattle.vl_manifest.specs.declared.edit.Edit.TheVariants.{Drop, Gone, Next}
 use Rattle.vl_manifest.specs.declared.edit.Edit.{Edit}
 use Rattle.vl_manifest.specs.declared.state.ManifestState.{ManifestState}
 use Rattle.vl_manifest.specs.declared.version_builder.VersionBuilder.{VersionBuilder}
-use Rattle.vl_manifest.specs.laws.TableLists.{AreOnce, all-filter, all-parts, all_tables-append, is_in-append, is_in-parts, once-filter, taken_out-tables}
+use Rattle.vl_manifest.specs.laws.TableLists.{AreOnce, all-filter, all-parts, all_tables-append, is_in-append}
+use Rattle.vl_manifest.specs.laws.TableLists.{is_in-parts, once-filter, taken_out-tables}
 
 true_false : true ≡ false → ⊥
 true_false is = cc

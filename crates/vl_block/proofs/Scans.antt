@@ -17,12 +17,14 @@ pub record UnderWay (format : ℕ) (bytes : List ℕ) (total count : ℕ) (last 
   pub so_far : SoFar (entries format) bytes total count taken rest
   pub last_is : last_item taken ≡ option_map entry_of last
 
-unfoldable pub reads_one : (format : ℕ) (bytes : List ℕ) (total count : ℕ) (last : Option EntryRef) (rest : List ℕ) (e : EntryRef) (after : List ℕ)
+unfoldable pub reads_one : (format : ℕ) (bytes : List ℕ) (total count : ℕ) (last : Option EntryRef) (rest : List ℕ)
+    (e : EntryRef) (after : List ℕ)
     → UnderWay format bytes total count last rest → IsEntry format (entry_of e) → rest ≡ entry_bytes format (entry_of e) ++ after
     → IsNext (entries format) (option_map entry_of last) (entry_of e) → UnderWay format bytes total (count + 1) (Some e) after
 reads_one format bytes total count last rest e after u lawful spelled follows = record {
   taken = u.taken ++ entry_of e ∷ [];
-  so_far = goes_on (entries format) bytes total count u.taken rest (entry_of e) after u.so_far (entry_is_some format (entry_of e)) lawful spelled
+  so_far = goes_on (entries format) bytes total count u.taken rest (entry_of e) after u.so_far
+      (entry_is_some format (entry_of e)) lawful spelled
       (subst (λ (o : Option Entry). IsNext (entries format) o (entry_of e)) (sym u.last_is) follows);
   last_is = last-push u.taken (entry_of e);
 }
@@ -31,7 +33,8 @@ pub cut_short : (format : ℕ) (bytes : List ℕ) (total count : ℕ) (last : Op
     → UnderWay format bytes total count last rest → count < total
     → ((e : Entry) (after : List ℕ) → IsEntry format e → rest ≡ entry_bytes format e ++ after → ⊥)
     → (es : List Entry) → IsRun (entries format) bytes total es → ⊥
-cut_short format bytes total count last rest u less none es run = cut (entries format) bytes total count u.taken rest u.so_far less none es run
+cut_short format bytes total count last rest u less none es run = cut (entries format) bytes total count u.taken rest
+    u.so_far less none es run
 
 pub out_of_order : (format : ℕ) (bytes : List ℕ) (total count : ℕ) (last : Option EntryRef) (rest : List ℕ) (e : EntryRef) (after : List ℕ)
     → UnderWay format bytes total count last rest → IsEntry format (entry_of e) → rest ≡ entry_bytes format (entry_of e) ++ after

@@ -1,5 +1,6 @@
 -- Where entries begin is found one by one.
-use Rattle.std.specs.Prelude.{◌≡◌, ◌+◌, ◌-◌, ◌*◌, ◌<◌, ◌≤◌, ℕ, zero, suc, List, [], ◌∷◌, ◌++◌, Option, None, Some, drop, length, slice_set, take}
+use Rattle.std.specs.Prelude.{◌≡◌, ◌+◌, ◌-◌, ◌*◌, ◌<◌, ◌≤◌, ℕ, zero, suc, List, [], ◌∷◌, ◌++◌, Option, None, Some}
+use Rattle.std.specs.Prelude.{drop, length, slice_set, take}
 use Rattle.std.specs.Option.{option_map}
 use Rattle.std.proofs.Common.{sym, ap, subst, refl, ◌∙◌, arith, length-append}
 use Rattle.std.proofs.lemmas.List.{drop_at}
@@ -57,7 +58,8 @@ module _ (format : ℕ) (bytes : List ℕ) (total count : ℕ) (starts : List �
     }
 
 -- one more is found
-pub finds_one : (format : ℕ) (bytes : List ℕ) (total count : ℕ) (starts new : List ℕ) (last : Option EntryRef) (rest : List ℕ) (e : EntryRef) (after : List ℕ)
+pub finds_one : (format : ℕ) (bytes : List ℕ) (total count : ℕ) (starts new : List ℕ) (last : Option EntryRef)
+    (rest : List ℕ) (e : EntryRef) (after : List ℕ)
     → Finding format bytes total count starts last rest → IsEntry format (entry_of e) → rest ≡ entry_bytes format (entry_of e) ++ after
     → IsNext (entries format) (option_map entry_of last) (entry_of e)
     → take (count + 1) new ≡ take count starts ++ (length bytes - length rest) ∷ []

@@ -10,7 +10,8 @@ use Rattle.vl_frame.specs.declared.kinds.FileKind.TheVariants as files
 use Rattle.vl_frame.specs.declared.kinds.FrameKind.TheVariants as kinds
 use Rattle.vl_model.specs.Entries.{in_order}
 use Rattle.vl_model.specs.declared.entry.Entry.{Entry}
-use Rattle.vl_block.specs.Cutting.{block_frame_length, blocks, filter_frame_length, first_key, index_frame_length, keys_of, last_key, points_of}
+use Rattle.vl_block.specs.Cutting.{block_frame_length, blocks, filter_frame_length, first_key, index_frame_length}
+use Rattle.vl_block.specs.Cutting.{keys_of, last_key, points_of}
 use Rattle.vl_block.specs.Blocks.{IsBlock, block_body}
 use Rattle.vl_block.specs.Entries.{IsEntry}
 use Rattle.vl_block.specs.Footer.{Foot, IsHead, footer_body, points}

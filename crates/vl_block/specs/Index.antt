@@ -21,8 +21,10 @@ pub record IsPlace (p : BlockPlace) : Type 0 where
 pub one_place : (p q : BlockPlace) (x y : List ℕ) → IsPlace p → IsPlace q → place_bytes p ++ x ≡ place_bytes q ++ y
     → (p ≡ q) × (x ≡ y)
 one_place p q x y i j e =
-    let both : big_bytes 8 p.place ++ (big_bytes 4 p.length ++ (key_bytes p.last ++ x)) ≡ big_bytes 8 q.place ++ (big_bytes 4 q.length ++ (key_bytes q.last ++ y)) = e in
-    let a = one_number 8 p.place q.place (big_bytes 4 p.length ++ (key_bytes p.last ++ x)) (big_bytes 4 q.length ++ (key_bytes q.last ++ y)) i.place j.place both in
+    let both : big_bytes 8 p.place ++ (big_bytes 4 p.length ++ (key_bytes p.last ++ x)) ≡ big_bytes 8 q.place
+    ++ (big_bytes 4 q.length ++ (key_bytes q.last ++ y)) = e in
+    let a = one_number 8 p.place q.place (big_bytes 4 p.length ++ (key_bytes p.last ++ x))
+    (big_bytes 4 q.length ++ (key_bytes q.last ++ y)) i.place j.place both in
     let b = one_number 4 p.length q.length (key_bytes p.last ++ x) (key_bytes q.last ++ y) i.size j.size a.1 in
     let c = one_key p.last q.last x y i.last j.last b.1 in
     ((λ k. record { place = a.0 k; length = b.0 k; last = c.0 k }), c.1)

@@ -4,7 +4,8 @@ ghost use Rattle.std.specs.Prelude.{◌≡◌, ◌++◌, ◌∷◌, ◌≤◌, �
 ghost use Rattle.vl_model.specs.declared.entry.Entry.{Entry};
 ghost use Rattle.vl_model.specs.declared.entry.Body.{Body};
 ghost use Rattle.vl_block.specs.Formats as formats;
-ghost use Rattle.vl_block.specs.Entries.{IsBody, IsEntry, IsInline, body_bytes, body_of, entry_bytes, entry_of, inline_bytes, tag_bytes, value_of};
+ghost use Rattle.vl_block.specs.Entries.{IsBody, IsEntry, IsInline, body_bytes, body_of, entry_bytes, entry_of};
+ghost use Rattle.vl_block.specs.Entries.{inline_bytes, tag_bytes, value_of};
 ghost use Rattle.vl_block.specs.Starts.{StartsAt};
 ghost use Rattle.vl_model.specs.declared.value.Value.{Value};
 

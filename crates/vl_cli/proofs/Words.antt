@@ -8,7 +8,9 @@ use Rattle.vl_replay.specs.Runs.{IsFront}
 use Rattle.vl_replay.specs.Steps.{Finishes}
 use Rattle.vl_replay.specs.declared.ending.Ending.{Ending}
 use Rattle.vl_replay.specs.declared.fails.Refusal.{Refusal}
-use Rattle.vl_replay.specs.declared.ending.Ending.TheVariants.{Complete, BadLine, BadWords, DiskFault, ReaderFault, Refused, Damaged, NoMemory, ReadFault, WriteFault, AnswerCut, Stopped}
+use Rattle.vl_replay.specs.declared.ending.Ending.TheVariants.{Complete, BadLine, BadWords, DiskFault, ReaderFault}
+use Rattle.vl_replay.specs.declared.ending.Ending.TheVariants.{Refused, Damaged, NoMemory, ReadFault, WriteFault}
+use Rattle.vl_replay.specs.declared.ending.Ending.TheVariants.{AnswerCut, Stopped}
 
 -- the status of an ending by an object
 abbrev pub StatusBy : Culprit → ℕ → Type 0
@@ -106,7 +108,8 @@ same a b e = cc
 cut : (ending : Ending) → Some ending ≡ Some WriteFault → status_of ending ≡ 7
 cut ending e = let is : ending ≡ WriteFault = cc in ap status_of is
 
-module _ (who : Culprit) (n : ℕ) (by : StatusBy who n) (ending : Ending) (before now : ℕ) (counts : CountsFaultsOf who (Some ending) before now) where
+module _ (who : Culprit) (n : ℕ) (by : StatusBy who n) (ending : Ending) (before now : ℕ)
+    (counts : CountsFaultsOf who (Some ending) before now) where
   -- the object failed where the run ended by it
   pub rose_by : status_of ending ≡ n → Rose before now
   rose_by is = counts.rose (ap Some ((by ending).0 is))
@@ -128,17 +131,20 @@ module _ (ending : Ending) (before now : ℕ) (counts : CountsFaultsOf TheDisk (
 
 -- ---- words that aren't plain
 
-module _ {K : Type 0} (g : sink.Ghosts K) (old new : K) (line : List ℕ) (result : Ending) (finishes : Finishes g old new line BadWords result) where
+module _ {K : Type 0} (g : sink.Ghosts K) (old new : K) (line : List ℕ) (result : Ending)
+    (finishes : Finishes g old new line BadWords result) where
   -- the run ends by them or by the sink
   pub refused_status : (n : ℕ) → n ≢ 2 → n ≢ 7 → status_of result ≡ n → ⊥
   refused_status n two seven is = ⊎_elim
       (λ (whole : (result ≡ BadWords) × (finishes.printed ≡ line) × (g.faults new ≡ g.faults old)). two (sym is ∙ ap status_of whole.0))
-      (λ (cut : (result ≡ WriteFault) × IsFront finishes.printed line × Rose (g.faults old) (g.faults new)). seven (sym is ∙ ap status_of cut.0))
+      (λ (cut : (result ≡ WriteFault) × IsFront finishes.printed line × Rose (g.faults old) (g.faults new)). seven
+      (sym is ∙ ap status_of cut.0))
       finishes.how
 
   pub refused_rose : status_of result ≡ 7 → Rose (g.faults old) (g.faults new)
   refused_rose is = ⊎_elim
-      (λ (whole : (result ≡ BadWords) × (finishes.printed ≡ line) × (g.faults new ≡ g.faults old)). absurd (apart (sym (ap status_of whole.0) ∙ is)))
+      (λ (whole : (result ≡ BadWords) × (finishes.printed ≡ line) × (g.faults new ≡ g.faults old)). absurd
+      (apart (sym (ap status_of whole.0) ∙ is)))
       (λ (cut : (result ≡ WriteFault) × IsFront finishes.printed line × Rose (g.faults old) (g.faults new)). cut.2)
       finishes.how
     where
@@ -148,7 +154,8 @@ module _ {K : Type 0} (g : sink.Ghosts K) (old new : K) (line : List ℕ) (resul
   pub refused_steady : status_of result < 6 → g.faults new ≡ g.faults old
   refused_steady less = ⊎_elim
       (λ (whole : (result ≡ BadWords) × (finishes.printed ≡ line) × (g.faults new ≡ g.faults old)). whole.2)
-      (λ (cut : (result ≡ WriteFault) × IsFront finishes.printed line × Rose (g.faults old) (g.faults new)). absurd (past (subst (λ (n : ℕ). n < 6) (ap status_of cut.0) less)))
+      (λ (cut : (result ≡ WriteFault) × IsFront finishes.printed line × Rose (g.faults old) (g.faults new)). absurd
+      (past (subst (λ (n : ℕ). n < 6) (ap status_of cut.0) less)))
       finishes.how
     where
       past : 7 < 6 → ⊥

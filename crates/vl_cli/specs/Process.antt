@@ -14,7 +14,8 @@ use Rattle.vl_replay.specs.Start.{StartsIn}
 use Rattle.vl_replay.specs.Trying.{trial_of}
 use Rattle.vl_replay.specs.declared.ending.Ending.{Ending}
 use Rattle.vl_replay.specs.declared.ending.Ending.TheVariants.{BadWords}
-use Rattle.vl_cli.specs.Run.{AreNotPlain, AskFor, EndsBy, FailedAtTables, FailedToRead, HasCountedFault, StatusOfAnswers, StatusOfTrial, TellsOfInput}
+use Rattle.vl_cli.specs.Run.{AreNotPlain, AskFor, EndsBy, FailedAtTables, FailedToRead, HasCountedFault}
+use Rattle.vl_cli.specs.Run.{StatusOfAnswers, StatusOfTrial, TellsOfInput}
 use Rattle.vl_cli.specs.declared.command_line.words.Command.{Command}
 use Rattle.vl_cli.specs.declared.command_line.words.Command.TheVariants.{Replay, Trial}
 

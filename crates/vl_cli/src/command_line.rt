@@ -22,7 +22,8 @@ ghost use Rattle.vl_replay.specs.declared.fails.Refusal.{Refusal};
 ghost use Rattle.vl_replay.specs.Trial.{begun};
 ghost use Rattle.vl_replay.specs.Trying.{trial_of};
 ghost use Rattle.vl_mem.specs.declared.outcome.Outcome.{Outcome};
-ghost use Rattle.vl_cli.specs.Run.{AreNotPlain, AskFor, EndsBy, FailedAtTables, FailedToRead, HasCountedFault, MetDamage, StatusOfAnswers, StatusOfTrial, StatusWithoutOpening, TellsOfInput};
+ghost use Rattle.vl_cli.specs.Run.{AreNotPlain, AskFor, EndsBy, FailedAtTables, FailedToRead, HasCountedFault};
+ghost use Rattle.vl_cli.specs.Run.{MetDamage, StatusOfAnswers, StatusOfTrial, StatusWithoutOpening, TellsOfInput};
 ghost use Rattle.vl_cli.specs.declared.command_line.words.Command.{Command as Commands};
 
 use crate::command_line::words::{Command, command_in};

@@ -1,5 +1,6 @@
 -- How entries that are kept are added to a table, one by one, and which needless deletions lie behind it.
-use Rattle.std.proofs.Common.{◌≡◌, ℕ, Bool, true, false, cond, not, List, [], ◌∷◌, ◌++◌, refl, ap, sym, subst, ◌∙◌, append-nil, Option, Some, None}
+use Rattle.std.proofs.Common.{◌≡◌, ℕ, Bool, true, false, cond, not, List, [], ◌∷◌, ◌++◌, refl, ap, sym, subst, ◌∙◌}
+use Rattle.std.proofs.Common.{append-nil, Option, Some, None}
 use Rattle.std.proofs.lemmas.Bool.{and_parts}
 use Rattle.std.proofs.lemmas.List.Elements.{filter-append}
 use Rattle.std.specs.Arc.{arc_value}
@@ -73,7 +74,8 @@ named_filtered k (e ∷ es) = by (is_past (Some k) e.key) (named_filtered k es)
 
 module _ {W : Type 0} (writer : Ghosts W) where
   -- Entries that are kept were added behind the first one, and nothing closed the table yet.
-  pub record Adding {g : _} (j : Job) (first : Entry) (old : Stage) (lent : Lent W g) (table : TableWriter) (last : List ℕ) (at : Option Last)
+  pub record Adding {g : _} (j : Job) (first : Entry) (old : Stage) (lent : Lent W g) (table : TableWriter)
+      (last : List ℕ) (at : Option Last)
       (left : Option (List Entry)) (found : List Named) : Type 0 where
     pub all : List Entry
     pub lastly : Entry
@@ -86,7 +88,8 @@ module _ {W : Type 0} (writer : Ghosts W) where
     pub found_are : old.found ++ all_named (spent j old.place old.left) ≡ found ++ all_named (spent j (place_in at) rest)
     pub along : IsAlong Up (first ∷ old.left) → IsAlong Up (lastly ∷ rest)
 
-  pub adding_begins : {g : _} (j : Job) (first : Entry) (at : Option Last) (left : List Entry) (now : Option (List Entry)) (found : List Named)
+  pub adding_begins : {g : _} (j : Job) (first : Entry) (at : Option Last) (left : List Entry)
+      (now : Option (List Entry)) (found : List Named)
       (lent : Lent W g) (table : TableWriter) → now ≡ Some left → IsWrittenTo writer lent table (first ∷ [])
       → Adding j first (stage at left found) lent table first.key at now found
   adding_begins j first at left now found lent table is written = record {
@@ -164,8 +167,10 @@ module _ {W : Type 0} (writer : Ghosts W) where
 
   -- ---- the first table
 
-  pub filled_with : {g : _} (j : Job) (left : List Entry) (before at : Option Last) (left_now : Option (List Entry)) (none found found_now : List Named) (e : Entry)
-      → before ≡ None → none ≡ [] → (n : GivesNext j (stage before left none) at left_now found (Some e)) → (lent : Lent W g) (table : TableWriter)
+  pub filled_with : {g : _} (j : Job) (left : List Entry) (before at : Option Last) (left_now : Option (List Entry))
+      (none found found_now : List Named) (e : Entry)
+      → before ≡ None → none ≡ [] → (n : GivesNext j (stage before left none) at left_now found (Some e))
+      → (lent : Lent W g) (table : TableWriter)
       → (a : Adds writer j e (stage at n.rest found) found_now lent table) → IsAlong Up left → (lent_now : Lent W g) (filled : Filled)
       → IsWhole writer lent_now a.all (arc_value filled.shape) → filled.last ≡ last_key a.all
       → filled.found.items ≡ named_up_to filled.last found_now → Fills writer j left lent_now filled

@@ -8,7 +8,8 @@ use Rattle.std.proofs.Common.{◌≡◌, ℕ, ◌<◌, ◌≤◌, arith, List, [
 use Rattle.std.proofs.lemmas.List.Elements.{filter-append}
 use Rattle.std.proofs.lemmas.Bool.Decides.{nat_tests}
 use Rattle.vl_compact.specs.Laid.{AreBoth}
-use Rattle.vl_layout.specs.Levels.{due_inputs, greater_key, with_next, lesser_key, meets, one_or_none, least_table, lesser_table, range_of, widened, Range}
+use Rattle.vl_layout.specs.Levels.{due_inputs, greater_key, with_next, lesser_key, meets, one_or_none, least_table}
+use Rattle.vl_layout.specs.Levels.{lesser_table, range_of, widened, Range}
 use Rattle.vl_layout.specs.declared.table.Table.{Table}
 
 pub least_next : (t : Table) (here rest : List Table) → here ≡ t ∷ rest → least_table here ≡ lesser_table t (least_table rest)
@@ -19,13 +20,15 @@ range_next t here rest is = ap range_of is
 
 -- of two tables the one behind is the lesser, or it isn't
 pub lesser_there : (t u : Table) (m n : ℕ) → m ≡ u.number → n ≡ t.number → m < n → Some u ≡ lesser_table t (Some u)
-lesser_there t u m n is_m is_n lt = sym (ap (λ (b : Bool). if b then Some u else Some t) (by u.number t.number (omega (arith, is_m, is_n, lt))))
+lesser_there t u m n is_m is_n lt = sym
+    (ap (λ (b : Bool). if b then Some u else Some t) (by u.number t.number (omega (arith, is_m, is_n, lt))))
   where
     by : (i j : ℕ) → i < j → nat_lt i j ≡ true
     by i j lt = grind (arith, nat_tests)
 
 pub lesser_here : (t u : Table) (m n : ℕ) → m ≡ u.number → n ≡ t.number → n ≤ m → Some t ≡ lesser_table t (Some u)
-lesser_here t u m n is_m is_n le = sym (ap (λ (b : Bool). if b then Some u else Some t) (by u.number t.number (omega (arith, is_m, is_n, le))))
+lesser_here t u m n is_m is_n le = sym
+    (ap (λ (b : Bool). if b then Some u else Some t) (by u.number t.number (omega (arith, is_m, is_n, le))))
   where
     by : (i j : ℕ) → j ≤ i → nat_lt i j ≡ false
     by i j le = grind (arith, nat_tests)

@@ -60,7 +60,8 @@ shallow_is level is = grind (arith, nat_tests)
 
 deeper_due : (level : ℕ) (ts : List Table) → 1 ≤ level → is_due level ts ≡ (nat_le level 5 && nat_lt (level_bytes level) (bytes_of ts))
 deeper_due level ts some =
-    ap (λ (b : Bool). if b then nat_le due_tables (length ts) else (nat_le level 5 && nat_lt (level_bytes level) (bytes_of ts))) (not_first level some)
+    ap (λ (b : Bool). if b then nat_le due_tables (length ts) else
+    (nat_le level 5 && nat_lt (level_bytes level) (bytes_of ts))) (not_first level some)
 
 -- a level that may have so many bytes, and one that is never due
 pub due_over : (level bytes : ℕ) (over : Bool) (ts : List Table) → 1 ≤ level
@@ -103,7 +104,8 @@ module _ {A : Type 0} (R : A → Table → Type 0) where
       → length front < 4 → ((ds : List (List Table)) → AllZip (AllZip R) xs ds → o ≡ due_from 1 ds) → o ≡ due_from 0 ls
   top_not front xs [] o zip few so = absurd zip
   top_not front xs (l ∷ ls) o zip few so =
-      so ls zip.1 ∙ sym (ap (λ (b : Bool). if b then Some 0 else due_from 1 ls) (by (length l) (omega (arith, zip_length R front l zip.0, few))))
+      so ls zip.1 ∙ sym (ap (λ (b : Bool). if b then Some 0 else due_from 1 ls)
+      (by (length l) (omega (arith, zip_length R front l zip.0, few))))
     where
       by : (n : ℕ) → n < 4 → nat_le 4 n ≡ false
       by n lt = grind (arith, nat_tests)

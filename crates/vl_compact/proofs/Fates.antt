@@ -51,7 +51,8 @@ module _ (rules : Rules) (j : Job) (are : AreRulesOf rules j) (e : Entry) where
       ∙ ap (λ b. b && not (list_any (is_below e) (outside_of j.base))) (sym is) ∙ parted
 
   pub old_by : (seen : ℕ) → (nat_le e.version rules.floor && nat_le rules.keep seen) ≡ is_old j seen e
-  old_by seen = ap (λ f. nat_le e.version f && nat_le rules.keep seen) are.floor ∙ ap (λ k. nat_le e.version j.floor && nat_le k seen) are.keep
+  old_by seen = ap (λ f. nat_le e.version f && nat_le rules.keep seen) are.floor
+      ∙ ap (λ k. nat_le e.version j.floor && nat_le k seen) are.keep
 
 module _ (j : Job) (seen : ℕ) (e : Entry) where
   pub fate_old : is_old j seen e ≡ true → Dropped ≡ fate_of j seen e

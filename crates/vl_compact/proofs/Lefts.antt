@@ -1,5 +1,6 @@
 -- What cursors over tables have left, merged.
-use Rattle.std.proofs.Common.{◌≡◌, ℕ, zero, suc, ◌<◌, Bool, true, false, ◌⊎◌, inl, inr, List, [], ◌∷◌, ◌++◌, length, get_or, refl, ap, sym, subst, ◌∙◌, arith, Option, Some, append-nil}
+use Rattle.std.proofs.Common.{◌≡◌, ℕ, zero, suc, ◌<◌, Bool, true, false, ◌⊎◌, inl, inr, List, [], ◌∷◌, ◌++◌, length}
+use Rattle.std.proofs.Common.{get_or, refl, ap, sym, subst, ◌∙◌, arith, Option, Some, append-nil}
 use Rattle.std.specs.Prelude.{map, if◌then◌else◌, unwrap_or}
 use Rattle.std.specs.List.{AllByRecursion, AllZip, filter, flat_map, slice_get}
 use Rattle.std.specs.Ordering.{is_gt}
@@ -54,7 +55,8 @@ one_left after es = ap (within (span_behind after)) (append-nil es) ∙ within-b
 
 module _ {H : Type 0} (bytes : H → Option (List ℕ)) where
   along_of : (after : Option (List ℕ)) (table : Table H) (t : laid.Table) → IsTableOf bytes table t → IsAlong Up (behind after t.entries)
-  along_of after table t is = along_filter (is_behind after) t.entries (rising_along t.entries (rising t.entries is.of.shape.table.tabled.ordered))
+  along_of after table t is = along_filter (is_behind after) t.entries
+      (rising_along t.entries (rising t.entries is.of.shape.table.tabled.ordered))
 
   pub all_along : (after : Option (List ℕ)) (tables : List (Table H)) (ts : List laid.Table) → AreTablesOf bytes tables ts
       → AllByRecursion (IsAlong Up) (map (λ (t : laid.Table). behind after t.entries) ts)
@@ -85,8 +87,13 @@ module _ {H : Type 0} (bytes : H → Option (List ℕ)) where
       → (fault : TableFault) → MayFailOn bytes (copy ∷ []) fault → MayFailOn bytes (table ∷ []) fault
   fails_shared size_of name_of table copy same NoMemory may = tt
   fails_shared size_of name_of table copy same (Disk name) may =
-      let is : copy ≡ may.1 = ap (λ (o : Option (Table H)). unwrap_or o copy) (only copy may.1 may.0 may.2) in
-      (0, table, refl, may.3 ∙ ap (λ (u : Table H). table_name (number_of u)) (sym is) ∙ ap (λ (s : TableShape). table_name s.number) same.shape)
+      let is : copy ≡ may.1 = ap (λ (o : Option (Table H)). unwrap_or o copy) (only copy may.1 may.0 may.2) in (
+        0,
+        table,
+        refl,
+        may.3 ∙ ap (λ (u : Table H). table_name (number_of u)) (sym is)
+            ∙ ap (λ (s : TableShape). table_name s.number) same.shape,
+      )
   fails_shared size_of name_of table copy same (Damaged name place) may =
       let is : copy ≡ may.1 = ap (λ (o : Option (Table H)). unwrap_or o copy) (only copy may.1 may.0 may.2) in (
         0,
@@ -117,7 +124,8 @@ pub behind_all : (after : Option (List ℕ)) (ts : List laid.Table)
     → flat_map (λ (es : List Entry). es) (map (λ (t : laid.Table). behind after t.entries) ts) ≡ behind after (flat_map table_entries ts)
 behind_all after [] = refl
 behind_all after (t ∷ ts) =
-    ap (λ l. behind after t.entries ++ l) (behind_all after ts) ∙ sym (filter-append (is_behind after) t.entries (flat_map table_entries ts))
+    ap (λ l. behind after t.entries ++ l) (behind_all after ts)
+    ∙ sym (filter-append (is_behind after) t.entries (flat_map table_entries ts))
 
 module _ {C F : Type 0} (may : C → F → Type 0) where
   pub one_more : (cs : List C) (c : C) (fault : F) → OneMayFail may (cs ++ c ∷ []) fault → OneMayFail may cs fault ⊎ may c fault

@@ -1,5 +1,6 @@
 -- Lists that are gone through by an index.
-use Rattle.std.proofs.Common.{◌≡◌, ℕ, zero, suc, ◌+◌, ◌<◌, ◌≤◌, true, false, cond, List, [], ◌∷◌, ◌++◌, length, take, drop, get_or, refl, ap, sym, ◌∙◌, arith, Some}
+use Rattle.std.proofs.Common.{◌≡◌, ℕ, zero, suc, ◌+◌, ◌<◌, ◌≤◌, true, false, cond, List, [], ◌∷◌, ◌++◌, length, take}
+use Rattle.std.proofs.Common.{drop, get_or, refl, ap, sym, ◌∙◌, arith, Some}
 use Rattle.std.specs.Prelude.{Result, Ok, Err, IfOk}
 use Rattle.std.specs.FinMap.{find}
 use Rattle.std.specs.Ordering.{eq_by_cmp}
@@ -36,7 +37,8 @@ take_end (a ∷ xs) (suc i) behind = ap (λ l. a ∷ l) (take_end xs i (omega ar
 pub find_here : (key : List ℕ) (x : Named) (xs : List Named) → eq_by_cmp key_cmp key x.0 ≡ true → find key_cmp key (x ∷ xs) ≡ Some x.1
 find_here key x xs is = ap (λ b. cond b (Some x.1) (find key_cmp key xs)) is
 
-pub find_later : (key : List ℕ) (x : Named) (xs : List Named) → eq_by_cmp key_cmp key x.0 ≡ false → find key_cmp key (x ∷ xs) ≡ find key_cmp key xs
+pub find_later : (key : List ℕ) (x : Named) (xs : List Named) → eq_by_cmp key_cmp key x.0 ≡ false
+    → find key_cmp key (x ∷ xs) ≡ find key_cmp key xs
 find_later key x xs is = ap (λ b. cond b (Some x.1) (find key_cmp key xs)) is
 
 -- ---- results

@@ -1,5 +1,6 @@
 -- What a job has once it has made one table more, and once nothing is left.
-use Rattle.std.proofs.Common.{◌≡◌, ℕ, zero, suc, ◌+◌, ◌≤◌, Bool, true, false, List, [], ◌∷◌, ◌++◌, length, take, drop, refl, ap, sym, subst, ◌∙◌, arith, append-nil, length-append, Option, Some, None}
+use Rattle.std.proofs.Common.{◌≡◌, ℕ, zero, suc, ◌+◌, ◌≤◌, Bool, true, false, List, [], ◌∷◌, ◌++◌, length, take, drop}
+use Rattle.std.proofs.Common.{refl, ap, sym, subst, ◌∙◌, arith, append-nil, length-append, Option, Some, None}
 use Rattle.std.proofs.lemmas.List.{length-map}
 use Rattle.std.proofs.lemmas.List.Sums.{sum_by-cons}
 use Rattle.std.specs.Arc.{arc_value}
@@ -21,7 +22,8 @@ use Rattle.vl_compact.specs.Racing.{entry_count}
 use Rattle.vl_compact.specs.Walking.{spent, walk}
 use Rattle.vl_compact.specs.laws.BehindLaws.{merged_entries-behind, needless-behind}
 use Rattle.vl_compact.specs.laws.FirstTable.{first_table}
-use Rattle.vl_compact.specs.laws.ProgressLaws.{all_there, is_past, last_past, merged_entries-in_order, next_output, one_missing, others_first, parted-rising, up_to-further}
+use Rattle.vl_compact.specs.laws.ProgressLaws.{all_there, is_past, last_past, merged_entries-in_order, next_output}
+use Rattle.vl_compact.specs.laws.ProgressLaws.{one_missing, others_first, parted-rising, up_to-further}
 use Rattle.vl_compact.specs.declared.files.Lent.{Lent}
 use Rattle.vl_compact.specs.declared.files.Synced.{Synced}
 use Rattle.vl_compact.specs.declared.filling.Filled.{Filled}
@@ -84,7 +86,8 @@ none_up_to (e ∷ es) = none_up_to es
 
 module _ {V H W : Type 0} (writer : Ghosts W) (bytes : H → Option (List ℕ)) (has : V → List ℕ → List Marked → Type 0) where
   -- at first it has nothing, and all is behind
-  pub begun : {g : _} (job : Job V H W g) (j : laid_job.Job) → IsJobOf writer bytes has job j → job.made.items ≡ [] → job.needless.items ≡ []
+  pub begun : {g : _} (job : Job V H W g) (j : laid_job.Job) → IsJobOf writer bytes has job j → job.made.items ≡ []
+      → job.needless.items ≡ []
       → job.after ≡ None → job.waits ≡ false → job.ended ≡ false → Has writer bytes has job j
   begun job j is made none after waits ended = record {
     is = is;
@@ -115,7 +118,8 @@ module _ {V H W : Type 0} (writer : Ghosts W) (bytes : H → Option (List ℕ)) 
       by false is = sym is
 
   -- it has all of its merge at the end
-  pub has_all : {g : _} (job : Job V H W g) (j : laid_job.Job) → Has writer bytes has job j → job.ended ≡ true → HasAll writer bytes has job j
+  pub has_all : {g : _} (job : Job V H W g) (j : laid_job.Job) → Has writer bytes has job j → job.ended ≡ true
+      → HasAll writer bytes has job j
   has_all job j h ended = record {
     is = h.is;
     made = subst (AllZip (IsTableFile writer) job.made.items)
@@ -141,7 +145,8 @@ module _ {V H W : Type 0} (writer : Ghosts W) (bytes : H → Option (List ℕ)) 
 
   -- ---- what it begins with
 
-  numbers_same : (tables : List (Table H)) (ts : List laid.Table) → AreTablesOf bytes tables ts → map (λ (t : Table H). number_of t) tables ≡ numbers_of ts
+  numbers_same : (tables : List (Table H)) (ts : List laid.Table) → AreTablesOf bytes tables ts
+      → map (λ (t : Table H). number_of t) tables ≡ numbers_of ts
   numbers_same [] [] are = refl
   numbers_same [] (t ∷ ts) are = absurd are
   numbers_same (table ∷ tables) [] are = absurd are
@@ -192,7 +197,8 @@ module _ {V H W : Type 0} (writer : Ghosts W) (bytes : H → Option (List ℕ)) 
   }
 
   pub ends_with : {g : _} (job : Job V H W g) (j : laid_job.Job) → Has writer bytes has job j → job.ended ≡ false
-      → walk j None (left_of job.after j) ≡ [] → (deletions : Vec Named Global) → deletions.items ≡ job.needless.items ++ all_named (spent j None (left_of job.after j))
+      → walk j None (left_of job.after j) ≡ [] → (deletions : Vec Named Global)
+      → deletions.items ≡ job.needless.items ++ all_named (spent j None (left_of job.after j))
       → Answers writer bytes has (record job { needless = deletions; waits = false; ended = true }) j false
   ends_with job j h going none deletions are =
       let es : List Entry = merged_entries j in
@@ -255,13 +261,15 @@ module _ {V H W : Type 0} (writer : Ghosts W) (bytes : H → Option (List ℕ)) 
 
     -- none is
     pub ready_none : is_some next ≡ false → job.ended ≡ false → found_first ≡ [] → (deletions : Vec Named Global)
-        → deletions.items ≡ job.needless.items ++ found → Answers writer bytes has (record job { needless = deletions; waits = false; ended = true }) j false
+        → deletions.items ≡ job.needless.items ++ found
+        → Answers writer bytes has (record job { needless = deletions; waits = false; ended = true }) j false
     ready_none none going nothing deletions are = by next refl
       where
         needless_left : List Named
         needless_left = all_named (spent j None (left_of job.after j))
 
-        by : (o : Option Entry) → next ≡ o → Answers writer bytes has (record job { needless = deletions; waits = false; ended = true }) j false
+        by : (o : Option Entry) → next ≡ o
+            → Answers writer bytes has (record job { needless = deletions; waits = false; ended = true }) j false
         by (Some e) is = absurd (let no_such : true ≡ false = sym (ap is_some is) ∙ none in cc)
         by None is =
             let rest : n.rest ≡ [] = subst (λ (o : Option Entry). IfNone o (n.rest ≡ [])) is n.none in
@@ -276,7 +284,8 @@ module _ {V H W : Type 0} (writer : Ghosts W) (bytes : H → Option (List ℕ)) 
   -- ---- one table more
 
   -- what was written is durable
-  pub synced_fills : {g : _} (j : laid_job.Job) (left : List Entry) (lent synced : Lent W g) (filled : Filled) → (f : Fills writer j left lent filled)
+  pub synced_fills : {g : _} (j : laid_job.Job) (left : List Entry) (lent synced : Lent W g) (filled : Filled)
+      → (f : Fills writer j left lent filled)
       → synced.number ≡ lent.number
       → ForSome (writer.file synced.writer) (λ x. x ≡ settled (table_bytes table_format lent.number (first_table (f.first ∷ f.more)).0))
       → Fills writer j left synced filled
@@ -295,7 +304,8 @@ module _ {V H W : Type 0} (writer : Ghosts W) (bytes : H → Option (List ℕ)) 
         found_are = f.found_are;
       }
 
-  pub is_settled : {g : _} (lent : Lent W g) (all : List ℕ) → ForSome (writer.file lent.writer) (λ x. x ≡ settled all) → IsSettled writer lent
+  pub is_settled : {g : _} (lent : Lent W g) (all : List ℕ) → ForSome (writer.file lent.writer) (λ x. x ≡ settled all)
+      → IsSettled writer lent
   is_settled lent all file = λ x told. file x told ∙ ap settled (sym (ap (λ (y : File). y.bytes) (file x told)))
 
   -- nothing stands in a fresh file
@@ -306,8 +316,10 @@ module _ {V H W : Type 0} (writer : Ghosts W) (bytes : H → Option (List ℕ)) 
   shape_same table filled is = ap arc_value is
 
   -- the file is that of a table
-  file_is : {g : _} (lent : Lent W g) (filled : Filled) (es : List Entry) → IsWhole writer lent es (arc_value filled.shape) → IsSettled writer lent
-      → (table : Synced W g) → table.number ≡ lent.number → table.writer ≡ lent.writer → table.shape ≡ filled.shape → IsTableFile writer table es
+  file_is : {g : _} (lent : Lent W g) (filled : Filled) (es : List Entry)
+      → IsWhole writer lent es (arc_value filled.shape) → IsSettled writer lent
+      → (table : Synced W g) → table.number ≡ lent.number → table.writer ≡ lent.writer → table.shape ≡ filled.shape
+      → IsTableFile writer table es
   file_is lent filled es whole settled_is table number same shape = record {
     format = ap (λ (s : TableShape). s.format) (shape_same table filled shape) ∙ whole.format;
     shape = subst (λ (s : TableShape). IsShapeOf table.number es s) (sym (shape_same table filled shape))
@@ -317,8 +329,10 @@ module _ {V H W : Type 0} (writer : Ghosts W) (bytes : H → Option (List ℕ)) 
         settled_is f there ∙ ap settled (whole.file f there ∙ ap (λ n. table_bytes table_format n es) (sym number));
   }
 
-  pub makes_one : {g : _} (job : Job V H W g) (j : laid_job.Job) → Has writer bytes has job j → job.waits ≡ true → (lent : Lent W g) (filled : Filled)
-      → Fills writer j (left_of job.after j) lent filled → IsSettled writer lent → (made : Vec (Synced W g) Global) → HasTaken lent filled job.made.items made.items
+  pub makes_one : {g : _} (job : Job V H W g) (j : laid_job.Job) → Has writer bytes has job j → job.waits ≡ true
+      → (lent : Lent W g) (filled : Filled)
+      → Fills writer j (left_of job.after j) lent filled → IsSettled writer lent → (made : Vec (Synced W g) Global)
+      → HasTaken lent filled job.made.items made.items
       → (deletions : Vec Named Global) → deletions.items ≡ job.needless.items ++ filled.found.items
       → Has writer bytes has (record job { after = Some filled.last; made = made; needless = deletions; waits = false }) j
   makes_one job j h waits lent filled fills settled_is made taken deletions are =
@@ -330,7 +344,8 @@ module _ {V H W : Type 0} (writer : Ghosts W) (bytes : H → Option (List ℕ)) 
       let table : List Entry = (first_table (fills.first ∷ fills.more)).0 in
       let next = next_output es job.after fills.first fills.more left n (merged_entries-in_order j) h.others in
       let count : length made.items ≡ n + 1 = ap length taken.made ∙ length_more job.made.items taken.table in
-      let taken_more : take (n + 1) (outputs j) ≡ take n (outputs j) ++ table ∷ [] = take_more n (outputs j) table (drop (n + 1) (outputs j)) next.0 in
+      let taken_more : take (n + 1) (outputs j) ≡ take n (outputs j) ++ table ∷ [] = take_more n (outputs j) table
+      (drop (n + 1) (outputs j)) next.0 in
       let past : is_past job.after filled.last ≡ true =
       ap (is_past job.after) fills.last ∙ last_past es job.after fills.first fills.more left in
       record {

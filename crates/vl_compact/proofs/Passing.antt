@@ -1,9 +1,11 @@
 -- How a walk over the inputs goes on, entry by entry.
-use Rattle.std.proofs.Common.{◌≡◌, ℕ, ◌+◌, Bool, true, false, not, ◌&&◌, ◌||◌, List, [], ◌∷◌, ◌++◌, refl, ap, sym, subst, ◌∙◌, append_assoc, Option, Some, None}
+use Rattle.std.proofs.Common.{◌≡◌, ℕ, ◌+◌, Bool, true, false, not, ◌&&◌, ◌||◌, List, [], ◌∷◌, ◌++◌, refl, ap, sym}
+use Rattle.std.proofs.Common.{subst, ◌∙◌, append_assoc, Option, Some, None}
 use Rattle.std.specs.Prelude.{nat_le, if◌then◌else◌}
 use Rattle.vl_compact.specs.Keeps.{AreRulesOf, GivesNext, Passes, Stage, Walked, fate_by, fate_of, is_kept, noted, place_in, stage}
 use Rattle.vl_compact.specs.Keys.{all_named}
-use Rattle.vl_compact.specs.Walking.{Place, comes_again, is_hidden, is_let_go, is_old, is_spent, is_spent_alone, place_of, seen_before, spent, walk}
+use Rattle.vl_compact.specs.Walking.{Place, comes_again, is_hidden, is_let_go, is_old, is_spent, is_spent_alone}
+use Rattle.vl_compact.specs.Walking.{place_of, seen_before, spent, walk}
 use Rattle.vl_compact.specs.declared.last.Last.{Last}
 use Rattle.vl_compact.specs.declared.rules.Fate.{Fate}
 use Rattle.vl_compact.specs.declared.rules.Rules.{Rules}
@@ -34,7 +36,8 @@ noted_by false false false e es = refl
 
 pub again : (j : Job) (at : Option Place) (e : Entry) (found : List Named) → comes_again at e ≡ true → Passes j at at e found found false
 again j at e found is = record {
-  walked = λ es. ap (λ b. if b then walk j at es else if_so (not (is_let_go j (seen_before at e) e)) e (walk j (Some (place_of j.floor at e)) es)) is;
+  walked = λ es. ap (λ b. if b then walk j at es else if_so (not (is_let_go j (seen_before at e) e)) e
+      (walk j (Some (place_of j.floor at e)) es)) is;
   found_are = λ es. ap (λ b. found ++ all_named (if b then spent j at es
       else if_so (is_spent_alone j (seen_before at e) e) e (spent j (Some (place_of j.floor at e)) es))) is;
 }
@@ -80,10 +83,13 @@ placed rules j are at e last seen seen_is key version count =
 
 pub starts : (j : Job) (last : Option Last) (left : List Entry) (found : List Named) (now : Option (List Entry)) → now ≡ Some left
     → Walked j (stage last left found) last now found
-starts j last left found now is = record { rest = left; left_is = is; goes = record { kept = refl; found_are = refl; along = λ along. along; from = λ e first. first } }
+starts j last left found now is = record
+    { rest = left; left_is = is; goes = record { kept = refl; found_are = refl; along = λ along. along; from = λ e first. first } }
 
-module _ (j : Job) (old : Stage) (last : Option Last) (left : Option (List Entry)) (found : List Named) (so : Walked j old last left found) where
-  module _ (last_now : Option Last) (left_now : Option (List Entry)) (found_now : List Named) (e : Entry) (gives : Gives left left_now (Some e)) where
+module _ (j : Job) (old : Stage) (last : Option Last) (left : Option (List Entry)) (found : List Named)
+    (so : Walked j old last left found) where
+  module _ (last_now : Option Last) (left_now : Option (List Entry)) (found_now : List Named) (e : Entry)
+      (gives : Gives left left_now (Some e)) where
     abbrev rest_now : List Entry
     rest_now = (gives so.rest so.left_is).0
 
@@ -112,7 +118,8 @@ module _ (j : Job) (old : Stage) (last : Option Last) (left : Option (List Entry
     }
 
     -- one is kept
-    pub gives_it : Passes j (place_in last) (place_in last_now) e found found_now true → GivesNext j old last_now left_now found_now (Some e)
+    pub gives_it : Passes j (place_in last) (place_in last_now) e found found_now true
+        → GivesNext j old last_now left_now found_now (Some e)
     gives_it p = record {
       rest = rest_now;
       left_is = (gives so.rest so.left_is).2;

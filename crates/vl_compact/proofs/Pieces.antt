@@ -53,7 +53,8 @@ module _ {W : Type 0} (writer : Ghosts W) where
   }
 
   -- what was given out went out
-  pub more_out : {g : _} (old new : Lent W g) (table : TableWriter) (es : List Entry) (given none out piece : List ℕ) → none ≡ [] → piece ≡ out
+  pub more_out : {g : _} (old new : Lent W g) (table : TableWriter) (es : List Entry) (given none out piece : List ℕ)
+      → none ≡ [] → piece ≡ out
       → new.number ≡ old.number → Appended none out (λ p. IsWriting table old.number es (given ++ p))
       → ForSome (writer.file new.writer) (λ f. f.bytes ≡ given ++ piece) → IsWrittenTo writer new table es
   more_out old new table es given none out piece nothing is number added file = record {
@@ -68,7 +69,8 @@ module _ {W : Type 0} (writer : Ghosts W) where
       → ForSome (writer.file new.writer) (λ f. f.bytes ≡ given ++ tail_bytes tail) → shape ≡ tail.shape → IsWhole writer new es shape
   whole_out old new es given tail shape is whole number file shape_is = record {
     format = ap (λ (s : TableShape). s.format) shape_is ∙ is.written;
-    shape_is = subst (λ (s : TableShape). IsShapeOf new.number es s) (sym shape_is) (subst (λ n. IsShapeOf n es tail.shape) (sym number) is.shape);
+    shape_is = subst (λ (s : TableShape). IsShapeOf new.number es s) (sym shape_is)
+        (subst (λ n. IsShapeOf n es tail.shape) (sym number) is.shape);
     file = λ f told. file f told ∙ whole ∙ ap (λ n. table_bytes table_format n es) (sym number);
   }
 

@@ -2,13 +2,15 @@
 use Rattle.std.specs.Prelude.{Bool, true, false, if◌then◌else◌, Option, Some, None, ◌==◌, not, map}
 use Rattle.std.specs.List.{flat_map}
 use Rattle.std.specs.Option.{option_map}
-use Rattle.std.proofs.Common.{◌≡◌, ⊎_elim, inl, inr, ◌⊎◌, ℕ, ◌+◌, ◌-◌, ◌<◌, ◌≤◌, List, [], ◌∷◌, ◌++◌, zero, suc, append-nil, length, refl, ap, sym, subst, ◌∙◌, arith}
+use Rattle.std.proofs.Common.{◌≡◌, ⊎_elim, inl, inr, ◌⊎◌, ℕ, ◌+◌, ◌-◌, ◌<◌, ◌≤◌, List, [], ◌∷◌, ◌++◌, zero, suc}
+use Rattle.std.proofs.Common.{append-nil, length, refl, ap, sym, subst, ◌∙◌, arith}
 use Rattle.std.proofs.lemmas.Bool.Decides.{nat_tests}
 use Rattle.vl_layout.specs.Levels.{at_level, in_key_order, is_among, is_before, level_at, without}
 use Rattle.vl_layout.specs.OpenJobs.{IsIdle}
 use Rattle.vl_layout.specs.declared.job.Target.TheVariants.{InPlace, Level}
 use Rattle.vl_layout.specs.declared.table.Table.{Table}
-use Rattle.vl_compact.specs.Places.{HasPlace, IsPlace, count_before, ends_before, first_key, found_at, index_of, input_from, place_before, place_from, put_at, put_in}
+use Rattle.vl_compact.specs.Places.{HasPlace, IsPlace, count_before, ends_before, first_key, found_at, index_of}
+use Rattle.vl_compact.specs.Places.{input_from, place_before, place_from, put_at, put_in}
 
 -- ---- in key order
 
@@ -285,7 +287,8 @@ module _ (inputs : List ℕ) where
         there = omega (arith, place.there);
         within = subst (λ (ts : List Table). place.position ≤ length (without inputs ts)) (sym (level_next place.level l ls)) place.within;
         puts = λ new. ap (λ k. k ∷ map (swapped new) ls) (idle_swapped new l idle ∙ sym (idle_without l idle))
-            ∙ ap (λ ks. without inputs l ∷ ks) (place.puts new) ∙ sym (next_level place.level (put_at place.position new) (without inputs l) (map (without inputs) ls));
+            ∙ ap (λ ks. without inputs l ∷ ks) (place.puts new)
+            ∙ sym (next_level place.level (put_at place.position new) (without inputs l) (map (without inputs) ls));
       }
 
 -- in the place of the one input
@@ -293,8 +296,14 @@ pub place_in_place : (inputs : List ℕ) (first : Option (List ℕ)) (ls : List 
     → (place : ℕ × ℕ) → place ≡ input_from 0 inputs ls → IsPlace InPlace inputs first ls place.0 place.1
 place_in_place inputs first ls (xs, t, ys, is, so) place same =
     let found = place_in inputs 0 ls (record { xs = xs; t = t; ys = ys; is = is; idle = so.0; among = so.1.0; others = so.1.1 }) in
-    subst (λ (p : ℕ × ℕ). IsPlace InPlace inputs first ls p.0 p.1) (sym (same ∙ found.found ∙ ap (λ (n : ℕ). (n, found.position)) (none found.level)))
-    (record { is = λ new begins. found.is ∙ ap (λ (n : ℕ). (n, found.position)) (none found.level); there = found.there; within = found.within; puts = λ new begins. found.puts new })
+    subst (λ (p : ℕ × ℕ). IsPlace InPlace inputs first ls p.0 p.1)
+    (sym (same ∙ found.found ∙ ap (λ (n : ℕ). (n, found.position)) (none found.level)))
+    (record {
+      is = λ new begins. found.is ∙ ap (λ (n : ℕ). (n, found.position)) (none found.level);
+      there = found.there;
+      within = found.within;
+      puts = λ new begins. found.puts new;
+    })
   where
     none : (n : ℕ) → 0 + n ≡ n
     none n = omega arith

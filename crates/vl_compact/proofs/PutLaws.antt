@@ -1,7 +1,8 @@
 -- Tables that are put among those of a level, told step by step.
 use Rattle.std.specs.Prelude.{if◌then◌else◌, Option, Result, Ok, Err, IsOk, is_ok, map, slice_set}
 use Rattle.std.specs.List.{AllZip, insert}
-use Rattle.std.proofs.Common.{◌≡◌, ℕ, zero, suc, ◌+◌, ◌-◌, ◌<◌, ◌≤◌, List, [], ◌∷◌, ◌++◌, length, take, drop, refl, ap, sym, subst, ◌∙◌, arith, append_assoc, length-append}
+use Rattle.std.proofs.Common.{◌≡◌, ℕ, zero, suc, ◌+◌, ◌-◌, ◌<◌, ◌≤◌, List, [], ◌∷◌, ◌++◌, length, take, drop, refl}
+use Rattle.std.proofs.Common.{ap, sym, subst, ◌∙◌, arith, append_assoc, length-append}
 use Rattle.vl_compact.proofs.PlaceLaws.{level_next, level_without, next_level}
 use Rattle.vl_compact.specs.Laid.{AreLevelsOf, AreTablesOf, IsTableOf}
 use Rattle.vl_compact.specs.Places.{first_key, put_at}

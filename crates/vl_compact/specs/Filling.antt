@@ -42,7 +42,8 @@ module _ {W : Type 0} (writer : Ghosts W) where
 
   -- Entries that are kept were added behind the first one, up to one that closes the table, or all of them; and what of the
   -- needless deletions wasn't found lies behind the last of them.
-  pub record Adds {g : _} (j : Job) (first : Entry) (old : Stage) (found : List Named) (lent : Lent W g) (table : TableWriter) : Type 0 where
+  pub record Adds {g : _} (j : Job) (first : Entry) (old : Stage) (found : List Named) (lent : Lent W g)
+      (table : TableWriter) : Type 0 where
     pub all : List Entry
     pub others : List Entry
     pub later : List Named

@@ -47,7 +47,8 @@ abbrev pub MayWhere : Type 0 → (TableFault → Type 0) → TableFault → Type
 MayWhere holds may fault = holds → may fault
 
 -- a fault of reading is one of these, by which faults say that reading failed, and which there may be
-abbrev pub FailsReading : (TableFault → Bool) → (TableFault → Type 0) → (TableFault → Bool) → (TableFault → Type 0) → Counts → TableFault → Type 0
+abbrev pub FailsReading : (TableFault → Bool) → (TableFault → Type 0) → (TableFault → Bool) → (TableFault → Type 0)
+    → Counts → TableFault → Type 0
 FailsReading is_sources_read of_sources is_files_read of_files c fault =
     IsMemory c fault ⊎ (IsOfSources is_sources_read of_sources c fault ⊎ IsOfFiles is_files_read of_files c fault)
 

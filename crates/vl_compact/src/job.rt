@@ -170,7 +170,8 @@ impl<V: Sources, H: HeldFile, W: Writer> Job<V, H, W> {
 }
 
 impl<V: Sources<Fault = TableFault>, H: HeldFile, W: Writer> Job<V, H, W> {
-    ghost use Rattle.std.specs.Prelude.{◌≡◌, ◌<◌, ◌≤◌, ◌+◌, ◌++◌, List, None, Some, map, true, false, vec_capacity, vec_len, IfErr, IfOk, IsSome, OnErr, OnOk};
+    ghost use Rattle.std.specs.Prelude.{◌≡◌, ◌<◌, ◌≤◌, ◌+◌, ◌++◌, List, None, Some, map, true, false, vec_capacity};
+    ghost use Rattle.std.specs.Prelude.{vec_len, IfErr, IfOk, IsSome, OnErr, OnOk};
     ghost use Rattle.std.specs.List.{flat_map};
     ghost use Rattle.vl_compact.specs.Filling.{FailsFilling, Fills};
     ghost use Rattle.vl_compact.specs.Keys.{behind};
@@ -295,7 +296,8 @@ impl<V: Sources<Fault = TableFault>, H: HeldFile, W: Writer> Job<V, H, W> {
     fn take(&mut self, lent: Lent<W>, filled: Filled)
         requires made { vec_len self.old.made < vec_capacity self.old.made }
         requires room { vec_len self.old.needless + vec_len filled.found ≤ vec_capacity self.old.needless }
-        ensures same { self.new ≡ record self.old { after = Some filled.last; made = self.new.made; needless = self.new.needless; waits = false } }
+        ensures same { self.new ≡ record self.old
+            { after = Some filled.last; made = self.new.made; needless = self.new.needless; waits = false } }
         ensures made { HasTaken lent filled self.old.made.items self.new.made.items }
         ensures needless { self.new.needless.items ≡ self.old.needless.items ++ filled.found.items }
     {

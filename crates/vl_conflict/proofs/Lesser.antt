@@ -1,5 +1,6 @@
 -- The least of what two searches find.
-use Rattle.std.proofs.Common.{◌≡◌, ℕ, ◌+◌, ◌<◌, Bool, true, false, cond, not, ◌&&◌, ◌||◌, List, [], ◌∷◌, ◌++◌, length, take, get_or, refl, ap, sym, ◌∙◌, T, Option, Some, None, map}
+use Rattle.std.proofs.Common.{◌≡◌, ℕ, ◌+◌, ◌<◌, Bool, true, false, cond, not, ◌&&◌, ◌||◌, List, [], ◌∷◌, ◌++◌, length}
+use Rattle.std.proofs.Common.{take, get_or, refl, ap, sym, ◌∙◌, T, Option, Some, None, map}
 use Rattle.std.proofs.lemmas.List.{take_more}
 use Rattle.std.specs.Prelude.{nat_lt}
 use Rattle.std.specs.List.{AllByRecursion, filter, list_any}
@@ -22,14 +23,16 @@ use Rattle.vl_conflict.specs.Recent.{first_newer_than, is_late, is_late_at, is_l
 
 filter-same : (p q : Named → Bool) (es : List Named) → ((e : Named) → p e ≡ q e) → filter p es ≡ filter q es
 filter-same p q [] same = refl
-filter-same p q (e ∷ es) same = ap (λ b. cond b (e ∷ filter p es) (filter p es)) (same e) ∙ ap (λ l. cond (q e) (e ∷ l) l) (filter-same p q es same)
+filter-same p q (e ∷ es) same = ap (λ b. cond b (e ∷ filter p es) (filter p es)) (same e)
+    ∙ ap (λ l. cond (q e) (e ∷ l) l) (filter-same p q es same)
 
 -- what was found behind a key is above it
 abbrev IsBehind : List ℕ → Option Named → Type 0
 IsBehind key None = Unit {0}
 IsBehind key (Some f) = key_cmp key f.0 ≡ Less
 
-first-behind : (x : Named) (test : Named → Bool) (es : List Named) → AllByRecursion (λ (e : Named). key_cmp x.0 e.0 ≡ Less) es → IsBehind x.0 (first_of (filter test es))
+first-behind : (x : Named) (test : Named → Bool) (es : List Named)
+    → AllByRecursion (λ (e : Named). key_cmp x.0 e.0 ≡ Less) es → IsBehind x.0 (first_of (filter test es))
 first-behind x test [] behind = tt
 first-behind x test (e ∷ es) behind = elim (test e) as (λ b. IsBehind x.0 (first_of (cond b (e ∷ filter test es) (filter test es)))) [
   | true ↦ behind.0
@@ -42,7 +45,8 @@ lesser-here x (Some f) behind = ap (λ r. cond (is_gt r) (Some f) (Some x)) behi
 
 lesser-there : (x : Named) (o : Option Named) → IsBehind x.0 o → lesser_of o (Some x) ≡ Some x
 lesser-there x None behind = refl
-lesser-there x (Some f) behind = ap (λ r. cond (is_gt r) (Some x) (Some f)) (nat_list_cmp_total.antisymm f.0 x.0 ∙ ap ordering_reverse behind)
+lesser-there x (Some f) behind = ap (λ r. cond (is_gt r) (Some x) (Some f))
+    (nat_list_cmp_total.antisymm f.0 x.0 ∙ ap ordering_reverse behind)
 
 lesser-same : (x : Named) → lesser_of (Some x) (Some x) ≡ Some x
 lesser-same x = ap (λ r. cond (is_gt r) (Some x) (Some x)) (key_tied x.0)
@@ -79,7 +83,8 @@ any-last test (x ∷ xs) y = ap (λ b. test x || b) (any-last test xs y) ∙ or_
 
 -- an interval that has one key
 at-key : (number : ℕ) (key : List ℕ) (e : Named) → is_late_within number (span_of (Some key) (Some key) true) e ≡ is_late_at number key e
-at-key number key e = ap (λ b. nat_lt number e.1 && b) (ap (λ r. not (is_lt (key_cmp e.0 key)) && not (is_lt r)) (nat_list_cmp_total.antisymm key e.0) ∙ by (key_cmp e.0 key))
+at-key number key e = ap (λ b. nat_lt number e.1 && b)
+    (ap (λ r. not (is_lt (key_cmp e.0 key)) && not (is_lt r)) (nat_list_cmp_total.antisymm key e.0) ∙ by (key_cmp e.0 key))
   where
     by : (r : Ordering) → (not (is_lt r) && not (is_lt (ordering_reverse r))) ≡ is_eq r
     by Less = refl
@@ -102,14 +107,18 @@ module _ (number : ℕ) (es : List Named) (sorted : is_sorted key_cmp es ≡ tru
       ap (λ b. is_late_at_any number so_far e || b) (at-key number key e)
       ∙ sym (any-last (λ k. is_late_at number k e) so_far key)))
 
-  pub one_span_more : (spans : List Span) (i : ℕ) (span : Span) → i < length spans → span ≡ get_or spans i span → first ≡ first_of (filter (is_late_within_any number (take i spans)) es)
-      → found ≡ first_of (filter (is_late_within number span) es) → now ≡ first_of (filter (is_late_within_any number (take (i + 1) spans)) es)
+  pub one_span_more : (spans : List Span) (i : ℕ) (span : Span) → i < length spans → span ≡ get_or spans i span
+      → first ≡ first_of (filter (is_late_within_any number (take i spans)) es)
+      → found ≡ first_of (filter (is_late_within number span) es)
+      → now ≡ first_of (filter (is_late_within_any number (take (i + 1) spans)) es)
   one_span_more spans i span within is so_far one =
       now_is ∙ ap (λ o. lesser_of o found) so_far ∙ ap (lesser_of (first_of (filter (is_late_within_any number (take i spans)) es))) one
       ∙ either (is_late_within_any number (take i spans)) (is_late_within number span) es (as_T (is_sorted key_cmp es) sorted)
-      ∙ ap first_of (filter-same (λ e. is_late_within_any number (take i spans) e || is_late_within number span e) (is_late_within_any number (take (i + 1) spans)) es (λ e.
+      ∙ ap first_of (filter-same (λ e. is_late_within_any number (take i spans) e || is_late_within number span e)
+      (is_late_within_any number (take (i + 1) spans)) es (λ e.
       sym (any-last (λ s. is_late_within number s e) (take i spans) span)
-      ∙ ap (λ ss. list_any (λ s. is_late_within number s e) ss) (ap (λ s. take i spans ++ s ∷ []) is ∙ sym (take_more spans i span within))))
+      ∙ ap (λ ss. list_any (λ s. is_late_within number s e) ss)
+      (ap (λ s. take i spans ++ s ∷ []) is ∙ sym (take_more spans i span within))))
 
 -- where nothing was asked, nothing is found
 pub nothing-found : (es : List Named) → first_of (filter (λ e. false) es) ≡ None
@@ -129,12 +138,14 @@ or_of_and true k s = refl
 or_of_and false k s = refl
 
 pub all_late : (number : ℕ) (keys : List (List ℕ)) (spans : List Span) (es : List Named) → is_sorted key_cmp es ≡ true
-    → lesser_of (first_of (filter (is_late_at_any number keys) es)) (first_of (filter (is_late_within_any number spans) es)) ≡ first_newer_than number keys spans es
+    → lesser_of (first_of (filter (is_late_at_any number keys) es))
+    (first_of (filter (is_late_within_any number spans) es)) ≡ first_newer_than number keys spans es
 all_late number keys spans es sorted =
     either (is_late_at_any number keys) (is_late_within_any number spans) es (as_T (is_sorted key_cmp es) sorted)
     ∙ ap first_of (filter-same (λ e. is_late_at_any number keys e || is_late_within_any number spans e) (is_late number keys spans) es (λ e.
     ap (λ b. b || is_late_within_any number spans e) (any-and (nat_lt number e.1) (eq_by_cmp key_cmp e.0) keys)
-    ∙ ap (λ b. (nat_lt number e.1 && list_any (eq_by_cmp key_cmp e.0) keys) || b) (any-and (nat_lt number e.1) (λ span. is_in_span span e.0) spans)
+    ∙ ap (λ b. (nat_lt number e.1 && list_any (eq_by_cmp key_cmp e.0) keys) || b)
+    (any-and (nat_lt number e.1) (λ span. is_in_span span e.0) spans)
     ∙ or_of_and (nat_lt number e.1) (list_any (eq_by_cmp key_cmp e.0) keys) (list_any (λ span. is_in_span span e.0) spans)))
 
 -- ---- lists seen through a function

@@ -1,5 +1,6 @@
 -- Laws of a list in rising order of keys, cut at one of them.
-use Rattle.std.proofs.Common.{◌≡◌, ℕ, ◌<◌, ◌≤◌, Bool, true, false, cond, not, ◌&&◌, List, [], ◌∷◌, ◌++◌, refl, ap, sym, subst, ◌∙◌, append-nil, arith, T, Option, Some, None, is_some, Bor}
+use Rattle.std.proofs.Common.{◌≡◌, ℕ, ◌<◌, ◌≤◌, Bool, true, false, cond, not, ◌&&◌, List, [], ◌∷◌, ◌++◌, refl, ap}
+use Rattle.std.proofs.Common.{sym, subst, ◌∙◌, append-nil, arith, T, Option, Some, None, is_some, Bor}
 use Rattle.std.proofs.lemmas.Bool.Decides.{nat_tests}
 use Rattle.std.proofs.lemmas.List.Elements.{filter-append}
 use Rattle.std.specs.Prelude.{nat_lt}
@@ -29,7 +30,8 @@ pub record IsCut (l : List Named) (x : Named) (r : List Named) : Type 0 where
   pub behind : AllByRecursion (λ (e : Named). key_cmp x.0 e.0 ≡ Less) r
 
 -- what is below all of a list is below those in front of a key, and below the key
-below-parts : (q : List ℕ) (l : List Named) (x : Named) (r : List Named) → T (below_all key_cmp q (l ++ x ∷ r)) → T (below_all key_cmp q l) × (key_cmp q x.0 ≡ Less)
+below-parts : (q : List ℕ) (l : List Named) (x : Named) (r : List Named) → T (below_all key_cmp q (l ++ x ∷ r))
+    → T (below_all key_cmp q l) × (key_cmp q x.0 ≡ Less)
 below-parts q [] x r below = (tt, lt-is (key_cmp q x.0) (two_parts (is_lt (key_cmp q x.0)) (below_all key_cmp q r) below).0)
 below-parts q (e ∷ l) x r below =
     let parts = two_parts (is_lt (key_cmp q e.0)) (below_all key_cmp q (l ++ x ∷ r)) below in
@@ -58,7 +60,8 @@ module _ (key : List ℕ) (number : ℕ) where
       → put key_cmp key number (x ∷ es) ≡ by_order o ((key, number) ∷ x ∷ es) ((x.0, number) ∷ es) (x ∷ put key_cmp key number es)
   put-is x es o is = ap (λ o. by_order o ((key, number) ∷ x ∷ es) ((x.0, number) ∷ es) (x ∷ put key_cmp key number es)) is
 
-  pub put-left : (l : List Named) (x : Named) (r : List Named) → key_cmp key x.0 ≡ Less → put key_cmp key number (l ++ x ∷ r) ≡ put key_cmp key number l ++ x ∷ r
+  pub put-left : (l : List Named) (x : Named) (r : List Named) → key_cmp key x.0 ≡ Less
+      → put key_cmp key number (l ++ x ∷ r) ≡ put key_cmp key number l ++ x ∷ r
   put-left [] x r less = put-is x r Less less
   put-left (e ∷ l) x r less = by (put-left l x r less) (key_cmp key e.0) refl
     where
@@ -66,29 +69,37 @@ module _ (key : List ℕ) (number : ℕ) where
           → put key_cmp key number (e ∷ l ++ x ∷ r) ≡ put key_cmp key number (e ∷ l) ++ x ∷ r
       by later Less is = put-is e (l ++ x ∷ r) Less is ∙ sym (ap (λ es. es ++ x ∷ r) (put-is e l Less is))
       by later Equal is = put-is e (l ++ x ∷ r) Equal is ∙ sym (ap (λ es. es ++ x ∷ r) (put-is e l Equal is))
-      by later Greater is = put-is e (l ++ x ∷ r) Greater is ∙ ap (λ es. e ∷ es) later ∙ sym (ap (λ es. es ++ x ∷ r) (put-is e l Greater is))
+      by later Greater is = put-is e (l ++ x ∷ r) Greater is ∙ ap (λ es. e ∷ es) later
+          ∙ sym (ap (λ es. es ++ x ∷ r) (put-is e l Greater is))
 
-  put-past : (l es : List Named) → AllByRecursion (λ (e : Named). key_cmp key e.0 ≡ Greater) l → put key_cmp key number (l ++ es) ≡ l ++ put key_cmp key number es
+  put-past : (l es : List Named) → AllByRecursion (λ (e : Named). key_cmp key e.0 ≡ Greater) l
+      → put key_cmp key number (l ++ es) ≡ l ++ put key_cmp key number es
   put-past [] es past = refl
   put-past (e ∷ l) es past = put-is e (l ++ es) Greater past.0 ∙ ap (λ fs. e ∷ fs) (put-past l es past.1)
 
-  all-past : (x : List ℕ) (l : List Named) → ((q : List ℕ) → key_cmp q x ≡ Less → key_cmp key q ≡ Greater) → AllByRecursion (λ (e : Named). key_cmp e.0 x ≡ Less) l
+  all-past : (x : List ℕ) (l : List Named) → ((q : List ℕ) → key_cmp q x ≡ Less → key_cmp key q ≡ Greater)
+      → AllByRecursion (λ (e : Named). key_cmp e.0 x ≡ Less) l
       → AllByRecursion (λ (e : Named). key_cmp key e.0 ≡ Greater) l
   all-past x [] goes before = tt
   all-past x (e ∷ l) goes before = (goes e.0 before.0, all-past x l goes before.1)
 
-  pub put-right : (l : List Named) (x : Named) (r : List Named) → key_cmp key x.0 ≡ Greater → AllByRecursion (λ (e : Named). key_cmp e.0 x.0 ≡ Less) l
+  pub put-right : (l : List Named) (x : Named) (r : List Named) → key_cmp key x.0 ≡ Greater
+      → AllByRecursion (λ (e : Named). key_cmp e.0 x.0 ≡ Less) l
       → put key_cmp key number (l ++ x ∷ r) ≡ l ++ x ∷ put key_cmp key number r
   put-right l x r greater before =
       put-past l (x ∷ r)
-      (all-past x.0 l (λ q less. nat_list_cmp_total.antisymm key q ∙ ap ordering_reverse (nat_list_cmp_total.trans q x.0 key less (nat_list_cmp_total.antisymm x.0 key ∙ ap ordering_reverse greater))) before)
+      (all-past x.0 l (λ q less. nat_list_cmp_total.antisymm key q
+      ∙ ap ordering_reverse (nat_list_cmp_total.trans q x.0 key less
+      (nat_list_cmp_total.antisymm x.0 key ∙ ap ordering_reverse greater))) before)
       ∙ ap (λ es. l ++ es) (put-is x r Greater greater)
 
-  pub put-here : (l : List Named) (x : Named) (r : List Named) → key_cmp key x.0 ≡ Equal → AllByRecursion (λ (e : Named). key_cmp e.0 x.0 ≡ Less) l
+  pub put-here : (l : List Named) (x : Named) (r : List Named) → key_cmp key x.0 ≡ Equal
+      → AllByRecursion (λ (e : Named). key_cmp e.0 x.0 ≡ Less) l
       → put key_cmp key number (l ++ x ∷ r) ≡ l ++ (x.0, number) ∷ r
   put-here l x r equal before =
       put-past l (x ∷ r)
-      (all-past x.0 l (λ q less. nat_list_cmp_total.congr key x.0 q equal ∙ (nat_list_cmp_total.antisymm x.0 q ∙ ap ordering_reverse less)) before)
+      (all-past x.0 l (λ q less. nat_list_cmp_total.congr key x.0 q equal
+      ∙ (nat_list_cmp_total.antisymm x.0 q ∙ ap ordering_reverse less)) before)
       ∙ ap (λ es. l ++ es) (put-is x r Equal equal)
 
 -- ---- bounds
@@ -104,7 +115,8 @@ from_below (Some low) a b less is = by (key_cmp b low) refl is
     by Greater below is = absurd cc
 
 -- what is above a key that is above an interval is above it too
-up_to_above : (hi : Option (List ℕ)) (closed : Bool) (a b : List ℕ) → key_cmp a b ≡ Less → is_up_to hi closed a ≡ false → is_up_to hi closed b ≡ false
+up_to_above : (hi : Option (List ℕ)) (closed : Bool) (a b : List ℕ) → key_cmp a b ≡ Less → is_up_to hi closed a ≡ false
+    → is_up_to hi closed b ≡ false
 up_to_above None closed a b less is = absurd cc
 up_to_above (Some high) false a b less is = by (key_cmp b high) refl
   where
@@ -122,14 +134,18 @@ up_to_above (Some high) true a b less is = by (key_cmp high a) refl is
 -- ---- late ones
 
 module _ (number : ℕ) (span : Span) where
-  none-late : (es : List Named) → AllByRecursion (λ e. is_late_within number span e ≡ false) es → filter (is_late_within number span) es ≡ []
+  none-late : (es : List Named) → AllByRecursion (λ e. is_late_within number span e ≡ false) es
+      → filter (is_late_within number span) es ≡ []
   none-late [] none = refl
-  none-late (e ∷ es) none = ap (λ b. cond b (e ∷ filter (is_late_within number span) es) (filter (is_late_within number span) es)) none.0 ∙ none-late es none.1
+  none-late (e ∷ es) none = ap
+      (λ b. cond b (e ∷ filter (is_late_within number span) es) (filter (is_late_within number span) es)) none.0 ∙ none-late es none.1
 
-  skip : (e : Named) (es : List Named) → is_late_within number span e ≡ false → filter (is_late_within number span) (e ∷ es) ≡ filter (is_late_within number span) es
+  skip : (e : Named) (es : List Named) → is_late_within number span e ≡ false
+      → filter (is_late_within number span) (e ∷ es) ≡ filter (is_late_within number span) es
   skip e es none = ap (λ b. cond b (e ∷ filter (is_late_within number span) es) (filter (is_late_within number span) es)) none
 
-  take : (e : Named) (es : List Named) → is_late_within number span e ≡ true → filter (is_late_within number span) (e ∷ es) ≡ e ∷ filter (is_late_within number span) es
+  take : (e : Named) (es : List Named) → is_late_within number span e ≡ true
+      → filter (is_late_within number span) (e ∷ es) ≡ e ∷ filter (is_late_within number span) es
   take e es is = ap (λ b. cond b (e ∷ filter (is_late_within number span) es) (filter (is_late_within number span) es)) is
 
   and_false : (a b : Bool) → b ≡ false → (a && b) ≡ false
@@ -147,7 +163,8 @@ module _ (number : ℕ) (span : Span) where
   all-low x [] below before = tt
   all-low x (e ∷ l) below before = (low e (from_below span.lo e.0 x.0 before.0 below), all-low x l below before.1)
 
-  all-high : (x : Named) (r : List Named) → is_up_to span.hi span.closed x.0 ≡ false → AllByRecursion (λ (e : Named). key_cmp x.0 e.0 ≡ Less) r
+  all-high : (x : Named) (r : List Named) → is_up_to span.hi span.closed x.0 ≡ false
+      → AllByRecursion (λ (e : Named). key_cmp x.0 e.0 ≡ Less) r
       → AllByRecursion (λ e. is_late_within number span e ≡ false) r
   all-high x [] above behind = tt
   all-high x (e ∷ r) above behind = (high e (up_to_above span.hi span.closed x.0 e.0 behind.0 above), all-high x r above behind.1)
@@ -189,10 +206,12 @@ module _ (number : ℕ) (span : Span) where
       ∙ first-none (filter (is_late_within number span) l) (filter (is_late_within number span) (x ∷ r)) none
 
   -- the key itself is
-  pub late-here : (l : List Named) (x : Named) (r : List Named) → first_of (filter (is_late_within number span) l) ≡ None → is_from span.lo x.0 ≡ true
+  pub late-here : (l : List Named) (x : Named) (r : List Named)
+      → first_of (filter (is_late_within number span) l) ≡ None → is_from span.lo x.0 ≡ true
       → is_up_to span.hi span.closed x.0 ≡ true → number < x.1 → first_of (filter (is_late_within number span) (l ++ x ∷ r)) ≡ Some x
   late-here l x r none from up_to above =
-      no-before l x r none ∙ ap first_of (take x r (ap (λ b. b && is_in_span span x.0) test ∙ ap (λ b. b && is_up_to span.hi span.closed x.0) from ∙ up_to))
+      no-before l x r none ∙ ap first_of
+      (take x r (ap (λ b. b && is_in_span span x.0) test ∙ ap (λ b. b && is_up_to span.hi span.closed x.0) from ∙ up_to))
     where
       test : nat_lt number x.1 ≡ true
       test = grind (arith, nat_tests)
@@ -207,10 +226,12 @@ module _ (number : ℕ) (span : Span) where
       test = grind (arith, nat_tests)
 
   -- where no number is above this one
-  pub late-none : (es : List Named) → AllByRecursion (λ (e : Named). e.1 ≤ number) es → first_of (filter (is_late_within number span) es) ≡ None
+  pub late-none : (es : List Named) → AllByRecursion (λ (e : Named). e.1 ≤ number) es
+      → first_of (filter (is_late_within number span) es) ≡ None
   late-none es most = ap first_of (none-late es (each es most))
     where
-      each : (es : List Named) → AllByRecursion (λ (e : Named). e.1 ≤ number) es → AllByRecursion (λ e. is_late_within number span e ≡ false) es
+      each : (es : List Named) → AllByRecursion (λ (e : Named). e.1 ≤ number) es
+          → AllByRecursion (λ e. is_late_within number span e ≡ false) es
       each [] most = tt
       each (e ∷ es) most = (ap (λ b. b && is_in_span span e.0) (test e most.0), each es most.1)
         where
@@ -257,26 +278,34 @@ module _ (number : ℕ) (span : Span) (n : Node) where
 
   pub node-right : is_sorted key_cmp (node_named n) ≡ true → is_from span.lo n.key ≡ false
       → first_of (filter (is_late_within number span) (node_named n)) ≡ first_of (filter (is_late_within number span) (named n.right))
-  node-right sorted below = ap first_of (late-right number span (named n.left) (n.key, n.number) (named n.right) (is_cut (named n.left) (n.key, n.number) (named n.right) sorted) below)
+  node-right sorted below = ap first_of
+      (late-right number span (named n.left) (n.key, n.number) (named n.right)
+      (is_cut (named n.left) (n.key, n.number) (named n.right) sorted) below)
 
   pub node-left : is_sorted key_cmp (node_named n) ≡ true → is_up_to span.hi span.closed n.key ≡ false
       → first_of (filter (is_late_within number span) (node_named n)) ≡ first_of (filter (is_late_within number span) (named n.left))
-  node-left sorted above = ap first_of (late-left number span (named n.left) (n.key, n.number) (named n.right) (is_cut (named n.left) (n.key, n.number) (named n.right) sorted) above)
+  node-left sorted above = ap first_of
+      (late-left number span (named n.left) (n.key, n.number) (named n.right)
+      (is_cut (named n.left) (n.key, n.number) (named n.right) sorted) above)
 
-  no-lesser : (found : Option Node) → found_named found ≡ first_of (filter (is_late_within number span) (named n.left)) → is_some found ≡ false
+  no-lesser : (found : Option Node) → found_named found ≡ first_of (filter (is_late_within number span) (named n.left))
+      → is_some found ≡ false
       → first_of (filter (is_late_within number span) (named n.left)) ≡ None
   no-lesser None is none = sym is
   no-lesser (Some m) is none = absurd cc
 
-  pub node-before : (found : Option Node) → found_named found ≡ first_of (filter (is_late_within number span) (named n.left)) → is_some found ≡ true
+  pub node-before : (found : Option Node)
+      → found_named found ≡ first_of (filter (is_late_within number span) (named n.left)) → is_some found ≡ true
       → found_named found ≡ first_of (filter (is_late_within number span) (node_named n))
   node-before None is some = absurd cc
   node-before (Some m) is some = sym (late-before number span (named n.left) (n.key, n.number) (named n.right) (m.key, m.number) (sym is))
 
-  module _ (found : Option Node) (is : found_named found ≡ first_of (filter (is_late_within number span) (named n.left))) (none : is_some found ≡ false) where
+  module _ (found : Option Node)
+      (is : found_named found ≡ first_of (filter (is_late_within number span) (named n.left))) (none : is_some found ≡ false) where
     pub node-here : is_from span.lo n.key ≡ true → is_up_to span.hi span.closed n.key ≡ true → number < n.number
         → first_of (filter (is_late_within number span) (node_named n)) ≡ Some (n.key, n.number)
-    node-here from up_to above = late-here number span (named n.left) (n.key, n.number) (named n.right) (no-lesser found is none) from up_to above
+    node-here from up_to above = late-here number span (named n.left) (n.key, n.number) (named n.right)
+        (no-lesser found is none) from up_to above
 
     pub node-behind : n.number ≤ number
         → first_of (filter (is_late_within number span) (node_named n)) ≡ first_of (filter (is_late_within number span) (named n.right))

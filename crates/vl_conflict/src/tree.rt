@@ -5,7 +5,8 @@ ghost use Rattle.std.specs.Option.{option_copied};
 ghost use Rattle.std.specs.List.{filter};
 ghost use Rattle.vl_model.specs.Reads.{is_from, is_up_to};
 ghost use Rattle.vl_conflict.specs.Notes.{first_in, is_late_within, is_above_floor, span_of};
-ghost use Rattle.vl_conflict.specs.Trees.{named, least_of, greatest_of, height_of, highest, IsWhole, AreLevel, AreNearlyLevel, AreLow, IsGrown, node_named, NodeWhole, IsAlone, found};
+ghost use Rattle.vl_conflict.specs.Trees.{named, least_of, greatest_of, height_of, highest, IsWhole, AreLevel};
+ghost use Rattle.vl_conflict.specs.Trees.{AreNearlyLevel, AreLow, IsGrown, node_named, NodeWhole, IsAlone, found};
 
 use std::cmp::Ordering;
 use std::mem;

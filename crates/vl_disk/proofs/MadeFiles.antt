@@ -1,5 +1,6 @@
 -- The three calls that make a file.
-use Rattle.std.proofs.Common.{◌≡◌, ◌⊎◌, ⊎_elim, ℕ, ◌≤◌, true, false, List, length, Option, None, Some, Result, Ok, Err, IsErr, OnOk, OnErr, ◌∙◌, ap, subst, arith, refl}
+use Rattle.std.proofs.Common.{◌≡◌, ◌⊎◌, ⊎_elim, ℕ, ◌≤◌, true, false, List, length, Option, None, Some, Result, Ok}
+use Rattle.std.proofs.Common.{Err, IsErr, OnOk, OnErr, ◌∙◌, ap, subst, arith, refl}
 use Rattle.std.proofs.lemmas.List.{take_all}
 use Rattle.std.proofs.lemmas.Result.{on_ok_weaker, on_err_weaker}
 use Rattle.std.specs.FinMap.{get, insert}
@@ -29,16 +30,20 @@ module _ (name : Name) (bytes : List ℕ) where
 
   is_made : (disk : DiskState) → synced name (second disk) ≡ made name bytes disk
   is_made disk = ap (λ (files : Files). record (made name bytes disk) { standing = files })
-      (changed_files name (second disk) synced_file whole (ap (λ (files : Files). get files name) handed ∙ get_inserted disk.standing name whole)
+      (changed_files name (second disk) synced_file whole
+      (ap (λ (files : Files). get files name) handed ∙ get_inserted disk.standing name whole)
       ∙ ap (λ (files : Files). insert files name (settled whole.bytes)) handed
       ∙ inserted_twice disk.standing name whole (settled whole.bytes)
       ∙ ap (λ (b : List ℕ). insert disk.standing name (settled b)) (take_all (length bytes) bytes (omega arith)))
     where
       handed : (second disk).standing ≡ insert disk.standing name whole
-      handed = changed_files name (first disk) (lengthened bytes (length bytes)) new_file (created_there name disk) ∙ inserted_twice disk.standing name new_file whole
+      handed = changed_files name (first disk) (lengthened bytes (length bytes)) new_file (created_there name disk)
+          ∙ inserted_twice disk.standing name new_file whole
 
-  while_created : (told : Option DiskState) (now : DiskState) → While told (WhileCreating name) now → While told (WhileMaking name bytes) now
-  while_created told now is disk there = ⊎_elim (λ (same : now ≡ disk). not_there same) (λ (same : now ≡ first disk). empty same) (is disk there)
+  while_created : (told : Option DiskState) (now : DiskState) → While told (WhileCreating name) now
+      → While told (WhileMaking name bytes) now
+  while_created told now is disk there = ⊎_elim (λ (same : now ≡ disk). not_there same)
+      (λ (same : now ≡ first disk). empty same) (is disk there)
 
   module _ (told0 told1 : Option DiskState) (creates : IsChangedBy (created name) told0 told1) (now : DiskState) where
     while_appended : While told1 (WhileAppending name bytes) now → While told0 (WhileMaking name bytes) now
@@ -49,7 +54,8 @@ module _ (name : Name) (bytes : List ℕ) where
         (λ (part : (taken : ℕ) × (taken ≤ length bytes) × (now ≡ appended name bytes taken (first disk))). in_part part.0 part.1 part.2)
         (is (first disk) after)
 
-    while_synced : (told2 : Option DiskState) → IsChangedBy (appended name bytes (length bytes)) told1 told2 → While told2 (WhileSyncing name) now → While told0 (WhileMaking name bytes) now
+    while_synced : (told2 : Option DiskState) → IsChangedBy (appended name bytes (length bytes)) told1 told2
+        → While told2 (WhileSyncing name) now → While told0 (WhileMaking name bytes) now
     while_synced told2 appends is disk told =
         let after : told1 ≡ Some (first disk) = cc in
         let later : told2 ≡ Some (second disk) = cc in
@@ -58,28 +64,33 @@ module _ (name : Name) (bytes : List ℕ) where
         (λ (same : now ≡ synced name (second disk)). durable (same ∙ is_made disk))
         (is (second disk) later)
 
-  told_made : (told0 told1 told2 told3 : Option DiskState) → IsChangedBy (created name) told0 told1 → IsChangedBy (appended name bytes (length bytes)) told1 told2 → IsChangedBy (synced name) told2 told3 → IsChangedBy (made name bytes) told0 told3
+  told_made : (told0 told1 told2 told3 : Option DiskState) → IsChangedBy (created name) told0 told1
+      → IsChangedBy (appended name bytes (length bytes)) told1 told2 → IsChangedBy (synced name) told2 told3
+      → IsChangedBy (made name bytes) told0 told3
   told_made None told1 told2 told3 a b c = cc
   told_made (Some disk) told1 told2 told3 a b c =
       let after : told3 ≡ Some (synced name (second disk)) = cc in
       after ∙ ap Some (is_made disk)
 
   -- what stands where the first call fails, the second, or the third
-  create_failed : (told0 told1 : Option DiskState) → (told1 ≡ told0) ⊎ IsChangedBy (created name) told0 told1 → TellsPart name bytes told0 told1
+  create_failed : (told0 told1 : Option DiskState) → (told1 ≡ told0) ⊎ IsChangedBy (created name) told0 told1
+      → TellsPart name bytes told0 told1
   create_failed None told1 failed = ⊎_elim (λ (same : told1 ≡ None). same) (λ (same : told1 ≡ None). same) failed
   create_failed (Some disk) told1 failed = ⊎_elim
       (λ (is : told1 ≡ Some disk). (disk, is, not_there refl))
       (λ (is : told1 ≡ Some (first disk)). (first disk, is, empty refl))
       failed
 
-  append_failed : (told0 told1 told2 : Option DiskState) → IsChangedBy (created name) told0 told1 → (taken : ℕ) × (taken ≤ length bytes) × IsChangedBy (appended name bytes taken) told1 told2 → TellsPart name bytes told0 told2
+  append_failed : (told0 told1 told2 : Option DiskState) → IsChangedBy (created name) told0 told1 → (taken : ℕ)
+      × (taken ≤ length bytes) × IsChangedBy (appended name bytes taken) told1 told2 → TellsPart name bytes told0 told2
   append_failed None told1 told2 a failed = let b : IsChangedBy (appended name bytes failed.0) told1 told2 = failed.2 in cc
   append_failed (Some disk) told1 told2 a failed =
       let b : IsChangedBy (appended name bytes failed.0) told1 told2 = failed.2 in
       let is : told2 ≡ Some (appended name bytes failed.0 (first disk)) = cc in
       (appended name bytes failed.0 (first disk), is, in_part failed.0 failed.1 refl)
 
-  sync_failed : (told0 told1 told2 told3 : Option DiskState) → IsChangedBy (created name) told0 told1 → IsChangedBy (appended name bytes (length bytes)) told1 told2 → told3 ≡ told2 → TellsPart name bytes told0 told3
+  sync_failed : (told0 told1 told2 told3 : Option DiskState) → IsChangedBy (created name) told0 told1
+      → IsChangedBy (appended name bytes (length bytes)) told1 told2 → told3 ≡ told2 → TellsPart name bytes told0 told3
   sync_failed None told1 told2 told3 a b failed = cc
   sync_failed (Some disk) told1 told2 told3 a b failed =
       let is : told3 ≡ Some (second disk) = cc in
@@ -94,7 +105,8 @@ cause_then a b c P Q first passed second = subst (λ n. HasCause n c Q) (first.s
 
 -- how the making of a file ends, by the call that fails or none
 module _ {D X E : Type 0} (g : Ghosts D) (name : Name) (bytes : List ℕ) (old one : D) where
-  pub ends_at_create : (e : E) (result : Result X E) → IsErr result → Creates {T = X} g name old one (Err e) → Makes g name bytes old one result
+  pub ends_at_create : (e : E) (result : Result X E) → IsErr result → Creates {T = X} g name old one (Err e)
+      → Makes g name bytes old one result
   ends_at_create e (Ok x) fails call = absurd (false_true fails)
   ends_at_create e (Err f) fails call = record {
     made = tt;
@@ -114,7 +126,8 @@ module _ {D X E : Type 0} (g : Ghosts D) (name : Name) (bytes : List ℕ) (old o
     two_pass time = passes_then _ _ _ _ _ _ creates.as_call.time time
         (while_created name bytes (g.told old)) (while_appended name bytes (g.told old) (g.told one) creates.created)
 
-    pub ends_at_append : (e : E) (result : Result X E) → IsErr result → Appends {T = X} g name bytes one two (Err e) → Makes g name bytes old two result
+    pub ends_at_append : (e : E) (result : Result X E) → IsErr result → Appends {T = X} g name bytes one two (Err e)
+        → Makes g name bytes old two result
     ends_at_append e (Ok y) fails call = absurd (false_true fails)
     ends_at_append e (Err f) fails call = record {
       made = tt;
@@ -131,14 +144,17 @@ module _ {D X E : Type 0} (g : Ghosts D) (name : Name) (bytes : List ℕ) (old o
     module _ (y : X) (appends : Appends {E = E} g name bytes one two (Ok y)) (new : D) where
       pub ends_at_sync : (result : Result X E) → Syncs g name two new result → Makes g name bytes old new result
       ends_at_sync result call = record {
-        made = on_ok_weaker result (told_made name bytes (g.told old) (g.told one) (g.told two) (g.told new) creates.created appends.appended) call.synced;
+        made = on_ok_weaker result
+            (told_made name bytes (g.told old) (g.told one) (g.told two) (g.told new) creates.created appends.appended) call.synced;
         stands = on_ok_always result call.stands;
-        failed = on_err_weaker result (sync_failed name bytes (g.told old) (g.told one) (g.told two) (g.told new) creates.created appends.appended) call.failed;
+        failed = on_err_weaker result
+            (sync_failed name bytes (g.told old) (g.told one) (g.told two) (g.told new) creates.created appends.appended) call.failed;
         calls = on_ok_always result counts;
         stops = on_err_always result (3, omega arith, omega arith, counts);
         time = passes_then _ _ _ _ _ _ (two_pass appends.as_call.time) call.as_call.time
             (λ now is. is) (λ now. while_synced name bytes (g.told old) (g.told one) creates.created now (g.told two) appends.appended);
-        cause = cause_then _ _ _ _ _ creates.as_call.cause false_true (cause_then _ _ _ _ _ appends.as_call.cause false_true call.as_call.cause);
+        cause = cause_then _ _ _ _ _ creates.as_call.cause false_true
+            (cause_then _ _ _ _ _ appends.as_call.cause false_true call.as_call.cause);
         hold = ap (λ (s : Spare). s.hold) (call.spare name) ∙ appends.spare.hold ∙ creates.spare.hold;
         spare = λ other apart. call.spare other ∙ appends.spare.elsewhere other apart ∙ creates.spare.elsewhere other apart;
       }

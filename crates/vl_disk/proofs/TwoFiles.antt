@@ -19,14 +19,16 @@ not_failed e = cc
 module _ (name other : Name) (apart : other ≢ name) where
   -- the other name stays free while the file is made and lent
   other_free : (disk : DiskState) → IsFree other disk → IsFree other (without name (created name disk))
-  other_free disk free = get_removed_other (created name disk).standing name other apart ∙ get_inserted_other disk.standing name new_file other apart ∙ free
+  other_free disk free = get_removed_other (created name disk).standing name other apart
+      ∙ get_inserted_other disk.standing name new_file other apart ∙ free
 
   pub other_stays_free : (old mid new : Option DiskState) → IsChangedBy (created name) old mid → IsChangedBy (without name) mid new
       → ForSome old (IsFree other) → ForSome new (IsFree other)
   other_stays_free old mid new makes lends = holds_after (λ disk. without name (created name disk)) old new (IsFree other) (IsFree other)
       (lends ∙ ap (option_map (without name)) makes ∙ twice old) other_free
     where
-      twice : (o : Option DiskState) → option_map (without name) (option_map (created name) o) ≡ option_map (λ disk. without name (created name disk)) o
+      twice : (o : Option DiskState) → option_map (without name) (option_map (created name) o) ≡ option_map
+          (λ disk. without name (created name disk)) o
       twice None = refl
       twice (Some disk) = refl
 
@@ -38,12 +40,16 @@ module _ (name other : Name) (apart : other ≢ name) where
         (λ disk free. get_inserted_other disk.standing other (settled others) name (λ e. apart (sym e)) ∙ free)
         (holds_after (without name) old mid (λ _. Unit {0}) (IsFree name) lends (λ disk _. get_removed disk.standing name) (λ _ _. tt))
 
-    pub both_stand : (disk last : DiskState) (lent : Option DiskState) (held new : Option DiskState) → IsChangedBy (made other others) lent held
+    pub both_stand : (disk last : DiskState) (lent : Option DiskState) (held new : Option DiskState)
+        → IsChangedBy (made other others) lent held
         → lent ≡ Some disk → ((now : DiskState) → held ≡ Some now → new ≡ Some (adopted name (settled bytes) now)) → new ≡ Some last
         → HasBoth name bytes other others last
     both_stand disk last lent held new makes is adopts here =
         let now : held ≡ Some (made other others disk) = makes ∙ ap (option_map (made other others)) is in
-        subst (HasBoth name bytes other others) (some_state (adopted name (settled bytes) (made other others disk)) last (sym (adopts (made other others disk) now) ∙ here)) (record {
+        subst (HasBoth name bytes other others)
+        (some_state (adopted name (settled bytes) (made other others disk)) last
+        (sym (adopts (made other others disk) now) ∙ here)) (record {
           one = get_inserted (made other others disk).standing name (settled bytes);
-          two = get_inserted_other (made other others disk).standing name (settled bytes) other apart ∙ get_inserted disk.standing other (settled others);
+          two = get_inserted_other (made other others disk).standing name (settled bytes) other apart
+              ∙ get_inserted disk.standing other (settled others);
         })

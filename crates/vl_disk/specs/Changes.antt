@@ -33,21 +33,25 @@ module _ (name : Name) (disk : DiskState) where
   without_removed = placed_there name disk.removed (get disk.standing name)
 
   pub without_elsewhere : SameElsewhere name disk (without name disk)
-  without_elsewhere = record { standing = get_removed_other disk.standing name; removed = placed_elsewhere name disk.removed (get disk.standing name) }
+  without_elsewhere = record
+      { standing = get_removed_other disk.standing name; removed = placed_elsewhere name disk.removed (get disk.standing name) }
 
   module _ (change : File → File) where
     pub changed_there : get (with_file name change disk).standing name ≡ option_map change (get disk.standing name)
     changed_there = of (get disk.standing name) refl
       where
-        of : (file : Option File) → get disk.standing name ≡ file → get (placed name (option_map change file) disk.standing) name ≡ option_map change file
+        of : (file : Option File) → get disk.standing name ≡ file
+            → get (placed name (option_map change file) disk.standing) name ≡ option_map change file
         of None is = is
         of (Some file) is = get_inserted disk.standing name (change file)
 
-    pub changed_files : (file : File) → get disk.standing name ≡ Some file → (with_file name change disk).standing ≡ insert disk.standing name (change file)
+    pub changed_files : (file : File) → get disk.standing name ≡ Some file
+        → (with_file name change disk).standing ≡ insert disk.standing name (change file)
     changed_files file stands = ap (λ (o : Option File). placed name (option_map change o) disk.standing) stands
 
     pub changed_elsewhere : SameElsewhere name disk (with_file name change disk)
-    changed_elsewhere = record { standing = placed_elsewhere name disk.standing (option_map change (get disk.standing name)); removed = λ other apart. refl }
+    changed_elsewhere = record
+        { standing = placed_elsewhere name disk.standing (option_map change (get disk.standing name)); removed = λ other apart. refl }
 
     -- a change that leaves the file as it is leaves the disk as it is
     pub unchanged : (file : File) → get disk.standing name ≡ Some file → change file ≡ file → with_file name change disk ≡ disk

@@ -58,7 +58,8 @@ pub passes_then : (old mid new : Past) (P Q R : DiskState → Type 0)
 passes_then old mid new P Q R first second here there = record {
   later = omega (arith, first.later, second.later);
   nothing_else = λ t state earlier was. ⊎_elim
-      (λ (before : mid.was t state). ⊎_elim (λ (long_ago : old.was t state). inl long_ago) (λ (now : P state). inr (here state now)) (first.nothing_else t state earlier before))
+      (λ (before : mid.was t state). ⊎_elim (λ (long_ago : old.was t state). inl long_ago)
+      (λ (now : P state). inr (here state now)) (first.nothing_else t state earlier before))
       (λ (now : Q state). inr (there state now))
       (second.nothing_else t state (omega (arith, earlier, first.later)) was);
   keeps = λ t state earlier was. second.keeps t state (omega (arith, earlier, first.later)) (first.keeps t state earlier was);
@@ -95,9 +96,11 @@ module _ {D : Type 0} (g : Ghosts D) (P : DiskState → Type 0) where
   }
 
   -- the same of a disk that tells its bytes
-  pub goes_by : (old mid new : D) (state : DiskState) (during : DiskState → DiskState → Type 0) → g.told mid ≡ Some state → HoldsThroughout g old mid P
+  pub goes_by : (old mid new : D) (state : DiskState) (during : DiskState → DiskState → Type 0)
+      → g.told mid ≡ Some state → HoldsThroughout g old mid P
       → Elapses g mid new during → ((now : DiskState) → during state now → P now) → HoldsThroughout g old new P
-  goes_by old mid new state during is so_far time here = goes_on old mid new during so_far time (λ now meanwhile. here now (meanwhile state is))
+  goes_by old mid new state during is so_far time here = goes_on old mid new during so_far time
+      (λ now meanwhile. here now (meanwhile state is))
 
 -- what follows from P at each moment
 pub holds_weaker : {D : Type 0} (g : Ghosts D) (P Q : DiskState → Type 0) (old new : D)
@@ -111,7 +114,8 @@ holds_weaker g P Q old new holds weaker = record {
 pub holds_then : {D : Type 0} (g : Ghosts D) (P : DiskState → Type 0) (old mid new : D)
     → HoldsThroughout g old mid P → HoldsThroughout g mid new P → HoldsThroughout g old new P
 holds_then g P old mid new first second = record {
-  each = λ state was. ⊎_elim (first.each state) (λ (now : P state). now) (second.time.nothing_else (g.moment old) state first.time.later was);
+  each = λ state was. ⊎_elim (first.each state) (λ (now : P state). now)
+      (second.time.nothing_else (g.moment old) state first.time.later was);
   time = passes_then (past_of g old) (past_of g mid) (past_of g new) P P P
       first.time second.time (λ state now. now) (λ state now. now);
 }

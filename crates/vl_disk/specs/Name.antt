@@ -59,8 +59,10 @@ name_eq = (name_equal.ghosts).eq
 
 same_kind : (m n p q : ℕ) → (m ≡ n → p ≡ q) → (p ≡ q → m ≡ n) → (m == n) ≡ is_eq (nat_cmp p q)
 same_kind m n p q up down = ⊎_elim
-    (λ (e : p ≡ q). let f : m ≡ n = down e in let a : (m == n) ≡ true = grind (arith, nat_tests) in let b : (p == q) ≡ true = grind (arith, nat_tests) in a ∙ sym b ∙ unsigned_ties p q)
-    (λ (o : p ≢ q). let f : m ≢ n = λ e. o (up e) in let a : (m == n) ≡ false = grind (arith, nat_tests) in let b : (p == q) ≡ false = grind (arith, nat_tests) in a ∙ sym b ∙ unsigned_ties p q)
+    (λ (e : p ≡ q). let f : m ≡ n = down e in let a : (m == n) ≡ true = grind (arith, nat_tests) in let
+    b : (p == q) ≡ true = grind (arith, nat_tests) in a ∙ sym b ∙ unsigned_ties p q)
+    (λ (o : p ≢ q). let f : m ≢ n = λ e. o (up e) in let a : (m == n) ≡ false = grind (arith, nat_tests) in let
+    b : (p == q) ≡ false = grind (arith, nat_tests) in a ∙ sym b ∙ unsigned_ties p q)
     (cases_eq p q)
 
 other_kind : (p q : ℕ) → p ≢ q → false ≡ is_eq (nat_cmp p q)

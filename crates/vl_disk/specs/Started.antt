@@ -26,7 +26,8 @@ AreNumbered image = (name : Name) (bytes : List ℕ) → get image name ≡ Some
 
 -- a crash may leave what reads give
 pub read_left : (image : Image) (disk : DiskState) → IsRead image disk → MayLeave disk image
-read_left image disk read name = subst (MayLeaveOne (get disk.standing name) (get disk.removed name)) (sym (read.each name)) (of (get disk.standing name) (get disk.removed name))
+read_left image disk read name = subst (MayLeaveOne (get disk.standing name) (get disk.removed name))
+    (sym (read.each name)) (of (get disk.standing name) (get disk.removed name))
   where
     of : (standing removed : Option File) → MayLeaveOne standing removed (option_map (λ (file : File). file.bytes) standing)
     of (Some file) removed = record { durable = refl; whole = λ _. refl }
@@ -40,9 +41,11 @@ module _ (image : Image) (disk : DiskState) (started : Started image disk) where
   pub started_read : IsRead image disk
   started_read = record { each = λ name. of name (get image name) refl }
     where
-      of : (name : Name) (left : Option (List ℕ)) → get image name ≡ left → get image name ≡ option_map (λ (file : File). file.bytes) (get disk.standing name)
+      of : (name : Name) (left : Option (List ℕ)) → get image name ≡ left
+          → get image name ≡ option_map (λ (file : File). file.bytes) (get disk.standing name)
       of name None is = is ∙ sym (ap (option_map (λ (file : File). file.bytes)) (started.standing name ∙ ap (option_map settled) is))
-      of name (Some bytes) is = is ∙ sym (ap (option_map (λ (file : File). file.bytes)) (started.standing name ∙ ap (option_map settled) is))
+      of name (Some bytes) is = is
+          ∙ sym (ap (option_map (λ (file : File). file.bytes)) (started.standing name ∙ ap (option_map settled) is))
 
   -- it leaves this image,
   pub started_leaves : MayLeave disk image
@@ -79,21 +82,28 @@ module _ (image : Image) (disk : DiskState) (started : Started image disk) where
       lawful None file is = absurd (none_some file is)
       lawful (Some bytes) file is = subst IsLawfulFile (some_same (settled bytes) file is) (settled_lawful bytes)
 
-      named : (name : Name) (file : File) → get disk.standing name ≡ Some file → (there : Option (List ℕ)) → get image name ≡ there → IsNumbered name
+      named : (name : Name) (file : File) → get disk.standing name ≡ Some file → (there : Option (List ℕ))
+          → get image name ≡ there → IsNumbered name
       named name file is None none = absurd (none_some file (sym (started.standing name ∙ ap (option_map settled) none) ∙ is))
       named name file is (Some bytes) there = numbered name bytes there
 
 -- the disk on which nothing ever stood was started from nothing
 pub started_empty : Started empty empty_disk
-started_empty = record { standing = λ name. get-empty name_cmp name ∙ sym (ap (option_map settled) (get-empty name_cmp name)); removed = get-empty name_cmp }
+started_empty = record {
+  standing = λ name. get-empty name_cmp name
+      ∙ sym (ap (option_map settled) (get-empty name_cmp name));
+  removed = get-empty name_cmp;
+}
 
 -- and with one file more it is as if it had been started with it
-pub started_made : (image : Image) (disk : DiskState) (name : Name) (bytes : List ℕ) → Started image disk → Started (insert image name bytes) (made name bytes disk)
+pub started_made : (image : Image) (disk : DiskState) (name : Name) (bytes : List ℕ) → Started image disk
+    → Started (insert image name bytes) (made name bytes disk)
 started_made image disk name bytes started = record {
   standing = λ q. ⊎_elim
       (λ (same : q ≡ name). ap (get (insert disk.standing name (settled bytes))) same ∙ get_inserted disk.standing name (settled bytes)
       ∙ sym (ap (option_map settled) (ap (get (insert image name bytes)) same ∙ get_inserted image name bytes)))
-      (λ (other : q ≢ name). get_inserted_other disk.standing name (settled bytes) q other ∙ started.standing q ∙ sym (ap (option_map settled) (get_inserted_other image name bytes q other)))
+      (λ (other : q ≢ name). get_inserted_other disk.standing name (settled bytes) q other ∙ started.standing q
+      ∙ sym (ap (option_map settled) (get_inserted_other image name bytes q other)))
       (same_or_other q name);
   removed = λ q. ⊎_elim
       (λ (same : q ≡ name). ap (get (remove disk.removed name)) same ∙ get_removed disk.removed name)

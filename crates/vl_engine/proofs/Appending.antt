@@ -9,18 +9,23 @@ use Rattle.vl_disk.specs.declared.name.Name.{Name}
 use Rattle.vl_disk.specs.Disk.{IsChangedBy}
 use Rattle.vl_disk.specs.DiskState.{DiskState, appended, synced}
 
-pub told_after : (change : DiskState → DiskState) (old new : Option DiskState) (state : DiskState) → old ≡ Some state → IsChangedBy change old new → new ≡ Some (change state)
+pub told_after : (change : DiskState → DiskState) (old new : Option DiskState) (state : DiskState) → old ≡ Some state
+    → IsChangedBy change old new → new ≡ Some (change state)
 told_after change old new state is changed = cc
 
 pub tells_part : (name : Name) (piece : List ℕ) (old new : Option DiskState) (state : DiskState) → old ≡ Some state
     → (taken : ℕ) × (taken ≤ length piece) × IsChangedBy (appended name piece taken) old new → (now : DiskState) × (new ≡ Some now)
-tells_part name piece old new state is (taken, le, changed) = (appended name piece taken state, told_after (appended name piece taken) old new state is changed)
+tells_part name piece old new state is
+    (taken, le, changed) = (appended name piece taken state, told_after (appended name piece taken) old new state is changed)
 
-pub tells_all : (name other : Name) (piece : List ℕ) (told0 told1 told2 : Option DiskState) (state : DiskState) → told0 ≡ Some state → IsChangedBy (appended name piece (length piece)) told0 told1
-    → (result : Result (Unit {0}) Failed) → OnOk result (IsChangedBy (synced other) told1 told2) → OnErr result (told2 ≡ told1) → (now : DiskState) × (told2 ≡ Some now)
+pub tells_all : (name other : Name) (piece : List ℕ) (told0 told1 told2 : Option DiskState) (state : DiskState)
+    → told0 ≡ Some state → IsChangedBy (appended name piece (length piece)) told0 told1
+    → (result : Result (Unit {0}) Failed) → OnOk result (IsChangedBy (synced other) told1 told2)
+    → OnErr result (told2 ≡ told1) → (now : DiskState) × (told2 ≡ Some now)
 tells_all name other piece told0 told1 told2 state is appends (Ok x) changed err = (
   synced other (appended name piece (length piece) state),
-  told_after (synced other) told1 told2 (appended name piece (length piece) state) (told_after (appended name piece (length piece)) told0 told1 state is appends) changed,
+  told_after (synced other) told1 told2 (appended name piece (length piece) state)
+      (told_after (appended name piece (length piece)) told0 told1 state is appends) changed,
 )
 tells_all name other piece told0 told1 told2 state is appends (Err e) ok same =
     (appended name piece (length piece) state, same ∙ told_after (appended name piece (length piece)) told0 told1 state is appends)

@@ -166,9 +166,11 @@ module _ {D : Type 0} (g : Ghosts D) (watched : IsWatched g) where
     writing_leaves : (now : DiskState) → WhileWriting name whole held.state now → LeavesBetween h longer now
     writing_leaves now during image left = ⊎_elim
         (λ (appending : WhileAppending name whole held.state now).
-        append_shows held.base l h t held.is_base tidy held.state held.holds (has_so held.is_base) tidy_longer spared_longer now appending image left)
+        append_shows held.base l h t held.is_base tidy held.state held.holds (has_so held.is_base) tidy_longer
+        spared_longer now appending image left)
         (λ (syncing : WhileSyncing name (appended name whole (length whole) held.state) now).
-        sync_shows held.base l h t held.is_base tidy held.state held.holds (has_so held.is_base) tidy_longer spared_longer now syncing image left)
+        sync_shows held.base l h t held.is_base tidy held.state held.holds (has_so held.is_base) tidy_longer
+        spared_longer now syncing image left)
         during
 
     writing_may_open : (now : DiskState) → WhileWriting name whole held.state now → MayOpen now

@@ -1,6 +1,7 @@
 -- What a commit comes to, at each of its exits, by the ruling on it.
 use Rattle.std.specs.Prelude.{◌≡◌, ℕ, ◌+◌, ◌++◌, List, Option, None, Some, T, refl}
-use Rattle.std.specs.FinMap.{entries, entries_sorted, from_sorted, get-entries, get-from_sorted, is_sorted, nat_cmp-IsAntisymmetric, same_map, slice_cmp-IsAntisymmetric}
+use Rattle.std.specs.FinMap.{entries, entries_sorted, from_sorted, get-entries, get-from_sorted, is_sorted}
+use Rattle.std.specs.FinMap.{nat_cmp-IsAntisymmetric, same_map, slice_cmp-IsAntisymmetric}
 use Rattle.std.specs.Cmp.Lexicographic.{nat_list_cmp_total}
 use Rattle.std.specs.Option.{option_map}
 use Rattle.std.proofs.Common.{sym, ap, subst, ◌∙◌}
@@ -14,7 +15,8 @@ use Rattle.vl_disk.specs.declared.watched.Watched.{Ghosts}
 use Rattle.vl_engine.proofs.Carrying.{IsWatched, carries_committed, carries_failed, carries_leaving, carries_no_memory, extends_itself}
 use Rattle.vl_engine.proofs.Knowing.{knows_of}
 use Rattle.vl_engine.proofs.Represented.{represents_live}
-use Rattle.vl_engine.proofs.Standing.{decides_as, fronts_committed, fronts_ended, fronts_halted, stands_committed, stands_ended, stands_halted}
+use Rattle.vl_engine.proofs.Standing.{decides_as, fronts_committed, fronts_ended, fronts_halted, stands_committed}
+use Rattle.vl_engine.proofs.Standing.{stands_ended, stands_halted}
 use Rattle.vl_engine.specs.Carries.{Carries}
 use Rattle.vl_engine.specs.Laid.{HasLayout}
 use Rattle.vl_engine.specs.Represents.{Fronts, Represents, StandsFor, file_of}
@@ -302,10 +304,12 @@ module _ {H : Type 0} (bytes : H → Option (List ℕ)) (before after : Core H) 
       more_is is =
           let old_ones = before.version.active.entries in
           done.more
-          ∙ ap (λ (n : ℕ). in_order (frame_entries log_format n before.front.log.length (next_frame before.front writes) ++ old_ones)) is.number
+          ∙ ap (λ (n : ℕ). in_order
+          (frame_entries log_format n before.front.log.length (next_frame before.front writes) ++ old_ones)) is.number
           ∙ ap (λ (n : ℕ). in_order (frame_entries log_format l.active.number n (next_frame before.front writes) ++ old_ones)) is.length_is
           ∙ ap (λ (f : LogFrame). in_order (frame_entries log_format l.active.number l.active.length f ++ old_ones)) (next_is is)
-          ∙ ap (λ (n : ℕ). in_order (frame_entries n l.active.number l.active.length (commit_frame h (entries writes)) ++ old_ones)) (sym is.format)
+          ∙ ap (λ (n : ℕ). in_order
+          (frame_entries n l.active.number l.active.length (commit_frame h (entries writes)) ++ old_ones)) (sym is.format)
 
       stands_longer : StandsFor bytes before h l → StandsFor bytes after longer (committed l h t).layout
       stands_longer is =
@@ -326,9 +330,11 @@ module _ {H : Type 0} (bytes : H → Option (List ℕ)) (before after : Core H) 
           let frame = frame_of before.front writes in
           let said : last_number h + 1 ≡ given = sym (given_is ∙ ap (λ (n : ℕ). n + 1) fronts.front.last) in
           subst (λ (n : ℕ). Carries g bytes old new after h l ruling otherwise (Answered (At n)) (record no_effects { calls = 2 })) said
-          (subst (λ (r : Ruling CommitAnswer). Carries g bytes old new after h l r otherwise (Answered (At (last_number h + 1))) (record no_effects { calls = 2 })) write
+          (subst (λ (r : Ruling CommitAnswer). Carries g bytes old new after h l r otherwise
+          (Answered (At (last_number h + 1))) (record no_effects { calls = 2 })) write
           (carries_committed g watched bytes before after h l t old hands.mid new is rising accepted ⊥ hands.before frame
           (frame_is fronts) (subst (λ (f : LogFrame). HasFrame (frames_grammar log_format) f) (next_is fronts) hands.has)
           (subst (λ (n : ℕ). Elapses g hands.mid new (WhileWriting (names.Log n) frame)) fronts.number hands.time)
-          done.calls (subst (λ (n : ℕ). IsChangedBy (written (names.Log n) frame) (g.told hands.mid) (g.told new)) fronts.number done.changed)
+          done.calls (subst (λ (n : ℕ). IsChangedBy (written (names.Log n) frame) (g.told hands.mid) (g.told new))
+          fronts.number done.changed)
           back (stands_longer is.stands)))

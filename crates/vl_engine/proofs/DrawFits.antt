@@ -1,5 +1,6 @@
 -- What an engine's next calls ask of its disk, and of the files that are lent, is so behind the making of a merge's next table.
-use Rattle.std.specs.Prelude.{◌≡◌, ◌≢◌, ◌≤◌, ◌<◌, ℕ, ◌+◌, ◌==◌, ◌||◌, true, false, All, List, [], ◌∷◌, ◌++◌, Option, None, Some, Result, Ok, Err, OnOk, Vec, is_some, refl}
+use Rattle.std.specs.Prelude.{◌≡◌, ◌≢◌, ◌≤◌, ◌<◌, ℕ, ◌+◌, ◌==◌, ◌||◌, true, false, All, List, [], ◌∷◌, ◌++◌, Option}
+use Rattle.std.specs.Prelude.{None, Some, Result, Ok, Err, OnOk, Vec, is_some, refl}
 use Rattle.std.specs.Global.{Global}
 use Rattle.std.specs.Option.{ForSome}
 use Rattle.std.proofs.Common.{ap, arith, subst, sym, ◌∙◌}

@@ -1,5 +1,6 @@
 -- What making and lending the file of a merge's next table leaves, in memory and on the disk.
-use Rattle.std.specs.Prelude.{◌≡◌, ◌≢◌, ◌⊎◌, ◌≤◌, ◌<◌, ℕ, ◌+◌, true, false, if◌then◌else◌, List, [], ◌∷◌, ◌++◌, Option, None, Some, unwrap_or, refl}
+use Rattle.std.specs.Prelude.{◌≡◌, ◌≢◌, ◌⊎◌, ◌≤◌, ◌<◌, ℕ, ◌+◌, true, false, if◌then◌else◌, List, [], ◌∷◌, ◌++◌}
+use Rattle.std.specs.Prelude.{Option, None, Some, unwrap_or, refl}
 use Rattle.std.specs.FinMap.{get}
 use Rattle.std.specs.Option.{option_map}
 use Rattle.std.proofs.Common.{sym, ap, subst, ◌∙◌, arith, inl, inr, ⊎_elim}
@@ -34,7 +35,8 @@ use Rattle.vl_engine.specs.declared.kept.Core.{Core}
 use Rattle.vl_engine.specs.declared.open.OpenMerge.{OpenMerge}
 use Rattle.vl_engine.specs.laws.AsideLaws.{base_aside, fronts_aside, holds_aside, stands_aside}
 use Rattle.vl_engine.specs.laws.HeldLaws.{held_opens_again}
-use Rattle.vl_engine.specs.laws.InstallBeside.{base_beside, creating_leaves, creating_opens_again, lending_leaves, lending_opens_again, lent_holds, tables_below}
+use Rattle.vl_engine.specs.laws.InstallBeside.{base_beside, creating_leaves, creating_opens_again, lending_leaves}
+use Rattle.vl_engine.specs.laws.InstallBeside.{lending_opens_again, lent_holds, tables_below}
 use Rattle.vl_engine.specs.laws.KeptLaws.{AreOtherTables, nothing_elsewhere}
 use Rattle.vl_layout.specs.Decides.{Answered, Effects, Failed, as_before, no_effects}
 use Rattle.vl_layout.specs.Ruling.{Ruling, halted_at, has_no_number, leaving}

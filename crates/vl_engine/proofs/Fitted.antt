@@ -7,7 +7,8 @@ use Rattle.vl_back.specs.Deciding.{MayFlush, flush_decision}
 use Rattle.vl_back.specs.declared.decision.Decision.TheVariants as decisions
 use Rattle.vl_disk.specs.DiskState.{DiskState}
 use Rattle.vl_disk.specs.declared.watched.Watched.{Ghosts}
-use Rattle.vl_engine.proofs.Committing.{accepted, answer_is, decides_answered, decides_failed, decides_leaving, decides_short, frame_is, next_is}
+use Rattle.vl_engine.proofs.Committing.{accepted, answer_is, decides_answered, decides_failed, decides_leaving}
+use Rattle.vl_engine.proofs.Committing.{decides_short, frame_is, next_is}
 use Rattle.vl_engine.proofs.Flushed.{ruled_on, runs_on}
 use Rattle.vl_engine.proofs.RotateSteps.{CanRotate, ruled_made}
 use Rattle.vl_engine.proofs.Rotated.{ruled_refused}

@@ -1,5 +1,6 @@
 -- What a flush keeps so that an engine may go on: the files that stand, and the numbers.
-use Rattle.std.specs.Prelude.{◌≡◌, ◌≢◌, ◌≤◌, ◌<◌, ℕ, ◌+◌, ◌&&◌, not, Bool, true, false, List, [], ◌∷◌, length, Option, None, Some, Result, Ok, Err, IsErrAnd, IsErrOf, IsSome, refl}
+use Rattle.std.specs.Prelude.{◌≡◌, ◌≢◌, ◌≤◌, ◌<◌, ℕ, ◌+◌, ◌&&◌, not, Bool, true, false, List, [], ◌∷◌, length, Option}
+use Rattle.std.specs.Prelude.{None, Some, Result, Ok, Err, IsErrAnd, IsErrOf, IsSome, refl}
 use Rattle.std.specs.FinMap.{get}
 use Rattle.std.specs.Option.{ForSome, option_map}
 use Rattle.std.proofs.Common.{cond, sym, ap, subst, ◌∙◌, arith}
@@ -22,7 +23,8 @@ use Rattle.vl_engine.specs.Fit.{IsFitFor, IsFitForSteps}
 use Rattle.vl_engine.specs.Flushing.{StopsFlushing, WritesFlush, flush_written}
 use Rattle.vl_engine.specs.declared.kept.Core.{Core}
 use Rattle.vl_manifest.specs.Levels.{all_tables, is_in, put_at}
-use Rattle.vl_manifest.specs.States.{all_applied, applied, are_next, as_draft, finish, flush_edits, given_if, is_file_number, is_head, next_state, then_applied, with_levels}
+use Rattle.vl_manifest.specs.States.{all_applied, applied, are_next, as_draft, finish, flush_edits, given_if}
+use Rattle.vl_manifest.specs.States.{is_file_number, is_head, next_state, then_applied, with_levels}
 use Rattle.vl_manifest.specs.declared.edit.Edit.TheVariants.{Add, Head, Next}
 use Rattle.vl_manifest.specs.declared.state.ManifestState.{ManifestState}
 use Rattle.vl_manifest.specs.declared.version_builder.VersionBuilder.{VersionBuilder}

@@ -35,7 +35,9 @@ use Rattle.vl_engine.specs.Shown.{LeavesBetween}
 use Rattle.vl_engine.specs.Stepping.{AreLogFiles, HasNumbers, LeavesNumbers}
 use Rattle.vl_engine.specs.declared.kept.Core.{Core}
 use Rattle.vl_engine.specs.laws.FlushBase.{before_then}
-use Rattle.vl_engine.specs.laws.FlushLaws.{CanFlush, WhileFlushing, base_beside, base_mid, base_then, bytes_of, edits_of, files_mid, files_then, final, flush_either, flush_holds, flush_leaves, later, memtables, mid, state_is, tidy_then}
+use Rattle.vl_engine.specs.laws.FlushLaws.{CanFlush, WhileFlushing, base_beside, base_mid, base_then, bytes_of}
+use Rattle.vl_engine.specs.laws.FlushLaws.{edits_of, files_mid, files_then, final, flush_either, flush_holds}
+use Rattle.vl_engine.specs.laws.FlushLaws.{flush_leaves, later, memtables, mid, state_is, tidy_then}
 use Rattle.vl_engine.specs.laws.FlushRulings.{flush_made}
 use Rattle.vl_engine.specs.laws.FlushTidy.{flush_tidy, stays}
 use Rattle.vl_engine.specs.laws.HeldLaws.{held_opens_again}
@@ -375,7 +377,8 @@ module _ {D H : Type 0} (g : Ghosts D) (watched : IsWatched g) (bytes : H → Op
       (manifest_held b l h held.is_base now (base_beside b l h s held.state held.is_base tidy held.holds can now
       (making_elsewhere (names.Table l.next_table) (bytes_of l s) held.state now table)))
       image o left.left opens))
-      (λ (switching : WhileSwitching b.manifest.number (switch_frame b (edits_of l s)) (mid b l h s held.state held.is_base tidy held.holds can) now).
+      (λ (switching : WhileSwitching b.manifest.number (switch_frame b (edits_of l s))
+      (mid b l h s held.state held.is_base tidy held.holds can) now).
       let (bytes, current, either) = switching_says b (edits_of l s) flush.state (before_then b.before) held.is_base.numbered can.frame
       (mid b l h s held.state held.is_base tidy held.holds can)
       (base_mid b l h s held.state held.is_base tidy held.holds can) h l (flushed l s) held.is_base tidy
@@ -406,7 +409,8 @@ module _ {D H : Type 0} (g : Ghosts D) (watched : IsWatched g) (bytes : H → Op
       which = ⊎_elim
           (λ (early : g.states_since writes.mid (g.moment writes.mid) now).
           inl (held_state b.state now
-          (subst (HoldsManifest b.state) (sym (watched.only_now writes.mid held.state now told_mid early)) holds_manifest) image o left.left opens))
+          (subst (HoldsManifest b.state) (sym (watched.only_now writes.mid held.state now told_mid early))
+          holds_manifest) image o left.left opens))
           (λ (during : While (g.told writes.mid) (WhileFlushed before flush) now).
           says_either now (as_laid_out now (during held.state told_mid)) image o left opens)
           (writes.time.nothing_else (g.moment writes.mid) now (omega arith)

@@ -15,9 +15,11 @@ use Rattle.vl_disk.specs.declared.watched.Watched.{Ghosts}
 use Rattle.vl_engine.proofs.Carrying.{IsWatched, carries_leaving, carries_no_memory, extends_itself}
 use Rattle.vl_engine.proofs.Committing.{decides_answered, decides_failed, decides_short}
 use Rattle.vl_engine.proofs.FlushKeeps.{KeepsAsMany, as_many, kept_flushed}
-use Rattle.vl_engine.proofs.FlushSteps.{carries_flushed, carries_unflushed, files_held, fronts_flushed, fronts_unflushed, numbers_held, stands_flushed, stands_unflushed}
+use Rattle.vl_engine.proofs.FlushSteps.{carries_flushed, carries_unflushed, files_held, fronts_flushed}
+use Rattle.vl_engine.proofs.FlushSteps.{fronts_unflushed, numbers_held, stands_flushed, stands_unflushed}
 use Rattle.vl_engine.specs.Carries.{Carries}
-use Rattle.vl_engine.specs.Flushing.{FlushesAs, IsFlushWritten, IsStagedOf, IsTableMade, StopsFlushing, WritesFlush, flush_effects, flush_written}
+use Rattle.vl_engine.specs.Flushing.{FlushesAs, IsFlushWritten, IsStagedOf, IsTableMade, StopsFlushing, WritesFlush}
+use Rattle.vl_engine.specs.Flushing.{flush_effects, flush_written}
 use Rattle.vl_engine.specs.Represents.{Fronts, Represents, StandsFor, file_of}
 use Rattle.vl_engine.specs.Stepping.{AreLogFiles, HasNumbers, StepFailed, StepLeavesDisk, step_outcome}
 use Rattle.vl_engine.specs.declared.fails.StepFail.TheVariants as fails

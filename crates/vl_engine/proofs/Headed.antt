@@ -1,5 +1,6 @@
 -- What steps on files ask is so behind an opening, whatever stood on the disk: the log that takes commits has its header alone.
-use Rattle.std.specs.Prelude.{◌≡◌, ◌≢◌, ◌≤◌, ℕ, ◌+◌, ◌==◌, ◌||◌, ◌++◌, max, suc, Bool, true, false, if◌then◌else◌, List, [], ◌∷◌, length, take, Option, None, Some, IsSome, Contains, unwrap_or, refl}
+use Rattle.std.specs.Prelude.{◌≡◌, ◌≢◌, ◌≤◌, ℕ, ◌+◌, ◌==◌, ◌||◌, ◌++◌, max, suc, Bool, true, false, if◌then◌else◌}
+use Rattle.std.specs.Prelude.{List, [], ◌∷◌, length, take, Option, None, Some, IsSome, Contains, unwrap_or, refl}
 use Rattle.std.specs.FinMap.{get}
 use Rattle.std.specs.List.{AllByRecursion, filter}
 use Rattle.std.specs.Option.{option_map}
@@ -27,7 +28,9 @@ use Rattle.vl_recover.specs.opening.Answers.{Finds, IsStrayName}
 use Rattle.vl_recover.specs.opening.Opening.{StandingLogs}
 use Rattle.vl_recover.specs.opening.Plans.{active_log, active_of, last_number, log_behind, log_made, new_state}
 use Rattle.vl_recover.specs.opening.Walk.{StandingLog, content_end, format_of, keeps_header}
-use Rattle.vl_recover.specs.repairing.Repairing.{Cut, Headed, IsPlan, Kept, Plan, Rewritten, behind_last, behind_log, behind_strays, headed, last_of, plan_of, repaired, repairing_of, with_last, with_log, with_manifest}
+use Rattle.vl_recover.specs.repairing.Repairing.{Cut, Headed, IsPlan, Kept, Plan, Rewritten, behind_last, behind_log}
+use Rattle.vl_recover.specs.repairing.Repairing.{behind_strays, headed, last_of, plan_of, repaired, repairing_of}
+use Rattle.vl_recover.specs.repairing.Repairing.{with_last, with_log, with_manifest}
 use Rattle.vl_seglog.specs.Frames.{frames_grammar, log_header}
 use Rattle.vl_seglog.specs.LogReading.{AreBehind, IsLogFormat, ReadsLog, SaysFormat, end_of, is_whole}
 use Rattle.vl_seglog.specs.laws.LogReadingLaws.{log_apart}

@@ -1,6 +1,7 @@
 -- What an install carries out over a disk that holds the engine's layout, where its tables were put in and where that failed; and
 -- that steps on files find what they ask behind it.
-use Rattle.std.specs.Prelude.{◌≡◌, ◌^◌, ◌-◌, ℕ, ◌+◌, ◌++◌, List, [], ◌∷◌, length, map, min, take, drop, Option, None, Some, IsSome, Result, Ok, Err, unwrap_or, refl}
+use Rattle.std.specs.Prelude.{◌≡◌, ◌^◌, ◌-◌, ℕ, ◌+◌, ◌++◌, List, [], ◌∷◌, length, map, min, take, drop, Option, None}
+use Rattle.std.specs.Prelude.{Some, IsSome, Result, Ok, Err, unwrap_or, refl}
 use Rattle.std.specs.FinMap.{get}
 use Rattle.std.specs.List.{AllByRecursion, AllZip}
 use Rattle.std.specs.Option.{option_map}
@@ -35,7 +36,8 @@ use Rattle.vl_engine.proofs.TakenFiles.{AreTold, tables_of}
 use Rattle.vl_engine.specs.Carries.{Carries, CrashesShow}
 use Rattle.vl_engine.specs.Files.{HoldsLog, IsLogFile}
 use Rattle.vl_engine.specs.Held.{Base, Holds}
-use Rattle.vl_engine.specs.Installing.{IsBackInstalled, IsHandedIn, IsInstalled, IsReadyFor, IsUninstalled, StopsSwitching, install_otherwise}
+use Rattle.vl_engine.specs.Installing.{IsBackInstalled, IsHandedIn, IsInstalled, IsReadyFor, IsUninstalled}
+use Rattle.vl_engine.specs.Installing.{StopsSwitching, install_otherwise}
 use Rattle.vl_engine.specs.Merging.{HasAllMerge}
 use Rattle.vl_engine.specs.Represents.{IsHeld, Represents, StandsFor, file_of}
 use Rattle.vl_engine.specs.Shown.{LeavesBetween}
@@ -97,7 +99,8 @@ module _ {D H R W : Type 0} (g : Ghosts D) (watched : IsWatched g) (bytes : H �
     (handed : IsHandedIn g w old before.front.halted merging job) (none : before.front.halted ≡ None) (h : History) (l : Layout)
     (o : OpenJob) (is : Represents bytes before (g.told old) h l) (goes : GoesOn l o) (has : HasAllMerge w bytes job o.job)
     (lent : AreLent o.lent (made_of job o.job)) where
-  module _ (ready : ReadyInstall H) (is_ready : IsReadyFor bytes w before job ready) (begun : D) (quiet : ChangesNothing g old begun ⊥) where
+  module _ (ready : ReadyInstall H) (is_ready : IsReadyFor bytes w before job ready) (begun : D)
+      (quiet : ChangesNothing g old begun ⊥) where
     abbrev holding : IsHeld before.back (g.told old) h l
     holding = held bytes w job before (g.told old) h l o is goes has lent ready is_ready
 

@@ -1,6 +1,7 @@
 -- What the edits of an install tell where a manifest takes them: its tables have numbers that files may have, and the next
 -- numbers are in range; and what they leave of what it said.
-use Rattle.std.specs.Prelude.{◌≡◌, ◌==◌, ◌&&◌, ◌+◌, ℕ, Bool, true, false, not, if◌then◌else◌, List, [], ◌∷◌, ◌++◌, map, Option, None, Some, refl}
+use Rattle.std.specs.Prelude.{◌≡◌, ◌==◌, ◌&&◌, ◌+◌, ℕ, Bool, true, false, not, if◌then◌else◌, List, [], ◌∷◌, ◌++◌}
+use Rattle.std.specs.Prelude.{map, Option, None, Some, refl}
 use Rattle.std.specs.List.{AllByRecursion, filter}
 use Rattle.std.specs.Option.{option_map}
 use Rattle.std.proofs.Common.{sym, ap, append_assoc, ◌∙◌}
@@ -8,7 +9,8 @@ use Rattle.std.proofs.lemmas.Bool.{and_parts}
 use Rattle.vl_back.specs.InstallEdits.{Replacing, drops_of, gone_since, install_switch}
 use Rattle.vl_engine.specs.laws.FileLaws.{all_back, all_front}
 use Rattle.vl_manifest.specs.Levels.{all_tables, is_in, put_at, taken_out}
-use Rattle.vl_manifest.specs.States.{all_applied, applied, are_next, as_draft, finish, given_if, is_file_number, is_gone, is_keep, level_adds, next_state, then_applied, with_both, with_levels}
+use Rattle.vl_manifest.specs.States.{all_applied, applied, are_next, as_draft, finish, given_if, is_file_number}
+use Rattle.vl_manifest.specs.States.{is_gone, is_keep, level_adds, next_state, then_applied, with_both, with_levels}
 use Rattle.vl_manifest.specs.declared.edit.Edit.TheVariants.{Add, Drop, Gone, Head, Keep, Next}
 use Rattle.vl_manifest.specs.declared.edit.Edit.{Edit}
 use Rattle.vl_manifest.specs.declared.state.ManifestState.{ManifestState}

@@ -145,7 +145,8 @@ module _ {H R W : Type 0} (bytes : H → Option (List ℕ)) (w : Writers W) {s :
   pub frame_is : ready.staged.edits.frame.items ≡ switch_frame b (edits_of b l o.job made)
   frame_is = is_ready.staged.frame.frame
       ∙ ap (item_frame (edits_grammar manifest_format) before.back.manifest.number before.back.manifest.length) edits_are
-      ∙ ap (λ (m : ManifestLog). item_frame (edits_grammar manifest_format) m.number m.length (edits_of b l o.job made)) held.back_is.manifest
+      ∙ ap (λ (m : ManifestLog). item_frame (edits_grammar manifest_format) m.number m.length (edits_of b l o.job made))
+      held.back_is.manifest
       ∙ ap (λ (n : ℕ). item_frame (edits_grammar manifest_format) b.manifest.number n (edits_of b l o.job made))
       held.holds.base.has.length_is
 

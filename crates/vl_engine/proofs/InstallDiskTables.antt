@@ -121,4 +121,5 @@ module _ {W : Type 0} (w : Writers W) {s : _} where
       → tables_of w (ts ++ left) outs ≡ tables_of w ts (take (length ts) outs) ++ tables_of w left (drop (length ts) outs)
   tables_front [] left outs zip = refl
   tables_front (t ∷ ts) left [] zip = absurd zip
-  tables_front (t ∷ ts) left (es ∷ outs) zip = ap (λ (us : List laid.Table). new_table table_format t.number es ∷ us) (tables_front ts left outs zip.1)
+  tables_front (t ∷ ts) left (es ∷ outs) zip = ap (λ (us : List laid.Table). new_table table_format t.number es ∷ us)
+      (tables_front ts left outs zip.1)

@@ -1,5 +1,6 @@
 -- What an install comes to, at each of its exits, by the ruling on it.
-use Rattle.std.specs.Prelude.{◌≡◌, ◌≢◌, ◌==◌, ◌||◌, ◌≤◌, ℕ, zero, suc, Bool, true, nat_le, List, [], ◌∷◌, ◌++◌, length, map, if◌then◌else◌, false, Option, None, Some, Result, Ok, Err, OnOk, refl}
+use Rattle.std.specs.Prelude.{◌≡◌, ◌≢◌, ◌==◌, ◌||◌, ◌≤◌, ℕ, zero, suc, Bool, true, nat_le, List, [], ◌∷◌, ◌++◌}
+use Rattle.std.specs.Prelude.{length, map, if◌then◌else◌, false, Option, None, Some, Result, Ok, Err, OnOk, refl}
 use Rattle.std.specs.FinMap.{get}
 use Rattle.std.specs.Option.{ForSome, option_map}
 use Rattle.std.proofs.Common.{sym, ap, subst, arith, append_assoc, ◌∙◌, ⊎_elim}
@@ -31,7 +32,10 @@ use Rattle.vl_engine.proofs.InstallPut.{stands_lost, stands_put}
 use Rattle.vl_engine.proofs.Planning.{fits_abandoned, represents_abandoned, stands_abandoned}
 use Rattle.vl_engine.proofs.Untouched.{alone}
 use Rattle.vl_engine.specs.Carries.{Carries, StaysUntold}
-use Rattle.vl_engine.specs.Installing.{HandsBack, HasVersion, InstallFailed, InstallLeavesDisk, InstallsUnraced, IsHandedIn, IsInstalled, IsUninstalled, KeepsAllBut, MayInstall, StopsInstall, StopsInstalling, StopsSwitching, WritesInstall, at_manifest, at_table, install_otherwise}
+use Rattle.vl_engine.specs.Installing.{HandsBack, HasVersion, InstallFailed, InstallLeavesDisk, InstallsUnraced}
+use Rattle.vl_engine.specs.Installing.{IsHandedIn, IsInstalled, IsUninstalled, KeepsAllBut, MayInstall, StopsInstall}
+use Rattle.vl_engine.specs.Installing.{StopsInstalling, StopsSwitching, WritesInstall, at_manifest, at_table}
+use Rattle.vl_engine.specs.Installing.{install_otherwise}
 use Rattle.vl_engine.specs.Lent.{IsOpenAs, Opens}
 use Rattle.vl_engine.specs.Merging.{HasAllMerge, StandsOpen, install_effects, install_outcome, made_numbers}
 use Rattle.vl_engine.specs.Represents.{Represents, file_of}
@@ -41,12 +45,14 @@ use Rattle.vl_engine.specs.declared.fails.InstallFail.TheVariants as install
 use Rattle.vl_engine.specs.declared.fails.InstallFail.{InstallFail}
 use Rattle.vl_engine.specs.declared.kept.Core.{Core}
 use Rattle.vl_engine.specs.declared.open.OpenMerge.{OpenMerge}
-use Rattle.vl_engine.specs.laws.InstallRulings.{GoesOn, install_exhausted, install_halted, install_made, install_made_so, install_raced, install_version}
+use Rattle.vl_engine.specs.laws.InstallRulings.{GoesOn, install_exhausted, install_halted, install_made}
+use Rattle.vl_engine.specs.laws.InstallRulings.{install_made_so, install_raced, install_version}
 use Rattle.vl_layout.specs.Decides.{Answered, Decides, NoMemory, no_effects}
 use Rattle.vl_layout.specs.Jobs.{AreLent, Made, job_ended}
 use Rattle.vl_layout.specs.Ruling.{Ruling, has_no_version, leaving}
 use Rattle.vl_layout.specs.Rulings.Install as ruling
-use Rattle.vl_layout.specs.Rulings.Install.{InstallAnswer, Installed, install_checked, install_lost, install_ruling, install_unless, moved_since, race}
+use Rattle.vl_layout.specs.Rulings.Install.{InstallAnswer, Installed, install_checked, install_lost, install_ruling}
+use Rattle.vl_layout.specs.Rulings.Install.{install_unless, moved_since, race}
 use Rattle.vl_layout.specs.declared.file_name.FileName.{FileName}
 use Rattle.vl_layout.specs.declared.job.Job.{Job}
 use Rattle.vl_layout.specs.declared.job.OpenJob.{OpenJob}

@@ -1,12 +1,15 @@
 -- An install's switch says nothing of how many versions are kept, and the next log as it is.
-use Rattle.std.specs.Prelude.{◌≡◌, ◌==◌, ◌&&◌, ℕ, ◌+◌, Bool, true, false, not, if◌then◌else◌, List, [], ◌∷◌, ◌++◌, map, Option, None, Some, refl}
+use Rattle.std.specs.Prelude.{◌≡◌, ◌==◌, ◌&&◌, ℕ, ◌+◌, Bool, true, false, not, if◌then◌else◌, List, [], ◌∷◌, ◌++◌}
+use Rattle.std.specs.Prelude.{map, Option, None, Some, refl}
 use Rattle.std.specs.List.{AllByRecursion, filter}
 use Rattle.std.specs.Option.{option_map}
 use Rattle.std.proofs.Common.{sym, ap, ◌∙◌}
 use Rattle.vl_back.specs.InstallEdits.{Replacing, drops_of, gone_since, install_switch}
 use Rattle.vl_engine.proofs.FlushKeeps.{KeepsAsMany}
 use Rattle.vl_manifest.specs.Levels.{all_tables, is_in, put_at, taken_out}
-use Rattle.vl_manifest.specs.States.{all_applied, applied, are_next, as_draft, finish, finished, given_if, is_file_number, is_gone, is_head, level_adds, next_state, then_applied, with_both, with_levels}
+use Rattle.vl_manifest.specs.States.{all_applied, applied, are_next, as_draft, finish, finished, given_if}
+use Rattle.vl_manifest.specs.States.{is_file_number, is_gone, is_head, level_adds, next_state, then_applied}
+use Rattle.vl_manifest.specs.States.{with_both, with_levels}
 use Rattle.vl_manifest.specs.declared.edit.Edit.TheVariants.{Add, Drop, Gone, Head, Keep, Next}
 use Rattle.vl_manifest.specs.declared.edit.Edit.{Edit}
 use Rattle.vl_manifest.specs.declared.state.ManifestState.{ManifestState}
@@ -152,7 +155,8 @@ module _ (log table : ℕ) (u : ManifestState) where
       gone false x next = none
 
       by : (fits same : Bool)
-          → SaysLog (then_applied (all_applied (if same then [] else Gone after ∷ [])) (given_if fits (record d { next = Some (log, table) })))
+          → SaysLog (then_applied (all_applied (if same then [] else Gone after ∷ []))
+          (given_if fits (record d { next = Some (log, table) })))
       by true true = said_log (record d { next = Some (log, table) }) refl
       by true false = gone (is_gone after) (record d { next = Some (log, table) }) refl
       by false same = none

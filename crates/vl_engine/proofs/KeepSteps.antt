@@ -26,7 +26,8 @@ use Rattle.vl_engine.specs.Shown.{LeavesBetween}
 use Rattle.vl_engine.specs.Stepping.{LeavesNumbers}
 use Rattle.vl_engine.specs.declared.kept.Core.{Core}
 use Rattle.vl_engine.specs.laws.HeldLaws.{held_opens_again}
-use Rattle.vl_engine.specs.laws.KeepLaws.{CanKeep, base_then, edits_of, files_then, final, keep_holds, keep_leaves, keep_made, keep_opens_again, kept_state, later, tidy_then}
+use Rattle.vl_engine.specs.laws.KeepLaws.{CanKeep, base_then, edits_of, files_then, final, keep_holds, keep_leaves}
+use Rattle.vl_engine.specs.laws.KeepLaws.{keep_made, keep_opens_again, kept_state, later, tidy_then}
 use Rattle.vl_engine.specs.laws.KeptLaws.{begun_kept, table_manifest, written_elsewhere}
 use Rattle.vl_engine.specs.laws.ShownLaws.{between_itself}
 use Rattle.vl_engine.specs.laws.SparedSteps.{spares_keeping}
@@ -280,7 +281,8 @@ module _ {D H : Type 0} (g : Ghosts D) (watched : IsWatched g) (bytes : H → Op
       let drawn = tidy.files.stocked.logs_drawn.0 in
       (omega (arith, which.0, state, within, next), omega (arith, which.1, given), omega (arith, which.2, low, drawn))
     where
-      same : (s : ManifestState) → o.state ≡ s → (s.next_log ≡ b.state.next_log) × (s.next_table ≡ b.state.next_table) × (s.head ≡ b.state.head)
+      same : (s : ManifestState) → o.state ≡ s → (s.next_log ≡ b.state.next_log) × (s.next_table ≡ b.state.next_table)
+          × (s.head ≡ b.state.head)
           → (o.state.next_log ≡ b.state.next_log) × (o.state.next_table ≡ b.state.next_table) × (o.state.head ≡ b.state.head)
       same s is (log, table, head) = (
         ap (λ (x : ManifestState). x.next_log) is ∙ log,
@@ -292,7 +294,8 @@ module _ {D H : Type 0} (g : Ghosts D) (watched : IsWatched g) (bytes : H → Op
       which = ⊎_elim
           (λ (early : g.states_since writes.mid (g.moment writes.mid) now).
           same b.state (held_state b.state now
-          (subst (HoldsManifest b.state) (sym (watched.only_now writes.mid held.state now told_mid early)) holds_manifest) image o left.left opens)
+          (subst (HoldsManifest b.state) (sym (watched.only_now writes.mid held.state now told_mid early))
+          holds_manifest) image o left.left opens)
           (refl, refl, refl))
           (λ (during : While (g.told writes.mid) (WhileKeeping before staged) now).
           ⊎_elim

@@ -1,6 +1,7 @@
 -- What a change of how many versions are kept is answered, by the ruling on it: where nothing is written, and where it is to be
 -- written, whatever that came to.
-use Rattle.std.specs.Prelude.{◌≡◌, ◌≢◌, ◌≤◌, ◌<◌, ◌==◌, ◌⊎◌, ℕ, ◌||◌, [], ◌∷◌, Bool, true, false, nat_lt, List, Option, None, Some, unwrap_or, Result, Ok, Err, OnOk, if◌then◌else◌, refl}
+use Rattle.std.specs.Prelude.{◌≡◌, ◌≢◌, ◌≤◌, ◌<◌, ◌==◌, ◌⊎◌, ℕ, ◌||◌, [], ◌∷◌, Bool, true, false, nat_lt, List}
+use Rattle.std.specs.Prelude.{Option, None, Some, unwrap_or, Result, Ok, Err, OnOk, if◌then◌else◌, refl}
 use Rattle.std.specs.Option.{ForSome, option_map}
 use Rattle.std.proofs.Common.{sym, ap, subst, ◌∙◌, arith, inl, inr}
 use Rattle.std.proofs.lemmas.Bool.{cases_lt}
@@ -23,7 +24,9 @@ use Rattle.vl_engine.proofs.Standing.{stands_halted}
 use Rattle.vl_engine.proofs.Stepped.{fits_back, fits_halted}
 use Rattle.vl_engine.specs.Carries.{Carries, HasSameFiles, SameFiles}
 use Rattle.vl_engine.specs.Fit.{IsFitFor}
-use Rattle.vl_engine.specs.Keeping.{AreKept, IsKeepWritten, IsStagedKeep, KeepFailed, KeepLeavesDisk, KeepsAs, MayKeep, StopsKeeping, WritesKeep, keep_calls, keep_effects, keep_outcome, keep_written, next_since}
+use Rattle.vl_engine.specs.Keeping.{AreKept, IsKeepWritten, IsStagedKeep, KeepFailed, KeepLeavesDisk, KeepsAs}
+use Rattle.vl_engine.specs.Keeping.{MayKeep, StopsKeeping, WritesKeep, keep_calls, keep_effects, keep_outcome}
+use Rattle.vl_engine.specs.Keeping.{keep_written, next_since}
 use Rattle.vl_engine.specs.Represents.{Fronts, Represents, StandsFor, file_of}
 use Rattle.vl_engine.specs.Stepping.{Fits, MayStep}
 use Rattle.vl_engine.specs.declared.fails.KeepFail.TheVariants as fails

@@ -1,5 +1,6 @@
 -- What numbers a manifest gives behind a step on files, and what a crash leaves of it where the step failed.
-use Rattle.std.specs.Prelude.{◌≡◌, ◌⊎◌, ◌≤◌, ◌<◌, ◌+◌, ℕ, Bool, true, false, ◌&&◌, not, if◌then◌else◌, List, [], ◌∷◌, Option, None, Some, Ok, Result, Err, refl}
+use Rattle.std.specs.Prelude.{◌≡◌, ◌⊎◌, ◌≤◌, ◌<◌, ◌+◌, ℕ, Bool, true, false, ◌&&◌, not, if◌then◌else◌, List, [], ◌∷◌}
+use Rattle.std.specs.Prelude.{Option, None, Some, Ok, Result, Err, refl}
 use Rattle.std.specs.List.{AllByRecursion}
 use Rattle.std.specs.Option.{option_map}
 use Rattle.std.proofs.Common.{sym, ap, subst, ◌∙◌, arith, inl, inr, ⊎_elim}
@@ -69,14 +70,16 @@ flush_gives s u table head covered log next is = by s.levels refl
     by (newest ∷ deeper) are = ap (λ (x : ManifestState). x.next_log) (flush_made s newest deeper table head covered log next u are is)
 
 -- so what was staged for a flush does
-staged_gives : (back : Back) (active : ℕ) (u : ManifestState) → flush_decision back ≡ Go → next_state (flush_switch active back) back.state ≡ Some u
+staged_gives : (back : Back) (active : ℕ) (u : ManifestState) → flush_decision back ≡ Go
+    → next_state (flush_switch active back) back.state ≡ Some u
     → u.next_log ≡ back.next_log
 staged_gives back active u = by back.waiting.items
   where
     by : (ws : List Waiting) → deciding.flush_of ws back ≡ Go → next_state (switch_of active ws back) back.state ≡ Some u
         → u.next_log ≡ back.next_log
     by [] go is = absurd cc
-    by (w ∷ ws) go is = flush_gives back.state u back.state.next_table (head_of active ws) w.covered back.next_log (back.state.next_table + 1) is
+    by (w ∷ ws) go is = flush_gives back.state u back.state.next_table (head_of active ws) w.covered back.next_log
+        (back.state.next_table + 1) is
 
 module _ {D H : Type 0} (g : Ghosts D) (bytes : H → Option (List ℕ)) (before after : Core H) (old new : D)
     (within : before.back.state.next_log ≤ before.back.next_log) where
@@ -84,7 +87,8 @@ module _ {D H : Type 0} (g : Ghosts D) (bytes : H → Option (List ℕ)) (before
   Within = after.back.state.next_log ≤ after.back.next_log
 
   -- The manifest gives the next log no number above that which it gets, behind a rotation
-  pub rotate_within : (result : Result (Option ℕ) StepFail) → RotatesAs g bytes old new before after result → (StepFailed result → ⊥) → Within
+  pub rotate_within : (result : Result (Option ℕ) StepFail) → RotatesAs g bytes old new before after result
+      → (StepFailed result → ⊥) → Within
   rotate_within (Ok (Some number)) did fine =
       let state = ap (λ (x : ManifestState). x.next_log) did.1.back.state in
       let next = did.1.back.next_log in
@@ -115,7 +119,8 @@ module _ {D H : Type 0} (g : Ghosts D) (bytes : H → Option (List ℕ)) (before
 -- ---- on the disk
 
 -- the manifest that a disk holds
-pub manifest_held : (b : Base) (l : Layout) (h : History) → IsBase b l h → (disk : DiskState) → HoldsBase b disk → HoldsManifest b.state disk
+pub manifest_held : (b : Base) (l : Layout) (h : History) → IsBase b l h → (disk : DiskState) → HoldsBase b disk
+    → HoldsManifest b.state disk
 manifest_held b l h base disk holds = record {
   number = b.manifest.number;
   bytes = manifest_bytes b.manifest.number (frames_of b);
@@ -149,7 +154,8 @@ base_numbers back b l h base tidy disk holds is within o same =
     (omega (arith, log, within, next), omega (arith, table, given), omega (arith, head, low, drawn))
 
 -- the first of some logs, or the active one, is below a bound where all are
-pub first_drawn : (a : Segment) (ss : List Segment) (n : ℕ) → AllByRecursion (λ (s : Segment). s.number < n) (a ∷ ss) → number_or a (oldest ss) < n
+pub first_drawn : (a : Segment) (ss : List Segment) (n : ℕ) → AllByRecursion (λ (s : Segment). s.number < n) (a ∷ ss)
+    → number_or a (oldest ss) < n
 first_drawn a [] n all = all.0
 first_drawn a (s ∷ []) n all = all.1.0
 first_drawn a (s ∷ t ∷ ss) n all = first_drawn a (t ∷ ss) n (all.0, all.1.1)

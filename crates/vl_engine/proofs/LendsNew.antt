@@ -1,5 +1,6 @@
 -- The two calls that make and lend a file.
-use Rattle.std.proofs.Common.{◌≡◌, ◌≢◌, ◌⊎◌, inl, inr, ⊎_elim, ℕ, true, false, Option, None, Some, Result, Ok, Err, IsErr, ◌∙◌, subst, sym, arith, refl}
+use Rattle.std.proofs.Common.{◌≡◌, ◌≢◌, ◌⊎◌, inl, inr, ⊎_elim, ℕ, true, false, Option, None, Some, Result, Ok, Err}
+use Rattle.std.proofs.Common.{IsErr, ◌∙◌, subst, sym, arith, refl}
 use Rattle.std.specs.Option.{ForSome}
 use Rattle.vl_back.specs.Writing.{IsKept, KeepsOthers}
 use Rattle.vl_disk.specs.Calls.{Creates}

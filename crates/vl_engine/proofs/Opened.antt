@@ -1,5 +1,6 @@
 -- What an engine that was just opened stands for, and represents.
-use Rattle.std.specs.Prelude.{◌≡◌, ◌≤◌, ℕ, ◌+◌, ◌-◌, ◌^◌, min, max, List, [], ◌∷◌, ◌++◌, map, reverse, Option, None, Some, IsSome, Vec, refl}
+use Rattle.std.specs.Prelude.{◌≡◌, ◌≤◌, ℕ, ◌+◌, ◌-◌, ◌^◌, min, max, List, [], ◌∷◌, ◌++◌, map, reverse, Option, None}
+use Rattle.std.specs.Prelude.{Some, IsSome, Vec, refl}
 use Rattle.std.specs.FinMap.{get}
 use Rattle.std.specs.Global.{Global}
 use Rattle.std.specs.Option.{option_map}

@@ -228,7 +228,14 @@ module _ {H R : Type 0} (bytes : H → Option (List ℕ)) (faults : R → ℕ) (
   by_fault T old new (fault.Disk name) within cause near kept sound =
       record { cause = cause; near = near; kept = kept; refused = within; answers = λ files h reads shows. tt }
   by_fault T old new (fault.Damaged name place) within cause near kept sound =
-      record { cause = cause; near = near; kept = kept; refused = within; answers = λ files h reads shows. sound files h reads shows name place refl }
+      record {
+        cause = cause;
+        near = near;
+        kept = kept;
+        refused = within;
+        answers = λ files h reads shows. sound files h
+            reads shows name place refl;
+      }
 
   -- or the least number wasn't found,
   pub sought_past : (old new : BlockReader R) (e : VersionFault) (r : Result (Option Stored) AtFail) → IsWithin number key at
@@ -260,7 +267,8 @@ module _ {H R : Type 0} (bytes : H → Option (List ℕ)) (faults : R → ℕ) (
         (sym is ∙ low_is o old new seeks files h reads shows);
   }
 
-  module _ (old mid new : BlockReader R) (o : Option ℕ) (within : IsWithin number key at) (none : o ≡ None) (seeks : Seeks old mid (Ok o)) where
+  module _ (old mid new : BlockReader R) (o : Option ℕ) (within : IsWithin number key at) (none : o ≡ None)
+      (seeks : Seeks old mid (Ok o)) where
     on : (files : Files) → ReadsOf bytes files old (tables_in version) → ReadsOf bytes files mid (tables_in version)
     on files reads = record { kept = seeks.kept files reads; told = reads.told }
 

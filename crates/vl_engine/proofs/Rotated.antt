@@ -9,7 +9,10 @@ use Rattle.vl_disk.specs.declared.name.Name.{Name}
 use Rattle.vl_disk.specs.declared.watched.Watched.{Ghosts}
 use Rattle.vl_engine.proofs.Carrying.{IsWatched, carries_leaving}
 use Rattle.vl_engine.proofs.Committing.{decides_answered, decides_failed, decides_leaving, decides_short}
-use Rattle.vl_engine.proofs.RotateSteps.{CanRotate, active_held, can_rotate, carries_rotated, carries_short, carries_unrotated, fronts_rotated, fronts_same, fronts_unrotated, ruled_halted, ruled_idle, ruled_log, ruled_made, ruled_version, running_so, stands_rotated, stands_same, stands_unrotated}
+use Rattle.vl_engine.proofs.RotateSteps.{CanRotate, active_held, can_rotate, carries_rotated, carries_short}
+use Rattle.vl_engine.proofs.RotateSteps.{carries_unrotated, fronts_rotated, fronts_same, fronts_unrotated}
+use Rattle.vl_engine.proofs.RotateSteps.{ruled_halted, ruled_idle, ruled_log, ruled_made, ruled_version, running_so}
+use Rattle.vl_engine.proofs.RotateSteps.{stands_rotated, stands_same, stands_unrotated}
 use Rattle.vl_engine.specs.Carries.{Carries}
 use Rattle.vl_engine.specs.Represents.{Fronts, IsHeld, Represents, StandsFor, file_of}
 use Rattle.vl_engine.specs.Rotating.{BeginsLog, HasActive, IsRefusedSo, MayBegin, RotatesAs, StopsRotating, rotate_calls, rotate_effects}

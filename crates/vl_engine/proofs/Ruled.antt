@@ -9,7 +9,9 @@ use Rattle.vl_disk.specs.declared.name.Name.TheVariants as names
 use Rattle.vl_disk.specs.declared.name.Name.{Name}
 use Rattle.vl_disk.specs.declared.watched.Watched.{Ghosts}
 use Rattle.vl_engine.proofs.Carrying.{IsWatched}
-use Rattle.vl_engine.proofs.Committing.{accepted, carries_failed_so, carries_refused, carries_unwritten, carries_written, fronts_failed, fronts_unwritten, fronts_written, next_is, stands_failed, stands_unwritten, stands_written}
+use Rattle.vl_engine.proofs.Committing.{accepted, carries_failed_so, carries_refused, carries_unwritten}
+use Rattle.vl_engine.proofs.Committing.{carries_written, fronts_failed, fronts_unwritten, fronts_written, next_is}
+use Rattle.vl_engine.proofs.Committing.{stands_failed, stands_unwritten, stands_written}
 use Rattle.vl_engine.proofs.Filing.{same_files, same_files_handed, stops_failed}
 use Rattle.vl_engine.proofs.Standing.{decides_as}
 use Rattle.vl_engine.specs.Answers.{CommitFailed, IsWritable, commit_effects, commit_outcome}

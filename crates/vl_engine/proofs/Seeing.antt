@@ -1,5 +1,6 @@
 -- What reads leave of what a transaction sees.
-use Rattle.std.specs.Prelude.{IsErrAnd, OnErr, ◌≡◌, ℕ, List, [], ◌∷◌, ◌++◌, is_some, if◌then◌else◌, option_and_then, Option, None, Some, Result, Ok, Err}
+use Rattle.std.specs.Prelude.{IsErrAnd, OnErr, ◌≡◌, ℕ, List, [], ◌∷◌, ◌++◌, is_some, if◌then◌else◌, option_and_then}
+use Rattle.std.specs.Prelude.{Option, None, Some, Result, Ok, Err}
 use Rattle.std.specs.FinMap.{get}
 use Rattle.std.specs.Option.{option_map}
 use Rattle.std.proofs.Common.{ap, refl, sym, subst, ◌∙◌}
@@ -127,7 +128,8 @@ kept_beside files old new same kept =
 
 module _ (logs : Logs) (es : List Entry) (h : History) (number : ℕ) (shows : Shows logs es h (λ key. number) number) (key : List ℕ) where
   its_value : value_of logs (winner es key number) ≡ value_at h number key
-  its_value = ap (λ (led : Option (Option Stored)). option_and_then (λ (v : Option Stored). v) led) (winner_leads logs es h number shows key)
+  its_value = ap (λ (led : Option (Option Stored)). option_and_then (λ (v : Option Stored). v) led)
+      (winner_leads logs es h number shows key)
 
   pub found_led : (old new : List ℕ) (f : Found) → held.IsFound logs (winner es key number) old new f
       → IsFound (value_at h number key) old new f
@@ -211,7 +213,8 @@ module _ {H R : Type 0} (bytes : H → Option (List ℕ)) (old new : Txn H R) (h
         version = shows_still;
         files = sees.files;
         reader = reads_still;
-        notes = subst (λ (rs : List Row). AreNotesOf (with_scan reads (scan_of low high limit way rs old.writes)) new.reads.keys new.reads.spans)
+        notes = subst (λ (rs : List Row). AreNotesOf (with_scan reads (scan_of low high limit way rs old.writes))
+            new.reads.keys new.reads.spans)
             same (noted reads old.writes sees.notes);
         explained = subst (λ (n : ℕ). IsExplained h n (with_scan reads scan)) (sym number)
             (explained_too h old.number reads (RangeRead scan) sees.explained is);

@@ -1,5 +1,6 @@
 -- What steps on files ask, behind each call.
-use Rattle.std.specs.Prelude.{◌≡◌, ℕ, ◌+◌, ◌++◌, max, Bool, true, false, List, [], ◌∷◌, drop, length, Option, None, Some, IsSome, unwrap_or, refl}
+use Rattle.std.specs.Prelude.{◌≡◌, ℕ, ◌+◌, ◌++◌, max, Bool, true, false, List, [], ◌∷◌, drop, length, Option, None}
+use Rattle.std.specs.Prelude.{Some, IsSome, unwrap_or, refl}
 use Rattle.std.specs.FinMap.{entries, from_sorted, get}
 use Rattle.std.specs.List.{AllByRecursion}
 use Rattle.std.specs.Option.{option_map}
@@ -40,7 +41,8 @@ use Rattle.vl_layout.specs.declared.file_name.FileName.{FileName}
 use Rattle.vl_layout.specs.declared.layout.Layout.{Layout}
 use Rattle.vl_layout.specs.declared.live.Live.{Live}
 use Rattle.vl_layout.specs.declared.segment.Segment.{Segment}
-use Rattle.vl_manifest.specs.States.{all_applied, applied, are_next, as_draft, finish, flush_edits, given_if, is_head, next_state, then_applied}
+use Rattle.vl_manifest.specs.States.{all_applied, applied, are_next, as_draft, finish, flush_edits, given_if, is_head}
+use Rattle.vl_manifest.specs.States.{next_state, then_applied}
 use Rattle.vl_manifest.specs.declared.edit.Edit.TheVariants.{Add, Head, Next}
 use Rattle.vl_manifest.specs.declared.state.ManifestState.{ManifestState}
 use Rattle.vl_manifest.specs.declared.version_builder.VersionBuilder.{VersionBuilder}

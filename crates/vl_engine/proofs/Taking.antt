@@ -1,5 +1,6 @@
 -- How the disk comes to have the files of a merge's tables, one by one.
-use Rattle.std.specs.Prelude.{◌≡◌, ◌≢◌, ◌⊎◌, ℕ, Bool, ◌≤◌, get_or, true, false, ◌||◌, ◌==◌, List, [], ◌∷◌, ◌++◌, length, map, Option, None, Some, IsSome, IsTrue, Result, Ok, Err, IfErr, IsErrAnd, refl}
+use Rattle.std.specs.Prelude.{◌≡◌, ◌≢◌, ◌⊎◌, ℕ, Bool, ◌≤◌, get_or, true, false, ◌||◌, ◌==◌, List, [], ◌∷◌, ◌++◌}
+use Rattle.std.specs.Prelude.{length, map, Option, None, Some, IsSome, IsTrue, Result, Ok, Err, IfErr, IsErrAnd, refl}
 use Rattle.std.specs.List.{AllByRecursion, AllZip, remove}
 use Rattle.std.specs.Option.{ForSome, option_map, unwrap_or}
 use Rattle.std.proofs.Common.{sym, ap, subst, ◌∙◌, arith, inl, inr, ⊎_elim, append_assoc}
@@ -20,7 +21,8 @@ use Rattle.vl_disk.specs.declared.watched.Watched.{Ghosts}
 use Rattle.vl_disk.specs.declared.writer.Writer.{Ghosts as Writers}
 use Rattle.vl_disk.specs.laws.NameMap.{get_inserted, get_inserted_other}
 use Rattle.vl_disk.specs.laws.Standing.{holds_after}
-use Rattle.vl_engine.specs.Taking.{IsHeldTable, MayTake, MayTakeAll, PutsAll, StopsTaking, Takes, TakesBack, WhileTaking, file_in, file_of_table, with_files}
+use Rattle.vl_engine.specs.Taking.{IsHeldTable, MayTake, MayTakeAll, PutsAll, StopsTaking, Takes, TakesBack}
+use Rattle.vl_engine.specs.Taking.{WhileTaking, file_in, file_of_table, with_files}
 use Rattle.vl_layout.specs.declared.job.Target.{Target}
 use Rattle.vl_layout.specs.declared.table.Table as laid
 use Rattle.vl_model.specs.Numbers.{has}

@@ -106,7 +106,8 @@ module _ {D V H W : Type 0} (g : Ghosts D) (w : Writers W) {s : _} where
     where
       none : (P : List ℕ → Type 0) → P [] → P (numbers_in job)
       none P is =
-          subst (λ (ts : List (Synced W s)). P (map (λ (t : Synced W s). t.number) ts ++ map (λ (f : Lent W s). f.number) job.leavings.items))
+          subst (λ (ts : List (Synced W s)). P
+          (map (λ (t : Synced W s). t.number) ts ++ map (λ (f : Lent W s). f.number) job.leavings.items))
           (sym new.made) (subst (λ (fs : List (Lent W s)). P (map (λ (f : Lent W s). f.number) fs)) (sym new.leavings) is)
 
   -- One that has made all of its tables is ready to be handed in.
@@ -133,7 +134,8 @@ module _ {D V H W : Type 0} (g : Ghosts D) (w : Writers W) {s : _} where
     is_open = lent.is_open;
     drawn = numbers (λ ns. AllByRecursion (λ (n : ℕ). has n lent.next.lent.items ≡ true) ns)
         (put_in_all (λ (n : ℕ). has n lent.next.lent.items ≡ true) made left file.number
-        (all_then (λ (n : ℕ). has n way.merge.lent.items ≡ true) (λ (n : ℕ). has n lent.next.lent.items ≡ true) (made ++ left) among way.drawn)
+        (all_then (λ (n : ℕ). has n way.merge.lent.items ≡ true) (λ (n : ℕ). has n lent.next.lent.items ≡ true)
+        (made ++ left) among way.drawn)
         (subst (λ (ns : List ℕ). has file.number ns ≡ true) (sym lent.lent) (last_has file.number lent.merge.lent.items)));
     distinct = numbers AreDistinct (put_in_distinct made left file.number way.distinct
         (not_among file.number way.merge.lent.items (made ++ left) way.drawn (fresh way.merge way.is_open)));

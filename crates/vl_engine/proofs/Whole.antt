@@ -1,5 +1,6 @@
 -- A merge that is done whole: the engine stands for the history behind each of its calls.
-use Rattle.std.specs.Prelude.{◌≡◌, ◌<◌, ℕ, ◌+◌, Bool, true, false, if◌then◌else◌, List, [], ◌∷◌, ◌++◌, length, map, take, drop, Option, None, Some, Result, Ok, Err, IsErr, OnOk}
+use Rattle.std.specs.Prelude.{◌≡◌, ◌<◌, ℕ, ◌+◌, Bool, true, false, if◌then◌else◌, List, [], ◌∷◌, ◌++◌, length, map}
+use Rattle.std.specs.Prelude.{take, drop, Option, None, Some, Result, Ok, Err, IsErr, OnOk}
 use Rattle.std.specs.List.{AllByRecursion, AllZip}
 use Rattle.std.specs.Option.{ForSome}
 use Rattle.std.proofs.Common.{refl, sym, ap, subst, ◌∙◌}
@@ -40,7 +41,8 @@ use Rattle.vl_layout.specs.Rulings.Abandon.{abandon_ruling}
 use Rattle.vl_layout.specs.Rulings.Fresh as fresh
 use Rattle.vl_layout.specs.Rulings.Fresh.{FreshAnswer, drawn, fresh_ruling, fresh_unless, lent_to}
 use Rattle.vl_layout.specs.Rulings.Install as install
-use Rattle.vl_layout.specs.Rulings.Install.{InstallAnswer, install_checked, install_lost, install_ruling, install_unless, installed, moved_since, race}
+use Rattle.vl_layout.specs.Rulings.Install.{InstallAnswer, install_checked, install_lost, install_ruling}
+use Rattle.vl_layout.specs.Rulings.Install.{install_unless, installed, moved_since, race}
 use Rattle.vl_layout.specs.Rulings.Plan.{job_of, plan_of, plan_ruling, plan_unless, planned, with_job}
 use Rattle.vl_layout.specs.Sources.{numbers_of}
 use Rattle.vl_layout.specs.Tables.{cut_into_tables}

@@ -82,5 +82,6 @@ pub known_then : (front : Front) (writes : Writes) (es later : List Entry) (last
 known_then front writes es later last number more known =
     subst (λ (n : ℕ). are_known n later ≡ true) (sym number)
     (subst (λ (fs : List Entry). are_known (front.oracle.last + 1) fs ≡ true) (sym more)
-    (up_to_known (front.oracle.last + 1) _ (commit_known log_format front.log.number (front.oracle.last + 1) front.oracle.last (front.log.length + 17) es
+    (up_to_known (front.oracle.last + 1) _
+    (commit_known log_format front.log.number (front.oracle.last + 1) front.oracle.last (front.log.length + 17) es
     (entries writes) (omega arith) (known_up_to front.oracle.last es known))))

@@ -10,7 +10,8 @@ use Rattle.vl_engine.specs.declared.view.View.{View}
 use Rattle.vl_frame.specs.Runs.{HasFrame}
 use Rattle.vl_layout.specs.Decides.{Answered, Effects, Failed, NoMemory, Outcome, no_effects}
 use Rattle.vl_layout.specs.Rulings.Begin.{BeginAnswer, Begun, TooMany}
-use Rattle.vl_layout.specs.Rulings.Commit.{At, CommitAnswer, Conflict, Exhausted, Full, Halted, Nothing, Transaction, commit_frame, commit_ruling, committed}
+use Rattle.vl_layout.specs.Rulings.Commit.{At, CommitAnswer, Conflict, Exhausted, Full, Halted, Nothing, Transaction}
+use Rattle.vl_layout.specs.Rulings.Commit.{commit_frame, commit_ruling, committed}
 use Rattle.vl_layout.specs.declared.layout.Layout.{Layout}
 use Rattle.vl_model.specs.Formats.{log_format}
 use Rattle.vl_model.specs.History.{History}

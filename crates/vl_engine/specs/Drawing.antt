@@ -1,5 +1,6 @@
 -- What making and lending the file of a merge's next table does, whatever the engine stands for: to the disk, and in memory.
-use Rattle.std.specs.Prelude.{◌≡◌, ◌⊎◌, ℕ, ◌+◌, ◌≤◌, ◌<◌, false, [], ◌∷◌, ◌++◌, Option, None, Some, Result, Ok, Err, IsTrue, OnOk, vec_capacity, vec_len}
+use Rattle.std.specs.Prelude.{◌≡◌, ◌⊎◌, ℕ, ◌+◌, ◌≤◌, ◌<◌, false, [], ◌∷◌, ◌++◌, Option, None, Some, Result, Ok, Err}
+use Rattle.std.specs.Prelude.{IsTrue, OnOk, vec_capacity, vec_len}
 use Rattle.std.specs.Option.{ForSome}
 use Rattle.vl_back.specs.Writing.{KeepsOthers}
 use Rattle.vl_compact.specs.declared.files.Lent.{Lent}

@@ -1,5 +1,6 @@
 -- One bit of bytes, read and written.
-use Rattle.std.proofs.Common.{◌≡◌, ◌≢◌, ℕ, ◌*◌, ◌/◌, ◌%◌, ◌^◌, ◌<◌, Bool, true, false, ◌==◌, ◌||◌, List, length, get_or, slice_set, bit_or, refl, ap, sym, ◌∙◌, arith, ⊎_elim, w8}
+use Rattle.std.proofs.Common.{◌≡◌, ◌≢◌, ℕ, ◌*◌, ◌/◌, ◌%◌, ◌^◌, ◌<◌, Bool, true, false, ◌==◌, ◌||◌, List, length}
+use Rattle.std.proofs.Common.{get_or, slice_set, bit_or, refl, ap, sym, ◌∙◌, arith, ⊎_elim, w8}
 use Rattle.std.specs.Int.{bit_at}
 use Rattle.std.proofs.lemmas.Bool.{cases_eq}
 use Rattle.std.proofs.lemmas.Bool.Decides.{nat_tests}
@@ -39,10 +40,12 @@ module _ (bytes : List ℕ) (place : ℕ) (within : place / 8 < length bytes) wh
   -- a bit of the byte
   of_byte : (p : ℕ) → p / 8 ≡ place / 8 → is_set written p ≡ (bit_at byte (p % 8) == 1)
   unfolding is_set written
-  of_byte p same = ap (λ (k : ℕ). bit_at (get_or written k 0) (p % 8) == 1) same ∙ ap (λ (n : ℕ). bit_at n (p % 8) == 1) (get_or-set_same bytes (place / 8) byte 0 within)
+  of_byte p same = ap (λ (k : ℕ). bit_at (get_or written k 0) (p % 8) == 1) same
+      ∙ ap (λ (n : ℕ). bit_at n (p % 8) == 1) (get_or-set_same bytes (place / 8) byte 0 within)
 
   -- the bit that is written is 1, and each other stays
-  pub sets_one : (p : ℕ) → is_set (slice_set bytes (place / 8) (bit_or (get_or bytes (place / 8) 0) (1 * 2 ^ (place % 8) % 256))) p ≡ (p == place || is_set bytes p)
+  pub sets_one : (p : ℕ) → is_set
+      (slice_set bytes (place / 8) (bit_or (get_or bytes (place / 8) 0) (1 * 2 ^ (place % 8) % 256))) p ≡ (p == place || is_set bytes p)
   unfolding written byte
   sets_one p =
       ⊎_elim
@@ -55,7 +58,8 @@ module _ (bytes : List ℕ) (place : ℕ) (within : place / 8 < length bytes) wh
       ⊎_elim
       (λ (here : p / 8 ≡ place / 8).
       of_byte p here
-      ∙ ap (λ (n : ℕ). n == 1) (bit_at_set_other w8 (get_or bytes (place / 8) 0) (place % 8) small (p % 8) (λ same. apart (omega (arith, here, same))))
+      ∙ ap (λ (n : ℕ). n == 1)
+      (bit_at_set_other w8 (get_or bytes (place / 8) 0) (place % 8) small (p % 8) (λ same. apart (omega (arith, here, same))))
       ∙ ap (λ (k : ℕ). bit_at (get_or bytes k 0) (p % 8) == 1) (sym here)
       ∙ stays bytes p
       ∙ ap (λ (t : Bool). t || is_set bytes p) (sym (other_test p place apart)))

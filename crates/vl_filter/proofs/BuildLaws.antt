@@ -1,5 +1,6 @@
 -- A body that was built spells the filter of its keys.
-use Rattle.std.proofs.Common.{◌≡◌, ℕ, zero, suc, ◌*◌, ◌/◌, ◌%◌, ◌^◌, ◌<◌, Bool, true, false, ◌==◌, ◌||◌, List, [], ◌++◌, length, get_or, refl, ap, sym, ◌∙◌, arith}
+use Rattle.std.proofs.Common.{◌≡◌, ℕ, zero, suc, ◌*◌, ◌/◌, ◌%◌, ◌^◌, ◌<◌, Bool, true, false, ◌==◌, ◌||◌, List, []}
+use Rattle.std.proofs.Common.{◌++◌, length, get_or, refl, ap, sym, ◌∙◌, arith}
 use Rattle.std.proofs.Math.ListN.{replicate}
 use Rattle.std.proofs.lemmas.List.{length-replicate}
 use Rattle.std.proofs.lemmas.Nat.Bits.{bit_at-zero}
@@ -23,7 +24,8 @@ pub zeros_unset : (n p : ℕ) → is_set (replicate {A = ℕ} n 0) p ≡ false
 unfolding is_set
 zeros_unset n p = ap (λ b. bit_at b (p % 8) == 1) (zero_at n (p / 8)) ∙ ap (λ b. b == 1) (bit_at-zero (p % 8))
 
-pub built : (keys : List Hashes) (n : ℕ) (zeros ws now four middle body : List ℕ) → ((k : ℕ) → get_or ws k 0 < 2 ^ 8) → n ≡ byte_count (length keys)
+pub built : (keys : List Hashes) (n : ℕ) (zeros ws now four middle body : List ℕ) → ((k : ℕ) → get_or ws k 0 < 2 ^ 8)
+    → n ≡ byte_count (length keys)
     → zeros ≡ replicate {A = ℕ} n 0 → length ws ≡ length zeros → now ≡ ws
     → ((p : ℕ) → is_set ws p ≡ (is_marked (8 * length zeros) keys p || is_set zeros p))
     → four ≡ big_bytes 4 (n * 8) → middle ≡ [] ++ four → body ≡ middle ++ now → body ≡ marked_body keys

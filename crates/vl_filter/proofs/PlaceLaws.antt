@@ -1,5 +1,6 @@
 -- The bits of a key, one more at a time.
-use Rattle.std.proofs.Common.{◌≡◌, ℕ, zero, suc, ◌+◌, ◌*◌, ◌<◌, Bool, true, false, ◌==◌, ◌&&◌, ◌||◌, List, [], ◌∷◌, ◌++◌, length, get_or, take, refl, ap, sym, ◌∙◌, arith, add-one}
+use Rattle.std.proofs.Common.{◌≡◌, ℕ, zero, suc, ◌+◌, ◌*◌, ◌<◌, Bool, true, false, ◌==◌, ◌&&◌, ◌||◌, List, [], ◌∷◌}
+use Rattle.std.proofs.Common.{◌++◌, length, get_or, take, refl, ap, sym, ◌∙◌, arith, add-one}
 use Rattle.std.proofs.lemmas.Bool.Decides.{nat_tests}
 use Rattle.std.specs.List.{list_any}
 use Rattle.std.proofs.lemmas.List.Folds.{list_any-append}
@@ -39,7 +40,8 @@ module _ (bits : ℕ) (hashes : Hashes) (n p : ℕ) where
       ∙ ap (λ k. has_place_below bits hashes k p || c) (sym (add-one n))
 
 -- one key more
-pub more_key : (bits : ℕ) (list : List Hashes) (i : ℕ) (hashes : Hashes) (p : ℕ) (a b c : Bool) → i < length list → hashes ≡ get_or list i hashes
+pub more_key : (bits : ℕ) (list : List Hashes) (i : ℕ) (hashes : Hashes) (p : ℕ) (a b c : Bool) → i < length list
+    → hashes ≡ get_or list i hashes
     → a ≡ (has_place bits hashes p || b) → b ≡ (is_marked bits (take i list) p || c)
     → a ≡ (is_marked bits (take (i + 1) list) p || c)
 more_key bits list i hashes p a b c within is one before =
@@ -67,7 +69,8 @@ more_key_at bits list i d p a b c within one before =
 -- ---- bits that are read
 
 -- one is 0
-pub not_all : (bytes : List ℕ) (hashes : Hashes) (n m : ℕ) → n < m → is_set bytes (place (8 * length bytes) hashes n) ≡ false → are_set bytes hashes m ≡ false
+pub not_all : (bytes : List ℕ) (hashes : Hashes) (n m : ℕ) → n < m
+    → is_set bytes (place (8 * length bytes) hashes n) ≡ false → are_set bytes hashes m ≡ false
 not_all bytes hashes n zero below unset = absurd (omega arith)
 not_all bytes hashes n (suc m) below unset = by (λ less. not_all bytes hashes n m less unset) (n == m) refl
   where
@@ -82,7 +85,8 @@ not_all bytes hashes n (suc m) below unset = by (λ less. not_all bytes hashes n
         ∙ ap (λ t. t && are_set bytes hashes m) unset
     by rest false is = dropped (is_set bytes (place (8 * length bytes) hashes m)) (are_set bytes hashes m) (rest (grind (arith, nat_tests)))
 
-pub more_set : (bytes : List ℕ) (hashes : Hashes) (n : ℕ) → is_set bytes (place (8 * length bytes) hashes n) ≡ true → are_set bytes hashes n ≡ true
+pub more_set : (bytes : List ℕ) (hashes : Hashes) (n : ℕ) → is_set bytes (place (8 * length bytes) hashes n) ≡ true
+    → are_set bytes hashes n ≡ true
     → are_set bytes hashes (n + 1) ≡ true
 more_set bytes hashes n set before =
     ap (are_set bytes hashes) (add-one n) ∙ and_true (is_set bytes (place (8 * length bytes) hashes n)) (are_set bytes hashes n) set before
@@ -93,7 +97,8 @@ module _ (key : List ℕ) (hashes : Hashes) (n : ℕ) (are : hashes ≡ hashes_o
   pub all_set : (bytes : List ℕ) → n ≡ 7 → are_set bytes hashes n ≡ true → true ≡ may_hold bytes key
   all_set bytes whole is = sym is ∙ ap (are_set bytes hashes) whole ∙ ap (λ k. are_set bytes k 7) are
 
-  pub one_unset : (bytes : List ℕ) (bits q : ℕ) (b : Bool) → n < 7 → bits ≡ 8 * length bytes → q ≡ place bits hashes n → b ≡ is_set bytes q → b ≡ false
+  pub one_unset : (bytes : List ℕ) (bits q : ℕ) (b : Bool) → n < 7 → bits ≡ 8 * length bytes → q ≡ place bits hashes n
+      → b ≡ is_set bytes q → b ≡ false
       → false ≡ may_hold bytes key
   one_unset bytes bits q b within bits_is q_is b_is unset =
       sym (not_all bytes hashes n 7 within (ap (is_set bytes) (sym (q_is ∙ ap (λ k. place k hashes n) bits_is)) ∙ sym b_is ∙ unset))

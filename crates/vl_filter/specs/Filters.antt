@@ -1,5 +1,6 @@
 -- What a filter's body is, and of which keys it says that they may be there.
-use Rattle.std.specs.Prelude.{◌≡◌, ◌≤◌, ◌<◌, ◌^◌, ◌*◌, ◌&&◌, ◌||◌, not, nat_le, nat_lt, ℕ, zero, suc, ◌+◌, ◌/◌, max, Bool, true, if◌then◌else◌, List, ◌++◌, length, map}
+use Rattle.std.specs.Prelude.{◌≡◌, ◌≤◌, ◌<◌, ◌^◌, ◌*◌, ◌&&◌, ◌||◌, not, nat_le, nat_lt, ℕ, zero, suc, ◌+◌, ◌/◌, max}
+use Rattle.std.specs.Prelude.{Bool, true, if◌then◌else◌, List, ◌++◌, length, map}
 use Rattle.std.specs.List.{list_any, range_with_len}
 use Rattle.byteorder.specs.Endian.{big_bytes}
 use Rattle.vl_filter.specs.Bits.{is_set}

@@ -1,5 +1,6 @@
 -- Numbers of ten digits, written and read.
-use Rattle.std.proofs.Common.{◌≡◌, ◌≢◌, ℕ, ◌-◌, ◌^◌, ◌<◌, ◌==◌, Result, Ok, get_or, true, false, List, [], ◌∷◌, ◌++◌, length, replicate, sym, ap, subst, suc, ⊎_elim, arith}
+use Rattle.std.proofs.Common.{◌≡◌, ◌≢◌, ℕ, ◌-◌, ◌^◌, ◌<◌, ◌==◌, Result, Ok, get_or, true, false, List, [], ◌∷◌, ◌++◌}
+use Rattle.std.proofs.Common.{length, replicate, sym, ap, subst, suc, ⊎_elim, arith}
 use Rattle.std.proofs.lemmas.List.{append-nil, length-append, length-replicate}
 use Rattle.std.proofs.lemmas.Bool.Decides.{eqb_tells}
 use Rattle.std.proofs.lemmas.Fmt.{decimal-digits_value}
@@ -31,7 +32,8 @@ module _ (value : ℕ) (some : 0 < value) (small : value < 2 ^ 64) where
   with_zeros (digit ∷ digits) (first, all) is = ⊎_elim (zero_first (with_zeros digits all)) other_first (eqb_tells digit 48)
     where
       zero_first : (digits_value 10 digits ≡ value → replicate (length digits - length (decimal value)) 48 ++ decimal value ≡ digits)
-          → ((digit == 48) ≡ true) × (digit ≡ 48) → replicate (length (digit ∷ digits) - length (decimal value)) 48 ++ decimal value ≡ digit ∷ digits
+          → ((digit == 48) ≡ true) × (digit ≡ 48) → replicate (length (digit ∷ digits) - length (decimal value)) 48
+          ++ decimal value ≡ digit ∷ digits
       zero_first so_far (_, same) =
           let rest : replicate (length digits - length (decimal value)) 48 ++ decimal value ≡ digits =
           so_far (subst (λ d. digits_value 10 (d ∷ digits) ≡ value) same is) in
@@ -44,7 +46,8 @@ module _ (value : ℕ) (some : 0 < value) (small : value < 2 ^ 64) where
           ) in
           rw (one_more, same) (ap (λ digits. 48 ∷ digits) rest)
 
-      other_first : ((digit == 48) ≡ false) × (digit ≢ 48) → replicate (length (digit ∷ digits) - length (decimal value)) 48 ++ decimal value ≡ digit ∷ digits
+      other_first : ((digit == 48) ≡ false) × (digit ≢ 48)
+          → replicate (length (digit ∷ digits) - length (decimal value)) 48 ++ decimal value ≡ digit ∷ digits
       other_first (_, other) =
           let written : decimal value ≡ digit ∷ digits = subst (λ v. decimal v ≡ digit ∷ digits) is
           (decimal-digits_value own (digit ∷ digits) (first, all) (omega arith) (λ same. absurd (other same)) (omega (arith, is, small))) in
@@ -52,10 +55,12 @@ module _ (value : ℕ) (some : 0 < value) (small : value < 2 ^ 64) where
           rw none written
 
 -- ten digits that were read as a number
-pub number_text : {E : Type 0} (digits text : List ℕ) (parsed : Result ℕ E) (number : ℕ) → ParsesUnsigned 32 10 text parsed → parsed ≡ Ok number
+pub number_text : {E : Type 0} (digits text : List ℕ) (parsed : Result ℕ E) (number : ℕ)
+    → ParsesUnsigned 32 10 text parsed → parsed ≡ Ok number
     → text ≡ digits → get_or digits 0 0 ≢ 43 → length digits ≡ 10 → 0 < number → number < 2 ^ 32 → digits ≡ ten_digits number
 number_text {E = E} digits text parsed number gives is same unsigned long some small =
-    let read : OkIff {E = E} (Ok number) (AllDigits 10 digits × (0 < length digits) × (digits_value 10 digits < 2 ^ 32)) (digits_value 10 digits) =
+    let read : OkIff {E = E} (Ok number) (AllDigits 10 digits × (0 < length digits) × (digits_value 10 digits < 2 ^ 32))
+    (digits_value 10 digits) =
     subst (λ r. OkIff r (AllDigits 10 digits × (0 < length digits) × (digits_value 10 digits < 2 ^ 32)) (digits_value 10 digits)) is
     (parse_plain own 32 digits parsed (subst (λ bs. ParsesUnsigned 32 10 bs parsed) same gives) unsigned) in
     sym (subst (λ count. replicate (count - length (decimal number)) 48 ++ decimal number ≡ digits) long

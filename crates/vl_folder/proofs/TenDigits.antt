@@ -1,5 +1,6 @@
 -- What the ten digits of a number are, and how a name ends behind them.
-use Rattle.std.proofs.Common.{Option, None, Some, ◌≡◌, ◌≢◌, ℕ, ◌-◌, ◌^◌, ◌<◌, Result, Ok, get_or, List, [], ◌∷◌, ◌++◌, length, replicate, sym, ◌∙◌, ap, subst, zero, suc, arith, refl, drop}
+use Rattle.std.proofs.Common.{Option, None, Some, ◌≡◌, ◌≢◌, ℕ, ◌-◌, ◌^◌, ◌<◌, Result, Ok, get_or, List, [], ◌∷◌, ◌++◌}
+use Rattle.std.proofs.Common.{length, replicate, sym, ◌∙◌, ap, subst, zero, suc, arith, refl, drop}
 use Rattle.std.proofs.lemmas.List.{length-append, length-replicate}
 use Rattle.std.proofs.lemmas.Fmt.{digits_decimal, digits_value-decimal, length-decimal-le, IsAscii-from_digits}
 use Rattle.std.proofs.lemmas.Str.{IsUtf8-from_ascii}
@@ -35,7 +36,8 @@ pub digits_ten : (number : ℕ) → number < 2 ^ 32 → AllDigits 10 (ten_digits
 digits_ten number small = zeros_digits (10 - length (decimal number)) (decimal number) (digits_decimal own number (omega (arith, small)))
 
 pub value_ten : (number : ℕ) → number < 2 ^ 32 → digits_value 10 (ten_digits number) ≡ number
-value_ten number small = zeros_value (10 - length (decimal number)) (decimal number) ∙ digits_value-decimal own number (omega (arith, small))
+value_ten number small = zeros_value (10 - length (decimal number)) (decimal number)
+    ∙ digits_value-decimal own number (omega (arith, small))
 
 pub utf8_ten : (number : ℕ) → number < 2 ^ 32 → IsUtf8 (ten_digits number)
 utf8_ten number small = IsUtf8-from_ascii (ten_digits number) (IsAscii-from_digits (ten_digits number) (digits_ten number small))

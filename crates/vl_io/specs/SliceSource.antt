@@ -17,5 +17,6 @@ abbrev pub feed_after_failure : Feed → Feed
 feed_after_failure feed = record { given = []; rest = feed.rest; plan = plan_after_failure feed.plan }
 
 -- when it was last asked, what it gave then was left too, before what is left now
-pub given_and_left : (feed : Feed) (rest : List ℕ) → Some feed.rest ≡ Some rest → (given : List ℕ) × (Some (feed.given ++ feed.rest) ≡ Some (given ++ rest))
+pub given_and_left : (feed : Feed) (rest : List ℕ) → Some feed.rest ≡ Some rest → (given : List ℕ)
+    × (Some (feed.given ++ feed.rest) ≡ Some (given ++ rest))
 given_and_left feed rest is = (feed.given, cc)

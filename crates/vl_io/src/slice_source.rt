@@ -1,4 +1,5 @@
-ghost use Rattle.std.specs.Prelude.{◌≡◌, ◌↔◌, ◌+◌, ◌++◌, ◌<◌, ◌≤◌, [], IsErr, IsOk, MatchResult, OnErr, IfOk, Some, drop, length, min, take};
+ghost use Rattle.std.specs.Prelude.{◌≡◌, ◌↔◌, ◌+◌, ◌++◌, ◌<◌, ◌≤◌, [], IsErr, IsOk, MatchResult, OnErr, IfOk, Some};
+ghost use Rattle.std.specs.Prelude.{drop, length, min, take};
 ghost use Rattle.vl_disk.specs.Faults.{HasCause};
 ghost use Rattle.vl_disk.specs.FaultPlan.{IsDue, new_plan};
 ghost use Rattle.vl_io.specs.SliceSource.{feed_after_failure, feed_after_giving};

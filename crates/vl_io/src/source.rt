@@ -1,4 +1,5 @@
-ghost use Rattle.std.specs.Prelude.{◌≡◌, ◌+◌, ◌++◌, ◌<◌, ◌≤◌, [], List, IfOk, IfSome, IsErr, MatchResult, OnErr, Option, Some, length, take, ℕ};
+ghost use Rattle.std.specs.Prelude.{◌≡◌, ◌+◌, ◌++◌, ◌<◌, ◌≤◌, [], List, IfOk, IfSome, IsErr, MatchResult, OnErr};
+ghost use Rattle.std.specs.Prelude.{Option, Some, length, take, ℕ};
 ghost use Rattle.vl_disk.specs.Faults.{HasCause};
 ghost use Rattle.vl_io.specs.Source.{HandsOver};
 

@@ -1,6 +1,7 @@
 -- A footer's points are the sums over the table's entries, and no segment has a greater share of
 -- garbage than the best.
-use Rattle.std.proofs.Common.{◌≡◌, ◌⊎◌, inl, inr, ⊎_elim, ℕ, ◌+◌, ◌*◌, ◌≤◌, ◌<◌, Bool, true, false, cond, ◌&&◌, ◌||◌, List, [], ◌∷◌, refl, ap, sym, ◌∙◌, subst, arith}
+use Rattle.std.proofs.Common.{◌≡◌, ◌⊎◌, inl, inr, ⊎_elim, ℕ, ◌+◌, ◌*◌, ◌≤◌, ◌<◌, Bool, true, false, cond, ◌&&◌, ◌||◌}
+use Rattle.std.proofs.Common.{List, [], ◌∷◌, refl, ap, sym, ◌∙◌, subst, arith}
 use Rattle.std.proofs.lemmas.Bool.{and_parts, and_from, cases_lt}
 use Rattle.std.proofs.lemmas.Bool.Decides.{nat_tests}
 use Rattle.std.proofs.lemmas.List.Sums.{sum_by-cons}
@@ -35,7 +36,8 @@ module _ (segment : ℕ) where
   pointed_more to bytes [] = point-cons (record { segment = to; bytes = bytes }) []
   pointed_more to bytes (p ∷ ps) =
       elim (nat_cmp to p.segment) as (λ r. nat_cmp to p.segment ≡ r
-      → pointed_bytes segment (by_order r (record { segment = to; bytes = bytes } ∷ p ∷ ps) (record { segment = p.segment; bytes = p.bytes + bytes } ∷ ps) (p ∷ pointed to bytes ps))
+      → pointed_bytes segment (by_order r (record { segment = to; bytes = bytes } ∷ p ∷ ps)
+      (record { segment = p.segment; bytes = p.bytes + bytes } ∷ ps) (p ∷ pointed to bytes ps))
       ≡ (if to == segment then bytes else 0) + pointed_bytes segment (p ∷ ps)) [
         | Less ↦ λ is. point-cons (record { segment = to; bytes = bytes }) (p ∷ ps)
         | Equal ↦ λ is.
@@ -43,7 +45,8 @@ module _ (segment : ℕ) where
             let front = point-cons (record { segment = p.segment; bytes = p.bytes + bytes }) ps in
             let back = point-cons p ps in
             let both = more (p.segment == segment) p.bytes bytes in
-            let here : (if to == segment then bytes else 0) ≡ (if p.segment == segment then bytes else 0) = ap (λ (s : ℕ). if s == segment then bytes else 0) same in
+            let here : (if to == segment then bytes else 0) ≡ (if p.segment == segment then bytes else 0) = ap
+            (λ (s : ℕ). if s == segment then bytes else 0) same in
             omega (arith, front, back, both, here)
         | Greater ↦ λ is.
             let front = point-cons p (pointed to bytes ps) in
@@ -136,16 +139,19 @@ module _ (x y : SegmentStat) where
       let same : discard y * x.bytes ≡ discard x * y.bytes = grind (arith, nat_tests, both.0) in
       let less : x.segment < y.segment = grind (arith, nat_tests, both.1) in
       inr (same, less))
-      (or_cases (nat_lt (discard y * x.bytes) (discard x * y.bytes)) ((discard y * x.bytes == discard x * y.bytes) && nat_lt x.segment y.segment) h)
+      (or_cases (nat_lt (discard y * x.bytes) (discard x * y.bytes))
+      ((discard y * x.bytes == discard x * y.bytes) && nat_lt x.segment y.segment) h)
 
   means_better : IsBetter x y → is_better x y ≡ true
   means_better h = ⊎_elim
       (λ (less : discard y * x.bytes < discard x * y.bytes).
-      or_left (nat_lt (discard y * x.bytes) (discard x * y.bytes)) ((discard y * x.bytes == discard x * y.bytes) && nat_lt x.segment y.segment) (grind (arith, nat_tests)))
+      or_left (nat_lt (discard y * x.bytes) (discard x * y.bytes))
+      ((discard y * x.bytes == discard x * y.bytes) && nat_lt x.segment y.segment) (grind (arith, nat_tests)))
       (λ (tied : (discard y * x.bytes ≡ discard x * y.bytes) × (x.segment < y.segment)).
       let same : (discard y * x.bytes == discard x * y.bytes) ≡ true = let e = tied.0 in grind (arith, nat_tests) in
       let less : nat_lt x.segment y.segment ≡ true = let e = tied.1 in grind (arith, nat_tests) in
-      or_right (nat_lt (discard y * x.bytes) (discard x * y.bytes)) ((discard y * x.bytes == discard x * y.bytes) && nat_lt x.segment y.segment)
+      or_right (nat_lt (discard y * x.bytes) (discard x * y.bytes))
+      ((discard y * x.bytes == discard x * y.bytes) && nat_lt x.segment y.segment)
       (and_from (discard y * x.bytes == discard x * y.bytes) (nat_lt x.segment y.segment) same less))
       h
 
@@ -153,15 +159,19 @@ better_chain : (w y z : SegmentStat) → 0 < w.bytes → 0 < y.bytes → 0 < z.b
     → IsBetter y z → IsBetter w z
 better_chain w y z some_w some_y some_z first second = ⊎_elim
     (λ (more : discard y * w.bytes < discard w * y.bytes). ⊎_elim
-    (λ (again : discard z * y.bytes < discard y * z.bytes). inl (share_lt_le (discard w) w.bytes (discard y) y.bytes (discard z) z.bytes some_y some_z more (omega (arith, again))))
+    (λ (again : discard z * y.bytes < discard y * z.bytes). inl
+    (share_lt_le (discard w) w.bytes (discard y) y.bytes (discard z) z.bytes some_y some_z more (omega (arith, again))))
     (λ (tied : (discard z * y.bytes ≡ discard y * z.bytes) × (y.segment < z.segment)).
     inl (share_lt_le (discard w) w.bytes (discard y) y.bytes (discard z) z.bytes some_y some_z more (let e = tied.0 in omega arith)))
     second)
     (λ (tied : (discard y * w.bytes ≡ discard w * y.bytes) × (w.segment < y.segment)). ⊎_elim
-    (λ (again : discard z * y.bytes < discard y * z.bytes). inl (share_le_lt (discard w) w.bytes (discard y) y.bytes (discard z) z.bytes some_y some_w (let e = tied.0 in omega arith) again))
+    (λ (again : discard z * y.bytes < discard y * z.bytes). inl
+    (share_le_lt (discard w) w.bytes (discard y) y.bytes (discard z) z.bytes some_y some_w (let e = tied.0 in omega arith) again))
     (λ (too : (discard z * y.bytes ≡ discard y * z.bytes) × (y.segment < z.segment)).
-    let up = share_le (discard w) w.bytes (discard y) y.bytes (discard z) z.bytes some_y (let e = tied.0 in omega arith) (let e = too.0 in omega arith) in
-    let down = share_le (discard z) z.bytes (discard y) y.bytes (discard w) w.bytes some_y (let e = too.0 in omega arith) (let e = tied.0 in omega arith) in
+    let up = share_le (discard w) w.bytes (discard y) y.bytes (discard z) z.bytes some_y (let e = tied.0 in omega arith)
+    (let e = too.0 in omega arith) in
+    let down = share_le (discard z) z.bytes (discard y) y.bytes (discard w) w.bytes some_y
+    (let e = too.0 in omega arith) (let e = tied.0 in omega arith) in
     let a = tied.1 in let b = too.1 in
     inr (omega (arith, up, down), omega (arith, a, b)))
     second)
@@ -205,24 +215,29 @@ none_better : (x z : SegmentStat) (ys : List SegmentStat) → 0 < x.bytes → 0 
     → AllByRecursion (λ y. is_better y z ≡ false) ys
     → AllByRecursion (λ y. is_better y x ≡ false) ys
 none_better x z [] some_x some_z better some all = tt
-none_better x z (y ∷ ys) some_x some_z better some all = (by_test (is_better y x) refl, none_better x z ys some_x some_z better some.1 all.1)
+none_better x z (y ∷ ys) some_x some_z better some
+    all = (by_test (is_better y x) refl, none_better x z ys some_x some_z better some.1 all.1)
   where
     by_test : (b : Bool) → is_better y x ≡ b → is_better y x ≡ false
     by_test false is = is
-    by_test true is = absurd (true_false (sym (means_better y z (better_chain y x z some.0 some_x some_z (better_means y x is) (better_means x z better))) ∙ all.0))
+    by_test true is = absurd
+        (true_false (sym (means_better y z
+        (better_chain y x z some.0 some_x some_z (better_means y x is) (better_means x z better))) ∙ all.0))
 
 best_more : (x : SegmentStat) (ys : List SegmentStat) (o : Option SegmentStat) → 0 < x.bytes
     → AllByRecursion (λ y. 0 < y.bytes) ys → IfBest o ys → (z : SegmentStat)
     → better_of x o ≡ Some z → IsBest z (x ∷ ys)
 best_more x ys None some_x some none z is =
     let same : x ≡ z = one_some x z is in
-    subst (λ (y : SegmentStat). IsBest y (x ∷ ys)) same ((not_itself x, subst (AllByRecursion (λ y. is_better y x ≡ false)) (sym none) tt), some_x)
+    subst (λ (y : SegmentStat). IsBest y (x ∷ ys)) same
+    ((not_itself x, subst (AllByRecursion (λ y. is_better y x ≡ false)) (sym none) tt), some_x)
 best_more x ys (Some y) some_x some best z is_z = by_test (is_better x y) refl is_z
   where
     by_test : (b : Bool) → is_better x y ≡ b → (if b then Some x else Some y) ≡ Some z
         → IsBest z (x ∷ ys)
     by_test true better is =
-        subst (λ (u : SegmentStat). IsBest u (x ∷ ys)) (one_some x z is) ((not_itself x, none_better x y ys some_x best.1 better some best.0), some_x)
+        subst (λ (u : SegmentStat). IsBest u (x ∷ ys)) (one_some x z is)
+        ((not_itself x, none_better x y ys some_x best.1 better some best.0), some_x)
     by_test false worse is = subst (λ (u : SegmentStat). IsBest u (x ∷ ys)) (one_some y z is) ((worse, best.0), best.1)
 
 best_is : (xs : List SegmentStat) → AllByRecursion (λ x. 0 < x.bytes) xs → IfBest (best_of xs) xs

@@ -79,8 +79,11 @@ two_values_shown : sources (flushed (rotated two_values)) ≡
 two_values_shown = refl
 
 -- where its table has its filter and its footer, behind its block and its index
-two_values_table : (16 + sum_by (block_frame_length table_format) (blocks table_format (sources (flushed (rotated two_values)))) + index_frame_length (blocks table_format (sources (flushed (rotated two_values)))) ≡ 171)
-    × (filter_frame_length table_format (sources (flushed (rotated two_values))) ≡ 25) × (footer_frame_length table_format (sources (flushed (rotated two_values))) ≡ 75)
+two_values_table : (16 + sum_by (block_frame_length table_format)
+    (blocks table_format (sources (flushed (rotated two_values)))) + index_frame_length
+    (blocks table_format (sources (flushed (rotated two_values)))) ≡ 171)
+    × (filter_frame_length table_format (sources (flushed (rotated two_values))) ≡ 25)
+    × (footer_frame_length table_format (sources (flushed (rotated two_values))) ≡ 75)
 two_values_table = (refl, refl, refl)
 
 -- a frame of one short write
@@ -149,11 +152,13 @@ abbrev drained : Ruling (Option Job)
 drained = drain_ruling shadowed (at 1) 1
 
 abbrev installing : Option Job → Ruling InstallAnswer
-installing None = install_ruling drained.layout (at 1) (record { inputs = []; target = InPlace; base = []; floor = 0; keep = 1 }) nothing_made
+installing None = install_ruling drained.layout (at 1)
+    (record { inputs = []; target = InPlace; base = []; floor = 0; keep = 1 }) nothing_made
 installing (Some job) = install_ruling drained.layout (at 1) job nothing_made
 
 log_and_table_go : (sweep_ruling (installing drained.answer).layout (at 1)).gone ≡ TableFile 1 ∷ Log 1 ∷ []
 log_and_table_go = refl
 
-held_stay : ((sweep_to_ruling (installing drained.answer).layout (at 1) 3).answer ≡ Removed 0) × ((sweep_to_ruling (installing drained.answer).layout (at 1) 4).answer ≡ Removed 2)
+held_stay : ((sweep_to_ruling (installing drained.answer).layout (at 1) 3).answer ≡ Removed 0)
+    × ((sweep_to_ruling (installing drained.answer).layout (at 1) 4).answer ≡ Removed 2)
 held_stay = (refl, refl)

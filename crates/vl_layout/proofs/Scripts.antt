@@ -11,7 +11,11 @@ use Rattle.vl_layout.specs.Logs.{memtable, new_segment}
 use Rattle.vl_layout.specs.Start.{layout_at_start}
 use Rattle.vl_layout.specs.Tables.{new_table}
 use Rattle.vl_layout.specs.Sources.{tables}
-use Rattle.vl_layout.specs.Store.Lines.{Line, Begin, View, Get, GetTagged, GetAt, Set, SetTagged, Delete, Scan, Commit, Drop, Rotate, Flush, Plan, Drain, Install, Pick, Batch, Move, Sweep, Stats, Keep, Answer, Done, Number, Value, ValueTagged, NoValue, Dropped, Rows, Taken, Unknown, ReadOnly, Invalid, Nothing, Conflict, Full, Raced, Rejected, NoRewrite, Found, End, Moved, Removed, Segments}
+use Rattle.vl_layout.specs.Store.Lines.{Line, Begin, View, Get, GetTagged, GetAt, Set, SetTagged, Delete, Scan}
+use Rattle.vl_layout.specs.Store.Lines.{Commit, Drop, Rotate, Flush, Plan, Drain, Install, Pick, Batch, Move, Sweep}
+use Rattle.vl_layout.specs.Store.Lines.{Stats, Keep, Answer, Done, Number, Value, ValueTagged, NoValue, Dropped, Rows}
+use Rattle.vl_layout.specs.Store.Lines.{Taken, Unknown, ReadOnly, Invalid, Nothing, Conflict, Full, Raced, Rejected}
+use Rattle.vl_layout.specs.Store.Lines.{NoRewrite, Found, End, Moved, Removed, Segments}
 use Rattle.vl_layout.specs.Store.Dispatch.{answers, answers_until, calls_of, new_store, state_behind}
 use Rattle.vl_layout.specs.Store.Things.{State}
 use Rattle.vl_layout.specs.declared.segment.SegmentStat.{SegmentStat}
@@ -99,12 +103,14 @@ nothing_written : answers store (Begin k1 ∷ Begin k2 ∷ Get k1 k1 ∷ Set k2 
     ≡ Number 0 ∷ Number 0 ∷ NoValue ∷ Done ∷ Number 1 ∷ Nothing ∷ []
 nothing_written = refl
 
-interval_overwritten : answers store (Begin k1 ∷ Begin k2 ∷ Scan Up k1 low high 10 ∷ Scan Up k2 low high 10 ∷ Set k1 k1 n1 ∷ Set k2 k2 n2 ∷ Commit k1 ∷ Commit k2 ∷ [])
+interval_overwritten : answers store
+    (Begin k1 ∷ Begin k2 ∷ Scan Up k1 low high 10 ∷ Scan Up k2 low high 10 ∷ Set k1 k1 n1 ∷ Set k2 k2 n2 ∷ Commit k1 ∷ Commit k2 ∷ [])
     ≡ Number 0 ∷ Number 0 ∷ Rows [] ∷ Rows [] ∷ Done ∷ Done ∷ Number 1 ∷ Conflict k1 1 ∷ []
 interval_overwritten = refl
 
 abbrev limited : ℕ → List Line
-limited rows = Begin t ∷ Set t k2 n1 ∷ Commit t ∷ Begin k1 ∷ Scan Up k1 low high rows ∷ Begin k2 ∷ Set k2 k8 n2 ∷ Commit k2 ∷ Set k1 k10 n3 ∷ Commit k1 ∷ []
+limited rows = Begin t ∷ Set t k2 n1 ∷ Commit t ∷ Begin k1 ∷ Scan Up k1 low high rows ∷ Begin k2 ∷ Set k2 k8 n2 ∷ Commit
+    k2 ∷ Set k1 k10 n3 ∷ Commit k1 ∷ []
 
 limit_met : answers store (limited 1)
     ≡ Number 0 ∷ Done ∷ Number 1 ∷ Number 1 ∷ Rows ((k2, n1) ∷ []) ∷ Number 1 ∷ Done ∷ Number 2 ∷ Done ∷ Number 3 ∷ []
@@ -134,8 +140,11 @@ first_version = sets k1 long ++ Rotate ∷ Flush ∷ []
 abbrev first_answers : List Answer
 first_answers = Number 0 ∷ Done ∷ Number 1 ∷ Number 1 ∷ Number 1 ∷ []
 
-older_moved : answers store (first_version ++ View v ∷ sets k1 long_too ++ Rotate ∷ Flush ∷ Pick g 1 ∷ Batch g ∷ Move g ∷ Batch g ∷ Drop g ∷ Get v k1 ∷ View w ∷ Get w k1 ∷ Stats ∷ [])
-    ≡ first_answers ++ Number 1 ∷ Number 1 ∷ Done ∷ Number 2 ∷ Number 2 ∷ Number 2 ∷ Number 1 ∷ Found 1 ∷ Moved 1 ∷ End ∷ Done ∷ Value long ∷ Number 2 ∷ Value long_too
+older_moved : answers store
+    (first_version ++ View v ∷ sets k1 long_too ++ Rotate ∷ Flush ∷ Pick g 1 ∷ Batch g ∷ Move g ∷ Batch g ∷ Drop g ∷ Get v
+    k1 ∷ View w ∷ Get w k1 ∷ Stats ∷ [])
+    ≡ first_answers ++ Number 1 ∷ Number 1 ∷ Done ∷ Number 2 ∷ Number 2 ∷ Number 2 ∷ Number 1 ∷ Found 1 ∷ Moved 1 ∷ End
+    ∷ Done ∷ Value long ∷ Number 2 ∷ Value long_too
     ∷ Segments (stat 1 99 74 ∷ stat 2 99 74 ∷ stat 3 99 0 ∷ []) ∷ []
 older_moved = refl
 
@@ -149,21 +158,26 @@ abbrev four : List Line
 four = first_version ++ other_three
 
 abbrev three_answers : List Answer
-three_answers = Number 1 ∷ Done ∷ Number 2 ∷ Number 2 ∷ Number 2 ∷ Number 2 ∷ Done ∷ Number 3 ∷ Number 3 ∷ Number 3 ∷ Number 3 ∷ Done ∷ Number 4 ∷ Number 4 ∷ Number 4 ∷ []
+three_answers = Number 1 ∷ Done ∷ Number 2 ∷ Number 2 ∷ Number 2 ∷ Number 2 ∷ Done ∷ Number 3 ∷ Number 3 ∷ Number 3
+    ∷ Number 3 ∷ Done ∷ Number 4 ∷ Number 4 ∷ Number 4 ∷ []
 
 abbrev revival : List Line
-revival = Pick g 1 ∷ Batch g ∷ Plan j ∷ Move g ∷ Install j ∷ View v ∷ Get v k1 ∷ Plan k ∷ Install k ∷ Get v k1 ∷ Drop v ∷ Drop g ∷ Sweep ∷ []
+revival = Pick g 1 ∷ Batch g ∷ Plan j ∷ Move g ∷ Install j ∷ View v ∷ Get v k1 ∷ Plan k ∷ Install k ∷ Get v k1 ∷ Drop v
+    ∷ Drop g ∷ Sweep ∷ []
 
 -- logs 1 to 4, tables 1 to 4, and the table of the merge that raced
 revived : answers store (four ++ revival)
-    ≡ first_answers ++ three_answers ++ Number 1 ∷ Found 1 ∷ Number 2 ∷ Moved 1 ∷ Raced k1 ∷ Number 4 ∷ NoValue ∷ Number 3 ∷ Done ∷ NoValue ∷ Done ∷ Done ∷ Removed 9 ∷ []
+    ≡ first_answers ++ three_answers ++ Number 1 ∷ Found 1 ∷ Number 2 ∷ Moved 1 ∷ Raced k1 ∷ Number 4 ∷ NoValue ∷ Number
+    3 ∷ Done ∷ NoValue ∷ Done ∷ Done ∷ Removed 9 ∷ []
 revived = refl
 
 new_table_is : map (λ (x : Table). x.number) (tables (state_behind store (four ++ revival)).layout) ≡ 6 ∷ []
 new_table_is = refl
 
-stale_batch : answers store (four ++ Pick g 1 ∷ Batch g ∷ Plan j ∷ Install j ∷ Move g ∷ Batch g ∷ Drop g ∷ Sweep ∷ View v ∷ Get v k1 ∷ Get v k2 ∷ [])
-    ≡ first_answers ++ three_answers ++ Number 1 ∷ Found 1 ∷ Number 2 ∷ Done ∷ Moved 0 ∷ End ∷ Done ∷ Removed 8 ∷ Number 4 ∷ NoValue ∷ Value n1 ∷ []
+stale_batch : answers store
+    (four ++ Pick g 1 ∷ Batch g ∷ Plan j ∷ Install j ∷ Move g ∷ Batch g ∷ Drop g ∷ Sweep ∷ View v ∷ Get v k1 ∷ Get v k2 ∷ [])
+    ≡ first_answers ++ three_answers ++ Number 1 ∷ Found 1 ∷ Number 2 ∷ Done ∷ Moved 0 ∷ End ∷ Done ∷ Removed 8 ∷ Number
+    4 ∷ NoValue ∷ Value n1 ∷ []
 stale_batch = refl
 
 -- a merge beside a view of an older number, and without one
@@ -184,12 +198,17 @@ given_up = refl
 abbrev moved_once : List Line
 moved_once = Pick g 1 ∷ Batch g ∷ Move g ∷ []
 
-shadowed : answers store (first_version ++ moved_once ++ Drop g ∷ Sweep ∷ Drain j 1 ∷ Install j ∷ Sweep ∷ View v ∷ Get v k1 ∷ Rotate ∷ Flush ∷ View w ∷ Get w k1 ∷ [])
-    ≡ first_answers ++ Number 1 ∷ Found 1 ∷ Moved 1 ∷ Done ∷ Removed 0 ∷ Number 0 ∷ Done ∷ Removed 2 ∷ Number 1 ∷ Value long ∷ Number 2 ∷ Number 2 ∷ Number 1 ∷ Value long ∷ []
+shadowed : answers store
+    (first_version ++ moved_once ++ Drop g ∷ Sweep ∷ Drain j 1 ∷ Install j ∷ Sweep ∷ View v ∷ Get v k1 ∷ Rotate ∷ Flush
+    ∷ View w ∷ Get w k1 ∷ [])
+    ≡ first_answers ++ Number 1 ∷ Found 1 ∷ Moved 1 ∷ Done ∷ Removed 0 ∷ Number 0 ∷ Done ∷ Removed 2 ∷ Number 1 ∷ Value
+    long ∷ Number 2 ∷ Number 2 ∷ Number 1 ∷ Value long ∷ []
 shadowed = refl
 
-pinned : answers store (first_version ++ View o ∷ moved_once ++ Drop g ∷ Sweep ∷ Drain j 1 ∷ Install j ∷ Sweep ∷ Get o k1 ∷ Drop o ∷ Sweep ∷ [])
-    ≡ first_answers ++ Number 1 ∷ Number 1 ∷ Found 1 ∷ Moved 1 ∷ Done ∷ Removed 0 ∷ Number 0 ∷ Done ∷ Removed 0 ∷ Value long ∷ Done ∷ Removed 2 ∷ []
+pinned : answers store (first_version ++ View o ∷ moved_once ++ Drop g ∷ Sweep ∷ Drain j 1 ∷ Install j ∷ Sweep ∷ Get o
+    k1 ∷ Drop o ∷ Sweep ∷ [])
+    ≡ first_answers ++ Number 1 ∷ Number 1 ∷ Found 1 ∷ Moved 1 ∷ Done ∷ Removed 0 ∷ Number 0 ∷ Done ∷ Removed 0 ∷ Value
+    long ∷ Done ∷ Removed 2 ∷ []
 pinned = refl
 
 -- behind the six calls of an opening; the move's append is the seventeenth call that changes files, its sync the next
@@ -197,11 +216,13 @@ calls_made : calls_of store (first_version ++ moved_once) ≡ 0 ∷ 0 ∷ 2 ∷ 
 calls_made = refl
 
 -- and with a merge, two removals, and a second rotation and flush thirty are made
-calls_to_the_end : calls_of (state_behind store (first_version ++ moved_once)) (Drop g ∷ Sweep ∷ Drain j 1 ∷ Install j ∷ Sweep ∷ View v ∷ Get v k1 ∷ Rotate ∷ Flush ∷ [])
+calls_to_the_end : calls_of (state_behind store (first_version ++ moved_once))
+    (Drop g ∷ Sweep ∷ Drain j 1 ∷ Install j ∷ Sweep ∷ View v ∷ Get v k1 ∷ Rotate ∷ Flush ∷ [])
     ≡ 0 ∷ 0 ∷ 0 ∷ 2 ∷ 2 ∷ 0 ∷ 0 ∷ 3 ∷ 5 ∷ []
 calls_to_the_end = refl
 
-stopped_in_a_move : map (λ (stop : ℕ). length (answers_until stop 6 store (first_version ++ moved_once))) (16 ∷ 17 ∷ 18 ∷ []) ≡ 7 ∷ 7 ∷ 8 ∷ []
+stopped_in_a_move : map (λ (stop : ℕ). length (answers_until stop 6 store (first_version ++ moved_once)))
+    (16 ∷ 17 ∷ 18 ∷ []) ≡ 7 ∷ 7 ∷ 8 ∷ []
 stopped_in_a_move = refl
 
 -- ---- shares of garbage
@@ -209,7 +230,8 @@ stopped_in_a_move = refl
 picked_never : answers store (Pick g 0 ∷ Pick g 100 ∷ Pick g 50 ∷ []) ≡ Invalid ∷ Invalid ∷ NoRewrite ∷ []
 picked_never = refl
 
-picked_once : answers store (first_version ++ Pick g 1 ∷ Pick (0x68 ∷ []) 1 ∷ Pick (0x68 ∷ []) 0 ∷ []) ≡ first_answers ++ Number 1 ∷ Rejected 1 ∷ Invalid ∷ []
+picked_once : answers store (first_version ++ Pick g 1 ∷ Pick (0x68 ∷ []) 1 ∷ Pick (0x68 ∷ []) 0 ∷ []) ≡ first_answers
+    ++ Number 1 ∷ Rejected 1 ∷ Invalid ∷ []
 picked_once = refl
 
 -- ---- a full log
@@ -220,19 +242,25 @@ full_log = refl
 
 -- ---- one long write
 
-one_write_told : answers store (sets (1 ∷ 0xbf ∷ []) (replicate 123 1) ++ Stats ∷ []) ≡ Number 0 ∷ Done ∷ Number 1 ∷ Segments (stat 1 158 0 ∷ []) ∷ []
+one_write_told : answers store (sets (1 ∷ 0xbf ∷ []) (replicate 123 1) ++ Stats ∷ []) ≡ Number 0 ∷ Done ∷ Number 1
+    ∷ Segments (stat 1 158 0 ∷ []) ∷ []
 one_write_told = refl
 
 -- ---- own writes in a scan
 
-own_writes : answers store (Begin t ∷ Set t k1 n1 ∷ Set t k2 n2 ∷ Commit t ∷ Begin k1 ∷ Set k1 k3 n3 ∷ Delete k1 k1 ∷ Scan Up k1 [] [] 10 ∷ Scan Down k1 [] [] 1 ∷ [])
+own_writes : answers store
+    (Begin t ∷ Set t k1 n1 ∷ Set t k2 n2 ∷ Commit t ∷ Begin k1 ∷ Set k1 k3 n3 ∷ Delete k1 k1 ∷ Scan Up k1 [] [] 10 ∷ Scan
+    Down k1 [] [] 1 ∷ [])
     ≡ Number 0 ∷ Done ∷ Done ∷ Number 1 ∷ Number 1 ∷ Done ∷ Done ∷ Rows ((k2, n2) ∷ (k3, n3) ∷ []) ∷ Rows ((k3, n3) ∷ []) ∷ []
 own_writes = refl
 
 -- ---- a value's tag
 
-tag_told : answers store (Begin t ∷ SetTagged t k1 long 7 ∷ GetTagged t k1 ∷ Commit t ∷ Rotate ∷ Flush ∷ View w ∷ GetTagged w k1 ∷ Get w k1 ∷ GetTagged w k2 ∷ GetTagged w [] ∷ [])
-    ≡ Number 0 ∷ Done ∷ ValueTagged (tagged long 7) ∷ Number 1 ∷ Number 1 ∷ Number 1 ∷ Number 1 ∷ ValueTagged (tagged long 7) ∷ Value long ∷ NoValue ∷ Invalid ∷ []
+tag_told : answers store
+    (Begin t ∷ SetTagged t k1 long 7 ∷ GetTagged t k1 ∷ Commit t ∷ Rotate ∷ Flush ∷ View w ∷ GetTagged w k1 ∷ Get w k1
+    ∷ GetTagged w k2 ∷ GetTagged w [] ∷ [])
+    ≡ Number 0 ∷ Done ∷ ValueTagged (tagged long 7) ∷ Number 1 ∷ Number 1 ∷ Number 1 ∷ Number 1 ∷ ValueTagged
+    (tagged long 7) ∷ Value long ∷ NoValue ∷ Invalid ∷ []
 tag_told = refl
 
 -- ---- files of the first formats, which an opening found: one commit of a short and a long value, in a table
@@ -262,8 +290,10 @@ first_store = record {
 }
 
 -- what is moved gets the longer form, and the old records keep theirs
-first_formats : answers first_store (View v ∷ GetTagged v k2 ∷ GetTagged v k1 ∷ Pick g 1 ∷ Batch g ∷ Move g ∷ Stats ∷ Begin t ∷ Set t k1 n1 ∷ Commit t ∷ Rotate ∷ [])
-    ≡ Number 1 ∷ ValueTagged (untagged long) ∷ ValueTagged (untagged short) ∷ Number 1 ∷ Found 1 ∷ Moved 1 ∷ Segments (stat 1 170 73 ∷ stat 2 99 0 ∷ []) ∷ Number 1 ∷ Done ∷ Number 2 ∷ Number 2 ∷ []
+first_formats : answers first_store
+    (View v ∷ GetTagged v k2 ∷ GetTagged v k1 ∷ Pick g 1 ∷ Batch g ∷ Move g ∷ Stats ∷ Begin t ∷ Set t k1 n1 ∷ Commit t ∷ Rotate ∷ [])
+    ≡ Number 1 ∷ ValueTagged (untagged long) ∷ ValueTagged (untagged short) ∷ Number 1 ∷ Found 1 ∷ Moved 1 ∷ Segments
+    (stat 1 170 73 ∷ stat 2 99 0 ∷ []) ∷ Number 1 ∷ Done ∷ Number 2 ∷ Number 2 ∷ []
 first_formats = refl
 
 first_lengths : (first_table.length ≡ 241) × (first_store.layout.next_log ≡ 3)
@@ -283,7 +313,8 @@ three_versions = sets k1 n1 ++ sets k1 n2 ++ sets k1 n3
 abbrev written_three : List Answer
 written_three = Number 0 ∷ Done ∷ Number 1 ∷ Number 1 ∷ Done ∷ Number 2 ∷ Number 2 ∷ Done ∷ Number 3 ∷ []
 
-two_are_kept : answers store (Keep 2 ∷ three_versions ++ View v ∷ GetAt v k1 3 ∷ GetAt v k1 2 ∷ GetAt v k1 1 ∷ GetAt v k1 4 ∷ GetAt v k2 0 ∷ [])
+two_are_kept : answers store
+    (Keep 2 ∷ three_versions ++ View v ∷ GetAt v k1 3 ∷ GetAt v k1 2 ∷ GetAt v k1 1 ∷ GetAt v k1 4 ∷ GetAt v k2 0 ∷ [])
     ≡ Done ∷ written_three ++ Number 3 ∷ Value n3 ∷ Value n2 ∷ Dropped 2 ∷ Invalid ∷ NoValue ∷ []
 two_are_kept = refl
 

@@ -53,7 +53,9 @@ into s = entries_of (first_into 1 (tables s.layout))
 abbrev moved_away : State
 moved_away = store_of 4 (record (fresh_layout 1000) {
   active = new_segment log_format 9 [];
-  levels = (new_table table_format 5 (short 0x63 4 ∷ []) ∷ new_table table_format 4 (short 0x62 3 ∷ []) ∷ new_table table_format 3 (short 0x61 2 ∷ []) ∷ new_table table_format 2 (far 0x61 1 2 ∷ []) ∷ []) ∷ [] ∷ (new_table table_format 1 (far 0x61 1 1 ∷ []) ∷ []) ∷ [] ∷ [] ∷ [] ∷ [] ∷ [];
+  levels = (new_table table_format 5 (short 0x63 4 ∷ []) ∷ new_table table_format 4 (short 0x62 3 ∷ []) ∷ new_table
+      table_format 3 (short 0x61 2 ∷ []) ∷ new_table table_format 2 (far 0x61 1 2 ∷ []) ∷ []) ∷ []
+      ∷ (new_table table_format 1 (far 0x61 1 1 ∷ []) ∷ []) ∷ [] ∷ [] ∷ [] ∷ [] ∷ [];
   next_log = 10;
   next_table = 6;
 })
@@ -73,7 +75,9 @@ drained_twice = (refl, refl)
 abbrev both_moved : State
 both_moved = store_of 4 (record (fresh_layout 1000) {
   active = new_segment log_format 9 [];
-  levels = (new_table table_format 4 (far 0x62 1 3 ∷ []) ∷ new_table table_format 3 (short 0x61 2 ∷ far 0x61 1 2 ∷ far 0x62 1 1 ∷ []) ∷ []) ∷ [] ∷ (new_table table_format 1 (far 0x61 1 1 ∷ []) ∷ []) ∷ [] ∷ [] ∷ [] ∷ [] ∷ [];
+  levels = (new_table table_format 4 (far 0x62 1 3 ∷ []) ∷ new_table table_format 3
+      (short 0x61 2 ∷ far 0x61 1 2 ∷ far 0x62 1 1 ∷ []) ∷ []) ∷ [] ∷ (new_table table_format 1 (far 0x61 1 1 ∷ []) ∷ [])
+      ∷ [] ∷ [] ∷ [] ∷ [] ∷ [];
   next_log = 10;
   next_table = 5;
 })
@@ -89,7 +93,8 @@ drained_open = (refl, refl, refl)
 abbrev twice : State
 twice = store_of 2 (record (fresh_layout 1000) {
   active = new_segment log_format 3 [];
-  levels = (new_table table_format 2 (far 0x61 2 2 ∷ []) ∷ new_table table_format 1 (far 0x61 1 1 ∷ []) ∷ []) ∷ [] ∷ [] ∷ [] ∷ [] ∷ [] ∷ [] ∷ [];
+  levels = (new_table table_format 2 (far 0x61 2 2 ∷ []) ∷ new_table table_format 1 (far 0x61 1 1 ∷ []) ∷ []) ∷ [] ∷ []
+      ∷ [] ∷ [] ∷ [] ∷ [] ∷ [];
   next_log = 4;
   next_table = 3;
 })

@@ -1,5 +1,6 @@
 -- As many views as may live, begun one by one by a script, and one more.
-use Rattle.std.proofs.Common.{◌≡◌, ℕ, zero, suc, ◌+◌, ◌≤◌, ◌<◌, Bool, true, false, cond, not, List, [], ◌∷◌, ◌++◌, length, refl, ap, sym, ◌∙◌, arith}
+use Rattle.std.proofs.Common.{◌≡◌, ℕ, zero, suc, ◌+◌, ◌≤◌, ◌<◌, Bool, true, false, cond, not, List, [], ◌∷◌, ◌++◌}
+use Rattle.std.proofs.Common.{length, refl, ap, sym, ◌∙◌, arith}
 use Rattle.std.proofs.lemmas.Bool.Decides.{nat_tests}
 use Rattle.std.specs.Prelude.{Option, Some, None, ◌==◌, nat_le, nat_lt, if◌then◌else◌}
 use Rattle.std.specs.Ordering.{eq_by_cmp}
@@ -52,15 +53,19 @@ next_free ticket (suc count) =
     let later = next_free (ticket + 1) count in
     ap (λ b. if b then free_from (ticket + 1) (tickets_of (living (ticket + 1) count)) else ticket) here ∙ later ∙ (omega arith)
 
-one_more : (ticket count : ℕ) → put_by (λ (x : Live). x.ticket) (record { ticket = ticket + count; number = 0; pin = pin_of store.layout }) (living ticket count) ≡ living ticket (suc count)
+one_more : (ticket count : ℕ)
+    → put_by (λ (x : Live). x.ticket) (record { ticket = ticket + count; number = 0; pin = pin_of store.layout })
+    (living ticket count) ≡ living ticket (suc count)
 one_more ticket zero = ap (λ (n : ℕ). record { ticket = n; number = 0; pin = pin_of store.layout } ∷ []) (omega arith)
 one_more ticket (suc count) =
     let less : nat_lt ticket (ticket + suc count) ≡ true = grind (arith, nat_tests) in
     let moved : ticket + suc count ≡ (ticket + 1) + count = omega arith in
     let first : Live = record { ticket = ticket; number = 0; pin = pin_of store.layout } in
     let new : Live = record { ticket = ticket + suc count; number = 0; pin = pin_of store.layout } in
-    ap (λ b. if b then first ∷ put_by (λ (x : Live). x.ticket) new (living (ticket + 1) count) else new ∷ first ∷ living (ticket + 1) count) less
-    ∙ ap (λ (n : ℕ). first ∷ put_by (λ (x : Live). x.ticket) (record { ticket = n; number = 0; pin = pin_of store.layout }) (living (ticket + 1) count)) moved
+    ap (λ b. if b then first ∷ put_by (λ (x : Live). x.ticket) new (living (ticket + 1) count) else new ∷ first ∷ living
+    (ticket + 1) count) less
+    ∙ ap (λ (n : ℕ). first ∷ put_by (λ (x : Live). x.ticket)
+    (record { ticket = n; number = 0; pin = pin_of store.layout }) (living (ticket + 1) count)) moved
     ∙ ap (λ (xs : List Live). first ∷ xs) (one_more (ticket + 1) count)
 
 as_many : (ticket count : ℕ) → length (living ticket count) ≡ count
@@ -83,14 +88,17 @@ other_name n m less = by (eq_by_cmp key_cmp (name_of n) (name_of m)) refl
 is_free : (n count : ℕ) → count ≤ n → thing_in (named_views count) (name_of n) ≡ None
 is_free n zero low = refl
 is_free n (suc count) low =
-    ap (λ b. if b then Some (AView (record { ticket = count; number = 0 }) beginning) else thing_in (named_views count) (name_of n)) (other_name n count (omega arith))
+    ap (λ b. if b then Some (AView (record { ticket = count; number = 0 }) beginning) else thing_in (named_views count)
+    (name_of n)) (other_name n count (omega arith))
     ∙ is_free n count (omega arith)
 
 all_stay : (n count : ℕ) → count ≤ n → without_name (name_of n) (named_views count) ≡ named_views count
 all_stay n zero low = refl
 all_stay n (suc count) low =
-    ap (λ b. cond (not b) ((name_of count, AView (record { ticket = count; number = 0 }) beginning) ∷ without_name (name_of n) (named_views count)) (without_name (name_of n) (named_views count))) (other_name n count (omega arith))
-    ∙ ap (λ (ts : List (Name × Thing)). (name_of count, AView (record { ticket = count; number = 0 }) beginning) ∷ ts) (all_stay n count (omega arith))
+    ap (λ b. cond (not b) ((name_of count, AView (record { ticket = count; number = 0 }) beginning) ∷ without_name
+    (name_of n) (named_views count)) (without_name (name_of n) (named_views count))) (other_name n count (omega arith))
+    ∙ ap (λ (ts : List (Name × Thing)). (name_of count, AView (record { ticket = count; number = 0 }) beginning) ∷ ts)
+    (all_stay n count (omega arith))
 
 -- ---- a step
 
@@ -112,14 +120,17 @@ by_room count ticket full =
     let r = if full then leaving begin.TooMany h l else leaving (begin.Begun ticket (last_number h)) h (begun l ticket (last_number h)) in
     begun_by (with_views count) (name_of count) (a_view (beginning_of r.layout h)) r r.answer
 
-one_view : (count : ℕ) → count < max_live → step_of (with_views count) (View (name_of count)) ≡ record { answer = Number 0; state = with_views (suc count); calls = 0 }
+one_view : (count : ℕ) → count < max_live → step_of (with_views count) (View (name_of count)) ≡ record
+    { answer = Number 0; state = with_views (suc count); calls = 0 }
 one_view count room =
     let many = as_many 0 count in
     let not_full : nat_le max_live (length (living 0 count)) ≡ false = grind (arith, nat_tests, many, room) in
     let at_end : 0 + count ≡ count = omega arith in
     let ticket : free_from 0 (tickets_of (living 0 count)) ≡ count = next_free 0 count ∙ at_end in
-    let live : put_by (λ (x : Live). x.ticket) (record { ticket = count; number = 0; pin = pin_of store.layout }) (living 0 count) ≡ living 0 (suc count) =
-    ap (λ (n : ℕ). put_by (λ (x : Live). x.ticket) (record { ticket = n; number = 0; pin = pin_of store.layout }) (living 0 count)) (sym at_end) ∙ one_more 0 count in
+    let live : put_by (λ (x : Live). x.ticket) (record { ticket = count; number = 0; pin = pin_of store.layout })
+    (living 0 count) ≡ living 0 (suc count) =
+    ap (λ (n : ℕ). put_by (λ (x : Live). x.ticket) (record { ticket = n; number = 0; pin = pin_of store.layout })
+    (living 0 count)) (sym at_end) ∙ one_more 0 count in
     ap (λ (o : Option Thing). begin_as (with_views count) (name_of count) a_view o) (is_free count count (omega arith))
     ∙ ap (by_room count (free_from 0 (tickets_of (living 0 count)))) not_full
     ∙ ap (λ (n : ℕ). by_room count n false) ticket
@@ -149,7 +160,8 @@ answered first (suc count) more within =
 refused : answers (with_views 1024) (View (name_of 1024) ∷ []) ≡ TooMany ∷ []
 refused =
     ap (λ (o : Option Thing). (begin_as (with_views 1024) (name_of 1024) a_view o).answer ∷ []) (is_free 1024 1024 (omega arith))
-    ∙ ap (λ (b : Bool). (by_room 1024 (free_from 0 (tickets_of (living 0 1024))) b).answer ∷ []) (let many = as_many 0 1024 in let full : nat_le max_live (length (living 0 1024)) ≡ true = grind (arith, nat_tests, many) in full)
+    ∙ ap (λ (b : Bool). (by_room 1024 (free_from 0 (tickets_of (living 0 1024))) b).answer ∷ [])
+    (let many = as_many 0 1024 in let full : nat_le max_live (length (living 0 1024)) ≡ true = grind (arith, nat_tests, many) in full)
 
 as_many_as_may : answers store (views 0 1024 ++ View (name_of 1024) ∷ []) ≡ all_begun 1024 ++ TooMany ∷ []
 as_many_as_may = answered 0 1024 (View (name_of 1024) ∷ []) (omega arith) ∙ ap (λ (xs : List Answer). all_begun 1024 ++ xs) refused

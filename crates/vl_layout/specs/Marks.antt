@@ -37,7 +37,8 @@ plain (s ∷ ss) = s.1 ∷ plain ss
 abbrev pub marks_from : ℕ → List Entry → List Entry → ℕ → List Entry → List Sourced → List Marked
 marks_from keep inputs outside floor newer [] = []
 marks_from keep inputs outside floor newer (s ∷ ss) =
-    record { input = s.0; kept = not (s.0 && is_dropped keep inputs outside floor newer s.1); entry = s.1 } ∷ marks_from keep inputs outside floor (s.1 ∷ newer) ss
+    record { input = s.0; kept = not (s.0 && is_dropped keep inputs outside floor newer s.1); entry = s.1 } ∷ marks_from
+    keep inputs outside floor (s.1 ∷ newer) ss
 
 -- what a merge of these sources keeps of its inputs, and all that is outside them
 abbrev pub marks : ℕ → List Sourced → ℕ → List Marked

@@ -1,5 +1,6 @@
 -- What a pass over a segment finds, and what a relocation moves of it.
-use Rattle.std.specs.Prelude.{ℕ, ◌+◌, ◌==◌, Bool, true, false, ◌&&◌, ◌||◌, nat_le, nat_lt, if◌then◌else◌, List, [], ◌∷◌, map, Option, Some, None}
+use Rattle.std.specs.Prelude.{ℕ, ◌+◌, ◌==◌, Bool, true, false, ◌&&◌, ◌||◌, nat_le, nat_lt, if◌then◌else◌, List, []}
+use Rattle.std.specs.Prelude.{◌∷◌, map, Option, Some, None}
 use Rattle.std.specs.List.{filter, sum_by}
 use Rattle.vl_model.specs.Keys.{value_length}
 use Rattle.vl_model.specs.Limits.{max_batch_records, max_batch_bytes}
@@ -63,7 +64,8 @@ taken_from base segment count bytes [] = ([], [])
 taken_from base segment count bytes (r ∷ rs) =
     let found = found_in base segment r in
     let more = value_lengths found in
-    batch_with (has_room count bytes more) found (taken_from base segment count bytes rs) (taken_from base segment (count + 1) (bytes + more) rs) ([], r ∷ rs)
+    batch_with (has_room count bytes more) found (taken_from base segment count bytes rs)
+    (taken_from base segment (count + 1) (bytes + more) rs) ([], r ∷ rs)
 
 -- the next batch of a pass, which is the longest that the limits allow, and the pass behind it;
 -- none where none is left

@@ -49,7 +49,14 @@ ended ticket l = record l { live = filter (λ (x : Live). not (x.ticket == ticke
 -- with one more frame in the active log
 abbrev pub logged : LogFrame → Layout → Layout
 logged f l =
-    record l { active = record { format = l.active.format; number = l.active.number; length = l.active.length + frame_length l.active.format f; frames = l.active.frames ++ f ∷ [] } }
+    record l {
+      active = record {
+        format = l.active.format;
+        number = l.active.number;
+        length = l.active.length + frame_length l.active.format f;
+        frames = l.active.frames ++ f ∷ [];
+      };
+    }
 
 -- a pin of the version of this moment
 abbrev pub pin_of : Layout → Pin

@@ -51,7 +51,8 @@ ArePlaced logs es = AllByRecursion (λ (e : Entry). resolved logs e.key (placeme
 
 -- in the logs nothing but its value stands where the candidate was found
 abbrev pub IsThere : Logs → ℕ → Candidate → Type 0
-IsThere logs segment c = (p : Pointer) (value : Stored) → p.segment ≡ segment → p.place ≡ c.place → logs p c.moved.key ≡ Some value → value ≡ c.moved.value
+IsThere logs segment c = (p : Pointer) (value : Stored) → p.segment ≡ segment → p.place ≡ c.place
+    → logs p c.moved.key ≡ Some value → value ≡ c.moved.value
 
 -- ---- by a merge
 

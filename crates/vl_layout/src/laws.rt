@@ -135,7 +135,8 @@ pub fn a_frame_stands_at_its_logs_end()
         → records (logged f l).active ≡ records l.active ++ frame_records l.active.format l.active.length f }
     ensures entries { (l : Layout) (f : LogFrame) → IsTrueLog l.active
         → logged_entries l.active.format l.active.number 16 (logged f l).active.frames
-        ≡ frame_entries l.active.format l.active.number l.active.length f ++ logged_entries l.active.format l.active.number 16 l.active.frames }
+        ≡ frame_entries l.active.format l.active.number l.active.length f ++ logged_entries l.active.format
+        l.active.number 16 l.active.frames }
 {}
 
 /// Plain lists of commits give the values, rows, least numbers and conflicts of the history that they

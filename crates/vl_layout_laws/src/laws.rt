@@ -143,11 +143,13 @@ pub fn an_open_job_stays_open_well()
     ensures end { (l : Layout) (h : History) (job : Job) (moved : List Named) (ticket : ℕ)
         → IsOpenWell l h job moved
         → IsOpenWell (ended ticket l) h job moved }
-    ensures commit { (l : Layout) (h : History) (job : Job) (moved : List Named) (ticket : ℕ) (writes : List (List ℕ × Change)) → IsOpenWell l h job moved
+    ensures commit { (l : Layout) (h : History) (job : Job) (moved : List Named) (ticket : ℕ)
+        (writes : List (List ℕ × Change)) → IsOpenWell l h job moved
         → IsOpenWell (logged (commit_frame h writes) (ended ticket l)) (with_commit h (from_sorted writes)) job moved }
     ensures rotate { (l : Layout) (h : History) (job : Job) (moved : List Named)
         → IsOpenWell l h job moved → IsOpenWell (rotated l) h job moved }
-    ensures flush { (l : Layout) (h : History) (job : Job) (moved : List Named) (s : Segment) (level : List Table) (deeper : List (List Table))
+    ensures flush { (l : Layout) (h : History) (job : Job) (moved : List Named) (s : Segment) (level : List Table)
+        (deeper : List (List Table))
         → oldest l.frozen ≡ Some s → l.levels ≡ level ∷ deeper → IsOpenWell l h job moved
         → IsOpenWell (flushed l s) h job moved }
     ensures relocate { (l : Layout) (h : History) (job : Job) (moved : List Named) (records : List Moved) → IsOpenWell l h job moved

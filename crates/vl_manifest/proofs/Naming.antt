@@ -17,10 +17,12 @@ names_on : (format number at : ℕ) (rest : List ℕ) (edits : List Edit) (after
     → NamesBehind format number (at + length (item_frame (edits_grammar format) number at edits)) after place
     → NamesBehind format number at rest place
 names_on format number at rest edits after None stands none (frames, reads, first) =
-    let behind = first_of_tables (placed (edits_grammar format) number (at + length (item_frame (edits_grammar format) number at edits)) frames) in
+    let behind = first_of_tables
+    (placed (edits_grammar format) number (at + length (item_frame (edits_grammar format) number at edits)) frames) in
     (edits ∷ frames, (after, stands, reads), ap (λ (b : Bool). if b then Some at else behind) none ∙ first)
 names_on format number at rest edits after (Some place) stands none (frames, begins, first) =
-    let behind = first_of_tables (placed (edits_grammar format) number (at + length (item_frame (edits_grammar format) number at edits)) frames) in
+    let behind = first_of_tables
+    (placed (edits_grammar format) number (at + length (item_frame (edits_grammar format) number at edits)) frames) in
     (edits ∷ frames, (after, stands, begins), ap (λ (b : Bool). if b then Some at else behind) none ∙ first)
 
 -- Frames up to a place name no table: what is found from there on is found from the first of them on.

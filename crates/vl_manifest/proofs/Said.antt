@@ -17,7 +17,8 @@ pub false_true : false ≡ true → ⊥
 false_true e = cc
 
 -- a frame that can be applied, and what is said behind it
-goes_on : (format number at : ℕ) (rest : List ℕ) (state : ManifestState) (edits : List Edit) (after : List ℕ) (next : ManifestState) (said : Result ManifestState ℕ)
+goes_on : (format number at : ℕ) (rest : List ℕ) (state : ManifestState) (edits : List Edit) (after : List ℕ)
+    (next : ManifestState) (said : Result ManifestState ℕ)
     → StandsAt (edits_grammar format) number at rest edits after → next_state edits state ≡ Some next
     → GoesOn format number (at + length (item_frame (edits_grammar format) number at edits)) after next said
     → GoesOn format number at rest state said
@@ -29,7 +30,8 @@ goes_on format number at rest state edits after next (Err place) stands is (fram
     (edits ∷ frames, (after, stands, begins), ap (state_then at (λ (t : ManifestState). state_behind t behind)) is ∙ made)
 
 -- Frames up to a place were read: what is said from there on is said from the first of them on.
-pub record UnderWay (format number from : ℕ) (whole : List ℕ) (first : ManifestState) (at : ℕ) (rest : List ℕ) (state : ManifestState) : Type 0 where
+pub record UnderWay (format number from : ℕ) (whole : List ℕ) (first : ManifestState) (at : ℕ) (rest : List ℕ)
+    (state : ManifestState) : Type 0 where
   pub completes : (said : Result ManifestState ℕ) → GoesOn format number at rest state said → GoesOn format number from whole first said
 
 pub begins : (format number from : ℕ) (whole : List ℕ) (first : ManifestState)
@@ -92,7 +94,8 @@ pub says_state : (format number : ℕ) (bytes : List ℕ) (edits : List Edit) (r
     → first_state edits ≡ Some first
     → GoesOn format number (place_of (drop 16 bytes) rest) rest first (Ok last) → SaysState number bytes (as_read format last)
 says_state format number bytes edits rest first last header stands is goes =
-    let g = subst (λ (n : ℕ). GoesOn format number n rest first (Ok last)) (second_place format number (drop 16 bytes) edits rest stands) goes in
+    let g = subst (λ (n : ℕ). GoesOn format number n rest first (Ok last))
+    (second_place format number (drop 16 bytes) edits rest stands) goes in
     let behind = placed (edits_grammar format) number (16 + length (item_frame (edits_grammar format) number 16 edits)) g.0 in
     record {
       format = format;
@@ -115,7 +118,8 @@ says_damage format number bytes edits rest first fail (Err e) failed same header
     by : (f : StateFail) → GoesOnSo format number (place_of (drop 16 bytes) rest) rest first (Err f) → AnswersSo number bytes (Err f)
     by NoMemory goes = tt
     by (Damaged place) goes =
-        let g = subst (λ (n : ℕ). GoesOn format number n rest first (Err place)) (second_place format number (drop 16 bytes) edits rest stands) goes in
+        let g = subst (λ (n : ℕ). GoesOn format number n rest first (Err place))
+        (second_place format number (drop 16 bytes) edits rest stands) goes in
         let behind = placed (edits_grammar format) number (16 + length (item_frame (edits_grammar format) number 16 edits)) g.0 in
         not_applied format header edits g.0 (rest, stands, g.1)
         (ap (read_in format) (ap (state_then 16 (λ (t : ManifestState). state_behind t behind)) is ∙ g.2))

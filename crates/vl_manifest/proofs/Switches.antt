@@ -1,5 +1,6 @@
 -- The two calls of a switch.
-use Rattle.std.proofs.Common.{◌≡◌, ◌<◌, ◌+◌, ◌-◌, ◌^◌, ◌++◌, ◌∷◌, [], min, ℕ, List, length, length-append, inl, inr, refl, ap, subst, sym, ◌∙◌, arith}
+use Rattle.std.proofs.Common.{◌≡◌, ◌<◌, ◌+◌, ◌-◌, ◌^◌, ◌++◌, ◌∷◌, [], min, ℕ, List, length, length-append, inl, inr}
+use Rattle.std.proofs.Common.{refl, ap, subst, sym, ◌∙◌, arith}
 use Rattle.std.specs.Prelude.{false, true, Option, Some, Result, Ok, Err, IsErr}
 use Rattle.std.specs.List.{AllByRecursion}
 use Rattle.std.specs.Option.{ForSome}
@@ -38,7 +39,8 @@ module _ {D X E : Type 0} (g : Ghosts D) (number : ℕ) (piece : List ℕ) (old 
       → Switches g number piece old one result
   ends_at_append e (Ok x) fails call = absurd (false_true fails)
   ends_at_append e (Err f) fails call = record {
-    performs = performs_stop g old one (behind number piece) (WhileAppending (Manifest number) piece) (WhileSwitching number piece) 1 2 (λ disk now is. inl is)
+    performs = performs_stop g old one (behind number piece) (WhileAppending (Manifest number) piece)
+        (WhileSwitching number piece) 1 2 (λ disk now is. inl is)
         (switched number piece) e (Err f) refl (omega arith) (append_performs {T = X} g old one (Manifest number) piece (Err e) call);
     failed = call.failed;
     clean = λ cleanly. inl (call.clean cleanly);
@@ -47,10 +49,12 @@ module _ {D X E : Type 0} (g : Ghosts D) (number : ℕ) (piece : List ℕ) (old 
   }
 
   -- the append passed
-  pub ends_at_sync : (x : X) → Appends {E = E} g (Manifest number) piece old one (Ok x) → (new : D) (result : Result X E) → Syncs g (Manifest number) one new result
+  pub ends_at_sync : (x : X) → Appends {E = E} g (Manifest number) piece old one (Ok x)
+      → (new : D) (result : Result X E) → Syncs g (Manifest number) one new result
       → Switches g number piece old new result
   ends_at_sync x appends new result call = record {
-    performs = performs_then g (behind number piece) (synced (Manifest number)) (WhileAppending (Manifest number) piece) (WhileSyncing (Manifest number)) 1 1 old one new x result
+    performs = performs_then g (behind number piece) (synced (Manifest number)) (WhileAppending (Manifest number) piece)
+        (WhileSyncing (Manifest number)) 1 1 old one new x result
         (append_performs {E = E} g old one (Manifest number) piece (Ok x) appends) (sync_performs g one new (Manifest number) result call);
     failed = on_err_weaker result (λ (same : g.told new ≡ g.told one). (length piece, omega arith, same ∙ appends.appended)) call.failed;
     clean = λ cleanly. on_err_weaker result (λ (same : g.told new ≡ g.told one). inr (same ∙ appends.appended)) call.failed;

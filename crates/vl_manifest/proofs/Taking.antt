@@ -76,7 +76,8 @@ pub no_run_cut : (format : ℕ) (bytes : List ℕ) (count total : ℕ) (taken : 
     → (all : List Edit) → IsRun format bytes total all → ⊥
 no_run_cut format bytes count total taken rest so_far lt none all run =
     let b = behind_so_far format bytes count total taken all rest so_far (omega arith) run in
-    none_later format b.later rest b.lawful (omega (arith, so_far.counted, run.counted, ap length b.split, length-append taken b.later)) b.spelled none
+    none_later format b.later rest b.lawful
+    (omega (arith, so_far.counted, run.counted, ap length b.split, length-append taken b.later)) b.spelled none
 
 none_left : (later : List Edit) (rest : List ℕ) → length later ≡ 0 → rest ≡ edits_bytes later
     → length rest ≡ 0
@@ -89,7 +90,11 @@ pub no_run_over : (format : ℕ) (bytes : List ℕ) (count total : ℕ) (taken :
     → IsRun format bytes total all → ⊥
 no_run_over format bytes count total taken rest so_far eq some all run =
     let b = behind_so_far format bytes count total taken all rest so_far (omega arith) run in
-    omega (arith, none_left b.later rest (omega (arith, so_far.counted, run.counted, ap length b.split, length-append taken b.later)) b.spelled)
+    omega (
+      arith,
+      none_left b.later rest
+          (omega (arith, so_far.counted, run.counted, ap length b.split, length-append taken b.later)) b.spelled,
+    )
 
 pub run_done : (format : ℕ) (bytes : List ℕ) (count total : ℕ) (taken : List Edit) (rest : List ℕ)
     → SoFar format bytes count taken rest → count ≡ total → rest ≡ [] → IsRun format bytes total taken

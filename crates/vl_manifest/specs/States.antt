@@ -1,5 +1,6 @@
 -- What edits make of a manifest's state, frame by frame.
-use Rattle.std.specs.Prelude.{ℕ, ◌+◌, ◌==◌, max, Bool, ◌&&◌, not, nat_le, if◌then◌else◌, List, [], ◌∷◌, ◌++◌, Option, None, Some, Result, Ok, Err}
+use Rattle.std.specs.Prelude.{ℕ, ◌+◌, ◌==◌, max, Bool, ◌&&◌, not, nat_le, if◌then◌else◌, List, [], ◌∷◌, ◌++◌, Option}
+use Rattle.std.specs.Prelude.{None, Some, Result, Ok, Err}
 use Rattle.std.specs.Option.{option_map}
 use Rattle.vl_model.specs.Limits.{max_commit_number, max_file_number}
 use Rattle.vl_frame.specs.Begins.{Placed}

@@ -1,11 +1,14 @@
 -- What the calls of a disk in memory do to what it tells.
-use Rattle.std.proofs.Common.{◌≡◌, ◌⊎◌, inl, inr, ⊎_elim, ℕ, ◌+◌, ◌≤◌, Bool, true, false, List, [], ◌∷◌, ◌++◌, length, Option, None, Some, Ok, Err, refl, sym, ◌∙◌, ap, subst, arith, length-append, IsSome, IsTrue, unwrap_or}
+use Rattle.std.proofs.Common.{◌≡◌, ◌⊎◌, inl, inr, ⊎_elim, ℕ, ◌+◌, ◌≤◌, Bool, true, false, List, [], ◌∷◌, ◌++◌, length}
+use Rattle.std.proofs.Common.{Option, None, Some, Ok, Err, refl, sym, ◌∙◌, ap, subst, arith, length-append, IsSome}
+use Rattle.std.proofs.Common.{IsTrue, unwrap_or}
 use Rattle.std.proofs.lemmas.List.{take_all, take-append-le}
 use Rattle.std.specs.Option.{option_map}
 use Rattle.std.specs.FinMap.{get}
 use Rattle.vl_disk.specs.declared.name.Name.{Name}
 use Rattle.vl_disk.specs.declared.watched.Watched.{Ghosts}
-use Rattle.vl_disk.specs.DiskState.{File, DiskState, IsLawful, empty_disk, new_file, synced_file, lengthened, shortened, file_at, created, appended, synced, cut_to, without}
+use Rattle.vl_disk.specs.DiskState.{File, DiskState, IsLawful, empty_disk, new_file, synced_file, lengthened}
+use Rattle.vl_disk.specs.DiskState.{shortened, file_at, created, appended, synced, cut_to, without}
 use Rattle.vl_disk.specs.Calls.{ChangingCall, Creates, Appends, Syncs, Cuts, Removes}
 use Rattle.vl_disk.specs.Crash.{WhileCreating, WhileAppending, WhileSyncing, WhileCutting, WhileRemoving}
 use Rattle.vl_disk.specs.Disk.{Stands, IsInside, IsChangedBy}
@@ -49,11 +52,20 @@ passes_push : (old new : MemDisk) (event : Event) (P : DiskState → Type 0) →
 passes_push old new event P pushed there planned = record {
   later = omega (arith, longer);
   nothing_else = λ t now le left. let was = subst (λ es. WasSince es t now) pushed left in ⊎_elim
-      (λ (within : was.0 ≤ length events). inl (was.0, was.1, within, was.3 ∙ ap state_after (take-append-le was.0 events (event ∷ []) within)))
-      (λ (last : was.0 ≡ length events + 1). inr (there now (was.3 ∙ ap state_after (take_all was.0 (events ++ event ∷ []) (omega (arith, length-append events (event ∷ []), last))) ∙ replayed-push events event empty_disk)))
+      (λ (within : was.0 ≤ length events). inl
+      (was.0, was.1, within, was.3 ∙ ap state_after (take-append-le was.0 events (event ∷ []) within)))
+      (λ (last : was.0 ≡ length events + 1). inr
+      (there now (was.3 ∙ ap state_after
+      (take_all was.0 (events ++ event ∷ []) (omega (arith, length-append events (event ∷ []), last)))
+      ∙ replayed-push events event empty_disk)))
       (le_or_last was.0 (length events) (omega (arith, length-append events (event ∷ []), was.2)));
-  keeps = λ t now le left. subst (λ es. WasSince es t now) (sym pushed)
-      (left.0, left.1, omega (arith, length-append events (event ∷ []), left.2), left.3 ∙ sym (ap state_after (take-append-le left.0 events (event ∷ []) left.2)));
+  keeps = λ t now le left. subst (λ es. WasSince es t now) (sym pushed) (
+    left.0,
+    left.1,
+    omega (arith, length-append events (event ∷ []), left.2),
+    left.3
+        ∙ sym (ap state_after (take-append-le left.0 events (event ∷ []) left.2)),
+  );
   as_planned = planned;
 }
   where
@@ -83,8 +95,10 @@ pub record Counts (old mid : MemDisk) (failed : Bool) : Type 0 where
   pub cause : HasCause old.changes.listed.faults mid.changes.listed.faults (IsTrue failed)
 
 pub counted : (old mid : MemDisk) (fails failed : Bool) → fails ≡ failed → mid.events.items ≡ old.events.items → mid.reads ≡ old.reads
-    → FollowsPlan old.changes mid.changes (IsTrue fails) → HasCause old.changes.listed.faults mid.changes.listed.faults (IsTrue fails) → Counts old mid failed
-counted old mid fails failed is events reads follows cause = subst (Counts old mid) is (record { events = events; reads = reads; follows = follows; cause = cause })
+    → FollowsPlan old.changes mid.changes (IsTrue fails) → HasCause old.changes.listed.faults mid.changes.listed.faults
+    (IsTrue fails) → Counts old mid failed
+counted old mid fails failed is events reads follows cause = subst (Counts old mid) is
+    (record { events = events; reads = reads; follows = follows; cause = cause })
 
 cause_of : (a b rest : ℕ) (failed : Bool) → HasCause a b (IsTrue failed) → HasCause (a + rest) (b + rest) (IsTrue failed)
 cause_of a b rest failed cause = record {
@@ -104,19 +118,23 @@ module _ (old mid new : MemDisk) (failed : Bool) (counts : Counts old mid failed
     turns : IsChangedBy change (told_by old) (told_by new)
     turns = ap (λ es. Some (state_after es)) pushed ∙ ap Some (replayed-push old.events.items goes.event empty_disk ∙ goes.does now)
 
-    as_call : (during : DiskState → DiskState → Type 0) → ((next : DiskState) → next ≡ change now → during now next) → ChangingCall watched old new during (IsTrue failed)
+    as_call : (during : DiskState → DiskState → Type 0) → ((next : DiskState) → next ≡ change now → during now next)
+        → ChangingCall watched old new during (IsTrue failed)
     as_call during meanwhile = record {
       calls = ap (λ p. p.listed.calls) goes.changes ∙ counts.follows.calls;
       time = passes_push old new goes.event (While (told_by old) during) pushed
           (λ next is disk told. subst (λ d. during d next) (some_state now disk told) (meanwhile next (is ∙ goes.does now)))
-          (λ stop past. same_past mid new stop (changed_past old mid stop past (IsTrue failed) counts.follows counts.reads) goes.changes goes.reads);
+          (λ stop past. same_past mid new stop
+          (changed_past old mid stop past (IsTrue failed) counts.follows counts.reads) goes.changes goes.reads);
       cause = subst (λ n. HasCause (old.changes.listed.faults + old.reads.faults) n (IsTrue failed))
-          (sym (ap (λ p. p.listed.faults + new.reads.faults) goes.changes ∙ ap (λ p. mid.changes.listed.faults + p.faults) (goes.reads ∙ counts.reads)))
+          (sym (ap (λ p. p.listed.faults + new.reads.faults) goes.changes
+          ∙ ap (λ p. mid.changes.listed.faults + p.faults) (goes.reads ∙ counts.reads)))
           (cause_of old.changes.listed.faults mid.changes.listed.faults old.reads.faults failed counts.cause);
     }
 
 module _ (name : Name) (old mid new : MemDisk) where
-  pub creates : {X E : Type 0} (x : X) → Counts old mid false → Goes mid new (created name) → UsesChange name (room_of old) (room_of new) → Creates {E = E} watched name old new (Ok x)
+  pub creates : {X E : Type 0} (x : X) → Counts old mid false → Goes mid new (created name)
+      → UsesChange name (room_of old) (room_of new) → Creates {E = E} watched name old new (Ok x)
   creates x counts goes spare = record {
     created = turns old mid new false counts (created name) goes;
     stands = created_stands name (told_by old) (told_by new) (turns old mid new false counts (created name) goes);
@@ -126,7 +144,8 @@ module _ (name : Name) (old mid new : MemDisk) where
     spare = spare;
   }
 
-  pub removes : {X E : Type 0} (x : X) → Counts old mid false → Goes mid new (without name) → SameSpare (room_of old) (room_of new) → Removes {E = E} watched name old new (Ok x)
+  pub removes : {X E : Type 0} (x : X) → Counts old mid false → Goes mid new (without name)
+      → SameSpare (room_of old) (room_of new) → Removes {E = E} watched name old new (Ok x)
   removes x counts goes spare = record {
     removed = turns old mid new false counts (without name) goes;
     free = removed_free name (told_by old) (told_by new) (turns old mid new false counts (without name) goes);
@@ -140,7 +159,8 @@ module _ (name : Name) (old mid new : MemDisk) where
     told_stands : (disk : DiskState) → told_by old ≡ Some disk → Stands name disk
     told_stands disk is = subst (Stands name) (some_state (state_of old) disk is) stands
 
-    pub syncs : {X E : Type 0} (x : X) → Counts old mid false → Goes mid new (synced name) → SameSpare (room_of old) (room_of new) → Syncs {E = E} watched name old new (Ok x)
+    pub syncs : {X E : Type 0} (x : X) → Counts old mid false → Goes mid new (synced name)
+        → SameSpare (room_of old) (room_of new) → Syncs {E = E} watched name old new (Ok x)
     syncs x counts goes spare = record {
       synced = turns old mid new false counts (synced name) goes;
       failed = tt;
@@ -149,7 +169,8 @@ module _ (name : Name) (old mid new : MemDisk) where
       spare = spare;
     }
 
-    module _ (piece : List ℕ) (failed : Bool) (taken : ℕ) (counts : Counts old mid failed) (goes : Goes mid new (appended name piece taken)) (within : taken ≤ length piece) where
+    module _ (piece : List ℕ) (failed : Bool) (taken : ℕ) (counts : Counts old mid failed)
+        (goes : Goes mid new (appended name piece taken)) (within : taken ≤ length piece) where
       hands : IsChangedBy (appended name piece taken) (told_by old) (told_by new)
       hands = turns old mid new failed counts (appended name piece taken) goes
 
@@ -157,11 +178,15 @@ module _ (name : Name) (old mid new : MemDisk) where
       still_stands = changed_stands name (lengthened piece taken) (told_by old) (told_by new) hands told_stands
 
       appending : ChangingCall watched old new (WhileAppending name piece) (IsTrue failed)
-      appending = as_call old mid new failed counts (appended name piece taken) goes (WhileAppending name piece) (λ next is. inr (taken, within, is))
+      appending = as_call old mid new failed counts (appended name piece taken) goes (WhileAppending name piece)
+          (λ next is. inr (taken, within, is))
 
-    pub appends : {X E : Type 0} (x : X) (piece : List ℕ) (taken : ℕ) → taken ≡ length piece → Counts old mid false → Goes mid new (appended name piece taken) → UsesAppend name (room_of old) (room_of new) → Appends {E = E} watched name piece old new (Ok x)
+    pub appends : {X E : Type 0} (x : X) (piece : List ℕ) (taken : ℕ) → taken ≡ length piece → Counts old mid false
+        → Goes mid new (appended name piece taken) → UsesAppend name (room_of old) (room_of new)
+        → Appends {E = E} watched name piece old new (Ok x)
     appends x piece taken all counts goes spare = record {
-      appended = subst (λ n. IsChangedBy (appended name piece n) (told_by old) (told_by new)) all (hands piece false taken counts goes (omega (arith, all)));
+      appended = subst (λ n. IsChangedBy (appended name piece n) (told_by old) (told_by new)) all
+          (hands piece false taken counts goes (omega (arith, all)));
       failed = tt;
       clean = λ _. tt;
       stands = still_stands piece false taken counts goes (omega (arith, all));
@@ -169,7 +194,9 @@ module _ (name : Name) (old mid new : MemDisk) where
       spare = spare;
     }
 
-    pub fails_to_append : {X E : Type 0} (e : E) (piece : List ℕ) → Counts old mid true → Goes mid new (appended name piece 0) → UsesAppend name (room_of old) (room_of new) → Appends {T = X} watched name piece old new (Err e)
+    pub fails_to_append : {X E : Type 0} (e : E) (piece : List ℕ) → Counts old mid true
+        → Goes mid new (appended name piece 0) → UsesAppend name (room_of old) (room_of new)
+        → Appends {T = X} watched name piece old new (Err e)
     fails_to_append e piece counts goes spare = record {
       appended = tt;
       failed = (0, omega arith, hands piece true 0 counts goes (omega arith));
@@ -179,7 +206,8 @@ module _ (name : Name) (old mid new : MemDisk) where
       spare = spare;
     }
 
-    module _ (len left : ℕ) (failed : Bool) (counts : Counts old mid failed) (goes : Goes mid new (cut_to name len left)) (short : len ≤ left) (inside : IsInside name left (state_of old)) where
+    module _ (len left : ℕ) (failed : Bool) (counts : Counts old mid failed)
+        (goes : Goes mid new (cut_to name len left)) (short : len ≤ left) (inside : IsInside name left (state_of old)) where
       shortens : IsChangedBy (cut_to name len left) (told_by old) (told_by new)
       shortens = turns old mid new failed counts (cut_to name len left) goes
 
@@ -187,9 +215,11 @@ module _ (name : Name) (old mid new : MemDisk) where
       stands_cut = changed_stands name (shortened len left) (told_by old) (told_by new) shortens told_stands
 
       cutting : ChangingCall watched old new (WhileCutting name len) (IsTrue failed)
-      cutting = as_call old mid new failed counts (cut_to name len left) goes (WhileCutting name len) (λ next is. inr (left, short, inside, is))
+      cutting = as_call old mid new failed counts (cut_to name len left) goes (WhileCutting name len)
+          (λ next is. inr (left, short, inside, is))
 
-    pub cuts : {X E : Type 0} (x : X) (len : ℕ) → Counts old mid false → Goes mid new (cut_to name len len) → IsInside name len (state_of old) → UsesChange name (room_of old) (room_of new) → Cuts {E = E} watched name len old new (Ok x)
+    pub cuts : {X E : Type 0} (x : X) (len : ℕ) → Counts old mid false → Goes mid new (cut_to name len len)
+        → IsInside name len (state_of old) → UsesChange name (room_of old) (room_of new) → Cuts {E = E} watched name len old new (Ok x)
     cuts x len counts goes inside spare = record {
       cut = shortens len len false counts goes (omega arith) inside;
       failed = tt;
@@ -199,7 +229,8 @@ module _ (name : Name) (old mid new : MemDisk) where
       spare = spare;
     }
 
-    pub fails_to_cut : {X E : Type 0} (e : E) (len whole : ℕ) → Counts old mid true → Goes mid new (cut_to name len whole) → IsInside name len (state_of old) → whole ≡ length (file_at (state_of old) name).bytes
+    pub fails_to_cut : {X E : Type 0} (e : E) (len whole : ℕ) → Counts old mid true
+        → Goes mid new (cut_to name len whole) → IsInside name len (state_of old) → whole ≡ length (file_at (state_of old) name).bytes
         → UsesChange name (room_of old) (room_of new) → Cuts {T = X} watched name len old new (Err e)
     fails_to_cut e len whole counts goes within is spare =
         let short : len ≤ whole = omega (arith, within, is) in
@@ -208,34 +239,41 @@ module _ (name : Name) (old mid new : MemDisk) where
         record {
           cut = tt;
           failed = (whole, short, (λ disk told. subst (IsInside name whole) (some_state (state_of old) disk told) inside), turned);
-          clean = λ _ disk told. subst (λ n. IsChangedBy (cut_to name len n) (told_by old) (told_by new)) (is ∙ ap (λ d. length (file_at d name).bytes) (some_state (state_of old) disk told)) turned;
+          clean = λ _ disk told. subst (λ n. IsChangedBy (cut_to name len n) (told_by old) (told_by new))
+              (is ∙ ap (λ d. length (file_at d name).bytes) (some_state (state_of old) disk told)) turned;
           stands = stands_cut len whole true counts goes short inside;
           as_call = cutting len whole true counts goes short inside;
           spare = spare;
         }
 
 -- the entry of a file that stands has its bytes, and whether it is wholly synced
-pub shown : (name : Name) (entries : Entries) (disk : DiskState) (entry : Entry) → HasFiles entries disk → IsSome (get disk.standing name) → entry_of entries name ≡ Some entry → file_of entry ≡ plain (file_at disk name)
+pub shown : (name : Name) (entries : Entries) (disk : DiskState) (entry : Entry) → HasFiles entries disk
+    → IsSome (get disk.standing name) → entry_of entries name ≡ Some entry → file_of entry ≡ plain (file_at disk name)
 shown name entries disk entry has stands found =
     of (get disk.standing name) stands (sym (ap (λ e. standing_in e) found) ∙ (has name).standing)
   where
-    of : (file : Option File) → IsSome file → standing_in (Some entry) ≡ option_map plain file → file_of entry ≡ plain (unwrap_or file new_file)
+    of : (file : Option File) → IsSome file → standing_in (Some entry) ≡ option_map plain file
+        → file_of entry ≡ plain (unwrap_or file new_file)
     of None is same = absurd (false_true is)
     of (Some file) is same = (stood entry.presence (file_of entry) file same).1
 
 -- a sync of a file that is wholly synced leaves no event
-pub syncs_again : {X E : Type 0} (name : Name) (old new : MemDisk) (entry : Entry) (x : X) → IsSome (get (state_of old).standing name) → Counts old new false → entry_of old.entries name ≡ Some entry → entry.wholly_synced ≡ true
+pub syncs_again : {X E : Type 0} (name : Name) (old new : MemDisk) (entry : Entry) (x : X)
+    → IsSome (get (state_of old).standing name) → Counts old new false → entry_of old.entries name ≡ Some entry → entry.wholly_synced ≡ true
     → SameSpare (room_of old) (room_of new) → Syncs {E = E} watched name old new (Ok x)
 syncs_again name old new entry x stands counts found whole spare = record {
-  synced = ap (λ es. Some (state_after es)) counts.events ∙ ap Some (sym (synced_again name (state_of old) (file_at (state_of old) name) lawful (there (get (state_of old).standing name) stands)
+  synced = ap (λ es. Some (state_after es)) counts.events
+      ∙ ap Some (sym (synced_again name (state_of old) (file_at (state_of old) name) lawful (there (get (state_of old).standing name) stands)
       (sym (ap (λ (f : File). f.wholly_synced) (shown name old.entries (state_of old) entry old.kept.files stands found)) ∙ whole)));
   failed = tt;
-  stands = λ disk is. subst (Stands name) (some_state (state_of old) disk (sym (ap (λ es. Some (state_after es)) counts.events) ∙ is)) stands;
+  stands = λ disk is. subst (Stands name)
+      (some_state (state_of old) disk (sym (ap (λ es. Some (state_after es)) counts.events) ∙ is)) stands;
   as_call = record {
     calls = counts.follows.calls;
     time = passes_still old new (While (told_by old) (WhileSyncing name)) counts.events
         (λ stop past. changed_past old new stop past (IsTrue false) counts.follows counts.reads);
-    cause = subst (λ n. HasCause (old.changes.listed.faults + old.reads.faults) n (IsTrue false)) (ap (λ p. new.changes.listed.faults + p.faults) (sym counts.reads))
+    cause = subst (λ n. HasCause (old.changes.listed.faults + old.reads.faults) n (IsTrue false))
+        (ap (λ p. new.changes.listed.faults + p.faults) (sym counts.reads))
         (cause_of old.changes.listed.faults new.changes.listed.faults old.reads.faults false counts.cause);
   };
   spare = spare;
@@ -258,22 +296,28 @@ cause_beside a b rest failed cause = record {
 }
 
 -- what one event made of what is told, and meanwhile
-module _ (old new : MemDisk) (event : Event) (change : DiskState → DiskState) (does : (disk : DiskState) → after_event event disk ≡ change disk) (pushed : new.events.items ≡ old.events.items ++ event ∷ []) where
+module _ (old new : MemDisk) (event : Event) (change : DiskState → DiskState)
+    (does : (disk : DiskState) → after_event event disk ≡ change disk) (pushed : new.events.items ≡ old.events.items ++ event ∷ []) where
   told_after : IsChangedBy change (told_by old) (told_by new)
   told_after = ap (λ es. Some (state_after es)) pushed ∙ ap Some (replayed-push old.events.items event empty_disk ∙ does (state_of old))
 
   time_after : (during : DiskState → DiskState → Type 0) → ((disk next : DiskState) → next ≡ change disk → during disk next)
-      → ((stop : Option ℕ) → FailsPast old stop → FailsPast new stop) → Passes (past_of watched old) (past_of watched new) (While (told_by old) during)
+      → ((stop : Option ℕ) → FailsPast old stop → FailsPast new stop)
+      → Passes (past_of watched old) (past_of watched new) (While (told_by old) during)
   time_after during meanwhile planned = passes_push old new event (While (told_by old) during) pushed
-      (λ next is disk told. subst (λ d. during d next) (some_state (state_of old) disk told) (meanwhile (state_of old) next (is ∙ does (state_of old)))) planned
+      (λ next is disk told. subst (λ d. during d next) (some_state (state_of old) disk told)
+      (meanwhile (state_of old) next (is ∙ does (state_of old)))) planned
 
-pub lends : (name : Name) (old mid new : MemDisk) (fails : Bool) → fails ≡ false → mid.events.items ≡ old.events.items → mid.changes ≡ old.changes
+pub lends : (name : Name) (old mid new : MemDisk) (fails : Bool) → fails ≡ false → mid.events.items ≡ old.events.items
+    → mid.changes ≡ old.changes
     → listed.Follows old.reads mid.reads (IsTrue fails) → HasCause old.reads.faults mid.reads.faults (IsTrue fails)
     → Goes mid new (without name) → UsesLend name (room_of old) (room_of new) → Lends watched name old new (IsTrue false)
 lends name old mid new fails is events changes follows cause goes spare =
     let pushed : new.events.items ≡ old.events.items ++ goes.event ∷ [] = goes.events ∙ ap (λ es. es ++ goes.event ∷ []) events in
-    let passed : listed.Follows old.reads mid.reads (IsTrue false) = subst (λ b. listed.Follows old.reads mid.reads (IsTrue b)) is follows in
-    let caused : HasCause old.reads.faults mid.reads.faults (IsTrue false) = subst (λ b. HasCause old.reads.faults mid.reads.faults (IsTrue b)) is cause in
+    let passed : listed.Follows old.reads mid.reads (IsTrue false) = subst
+    (λ b. listed.Follows old.reads mid.reads (IsTrue b)) is follows in
+    let caused : HasCause old.reads.faults mid.reads.faults (IsTrue false) = subst
+    (λ b. HasCause old.reads.faults mid.reads.faults (IsTrue b)) is cause in
     record {
       lent = λ _. told_after old new goes.event (without name) goes.does pushed;
       kept = λ failed. absurd (false_true failed);
@@ -281,19 +325,22 @@ lends name old mid new fails is events changes follows cause goes spare =
       time = time_after old new goes.event (without name) goes.does pushed (WhileRemoving name) (λ disk next is. inr is)
           (λ stop past. same_past mid new stop (read_past old mid stop past (IsTrue false) changes passed caused) goes.changes goes.reads);
       cause = subst (λ n. HasCause (old.changes.listed.faults + old.reads.faults) n (IsTrue false))
-          (sym (ap (λ p. p.listed.faults + new.reads.faults) (goes.changes ∙ changes) ∙ ap (λ p. old.changes.listed.faults + p.faults) goes.reads))
+          (sym (ap (λ p. p.listed.faults + new.reads.faults) (goes.changes ∙ changes)
+          ∙ ap (λ p. old.changes.listed.faults + p.faults) goes.reads))
           (cause_beside old.reads.faults mid.reads.faults old.changes.listed.faults false caused);
       spare = λ _. spare;
       spare_kept = λ failed. absurd (false_true failed);
     }
 
 -- one that was lent comes back
-pub adopts : (name given : Name) (file : Option File) (left : File) (old new : MemDisk) → name ≡ given → file ≡ Some left → Goes old new (adopted name left) → UsesAdopt name (room_of old) (room_of new)
+pub adopts : (name given : Name) (file : Option File) (left : File) (old new : MemDisk) → name ≡ given
+    → file ≡ Some left → Goes old new (adopted name left) → UsesAdopt name (room_of old) (room_of new)
     → Adopts watched given file old new
 adopts name given file left old new same is goes spare =
     subst (λ (n : Name). Adopts watched n file old new) same (subst (λ (f : Option File). Adopts watched name f old new) (sym is) (record {
       adopted = λ disk told f here. told_after old new goes.event (adopted name left) goes.does goes.events
-          ∙ ap (λ d. Some (adopted name left d)) (some_state (state_of old) disk told) ∙ ap (λ g. Some (adopted name g disk)) (some_file left f here);
+          ∙ ap (λ d. Some (adopted name left d)) (some_state (state_of old) disk told)
+          ∙ ap (λ g. Some (adopted name g disk)) (some_file left f here);
       untold = λ none. absurd (told_none none);
       calls = ap (λ p. p.listed.calls) goes.changes;
       time = time_after old new goes.event (adopted name left) goes.does goes.events (WhileAdopting name (Some left))

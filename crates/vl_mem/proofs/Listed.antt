@@ -1,5 +1,7 @@
 -- The names that a disk in memory lists.
-use Rattle.std.proofs.Common.{◌≡◌, ◌≢◌, ◌⊎◌, inl, inr, ⊎_elim, zero, suc, Bool, true, false, cond, List, [], ◌∷◌, get_or, Option, None, Some, refl, sym, ◌∙◌, ap, subst, arith, IsSome, if◌then◌else◌, Contains, AllPairs, All}
+use Rattle.std.proofs.Common.{◌≡◌, ◌≢◌, ◌⊎◌, inl, inr, ⊎_elim, zero, suc, Bool, true, false, cond, List, [], ◌∷◌}
+use Rattle.std.proofs.Common.{get_or, Option, None, Some, refl, sym, ◌∙◌, ap, subst, arith, IsSome, if◌then◌else◌}
+use Rattle.std.proofs.Common.{Contains, AllPairs, All}
 use Rattle.std.proofs.lemmas.List.Elements.{All-contains_itself}
 use Rattle.std.specs.Option.{option_map}
 use Rattle.std.specs.BTreeMap as tree
@@ -59,8 +61,10 @@ listed [] name is = absurd (false_true is)
 listed (e ∷ es) name is = ⊎_elim
     (λ (same : name ≡ e.0).
     let stands = some_standing e.1.presence (file_of e.1) (subst (λ o. IsSome (standing_in o)) (at_head name e es same) is) in
-    subst (λ (names : List Name). Contains names name) (sym (ap (λ b. if b then e.0 ∷ standing_names es else standing_names es) stands)) (0, omega arith, sym same))
-    (λ (other : name ≢ e.0). more (is_standing e.1.presence) (listed es name (subst (λ o. IsSome (standing_in o)) (at_rest name e es other) is)))
+    subst (λ (names : List Name). Contains names name)
+    (sym (ap (λ b. if b then e.0 ∷ standing_names es else standing_names es) stands)) (0, omega arith, sym same))
+    (λ (other : name ≢ e.0). more (is_standing e.1.presence)
+    (listed es name (subst (λ o. IsSome (standing_in o)) (at_rest name e es other) is)))
     (same_or_other name e.0)
   where
     more : (b : Bool) → Contains (standing_names es) name → Contains (if b then e.0 ∷ standing_names es else standing_names es) name
@@ -68,11 +72,13 @@ listed (e ∷ es) name is = ⊎_elim
     more false has = has
 
 -- what is so of each name that has an entry is so of those that are listed
-of_listed : (P : Name → Type 0) (es : List (Name × Entry)) (name : Name) → AllByRecursion P (keys_of es) → Contains (standing_names es) name → P name
+of_listed : (P : Name → Type 0) (es : List (Name × Entry)) (name : Name) → AllByRecursion P (keys_of es)
+    → Contains (standing_names es) name → P name
 of_listed P [] name all has = absurd (omega (arith, has.1))
 of_listed P (e ∷ es) name all has = by (of_listed P es name all.1) (is_standing e.1.presence) has
   where
-    by : (Contains (standing_names es) name → P name) → (b : Bool) → Contains (if b then e.0 ∷ standing_names es else standing_names es) name → P name
+    by : (Contains (standing_names es) name → P name) → (b : Bool)
+        → Contains (if b then e.0 ∷ standing_names es else standing_names es) name → P name
     by rest false has = rest has
     by rest true has = ⊎_elim (λ (same : e.0 ≡ name). subst P same all.0) rest (listed_head name e.0 (standing_names es) has)
 
@@ -83,7 +89,8 @@ less_apart a b less same = tie (name_cmp a b) less (ap (λ n. is_eq (name_cmp a 
     tie o is ties = false_true (sym (ap is_eq is) ∙ ties)
 
 -- and what is listed stands
-stands_listed : (es : List (Name × Entry)) (name : Name) → IsStrictlySortedBy name_cmp (keys_of es) → Contains (standing_names es) name → IsSome (standing_in (at name es))
+stands_listed : (es : List (Name × Entry)) (name : Name) → IsStrictlySortedBy name_cmp (keys_of es)
+    → Contains (standing_names es) name → IsSome (standing_in (at name es))
 unfolding IsStrictlySortedBy
 stands_listed [] name sorted has = absurd (omega (arith, has.1))
 stands_listed (e ∷ es) name sorted has = by (λ more.
@@ -95,7 +102,8 @@ stands_listed (e ∷ es) name sorted has = by (λ more.
         → Contains (if b then e.0 ∷ standing_names es else standing_names es) name → IsSome (standing_in (at name (e ∷ es)))
     by rest false is has = rest has
     by rest true is has = ⊎_elim
-        (λ (same : e.0 ≡ name). subst (λ o. IsSome (standing_in o)) (sym (at_head name e es (sym same))) (standing_some e.1.presence (file_of e.1) is))
+        (λ (same : e.0 ≡ name). subst (λ o. IsSome (standing_in o)) (sym (at_head name e es (sym same)))
+        (standing_some e.1.presence (file_of e.1) is))
         rest (listed_head name e.0 (standing_names es) has)
 
 once : (es : List (Name × Entry)) → IsStrictlySortedBy name_cmp (keys_of es) → AllPairs (λ a b. a ≢ b) (standing_names es)
@@ -103,12 +111,15 @@ unfolding IsStrictlySortedBy
 once [] sorted = λ i j d before within. absurd (omega (arith, within))
 once (e ∷ es) sorted = by (once es sorted.1) (is_standing e.1.presence)
   where
-    by : AllPairs (λ a b. a ≢ b) (standing_names es) → (b : Bool) → AllPairs (λ a b. a ≢ b) (if b then e.0 ∷ standing_names es else standing_names es)
+    by : AllPairs (λ a b. a ≢ b) (standing_names es) → (b : Bool)
+        → AllPairs (λ a b. a ≢ b) (if b then e.0 ∷ standing_names es else standing_names es)
     by rest false i j d before within = rest i j d before within
     by rest true i zero d before within = absurd (omega arith)
     by rest true (suc i) (suc j) d before within = rest i j d (omega arith) (omega (arith, within))
     by rest true zero (suc j) d before within =
-        less_apart e.0 (get_or (standing_names es) j d) (of_listed (λ q. name_cmp e.0 q ≡ Less) es (get_or (standing_names es) j d) sorted.0 (All-contains_itself (standing_names es) j d (omega (arith, within))))
+        less_apart e.0 (get_or (standing_names es) j d)
+        (of_listed (λ q. name_cmp e.0 q ≡ Less) es (get_or (standing_names es) j d) sorted.0
+        (All-contains_itself (standing_names es) j d (omega (arith, within))))
 
 module _ (entries : Entries) (disk : DiskState) (has : HasFiles entries disk) (sorted : tree.IsOrdered name_cmp entries) where
   pub lists : Lists (standing_names entries.entries) disk

@@ -1,5 +1,8 @@
 -- One entry is changed, and with it the file of its name.
-use Rattle.std.proofs.Common.{◌≡◌, ◌≢◌, ⊎_elim, ℕ, ◌+◌, ◌≤◌, Bool, true, false, List, [], ◌∷◌, ◌++◌, length, sum_by, Option, None, Some, refl, sym, ◌∙◌, ap, subst, arith, length-append, All, IsSome, vec_capacity, Vec, Global, get_or, unwrap_or, if◌then◌else◌, ◌*◌, Result, Ok, Err, OnOk, OnErr}
+use Rattle.std.proofs.Common.{◌≡◌, ◌≢◌, ⊎_elim, ℕ, ◌+◌, ◌≤◌, Bool, true, false, List, [], ◌∷◌, ◌++◌, length, sum_by}
+use Rattle.std.proofs.Common.{Option, None, Some, refl, sym, ◌∙◌, ap, subst, arith, length-append, All, IsSome}
+use Rattle.std.proofs.Common.{vec_capacity, Vec, Global, get_or, unwrap_or, if◌then◌else◌, ◌*◌, Result, Ok, Err, OnOk}
+use Rattle.std.proofs.Common.{OnErr}
 use Rattle.std.specs.Option.{option_map}
 use Rattle.std.specs.Map.{lookup, values_of}
 use Rattle.std.specs.BTreeMap as tree
@@ -15,7 +18,8 @@ use Rattle.vl_disk.specs.laws.NameMap.{same_or_other, tied_other, get_inserted, 
 use Rattle.vl_disk.specs.DiskState.{File, DiskState, IsLawfulFile, empty_disk, new_file, settled, with_file, created, without}
 use Rattle.vl_disk.specs.Lending.{adopted}
 use Rattle.vl_disk.specs.MadeFile.{made}
-use Rattle.vl_disk.specs.Changes.{SameElsewhere, created_there, created_elsewhere, changed_there, changed_elsewhere, without_removed, without_elsewhere}
+use Rattle.vl_disk.specs.Changes.{SameElsewhere, created_there, created_elsewhere, changed_there, changed_elsewhere}
+use Rattle.vl_disk.specs.Changes.{without_removed, without_elsewhere}
 use Rattle.vl_disk.specs.Crash.{last_file}
 use Rattle.vl_disk.specs.Spare.{Spare, SameSpare, SameSpareElsewhere, UsesAdopt, UsesAppend, UsesHold, UsesLend}
 use Rattle.vl_mem.specs.declared.entry.Entry.{Entry}
@@ -24,7 +28,9 @@ use Rattle.vl_mem.specs.declared.entry.Presence.TheVariants.{Absent, Standing, R
 use Rattle.vl_mem.specs.declared.event.Event.{Event}
 use Rattle.vl_mem.specs.declared.event.Event.TheVariants.{Found, Create, Remove, Adopt}
 use Rattle.vl_mem.specs.Event.{IsSound, after_event, replayed-push, state_after}
-use Rattle.vl_mem.specs.Entry.{Entries, Fits, HasFiles, failing_of, Matches, Becomes, KeepsFile, entry_of, file_of, if_standing, if_removed, is_lent, plain, slots, spare_of, standing_in, removed_in, appends, removes, IsBlank}
+use Rattle.vl_mem.specs.Entry.{Entries, Fits, HasFiles, failing_of, Matches, Becomes, KeepsFile, entry_of, file_of}
+use Rattle.vl_mem.specs.Entry.{if_standing, if_removed, is_lent, plain, slots, spare_of, standing_in, removed_in}
+use Rattle.vl_mem.specs.Entry.{appends, removes, IsBlank}
 use Rattle.vl_mem.specs.Kept.{IsKept, slots_of}
 use Rattle.vl_mem.specs.declared.written.Written.{Written}
 use Rattle.vl_mem.specs.Written.{file_written}
@@ -40,7 +46,8 @@ no_file is = cc
 
 -- ---- an entry and the files of its name
 
-pub stood : (presence : Presence) (file there : File) → if_standing presence file ≡ Some (plain there) → (presence ≡ Standing) × (file ≡ plain there)
+pub stood : (presence : Presence) (file there : File) → if_standing presence file ≡ Some (plain there)
+    → (presence ≡ Standing) × (file ≡ plain there)
 stood Absent file there is = absurd (none_some (plain there) is)
 stood Standing file there is = (refl, some_same file (plain there) is)
 stood Removed file there is = absurd (none_some (plain there) is)
@@ -48,8 +55,10 @@ stood Lent file there is = absurd (none_some (plain there) is)
 
 module _ (old new : Entry) where
   -- a change of the file that stands
-  pub matches_changed : (change : File → File) (lost there : Option File) → ((file : File) → plain (change (plain file)) ≡ plain (change file))
-      → Becomes old new old.presence (plain (change (file_of old))) → IsSome there → Matches (Some old) there lost → Matches (Some new) (option_map change there) lost
+  pub matches_changed : (change : File → File) (lost there : Option File)
+      → ((file : File) → plain (change (plain file)) ≡ plain (change file))
+      → Becomes old new old.presence (plain (change (file_of old))) → IsSome there → Matches (Some old) there lost
+      → Matches (Some new) (option_map change there) lost
   matches_changed change lost None alike becomes is matches = absurd (no_file is)
   matches_changed change lost (Some file) alike becomes is matches =
       let at = stood old.presence (file_of old) file matches.standing in
@@ -67,11 +76,13 @@ module _ (old new : Entry) where
 
   -- a file that goes, to nobody or to a writer
   module _ (gone : Presence) (away : (file : File) → (if_standing gone file ≡ None) × (if_removed gone file ≡ Some file)) where
-    pub matches_gone : (lost there : Option File) → Becomes old new gone (file_of old) → IsSome there → Matches (Some old) there lost → Matches (Some new) None (last_file there lost)
+    pub matches_gone : (lost there : Option File) → Becomes old new gone (file_of old) → IsSome there
+        → Matches (Some old) there lost → Matches (Some new) None (last_file there lost)
     matches_gone lost None becomes is matches = absurd (no_file is)
     matches_gone lost (Some file) becomes is matches = record {
       standing = ap (λ p. if_standing p (file_of new)) becomes.presence ∙ (away (file_of new)).0;
-      removed = ap (λ p. if_removed p (file_of new)) becomes.presence ∙ (away (file_of new)).1 ∙ ap Some (becomes.file ∙ (stood old.presence (file_of old) file matches.standing).1);
+      removed = ap (λ p. if_removed p (file_of new)) becomes.presence ∙ (away (file_of new)).1
+          ∙ ap Some (becomes.file ∙ (stood old.presence (file_of old) file matches.standing).1);
     }
 
   pub matches_same : (there lost : Option File) → KeepsFile old new → Matches (Some old) there lost → Matches (Some new) there lost
@@ -83,17 +94,20 @@ module _ (old new : Entry) where
 -- ---- maps
 
 -- a name has another entry, or its first one
-module _ (name : Name) (entries next : Entries) (new : Entry) (updates : tree.UpdatesBy name_cmp (name_cmp name) entries next (Some new)) where
+module _ (name : Name) (entries next : Entries) (new : Entry)
+    (updates : tree.UpdatesBy name_cmp (name_cmp name) entries next (Some new)) where
   elsewhere : (other : Name) → other ≢ name → entry_of next other ≡ entry_of entries other
   elsewhere other apart = updates.2 other (tied_other name other (λ e. apart (sym e)))
 
-  fits_all : ((q : Name) (entry : Entry) → entry_of entries q ≡ Some entry → Fits entry) → Fits new → (q : Name) (entry : Entry) → entry_of next q ≡ Some entry → Fits entry
+  fits_all : ((q : Name) (entry : Entry) → entry_of entries q ≡ Some entry → Fits entry) → Fits new
+      → (q : Name) (entry : Entry) → entry_of next q ≡ Some entry → Fits entry
   fits_all all fits q entry is = ⊎_elim
       (λ (same : q ≡ name). subst Fits (some_same new entry (sym updates.1 ∙ ap (entry_of next) (sym same) ∙ is)) fits)
       (λ (other : q ≢ name). all q entry (sym (elsewhere q other) ∙ is))
       (same_or_other q name)
 
-  files_all : (before disk : DiskState) → HasFiles entries before → SameElsewhere name before disk → Matches (Some new) (get disk.standing name) (get disk.removed name) → HasFiles next disk
+  files_all : (before disk : DiskState) → HasFiles entries before → SameElsewhere name before disk
+      → Matches (Some new) (get disk.standing name) (get disk.removed name) → HasFiles next disk
   files_all before disk has apart matches q = ⊎_elim
       (λ (same : q ≡ name). subst (λ (n : Name). Matches (entry_of next n) (get disk.standing n) (get disk.removed n)) (sym same)
       (subst (λ e. Matches e (get disk.standing name) (get disk.removed name)) (sym updates.1) matches))
@@ -103,30 +117,38 @@ module _ (name : Name) (entries next : Entries) (new : Entry) (updates : tree.Up
       (same_or_other q name)
 
   -- the files under the name are these afterwards
-  left_matches : (disk : DiskState) (standing removed : Option File) → get disk.standing name ≡ standing → get disk.removed name ≡ removed → Matches (Some new) standing removed
+  left_matches : (disk : DiskState) (standing removed : Option File) → get disk.standing name ≡ standing
+      → get disk.removed name ≡ removed → Matches (Some new) standing removed
       → Matches (Some new) (get disk.standing name) (get disk.removed name)
-  left_matches disk standing removed stands is matches = subst (Matches (Some new) (get disk.standing name)) (sym is) (subst (λ f. Matches (Some new) f removed) (sym stands) matches)
+  left_matches disk standing removed stands is matches = subst (Matches (Some new) (get disk.standing name)) (sym is)
+      (subst (λ f. Matches (Some new) f removed) (sym stands) matches)
 
 same_files : (name : Name) (disk : DiskState) → SameElsewhere name disk disk
 same_files name disk = record { standing = λ q other. refl; removed = λ q other. refl }
 
 -- an entry is changed
-module _ (name : Name) (entries next : Entries) (old new : Entry) (found : entry_of entries name ≡ Some old) (wrote : WritesThrough name_cmp (name_cmp name) entries new next) where
+module _ (name : Name) (entries next : Entries) (old new : Entry) (found : entry_of entries name ≡ Some old)
+    (wrote : WritesThrough name_cmp (name_cmp name) entries new next) where
   updates : tree.UpdatesBy name_cmp (name_cmp name) entries next (Some new)
   updates = wrote.3 (subst IsSome (sym found) refl)
 
   sum : slots_of next + slots old ≡ slots_of entries + slots new
-  sum = ap (λ es. sum_by slots (values_of es) + slots old) wrote.0 ∙ sum_by-set_value slots (tree.is_at (name_cmp name)) entries.entries old new found
+  sum = ap (λ es. sum_by slots (values_of es) + slots old) wrote.0
+      ∙ sum_by-set_value slots (tree.is_at (name_cmp name)) entries.entries old new found
 
-  module _ (events later : List Event) (capacity wide : ℕ) (kept : IsKept entries events capacity) (wider : capacity ≤ wide) (fits : Fits old → Fits new) where
+  module _ (events later : List Event) (capacity wide : ℕ) (kept : IsKept entries events capacity)
+      (wider : capacity ≤ wide) (fits : Fits old → Fits new) where
     abbrev disk : DiskState
     disk = state_after events
 
     -- a call that left an event
-    pub kept_by : (event : Event) → later ≡ events ++ event ∷ [] → IsSound event → slots new + 1 ≤ slots old → SameElsewhere name disk (after_event event disk)
-        → Matches (Some new) (get (after_event event disk).standing name) (get (after_event event disk).removed name) → IsKept next later wide
+    pub kept_by : (event : Event) → later ≡ events ++ event ∷ [] → IsSound event → slots new + 1 ≤ slots old
+        → SameElsewhere name disk (after_event event disk)
+        → Matches (Some new) (get (after_event event disk).standing name) (get (after_event event disk).removed name)
+        → IsKept next later wide
     kept_by event pushed sound fewer apart matches = record {
-      files = subst (HasFiles next) (sym (ap state_after pushed ∙ replayed-push events event empty_disk)) (files_all name entries next new updates disk (after_event event disk) kept.files apart matches);
+      files = subst (HasFiles next) (sym (ap state_after pushed ∙ replayed-push events event empty_disk))
+          (files_all name entries next new updates disk (after_event event disk) kept.files apart matches);
       sound = subst (All IsSound) (sym pushed) (All-push IsSound events event kept.sound sound);
       fits = fits_all name entries next new updates kept.fits (fits (kept.fits name old found));
       room = omega (arith, kept.room, wider, sum, fewer, ap length pushed, length-append events (event ∷ []));
@@ -137,33 +159,41 @@ module _ (name : Name) (entries next : Entries) (old new : Entry) (found : entry
 
     pub kept_created : later ≡ events ++ Create name ∷ [] → IsNumbered name → Becomes old new Standing new_file → IsKept next later wide
     kept_created pushed numbered becomes = kept_by (Create name) pushed numbered becomes.slots (created_elsewhere name disk)
-        (left_matches name entries next new updates (created name disk) (Some new_file) None (created_there name disk) (get_removed disk.removed name) (matches_placed old new new_file becomes))
+        (left_matches name entries next new updates (created name disk) (Some new_file) None (created_there name disk)
+        (get_removed disk.removed name) (matches_placed old new new_file becomes))
 
-    pub kept_adopted : (written : Written) → later ≡ events ++ Adopt name written ∷ [] → IsNumbered name → IsLawfulFile (file_written written) → Becomes old new Standing (plain (file_written written)) → IsKept next later wide
+    pub kept_adopted : (written : Written) → later ≡ events ++ Adopt name written ∷ [] → IsNumbered name
+        → IsLawfulFile (file_written written) → Becomes old new Standing (plain (file_written written)) → IsKept next later wide
     kept_adopted written pushed numbered lawful becomes = let file = file_written written in let after = adopted name file disk in
         kept_by (Adopt name written) pushed (numbered, lawful) becomes.slots
         (record { standing = get_inserted_other disk.standing name file; removed = get_removed_other disk.removed name })
-        (left_matches name entries next new updates after (Some file) None (get_inserted disk.standing name file) (get_removed disk.removed name) (matches_placed old new file becomes))
+        (left_matches name entries next new updates after (Some file) None (get_inserted disk.standing name file)
+        (get_removed disk.removed name) (matches_placed old new file becomes))
 
-    pub kept_changed : (event : Event) (change : File → File) → after_event event disk ≡ with_file name change disk → ((file : File) → plain (change (plain file)) ≡ plain (change file))
-        → later ≡ events ++ event ∷ [] → IsSound event → Becomes old new old.presence (plain (change (file_of old))) → IsSome (get disk.standing name) → IsKept next later wide
+    pub kept_changed : (event : Event) (change : File → File) → after_event event disk ≡ with_file name change disk
+        → ((file : File) → plain (change (plain file)) ≡ plain (change file))
+        → later ≡ events ++ event ∷ [] → IsSound event → Becomes old new old.presence (plain (change (file_of old)))
+        → IsSome (get disk.standing name) → IsKept next later wide
     kept_changed event change does alike pushed sound becomes stands =
         let after = with_file name change disk in
         kept_by event pushed sound becomes.slots (subst (SameElsewhere name disk) (sym does) (changed_elsewhere name disk change))
         (subst (λ (s : DiskState). Matches (Some new) (get s.standing name) (get s.removed name)) (sym does)
-        (left_matches name entries next new updates after (option_map change (get disk.standing name)) (get disk.removed name) (changed_there name disk change) refl
+        (left_matches name entries next new updates after (option_map change (get disk.standing name))
+        (get disk.removed name) (changed_there name disk change) refl
         (matches_changed old new change (get disk.removed name) (get disk.standing name) alike becomes stands kept_matches)))
 
     pub kept_gone : (gone : Presence) → ((file : File) → (if_standing gone file ≡ None) × (if_removed gone file ≡ Some file))
         → later ≡ events ++ Remove name ∷ [] → Becomes old new gone (file_of old) → IsSome (get disk.standing name) → IsKept next later wide
     kept_gone gone away pushed becomes stands = kept_by (Remove name) pushed tt becomes.slots (without_elsewhere name disk)
-        (left_matches name entries next new updates (without name disk) None (last_file (get disk.standing name) (get disk.removed name)) (get_removed disk.standing name) (without_removed name disk)
+        (left_matches name entries next new updates (without name disk) None
+        (last_file (get disk.standing name) (get disk.removed name)) (get_removed disk.standing name) (without_removed name disk)
         (matches_gone old new gone away (get disk.removed name) (get disk.standing name) becomes stands kept_matches))
 
     -- and one that left none
     pub kept_still : later ≡ events → slots_of next + length events ≤ wide → KeepsFile old new → IsKept next later wide
     kept_still same within keeps = record {
-      files = subst (λ es. HasFiles next (state_after es)) (sym same) (files_all name entries next new updates disk disk kept.files (same_files name disk)
+      files = subst (λ es. HasFiles next (state_after es)) (sym same)
+          (files_all name entries next new updates disk disk kept.files (same_files name disk)
           (matches_same old new (get disk.standing name) (get disk.removed name) keeps kept_matches));
       sound = subst (All IsSound) (sym same) kept.sound;
       fits = fits_all name entries next new updates kept.fits (fits (kept.fits name old found));
@@ -171,7 +201,8 @@ module _ (name : Name) (entries next : Entries) (old new : Entry) (found : entry
     }
 
   -- no event more may come than before
-  pub no_more : (events : List Event) (capacity : ℕ) → IsKept entries events capacity → slots new ≤ slots old → slots_of next + length events ≤ capacity
+  pub no_more : (events : List Event) (capacity : ℕ) → IsKept entries events capacity → slots new ≤ slots old
+      → slots_of next + length events ≤ capacity
   no_more events capacity kept fewer = omega (arith, kept.room, sum, fewer)
 
   pub updated_there : entry_of next name ≡ Some new
@@ -192,7 +223,8 @@ module _ (name : Name) (entries next : Entries) (old new : Entry) (found : entry
   spare_there = ap spare_of updates.1
 
   -- of a part of the room that is as it was
-  same_part : {X : Type 0} (part : Spare → X) → part (spare_of (Some new)) ≡ part (spare_of (Some old)) → part (after name) ≡ part (before name)
+  same_part : {X : Type 0} (part : Spare → X) → part (spare_of (Some new)) ≡ part (spare_of (Some old))
+      → part (after name) ≡ part (before name)
   same_part part same = ap part spare_there ∙ same ∙ sym (ap (λ e. part (spare_of e)) found)
 
   pub uses_append : new.change ≡ old.change → new.hold ≡ old.hold → new.lend ≡ old.lend → UsesAppend name before after
@@ -260,21 +292,32 @@ removes_most Removed = omega arith
 removes_most Lent = omega arith
 
 slots_most : (entry : Entry) → slots entry ≤ 12
-slots_most entry = omega (arith, if_most entry.change 3, if_most entry.lend 3, appends_most entry.buffer, unless_most entry.wholly_synced, removes_most entry.presence)
+slots_most entry = omega (
+  arith,
+  if_most entry.change 3,
+  if_most entry.lend 3,
+  appends_most entry.buffer,
+  unless_most entry.wholly_synced,
+  removes_most entry.presence,
+)
 
 pub most : (entries : Entries) → slots_of entries ≤ 12 * length entries.entries
 most entries =
-    let each : slots_of entries ≤ length (values_of entries.entries) * 12 = sum_by-le slots 12 (values_of entries.entries) (λ k d within. slots_most (get_or (values_of entries.entries) k d)) in
+    let each : slots_of entries ≤ length (values_of entries.entries) * 12 = sum_by-le slots 12
+    (values_of entries.entries) (λ k d within. slots_most (get_or (values_of entries.entries) k d)) in
     omega (arith, each, length-map entries.entries (λ (e : Name × Entry). e.1))
 
 -- a name gets its first entry, or another one
-module _ (name : Name) (entry : Entry) (entries next : Entries) (updates : tree.Updates name_cmp entries next name (Some entry)) (inserted : next.entries ≡ tree.insert_entry name_cmp entries.entries name entry) (ordered : tree.IsOrdered name_cmp entries) where
+module _ (name : Name) (entry : Entry) (entries next : Entries)
+    (updates : tree.Updates name_cmp entries next name (Some entry))
+    (inserted : next.entries ≡ tree.insert_entry name_cmp entries.entries name entry) (ordered : tree.IsOrdered name_cmp entries) where
   sum_inserted : slots_of next + unwrap_or (option_map slots (entry_of entries name)) 0 ≡ slots_of entries + slots entry
   sum_inserted = ap (λ es. sum_by slots (values_of es) + unwrap_or (option_map slots (entry_of entries name)) 0) inserted
       ∙ sum_by-insert_entry slots name_cmp_total entries.entries name entry ordered
 
   -- one of which nothing is known
-  pub known_kept : (events : List Event) (capacity : ℕ) → IsBlank entry → entry_of entries name ≡ None → IsKept entries events capacity → IsKept next events capacity
+  pub known_kept : (events : List Event) (capacity : ℕ) → IsBlank entry → entry_of entries name ≡ None
+      → IsKept entries events capacity → IsKept next events capacity
   known_kept events capacity blank none kept = let disk = state_after events in record {
     files = files_all name entries next entry updates disk disk kept.files (same_files name disk) (record {
       standing = ap (λ p. if_standing p (file_of entry)) blank.presence ∙ sym (ap standing_in none) ∙ (kept.files name).standing;
@@ -286,15 +329,22 @@ module _ (name : Name) (entry : Entry) (entries next : Entries) (updates : tree.
   }
 
   -- one of a file that stood when the disk was started
-  pub found_kept : (events later : List Event) (bytes : Vec ℕ Global) (capacity wide count : ℕ) → entry.presence ≡ Standing → file_of entry ≡ settled bytes.items → Fits entry → slots entry ≡ 1 → IsNumbered name
-      → later ≡ events ++ Found name bytes ∷ [] → count ≡ length entries.entries → length events + 12 * (count + 1) ≤ wide → IsKept entries events capacity → IsKept next later wide
+  pub found_kept : (events later : List Event) (bytes : Vec ℕ Global) (capacity wide count : ℕ)
+      → entry.presence ≡ Standing → file_of entry ≡ settled bytes.items → Fits entry → slots entry ≡ 1 → IsNumbered name
+      → later ≡ events ++ Found name bytes ∷ [] → count ≡ length entries.entries
+      → length events + 12 * (count + 1) ≤ wide → IsKept entries events capacity → IsKept next later wide
   found_kept events later bytes capacity wide count standing file fits few numbered pushed counts room kept =
       let disk = state_after events in
       let after = made name bytes.items disk in
       record {
-        files = subst (HasFiles next) (sym (ap state_after pushed ∙ replayed-push events (Found name bytes) empty_disk)) (files_all name entries next entry updates disk after kept.files
-            (record { standing = get_inserted_other disk.standing name (settled bytes.items); removed = get_removed_other disk.removed name })
-            (left_matches name entries next entry updates after (Some (settled bytes.items)) None (get_inserted disk.standing name (settled bytes.items)) (get_removed disk.removed name) (record {
+        files = subst (HasFiles next) (sym (ap state_after pushed ∙ replayed-push events (Found name bytes) empty_disk))
+            (files_all name entries next entry updates disk after kept.files
+            (record {
+              standing = get_inserted_other disk.standing name (settled bytes.items);
+              removed = get_removed_other disk.removed name;
+            })
+            (left_matches name entries next entry updates after (Some (settled bytes.items)) None
+            (get_inserted disk.standing name (settled bytes.items)) (get_removed disk.removed name) (record {
               standing = ap (λ p. if_standing p (file_of entry)) standing ∙ ap Some file;
               removed = ap (λ p. if_removed p (file_of entry)) standing;
             })));
@@ -304,9 +354,11 @@ module _ (name : Name) (entry : Entry) (entries next : Entries) (updates : tree.
       }
 
 -- the same entries
-pub kept_same : (entries next : Entries) (events : List Event) (capacity : ℕ) → next.entries ≡ entries.entries → IsKept entries events capacity → IsKept next events capacity
+pub kept_same : (entries next : Entries) (events : List Event) (capacity : ℕ) → next.entries ≡ entries.entries
+    → IsKept entries events capacity → IsKept next events capacity
 kept_same entries next events capacity same kept = record {
-  files = λ q. subst (λ e. Matches e (get (state_after events).standing q) (get (state_after events).removed q)) (sym (at q)) (kept.files q);
+  files = λ q. subst (λ e. Matches e (get (state_after events).standing q) (get (state_after events).removed q))
+      (sym (at q)) (kept.files q);
   sound = kept.sound;
   fits = λ q e is. kept.fits q e (sym (at q) ∙ is);
   room = omega (arith, kept.room, ap (λ es. sum_by slots (values_of es)) same);
@@ -316,14 +368,19 @@ kept_same entries next events capacity same kept = record {
     at q = ap (lookup (tree.is_at (name_cmp q))) same
 
 -- whether there was memory for it or not
-pub known : {T E : Type 0} (result : Result T E) (name : Name) (entry : Entry) (entries next : Entries) (events : List Event) (capacity : ℕ) → IsBlank entry → entry_of entries name ≡ None
-    → OnOk result (tree.Updates name_cmp entries next name (Some entry)) → OnOk result (next.entries ≡ tree.insert_entry name_cmp entries.entries name entry) → OnErr result (next.entries ≡ entries.entries)
+pub known : {T E : Type 0} (result : Result T E) (name : Name) (entry : Entry) (entries next : Entries)
+    (events : List Event) (capacity : ℕ) → IsBlank entry → entry_of entries name ≡ None
+    → OnOk result (tree.Updates name_cmp entries next name (Some entry))
+    → OnOk result (next.entries ≡ tree.insert_entry name_cmp entries.entries name entry) → OnErr result (next.entries ≡ entries.entries)
     → tree.IsOrdered name_cmp entries → IsKept entries events capacity → IsKept next events capacity
-known (Ok x) name entry entries next events capacity blank none adds inserted unchanged ordered kept = known_kept name entry entries next adds inserted ordered events capacity blank none kept
-known (Err e) name entry entries next events capacity blank none adds inserted unchanged ordered kept = kept_same entries next events capacity unchanged kept
+known (Ok x) name entry entries next events capacity blank none adds inserted unchanged ordered kept = known_kept name
+    entry entries next adds inserted ordered events capacity blank none kept
+known (Err e) name entry entries next events capacity blank none adds inserted unchanged ordered kept = kept_same
+    entries next events capacity unchanged kept
 
 -- a disk on which nothing stands yet
-pub kept_at_first : (entries : Entries) (events : List Event) (capacity : ℕ) → entries.entries ≡ [] → events ≡ [] → IsKept entries events capacity
+pub kept_at_first : (entries : Entries) (events : List Event) (capacity : ℕ) → entries.entries ≡ [] → events ≡ []
+    → IsKept entries events capacity
 kept_at_first entries events capacity no_entries no_events =
     subst (λ evs. IsKept entries evs capacity) (sym no_events) (record {
       files = λ name. record {

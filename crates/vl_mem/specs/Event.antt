@@ -8,7 +8,8 @@ use Rattle.vl_disk.specs.Name.{IsNumbered}
 use Rattle.vl_disk.specs.DiskState.{DiskState, IsLawful, IsLawfulFile, empty_disk, created, appended, synced, cut_to, without}
 use Rattle.vl_disk.specs.Lending.{adopted}
 use Rattle.vl_disk.specs.MadeFile.{made}
-use Rattle.vl_disk.specs.laws.Lawful.{adopted_lawful, empty_lawful, made_lawful, created_lawful, appended_lawful, synced_lawful, cut_lawful, without_lawful}
+use Rattle.vl_disk.specs.laws.Lawful.{adopted_lawful, empty_lawful, made_lawful, created_lawful, appended_lawful}
+use Rattle.vl_disk.specs.laws.Lawful.{synced_lawful, cut_lawful, without_lawful}
 use Rattle.vl_mem.specs.declared.event.Event.{Event}
 use Rattle.vl_mem.specs.declared.event.Event.TheVariants.{Found, Create, Append, Sync, Cut, Remove, Adopt}
 use Rattle.vl_mem.specs.Written.{file_written, written_prop}
@@ -26,7 +27,8 @@ abbrev pub replayed : List Event → DiskState → DiskState
 replayed [] disk = disk
 replayed (event ∷ events) disk = replayed events (after_event event disk)
 
-pub replayed-push : (events : List Event) (event : Event) (disk : DiskState) → replayed (events ++ event ∷ []) disk ≡ after_event event (replayed events disk)
+pub replayed-push : (events : List Event) (event : Event) (disk : DiskState)
+    → replayed (events ++ event ∷ []) disk ≡ after_event event (replayed events disk)
 replayed-push [] event disk = refl
 replayed-push (e ∷ events) event disk = replayed-push events event (after_event e disk)
 
@@ -61,7 +63,8 @@ event_lawful (Adopt name written) disk sound lawful = adopted_lawful disk lawful
 replayed_lawful : (events : List Event) (disk : DiskState) → All IsSound events → IsLawful disk → IsLawful (replayed events disk)
 replayed_lawful [] disk sound lawful = lawful
 replayed_lawful (event ∷ events) disk sound lawful =
-    replayed_lawful events (after_event event disk) (All-tail IsSound event events sound) (event_lawful event disk (sound 0 event (omega arith)) lawful)
+    replayed_lawful events (after_event event disk) (All-tail IsSound event events sound)
+    (event_lawful event disk (sound 0 event (omega arith)) lawful)
 
 -- what is there now
 abbrev pub state_after : List Event → DiskState
@@ -77,11 +80,20 @@ same_state : (a b : DiskState) → Some a ≡ Some b → a ≡ b
 same_state a b e = cc
 
 pub told_lawful : (events : List Event) → All IsSound events → (state : DiskState) → Some (state_after events) ≡ Some state → IsLawful state
-told_lawful events sound state is = subst IsLawful (same_state (state_after events) state is) (replayed_lawful events empty_disk sound empty_lawful)
+told_lawful events sound state is = subst IsLawful (same_state (state_after events) state is)
+    (replayed_lawful events empty_disk sound empty_lawful)
 
-pub counts_present : (events : List Event) (state : DiskState) (t : ℕ) → Some (state_after events) ≡ Some state → t ≤ length events → WasSince events t state
-counts_present events state t is before =
-    (length events, before, omega arith, sym (same_state (state_after events) state is) ∙ sym (ap state_after (take_all (length events) events (omega arith))))
+pub counts_present : (events : List Event) (state : DiskState) (t : ℕ) → Some (state_after events) ≡ Some state
+    → t ≤ length events → WasSince events t state
+counts_present events state t is before = (
+  length events,
+  before,
+  omega arith,
+  sym (same_state (state_after events) state is)
+      ∙ sym (ap state_after (take_all (length events) events (omega arith))),
+)
 
-pub only_present : (events : List Event) (state other : DiskState) → Some (state_after events) ≡ Some state → WasSince events (length events) other → other ≡ state
-only_present events state other is was = was.3 ∙ ap state_after (take_all was.0 events (omega (arith, was.1))) ∙ same_state (state_after events) state is
+pub only_present : (events : List Event) (state other : DiskState) → Some (state_after events) ≡ Some state
+    → WasSince events (length events) other → other ≡ state
+only_present events state other is was = was.3 ∙ ap state_after (take_all was.0 events (omega (arith, was.1)))
+    ∙ same_state (state_after events) state is

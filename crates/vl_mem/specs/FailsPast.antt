@@ -101,7 +101,8 @@ stops_after count old new never changes reads =
 
 -- each call counts so
 module _ (old new : MemDisk) (stop : Option ℕ) (past : FailsPast old stop) where
-  pub changed_past : (failed : Type 0) → FollowsPlan (changes_of old) (changes_of new) failed → reads_of new ≡ reads_of old → FailsPast new stop
+  pub changed_past : (failed : Type 0) → FollowsPlan (changes_of old) (changes_of new) failed
+      → reads_of new ≡ reads_of old → FailsPast new stop
   changed_past failed follows reads = record {
     listed = follows.failing ∙ past.listed;
     stops = follows.stop ∙ past.stops;
@@ -130,7 +131,8 @@ module _ (old new : MemDisk) (stop : Option ℕ) (past : FailsPast old stop) whe
   }
 
 -- the faults of such a disk
-pub counted_past : (disk : MemDisk) (stop : Option ℕ) → FailsPast disk stop → CountsPast stop (changes_of disk).listed.calls (faults_of disk)
+pub counted_past : (disk : MemDisk) (stop : Option ℕ) → FailsPast disk stop
+    → CountsPast stop (changes_of disk).listed.calls (faults_of disk)
 counted_past disk stop past = subst (CountsPast stop (changes_of disk).listed.calls) all past.faults
   where
     all : (changes_of disk).listed.faults ≡ faults_of disk

@@ -42,9 +42,11 @@ abbrev pub with_found : List (Name × Vec ℕ Global) → DiskState → DiskStat
 with_found [] disk = disk
 with_found (file ∷ files) disk = with_found files (made file.0 file.1.items disk)
 
-started_by : (files : List (Name × Vec ℕ Global)) (image : Image) (disk : DiskState) → Started image disk → Started (with_files files image) (with_found files disk)
+started_by : (files : List (Name × Vec ℕ Global)) (image : Image) (disk : DiskState) → Started image disk
+    → Started (with_files files image) (with_found files disk)
 started_by [] image disk started = started
-started_by (file ∷ files) image disk started = started_by files (insert image file.0 file.1.items) (made file.0 file.1.items disk) (started_made image disk file.0 file.1.items started)
+started_by (file ∷ files) image disk started = started_by files (insert image file.0 file.1.items)
+    (made file.0 file.1.items disk) (started_made image disk file.0 file.1.items started)
 
 pub starts : (files : List (Name × Vec ℕ Global)) → Started (image_of files) (with_found files empty_disk)
 starts files = started_by files empty empty_disk started_empty

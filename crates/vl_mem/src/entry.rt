@@ -48,7 +48,8 @@ impl Entry {
     ghost use Rattle.vl_mem.specs.Written.{IsDoubled, file_written};
     ghost use Rattle.std.specs.Option.{option_map};
     ghost use Rattle.vl_mem.specs.CrashImage.{left_of};
-    ghost use Rattle.vl_mem.specs.Entry.{Fits, IsBlank, Becomes, KeepsFile, file_of, is_standing, plain, removed_in, slots, spare_of, standing_in};
+    ghost use Rattle.vl_mem.specs.Entry.{Fits, IsBlank, Becomes, KeepsFile, file_of, is_standing, plain, removed_in};
+    ghost use Rattle.vl_mem.specs.Entry.{slots, spare_of, standing_in};
 
     /// An entry of a name of which nothing is known.
     pub fn blank(alloc: Global) -> Self

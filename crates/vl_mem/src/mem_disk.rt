@@ -51,7 +51,8 @@ impl MemDisk {
     ghost use Rattle.vl_mem.specs.ChangePlan.{new_changes, stopping_after};
     ghost use Rattle.vl_mem.specs.CrashImage.{crash_image};
     ghost use Rattle.vl_mem.specs.Kept.{image_of};
-    ghost use Rattle.vl_mem.specs.MemDisk.{state_of, told_by, moment_of, changes_of, reads_of, writers_of, failing_at, KeepsFiles, KeepsWriters};
+    ghost use Rattle.vl_mem.specs.MemDisk.{state_of, told_by, moment_of, changes_of, reads_of, writers_of};
+    ghost use Rattle.vl_mem.specs.MemDisk.{failing_at, KeepsFiles, KeepsWriters};
     ghost use Rattle.vl_disk.specs.declared.name.Name.{Name};
 
     /// An empty disk. Of its changing calls exactly those fail that `faults` lists, by their numbers from 1, and of its
@@ -191,7 +192,9 @@ impl Disk for MemDisk {
     ghost use Rattle.vl_disk.specs.FaultPlan.{new_plan};
     ghost use Rattle.vl_disk.specs.Spare.{IsReady, CanAppend, SameSpare, SameSpareElsewhere, UsesHold};
     ghost use Rattle.vl_mem.specs.Event.{told_lawful, counts_present, only_present};
-    ghost use Rattle.vl_mem.specs.MemDisk.{told_by, room_of, changes_of, reads_of, reads_by, writers_of, failing_at, writes_of, file_by, CountsChange, CountsRead, KeepsOtherWriters, KeepsWriters};
+    ghost use Rattle.vl_mem.specs.MemDisk.{told_by, room_of, changes_of, reads_of, reads_by, writers_of, failing_at};
+    ghost use Rattle.vl_mem.specs.MemDisk.{writes_of, file_by, CountsChange, CountsRead, KeepsOtherWriters};
+    ghost use Rattle.vl_mem.specs.MemDisk.{KeepsWriters};
     ghost use Rattle.vl_mem.specs.FailsPast.{counted_past};
 
     ghost lawful = { λ m. told_lawful m.events.items m.kept.sound };

@@ -25,10 +25,13 @@ pub record IsOver (run front : List Entry) (runs rest : List (List Entry)) : Typ
   pub entries : in_order (front ++ all_of rest) ≡ in_order (run ++ all_of runs)
   pub some : 0 < length front
 
-pub over_next : (run front now : List Entry) (runs : List (List Entry)) (i : ℕ) (next : List Entry) → i < length runs → next ≡ get_or runs i next
+pub over_next : (run front now : List Entry) (runs : List (List Entry)) (i : ℕ) (next : List Entry) → i < length runs
+    → next ≡ get_or runs i next
     → IsOver run front runs (drop i runs) → now ≡ in_order (front ++ next) → IsOver run now runs (drop (i + 1) runs)
 over_next run front now runs i next within is so joined = subst (λ l. IsOver run l runs (drop (i + 1) runs)) (sym joined) (record {
-  entries = in_order-front (front ++ next) (all_of (drop (i + 1) runs)) ∙ ap in_order (append_assoc front next (all_of (drop (i + 1) runs))) ∙ ap (λ l. in_order (front ++ all_of l)) (sym (drop_next runs i next within is)) ∙ so.entries;
+  entries = in_order-front (front ++ next) (all_of (drop (i + 1) runs))
+      ∙ ap in_order (append_assoc front next (all_of (drop (i + 1) runs)))
+      ∙ ap (λ l. in_order (front ++ all_of l)) (sym (drop_next runs i next within is)) ∙ so.entries;
   some = some_joined front next so.some;
 })
 

@@ -1,5 +1,6 @@
 -- Laws of a memtable's runs: that they are few, and that each goes along the way of its cursor.
-use Rattle.std.proofs.Common.{◌≡◌, ℕ, zero, suc, ◌+◌, ◌*◌, ◌-◌, ◌^◌, ◌<◌, ◌≤◌, Bool, true, cond, List, [], ◌∷◌, ◌++◌, length, map, reverse, refl, ap, sym, ◌∙◌, subst, arith, length-append}
+use Rattle.std.proofs.Common.{◌≡◌, ℕ, zero, suc, ◌+◌, ◌*◌, ◌-◌, ◌^◌, ◌<◌, ◌≤◌, Bool, true, cond, List, [], ◌∷◌, ◌++◌}
+use Rattle.std.proofs.Common.{length, map, reverse, refl, ap, sym, ◌∙◌, subst, arith, length-append}
 use Rattle.std.proofs.lemmas.List.{reverse-append}
 use Rattle.std.proofs.lemmas.List.Sums.{sum_by-cons}
 use Rattle.std.proofs.lemmas.Bool.{and_parts}
@@ -59,13 +60,15 @@ few (n ∷ ns) is some =
     let first = some.0 in
     let parts : n ≡ 1 + (n - 1) = omega arith in
     let most = doubled n ns is in
-    let one = less 1 (n - 1) (2 ^ length (n ∷ ns)) (sum (n ∷ ns)) (some_power (length (n ∷ ns))) (subst (λ k. k * 2 ^ length (n ∷ ns) ≤ sum (n ∷ ns) + k) parts most) in
+    let one = less 1 (n - 1) (2 ^ length (n ∷ ns)) (sum (n ∷ ns)) (some_power (length (n ∷ ns)))
+    (subst (λ k. k * 2 ^ length (n ∷ ns) ≤ sum (n ∷ ns) + k) parts most) in
     omega arith
 
 sum-lengths : (runs : List (List Entry)) → sum (map length runs) ≡ length (all_of runs)
 sum-lengths [] = refl
 sum-lengths (run ∷ runs) =
-    sum_by-cons (λ k. k) (length run) (map length runs) ∙ ap (λ n. length run + n) (sum-lengths runs) ∙ sym (length-append run (all_of runs))
+    sum_by-cons (λ k. k) (length run) (map length runs) ∙ ap (λ n. length run + n) (sum-lengths runs)
+    ∙ sym (length-append run (all_of runs))
 
 some-lengths : (runs : List (List Entry)) → AllByRecursion (λ run. 0 < length run) runs → AllByRecursion (λ n. 0 < n) (map length runs)
 some-lengths [] some = tt
@@ -76,7 +79,8 @@ few-runs held runs is are = subst HasFewRuns (sym is) (record {
   some = some-lengths runs are.some;
   double = are.double;
   whole = sum-lengths runs ∙ sym are.apart;
-  few = let most = few (map length runs) are.double (some-lengths runs are.some) in let whole = sum-lengths runs ∙ sym are.apart in omega arith;
+  few = let most = few (map length runs) are.double (some-lengths runs are.some) in let whole = sum-lengths runs
+      ∙ sym are.apart in omega arith;
 })
 
 -- ---- along a way
@@ -85,7 +89,8 @@ first-before : (e : Entry) (es : List Entry) → IsBefore e es → IsFirst Up e 
 first-before e [] before = tt
 first-before e (f ∷ fs) before = (ap is_gt before.0, first-before e fs before.1)
 
-along-last : (es : List Entry) (e : Entry) → IsAlong Down es → AllByRecursion (λ f. is_gt (way_cmp Down f e) ≡ false) es → IsAlong Down (es ++ e ∷ [])
+along-last : (es : List Entry) (e : Entry) → IsAlong Down es → AllByRecursion (λ f. is_gt (way_cmp Down f e) ≡ false) es
+    → IsAlong Down (es ++ e ∷ [])
 along-last [] e along behind = (tt, tt)
 along-last (f ∷ fs) e along behind = (first-more fs along.0, along-last fs e along.1 behind.1)
   where
@@ -107,7 +112,8 @@ along-rising Up (e ∷ es) rising = (first-before e es rising.0, along-rising Up
 along-rising Down [] rising = tt
 along-rising Down (e ∷ es) rising =
     subst (IsAlong Down) (sym (reverse-append (e ∷ []) es))
-    (along-last (reverse es) e (along-rising Down es rising.1) (all-reverse (λ f. is_gt (entry_cmp e f) ≡ false) es (first-before e es rising.0)))
+    (along-last (reverse es) e (along-rising Down es rising.1)
+    (all-reverse (λ f. is_gt (entry_cmp e f) ≡ false) es (first-before e es rising.0)))
 
 -- entries in order go along either way
 pub along-along : (way : Way) (es : List Entry) → IsInOrder es → IsAlong way (along way es)
@@ -118,7 +124,8 @@ all_along way [] rising = tt
 all_along way (run ∷ runs) rising = (along-along way run rising.0, all_along way runs rising.1)
 
 -- what cursors over all runs give
-pub give_all : (way : Way) (held : Contents) (runs left : List (List Entry)) → held ≡ contents_of runs → AreRuns runs → left ≡ map (along way) runs
+pub give_all : (way : Way) (held : Contents) (runs left : List (List Entry)) → held ≡ contents_of runs → AreRuns runs
+    → left ≡ map (along way) runs
     → GiveAll way held left
 give_all way held runs left is are each = record {
   runs = runs;

@@ -1,5 +1,7 @@
 -- Laws of lists of runs.
-use Rattle.std.proofs.Common.{◌≡◌, ℕ, zero, suc, ◌+◌, ◌*◌, ◌<◌, ◌≤◌, Bool, true, false, cond, ◌&&◌, List, [], ◌∷◌, ◌++◌, length, map, take, drop, refl, ap, sym, ◌∙◌, subst, arith, append_assoc, length-append, get_or, Option, Some, None}
+use Rattle.std.proofs.Common.{◌≡◌, ℕ, zero, suc, ◌+◌, ◌*◌, ◌<◌, ◌≤◌, Bool, true, false, cond, ◌&&◌, List, [], ◌∷◌}
+use Rattle.std.proofs.Common.{◌++◌, length, map, take, drop, refl, ap, sym, ◌∙◌, subst, arith, append_assoc}
+use Rattle.std.proofs.Common.{length-append, get_or, Option, Some, None}
 use Rattle.std.specs.Prelude.{◌==◌, IsTrue, nat_lt, nat_le}
 use Rattle.std.specs.List.{AllByRecursion}
 use Rattle.std.specs.Ordering.{is_eq}
@@ -66,7 +68,8 @@ length-put-new e (f ∷ fs) none = by (length-put-new e fs) (entry_cmp e f) refl
     there : (b : Bool) → is_at e.key e.version f ≡ b → cond b (Some f) (exact fs e.key e.version) ≡ None
     there b is = ap (λ b. cond b (Some f) (exact fs e.key e.version)) (sym is) ∙ none
 
-    by : (exact fs e.key e.version ≡ None → length (put e fs) ≡ length fs + 1) → (r : Ordering) → entry_cmp e f ≡ r → length (put e (f ∷ fs)) ≡ length (f ∷ fs) + 1
+    by : (exact fs e.key e.version ≡ None → length (put e fs) ≡ length fs + 1) → (r : Ordering) → entry_cmp e f ≡ r
+        → length (put e (f ∷ fs)) ≡ length (f ∷ fs) + 1
     by later Less is = ap length (put-less e f fs is) ∙ (omega arith)
     by later Equal is = let some = there true (at Equal is) in absurd cc
     by later Greater is =
@@ -96,9 +99,21 @@ apart-new (e ∷ es) all up new apart =
 joined-order : (front run rest : List Entry) → in_order (in_order (front ++ run) ++ rest) ≡ in_order (front ++ (run ++ rest))
 joined-order front run rest = in_order-front (front ++ run) rest ∙ ap in_order (append_assoc front run rest)
 
-pub joined-length : (front run rest : List Entry) → IsApart (front ++ (run ++ rest)) → length (in_order (front ++ run)) ≡ length front + length run
+pub joined-length : (front run rest : List Entry) → IsApart (front ++ (run ++ rest))
+    → length (in_order (front ++ run)) ≡ length front + length run
 joined-length front run rest apart =
-    omega (arith, apart, length-in_order (front ++ run), length-in_order (in_order (front ++ run) ++ rest), ap length (joined-order front run rest), length-append front (run ++ rest), length-append run rest, length-append front run, length-append (in_order (front ++ run)) rest)
+    omega (
+      arith,
+      apart,
+      length-in_order (front ++ run),
+      length-in_order (in_order (front ++ run) ++ rest),
+      ap length
+          (joined-order front run rest),
+      length-append front (run ++ rest),
+      length-append run rest,
+      length-append front run,
+      length-append (in_order (front ++ run)) rest,
+    )
 
 -- what is joined so far, and what is still to come
 pub record Joins (run front : List Entry) (runs rest : List (List Entry)) : Type 0 where
@@ -115,12 +130,24 @@ joins_next run front runs rest next now so less is =
       lengths =
           ap (λ n. lengths_with n (map length rest)) (joined-length front next (all_of rest) so.apart)
           ∙ sym (lengths_with-joins (length front) (length next) (map length rest) less) ∙ so.lengths;
-      apart = omega (arith, so.apart, joined-length front next (all_of rest) so.apart, ap length (joined-order front next (all_of rest)), length-append front (next ++ all_of rest), length-append next (all_of rest), length-append (in_order (front ++ next)) (all_of rest));
+      apart = omega (
+        arith,
+        so.apart,
+        joined-length front next (all_of rest) so.apart,
+        ap length
+            (joined-order front next (all_of rest)),
+        length-append front (next ++ all_of rest),
+        length-append next
+            (all_of rest),
+        length-append (in_order (front ++ next)) (all_of rest),
+      );
       some = omega (arith, so.some, joined-length front next (all_of rest) so.apart);
     })
 
-pub joins_first : (run : List Entry) (runs : List (List Entry)) → IsInOrder run → IsNewTo (in_order (all_of runs)) run → AreRuns runs → 0 < length run → Joins run run runs runs
-joins_first run runs up new are some = record { some = some; entries = refl; lengths = refl; apart = apart-new run (all_of runs) (rising run up) new are.apart }
+pub joins_first : (run : List Entry) (runs : List (List Entry)) → IsInOrder run → IsNewTo (in_order (all_of runs)) run
+    → AreRuns runs → 0 < length run → Joins run run runs runs
+joins_first run runs up new are some = record
+    { some = some; entries = refl; lengths = refl; apart = apart-new run (all_of runs) (rising run up) new are.apart }
 
 abbrev pub IsFinished : List Entry → List (List Entry) → Type 0
 IsFinished front rest = lengths_with (length front) (map length rest) ≡ length front ∷ map length rest
@@ -133,7 +160,9 @@ pub joined-lengths : (run front : List Entry) (runs rest : List (List Entry)) �
     → map length (front ∷ rest) ≡ lengths_with (length run) (map length runs)
 joined-lengths run front runs rest so finished = sym finished ∙ so.lengths
 
-pub are_joined : (run front : List Entry) (runs rest : List (List Entry)) → Joins run front runs rest → IsFinished front rest → AreRuns runs → IsInOrder front → AllByRecursion IsInOrder rest → AllByRecursion (λ r. 0 < length r) rest → AreRuns (front ∷ rest)
+pub are_joined : (run front : List Entry) (runs rest : List (List Entry)) → Joins run front runs rest
+    → IsFinished front rest → AreRuns runs → IsInOrder front → AllByRecursion IsInOrder rest
+    → AllByRecursion (λ r. 0 < length r) rest → AreRuns (front ∷ rest)
 are_joined run front runs rest so finished are here there some = record {
   some = (so.some, some);
   rising = (here, there);
@@ -172,7 +201,8 @@ module _ (key : List ℕ) (number : ℕ) where
       ap (λ x. or_else x (exact (all_of runs) key number)) (found ∙ ap (λ l. exact l key number) is)
       ∙ sym (exact-append key number first (all_of runs))
   exact-found (first ∷ runs) (suc i) run e within is none found =
-      let parts = first_none-parts (exact first key number) (exact (all_of (take i runs)) key number) (sym (exact-append key number first (all_of (take i runs))) ∙ none) in
+      let parts = first_none-parts (exact first key number) (exact (all_of (take i runs)) key number)
+      (sym (exact-append key number first (all_of (take i runs))) ∙ none) in
       exact-found runs i run e (omega arith) is parts.1 found
       ∙ sym (exact-append key number first (all_of runs) ∙ ap (λ x. or_else x (exact (all_of runs) key number)) parts.0)
 
@@ -204,15 +234,19 @@ module _ where
   finished_next front next rest double = lengths_with-stays (length front) (length next) (map length rest) double
 
   -- no further run joins
-  pub finished_at : (front : List Entry) (runs : List (List Entry)) (i : ℕ) (next : List Entry) → i < length runs → next ≡ get_or runs i next
+  pub finished_at : (front : List Entry) (runs : List (List Entry)) (i : ℕ) (next : List Entry) → i < length runs
+      → next ≡ get_or runs i next
       → 2 * length front ≤ length next → IsFinished front (drop i runs)
-  finished_at front runs i next within is double = subst (IsFinished front) (sym (drop_next runs i next within is)) (finished_next front next (drop (i + 1) runs) double)
+  finished_at front runs i next within is double = subst (IsFinished front) (sym (drop_next runs i next within is))
+      (finished_next front next (drop (i + 1) runs) double)
 
   pub finished_past : (front : List Entry) (runs : List (List Entry)) (i : ℕ) → length runs ≤ i → IsFinished front (drop i runs)
   finished_past front runs i past = subst (IsFinished front) (sym (drop_none runs i past)) refl
 
-  pub joins_at : (run front : List Entry) (runs : List (List Entry)) (i : ℕ) (next now : List Entry) → i < length runs → next ≡ get_or runs i next
-      → Joins run front runs (drop i runs) → length next < 2 * length front → now ≡ in_order (front ++ next) → Joins run now runs (drop (i + 1) runs)
+  pub joins_at : (run front : List Entry) (runs : List (List Entry)) (i : ℕ) (next now : List Entry) → i < length runs
+      → next ≡ get_or runs i next
+      → Joins run front runs (drop i runs) → length next < 2 * length front → now ≡ in_order (front ++ next)
+      → Joins run now runs (drop (i + 1) runs)
   joins_at run front runs i next now within is so less merged =
       joins_next run front runs (drop (i + 1) runs) next now (subst (Joins run front runs) (drop_next runs i next within is) so) less merged
 
@@ -232,5 +266,8 @@ module _ where
   pub is_empty-runs : (runs : List (List Entry)) → AreRuns runs → (b : Bool) (es : List Entry) → b ≡ (length runs == 0)
       → in_order (all_of runs) ≡ es → (IsTrue b → es ≡ []) × (es ≡ [] → IsTrue b)
   is_empty-runs [] are b es is same = (λ yes. sym same, λ none. is)
-  is_empty-runs (run ∷ runs) are b es is same =
-      (λ yes. absurd (not_zero (length runs) (sym is ∙ yes)), λ none. let zero_runs : length (run ∷ runs) ≡ 0 = some_runs (run ∷ runs) are (same ∙ none) in absurd (omega (arith, zero_runs)))
+  is_empty-runs (run ∷ runs) are b es is same = (
+    λ yes. absurd (not_zero (length runs) (sym is ∙ yes)),
+    λ none. let zero_runs : length
+        (run ∷ runs) ≡ 0 = some_runs (run ∷ runs) are (same ∙ none) in absurd (omega (arith, zero_runs)),
+  )

@@ -1,5 +1,7 @@
 -- Laws of merging part by part: what a tree that was just made gives is what a merge of its sources gives.
-use Rattle.std.proofs.Common.{◌≡◌, ℕ, zero, suc, ◌+◌, ◌*◌, ◌-◌, ◌/◌, ◌^◌, ◌≤◌, max, Bool, true, false, cond, List, [], ◌∷◌, ◌++◌, map, refl, ap, sym, ◌∙◌, subst, arith, Option, Some, None, Box, Global, inl, inr}
+use Rattle.std.proofs.Common.{◌≡◌, ℕ, zero, suc, ◌+◌, ◌*◌, ◌-◌, ◌/◌, ◌^◌, ◌≤◌, max, Bool, true, false, cond, List, []}
+use Rattle.std.proofs.Common.{◌∷◌, ◌++◌, map, refl, ap, sym, ◌∙◌, subst, arith, Option, Some, None, Box, Global, inl}
+use Rattle.std.proofs.Common.{inr}
 use Rattle.std.proofs.lemmas.List.{map-append, append_assoc, length-append}
 use Rattle.std.proofs.lemmas.List.Sums.{sum_by-append}
 use Rattle.std.specs.List.{sum_by}
@@ -24,11 +26,13 @@ turned_way : (way : Way) (e f : Entry) → is_gt (way_cmp way e f) ≡ true → 
 turned_way way e f is = ap is_gt ((way_total way).antisymm f e) ∙ not_after (way_cmp way e f) is
 
 -- two entries of which one comes behind the other may be placed one after the other either way
-place-apart : (way : Way) (e f : Entry) (gs : List Entry) → is_gt (way_cmp way e f) ≡ true → place way f (place way e gs) ≡ place way e (place way f gs)
+place-apart : (way : Way) (e f : Entry) (gs : List Entry) → is_gt (way_cmp way e f) ≡ true
+    → place way f (place way e gs) ≡ place way e (place way f gs)
 place-apart way e f [] behind = place-here way f e [] (turned_way way e f behind) ∙ sym (place-later way e f [] behind)
 place-apart way e f (g ∷ gs) behind = by (place-apart way e f gs behind) (is_gt (way_cmp way f g)) (is_gt (way_cmp way e g)) refl refl
   where
-    by : place way f (place way e gs) ≡ place way e (place way f gs) → (r s : Bool) → is_gt (way_cmp way f g) ≡ r → is_gt (way_cmp way e g) ≡ s
+    by : place way f (place way e gs) ≡ place way e (place way f gs) → (r s : Bool) → is_gt (way_cmp way f g) ≡ r
+        → is_gt (way_cmp way e g) ≡ s
         → place way f (place way e (g ∷ gs)) ≡ place way e (place way f (g ∷ gs))
     by later true s fg eg =
         let behind_g = behind_both behind fg in
@@ -39,10 +43,12 @@ place-apart way e f (g ∷ gs) behind = by (place-apart way e f gs behind) (is_g
         behind_both ef fg = behind_more way g f e fg (turned_way way e f ef)
     by later false true fg eg =
         ap (place way f) (place-later way e g gs eg) ∙ place-here way f g (place way e gs) fg
-        ∙ sym (ap (place way e) (place-here way f g gs fg) ∙ place-later way e f (g ∷ gs) behind ∙ ap (λ l. f ∷ l) (place-later way e g gs eg))
+        ∙ sym (ap (place way e) (place-here way f g gs fg) ∙ place-later way e f (g ∷ gs) behind
+        ∙ ap (λ l. f ∷ l) (place-later way e g gs eg))
     by later false false fg eg =
         ap (place way f) (place-here way e g gs eg) ∙ place-here way f e (g ∷ gs) (turned_way way e f behind)
-        ∙ sym (ap (place way e) (place-here way f g gs fg) ∙ place-later way e f (g ∷ gs) behind ∙ ap (λ l. f ∷ l) (place-here way e g gs eg))
+        ∙ sym (ap (place way e) (place-here way f g gs fg) ∙ place-later way e f (g ∷ gs) behind
+        ∙ ap (λ l. f ∷ l) (place-here way e g gs eg))
 
 merged-place : (way : Way) (e : Entry) (es gs : List Entry) → merged way (place way e es ++ gs) ≡ place way e (merged way (es ++ gs))
 merged-place way e [] gs = refl
@@ -78,32 +84,38 @@ join-more es None t = refl
 join-more es (Some fs) None = refl
 join-more es (Some fs) (Some gs) = ap Some (sym (append_assoc es fs gs))
 
-end_to_end-append : (way : Way) (ls ms : List (Option (List Entry))) → end_to_end way (ls ++ ms) ≡ join (end_to_end way ls) (end_to_end way ms)
+end_to_end-append : (way : Way) (ls ms : List (Option (List Entry)))
+    → end_to_end way (ls ++ ms) ≡ join (end_to_end way ls) (end_to_end way ms)
 end_to_end-append way [] ms = nothing (end_to_end way ms)
   where
     nothing : (t : Option (List Entry)) → t ≡ join (Some []) t
     nothing None = refl
     nothing (Some es) = refl
 end_to_end-append way (None ∷ ls) ms = refl
-end_to_end-append way (Some es ∷ ls) ms = ap (λ t. cond (is_along way es) (option_map (λ fs. es ++ fs) t) None) (end_to_end-append way ls ms) ∙ by (is_along way es)
+end_to_end-append way (Some es ∷ ls) ms = ap (λ t. cond (is_along way es) (option_map (λ fs. es ++ fs) t) None)
+    (end_to_end-append way ls ms) ∙ by (is_along way es)
   where
-    by : (b : Bool) → cond b (option_map (λ fs. es ++ fs) (join (end_to_end way ls) (end_to_end way ms))) None ≡ join (cond b (option_map (λ fs. es ++ fs) (end_to_end way ls)) None) (end_to_end way ms)
+    by : (b : Bool) → cond b (option_map (λ fs. es ++ fs) (join (end_to_end way ls) (end_to_end way ms))) None ≡ join
+        (cond b (option_map (λ fs. es ++ fs) (end_to_end way ls)) None) (end_to_end way ms)
     by true = join-more es (end_to_end way ls) (end_to_end way ms)
     by false = refl
 
 -- a merge of two merges is the merge of all their sources
-pub merge_of-append : (way : Way) (ls ms : List (Option (List Entry))) → pair_of way (merge_of way ls) (merge_of way ms) ≡ merge_of way (ls ++ ms)
+pub merge_of-append : (way : Way) (ls ms : List (Option (List Entry)))
+    → pair_of way (merge_of way ls) (merge_of way ms) ≡ merge_of way (ls ++ ms)
 merge_of-append way ls ms = by (end_to_end way ls) (end_to_end way ms) ∙ sym (ap (option_map (merged way)) (end_to_end-append way ls ms))
   where
     untold : (b : Bool) → option_map (merged way) (cond b None None) ≡ None
     untold true = refl
     untold false = refl
 
-    by : (s t : Option (List Entry)) → pair_of way (option_map (merged way) s) (option_map (merged way) t) ≡ option_map (merged way) (join s t)
+    by : (s t : Option (List Entry)) → pair_of way (option_map (merged way) s) (option_map (merged way) t) ≡ option_map
+        (merged way) (join s t)
     by None t = refl
     by (Some es) None = untold (is_along way (merged way es))
     by (Some es) (Some fs) =
-        pair-join way (merged way es) (merged way fs) (along-is way (merged way es) (along-merged way es)) (along-is way (merged way fs) (along-merged way fs))
+        pair-join way (merged way es) (merged way fs) (along-is way (merged way es) (along-merged way es))
+        (along-is way (merged way fs) (along-merged way fs))
         ∙ ap Some (merged-front way es (merged way fs) ∙ merged-back way es fs)
 
 -- ---- faults of sources
@@ -120,7 +132,8 @@ module _ {C F : Type 0} (may_fail : C → F → Type 0) (fault : F) where
 -- ---- a tree that was just made
 
 module _ {C : Type 0} where
-  pub left-planted : (left : C → Option (List Entry)) (way : Way) (tree : Tree C) → IsUnread tree → tree_left left way tree ≡ merge_of way (map left (leaves tree))
+  pub left-planted : (left : C → Option (List Entry)) (way : Way) (tree : Tree C) → IsUnread tree
+      → tree_left left way tree ≡ merge_of way (map left (leaves tree))
   left-planted left way Nothing unread = refl
   left-planted left way (Source c) unread = refl
   left-planted left way (Two' p newer first q older second) unread =

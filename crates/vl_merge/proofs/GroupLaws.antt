@@ -30,7 +30,8 @@ between Less s is here there = absurd cc
 between Equal s is here there = refl
 between Greater s is here there = absurd cc
 
-keys_along : (way : Way) (e f g : Entry) → is_gt (way_cmp way e f) ≡ false → is_gt (way_cmp way f g) ≡ false → e.key ≡ g.key → eq_by_cmp key_cmp e.key f.key ≡ true
+keys_along : (way : Way) (e f g : Entry) → is_gt (way_cmp way e f) ≡ false → is_gt (way_cmp way f g) ≡ false
+    → e.key ≡ g.key → eq_by_cmp key_cmp e.key f.key ≡ true
 keys_along Up e f g first later same =
     between (key_cmp e.key f.key) (key_cmp f.key e.key) (nat_list_cmp_total.antisymm f.key e.key)
     (not_greater (key_cmp e.key f.key) (nat_cmp f.version e.version) first)
@@ -40,13 +41,15 @@ keys_along Down e f g first later same =
     (ap (λ k. is_gt (key_cmp k f.key)) same ∙ not_greater (key_cmp g.key f.key) (nat_cmp f.version g.version) later)
     (not_greater (key_cmp f.key e.key) (nat_cmp e.version f.version) first)
 
-without-along : (way : Way) (e f : Entry) (fs : List Entry) → is_gt (way_cmp way e f) ≡ false → eq_by_cmp key_cmp e.key f.key ≡ false → IsFirst way f fs
+without-along : (way : Way) (e f : Entry) (fs : List Entry) → is_gt (way_cmp way e f) ≡ false
+    → eq_by_cmp key_cmp e.key f.key ≡ false → IsFirst way f fs
     → is_without e.key fs ≡ true
 without-along way e f [] before apart first = refl
 without-along way e f (g ∷ fs) before apart first = by (without-along way e f fs before apart first.1) (eq_by_cmp key_cmp e.key g.key) refl
   where
     by : is_without e.key fs ≡ true → (b : Bool) → eq_by_cmp key_cmp e.key g.key ≡ b → is_without e.key (g ∷ fs) ≡ true
-    by later true is = let same : eq_by_cmp key_cmp e.key f.key ≡ true = keys_along way e f g before first.0 (same_key e.key g.key is) in absurd (cc)
+    by later true is = let same : eq_by_cmp key_cmp e.key f.key ≡ true = keys_along way e f g before first.0
+        (same_key e.key g.key is) in absurd (cc)
     by later false is = ap (λ b. not b && is_without e.key fs) is ∙ later
 
 joined-along : (way : Way) (e : Entry) (es : List Entry) → IsFirst way e es → IsAlong way es → is_joined e.key es ≡ true
@@ -70,9 +73,11 @@ merge_of-along way None es is = absurd (none_some is)
 merge_of-along way (Some all) es is = let same : merged way all ≡ es = cc in subst (IsAlong way) same (along-merged way all)
 
 module _ {C : Type 0} where
-  pub left-grouped : (left : C → Option (List Entry)) (way : Way) (tree : Tree C) (es : List Entry) → tree_left left way tree ≡ Some es → is_grouped es ≡ true
+  pub left-grouped : (left : C → Option (List Entry)) (way : Way) (tree : Tree C) (es : List Entry)
+      → tree_left left way tree ≡ Some es → is_grouped es ≡ true
   left-grouped left way Nothing es is = let same : [] ≡ es = cc in ap is_grouped (sym same)
   left-grouped left way (Source c) es is = grouped-along way es (merge_of-along way (end_to_end way (left c ∷ [])) es is)
   left-grouped left way (Two' p newer first q older second) es is =
       grouped-along way es
-      (merge_of-along way (end_to_end way (left_of first (tree_left left way newer) ∷ left_of second (tree_left left way older) ∷ [])) es is)
+      (merge_of-along way (end_to_end way
+      (left_of first (tree_left left way newer) ∷ left_of second (tree_left left way older) ∷ [])) es is)

@@ -20,7 +20,8 @@ use Rattle.vl_merge.specs.Merging.{place, merged, IsFirst, IsAlong}
 use Rattle.vl_model.specs.Order.{way_cmp}
 
 entry_total : IsTotalOrder entry_cmp
-entry_total = then_total (on_total (λ (e : Entry). e.key) nat_list_cmp_total) (back_total (on_total (λ (e : Entry). e.version) nat_cmp_total))
+entry_total = then_total (on_total (λ (e : Entry). e.key) nat_list_cmp_total)
+    (back_total (on_total (λ (e : Entry). e.version) nat_cmp_total))
 
 pub way_total : (way : Way) → IsTotalOrder (way_cmp way)
 way_total Up = entry_total
@@ -79,7 +80,8 @@ along-place way e (f ∷ fs) are = by (along-place way e fs are.1) (is_gt (way_c
     by : IsAlong way (place way e fs) → (b : Bool) → is_gt (way_cmp way e f) ≡ b → IsAlong way (place way e (f ∷ fs))
     by later true is =
         let behind : is_gt (way_cmp way f e) ≡ false = ap is_gt ((way_total way).antisymm f e) ∙ not_after (way_cmp way e f) is in
-        subst (IsAlong way) (sym (place-later way e f fs is)) (all-place (λ g. is_gt (way_cmp way f g) ≡ false) way e fs behind are.0, later)
+        subst (IsAlong way) (sym (place-later way e f fs is))
+        (all-place (λ g. is_gt (way_cmp way f g) ≡ false) way e fs behind are.0, later)
     by later false is = subst (IsAlong way) (sym (place-here way e f fs is)) ((is, first-all way e f fs is are.0), are)
 
 pub along-merged : (way : Way) (es : List Entry) → IsAlong way (merged way es)
@@ -95,7 +97,8 @@ at_tied : (key : List ℕ) (version : ℕ) (e f : Entry) → is_at key version e
 at_tied key version e f at_e at_f =
     let of_e = and_parts (eq_by_cmp key_cmp key e.key) (e.version == version) at_e in
     let of_f = and_parts (eq_by_cmp key_cmp key f.key) (f.version == version) at_f in
-    let keys : key_cmp e.key f.key ≡ Equal = ap (key_cmp e.key) (sym (same_key key f.key of_f.0) ∙ same_key key e.key of_e.0) ∙ key_tied e.key in
+    let keys : key_cmp e.key f.key ≡ Equal = ap (key_cmp e.key)
+    (sym (same_key key f.key of_f.0) ∙ same_key key e.key of_e.0) ∙ key_tied e.key in
     let versions : f.version ≡ e.version = (let a = of_e.1 in let b = of_f.1 in grind (arith, nat_tests)) in
     ap (λ r. ordering_then r (nat_cmp f.version e.version)) keys ∙ tied f.version e.version versions
 
@@ -104,8 +107,10 @@ module _ (key : List ℕ) (number : ℕ) where
   winner-swap : (e f : Entry) (gs : List Entry) → entry_cmp e f ≡ Greater → winner (f ∷ e ∷ gs) key number ≡ winner (e ∷ f ∷ gs) key number
   winner-swap e f gs greater =
       let two : winner (f ∷ e ∷ []) key number ≡ winner (e ∷ f ∷ []) key number
-      = ap (λ l. winner l key number) (sym (ap (λ r. by_order r (e ∷ f ∷ []) (e ∷ []) (f ∷ e ∷ [])) greater)) ∙ winner-put key number e (f ∷ []) in
-      winner-append key number (f ∷ e ∷ []) gs ∙ ap (λ w. newest_of w (winner gs key number)) two ∙ sym (winner-append key number (e ∷ f ∷ []) gs)
+      = ap (λ l. winner l key number) (sym (ap (λ r. by_order r (e ∷ f ∷ []) (e ∷ []) (f ∷ e ∷ [])) greater))
+      ∙ winner-put key number e (f ∷ []) in
+      winner-append key number (f ∷ e ∷ []) gs ∙ ap (λ w. newest_of w (winner gs key number)) two
+      ∙ sym (winner-append key number (e ∷ f ∷ []) gs)
 
   exact-swap : (e f : Entry) (gs : List Entry) → entry_cmp e f ≡ Greater → exact (f ∷ e ∷ gs) key number ≡ exact (e ∷ f ∷ gs) key number
   exact-swap e f gs greater = by (is_at key number e) (is_at key number f) refl refl
@@ -129,7 +134,8 @@ module _ (look_up : List Entry → Option Entry) (add : Entry → Option Entry �
   found-place way e [] = refl
   found-place way e (f ∷ fs) = by (found-place way e fs) (is_gt (way_cmp way e f)) refl
     where
-      by : look_up (place way e fs) ≡ look_up (e ∷ fs) → (b : Bool) → is_gt (way_cmp way e f) ≡ b → look_up (place way e (f ∷ fs)) ≡ look_up (e ∷ f ∷ fs)
+      by : look_up (place way e fs) ≡ look_up (e ∷ fs) → (b : Bool) → is_gt (way_cmp way e f) ≡ b
+          → look_up (place way e (f ∷ fs)) ≡ look_up (e ∷ f ∷ fs)
       by later true is =
           ap look_up (place-later way e f fs is) ∙ adds f (place way e fs) ∙ ap (add f) later ∙ sym (adds f (e ∷ fs))
           ∙ swaps_way way e f fs (greater (way_cmp way e f) is)
@@ -137,11 +143,13 @@ module _ (look_up : List Entry → Option Entry) (add : Entry → Option Entry �
 
   found-merged : (way : Way) (es : List Entry) → look_up (merged way es) ≡ look_up es
   found-merged way [] = refl
-  found-merged way (e ∷ es) = found-place way e (merged way es) ∙ adds e (merged way es) ∙ ap (add e) (found-merged way es) ∙ sym (adds e es)
+  found-merged way (e ∷ es) = found-place way e (merged way es) ∙ adds e (merged way es)
+      ∙ ap (add e) (found-merged way es) ∙ sym (adds e es)
 
 pub winner-merged : (way : Way) (es : List Entry) (key : List ℕ) (number : ℕ) → winner (merged way es) key number ≡ winner es key number
 winner-merged way es key number =
-    found-merged (λ l. winner l key number) (λ e w. newest_of (only_if (counts key number e) e) w) (λ e es. refl) (winner-swap key number) way es
+    found-merged (λ l. winner l key number) (λ e w. newest_of (only_if (counts key number e) e) w) (λ e es. refl)
+    (winner-swap key number) way es
 
 pub exact-merged : (way : Way) (es : List Entry) (key : List ℕ) (version : ℕ) → exact (merged way es) key version ≡ exact es key version
 exact-merged way es key version =
@@ -158,6 +166,7 @@ place-first way e (f ∷ fs) first = place-here way e f fs first.0
 pub merged-first : (way : Way) (newer : List Entry) (e : Entry) (rest : List Entry)
     → AllByRecursion (λ f. is_gt (way_cmp way f e) ≡ true) newer → IsFirst way e rest
     → merged way (newer ++ e ∷ rest) ≡ e ∷ merged way (newer ++ rest)
-merged-first way [] e rest before first = place-first way e (merged way rest) (all-merged (λ f. is_gt (way_cmp way e f) ≡ false) way rest first)
+merged-first way [] e rest before first = place-first way e (merged way rest)
+    (all-merged (λ f. is_gt (way_cmp way e f) ≡ false) way rest first)
 merged-first way (f ∷ newer) e rest before first =
     ap (place way f) (merged-first way newer e rest before.1 first) ∙ place-later way f e (merged way (newer ++ rest)) before.0

@@ -1,5 +1,6 @@
 -- What is visible, key by key and in order.
-use Rattle.std.proofs.Common.{◌≡◌, ℕ, Bool, true, false, cond, not, ◌&&◌, ◌||◌, List, [], ◌∷◌, ◌++◌, refl, ap, sym, ◌∙◌, subst, append-nil, Option, Some, None}
+use Rattle.std.proofs.Common.{◌≡◌, ℕ, Bool, true, false, cond, not, ◌&&◌, ◌||◌, List, [], ◌∷◌, ◌++◌, refl, ap, sym}
+use Rattle.std.proofs.Common.{◌∙◌, subst, append-nil, Option, Some, None}
 use Rattle.std.proofs.lemmas.Bool.{and_parts}
 use Rattle.std.proofs.lemmas.List.Elements.{filter-append}
 use Rattle.std.specs.Prelude.{nat_le}
@@ -33,9 +34,11 @@ newest-has P (Some e) (Some f) of_a of_b = elim (nat_le f.version e.version) as 
   | false ↦ of_b
 ]
 
-winner-has : (P : Entry → Type 0) (es : List Entry) (key : List ℕ) (number : ℕ) → AllByRecursion (λ e. counts key number e ≡ true → P e) es → HasIt P (winner es key number)
+winner-has : (P : Entry → Type 0) (es : List Entry) (key : List ℕ) (number : ℕ)
+    → AllByRecursion (λ e. counts key number e ≡ true → P e) es → HasIt P (winner es key number)
 winner-has P [] key number all = tt
-winner-has P (e ∷ es) key number all = newest-has P (only_if (counts key number e) e) (winner es key number) (by (counts key number e) refl) (winner-has P es key number all.1)
+winner-has P (e ∷ es) key number all = newest-has P (only_if (counts key number e) e) (winner es key number)
+    (by (counts key number e) refl) (winner-has P es key number all.1)
   where
     by : (b : Bool) → counts key number e ≡ b → HasIt P (only_if b e)
     by true is = all.0 is
@@ -67,20 +70,27 @@ all-visible P number es all = over (keys_at number es)
     over [] = tt
     over (k ∷ ks) =
         all-join P (shown (winner es k number)) (flat_map (λ k. shown (winner es k number)) ks)
-        (shown-has P (winner es k number) (winner-has P es k number (all-weaker P (λ e. counts k number e ≡ true → P e) es (λ e has _. has) all)))
+        (shown-has P (winner es k number)
+        (winner-has P es k number (all-weaker P (λ e. counts k number e ≡ true → P e) es (λ e has _. has) all)))
         (over ks)
 
 -- ---- key by key
 
 module _ (key : List ℕ) where
-  of_key-all : (b : Bool) (es : List Entry) → AllByRecursion (λ e. is_key key e.key ≡ b) es → filter (λ (e : Entry). is_key key e.key) es ≡ cond b es []
+  of_key-all : (b : Bool) (es : List Entry) → AllByRecursion (λ e. is_key key e.key ≡ b) es
+      → filter (λ (e : Entry). is_key key e.key) es ≡ cond b es []
   of_key-all true [] all = refl
   of_key-all false [] all = refl
-  of_key-all true (e ∷ es) all = ap (λ b. cond b (e ∷ filter (λ (e : Entry). is_key key e.key) es) (filter (λ (e : Entry). is_key key e.key) es)) all.0 ∙ ap (λ l. e ∷ l) (of_key-all true es all.1)
-  of_key-all false (e ∷ es) all = ap (λ b. cond b (e ∷ filter (λ (e : Entry). is_key key e.key) es) (filter (λ (e : Entry). is_key key e.key) es)) all.0 ∙ of_key-all false es all.1
+  of_key-all true (e ∷ es) all = ap
+      (λ b. cond b (e ∷ filter (λ (e : Entry). is_key key e.key) es) (filter (λ (e : Entry). is_key key e.key) es)) all.0
+      ∙ ap (λ l. e ∷ l) (of_key-all true es all.1)
+  of_key-all false (e ∷ es) all = ap
+      (λ b. cond b (e ∷ filter (λ (e : Entry). is_key key e.key) es) (filter (λ (e : Entry). is_key key e.key) es)) all.0
+      ∙ of_key-all false es all.1
 
   module _ (number : ℕ) (es : List Entry) where
-    one-key : (k : List ℕ) → filter (λ (e : Entry). is_key key e.key) (shown (winner es k number)) ≡ cond (is_key key k) (shown (winner es k number)) []
+    one-key : (k : List ℕ) → filter (λ (e : Entry). is_key key e.key) (shown (winner es k number)) ≡ cond (is_key key k)
+        (shown (winner es k number)) []
     one-key k =
         of_key-all (is_key key k) (shown (winner es k number))
         (shown-has (λ e. is_key key e.key ≡ is_key key k) (winner es k number)
@@ -88,7 +98,9 @@ module _ (key : List ℕ) where
         (all-each (λ e. counts k number e ≡ true → is_key key e.key ≡ is_key key k) es
         (λ e of_k. ap (is_key key) (sym (same_key k e.key (and_parts (is_key k e.key) (is_counted number e) of_k).0))))))
 
-    each-key : (keys : List (List ℕ)) → filter (λ (e : Entry). is_key key e.key) (flat_map (λ k. shown (winner es k number)) keys) ≡ flat_map (λ k. cond (is_key key k) (shown (winner es k number)) []) keys
+    each-key : (keys : List (List ℕ))
+        → filter (λ (e : Entry). is_key key e.key) (flat_map (λ k. shown (winner es k number)) keys) ≡ flat_map
+        (λ k. cond (is_key key k) (shown (winner es k number)) []) keys
     each-key [] = refl
     each-key (k ∷ ks) =
         filter-append (λ (e : Entry). is_key key e.key) (shown (winner es k number)) (flat_map (λ k. shown (winner es k number)) ks)
@@ -97,74 +109,98 @@ module _ (key : List ℕ) where
 
   -- the keys of entries come once
   module _ (f : List ℕ → List Entry) where
-    other-keys : (q : List ℕ) → is_key key q ≡ true → (keys : List (List ℕ)) → flat_map (λ k. cond (is_key key k) (f k) []) (filter (λ k. not (is_key q k)) keys) ≡ []
+    other-keys : (q : List ℕ) → is_key key q ≡ true → (keys : List (List ℕ))
+        → flat_map (λ k. cond (is_key key k) (f k) []) (filter (λ k. not (is_key q k)) keys) ≡ []
     other-keys q one [] = refl
     other-keys q one (k ∷ ks) = by (other-keys q one ks) (is_key q k) refl
       where
         by : flat_map (λ k. cond (is_key key k) (f k) []) (filter (λ k. not (is_key q k)) ks) ≡ [] → (b : Bool) → is_key q k ≡ b
-            → flat_map (λ k. cond (is_key key k) (f k) []) (cond (not b) (k ∷ filter (λ k. not (is_key q k)) ks) (filter (λ k. not (is_key q k)) ks)) ≡ []
+            → flat_map (λ k. cond (is_key key k) (f k) [])
+            (cond (not b) (k ∷ filter (λ k. not (is_key q k)) ks) (filter (λ k. not (is_key q k)) ks)) ≡ []
         by later true is = later
         by later false is =
-            ap (λ b. cond b (f k) [] ++ flat_map (λ k. cond (is_key key k) (f k) []) (filter (λ k. not (is_key q k)) ks)) (ap (λ x. is_key x k) (same_key key q one) ∙ is) ∙ later
+            ap (λ b. cond b (f k) [] ++ flat_map (λ k. cond (is_key key k) (f k) [])
+            (filter (λ k. not (is_key q k)) ks)) (ap (λ x. is_key x k) (same_key key q one) ∙ is) ∙ later
 
-    this-key : (q : List ℕ) → is_key key q ≡ false → (keys : List (List ℕ)) → flat_map (λ k. cond (is_key key k) (f k) []) (filter (λ k. not (is_key q k)) keys) ≡ flat_map (λ k. cond (is_key key k) (f k) []) keys
+    this-key : (q : List ℕ) → is_key key q ≡ false → (keys : List (List ℕ))
+        → flat_map (λ k. cond (is_key key k) (f k) []) (filter (λ k. not (is_key q k)) keys) ≡ flat_map
+        (λ k. cond (is_key key k) (f k) []) keys
     this-key q apart [] = refl
     this-key q apart (k ∷ ks) = by (this-key q apart ks) (is_key q k) refl
       where
-        by : flat_map (λ k. cond (is_key key k) (f k) []) (filter (λ k. not (is_key q k)) ks) ≡ flat_map (λ k. cond (is_key key k) (f k) []) ks → (b : Bool) → is_key q k ≡ b
-            → flat_map (λ k. cond (is_key key k) (f k) []) (cond (not b) (k ∷ filter (λ k. not (is_key q k)) ks) (filter (λ k. not (is_key q k)) ks)) ≡ cond (is_key key k) (f k) [] ++ flat_map (λ k. cond (is_key key k) (f k) []) ks
+        by : flat_map (λ k. cond (is_key key k) (f k) []) (filter (λ k. not (is_key q k)) ks) ≡ flat_map
+            (λ k. cond (is_key key k) (f k) []) ks → (b : Bool) → is_key q k ≡ b
+            → flat_map (λ k. cond (is_key key k) (f k) [])
+            (cond (not b) (k ∷ filter (λ k. not (is_key q k)) ks) (filter (λ k. not (is_key q k)) ks)) ≡ cond
+            (is_key key k) (f k) [] ++ flat_map (λ k. cond (is_key key k) (f k) []) ks
         by later true is =
-            later ∙ sym (ap (λ b. cond b (f k) [] ++ flat_map (λ k. cond (is_key key k) (f k) []) ks) (ap (is_key key) (sym (same_key q k is)) ∙ apart))
+            later ∙ sym (ap (λ b. cond b (f k) [] ++ flat_map (λ k. cond (is_key key k) (f k) []) ks)
+            (ap (is_key key) (sym (same_key q k is)) ∙ apart))
         by later false is = ap (λ l. cond (is_key key k) (f k) [] ++ l) later
 
-    once : (es : List Entry) → flat_map (λ k. cond (is_key key k) (f k) []) (keys_of es) ≡ cond (list_any (λ (e : Entry). is_key key e.key) es) (f key) []
+    once : (es : List Entry) → flat_map (λ k. cond (is_key key k) (f k) []) (keys_of es) ≡ cond
+        (list_any (λ (e : Entry). is_key key e.key) es) (f key) []
     once [] = refl
     once (e ∷ es) = by (once es) (is_key key e.key) refl
       where
-        by : flat_map (λ k. cond (is_key key k) (f k) []) (keys_of es) ≡ cond (list_any (λ (e : Entry). is_key key e.key) es) (f key) [] → (b : Bool) → is_key key e.key ≡ b
-            → cond (is_key key e.key) (f e.key) [] ++ flat_map (λ k. cond (is_key key k) (f k) []) (filter (λ k. not (is_key e.key k)) (keys_of es))
+        by : flat_map (λ k. cond (is_key key k) (f k) []) (keys_of es) ≡ cond
+            (list_any (λ (e : Entry). is_key key e.key) es) (f key) [] → (b : Bool) → is_key key e.key ≡ b
+            → cond (is_key key e.key) (f e.key) [] ++ flat_map (λ k. cond (is_key key k) (f k) [])
+            (filter (λ k. not (is_key e.key k)) (keys_of es))
             ≡ cond (is_key key e.key || list_any (λ (e : Entry). is_key key e.key) es) (f key) []
         by later true is =
-            ap (λ l. cond (is_key key e.key) (f e.key) [] ++ l) (other-keys e.key is (keys_of es)) ∙ append-nil (cond (is_key key e.key) (f e.key) [])
+            ap (λ l. cond (is_key key e.key) (f e.key) [] ++ l) (other-keys e.key is (keys_of es))
+            ∙ append-nil (cond (is_key key e.key) (f e.key) [])
             ∙ ap (λ b. cond b (f e.key) []) is ∙ ap f (sym (same_key key e.key is))
             ∙ sym (ap (λ b. cond (b || list_any (λ (e : Entry). is_key key e.key) es) (f key) []) is)
         by later false is =
-            ap (λ b. cond b (f e.key) [] ++ flat_map (λ k. cond (is_key key k) (f k) []) (filter (λ k. not (is_key e.key k)) (keys_of es))) is
-            ∙ this-key e.key is (keys_of es) ∙ later ∙ sym (ap (λ b. cond (b || list_any (λ (e : Entry). is_key key e.key) es) (f key) []) is)
+            ap (λ b. cond b (f e.key) [] ++ flat_map (λ k. cond (is_key key k) (f k) [])
+            (filter (λ k. not (is_key e.key k)) (keys_of es))) is
+            ∙ this-key e.key is (keys_of es) ∙ later
+            ∙ sym (ap (λ b. cond (b || list_any (λ (e : Entry). is_key key e.key) es) (f key) []) is)
 
   -- a key of which no entry counts has no winner
-  no-winner : (number : ℕ) (es : List Entry) → list_any (λ (e : Entry). is_key key e.key) (filter (is_counted number) es) ≡ false → winner es key number ≡ None
+  no-winner : (number : ℕ) (es : List Entry)
+      → list_any (λ (e : Entry). is_key key e.key) (filter (is_counted number) es) ≡ false → winner es key number ≡ None
   no-winner number [] none = refl
   no-winner number (e ∷ es) none = by (λ h. no-winner number es h) (is_counted number e) (is_key key e.key) refl refl
     where
-      by : (list_any (λ (e : Entry). is_key key e.key) (filter (is_counted number) es) ≡ false → winner es key number ≡ None) → (b c : Bool) → is_counted number e ≡ b → is_key key e.key ≡ c
+      by : (list_any (λ (e : Entry). is_key key e.key) (filter (is_counted number) es) ≡ false
+          → winner es key number ≡ None) → (b c : Bool) → is_counted number e ≡ b → is_key key e.key ≡ c
           → winner (e ∷ es) key number ≡ None
-      by later true true of_e one = absurd (true_false (sym (ap (λ b. b || list_any (λ (e : Entry). is_key key e.key) (filter (is_counted number) es)) one) ∙ told of_e))
+      by later true true of_e one = absurd
+          (true_false (sym (ap (λ b. b || list_any (λ (e : Entry). is_key key e.key) (filter (is_counted number) es)) one) ∙ told of_e))
         where
           true_false : true ≡ false → ⊥
           true_false is = cc
 
-          told : is_counted number e ≡ true → (is_key key e.key || list_any (λ (e : Entry). is_key key e.key) (filter (is_counted number) es)) ≡ false
-          told of_e = sym (ap (λ b. list_any (λ (e : Entry). is_key key e.key) (cond b (e ∷ filter (is_counted number) es) (filter (is_counted number) es))) of_e) ∙ none
+          told : is_counted number e ≡ true
+              → (is_key key e.key || list_any (λ (e : Entry). is_key key e.key) (filter (is_counted number) es)) ≡ false
+          told of_e = sym (ap (λ b. list_any (λ (e : Entry). is_key key e.key)
+              (cond b (e ∷ filter (is_counted number) es) (filter (is_counted number) es))) of_e) ∙ none
       by later true false of_e one =
           ap (λ b. newest_of (only_if (b && is_counted number e) e) (winner es key number)) one
           ∙ later (sym (ap (λ b. b || list_any (λ (e : Entry). is_key key e.key) (filter (is_counted number) es)) one)
-          ∙ sym (ap (λ b. list_any (λ (e : Entry). is_key key e.key) (cond b (e ∷ filter (is_counted number) es) (filter (is_counted number) es))) of_e) ∙ none)
+          ∙ sym (ap (λ b. list_any (λ (e : Entry). is_key key e.key)
+          (cond b (e ∷ filter (is_counted number) es) (filter (is_counted number) es))) of_e) ∙ none)
       by later false c of_e one =
           ap (λ b. newest_of (only_if (is_key key e.key && b) e) (winner es key number)) of_e
           ∙ ap (λ b. newest_of (only_if b e) (winner es key number)) (and_false (is_key key e.key))
-          ∙ later (sym (ap (λ b. list_any (λ (e : Entry). is_key key e.key) (cond b (e ∷ filter (is_counted number) es) (filter (is_counted number) es))) of_e) ∙ none)
+          ∙ later (sym (ap (λ b. list_any (λ (e : Entry). is_key key e.key)
+          (cond b (e ∷ filter (is_counted number) es) (filter (is_counted number) es))) of_e) ∙ none)
         where
           and_false : (a : Bool) → (a && false) ≡ false
           and_false true = refl
           and_false false = refl
 
-  pub visible-of_key : (number : ℕ) (es : List Entry) → filter (λ (e : Entry). is_key key e.key) (visible number es) ≡ shown (winner es key number)
+  pub visible-of_key : (number : ℕ) (es : List Entry)
+      → filter (λ (e : Entry). is_key key e.key) (visible number es) ≡ shown (winner es key number)
   visible-of_key number es =
       each-key number es (keys_at number es) ∙ once (λ k. shown (winner es k number)) (filter (is_counted number) es)
       ∙ by (list_any (λ (e : Entry). is_key key e.key) (filter (is_counted number) es)) refl
     where
-      by : (b : Bool) → list_any (λ (e : Entry). is_key key e.key) (filter (is_counted number) es) ≡ b → cond b (shown (winner es key number)) [] ≡ shown (winner es key number)
+      by : (b : Bool) → list_any (λ (e : Entry). is_key key e.key) (filter (is_counted number) es) ≡ b
+          → cond b (shown (winner es key number)) [] ≡ shown (winner es key number)
       by true is = refl
       by false is = sym (ap shown (no-winner number es is))
 

@@ -34,8 +34,11 @@ others-again : (key : List ℕ) (keys : List (List ℕ)) → others key (others 
 others-again key [] = refl
 others-again key (k ∷ ks) = by (others-again key ks) (is_key key k) refl
   where
-    by : others key (others key ks) ≡ others key ks → (b : Bool) → is_key key k ≡ b → others key (cond (not (is_key key k)) (k ∷ others key ks) (others key ks)) ≡ cond (not (is_key key k)) (k ∷ others key ks) (others key ks)
-    by later true is = ap (λ b. others key (cond (not b) (k ∷ others key ks) (others key ks))) is ∙ later ∙ sym (ap (λ b. cond (not b) (k ∷ others key ks) (others key ks)) is)
+    by : others key (others key ks) ≡ others key ks → (b : Bool) → is_key key k ≡ b
+        → others key (cond (not (is_key key k)) (k ∷ others key ks) (others key ks)) ≡ cond (not (is_key key k))
+        (k ∷ others key ks) (others key ks)
+    by later true is = ap (λ b. others key (cond (not b) (k ∷ others key ks) (others key ks))) is ∙ later
+        ∙ sym (ap (λ b. cond (not b) (k ∷ others key ks) (others key ks)) is)
     by later false is =
         ap (λ b. others key (cond (not b) (k ∷ others key ks) (others key ks))) is
         ∙ ap (λ b. cond (not b) (k ∷ others key (others key ks)) (others key (others key ks))) is ∙ ap (λ l. k ∷ l) later
@@ -45,7 +48,8 @@ others-again key (k ∷ ks) = by (others-again key ks) (is_key key k) refl
 abbrev AreOthers : List ℕ → List (List ℕ) → Type 0
 AreOthers key keys = AllByRecursion (λ k. is_key key k ≡ false) keys
 
-all-filter : (P : List ℕ → Type 0) (test : List ℕ → Bool) (keys : List (List ℕ)) → AllByRecursion P keys → AllByRecursion P (filter test keys)
+all-filter : (P : List ℕ → Type 0) (test : List ℕ → Bool) (keys : List (List ℕ)) → AllByRecursion P keys
+    → AllByRecursion P (filter test keys)
 all-filter P test [] all = tt
 all-filter P test (k ∷ ks) all = elim (test k) as (λ b. AllByRecursion P (cond b (k ∷ filter test ks) (filter test ks))) [
   | true ↦ (all.0, all-filter P test ks all.1)
@@ -71,17 +75,20 @@ all-of P each [] = tt
 all-of P each (k ∷ ks) = (each k, all-of P each ks)
 
 -- the same keys with the same winners
-visible-same : (number : ℕ) (es fs : List Entry) → keys_at number es ≡ keys_at number fs → ((key : List ℕ) → winner es key number ≡ winner fs key number)
+visible-same : (number : ℕ) (es fs : List Entry) → keys_at number es ≡ keys_at number fs
+    → ((key : List ℕ) → winner es key number ≡ winner fs key number)
     → visible number es ≡ visible number fs
 visible-same number es fs keys winners =
     flat_map-on (λ k. shown (winner es k number)) (λ k. shown (winner fs k number)) (keys_at number es)
     (all-of (λ k. shown (winner es k number) ≡ shown (winner fs k number)) (λ k. ap shown (winners k)) (keys_at number es))
     ∙ ap (flat_map (λ k. shown (winner fs k number))) keys
 
-counted-in : (number : ℕ) (e : Entry) (es : List Entry) → is_counted number e ≡ true → filter (is_counted number) (e ∷ es) ≡ e ∷ filter (is_counted number) es
+counted-in : (number : ℕ) (e : Entry) (es : List Entry) → is_counted number e ≡ true
+    → filter (is_counted number) (e ∷ es) ≡ e ∷ filter (is_counted number) es
 counted-in number e es is = ap (λ b. cond b (e ∷ filter (is_counted number) es) (filter (is_counted number) es)) is
 
-counted-out : (number : ℕ) (e : Entry) (es : List Entry) → is_counted number e ≡ false → filter (is_counted number) (e ∷ es) ≡ filter (is_counted number) es
+counted-out : (number : ℕ) (e : Entry) (es : List Entry) → is_counted number e ≡ false
+    → filter (is_counted number) (e ∷ es) ≡ filter (is_counted number) es
 counted-out number e es is = ap (λ b. cond b (e ∷ filter (is_counted number) es) (filter (is_counted number) es)) is
 
 -- ---- one whose version is above the number
@@ -90,7 +97,8 @@ and_false : (a : Bool) → (a && false) ≡ false
 and_false true = refl
 and_false false = refl
 
-pub winner-above : (number : ℕ) (e : Entry) (es : List Entry) (key : List ℕ) → is_counted number e ≡ false → winner (e ∷ es) key number ≡ winner es key number
+pub winner-above : (number : ℕ) (e : Entry) (es : List Entry) (key : List ℕ) → is_counted number e ≡ false
+    → winner (e ∷ es) key number ≡ winner es key number
 winner-above number e es key above =
     ap (λ b. newest_of (only_if (is_key key e.key && b) e) (winner es key number)) above
     ∙ ap (λ b. newest_of (only_if b e) (winner es key number)) (and_false (is_key key e.key))
@@ -133,7 +141,8 @@ module _ (number : ℕ) (h e : Entry) (es : List Entry) (of_h : is_counted numbe
       w : Option Entry
       w = winner es key number
 
-      by : (b : Bool) → newest_of (only_if (b && true) h) (newest_of (only_if (b && true) e) (winner es key number)) ≡ newest_of (only_if (b && true) x) (winner es key number)
+      by : (b : Bool) → newest_of (only_if (b && true) h) (newest_of (only_if (b && true) e) (winner es key number)) ≡
+          newest_of (only_if (b && true) x) (winner es key number)
       by true = sym (newest_of-assoc (Some h) (Some e) (winner es key number)) ∙ ap (λ y. newest_of y (winner es key number)) newest
       by false = refl
 
@@ -143,7 +152,8 @@ module _ (number : ℕ) (h e : Entry) (es : List Entry) (of_h : is_counted numbe
 
 -- ---- one in front of others of other keys
 
-without-parts : (key : List ℕ) (e : Entry) (es : List Entry) → is_without key (e ∷ es) ≡ true → (is_key key e.key ≡ false) × (is_without key es ≡ true)
+without-parts : (key : List ℕ) (e : Entry) (es : List Entry) → is_without key (e ∷ es) ≡ true
+    → (is_key key e.key ≡ false) × (is_without key es ≡ true)
 without-parts key e es is = by (is_key key e.key) refl
   where
     by : (b : Bool) → is_key key e.key ≡ b → (is_key key e.key ≡ false) × (is_without key es ≡ true)
@@ -164,7 +174,8 @@ keys-without number key [] without = tt
 keys-without number key (e ∷ es) without =
     let parts = without-parts key e es without in
     let later = keys-without number key es parts.1 in
-    elim (is_counted number e) as (λ b. AreOthers key (keys_of (cond b (e ∷ filter (is_counted number) es) (filter (is_counted number) es)))) [
+    elim (is_counted number e) as
+    (λ b. AreOthers key (keys_of (cond b (e ∷ filter (is_counted number) es) (filter (is_counted number) es)))) [
       | true ↦ (parts.0, all-filter (λ k. is_key key k ≡ false) (λ k. not (is_key e.key k)) (keys_at number es) later)
       | false ↦ later
     ]
@@ -176,7 +187,8 @@ winner-front number h rest of_h without =
     ∙ ap (λ b. newest_of (only_if (b && is_counted number h) h) None) (key_same h.key)
     ∙ ap (λ b. newest_of (only_if b h) None) of_h
 
-pub winner-other : (number : ℕ) (h : Entry) (rest : List Entry) (key : List ℕ) → is_key h.key key ≡ false → winner (h ∷ rest) key number ≡ winner rest key number
+pub winner-other : (number : ℕ) (h : Entry) (rest : List Entry) (key : List ℕ) → is_key h.key key ≡ false
+    → winner (h ∷ rest) key number ≡ winner rest key number
 winner-other number h rest key apart =
     ap (λ b. newest_of (only_if (b && is_counted number h) h) (winner rest key number)) (key_turned h.key key apart)
 
@@ -188,9 +200,11 @@ visible-front number h rest of_h without =
     ap (λ l. flat_map (λ k. shown (winner (h ∷ rest) k number)) (keys_of l)) (counted-in number h rest of_h)
     ∙ ap (λ l. shown (winner (h ∷ rest) h.key number) ++ flat_map (λ k. shown (winner (h ∷ rest) k number)) l) (others-all h.key keys are)
     ∙ ap (λ w. shown w ++ flat_map (λ k. shown (winner (h ∷ rest) k number)) keys) (winner-front number h rest of_h without)
-    ∙ ap (λ l. shown (Some h) ++ l) (flat_map-on (λ k. shown (winner (h ∷ rest) k number)) (λ k. shown (winner rest k number)) keys (each keys are))
+    ∙ ap (λ l. shown (Some h) ++ l)
+    (flat_map-on (λ k. shown (winner (h ∷ rest) k number)) (λ k. shown (winner rest k number)) keys (each keys are))
   where
-    each : (keys : List (List ℕ)) → AreOthers h.key keys → AllByRecursion (λ k. shown (winner (h ∷ rest) k number) ≡ shown (winner rest k number)) keys
+    each : (keys : List (List ℕ)) → AreOthers h.key keys
+        → AllByRecursion (λ k. shown (winner (h ∷ rest) k number) ≡ shown (winner rest k number)) keys
     each [] are = tt
     each (k ∷ ks) are = (ap shown (winner-other number h rest k are.0), each ks are.1)
 
@@ -205,12 +219,14 @@ joined-without key (e ∷ es) without =
     let parts = without-parts key e es without in ap (λ b. cond b true (is_without key es)) parts.0 ∙ parts.1
 
 -- behind an entry of another key none of this key comes
-pub without-behind : (h e : Entry) (es : List Entry) → is_joined h.key (e ∷ es) ≡ true → is_key h.key e.key ≡ false → is_without h.key (e ∷ es) ≡ true
+pub without-behind : (h e : Entry) (es : List Entry) → is_joined h.key (e ∷ es) ≡ true → is_key h.key e.key ≡ false
+    → is_without h.key (e ∷ es) ≡ true
 without-behind h e es joined apart =
     ap (λ b. not b && is_without h.key es) apart ∙ sym (ap (λ b. cond b true (is_without h.key es)) apart) ∙ joined
 
 -- where the second of them goes
-pub grouped-skip : (held : Option Entry) (e : Entry) (es : List Entry) → is_grouped (held_first held (e ∷ es)) ≡ true → is_grouped (held_first held es) ≡ true
+pub grouped-skip : (held : Option Entry) (e : Entry) (es : List Entry) → is_grouped (held_first held (e ∷ es)) ≡ true
+    → is_grouped (held_first held es) ≡ true
 grouped-skip None e es is = (grouped-parts e es is).1
 grouped-skip (Some h) e es is = by (is_key h.key e.key) refl
   where

@@ -1,5 +1,6 @@
 -- What a step leaves of what is visible.
-use Rattle.std.proofs.Common.{◌≡◌, ℕ, ◌+◌, ◌≤◌, ◌<◌, Bool, true, false, cond, ◌&&◌, List, [], ◌∷◌, ◌++◌, refl, ap, sym, ◌∙◌, subst, append-nil, arith, Option, Some, None, is_some}
+use Rattle.std.proofs.Common.{◌≡◌, ℕ, ◌+◌, ◌≤◌, ◌<◌, Bool, true, false, cond, ◌&&◌, List, [], ◌∷◌, ◌++◌, refl, ap}
+use Rattle.std.proofs.Common.{sym, ◌∙◌, subst, append-nil, arith, Option, Some, None, is_some}
 use Rattle.std.proofs.lemmas.Bool.{and_parts}
 use Rattle.std.specs.Prelude.{nat_le}
 use Rattle.std.specs.Option.{option_to_list}
@@ -9,7 +10,8 @@ use Rattle.vl_model.specs.laws.WinnerLaws.{same_key}
 use Rattle.vl_model.specs.declared.entry.Entry.{Entry}
 use Rattle.vl_merge.specs.Grouped.{is_grouped}
 use Rattle.vl_merge.specs.Visible.{is_counted, shown, visible}
-use Rattle.vl_merge.specs.Held.{held_first, is_held_counted, visible_left, held_budget, held_with, held_after, only_shown, passed_by, passed}
+use Rattle.vl_merge.specs.Held.{held_first, is_held_counted, visible_left, held_budget, held_with, held_after}
+use Rattle.vl_merge.specs.Held.{only_shown, passed_by, passed}
 use Rattle.vl_merge.proofs.Passing.{is_key, visible-above, visible-one, visible-front, grouped-parts, grouped-skip, without-behind}
 
 none_some : (es : List Entry) → None ≡ Some es → ⊥
@@ -22,17 +24,20 @@ pub record IsTold (number : ℕ) (held : Option Entry) (es out : List Entry) : T
   pub counted : is_held_counted number held ≡ true
   pub shown : out ≡ visible number (held_first held es)
 
-left-parts : (number : ℕ) (held : Option Entry) (es out : List Entry) → visible_left number held (Some es) ≡ Some out → IsTold number held es out
+left-parts : (number : ℕ) (held : Option Entry) (es out : List Entry) → visible_left number held (Some es) ≡ Some out
+    → IsTold number held es out
 left-parts number held es out gave = by (is_grouped (held_first held es) && is_held_counted number held) refl gave
   where
-    by : (b : Bool) → (is_grouped (held_first held es) && is_held_counted number held) ≡ b → cond b (Some (visible number (held_first held es))) None ≡ Some out
+    by : (b : Bool) → (is_grouped (held_first held es) && is_held_counted number held) ≡ b
+        → cond b (Some (visible number (held_first held es))) None ≡ Some out
         → IsTold number held es out
     by true is gave =
         let parts = and_parts (is_grouped (held_first held es)) (is_held_counted number held) is in
         record { grouped = parts.0; counted = parts.1; shown = (cc) }
     by false is gave = absurd (none_some out gave)
 
-pub left-join : (number : ℕ) (held : Option Entry) (es : List Entry) → is_grouped (held_first held es) ≡ true → is_held_counted number held ≡ true
+pub left-join : (number : ℕ) (held : Option Entry) (es : List Entry) → is_grouped (held_first held es) ≡ true
+    → is_held_counted number held ≡ true
     → visible_left number held (Some es) ≡ Some (visible number (held_first held es))
 left-join number held es grouped counted =
     ap (λ b. cond (b && is_held_counted number held) (Some (visible number (held_first held es))) None) grouped
@@ -53,7 +58,8 @@ shown-list h = by (is_gone h.body)
     by true = refl
     by false = refl
 
-passes_counted : (number : ℕ) (held : Option Entry) (e : Entry) (rest : List Entry) → is_grouped (held_first held (e ∷ rest)) ≡ true → is_held_counted number held ≡ true
+passes_counted : (number : ℕ) (held : Option Entry) (e : Entry) (rest : List Entry)
+    → is_grouped (held_first held (e ∷ rest)) ≡ true → is_held_counted number held ≡ true
     → is_counted number e ≡ true → IsPassed number held e rest (held_with held e) (passed_by held e)
 passes_counted number None e rest grouped counted of_e = record { grouped = grouped; counted = of_e; whole = refl }
 passes_counted number (Some h) e rest grouped of_h of_e = by (is_key h.key e.key) (nat_le e.version h.version) refl refl
@@ -75,14 +81,17 @@ passes_counted number (Some h) e rest grouped of_h of_e = by (is_key h.key e.key
         record {
           grouped = parts.1;
           counted = of_e;
-          whole = visible-front number h (e ∷ rest) of_h (without-behind h e rest parts.0 apart) ∙ ap (λ l. l ++ visible number (e ∷ rest)) (shown-list h);
+          whole = visible-front number h (e ∷ rest) of_h (without-behind h e rest parts.0 apart)
+              ∙ ap (λ l. l ++ visible number (e ∷ rest)) (shown-list h);
         }
 
-pub passes : (number : ℕ) (held : Option Entry) (e : Entry) (rest : List Entry) → is_grouped (held_first held (e ∷ rest)) ≡ true → is_held_counted number held ≡ true
+pub passes : (number : ℕ) (held : Option Entry) (e : Entry) (rest : List Entry)
+    → is_grouped (held_first held (e ∷ rest)) ≡ true → is_held_counted number held ≡ true
     → IsPassed number held e rest (held_after number held e) (passed number held e)
 passes number held e rest grouped counted = by (is_counted number e) refl
   where
-    by : (b : Bool) → is_counted number e ≡ b → IsPassed number held e rest (cond b (held_with held e) held) (cond b (passed_by held e) None)
+    by : (b : Bool) → is_counted number e ≡ b → IsPassed number held e rest (cond b (held_with held e) held)
+        (cond b (passed_by held e) None)
     by true of_e = passes_counted number held e rest grouped counted of_e
     by false above = record {
       grouped = grouped-skip held e rest grouped;
@@ -94,8 +103,10 @@ passes number held e rest grouped counted = by (is_counted number e) refl
 
 module _ (number : ℕ) (held : Option Entry) where
   -- what is told of what is left, with the entry that comes
-  next_told : (left mid : Option (List Entry)) (e : Entry) → Gives left mid (Some e) → (out : List Entry) → visible_left number held left ≡ Some out
-      → (rest : List Entry) × (out ≡ option_to_list (passed number held e) ++ rest) × (visible_left number (held_after number held e) mid ≡ Some rest)
+  next_told : (left mid : Option (List Entry)) (e : Entry) → Gives left mid (Some e) → (out : List Entry)
+      → visible_left number held left ≡ Some out
+      → (rest : List Entry) × (out ≡ option_to_list (passed number held e) ++ rest)
+      × (visible_left number (held_after number held e) mid ≡ Some rest)
   next_told None mid e gives out gave = absurd (none_some out gave)
   next_told (Some es) mid e gives out gave =
       let given = gives es refl in
@@ -103,7 +114,8 @@ module _ (number : ℕ) (held : Option Entry) where
       let now = passes number held e given.0 told.grouped told.counted in (
         visible number (held_first (held_after number held e) given.0),
         told.shown ∙ now.whole,
-        ap (visible_left number (held_after number held e)) given.2 ∙ left-join number (held_after number held e) given.0 now.grouped now.counted,
+        ap (visible_left number (held_after number held e)) given.2
+            ∙ left-join number (held_after number held e) given.0 now.grouped now.counted,
       )
 
   pub pass_kept : (left mid : Option (List Entry)) (e : Entry) → Gives left mid (Some e) → passed number held e ≡ None
@@ -145,7 +157,8 @@ budget_more : (h : Option Entry) (budget : ℕ) → (budget ≤ held_budget h bu
 budget_more None budget = (omega arith, omega arith)
 budget_more (Some h) budget = (omega arith, omega arith)
 
-pub step_spends : (held now next : Option Entry) (e : Entry) (most before after : ℕ) → next ≡ Some e → Spends before after next → held_budget held before ≤ most
+pub step_spends : (held now next : Option Entry) (e : Entry) (most before after : ℕ) → next ≡ Some e
+    → Spends before after next → held_budget held before ≤ most
     → held_budget now after ≤ most
 step_spends held now next e most before after is spends le =
     let less : after < before = subst (Spends before after) is spends in
@@ -153,12 +166,14 @@ step_spends held now next e most before after is spends le =
     let b = budget_more held before in
     omega arith
 
-module _ (number : ℕ) (held now : Option Entry) (before left mid : Option (List Entry)) (keeps : Keeps before (visible_left number held left)) where
+module _ (number : ℕ) (held now : Option Entry) (before left mid : Option (List Entry))
+    (keeps : Keeps before (visible_left number held left)) where
   module _ (next : Option Entry) (e : Entry) (gives : Gives left mid next) (is : next ≡ Some e) (now_is : now ≡ held_after number held e)
       (given : Option Entry) (given_is : given ≡ passed number held e) where
     pub step_kept : is_some given ≡ false → Keeps before (visible_left number now mid)
     step_kept none out told =
-        ap (λ h. visible_left number h mid) now_is ∙ pass_kept number held left mid e (subst (Gives left mid) is gives) (sym given_is ∙ nothing given none) out (keeps out told)
+        ap (λ h. visible_left number h mid) now_is ∙ pass_kept number held left mid e (subst (Gives left mid) is gives)
+        (sym given_is ∙ nothing given none) out (keeps out told)
       where
         nothing : (o : Option Entry) → is_some o ≡ false → o ≡ None
         nothing None none = refl
@@ -169,7 +184,8 @@ module _ (number : ℕ) (held now : Option Entry) (before left mid : Option (Lis
         gives_kept before (visible_left number held left) (visible_left number now mid) given keeps
         (subst (λ h. Gives (visible_left number held left) (visible_left number h mid) given) (sym now_is) (by given refl some))
       where
-        by : (o : Option Entry) → given ≡ o → is_some o ≡ true → Gives (visible_left number held left) (visible_left number (held_after number held e) mid) given
+        by : (o : Option Entry) → given ≡ o → is_some o ≡ true
+            → Gives (visible_left number held left) (visible_left number (held_after number held e) mid) given
         by None is_none some = absurd cc
         by (Some w) is_some some =
             subst (Gives (visible_left number held left) (visible_left number (held_after number held e) mid)) (sym is_some)

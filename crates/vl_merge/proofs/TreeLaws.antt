@@ -1,5 +1,6 @@
 -- Laws of a merge's steps: the head that comes first is the first of the merged entries.
-use Rattle.std.proofs.Common.{◌≡◌, Bool, true, false, cond, not, ◌&&◌, List, [], ◌∷◌, ◌++◌, map, refl, ap, sym, ◌∙◌, subst, append-nil, Option, Some, None, ◌⊎◌, inl, inr}
+use Rattle.std.proofs.Common.{◌≡◌, Bool, true, false, cond, not, ◌&&◌, List, [], ◌∷◌, ◌++◌, map, refl, ap, sym, ◌∙◌}
+use Rattle.std.proofs.Common.{subst, append-nil, Option, Some, None, ◌⊎◌, inl, inr}
 use Rattle.std.specs.List.{AllByRecursion, flat_map}
 use Rattle.std.specs.Option.{option_map}
 use Rattle.std.specs.Ordering.{is_gt}
@@ -46,7 +47,8 @@ along-parts : (way : Way) (e : Entry) (es : List Entry) → is_along way (e ∷ 
 along-parts way e es is = let parts = both (is_first way e es) (is_along way es) is in (first-true way e es parts.0, parts.1)
 
 -- what doesn't come before an entry that is behind another is behind that one too
-pub behind_more : (way : Way) (e f g : Entry) → is_gt (way_cmp way f e) ≡ true → is_gt (way_cmp way f g) ≡ false → is_gt (way_cmp way g e) ≡ true
+pub behind_more : (way : Way) (e f g : Entry) → is_gt (way_cmp way f e) ≡ true → is_gt (way_cmp way f g) ≡ false
+    → is_gt (way_cmp way g e) ≡ true
 behind_more way e f g behind after = by (is_gt (way_cmp way g e)) refl
   where
     by : (b : Bool) → is_gt (way_cmp way g e) ≡ b → is_gt (way_cmp way g e) ≡ true
@@ -67,40 +69,48 @@ all-append P (e ∷ es) fs here there = (here.0, all-append P es fs here.1 there
 none_some : (es : List Entry) → None ≡ Some es → ⊥
 none_some es is = cc
 
-end_to_end-join : (way : Way) (es fs : List Entry) (rest : List (Option (List Entry))) → is_along way es ≡ true → end_to_end way rest ≡ Some fs
+end_to_end-join : (way : Way) (es fs : List Entry) (rest : List (Option (List Entry))) → is_along way es ≡ true
+    → end_to_end way rest ≡ Some fs
     → end_to_end way (Some es ∷ rest) ≡ Some (es ++ fs)
 end_to_end-join way es fs rest along later =
     ap (λ b. cond b (option_map (λ fs. es ++ fs) (end_to_end way rest)) None) along ∙ ap (λ t. option_map (λ fs. es ++ fs) t) later
 
 -- what is told of a source and those behind it
-end_to_end-parts : (way : Way) (es : List Entry) (rest : List (Option (List Entry))) (all : List Entry) → end_to_end way (Some es ∷ rest) ≡ Some all
+end_to_end-parts : (way : Way) (es : List Entry) (rest : List (Option (List Entry))) (all : List Entry)
+    → end_to_end way (Some es ∷ rest) ≡ Some all
     → (fs : List Entry) × (is_along way es ≡ true) × (end_to_end way rest ≡ Some fs) × (all ≡ es ++ fs)
 end_to_end-parts way es rest all is = by (is_along way es) (end_to_end way rest) refl refl is
   where
-    by : (b : Bool) (t : Option (List Entry)) → is_along way es ≡ b → end_to_end way rest ≡ t → cond b (option_map (λ fs. es ++ fs) t) None ≡ Some all
+    by : (b : Bool) (t : Option (List Entry)) → is_along way es ≡ b → end_to_end way rest ≡ t
+        → cond b (option_map (λ fs. es ++ fs) t) None ≡ Some all
         → (fs : List Entry) × (is_along way es ≡ true) × (end_to_end way rest ≡ Some fs) × (all ≡ es ++ fs)
     by true None along later is = absurd (none_some all is)
     by true (Some fs) along later is = (fs, along, later, (cc))
     by false t along later is = absurd (none_some all is)
 
 -- the entries that were merged
-merged-of : (way : Way) (t : Option (List Entry)) (out : List Entry) → option_map (merged way) t ≡ Some out → (all : List Entry) × (t ≡ Some all) × (out ≡ merged way all)
+merged-of : (way : Way) (t : Option (List Entry)) (out : List Entry) → option_map (merged way) t ≡ Some out
+    → (all : List Entry) × (t ≡ Some all) × (out ≡ merged way all)
 merged-of way None out gave = absurd (none_some out gave)
 merged-of way (Some all) out gave = (all, refl, (cc))
 
 pub one-join : (way : Way) (es : List Entry) → is_along way es ≡ true → merge_of way (Some es ∷ []) ≡ Some (merged way es)
-one-join way es along = ap (option_map (merged way)) (end_to_end-join way es [] [] along refl) ∙ ap (λ l. Some (merged way l)) (append-nil es)
+one-join way es along = ap (option_map (merged way)) (end_to_end-join way es [] [] along refl)
+    ∙ ap (λ l. Some (merged way l)) (append-nil es)
 
-pub one-parts : (way : Way) (es out : List Entry) → merge_of way (Some es ∷ []) ≡ Some out → (is_along way es ≡ true) × (out ≡ merged way es)
+pub one-parts : (way : Way) (es out : List Entry) → merge_of way (Some es ∷ []) ≡ Some out → (is_along way es ≡ true)
+    × (out ≡ merged way es)
 one-parts way es out gave =
     let whole = merged-of way (end_to_end way (Some es ∷ [])) out gave in
     let parts = end_to_end-parts way es [] whole.0 whole.1 in
     let nil : parts.0 ≡ [] = cc in
     (parts.1, whole.2 ∙ ap (merged way) (parts.3 ∙ ap (λ l. es ++ l) nil ∙ append-nil es))
 
-pub pair-join : (way : Way) (es fs : List Entry) → is_along way es ≡ true → is_along way fs ≡ true → pair_of way (Some es) (Some fs) ≡ Some (merged way (es ++ fs))
+pub pair-join : (way : Way) (es fs : List Entry) → is_along way es ≡ true → is_along way fs ≡ true
+    → pair_of way (Some es) (Some fs) ≡ Some (merged way (es ++ fs))
 pair-join way es fs along behind =
-    ap (option_map (merged way)) (end_to_end-join way es fs (Some fs ∷ []) along (end_to_end-join way fs [] [] behind refl ∙ ap Some (append-nil fs)))
+    ap (option_map (merged way))
+    (end_to_end-join way es fs (Some fs ∷ []) along (end_to_end-join way fs [] [] behind refl ∙ ap Some (append-nil fs)))
 
 pub pair-parts : (way : Way) (es fs out : List Entry) → pair_of way (Some es) (Some fs) ≡ Some out
     → (is_along way es ≡ true) × (is_along way fs ≡ true) × (out ≡ merged way (es ++ fs))
@@ -156,7 +166,8 @@ newer_of_two way e f es fs is out gave =
     let older = along-parts way f fs parts.1 in (
       merged way (es ++ f ∷ fs),
       parts.2
-          ∙ merged-first way [] e (es ++ f ∷ fs) tt (all-append (λ g. is_gt (way_cmp way e g) ≡ false) es (f ∷ fs) newer.0 (is, first-all way e f fs is older.0)),
+          ∙ merged-first way [] e (es ++ f ∷ fs) tt
+          (all-append (λ g. is_gt (way_cmp way e g) ≡ false) es (f ∷ fs) newer.0 (is, first-all way e f fs is older.0)),
       pair-join way es (f ∷ fs) newer.1 parts.1,
     )
 
@@ -186,19 +197,25 @@ left-none (Next e) read = refl
 left-none End read = refl
 
 module _ (way : Way) where
-  no_newer : (newer now : Option (List Entry)) (older : Option (List Entry)) (next : Option Entry) → newer ≡ None → Gives (pair_of way newer older) now next
+  no_newer : (newer now : Option (List Entry)) (older : Option (List Entry)) (next : Option Entry) → newer ≡ None
+      → Gives (pair_of way newer older) now next
   no_newer newer now older None is = λ out gave. absurd (none_some out (ap (λ l. pair_of way l older) (sym is) ∙ gave))
   no_newer newer now older (Some e) is = λ out gave. absurd (none_some out (ap (λ l. pair_of way l older) (sym is) ∙ gave))
 
-  no_older : (newer now : Option (List Entry)) (older : Option (List Entry)) (next : Option Entry) → older ≡ None → Gives (pair_of way newer older) now next
+  no_older : (newer now : Option (List Entry)) (older : Option (List Entry)) (next : Option Entry) → older ≡ None
+      → Gives (pair_of way newer older) now next
   no_older newer now older None is = λ out gave. absurd (pair-untold way newer out (ap (pair_of way newer) (sym is) ∙ gave))
   no_older newer now older (Some e) is = λ out gave. absurd (pair-untold way newer out (ap (pair_of way newer) (sym is) ∙ gave))
 
   -- the older half's entry comes first
-  pub older_given : (newer older : Option (List Entry)) (first second : Lookahead) → IsKnown first → IsKnown second → takes_older way first second ≡ true
-      → Gives (pair_of way (left_of first newer) (left_of second older)) (pair_of way (left_of first newer) (left_of (taken second) older)) (entry_of second)
-  older_given None older first second read known is = no_newer (left_of first None) _ (left_of second older) (entry_of second) (left-none first read)
-  older_given (Some es) None first second read known is = no_older (left_of first (Some es)) _ (left_of second None) (entry_of second) (left-none second known)
+  pub older_given : (newer older : Option (List Entry)) (first second : Lookahead) → IsKnown first → IsKnown second
+      → takes_older way first second ≡ true
+      → Gives (pair_of way (left_of first newer) (left_of second older))
+      (pair_of way (left_of first newer) (left_of (taken second) older)) (entry_of second)
+  older_given None older first second read known is = no_newer (left_of first None) _ (left_of second older)
+      (entry_of second) (left-none first read)
+  older_given (Some es) None first second read known is = no_older (left_of first (Some es)) _ (left_of second None)
+      (entry_of second) (left-none second known)
   older_given (Some es) (Some fs) Unread second read known is = absurd read
   older_given (Some es) (Some fs) (Next e) Unread read known is = absurd known
   older_given (Some es) (Some fs) (Next e) (Next f) read known is = older_of_two way e f es fs is
@@ -208,10 +225,14 @@ module _ (way : Way) where
   older_given (Some es) (Some fs) End End read known is = none_alone way
 
   -- the newer half's does
-  pub newer_given : (newer older : Option (List Entry)) (first second : Lookahead) → IsKnown first → IsKnown second → takes_older way first second ≡ false
-      → Gives (pair_of way (left_of first newer) (left_of second older)) (pair_of way (left_of (taken first) newer) (left_of second older)) (entry_of first)
-  newer_given None older first second read known is = no_newer (left_of first None) _ (left_of second older) (entry_of first) (left-none first read)
-  newer_given (Some es) None first second read known is = no_older (left_of first (Some es)) _ (left_of second None) (entry_of first) (left-none second known)
+  pub newer_given : (newer older : Option (List Entry)) (first second : Lookahead) → IsKnown first → IsKnown second
+      → takes_older way first second ≡ false
+      → Gives (pair_of way (left_of first newer) (left_of second older))
+      (pair_of way (left_of (taken first) newer) (left_of second older)) (entry_of first)
+  newer_given None older first second read known is = no_newer (left_of first None) _ (left_of second older)
+      (entry_of first) (left-none first read)
+  newer_given (Some es) None first second read known is = no_older (left_of first (Some es)) _ (left_of second None)
+      (entry_of first) (left-none second known)
   newer_given (Some es) (Some fs) Unread second read known is = absurd read
   newer_given (Some es) (Some fs) (Next e) Unread read known is = absurd known
   newer_given (Some es) (Some fs) (Next e) (Next f) read known is = newer_of_two way e f es fs is
@@ -242,8 +263,10 @@ module _ (way : Way) (newer_old older_old newer older : Option (List Entry)) (fi
   gives_older now is gone gave =
       gives_kept (pair_of way newer_old older_old) (pair_of way (left_of first newer) (left_of second older)) _ out
       (keeps_pair way newer_old older_old (left_of first newer) (left_of second older) newer_kept older_kept)
-      (subst (λ h. Gives (pair_of way (left_of first newer) (left_of second older)) (pair_of way (left_of first newer) (left_of h older)) out) (sym gone)
-      (subst (Gives (pair_of way (left_of first newer) (left_of second older)) (pair_of way (left_of first newer) (left_of (taken second) older))) (sym gave)
+      (subst (λ h. Gives (pair_of way (left_of first newer) (left_of second older))
+      (pair_of way (left_of first newer) (left_of h older)) out) (sym gone)
+      (subst (Gives (pair_of way (left_of first newer) (left_of second older))
+      (pair_of way (left_of first newer) (left_of (taken second) older))) (sym gave)
       (older_given way newer older first second read known is)))
 
   pub gives_newer : (now : Lookahead) → takes_older way first second ≡ false → now ≡ taken first → out ≡ entry_of first
@@ -251,8 +274,10 @@ module _ (way : Way) (newer_old older_old newer older : Option (List Entry)) (fi
   gives_newer now is gone gave =
       gives_kept (pair_of way newer_old older_old) (pair_of way (left_of first newer) (left_of second older)) _ out
       (keeps_pair way newer_old older_old (left_of first newer) (left_of second older) newer_kept older_kept)
-      (subst (λ h. Gives (pair_of way (left_of first newer) (left_of second older)) (pair_of way (left_of h newer) (left_of second older)) out) (sym gone)
-      (subst (Gives (pair_of way (left_of first newer) (left_of second older)) (pair_of way (left_of (taken first) newer) (left_of second older))) (sym gave)
+      (subst (λ h. Gives (pair_of way (left_of first newer) (left_of second older))
+      (pair_of way (left_of h newer) (left_of second older)) out) (sym gone)
+      (subst (Gives (pair_of way (left_of first newer) (left_of second older))
+      (pair_of way (left_of (taken first) newer) (left_of second older))) (sym gave)
       (newer_given way newer older first second read known is)))
 
 -- what a whole has, from its two parts
@@ -261,7 +286,8 @@ halves of_two a b c d whole first second is = ap (λ x. of_two x b) first ∙ ap
 
 -- what may fail in a whole, from its two parts
 module _ {C F : Type 0} (may_fail : C → F → Type 0) (newer older a b : Tree C) (first : newer ≡ a) (second : older ≡ b) (fault : F) where
-  pub fails-halves : MayFailIn may_fail newer fault ⊎ MayFailIn may_fail older fault → MayFailIn may_fail a fault ⊎ MayFailIn may_fail b fault
+  pub fails-halves : MayFailIn may_fail newer fault ⊎ MayFailIn may_fail older fault → MayFailIn may_fail a fault
+      ⊎ MayFailIn may_fail b fault
   fails-halves (inl fails) = inl (subst (λ t. MayFailIn may_fail t fault) first fails)
   fails-halves (inr fails) = inr (subst (λ t. MayFailIn may_fail t fault) second fails)
 
@@ -273,7 +299,8 @@ module _ {C F : Type 0} (may_fail : C → F → Type 0) (newer older a b : Tree 
 
 -- ---- sources that are all told, each as the way goes
 
-end_to_end-all : (way : Way) (sources : List (List Entry)) → AllByRecursion (IsAlong way) sources → end_to_end way (map Some sources) ≡ Some (flat_map (λ es. es) sources)
+end_to_end-all : (way : Way) (sources : List (List Entry)) → AllByRecursion (IsAlong way) sources
+    → end_to_end way (map Some sources) ≡ Some (flat_map (λ es. es) sources)
 end_to_end-all way [] along = refl
 end_to_end-all way (es ∷ sources) along =
     end_to_end-join way es (flat_map (λ es. es) sources) (map Some sources) (along-is way es along.0) (end_to_end-all way sources along.1)

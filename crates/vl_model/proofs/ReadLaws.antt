@@ -1,5 +1,6 @@
 -- Reads that no later commit overwrote are explained at every later number too.
-use Rattle.std.proofs.Common.{length-take, ◌≡◌, ℕ, ◌+◌, ◌-◌, ◌≤◌, ◌<◌, suc, Bool, true, false, cond, not, ◌&&◌, ◌||◌, List, [], ◌∷◌, length, take, reverse, refl, ap, sym, ◌∙◌, arith, ⊎_elim}
+use Rattle.std.proofs.Common.{length-take, ◌≡◌, ℕ, ◌+◌, ◌-◌, ◌≤◌, ◌<◌, suc, Bool, true, false, cond, not, ◌&&◌, ◌||◌}
+use Rattle.std.proofs.Common.{List, [], ◌∷◌, length, take, reverse, refl, ap, sym, ◌∙◌, arith, ⊎_elim}
 use Rattle.std.proofs.lemmas.Bool.{cases_lt}
 use Rattle.std.proofs.lemmas.Bool.Decides.{nat_tests}
 use Rattle.std.specs.Prelude.{T, Option, Some, None, min, nat_le, nat_lt, if◌then◌else◌}
@@ -14,7 +15,9 @@ use Rattle.std.specs.FinMap.Entries.{is_sorted, where_key, is_sorted-put, is_sor
 use Rattle.vl_model.specs.Keys.{Stored, Row, Writes, Pairs, key_cmp}
 use Rattle.vl_model.specs.History.{History, past_value, newer, last_change, last_naming, value_left, value_at, contents_at, last_number}
 use Rattle.vl_model.specs.laws.HistoryLaws.{take_all, get-contents_at, past_stays}
-use Rattle.vl_model.specs.Reads.{Scan, Read, KeyRead, RangeRead, is_within, rows_written, in_direction, scanned, bound, last_key, covered_to, covered, is_from, is_up_to, is_in_span, is_read_by, is_read, IsExplainedRead, IsExplained}
+use Rattle.vl_model.specs.Reads.{Scan, Read, KeyRead, RangeRead, is_within, rows_written, in_direction, scanned}
+use Rattle.vl_model.specs.Reads.{bound, last_key, covered_to, covered, is_from, is_up_to, is_in_span, is_read_by}
+use Rattle.vl_model.specs.Reads.{is_read, IsExplainedRead, IsExplained}
 use Rattle.vl_model.specs.Conflicts.{Named, is_overwritten, overwritten, passing, first_of, first_conflict}
 use Rattle.vl_model.specs.laws.ConflictLaws.{find-overwritten}
 use Rattle.vl_model.proofs.SortedRows.{back, same_front, sorted_back, find_back}
@@ -56,7 +59,8 @@ named_from_here number (w ∷ later) q m is =
 never_named : (number : ℕ) (cs : List Writes) (q : List ℕ) → last_naming number cs q ≡ None
     → last_change cs q ≡ None
 never_named number [] q is = refl
-never_named number (w ∷ later) q is = by_parts (get w q) (last_naming (number + 1) later q) (λ none. never_named (number + 1) later q none) is
+never_named number (w ∷ later) q is = by_parts (get w q) (last_naming (number + 1) later q)
+    (λ none. never_named (number + 1) later q none) is
   where
     by_parts : (first : Option Change) (o : Option ℕ) → (o ≡ None → last_change later q ≡ None)
         → newer (option_map (λ change. number) first) o ≡ None
@@ -72,11 +76,13 @@ change_stays [] number n q up = ap (λ (cs : List Writes). last_change cs q) (ta
 change_stays (w ∷ later) number n q up = ⊎_elim
     (λ (less : n < number).
     let none : n + 1 - number ≡ 0 = omega (arith, less) in
-    ap (λ k. last_change (take k (w ∷ later)) q) none ∙ sym (never_named number (w ∷ later) q (unnamed less (last_naming number (w ∷ later) q) refl up)))
+    ap (λ k. last_change (take k (w ∷ later)) q) none
+    ∙ sym (never_named number (w ∷ later) q (unnamed less (last_naming number (w ∷ later) q) refl up)))
     (λ (least : number ≤ n).
     let more : n + 1 - number ≡ suc (n + 1 - (number + 1)) = omega (arith, least) in
     ap (λ k. last_change (take k (w ∷ later)) q) more
-    ∙ ap (newer (get w q)) (change_stays later (number + 1) n q (later_not_above n (option_map (λ change. number) (get w q)) (last_naming (number + 1) later q) up)))
+    ∙ ap (newer (get w q)) (change_stays later (number + 1) n q
+    (later_not_above n (option_map (λ change. number) (get w q)) (last_naming (number + 1) later q) up)))
     (cases_lt n number)
   where
     unnamed : n < number → (o : Option ℕ) → last_naming number (w ∷ later) q ≡ o → IsNotAbove n o
@@ -89,10 +95,12 @@ pub value_stays : (h : History) (n : ℕ) (q : List ℕ) → h.first ≤ n
     → IsNotAbove n (last_naming (h.first + 1) h.commits q)
     → value_at h (last_number h) q ≡ value_at h n q
 value_stays h n q least up =
-    let whole : take (h.first + length h.commits - h.first) h.commits ≡ h.commits = take_all h.commits (h.first + length h.commits - h.first) (omega arith) in
+    let whole : take (h.first + length h.commits - h.first) h.commits ≡ h.commits = take_all h.commits
+    (h.first + length h.commits - h.first) (omega arith) in
     let count : n + 1 - (h.first + 1) ≡ n - h.first = omega arith in
     let old = past_value h.base (min n h.first) q in
-    ap (λ (o : Option Stored). value_left o (last_change (take (h.first + length h.commits - h.first) h.commits) q)) (past_stays h (h.first + length h.commits) n q (omega arith) least)
+    ap (λ (o : Option Stored). value_left o (last_change (take (h.first + length h.commits - h.first) h.commits) q))
+    (past_stays h (h.first + length h.commits) n q (omega arith) least)
     ∙ ap (λ (cs : List Writes). value_left old (last_change cs q)) whole
     ∙ ap (value_left old) (sym (change_stays h.commits (h.first + 1) n q up))
     ∙ ap (λ k. value_left old (last_change (take k h.commits) q)) count
@@ -100,7 +108,8 @@ value_stays h n q least up =
 not_overwritten : (h : History) (n : ℕ) (reads : List Read) (q : List ℕ)
     → overwritten h n reads ≡ [] → is_read reads q ≡ true
     → IsNotAbove n (last_naming (h.first + 1) h.commits q)
-not_overwritten h n reads q none covers = by_last (last_naming (h.first + 1) h.commits q) (sym (find-overwritten h n reads q) ∙ ap (find key_cmp q) none)
+not_overwritten h n reads q none covers = by_last (last_naming (h.first + 1) h.commits q)
+    (sym (find-overwritten h n reads q) ∙ ap (find key_cmp q) none)
   where
     by_test : (m : ℕ) (t : Bool) → nat_lt n m ≡ t
         → (if t && is_read reads q then Some m else None) ≡ None → m ≤ n
@@ -119,8 +128,10 @@ not_overwritten h n reads q none covers = by_last (last_naming (h.first + 1) h.c
 sorted_written : (own : List (List ℕ × Change)) (rows : List Row) → T (is_sorted key_cmp rows)
     → T (is_sorted key_cmp (rows_written own rows))
 sorted_written [] rows rising = rising
-sorted_written ((key, Set value) ∷ own) rows rising = is_sorted-put key_cmp nat_list_cmp_total key value (rows_written own rows) (sorted_written own rows rising)
-sorted_written ((key, Delete) ∷ own) rows rising = is_sorted-where_key key_cmp (λ k. not (eq_by_cmp key_cmp key k)) (rows_written own rows) (sorted_written own rows rising)
+sorted_written ((key, Set value) ∷ own) rows rising = is_sorted-put key_cmp nat_list_cmp_total key value
+    (rows_written own rows) (sorted_written own rows rising)
+sorted_written ((key, Delete) ∷ own) rows rising = is_sorted-where_key key_cmp (λ k. not (eq_by_cmp key_cmp key k))
+    (rows_written own rows) (sorted_written own rows rising)
 
 -- tests of keys that tie answer alike
 tie_alike : (p : List ℕ → Bool) (q x : List ℕ) → key_cmp q x ≡ Equal → p x ≡ p q
@@ -196,13 +207,15 @@ not_behind q k up = by_order (key_cmp k q) (nat_list_cmp_total.antisymm q k)
     by_order Equal is = refl
     by_order Greater is = refl
 
-module _ (scan : Scan) (own : List (List ℕ × Change)) (xs ys : List Row) (rising_xs : T (is_sorted key_cmp xs)) (rising_ys : T (is_sorted key_cmp ys)) where
+module _ (scan : Scan) (own : List (List ℕ × Change)) (xs ys : List Row) (rising_xs : T (is_sorted key_cmp xs))
+    (rising_ys : T (is_sorted key_cmp ys)) where
   cut : List Row → List Row
   cut rows = where_key key_cmp (is_within scan.low scan.high) (rows_written own rows)
 
   rising_cut : (rows : List Row) → T (is_sorted key_cmp rows) → T (is_sorted key_cmp (cut rows))
   unfolding cut
-  rising_cut rows rising = is_sorted-where_key key_cmp (is_within scan.low scan.high) (rows_written own rows) (sorted_written own rows rising)
+  rising_cut rows rising = is_sorted-where_key key_cmp (is_within scan.low scan.high) (rows_written own rows)
+      (sorted_written own rows rising)
 
   -- what agrees at a key of the interval agrees behind the own writes
   agrees_cut : (q : List ℕ)
@@ -215,9 +228,11 @@ module _ (scan : Scan) (own : List (List ℕ × Change)) (xs ys : List Row) (ris
       ∙ sym (find-where_key key_cmp (is_within scan.low scan.high) q (tie_alike (is_within scan.low scan.high) q) (rows_written own ys))
     where
       by_test : (b : Bool) → is_within scan.low scan.high q ≡ b
-          → cond (is_within scan.low scan.high q) (find key_cmp q (rows_written own xs)) None ≡ cond (is_within scan.low scan.high q) (find key_cmp q (rows_written own ys)) None
+          → cond (is_within scan.low scan.high q) (find key_cmp q (rows_written own xs)) None ≡ cond
+          (is_within scan.low scan.high q) (find key_cmp q (rows_written own ys)) None
       by_test true within = ap (λ found. cond (is_within scan.low scan.high q) found None) (same_written own xs ys q (agree within))
-      by_test false out = ap (λ b. cond b (find key_cmp q (rows_written own xs)) None) out ∙ sym (ap (λ b. cond b (find key_cmp q (rows_written own ys)) None) out)
+      by_test false out = ap (λ b. cond b (find key_cmp q (rows_written own xs)) None) out
+          ∙ sym (ap (λ b. cond b (find key_cmp q (rows_written own ys)) None) out)
 
   -- as far as it came, in either direction
   same_taken : (w : Way) (last : List ℕ)
@@ -226,14 +241,21 @@ module _ (scan : Scan) (own : List (List ℕ × Change)) (xs ys : List Row) (ris
       → last_key (take scan.limit (in_direction w (cut xs))) ≡ Some last
       → take scan.limit (in_direction w (cut xs)) ≡ take scan.limit (in_direction w (cut ys))
   same_taken Up last agree full is =
-      same_front key_cmp nat_list_cmp_total key_exact scan.limit (cut xs) (cut ys) last (rising_cut xs rising_xs) (rising_cut ys rising_ys) full is
-      (λ q up. agrees_cut q (λ within. agree q (and_both (is_from (bound scan.low) q) (not (is_lt (key_cmp last q))) (within_from scan.low scan.high q within) (not_behind q last up))))
+      same_front key_cmp nat_list_cmp_total key_exact scan.limit (cut xs) (cut ys) last (rising_cut xs rising_xs)
+      (rising_cut ys rising_ys) full is
+      (λ q up. agrees_cut q (λ within. agree q
+      (and_both (is_from (bound scan.low) q) (not (is_lt (key_cmp last q))) (within_from scan.low scan.high q within)
+      (not_behind q last up))))
   same_taken Down last agree full is =
-      same_front (back key_cmp) (back_total nat_list_cmp_total) (λ a b tied. sym (key_exact b a tied)) scan.limit (reverse (cut xs)) (reverse (cut ys)) last
-      (sorted_back key_cmp nat_list_cmp_total (cut xs) (rising_cut xs rising_xs)) (sorted_back key_cmp nat_list_cmp_total (cut ys) (rising_cut ys rising_ys)) full is
+      same_front (back key_cmp) (back_total nat_list_cmp_total) (λ a b tied. sym (key_exact b a tied)) scan.limit
+      (reverse (cut xs)) (reverse (cut ys)) last
+      (sorted_back key_cmp nat_list_cmp_total (cut xs) (rising_cut xs rising_xs))
+      (sorted_back key_cmp nat_list_cmp_total (cut ys) (rising_cut ys rising_ys)) full is
       (λ q up.
       find_back key_cmp nat_list_cmp_total key_exact q (cut xs) (rising_cut xs rising_xs)
-      ∙ agrees_cut q (λ within. agree q (and_both (not (is_lt (key_cmp q last))) (is_up_to (bound scan.high) false q) (not_behind last q up) (within_below scan.low scan.high q within)))
+      ∙ agrees_cut q (λ within. agree q
+      (and_both (not (is_lt (key_cmp q last))) (is_up_to (bound scan.high) false q) (not_behind last q up)
+      (within_below scan.low scan.high q within)))
       ∙ sym (find_back key_cmp nat_list_cmp_total key_exact q (cut ys) (rising_cut ys rising_ys)))
 
   -- the whole interval
@@ -262,9 +284,12 @@ module _ (scan : Scan) (own : List (List ℕ × Change)) (xs ys : List Row) (ris
       by_last None is agree = gave ∙ ap (λ rows. take scan.limit (in_direction scan.way rows)) (same_whole agree)
       by_last (Some last) is agree =
           let both = parts (nat_le scan.limit (length scan.rows)) last refl is in
-          let most = length-take_le scan.limit (in_direction scan.way (where_key key_cmp (is_within scan.low scan.high) (rows_written own xs))) in
+          let most = length-take_le scan.limit
+          (in_direction scan.way (where_key key_cmp (is_within scan.low scan.high) (rows_written own xs))) in
           let count = ap length gave in
-          let full : length (take scan.limit (in_direction scan.way (where_key key_cmp (is_within scan.low scan.high) (rows_written own xs)))) ≡ scan.limit = let least = both.0 in omega (arith, least, most, count) in
+          let full : length (take scan.limit
+          (in_direction scan.way (where_key key_cmp (is_within scan.low scan.high) (rows_written own xs)))) ≡
+          scan.limit = let least = both.0 in omega (arith, least, most, count) in
           gave ∙ same_taken scan.way last agree full (ap last_key (sym gave) ∙ both.1)
 
 -- ---- reads
@@ -280,14 +305,16 @@ module _ (h : History) (n : ℕ) where
   stays_found : (q : List ℕ) → value_at h (last_number h) q ≡ value_at h n q
       → find key_cmp q (entries (contents_at h n)) ≡ find key_cmp q (entries (contents_at h (last_number h)))
   stays_found q same =
-      found_in (contents_at h n) q ∙ get-contents_at h n q ∙ sym same ∙ sym (get-contents_at h (last_number h) q) ∙ sym (found_in (contents_at h (last_number h)) q)
+      found_in (contents_at h n) q ∙ get-contents_at h n q ∙ sym same ∙ sym (get-contents_at h (last_number h) q)
+      ∙ sym (found_in (contents_at h (last_number h)) q)
 
   read_stays : (read : Read)
       → ((q : List ℕ) → is_read_by q read ≡ true → value_at h (last_number h) q ≡ value_at h n q)
       → IsExplainedRead h n read → IsExplainedRead h (last_number h) read
   read_stays (KeyRead key answer) stays explained = explained ∙ sym (stays key (ap is_eq (key_tied key)))
   read_stays (RangeRead scan) stays explained =
-      same_scanned scan (entries scan.own) (entries (contents_at h n)) (entries (contents_at h (last_number h))) (entries_sorted (contents_at h n)) (entries_sorted (contents_at h (last_number h)))
+      same_scanned scan (entries scan.own) (entries (contents_at h n)) (entries (contents_at h (last_number h)))
+      (entries_sorted (contents_at h n)) (entries_sorted (contents_at h (last_number h)))
       explained (λ q inside. stays_found q (stays q inside))
 
   all_stay : (reads : List Read)

@@ -57,7 +57,8 @@ key_read : conflict_in (((0x61 ∷ [], Set (untagged (1 ∷ []))) ∷ []) ∷ []
 key_read = refl
 
 -- the interval was empty when it was scanned
-interval_read : conflict_in (((0x61 ∷ [], Set (untagged (1 ∷ []))) ∷ []) ∷ []) 0 (RangeRead (scan_of (0x60 ∷ []) (0x70 ∷ []) 10 Up []) ∷ []) ≡
+interval_read : conflict_in (((0x61 ∷ [], Set (untagged (1 ∷ []))) ∷ []) ∷ []) 0
+    (RangeRead (scan_of (0x60 ∷ []) (0x70 ∷ []) 10 Up []) ∷ []) ≡
     Some (0x61 ∷ [], 1)
 interval_read = refl
 
@@ -83,11 +84,13 @@ below_not_covered : is_in_span (covered (scan_of (0x60 ∷ []) (0x70 ∷ []) 1 D
 below_not_covered = refl
 
 -- the last key is covered, and the upper bound isn't
-last_covered : map (is_in_span (covered (scan_of (0x60 ∷ []) (0x70 ∷ []) 1 Up ((0x62 ∷ [], untagged (1 ∷ [])) ∷ [])))) ((0x62 ∷ []) ∷ (0x62 ∷ 0 ∷ []) ∷ []) ≡
+last_covered : map (is_in_span (covered (scan_of (0x60 ∷ []) (0x70 ∷ []) 1 Up ((0x62 ∷ [], untagged (1 ∷ [])) ∷ []))))
+    ((0x62 ∷ []) ∷ (0x62 ∷ 0 ∷ []) ∷ []) ≡
     true ∷ false ∷ []
 last_covered = refl
 
-bound_not_covered : map (is_in_span (covered (scan_of (0x60 ∷ []) (0x70 ∷ []) 2 Down ((0x62 ∷ [], untagged (1 ∷ [])) ∷ [])))) ((0x60 ∷ []) ∷ (0x70 ∷ []) ∷ []) ≡
+bound_not_covered : map (is_in_span
+    (covered (scan_of (0x60 ∷ []) (0x70 ∷ []) 2 Down ((0x62 ∷ [], untagged (1 ∷ [])) ∷ [])))) ((0x60 ∷ []) ∷ (0x70 ∷ []) ∷ []) ≡
     true ∷ false ∷ []
 bound_not_covered = refl
 
@@ -97,7 +100,8 @@ nothing_covered : conflict_in later_commit 1 (RangeRead (scan_of (0x68 ∷ []) (
 nothing_covered = refl
 
 -- the least key is answered, with the last commit that names it
-least_key : conflict_in (((0x62 ∷ [], Set (untagged (1 ∷ []))) ∷ []) ∷ ((0x61 ∷ [], Delete) ∷ []) ∷ ((0x61 ∷ [], Set (untagged [])) ∷ (0x62 ∷ [], Delete) ∷ []) ∷ []) 0 (KeyRead (0x62 ∷ []) None ∷ KeyRead (0x61 ∷ []) None ∷ []) ≡
+least_key : conflict_in (((0x62 ∷ [], Set (untagged (1 ∷ []))) ∷ []) ∷ ((0x61 ∷ [], Delete) ∷ [])
+    ∷ ((0x61 ∷ [], Set (untagged [])) ∷ (0x62 ∷ [], Delete) ∷ []) ∷ []) 0 (KeyRead (0x62 ∷ []) None ∷ KeyRead (0x61 ∷ []) None ∷ []) ≡
     Some (0x61 ∷ [], 3)
 least_key = refl
 
@@ -105,10 +109,12 @@ least_key = refl
 abbrev write_61 : List (List ℕ × Change)
 write_61 = (0x61 ∷ [], Set (untagged (1 ∷ []))) ∷ []
 
-key_read_in_history : first_conflict (record { first = 0; base = empty; commits = from_sorted write_61 ∷ [] }) 0 (KeyRead (0x61 ∷ []) None ∷ []) ≡
+key_read_in_history : first_conflict (record { first = 0; base = empty; commits = from_sorted write_61 ∷ [] }) 0
+    (KeyRead (0x61 ∷ []) None ∷ []) ≡
     Some (0x61 ∷ [], 1)
 key_read_in_history =
-    ap (λ (writes : List (List ℕ × Change)). conflict_in (writes ∷ []) 0 (KeyRead (0x61 ∷ []) None ∷ [])) (entries-from_sorted key_cmp write_61 tt)
+    ap (λ (writes : List (List ℕ × Change)). conflict_in (writes ∷ []) 0 (KeyRead (0x61 ∷ []) None ∷ []))
+    (entries-from_sorted key_cmp write_61 tt)
 
 -- ---- placing: the key 61 has one byte, so in format 1 the record of a value of 64 bytes takes 72, and in
 -- format 2 it takes 73

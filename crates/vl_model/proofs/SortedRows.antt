@@ -1,6 +1,7 @@
 -- Rows in a strict order: two lists that agree on each key up to the last of some first rows begin
 -- with the same rows.
-use Rattle.std.proofs.Common.{◌≡◌, ℕ, zero, suc, Bool, true, false, cond, ◌&&◌, List, [], ◌∷◌, ◌++◌, length, take, reverse, refl, ap, sym, ◌∙◌, subst, arith}
+use Rattle.std.proofs.Common.{◌≡◌, ℕ, zero, suc, Bool, true, false, cond, ◌&&◌, List, [], ◌∷◌, ◌++◌, length, take}
+use Rattle.std.proofs.Common.{reverse, refl, ap, sym, ◌∙◌, subst, arith}
 use Rattle.std.specs.Prelude.{T, Option, Some, None}
 use Rattle.std.specs.Ordering.{eq_by_cmp, is_eq, is_lt, is_gt, ordering_reverse}
 use Rattle.std.specs.declared.cmp.Ordering.{Ordering}
@@ -137,12 +138,16 @@ module _ (R : List ℕ → List ℕ → Ordering) (o : IsTotalOrder R) (exact : 
   same_front zero es fs last rising_es rising_fs full is agree = refl
   same_front (suc n) [] fs last rising_es rising_fs full is agree = absurd cc
   same_front (suc n) (e ∷ es) [] last rising_es rising_fs full is agree =
-      absurd (none_some e.1 (sym (agree e.0 (first_up_to e (take n es) last (below_taken e.0 n es (first_part (below_all R e.0 es) (is_sorted R es) rising_es)) is)) ∙ found_first e es))
+      absurd (none_some e.1 (sym
+      (agree e.0 (first_up_to e (take n es) last
+      (below_taken e.0 n es (first_part (below_all R e.0 es) (is_sorted R es) rising_es)) is)) ∙ found_first e es))
     where
       none_some : (v : Stored) → None ≡ Some v → ⊥
       none_some v h = cc
   same_front (suc n) (e ∷ es) (f ∷ fs) last rising_es rising_fs full is agree =
-      by_order (R e.0 f.0) refl (λ agrees. behind_first n e es fs last full is (λ rest_full rest_is. same_front n es fs last later_es later_fs rest_full rest_is agrees))
+      by_order (R e.0 f.0) refl
+      (λ agrees. behind_first n e es fs last full is
+      (λ rest_full rest_is. same_front n es fs last later_es later_fs rest_full rest_is agrees))
     where
       below_es : T (below_all R e.0 es)
       below_es = first_part (below_all R e.0 es) (is_sorted R es) rising_es
@@ -172,10 +177,12 @@ module _ (R : List ℕ → List ℕ → Ordering) (o : IsTotalOrder R) (exact : 
           absurd (none_some e.1 (sym (none_before e.0 f fs less rising_fs) ∙ sym (agree e.0 first_up) ∙ found_first e es))
       by_order Greater greater rest =
           let less : R f.0 e.0 ≡ Less = turned_less (R f.0 e.0) (sym (o.antisymm e.0 f.0) ∙ greater) in
-          absurd (none_some f.1 (sym (none_before f.0 e es less rising_es) ∙ agree f.0 (up_to_chain f.0 e.0 last less first_up) ∙ found_first f fs))
+          absurd (none_some f.1 (sym (none_before f.0 e es less rising_es)
+          ∙ agree f.0 (up_to_chain f.0 e.0 last less first_up) ∙ found_first f fs))
       by_order Equal tied rest =
           let keys : e.0 ≡ f.0 = exact e.0 f.0 tied in
-          let values : e.1 ≡ f.1 = same_value e.1 f.1 (sym (found_first e es) ∙ agree e.0 first_up ∙ ap (λ (k : List ℕ). find R k (f ∷ fs)) keys ∙ found_first f fs) in
+          let values : e.1 ≡ f.1 = same_value e.1 f.1
+          (sym (found_first e es) ∙ agree e.0 first_up ∙ ap (λ (k : List ℕ). find R k (f ∷ fs)) keys ∙ found_first f fs) in
           let same : e ≡ f = λ i. (keys i, values i) in
           let agrees : (q : List ℕ) → is_gt (R q last) ≡ false → find R q es ≡ find R q fs = λ q up.
           rest_agrees q e es fs below_es (subst (λ (k : List ℕ). T (below_all R k fs)) (sym keys) below_fs)
@@ -202,7 +209,8 @@ module _ (R : List ℕ → List ℕ → Ordering) (o : IsTotalOrder R) where
   all_back : (P : Row → Type 0) (es : List Row) → AllByRecursion P es
       → AllByRecursion P (reverse es)
   all_back P [] all = tt
-  all_back P (e ∷ es) all = subst (AllByRecursion P) (sym (reverse-append (e ∷ []) es)) (all_both P (reverse es) (e ∷ []) (all_back P es all.1) (all.0, tt))
+  all_back P (e ∷ es) all = subst (AllByRecursion P) (sym (reverse-append (e ∷ []) es))
+      (all_both P (reverse es) (e ∷ []) (all_back P es all.1) (all.0, tt))
 
   below_more : (k : List ℕ) (es : List Row) (f : Row) → T (below_all (back R) k es)
       → T (is_lt (R f.0 k)) → T (below_all (back R) k (es ++ f ∷ []))
@@ -264,7 +272,8 @@ module _ (R : List ℕ → List ℕ → Ordering) (o : IsTotalOrder R) (exact : 
       tied Greater t = absurd cc
 
       gone : eq_by_cmp R q e.0 ≡ true → find R q es ≡ None
-      gone is = ap (λ k. find R k es) (exact q e.0 (tied (R q e.0) is)) ∙ none_below R o exact e.0 es (first_part (below_all R e.0 es) (is_sorted R es) rising)
+      gone is = ap (λ k. find R k es) (exact q e.0 (tied (R q e.0) is))
+          ∙ none_below R o exact e.0 es (first_part (below_all R e.0 es) (is_sorted R es) rising)
 
       none_left : (o : Option Stored) → or_else o None ≡ o
       none_left None = refl

@@ -1,6 +1,7 @@
 -- What a transaction notes of its reads, which keys that covers, and what it means that a history
 -- explains them.
-use Rattle.std.specs.Prelude.{◌≡◌, ℕ, Bool, true, false, ◌&&◌, not, nat_le, if◌then◌else◌, List, [], ◌∷◌, length, take, reverse, Option, Some, None}
+use Rattle.std.specs.Prelude.{◌≡◌, ℕ, Bool, true, false, ◌&&◌, not, nat_le, if◌then◌else◌, List, [], ◌∷◌, length}
+use Rattle.std.specs.Prelude.{take, reverse, Option, Some, None}
 use Rattle.std.specs.FinMap.{entries, put}
 use Rattle.std.specs.Ordering.{is_lt, eq_by_cmp}
 use Rattle.std.specs.List.{AllByRecursion, filter, list_any}

@@ -11,10 +11,19 @@ ghost use Rattle.vl_model.specs.Placement.{placed, is_placed, IsLogged};
 ghost use Rattle.vl_model.specs.Reads.{Read, IsExplained};
 ghost use Rattle.vl_model.specs.Winners.{winner, newest_of};
 ghost use Rattle.vl_model.specs.declared.entry.Entry.{Entry};
-ghost use Rattle.vl_model.specs.Limits.{max_key_bytes, max_value_bytes, max_inline_bytes, max_transaction_keys, max_transaction_bytes, max_live, min_room, max_room, max_level, max_batch_records, max_batch_bytes, max_commit_number, max_file_number, max_version_number, max_sessions};
+ghost use Rattle.vl_model.specs.Limits.{max_key_bytes, max_value_bytes, max_inline_bytes, max_transaction_keys};
+ghost use Rattle.vl_model.specs.Limits.{max_transaction_bytes, max_live, min_room, max_room, max_level};
+ghost use Rattle.vl_model.specs.Limits.{max_batch_records, max_batch_bytes, max_commit_number, max_file_number};
+ghost use Rattle.vl_model.specs.Limits.{max_version_number, max_sessions};
 ghost use Rattle.vl_model.specs.declared.formats.TheConstants.{LOG_FORMAT, MANIFEST_FORMAT, TABLE_FORMAT};
-ghost use Rattle.vl_model.specs.declared.limits.TheConstants.{MAX_KEY_BYTES, MAX_VALUE_BYTES, MAX_VALUE_BYTES_BEFORE_TAGS, MAX_INLINE_BYTES, MAX_TRANSACTION_KEYS, MAX_TRANSACTION_BYTES, MAX_LIVE, MIN_ROOM, MAX_ROOM, MAX_LEVEL, MAX_BATCH_RECORDS, MAX_BATCH_BYTES, MAX_COMMIT_NUMBER, MAX_FILE_NUMBER, MAX_VERSION_NUMBER, MAX_SESSIONS};
-ghost use Rattle.vl_model.specs.History.{standing_at, History, past_value, Extends, last_naming, value_at, contents_at, last_number, with_commit, value_left};
+ghost use Rattle.vl_model.specs.declared.limits.TheConstants.{MAX_KEY_BYTES, MAX_VALUE_BYTES};
+ghost use Rattle.vl_model.specs.declared.limits.TheConstants.{MAX_VALUE_BYTES_BEFORE_TAGS, MAX_INLINE_BYTES};
+ghost use Rattle.vl_model.specs.declared.limits.TheConstants.{MAX_TRANSACTION_KEYS, MAX_TRANSACTION_BYTES, MAX_LIVE};
+ghost use Rattle.vl_model.specs.declared.limits.TheConstants.{MIN_ROOM, MAX_ROOM, MAX_LEVEL, MAX_BATCH_RECORDS};
+ghost use Rattle.vl_model.specs.declared.limits.TheConstants.{MAX_BATCH_BYTES, MAX_COMMIT_NUMBER, MAX_FILE_NUMBER};
+ghost use Rattle.vl_model.specs.declared.limits.TheConstants.{MAX_VERSION_NUMBER, MAX_SESSIONS};
+ghost use Rattle.vl_model.specs.History.{standing_at, History, past_value, Extends, last_naming, value_at};
+ghost use Rattle.vl_model.specs.History.{contents_at, last_number, with_commit, value_left};
 
 /// The contents at a number have, at each key, the value that stands there at that number.
 pub fn contents_agree_with_values()

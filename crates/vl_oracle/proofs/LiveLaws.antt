@@ -1,5 +1,6 @@
 -- Laws of what is live: the free ticket is the least that none has, and the floor the least number at which one reads.
-use Rattle.std.proofs.Common.{◌≡◌, ℕ, ◌+◌, ◌<◌, ◌≤◌, ◌==◌, Bool, true, false, cond, ◌&&◌, ◌||◌, List, [], ◌∷◌, length, refl, ap, ◌∙◌, subst, arith, T, min, Option, Some, None, IsTrue, IsSome, unwrap_or}
+use Rattle.std.proofs.Common.{◌≡◌, ℕ, ◌+◌, ◌<◌, ◌≤◌, ◌==◌, Bool, true, false, cond, ◌&&◌, ◌||◌, List, [], ◌∷◌, length}
+use Rattle.std.proofs.Common.{refl, ap, ◌∙◌, subst, arith, T, min, Option, Some, None, IsTrue, IsSome, unwrap_or}
 use Rattle.std.proofs.lemmas.Bool.Decides.{nat_tests}
 use Rattle.std.specs.Prelude.{nat_le}
 use Rattle.std.specs.Option.{option_map}
@@ -7,7 +8,8 @@ use Rattle.std.specs.List.{AllByRecursion}
 use Rattle.std.specs.FinMap.{find, is_sorted}
 use Rattle.std.specs.FinMap.Entries.{below_all}
 use Rattle.std.specs.Ordering.{nat_cmp, eq_by_cmp, is_lt}
-use Rattle.vl_oracle.specs.LiveTickets.{LiveTickets, Ticket, AreLive, free_from, free_ticket, least_number, floor_of, is_read_at, IsAttained}
+use Rattle.vl_oracle.specs.LiveTickets.{LiveTickets, Ticket, AreLive, free_from, free_ticket, least_number, floor_of}
+use Rattle.vl_oracle.specs.LiveTickets.{is_read_at, IsAttained}
 
 pub as_T : (b : Bool) → IsTrue b → T b
 as_T true is = tt
@@ -44,7 +46,8 @@ above_first low (t ∷ ts) below = by_test (is_lt (nat_cmp low t.0)) refl (above
     above : is_lt (nat_cmp low t.0) ≡ true → low + 1 ≤ t.0
     above is = grind (arith, nat_tests)
 
-    by_test : (b : Bool) → is_lt (nat_cmp low t.0) ≡ b → (T (below_all nat_cmp low ts) → AreFrom (low + 1) ts) → T (b && below_all nat_cmp low ts) → AreFrom (low + 1) (t ∷ ts)
+    by_test : (b : Bool) → is_lt (nat_cmp low t.0) ≡ b → (T (below_all nat_cmp low ts) → AreFrom (low + 1) ts)
+        → T (b && below_all nat_cmp low ts) → AreFrom (low + 1) (t ∷ ts)
     by_test true is later rest = (above is, later rest)
     by_test false is later rest = absurd rest
 
@@ -60,11 +63,13 @@ find_less ticket (t ∷ ts) are = by_test (eq_by_cmp nat_cmp ticket t.0) refl (f
     apart : ticket + 1 ≤ t.0 → eq_by_cmp nat_cmp ticket t.0 ≡ false
     apart le = grind (arith, nat_tests)
 
-    by_test : (b : Bool) → eq_by_cmp nat_cmp ticket t.0 ≡ b → find nat_cmp ticket ts ≡ None → cond b (Some t.1) (find nat_cmp ticket ts) ≡ None
+    by_test : (b : Bool) → eq_by_cmp nat_cmp ticket t.0 ≡ b → find nat_cmp ticket ts ≡ None
+        → cond b (Some t.1) (find nat_cmp ticket ts) ≡ None
     by_test true is later = let other = apart are.0 in cc
     by_test false is later = later
 
-pub find-free_from : (low : ℕ) (live : List Ticket) → T (is_sorted nat_cmp live) → AreFrom low live → find nat_cmp (free_from low live) live ≡ None
+pub find-free_from : (low : ℕ) (live : List Ticket) → T (is_sorted nat_cmp live) → AreFrom low live
+    → find nat_cmp (free_from low live) live ≡ None
 find-free_from low [] rising are = refl
 find-free_from low (t ∷ ts) rising are = by_test (t.0 == low) refl (find-free_from (low + 1) ts)
   where
@@ -90,10 +95,12 @@ find-free_from low (t ∷ ts) rising are = by_test (t.0 == low) refl (find-free_
     later n [] are le = tt
     later n (u ∷ us) are le = (omega (arith, are.0), later n us are.1 le)
 
-    by_test : (b : Bool) → (t.0 == low) ≡ b → (T (is_sorted nat_cmp ts) → AreFrom (low + 1) ts → find nat_cmp (free_from (low + 1) ts) ts ≡ None)
+    by_test : (b : Bool) → (t.0 == low) ≡ b
+        → (T (is_sorted nat_cmp ts) → AreFrom (low + 1) ts → find nat_cmp (free_from (low + 1) ts) ts ≡ None)
         → find nat_cmp (cond b (free_from (low + 1) ts) low) (t ∷ ts) ≡ None
     by_test true is further =
-        skipped (free_from (low + 1) ts) (apart (free_from (low + 1) ts) (free_from-ge (low + 1) ts) (same is)) (further parts.1 (from_next (same is)))
+        skipped (free_from (low + 1) ts) (apart (free_from (low + 1) ts) (free_from-ge (low + 1) ts) (same is))
+        (further parts.1 (from_next (same is)))
     by_test false is further = find_less low (t ∷ ts) (higher is, later t.0 ts (above_first t.0 ts parts.0) are.0)
 
 pub all_from_zero : (live : List Ticket) → AreFrom 0 live
@@ -108,7 +115,8 @@ taken_from : (low : ℕ) (live : List Ticket) (ticket : ℕ) → low ≤ ticket 
 taken_from low [] ticket ge less = absurd (omega arith)
 taken_from low (t ∷ ts) ticket ge less = by_test (t.0 == low) refl (taken_from (low + 1) ts ticket) less
   where
-    later : (b : Bool) → eq_by_cmp nat_cmp ticket t.0 ≡ b → (b ≡ false → IsSome (find nat_cmp ticket ts)) → IsSome (cond b (Some t.1) (find nat_cmp ticket ts))
+    later : (b : Bool) → eq_by_cmp nat_cmp ticket t.0 ≡ b → (b ≡ false → IsSome (find nat_cmp ticket ts))
+        → IsSome (cond b (Some t.1) (find nat_cmp ticket ts))
     later true is found = refl
     later false is found = found refl
 
@@ -155,7 +163,8 @@ floor_of-low_of live are = floor-low_of live.last live.tickets are.read_below
 pub floor_of-le_last : (live : LiveTickets) → AreLive live → floor_of live ≤ live.last
 floor_of-le_last live are = omega (arith, floor_of-low_of live are, low_of-le live.last live.tickets)
 
-least_number-le : (live : List Ticket) (last ticket number : ℕ) → find nat_cmp ticket live ≡ Some number → unwrap_or (least_number live) last ≤ number
+least_number-le : (live : List Ticket) (last ticket number : ℕ) → find nat_cmp ticket live ≡ Some number
+    → unwrap_or (least_number live) last ≤ number
 least_number-le [] last ticket number found = cc
 least_number-le (t ∷ ts) last ticket number found = by_test (eq_by_cmp nat_cmp ticket t.0) (least_number-le ts t.1 ticket number) found
   where

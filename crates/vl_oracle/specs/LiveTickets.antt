@@ -1,5 +1,6 @@
 -- The live transactions and views, which tickets are free, and the floor.
-use Rattle.std.specs.Prelude.{◌≡◌, ◌≤◌, ◌==◌, ◌+◌, ℕ, Bool, true, not, min, if◌then◌else◌, List, [], ◌∷◌, Option, Some, None, unwrap_or, IsTrue, nat_lt}
+use Rattle.std.specs.Prelude.{◌≡◌, ◌≤◌, ◌==◌, ◌+◌, ℕ, Bool, true, not, min, if◌then◌else◌, List, [], ◌∷◌, Option}
+use Rattle.std.specs.Prelude.{Some, None, unwrap_or, IsTrue, nat_lt}
 use Rattle.std.specs.Option.{option_map}
 use Rattle.std.specs.List.{AllByRecursion, filter, list_any}
 use Rattle.std.specs.FinMap.{put, is_sorted}

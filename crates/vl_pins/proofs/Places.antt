@@ -1,5 +1,6 @@
 -- Where a number stands among rising ones, and what rises with one more or one less.
-use Rattle.std.proofs.Common.{◌≡◌, ℕ, ◌+◌, ◌<◌, ◌≤◌, Bool, true, false, List, length, get_or, refl, subst, arith, Result, Ok, Err, MatchResult, nat_lt}
+use Rattle.std.proofs.Common.{◌≡◌, ℕ, ◌+◌, ◌<◌, ◌≤◌, Bool, true, false, List, length, get_or, refl, subst, arith}
+use Rattle.std.proofs.Common.{Result, Ok, Err, MatchResult, nat_lt}
 use Rattle.std.proofs.lemmas.Bool.Decides.{nat_tests}
 use Rattle.std.proofs.lemmas.List.{get_or_default}
 use Rattle.std.proofs.lemmas.List.Edits.{length-remove, get_or-remove_below, get_or-remove_above}
@@ -38,7 +39,8 @@ module _ (xs : List ℕ) (x : ℕ) (rises : IsNonDecreasing xs) where
     where
       by : (r : Result ℕ ℕ) → IsSearched xs x r
           → r ≡ Ok i → IsFound xs x i
-      by (Ok j) h at = let same : j ≡ i = cc in let a = h.0 in let b = h.1 in record { within = omega arith; is = subst (λ (n : ℕ). get_or xs n 0 ≡ x) same b }
+      by (Ok j) h at = let same : j ≡ i = cc in let a = h.0 in let b = h.1 in record
+          { within = omega arith; is = subst (λ (n : ℕ). get_or xs n 0 ≡ x) same b }
       by (Err j) h at = absurd cc
 
   pub placed_ok : (r : Result ℕ ℕ) → IsBinarySearchResult (λ y. nat_cmp y x) xs r → (i : ℕ) → r ≡ Ok i → IsPlace xs x i

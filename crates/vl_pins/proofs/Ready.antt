@@ -1,5 +1,6 @@
 -- The least pin decides which files are held, so the first file up to it is the first that a sweep removes.
-use Rattle.std.proofs.Common.{◌≡◌, ℕ, ◌<◌, ◌≤◌, zero, suc, min, Bool, true, false, cond, not, ◌&&◌, ◌||◌, nat_le, nat_lt, List, [], ◌∷◌, map, Option, Some, None, refl, sym, ap, ◌∙◌, subst, arith}
+use Rattle.std.proofs.Common.{◌≡◌, ℕ, ◌<◌, ◌≤◌, zero, suc, min, Bool, true, false, cond, not, ◌&&◌, ◌||◌, nat_le}
+use Rattle.std.proofs.Common.{nat_lt, List, [], ◌∷◌, map, Option, Some, None, refl, sym, ap, ◌∙◌, subst, arith}
 use Rattle.std.proofs.lemmas.Bool.Decides.{nat_tests}
 use Rattle.std.proofs.lemmas.List.Elements.{All-head, All-tail}
 use Rattle.std.proofs.lemmas.List.Sorted.{length_permutation, All-permutation, Contains-permutation}
@@ -29,7 +30,8 @@ module _ (r : Retired) (m : ℕ) where
   free : (ps : List Pin) → All (λ n. m ≤ n) (map version_of ps) → r.version_number ≤ m → is_held ps r ≡ false
   free [] all le = refl
   free (p ∷ ps) all le =
-      ap (λ (b : Bool). b || is_held ps r) (not_below p.version_number r.version_number le (All-head (λ n. m ≤ n) p.version_number (map version_of ps) all))
+      ap (λ (b : Bool). b || is_held ps r)
+      (not_below p.version_number r.version_number le (All-head (λ n. m ≤ n) p.version_number (map version_of ps) all))
       ∙ free ps (All-tail (λ n. m ≤ n) p.version_number (map version_of ps) all) le
 
   or_true : (b : Bool) → (b || true) ≡ true
@@ -40,17 +42,20 @@ module _ (r : Retired) (m : ℕ) where
   held [] (k, within, is) less = absurd (omega arith)
   held (p ∷ ps) (zero, within, is) less = ap (λ (b : Bool). b || is_held ps r) (below p.version_number r.version_number less is)
   held (p ∷ ps) (suc k, within, is) less =
-      ap (λ (b : Bool). nat_lt p.version_number r.version_number || b) (held ps (k, omega arith, is) less) ∙ or_true (nat_lt p.version_number r.version_number)
+      ap (λ (b : Bool). nat_lt p.version_number r.version_number || b) (held ps (k, omega arith, is) less)
+      ∙ or_true (nat_lt p.version_number r.version_number)
 
 empty : (ps : List Pin) → IsPermutation [] (map version_of ps) → ps ≡ []
 empty [] same = refl
 empty (p ∷ ps) same = absurd (let n = length_permutation [] (map version_of (p ∷ ps)) same in omega arith)
 
 -- a file is free where it was retired up to the least pin
-pub free_up_to : (versions : List ℕ) (least : Option ℕ) → IsLeast versions least → (ps : List Pin) → IsPermutation versions (map version_of ps)
+pub free_up_to : (versions : List ℕ) (least : Option ℕ) → IsLeast versions least → (ps : List Pin)
+    → IsPermutation versions (map version_of ps)
     → (r : Retired) → not (is_held ps r) ≡ is_retired_up_to least r
 free_up_to versions None is ps same r =
-    ap (λ (qs : List Pin). not (is_held qs r)) (empty ps (subst (λ (vs : List ℕ). IsPermutation vs (map version_of ps)) (is.none.0 refl) same))
+    ap (λ (qs : List Pin). not (is_held qs r))
+    (empty ps (subst (λ (vs : List ℕ). IsPermutation vs (map version_of ps)) (is.none.0 refl) same))
 free_up_to versions (Some m) is ps same r = by (nat_le r.version_number m) refl
   where
     up : nat_le r.version_number m ≡ true → r.version_number ≤ m
@@ -66,7 +71,8 @@ free_up_to versions (Some m) is ps same r = by (nat_le r.version_number m) refl
 filter_same : (p q : Retired → Bool) → ((r : Retired) → p r ≡ q r) → (rs : List Retired) → filter p rs ≡ filter q rs
 filter_same p q same [] = refl
 filter_same p q same (r ∷ rs) =
-    ap (λ (b : Bool). cond b (r ∷ filter p rs) (filter p rs)) (same r) ∙ ap (λ (xs : List Retired). cond (q r) (r ∷ xs) xs) (filter_same p q same rs)
+    ap (λ (b : Bool). cond b (r ∷ filter p rs) (filter p rs)) (same r)
+    ∙ ap (λ (xs : List Retired). cond (q r) (r ∷ xs) xs) (filter_same p q same rs)
 
 and_true : (b : Bool) → (b && true) ≡ b
 and_true true = refl
@@ -77,9 +83,11 @@ abbrev pub lesser : Option ℕ → ℕ → ℕ
 lesser None n = n
 lesser (Some m) n = min m n
 
-both : (least : Option ℕ) (n : ℕ) (r : Retired) → (is_retired_up_to least r && is_retired_up_to (Some n) r) ≡ is_retired_up_to (Some (lesser least n)) r
+both : (least : Option ℕ) (n : ℕ) (r : Retired)
+    → (is_retired_up_to least r && is_retired_up_to (Some n) r) ≡ is_retired_up_to (Some (lesser least n)) r
 both None n r = refl
-both (Some m) n r = by r.version_number (nat_le r.version_number m) (nat_le r.version_number n) (nat_le r.version_number (min m n)) refl refl refl
+both (Some m) n r = by r.version_number (nat_le r.version_number m) (nat_le r.version_number n)
+    (nat_le r.version_number (min m n)) refl refl refl
   where
     by : (v : ℕ) (a b c : Bool) → nat_le v m ≡ a → nat_le v n ≡ b → nat_le v (min m n) ≡ c → (nat_le v m && nat_le v n) ≡ nat_le v (min m n)
     by v a b c p q s = grind (arith, nat_tests)
@@ -92,7 +100,8 @@ module _ (l : Layout) (files : List Retired) (pinned : Pinned) (least : Option �
   unheld : (r : Retired) → not (is_held (pins l) r) ≡ is_retired_up_to least r
   unheld r = free_up_to pinned.versions least is (pins l) pins_are r
 
-  by_test : (p q : Retired → Bool) → ((r : Retired) → p r ≡ q r) → first_file (files_of (filter q files)) ≡ first_file (files_of (filter p l.retired))
+  by_test : (p q : Retired → Bool) → ((r : Retired) → p r ≡ q r)
+      → first_file (files_of (filter q files)) ≡ first_file (files_of (filter p l.retired))
   by_test p q same =
       ap (λ (rs : List Retired). first_file (files_of (filter q rs))) are
       ∙ ap (λ (rs : List Retired). first_file (files_of rs)) (sym (filter_same p q same l.retired))

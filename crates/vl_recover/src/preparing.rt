@@ -12,7 +12,8 @@ ghost use Rattle.vl_recover.specs.opening.Answers.{Finds};
 ghost use Rattle.vl_recover.specs.opening.Opening.{NamesNoTable};
 ghost use Rattle.vl_recover.specs.opening.Finding.{FailsAtDisk, IsFaultAt};
 ghost use Rattle.vl_recover.specs.opening.HeldFiles.{AreHeldFound, AreReadTables, AreWaiting, tables_of};
-ghost use Rattle.vl_recover.specs.repairing.Fitting.{Fits, HasNumbers, IsReadyFor, IsReadyToMake, IsReadyToRepair, SameSpareBeside, SameSpareBesideLog};
+ghost use Rattle.vl_recover.specs.repairing.Fitting.{Fits, HasNumbers, IsReadyFor, IsReadyToMake, IsReadyToRepair};
+ghost use Rattle.vl_recover.specs.repairing.Fitting.{SameSpareBeside, SameSpareBesideLog};
 ghost use Rattle.vl_recover.specs.repairing.Holding.{IsHoldOf, IsReadyToHold};
 ghost use Rattle.vl_recover.specs.repairing.PlanViews.{plan_view, step_of};
 

@@ -1,5 +1,6 @@
 -- What the calls of a round do to a merge's job: what it has, its files, and why reading or writing it failed.
-use Rattle.std.specs.Prelude.{◌≡◌, ◌+◌, ◌-◌, ◌^◌, ◌<◌, ◌≤◌, ℕ, zero, suc, min, true, List, [], ◌∷◌, ◌++◌, length, map, take, drop, Option, None, Some, Err, IsSome, is_some, slice_get, ◌⊎◌}
+use Rattle.std.specs.Prelude.{◌≡◌, ◌+◌, ◌-◌, ◌^◌, ◌<◌, ◌≤◌, ℕ, zero, suc, min, true, List, [], ◌∷◌, ◌++◌, length, map}
+use Rattle.std.specs.Prelude.{take, drop, Option, None, Some, Err, IsSome, is_some, slice_get, ◌⊎◌}
 use Rattle.std.specs.List.{AllByRecursion, AllZip}
 use Rattle.std.specs.Option.{ForSome}
 use Rattle.std.proofs.Common.{⊎_elim, refl, ap, sym, ◌∙◌, subst, arith, append-nil}

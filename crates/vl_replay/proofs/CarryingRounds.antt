@@ -34,7 +34,9 @@ use Rattle.vl_replay.specs.declared.carrying.Round.{Round}
 use Rattle.vl_replay.specs.declared.carrying.Round.TheVariants as rounds
 use Rattle.vl_replay.specs.declared.fails.Halt.{Halt}
 use Rattle.vl_replay.proofs.CarryingDisk.{rests}
-use Rattle.vl_replay.proofs.CarryingDraws.{Came, Draws, exhausted_came, exhausted_is, exhausted_past, failed_came, failed_fits, failed_name, lent_came, lent_fits, lent_number, never_halted, short_came}
+use Rattle.vl_replay.proofs.CarryingDraws.{Came, Draws, exhausted_came, exhausted_is, exhausted_past, failed_came}
+use Rattle.vl_replay.proofs.CarryingDraws.{failed_fits, failed_name, lent_came, lent_fits, lent_number, never_halted}
+use Rattle.vl_replay.proofs.CarryingDraws.{short_came}
 use Rattle.vl_replay.proofs.CarryingJob.{not_by_disk}
 use Rattle.vl_replay.proofs.CarryingLists.{drawn_none}
 use Rattle.vl_replay.proofs.Disk.DiskSteps.{IsWatched}

@@ -1,7 +1,8 @@
 -- What a replayer asks of a line.
 use Rattle.std.specs.Prelude.{◌≤◌}
 use Rattle.vl_script.specs.declared.line.Line.{Line}
-use Rattle.vl_script.specs.declared.line.Line.TheVariants.{Begin, View, Get, Set, SetTagged, GetTagged, Scan, Delete, Commit, Drop, Rotate, Flush, Keep, GetAt, Plan, Install}
+use Rattle.vl_script.specs.declared.line.Line.TheVariants.{Begin, View, Get, Set, SetTagged, GetTagged, Scan, Delete}
+use Rattle.vl_script.specs.declared.line.Line.TheVariants.{Commit, Drop, Rotate, Flush, Keep, GetAt, Plan, Install}
 
 -- a scan asks for one row at least, as each does that is a line of the language
 abbrev pub AsksForRow : Line → Type 0

@@ -81,7 +81,8 @@ without_merges l = record l { live = []; job = None; next_table = 0; retired = f
 -- were given up may stand beside it.
 abbrev pub HoldsCommits : {D : Type 0} → Ghosts D → Holding → State → D → Type 0
 HoldsCommits g holds t disk =
-    (s : State) × ((history_of s) ≡ (history_of t)) × (without_merges s.store.layout ≡ without_merges t.store.layout) × Tells g disk (holds s)
+    (s : State) × ((history_of s) ≡ (history_of t)) × (without_merges s.store.layout ≡ without_merges t.store.layout)
+    × Tells g disk (holds s)
 
 -- and it was asked for those that the state counts; the numbers of its files are bounded as there
 abbrev pub HoldsCounted : {D : Type 0} → Ghosts D → Holding → State → D → Type 0

@@ -17,7 +17,8 @@ use Rattle.vl_model.specs.declared.way.Way.{Way}
 use Rattle.vl_replay.specs.Sequential.{State, answer_text, answer_to, history_of, state_after}
 use Rattle.vl_script.specs.Script.{line_of}
 use Rattle.vl_script.specs.declared.line.Line.{Line}
-use Rattle.vl_script.specs.declared.line.Line.TheVariants.{Begin, View, Get, Set, SetTagged, GetTagged, Scan, Delete, Commit, Drop, Rotate, Flush, Keep, GetAt, Plan, Install}
+use Rattle.vl_script.specs.declared.line.Line.TheVariants.{Begin, View, Get, Set, SetTagged, GetTagged, Scan, Delete}
+use Rattle.vl_script.specs.declared.line.Line.TheVariants.{Commit, Drop, Rotate, Flush, Keep, GetAt, Plan, Install}
 
 -- a line with its answer, and the states before and after it
 pub record Exchange : Type 0 where

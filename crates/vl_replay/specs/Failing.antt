@@ -82,5 +82,6 @@ FailsAt manifest lines.Rotate s file = (file ≡ Log s.store.layout.active.numbe
 FailsAt manifest lines.Flush s file = (file ≡ Table s.store.layout.next_table) ⊎ (file ≡ Manifest manifest)
 FailsAt manifest (lines.Keep versions) s file = file ≡ Manifest manifest
 FailsAt manifest (lines.GetAt name key number) s file = ⊥
-FailsAt manifest (lines.Plan name) s file = IsTableBetween s.store.layout.next_table (state_after s (lines.Plan name)).store.layout.next_table file
+FailsAt manifest (lines.Plan name) s file = IsTableBetween s.store.layout.next_table
+    (state_after s (lines.Plan name)).store.layout.next_table file
 FailsAt manifest (lines.Install name) s file = IsTableOf (thing_of s.store name) file ⊎ (file ≡ Manifest manifest)

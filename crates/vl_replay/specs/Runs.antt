@@ -10,7 +10,9 @@ use Rattle.vl_script.specs.Script.{lines_of}
 use Rattle.vl_replay.specs.Sequential.{State, answer_text}
 use Rattle.vl_replay.specs.Exchanges.{Exchange, exchanges_from, last_state, answers_text, ended_lines, KeepsUp}
 use Rattle.vl_replay.specs.Failing.{IsTableRead}
-use Rattle.vl_replay.specs.Endings.{Culprit, NoOne, TheLine, TheWords, TheDisk, TheReader, TheFiles, TheBytes, Memory, TheSource, TheSink, LastPiece, NoPiece, BadLinePiece, Line, LineFront, AnswerFront, end_of, culprit_of, bad_line, last_line, Evidence}
+use Rattle.vl_replay.specs.Endings.{Culprit, NoOne, TheLine, TheWords, TheDisk, TheReader, TheFiles, TheBytes, Memory}
+use Rattle.vl_replay.specs.Endings.{TheSource, TheSink, LastPiece, NoPiece, BadLinePiece, Line, LineFront}
+use Rattle.vl_replay.specs.Endings.{AnswerFront, end_of, culprit_of, bad_line, last_line, Evidence}
 use Rattle.vl_replay.specs.declared.ending.Ending.{Ending}
 
 -- what is to be run: the lines of these bytes, from a state on, so many lines after the script's begin

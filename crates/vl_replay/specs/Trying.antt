@@ -22,7 +22,9 @@ use Rattle.vl_replay.specs.Steps.{Finishes}
 use Rattle.vl_replay.specs.Stored.{IsStored}
 use Rattle.vl_replay.specs.Trial.{EndsTrial, MeetsStop, ReachesEnd, Trial, answered_lines, begun, reopened_state}
 use Rattle.vl_replay.specs.declared.ending.Ending.{Ending}
-use Rattle.vl_replay.specs.declared.ending.Ending.TheVariants.{Complete, BadLine, BadWords, DiskFault, ReaderFault, Refused, Damaged, NoMemory, ReadFault, WriteFault, AnswerCut, Stopped}
+use Rattle.vl_replay.specs.declared.ending.Ending.TheVariants.{Complete, BadLine, BadWords, DiskFault, ReaderFault}
+use Rattle.vl_replay.specs.declared.ending.Ending.TheVariants.{Refused, Damaged, NoMemory, ReadFault, WriteFault}
+use Rattle.vl_replay.specs.declared.ending.Ending.TheVariants.{AnswerCut, Stopped}
 
 -- the bytes of a file of a disk in memory, which it always tells
 abbrev pub all_told : MemHeld → Option (List ℕ)

@@ -34,7 +34,8 @@ fn execute_line<D: Disk>(
 ) -> Result<Option<Vec<u8>>, Halt>
     requires { TakesLines replayer.old }
     ensures answers { (s : State) → StandsFor D.Watched D.Writer.Writer D.Held.bytes replayer.old s
-        → IfOk result (λ out. IsAnswered s text.now (StandsFor D.Watched D.Writer.Writer D.Held.bytes replayer.new) (option_map (λ text. text.items) out)) }
+        → IfOk result (λ out. IsAnswered s text.now (StandsFor D.Watched D.Writer.Writer D.Held.bytes replayer.new)
+        (option_map (λ text. text.items) out)) }
     ensures carries { (s : State) → StandsFor D.Watched D.Writer.Writer D.Held.bytes replayer.old s
         → CarriesOut D.Watched IsStored Shown IsStopped (disk_of replayer.old) (disk_of replayer.new) s
         (state_behind s (exchange_at s text.now)) result }

@@ -108,7 +108,8 @@ fn begin(
     alloc: Global,
     stop: u32,
 ) -> Result<Replayer<StoppingDisk>, OpenFail<StoppingDisk, SteadyReader>>
-    ensures opened { IfOk result (λ replayer. IsOnTrial stop (StandsFor memory.ghosts writing.ghosts all_told replayer) (disk_of replayer)) }
+    ensures opened { IfOk result
+        (λ replayer. IsOnTrial stop (StandsFor memory.ghosts writing.ghosts all_told replayer) (disk_of replayer)) }
     ensures goes_on { IfOk result TakesLines }
     ensures stopped { IfErr result (λ fail. StopsOpening stop fail.why fail.disk) }
 {

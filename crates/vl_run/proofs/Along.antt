@@ -32,5 +32,6 @@ pub given_next : (way : Way) (run entries : List Entry) (i : ℕ) (a e : Entry) 
     → a ≡ get_or (along way entries) i a → (left : List Entry) → Some (drop i (along way run)) ≡ Some left
     → (rest : List Entry) × (left ≡ e ∷ rest) × (Some (drop (i + 1) (along way run)) ≡ Some rest)
 given_next way run entries i a e same is within found =
-    let at : e ≡ get_or (along way run) i e = is ∙ found ∙ ap (λ x. get_or (along way entries) i x) (sym is) ∙ ap (λ l. get_or (along way l) i e) same in
+    let at : e ≡ get_or (along way run) i e = is ∙ found ∙ ap (λ x. get_or (along way entries) i x) (sym is)
+    ∙ ap (λ l. get_or (along way l) i e) same in
     gives_next (along way run) i e (omega (arith, within, length-along way run, ap length same)) at

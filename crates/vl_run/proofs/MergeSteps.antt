@@ -1,11 +1,13 @@
 -- Two lists in order merged into one, a step at a time.
-use Rattle.std.proofs.Common.{◌≡◌, ℕ, zero, suc, ◌+◌, ◌<◌, ◌≤◌, List, [], ◌∷◌, ◌++◌, length, drop, get_or, refl, ap, sym, ◌∙◌, subst, arith, append-nil, append_assoc}
+use Rattle.std.proofs.Common.{◌≡◌, ℕ, zero, suc, ◌+◌, ◌<◌, ◌≤◌, List, [], ◌∷◌, ◌++◌, length, drop, get_or, refl, ap}
+use Rattle.std.proofs.Common.{sym, ◌∙◌, subst, arith, append-nil, append_assoc}
 use Rattle.std.proofs.Math.Seq.{drop-cons}
 use Rattle.std.specs.declared.cmp.Ordering.TheVariants.{Less, Equal, Greater}
 use Rattle.vl_model.specs.Entries.{entry_cmp, put, in_order}
 use Rattle.vl_model.specs.declared.entry.Entry.{Entry}
 use Rattle.vl_run.specs.Order.{IsInOrder}
-use Rattle.vl_run.specs.laws.OrderLaws.{entry_total, IsBefore, IsRising, before-all, all-append, in_order-least, in_order-rising, put-equal, rising, turned}
+use Rattle.vl_run.specs.laws.OrderLaws.{entry_total, IsBefore, IsRising, before-all, all-append, in_order-least}
+use Rattle.vl_run.specs.laws.OrderLaws.{in_order-rising, put-equal, rising, turned}
 
 -- what stands at a place, and what comes behind it
 pub drop_at : (es : List Entry) (i : ℕ) (e : Entry) → i < length es → e ≡ get_or es i e → drop i es ≡ e ∷ drop (i + 1) es
@@ -59,7 +61,8 @@ module _ (newer older : List Entry) where
         first : in_order (drop i newer ++ drop j older) ≡ a ∷ in_order (drop (i + 1) newer ++ drop (j + 1) older)
         first =
             ap in_order both_there
-            ∙ ap (put a) (in_order-least (drop (i + 1) newer) b (drop (j + 1) older) (before_tied (drop (i + 1) newer) tied (rising_at newer i a new at_a)) (rising_at older j b old at_b))
+            ∙ ap (put a) (in_order-least (drop (i + 1) newer) b (drop (j + 1) older)
+            (before_tied (drop (i + 1) newer) tied (rising_at newer i a new at_a)) (rising_at older j b old at_b))
             ∙ put-equal a b (in_order (drop (i + 1) newer ++ drop (j + 1) older)) tied
 
     pub takes_older : Merges both i j → entry_cmp a b ≡ Greater → Merges (both ++ b ∷ []) i (j + 1)

@@ -18,7 +18,8 @@ use Rattle.vl_script.specs.declared.line.Line.TheVariants.{Begin, View, Get, Set
 use Rattle.vl_script.specs.declared.line.Line.TheVariants.{Rotate, Flush, Keep, Plan, Install}
 use Rattle.vl_script.specs.declared.answer.Answer.{Answer}
 use Rattle.vl_script.specs.declared.answer.Answer.TheVariants.{Done, Number, Found, FoundTagged, NoValue, Dropped, Rows, Taken, Unknown}
-use Rattle.vl_script.specs.declared.answer.Answer.TheVariants.{ReadOnly, Invalid, TooBig, TooMany, Nothing, Conflict, Full, Idle, Exhausted, Raced}
+use Rattle.vl_script.specs.declared.answer.Answer.TheVariants.{ReadOnly, Invalid, TooBig, TooMany, Nothing, Conflict}
+use Rattle.vl_script.specs.declared.answer.Answer.TheVariants.{Full, Idle, Exhausted, Raced}
 
 -- the longest line, in bytes without its end
 abbrev pub longest_line : ℕ

@@ -40,11 +40,13 @@ pub and_then : {S T : Type 0} (before mid now number : ℕ) (told : Option (List
     (s : S) (r : Result T LogFault)
     → ((bytes : List ℕ) → told ≡ Some bytes → good bytes s → (x : T) → next bytes x → last bytes x)
     → ((bytes : List ℕ) → told ≡ Some bytes → good bytes s → (p : ℕ) → worse bytes p → worst bytes p)
-    → Answers before mid number told good bad (Ok s) → Answers mid now number told next worse r → Answers before now number told last worst r
+    → Answers before mid number told good bad (Ok s) → Answers mid now number told next worse r
+    → Answers before now number told last worst r
 and_then before mid now number told good next last bad worse worst s r f g first second = record {
   cause = subst (λ (n : ℕ). HasCause n now (Failed r)) (first.cause.steady (λ no. no)) second.cause;
   named = second.named;
-  answer = λ bytes is. weaker_answer (next bytes) (last bytes) (worse bytes) (worst bytes) r (f bytes is (first.answer bytes is)) (g bytes is (first.answer bytes is)) (second.answer bytes is);
+  answer = λ bytes is. weaker_answer (next bytes) (last bytes) (worse bytes) (worst bytes) r
+      (f bytes is (first.answer bytes is)) (g bytes is (first.answer bytes is)) (second.answer bytes is);
 }
 
 handed : (S T : Type 0) (e : LogFault) → Failed {T = S} (Err e) ≡ Failed {T = T} (Err e)
@@ -113,7 +115,8 @@ then_gives before now number told good last bad worst s x f a = record {
 }
 
 -- and that damage
-pub then_refuses : {S T : Type 0} (before now number place : ℕ) (told : Option (List ℕ)) (good : List ℕ → S → Type 0) (last : List ℕ → T → Type 0)
+pub then_refuses : {S T : Type 0} (before now number place : ℕ) (told : Option (List ℕ)) (good : List ℕ → S → Type 0)
+    (last : List ℕ → T → Type 0)
     (bad worst : List ℕ → ℕ → Type 0) (s : S) (e : LogFault)
     → e ≡ Damaged (log_name number) place
     → ((bytes : List ℕ) → told ≡ Some bytes → good bytes s → worst bytes place)

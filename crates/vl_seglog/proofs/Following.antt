@@ -1,5 +1,6 @@
 -- Items one behind the other, as they are read from the left, and the places behind them.
-use Rattle.std.proofs.Common.{◌≡◌, ℕ, ◌+◌, ◌<◌, ◌^◌, List, [], ◌∷◌, ◌++◌, length, map, refl, sym, ap, subst, ◌∙◌, append_assoc, length-append, arith}
+use Rattle.std.proofs.Common.{◌≡◌, ℕ, ◌+◌, ◌<◌, ◌^◌, List, [], ◌∷◌, ◌++◌, length, map, refl, sym, ap, subst, ◌∙◌}
+use Rattle.std.proofs.Common.{append_assoc, length-append, arith}
 use Rattle.std.proofs.lemmas.List.{append-nil, map_push}
 use Rattle.vl_model.specs.declared.pointer.Pointer.{Pointer}
 use Rattle.vl_seglog.specs.Commit.{records_spelling}
@@ -23,7 +24,8 @@ module _ {Item : Type 0} (At : ℕ → Item → Type 0) (size : Item → ℕ) wh
   pub one_placed : (from : ℕ) (read : List Item) (place : ℕ) (item : Item) → Placing from read place → At place item
       → Placing from (read ++ item ∷ []) (place + size item)
   one_placed from read place item so at = record {
-    completes = λ others follow. subst (Follow At size from) (sym (append_assoc read (item ∷ []) others)) (so.completes (item ∷ others) (at, follow));
+    completes = λ others follow. subst (Follow At size from) (sym (append_assoc read (item ∷ []) others))
+        (so.completes (item ∷ others) (at, follow));
   }
 
   pub all_placed : (from : ℕ) (read : List Item) (place : ℕ) → Placing from read place → Follow At size from read
@@ -38,7 +40,8 @@ module _ {Item : Type 0} (S : Spelling Item) (view : ReadRecord → Item) (At : 
     pub placed : Placing At size from read place
     pub fits : place + length rest < 2 ^ 64
 
-  pub none_so_far : (from : ℕ) (bytes : List ℕ) (none : List ReadRecord) → none ≡ [] → from + length bytes < 2 ^ 64 → ReadSoFar from bytes 0 none bytes from
+  pub none_so_far : (from : ℕ) (bytes : List ℕ) (none : List ReadRecord) → none ≡ [] → from + length bytes < 2 ^ 64
+      → ReadSoFar from bytes 0 none bytes from
   none_so_far from bytes none is fits = subst (λ (rs : List ReadRecord). ReadSoFar from bytes 0 rs bytes from) (sym is) (record {
     so_far = record { counted = refl; lawful = tt; spelled = refl };
     placed = none_placed At size from;
@@ -52,14 +55,17 @@ module _ {Item : Type 0} (S : Spelling Item) (view : ReadRecord → Item) (At : 
       let long = ap length parts ∙ length-append (S.bytes (view r)) after in
       omega (arith, fits, long, is, sized r)
 
-  pub one_more : (from : ℕ) (bytes : List ℕ) (count : ℕ) (read now : List ReadRecord) (rest : List ℕ) (place step : ℕ) (r : ReadRecord) (after : List ℕ)
-      → ReadSoFar from bytes count read rest place → now ≡ read ++ r ∷ [] → S.lawful (view r) → rest ≡ S.bytes (view r) ++ after → At place r → step ≡ size r
+  pub one_more : (from : ℕ) (bytes : List ℕ) (count : ℕ) (read now : List ReadRecord) (rest : List ℕ) (place step : ℕ)
+      (r : ReadRecord) (after : List ℕ)
+      → ReadSoFar from bytes count read rest place → now ≡ read ++ r ∷ [] → S.lawful (view r)
+      → rest ≡ S.bytes (view r) ++ after → At place r → step ≡ size r
       → ReadSoFar from bytes (count + 1) now after (place + step)
   one_more from bytes count read now rest place step r after so is lawful parts at step_is = record {
     so_far = subst (λ (items : List Item). SoFar S bytes (count + 1) items after) (sym (ap (map view) is ∙ map_push view read r))
         (read_one S bytes count (map view read) rest (view r) after so.so_far lawful parts);
     placed = subst (λ (n : ℕ). Placing At size from now (place + n)) (sym step_is)
-        (subst (λ (rs : List ReadRecord). Placing At size from rs (place + size r)) (sym is) (one_placed At size from read place r so.placed at));
+        (subst (λ (rs : List ReadRecord). Placing At size from rs (place + size r)) (sym is)
+        (one_placed At size from read place r so.placed at));
     fits = step_fits place step rest r after parts step_is so.fits;
   }
 
@@ -69,7 +75,8 @@ write_sized format r = length-record_bytes format r.key r.change
 pub moved_sized : (format : ℕ) (r : ReadRecord) → length ((moves_spelling format).bytes (moved_of r)) ≡ moved_size format r
 moved_sized format r = length-moved_bytes format (moved_of r)
 
-pub write_length_is : (format log version place : ℕ) (r : ReadRecord) → LiesAt format log version place r → r.pointer.length ≡ record_size format r
+pub write_length_is : (format log version place : ℕ) (r : ReadRecord) → LiesAt format log version place r
+    → r.pointer.length ≡ record_size format r
 write_length_is format log version place r at = ap (λ (p : Pointer). p.length) at.pointer_is
 
 pub moved_length_is : (format log place : ℕ) (r : ReadRecord) → LiesMovedAt format log place r → 8 + r.pointer.length ≡ moved_size format r

@@ -8,7 +8,8 @@ use Rattle.vl_model.specs.Formats.{log_format}
 use Rattle.vl_seglog.specs.Frames.{log_header}
 use Rattle.vl_seglog.specs.LogReading.{SaysFormat}
 
-pub no_header : (number : ℕ) (bytes : List ℕ) → number < 2 ^ 32 → ((format : ℕ) → 1 ≤ format → format ≤ log_format → IsHeader files.Log format number bytes → ⊥) → SaysFormat None number bytes
+pub no_header : (number : ℕ) (bytes : List ℕ) → number < 2 ^ 32
+    → ((format : ℕ) → 1 ≤ format → format ≤ log_format → IsHeader files.Log format number bytes → ⊥) → SaysFormat None number bytes
 no_header number bytes fits none format is has =
     none format is.least is.greatest (record {
       format_fits = omega (arith, is.greatest);
@@ -17,7 +18,8 @@ no_header number bytes fits none format is has =
       spelled = sym (take-append-drop 16 bytes) ∙ ap (λ (front : List ℕ). front ++ drop 16 bytes) has;
     })
 
-pub says_format : (format number : ℕ) (bytes : List ℕ) → IsHeader files.Log format number bytes → 1 ≤ format → format ≤ log_format → SaysFormat (Some format) number bytes
+pub says_format : (format number : ℕ) (bytes : List ℕ) → IsHeader files.Log format number bytes → 1 ≤ format
+    → format ≤ log_format → SaysFormat (Some format) number bytes
 says_format format number bytes header least greatest =
     (record { least = least; greatest = greatest }, ap (take 16) header.spelled ∙ take_at (log_header format number) header.rest 16 refl)
 

@@ -1,5 +1,6 @@
 -- Pointers to items one behind the other are found from the left.
-use Rattle.std.proofs.Common.{◌≡◌, ℕ, suc, ◌+◌, ◌<◌, ◌≤◌, ◌^◌, List, [], ◌∷◌, ◌++◌, length, drop, get_or, refl, sym, ap, subst, ◌∙◌, append_assoc, length-append, arith}
+use Rattle.std.proofs.Common.{◌≡◌, ℕ, suc, ◌+◌, ◌<◌, ◌≤◌, ◌^◌, List, [], ◌∷◌, ◌++◌, length, drop, get_or, refl, sym}
+use Rattle.std.proofs.Common.{ap, subst, ◌∙◌, append_assoc, length-append, arith}
 use Rattle.std.proofs.Math.Seq.{drop-cons}
 use Rattle.std.proofs.lemmas.List.{append-nil, drop_all}
 use Rattle.vl_model.specs.Frames.{moved_length, record_length}
@@ -53,11 +54,13 @@ module _ {Item : Type 0} (L : Lying Item) where
     pub short : length (series_bytes L.spelling left) < 2 ^ 32
     pub fits : place + length (series_bytes L.spelling left) < 2 ^ 64
 
-  one_more : (place : ℕ) (found all : List Pointer) (x : Item) (left : List Item) → UnderWay place found all (x ∷ left) → UnderWay (place + L.size x) (found ++ L.pointer place x ∷ []) all left
+  one_more : (place : ℕ) (found all : List Pointer) (x : Item) (left : List Item) → UnderWay place found all (x ∷ left)
+      → UnderWay (place + L.size x) (found ++ L.pointer place x ∷ []) all left
   one_more place found all x left so_far =
       let long = length-append (L.spelling.bytes x) (series_bytes L.spelling left) in
       record {
-        so_far = append_assoc found (L.pointer place x ∷ []) (L.from (place + L.size x) left) ∙ ap (λ (ps : List Pointer). found ++ ps) (sym (L.more place x left)) ∙ so_far.so_far;
+        so_far = append_assoc found (L.pointer place x ∷ []) (L.from (place + L.size x) left)
+            ∙ ap (λ (ps : List Pointer). found ++ ps) (sym (L.more place x left)) ∙ so_far.so_far;
         short = omega (arith, so_far.short, long);
         fits = omega (arith, so_far.fits, long, L.sized x);
       }
@@ -68,7 +71,8 @@ module _ {Item : Type 0} (L : Lying Item) where
       let more : i + 1 ≡ suc i = omega arith in
       rw more (drop-cons xs i x lt ∙ ap (λ (y : Item). y ∷ drop (suc i) xs) (sym is))
 
-  module _ (place : ℕ) (found all : List Pointer) (xs : List Item) (i : ℕ) (x : Item) (lt : i < length xs) (is : x ≡ get_or xs i x) (so_far : UnderWay place found all (drop i xs)) where
+  module _ (place : ℕ) (found all : List Pointer) (xs : List Item) (i : ℕ) (x : Item) (lt : i < length xs)
+      (is : x ≡ get_or xs i x) (so_far : UnderWay place found all (drop i xs)) where
     first : UnderWay place found all (x ∷ drop (i + 1) xs)
     first = subst (λ (left : List Item). UnderWay place found all left) (here xs i x lt is) so_far
 
@@ -83,7 +87,9 @@ module _ {Item : Type 0} (L : Lying Item) where
     next_fits = omega (arith, next.fits)
 
   -- when none is left, they are the pointers
-  pub all_found : (place : ℕ) (found all : List Pointer) (xs : List Item) (i : ℕ) → length xs ≤ i → UnderWay place found all (drop i xs) → found ≡ all
+  pub all_found : (place : ℕ) (found all : List Pointer) (xs : List Item) (i : ℕ) → length xs ≤ i
+      → UnderWay place found all (drop i xs) → found ≡ all
   all_found place found all xs i le so_far =
       let none : drop i xs ≡ [] = drop_all i xs le in
-      sym (append-nil found) ∙ ap (λ (ps : List Pointer). found ++ ps) (sym (L.none place)) ∙ ap (λ (left : List Item). found ++ L.from place left) (sym none) ∙ so_far.so_far
+      sym (append-nil found) ∙ ap (λ (ps : List Pointer). found ++ ps) (sym (L.none place))
+      ∙ ap (λ (left : List Item). found ++ L.from place left) (sym none) ∙ so_far.so_far

@@ -87,7 +87,8 @@ all_lead format number place bytes (f ∷ frames) (here, lead) (at, placed) = (
   all_lead format number (place + frame_length format (frame_of f)) bytes frames lead placed,
 )
 
-pub log_pointers_lead : (format number : ℕ) (bytes : List ℕ) (read : LogRead) → ReadsLog number bytes (reading_of read) → read.header ≡ Some format
+pub log_pointers_lead : (format number : ℕ) (bytes : List ℕ) (read : LogRead) → ReadsLog number bytes (reading_of read)
+    → read.header ≡ Some format
     → AreFramesFrom format number 16 read.frames.items
     → AllByRecursion (λ (f : Frame). LeadToAll format number bytes (read_pointers f) (frame_writes (frame_of f))) read.frames.items
 log_pointers_lead format number bytes read reads header placed =

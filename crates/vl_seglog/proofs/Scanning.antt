@@ -16,13 +16,15 @@ use Rattle.vl_seglog.specs.Frames.{frames_grammar}
 use Rattle.vl_seglog.specs.Sealed.{HasLength}
 
 -- a frame begins with its kind and the length of its body
-pub frame_head : (number place : ℕ) (bytes : List ℕ) (kind : FrameKind) (body : List ℕ) → IsSpelled files.Log number place (drop place bytes) kind body
+pub frame_head : (number place : ℕ) (bytes : List ℕ) (kind : FrameKind) (body : List ℕ)
+    → IsSpelled files.Log number place (drop place bytes) kind body
     → bytes_at place 5 bytes ≡ frame_code kind ∷ big_bytes 4 (length body)
 unfolding frame_bytes
 frame_head number place bytes kind body s = ap (take 5) s.spelled
 
 -- and is inside the file
-pub frame_inside : (number place : ℕ) (bytes : List ℕ) (kind : FrameKind) (body : List ℕ) → IsSpelled files.Log number place (drop place bytes) kind body → place + frame_length (length body) ≤ length bytes
+pub frame_inside : (number place : ℕ) (bytes : List ℕ) (kind : FrameKind) (body : List ℕ)
+    → IsSpelled files.Log number place (drop place bytes) kind body → place + frame_length (length body) ≤ length bytes
 frame_inside number place bytes kind body s =
     let frame = frame_bytes number place kind body in
     omega (arith, ap length s.spelled, length-append frame s.rest, length-frame_bytes number place kind body, length-drop place bytes)
@@ -32,21 +34,25 @@ module _ (format number place : ℕ) (bytes : List ℕ) (n : ℕ) (slice : List 
   whole = sym (take-append-drop n (drop place bytes)) ∙ ap (λ (l : List ℕ). l ++ drop n (drop place bytes)) (sym cut)
 
   -- what stands in the bytes that were cut out stands there
-  pub stands_there : (f : LogFrame) (rest : List ℕ) → StandsAt (frames_grammar format) number place slice f rest → StandsAt (frames_grammar format) number place (drop place bytes) f (rest ++ drop n (drop place bytes))
+  pub stands_there : (f : LogFrame) (rest : List ℕ) → StandsAt (frames_grammar format) number place slice f rest
+      → StandsAt (frames_grammar format) number place (drop place bytes) f (rest ++ drop n (drop place bytes))
   stands_there f rest s =
       let frame = item_frame (frames_grammar format) number place f in
       record {
         lawful = s.lawful;
         short = s.short;
-        spelled = whole ∙ ap (λ (l : List ℕ). l ++ drop n (drop place bytes)) s.spelled ∙ append_assoc frame rest (drop n (drop place bytes));
+        spelled = whole ∙ ap (λ (l : List ℕ). l ++ drop n (drop place bytes)) s.spelled
+            ∙ append_assoc frame rest (drop n (drop place bytes));
       }
 
   -- and where none does in as many as a frame there has, none stands
-  pub none_there : HasLength number place bytes n → StandsNone (frames_grammar format) number place slice → StandsNone (frames_grammar format) number place (drop place bytes)
+  pub none_there : HasLength number place bytes n → StandsNone (frames_grammar format) number place slice
+      → StandsNone (frames_grammar format) number place (drop place bytes)
   none_there has none f rest s =
       let frame = item_frame (frames_grammar format) number place f in
       let long : length frame ≡ n =
-      length-frame_bytes number place (frame_kind f) (frame_body format f) ∙ sym (has (frame_kind f) (frame_body format f) (frame_of (frames_grammar format) number place (drop place bytes) f rest s)) in
+      length-frame_bytes number place (frame_kind f) (frame_body format f)
+      ∙ sym (has (frame_kind f) (frame_body format f) (frame_of (frames_grammar format) number place (drop place bytes) f rest s)) in
       none f [] (record {
         lawful = s.lawful;
         short = s.short;

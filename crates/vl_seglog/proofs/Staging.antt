@@ -24,15 +24,23 @@ pub written : (log place : ℕ) (f : LogFrame) (out : List ℕ) → out ≡ fram
 written log place f out frame lawful short =
     let long : length out ≡ length (frame_body log_format f) + 13 =
     ap length frame ∙ length-frame_bytes log place (frame_kind f) (frame_body log_format f) in
-    record { frame = frame; has = record { lawful = lawful; short = omega (arith, short) }; long = long; short = omega (arith, short, long) }
+    record {
+      frame = frame;
+      has = record { lawful = lawful; short = omega (arith, short) };
+      long = long;
+      short = omega
+          (arith, short, long);
+    }
 
 -- its parts
-pub commit_long : (log place number : ℕ) (writes : List (List ℕ × Change)) (out : List ℕ) → IsWritten log place (Committed number writes) out → length out ≡ 25 + length (records_bytes log_format writes)
+pub commit_long : (log place number : ℕ) (writes : List (List ℕ × Change)) (out : List ℕ)
+    → IsWritten log place (Committed number writes) out → length out ≡ 25 + length (records_bytes log_format writes)
 commit_long log place number writes out w = omega (arith, w.long, body_length log_format (record { number = number; writes = writes }))
 
 move_long : (records : List Moved) → length (relocation_body log_format records) ≡ 4 + length (moves_bytes log_format records)
 unfolding relocation_body
 move_long records = omega arith
 
-pub relocation_long : (log place : ℕ) (records : List Moved) (out : List ℕ) → IsWritten log place (Relocated records) out → length out ≡ 17 + length (moves_bytes log_format records)
+pub relocation_long : (log place : ℕ) (records : List Moved) (out : List ℕ)
+    → IsWritten log place (Relocated records) out → length out ≡ 17 + length (moves_bytes log_format records)
 relocation_long log place records out w = omega (arith, w.long, move_long records)

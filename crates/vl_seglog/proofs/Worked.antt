@@ -12,7 +12,9 @@ use Rattle.vl_seglog.specs.Relocation.{relocation_body}
 
 -- Log 1 with commit 1, which sets key 61 to value 01 with tag 7, and a relocation, which writes that record again: the header, and
 -- of each frame its kind, the body's length, the body, and the check, which another program computed.
-pub worked_log : log_bytes 2 1 (Committed 1 ((97 ∷ [], Set (tagged (1 ∷ []) 7)) ∷ []) ∷ Relocated (record { key = 97 ∷ []; version = 1; value = tagged (1 ∷ []) 7 } ∷ []) ∷ [])
+pub worked_log : log_bytes 2 1
+    (Committed 1 ((97 ∷ [], Set (tagged (1 ∷ []) 7)) ∷ []) ∷ Relocated
+    (record { key = 97 ∷ []; version = 1; value = tagged (1 ∷ []) 7 } ∷ []) ∷ [])
     ≡ 0x56 ∷ 0x4c ∷ 0x4f ∷ 0x47 ∷ 0 ∷ 0 ∷ 0 ∷ 2 ∷ 0 ∷ 0 ∷ 0 ∷ 1 ∷ 0 ∷ 0 ∷ 0 ∷ 0
     ∷ 1 ∷ 0 ∷ 0 ∷ 0 ∷ 22
     ∷ 0 ∷ 0 ∷ 0 ∷ 0 ∷ 0 ∷ 0 ∷ 0 ∷ 1 ∷ 0 ∷ 0 ∷ 0 ∷ 1

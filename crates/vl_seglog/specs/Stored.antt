@@ -1,5 +1,6 @@
 -- Where the records of a frame lie in their log, and what a pointer leads to there.
-use Rattle.std.specs.Prelude.{◌≡◌, ℕ, ◌+◌, Bool, ◌&&◌, ◌==◌, if◌then◌else◌, List, [], ◌∷◌, length, take, drop, get_or, map, bytes_eq, Option, Some, None}
+use Rattle.std.specs.Prelude.{◌≡◌, ℕ, ◌+◌, Bool, ◌&&◌, ◌==◌, if◌then◌else◌, List, [], ◌∷◌, length, take, drop, get_or}
+use Rattle.std.specs.Prelude.{map, bytes_eq, Option, Some, None}
 use Rattle.vl_model.specs.Formats.{record_head, tag_kept}
 use Rattle.vl_model.specs.Frames.{frame_length, moved_length, record_length}
 use Rattle.vl_model.specs.Keys.{Stored, is_key_length, is_value_length, tagged, value_length}

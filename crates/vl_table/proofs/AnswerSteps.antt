@@ -40,11 +40,13 @@ pub and_then : {S T : Type 0} (before mid now number : ℕ) (told : Option (List
     (s : S) (r : Result T TableFault)
     → ((bytes : List ℕ) → told ≡ Some bytes → good bytes s → (x : T) → next bytes x → last bytes x)
     → ((bytes : List ℕ) → told ≡ Some bytes → good bytes s → (p : ℕ) → worse bytes p → worst bytes p)
-    → Answers before mid number told good bad (Ok s) → Answers mid now number told next worse r → Answers before now number told last worst r
+    → Answers before mid number told good bad (Ok s) → Answers mid now number told next worse r
+    → Answers before now number told last worst r
 and_then before mid now number told good next last bad worse worst s r f g first second = record {
   cause = subst (λ (n : ℕ). HasCause n now (Failed r)) (first.cause.steady (λ no. no)) second.cause;
   named = second.named;
-  answer = λ bytes is. weaker_answer (next bytes) (last bytes) (worse bytes) (worst bytes) r (f bytes is (first.answer bytes is)) (g bytes is (first.answer bytes is)) (second.answer bytes is);
+  answer = λ bytes is. weaker_answer (next bytes) (last bytes) (worse bytes) (worst bytes) r
+      (f bytes is (first.answer bytes is)) (g bytes is (first.answer bytes is)) (second.answer bytes is);
 }
 
 handed : (S T : Type 0) (e : TableFault) → Failed {T = S} (Err e) ≡ Failed {T = T} (Err e)
@@ -109,14 +111,17 @@ handed_need S T (Disk name) need = tt
 handed_need S T (Damaged name place) need = tt
 
 -- a fault that is handed on is no want of memory either
-pub none_needed : (S : Type 0) {T : Type 0} (e f : TableFault) (r : Result T TableFault) → r ≡ Err f → f ≡ e → NeedsNoMemory {T = S} (Err e) → NeedsNoMemory r
+pub none_needed : (S : Type 0) {T : Type 0} (e f : TableFault) (r : Result T TableFault) → r ≡ Err f → f ≡ e
+    → NeedsNoMemory {T = S} (Err e) → NeedsNoMemory r
 none_needed S {T} e f r is same need =
-    subst (NeedsNoMemory {T = T}) (sym is) (subst (λ (why : TableFault). NeedsNoMemory {T = T} (Err why)) (sym same) (handed_need S T e need))
+    subst (NeedsNoMemory {T = T}) (sym is)
+    (subst (λ (why : TableFault). NeedsNoMemory {T = T} (Err why)) (sym same) (handed_need S T e need))
 
 -- nothing that was read before is damage
 pub behind : {S T : Type 0} (before mid now number : ℕ) (told : Option (List ℕ)) (good : List ℕ → S → Type 0) (last : List ℕ → T → Type 0)
     (worst : List ℕ → ℕ → Type 0) (s : S) (r : Result T TableFault)
-    → Answers before mid number told good (λ bytes damage. ⊥) (Ok s) → Answers mid now number told last worst r → Answers before now number told last worst r
+    → Answers before mid number told good (λ bytes damage. ⊥) (Ok s) → Answers mid now number told last worst r
+    → Answers before now number told last worst r
 behind before mid now number told good last worst s r first second =
     and_then before mid now number told good last last (λ bytes damage. ⊥) worst worst s r
     (λ bytes is read x fine. fine) (λ bytes is read place bad. bad) first second

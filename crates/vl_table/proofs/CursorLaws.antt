@@ -24,7 +24,8 @@ module _ {H R : Type 0} where
   rise_same c d goes = λ i. rise_over (goes.span i) (goes.tables i).items
 
   pub goes_on : (c d e : TableCursor H R) → GoesOn c d → GoesOn d e → GoesOn c e
-  goes_on c d e first second = record { tables = second.tables ∙ first.tables; span = second.span ∙ first.span; way = second.way ∙ first.way }
+  goes_on c d e first second = record
+      { tables = second.tables ∙ first.tables; span = second.span ∙ first.span; way = second.way ∙ first.way }
 
   pub unread_stays : (c d : TableCursor H R) → StaysIn c d → unread d ≡ unread c
   unread_stays c d s = λ i.
@@ -37,22 +38,28 @@ module _ {H R : Type 0} where
 
 module _ {H R : Type 0} (bytes_of : H → Option (List ℕ)) where
   -- nothing is read or given
-  pub keeps_step : (c d : TableCursor H R) → GoesOn c d → (rise_over c.span c.tables.items ≡ true → unread d ≡ unread c) → in_block d ≡ in_block c
+  pub keeps_step : (c d : TableCursor H R) → GoesOn c d → (rise_over c.span c.tables.items ≡ true → unread d ≡ unread c)
+      → in_block d ≡ in_block c
       → Keeps (cursor_left bytes_of c) (cursor_left bytes_of d)
   keeps_step c d goes same here =
       let b = rise_over c.span c.tables.items in
-      subst (λ (t : Bool). Keeps (cursor_left bytes_of c) (left_of t (in_block d) (entries_told bytes_of d.span d.way (unread d)))) (sym (rise_same c d goes))
+      subst (λ (t : Bool). Keeps (cursor_left bytes_of c)
+      (left_of t (in_block d) (entries_told bytes_of d.span d.way (unread d)))) (sym (rise_same c d goes))
       (keeps_all b (entries_told bytes_of c.span c.way (unread c)) (entries_told bytes_of d.span d.way (unread d)) (in_block c) (in_block d)
       (λ rises. sym (λ i. entries_told bytes_of (goes.span i) (goes.way i) (same rises i))) (sym here))
 
   -- a block is read
-  pub keeps_read : (c d : TableCursor H R) → GoesOn c d → ReadsNext bytes_of c d → in_block c ≡ [] → Keeps (cursor_left bytes_of c) (cursor_left bytes_of d)
+  pub keeps_read : (c d : TableCursor H R) → GoesOn c d → ReadsNext bytes_of c d → in_block c ≡ []
+      → Keeps (cursor_left bytes_of c) (cursor_left bytes_of d)
   keeps_read c d goes next none =
-      subst (Keeps (cursor_left bytes_of c)) (λ i. left_of (sym (rise_same c d goes) i) (in_block d) (entries_told bytes_of (sym goes.span i) (sym goes.way i) (unread d)))
-      (reads_in bytes_of c.span c.way (rise_over c.span c.tables.items) next.block (unread c) (unread d) next.entries (in_block c) (in_block d) next.passed next.stood none next.taken)
+      subst (Keeps (cursor_left bytes_of c))
+      (λ i. left_of (sym (rise_same c d goes) i) (in_block d) (entries_told bytes_of (sym goes.span i) (sym goes.way i) (unread d)))
+      (reads_in bytes_of c.span c.way (rise_over c.span c.tables.items) next.block (unread c) (unread d) next.entries
+      (in_block c) (in_block d) next.passed next.stood none next.taken)
 
   -- a block is read later
-  pub reads_later : (c d e : TableCursor H R) → GoesOn c d → (rise_over c.span c.tables.items ≡ true → unread d ≡ unread c) → ReadsNext bytes_of d e → ReadsNext bytes_of c e
+  pub reads_later : (c d e : TableCursor H R) → GoesOn c d
+      → (rise_over c.span c.tables.items ≡ true → unread d ≡ unread c) → ReadsNext bytes_of d e → ReadsNext bytes_of c e
   reads_later c d e goes same next = record {
     block = next.block;
     passed = λ rises. sym (same rises) ∙ next.passed (rise_same c d goes ∙ rises);
@@ -64,7 +71,8 @@ module _ {H R : Type 0} (bytes_of : H → Option (List ℕ)) where
   pub reads_none : (c d : TableCursor H R) → (rise_over c.span c.tables.items ≡ true → unread d ≡ unread c) → HasRead bytes_of c d
   reads_none c d same = record { read = []; passed = λ rises. sym (same rises); stood = tt }
 
-  pub reads_on : (c d e : TableCursor H R) → GoesOn c d → HasRead bytes_of c d → (rise_over d.span d.tables.items ≡ true → unread e ≡ unread d) → HasRead bytes_of c e
+  pub reads_on : (c d e : TableCursor H R) → GoesOn c d → HasRead bytes_of c d
+      → (rise_over d.span d.tables.items ≡ true → unread e ≡ unread d) → HasRead bytes_of c e
   reads_on c d e goes has same = record {
     read = has.read;
     passed = λ rises. has.passed rises ∙ ap (λ (l : List (Block H)). has.read ++ l) (sym (same (rise_same c d goes ∙ rises)));

@@ -1,5 +1,6 @@
 -- A look-up in a block halves.
-use Rattle.std.specs.Prelude.{◌≡◌, ◌+◌, ◌<◌, ◌≤◌, ℕ, zero, suc, Bool, true, false, cond, List, [], ◌∷◌, Option, None, Some, get_or, length, slice_get}
+use Rattle.std.specs.Prelude.{◌≡◌, ◌+◌, ◌<◌, ◌≤◌, ℕ, zero, suc, Bool, true, false, cond, List, [], ◌∷◌, Option, None}
+use Rattle.std.specs.Prelude.{Some, get_or, length, slice_get}
 use Rattle.std.specs.List.{AllByRecursion, prefix_len}
 use Rattle.std.proofs.Common.{refl, ap, subst, ◌∙◌, arith}
 use Rattle.vl_model.specs.declared.entry.Entry.{Entry}
@@ -20,7 +21,8 @@ module _ {X : Type 0} (p : X → Bool) where
   -- where an element passes, all before it do, so it is within the first that pass
   pub passes-prefix : (xs : List X) (i : ℕ) (x : X) → IsParted p xs → slice_get xs i ≡ Some x → p x ≡ true → i + 1 ≤ prefix_len p xs
   passes-prefix [] i x parted at passes = absurd cc
-  passes-prefix (y ∷ ys) zero x parted at passes = omega (arith, ap (λ (b : Bool). cond b (1 + prefix_len p ys) 0) (ap p (same y x at) ∙ passes))
+  passes-prefix (y ∷ ys) zero x parted at passes = omega
+      (arith, ap (λ (b : Bool). cond b (1 + prefix_len p ys) 0) (ap p (same y x at) ∙ passes))
     where
       same : (a b : X) → Some a ≡ Some b → a ≡ b
       same a b e = cc
@@ -31,7 +33,8 @@ module _ {X : Type 0} (p : X → Bool) where
         ap (λ (b : Bool). cond b (1 + prefix_len p ys) 0) (before ys i parted.0 at passes),
       )
     where
-      before : (zs : List X) (i : ℕ) → AllByRecursion (λ later. p later ≡ true → p y ≡ true) zs → slice_get zs i ≡ Some x → p x ≡ true → p y ≡ true
+      before : (zs : List X) (i : ℕ) → AllByRecursion (λ later. p later ≡ true → p y ≡ true) zs
+          → slice_get zs i ≡ Some x → p x ≡ true → p y ≡ true
       before [] i all at passes = absurd cc
       before (z ∷ zs) zero all at passes = all.0 (ap p (same z x at) ∙ passes)
         where
@@ -67,7 +70,8 @@ starts-counted format bytes [] (e ∷ es) are = absurd are
 starts-counted format bytes (p ∷ ps) [] are = absurd are
 starts-counted format bytes (p ∷ ps) (e ∷ es) are = ap suc (starts-counted format bytes ps es are.1)
 
-pub starts-at : (format : ℕ) (bytes places : List ℕ) (es : List Entry) (i d : ℕ) (e : Entry) → AreStarts format bytes places es → slice_get es i ≡ Some e
+pub starts-at : (format : ℕ) (bytes places : List ℕ) (es : List Entry) (i d : ℕ) (e : Entry)
+    → AreStarts format bytes places es → slice_get es i ≡ Some e
     → StartsAt format bytes (get_or places i d) e
 starts-at format bytes [] [] i d e are at = absurd cc
 starts-at format bytes [] (f ∷ fs) i d e are at = absurd are
@@ -107,7 +111,8 @@ ordered-rising format (e ∷ []) ordered = (tt, tt)
 ordered-rising format (e ∷ f ∷ fs) ordered =
     let rest = ordered-rising format (f ∷ fs) ordered.1 in ((ordered.0, before-all e f fs ordered.0 rest.0), rest)
 
-module _ (key : List ℕ) (version format : ℕ) (bytes places : List ℕ) (es : List Entry) (block : IsBlock format es) (are : AreStarts format bytes places es) where
+module _ (key : List ℕ) (version format : ℕ) (bytes places : List ℕ) (es : List Entry) (block : IsBlock format es)
+    (are : AreStarts format bytes places es) where
   -- the entry with an index, and what is known of it
   pub record At (i : ℕ) : Type 0 where
     pub entry : Entry
@@ -128,10 +133,12 @@ module _ (key : List ℕ) (version format : ℕ) (bytes places : List ℕ) (es :
   pub goes_up : (low high i : ℕ) (e : At i) → Between low high (prefix_len (is_ahead key version) es) → is_ahead key version e.entry ≡ true
       → Between (i + 1) high (prefix_len (is_ahead key version) es)
   goes_up low high i e between ahead = record {
-    from = passes-prefix (is_ahead key version) es i e.entry (rising-parted key version es (ordered-rising format es block.ordered)) e.at ahead;
+    from = passes-prefix (is_ahead key version) es i e.entry
+        (rising-parted key version es (ordered-rising format es block.ordered)) e.at ahead;
     upto = between.upto;
   }
 
-  pub goes_down : (low high i : ℕ) (e : At i) → Between low high (prefix_len (is_ahead key version) es) → is_ahead key version e.entry ≡ false
+  pub goes_down : (low high i : ℕ) (e : At i) → Between low high (prefix_len (is_ahead key version) es)
+      → is_ahead key version e.entry ≡ false
       → Between low i (prefix_len (is_ahead key version) es)
   goes_down low high i e between ahead = record { from = between.from; upto = fails-prefix (is_ahead key version) es i e.entry e.at ahead }

@@ -30,7 +30,8 @@ header_fewer format number bytes h = record {
     format_fits = h.header.format_fits;
     number_fits = h.header.number_fits;
     rest = [];
-    spelled = ap (take 16) h.header.spelled ∙ take_at (header_bytes files.Table format number) h.header.rest 16 (sym (length-header_bytes files.Table format number))
+    spelled = ap (take 16) h.header.spelled ∙ take_at (header_bytes files.Table format number) h.header.rest 16
+        (sym (length-header_bytes files.Table format number))
         ∙ sym (append-nil (header_bytes files.Table format number));
   };
 }

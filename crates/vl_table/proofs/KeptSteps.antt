@@ -1,5 +1,7 @@
 -- Blocks that are kept stay so, whichever comes to the front.
-use Rattle.std.specs.Prelude.{◌≡◌, ◌==◌, ◌&&◌, ◌||◌, ◌+◌, ◌<◌, ◌≤◌, ℕ, zero, suc, Bool, true, false, cond, List, [], ◌∷◌, ◌++◌, Option, None, Some, Result, Ok, Err, OnOk, OnErr, drop, get_or, length, slice_set, take}
+use Rattle.std.specs.Prelude.{◌≡◌, ◌==◌, ◌&&◌, ◌||◌, ◌+◌, ◌<◌, ◌≤◌, ℕ, zero, suc, Bool, true, false, cond, List, []}
+use Rattle.std.specs.Prelude.{◌∷◌, ◌++◌, Option, None, Some, Result, Ok, Err, OnOk, OnErr, drop, get_or, length}
+use Rattle.std.specs.Prelude.{slice_set, take}
 use Rattle.std.specs.List.{AllByRecursion}
 use Rattle.std.proofs.Common.{refl, sym, ap, subst, ◌∙◌, append_assoc, append-nil, arith, drop_of_length-le}
 use Rattle.std.proofs.lemmas.List.{drop_more, take_all, take-append-drop}
@@ -62,12 +64,14 @@ brought-all P id front (slot ∷ slots) here all = by (has_block id front) (brou
   where
     by : (t : Bool) → P (brought id slot slots).0 × AllByRecursion P (brought id slot slots).1
         → P (cond {A = Slot × List Slot} t (front, slot ∷ slots) ((brought id slot slots).0, front ∷ (brought id slot slots).1)).0
-        × AllByRecursion P (cond {A = Slot × List Slot} t (front, slot ∷ slots) ((brought id slot slots).0, front ∷ (brought id slot slots).1)).1
+        × AllByRecursion P (cond {A = Slot × List Slot} t (front, slot ∷ slots)
+        ((brought id slot slots).0, front ∷ (brought id slot slots).1)).1
     by true rest = (here, all)
     by false rest = (rest.0, (here, rest.1))
 
 -- where one has the block the front has it then
-pub brought-has : (id : BlockId) (front : Slot) (others : List Slot) → is_among id (front ∷ others) ≡ true → has_block id (brought id front others).0 ≡ true
+pub brought-has : (id : BlockId) (front : Slot) (others : List Slot) → is_among id (front ∷ others) ≡ true
+    → has_block id (brought id front others).0 ≡ true
 brought-has id front [] is = or_false (has_block id front) is
   where
     or_false : (b : Bool) → (b || false) ≡ true → b ≡ true
@@ -77,7 +81,8 @@ brought-has id front (slot ∷ slots) is = by (has_block id front) refl is (brou
   where
     by : (t : Bool) → has_block id front ≡ t → (t || is_among id (slot ∷ slots)) ≡ true
         → (is_among id (slot ∷ slots) ≡ true → has_block id (brought id slot slots).0 ≡ true)
-        → has_block id (cond {A = Slot × List Slot} t (front, slot ∷ slots) ((brought id slot slots).0, front ∷ (brought id slot slots).1)).0 ≡ true
+        → has_block id (cond {A = Slot × List Slot} t (front, slot ∷ slots)
+        ((brought id slot slots).0, front ∷ (brought id slot slots).1)).0 ≡ true
     by true here is rest = here
     by false here is rest = rest is
 
@@ -86,7 +91,8 @@ brought-has id front (slot ∷ slots) is = by (has_block id front) refl is (brou
 -- so far the slots before a position have moved back, and from there on it goes as from the first on
 abbrev pub Bringing : BlockId → (front : Slot) → (others : List Slot) → Slot → List Slot → ℕ → Type 0
 Bringing id front others now slots i =
-    ◌≡◌ {A = Slot × List Slot} (brought id front others) ((brought id now (drop i slots)).0, take i slots ++ (brought id now (drop i slots)).1)
+    ◌≡◌ {A = Slot × List Slot} (brought id front others)
+    ((brought id now (drop i slots)).0, take i slots ++ (brought id now (drop i slots)).1)
 
 abbrev joined_to : List Slot → Slot × List Slot → Slot × List Slot
 joined_to front r = (r.0, front ++ r.1)
@@ -113,10 +119,12 @@ set-drop (s ∷ slots) (suc i) x within =
     one_more : (n : ℕ) → suc n + 1 ≡ suc (n + 1)
     one_more n = omega arith
 
-pub brings_on : (id : BlockId) (front : Slot) (others : List Slot) (now : Slot) (slots : List Slot) (i : ℕ) (next d : Slot) (new : List Slot) → i < length slots
+pub brings_on : (id : BlockId) (front : Slot) (others : List Slot) (now : Slot) (slots : List Slot) (i : ℕ)
+    (next d : Slot) (new : List Slot) → i < length slots
     → has_block id now ≡ false → next ≡ get_or slots i d → new ≡ slice_set slots i now → Bringing id front others now slots i
     → Bringing id front others next new (i + 1)
-brings_on id front others now slots i next d new within has is put so = so ∙ ap (λ (l : List Slot). joined_to (take i slots) (brought id now l)) split ∙ swapped ∙ sym behind
+brings_on id front others now slots i next d new within has is put so = so
+    ∙ ap (λ (l : List Slot). joined_to (take i slots) (brought id now l)) split ∙ swapped ∙ sym behind
   where
     split : drop i slots ≡ next ∷ drop (i + 1) slots
     split = drop_more slots i d within ∙ ap (λ (s : Slot). s ∷ drop (i + 1) slots) (sym is)
@@ -130,27 +138,32 @@ brings_on id front others now slots i next d new within has is put so = so ∙ a
         ap (paired (brought id next (drop (i + 1) slots)).0)
         (sym (append_assoc (take i slots) (now ∷ []) (brought id next (drop (i + 1) slots)).1))
 
-    swapped : joined_to (take i slots) (brought id now (next ∷ drop (i + 1) slots)) ≡ joined_to (take i slots ++ now ∷ []) (brought id next (drop (i + 1) slots))
+    swapped : joined_to (take i slots) (brought id now (next ∷ drop (i + 1) slots)) ≡ joined_to
+        (take i slots ++ now ∷ []) (brought id next (drop (i + 1) slots))
     swapped = by (has_block id now) has
 
-    behind : joined_to (take (i + 1) new) (brought id next (drop (i + 1) new)) ≡ joined_to (take i slots ++ now ∷ []) (brought id next (drop (i + 1) slots))
+    behind : joined_to (take (i + 1) new) (brought id next (drop (i + 1) new)) ≡ joined_to (take i slots ++ now ∷ [])
+        (brought id next (drop (i + 1) slots))
     behind =
         ap (λ (l : List Slot). joined_to (take (i + 1) new) (brought id next l)) (ap (drop (i + 1)) put ∙ set-drop slots i now within)
         ∙ ap (λ (l : List Slot). joined_to l (brought id next (drop (i + 1) slots))) (ap (take (i + 1)) put ∙ set-take slots i now within)
 
 -- all slots were passed, or the front has the block
-pub brings_all : (id : BlockId) (front : Slot) (others : List Slot) (now : Slot) (slots : List Slot) (i : ℕ) → length slots ≤ i → Bringing id front others now slots i
+pub brings_all : (id : BlockId) (front : Slot) (others : List Slot) (now : Slot) (slots : List Slot) (i : ℕ)
+    → length slots ≤ i → Bringing id front others now slots i
     → brought id front others ≡ (now, slots)
 brings_all id front others now slots i past so =
     so ∙ ap (λ (l : List Slot). joined_to (take i slots) (brought id now l)) (drop_of_length-le slots past)
     ∙ ap (paired now) (append-nil (take i slots) ∙ take_all i slots past)
 
-pub brings_here : (id : BlockId) (front : Slot) (others : List Slot) (now : Slot) (slots : List Slot) (i : ℕ) → has_block id now ≡ true → Bringing id front others now slots i
+pub brings_here : (id : BlockId) (front : Slot) (others : List Slot) (now : Slot) (slots : List Slot) (i : ℕ)
+    → has_block id now ≡ true → Bringing id front others now slots i
     → brought id front others ≡ (now, slots)
 brings_here id front others now slots i has so = so ∙ by (drop i slots) ∙ ap (paired now) (take-append-drop i slots)
   where
     test : (slot : Slot) (rest : List Slot) (t : Bool) → t ≡ true
-        → joined_to (take i slots) (cond {A = Slot × List Slot} t (now, slot ∷ rest) ((brought id slot rest).0, now ∷ (brought id slot rest).1))
+        → joined_to (take i slots)
+        (cond {A = Slot × List Slot} t (now, slot ∷ rest) ((brought id slot rest).0, now ∷ (brought id slot rest).1))
         ≡ paired now (take i slots ++ slot ∷ rest)
     test slot rest true is = refl
     test slot rest false is = absurd cc
@@ -174,11 +187,13 @@ kept-push files (s ∷ slots) slot all one = (all.0, kept-push files slots slot 
 module _ {R : Type 0} (files : Files) (id : BlockId) (old new : BlockReader R) (front : Slot) (others : List Slot)
     (kept : AreKept files old) (slots : brought id old.front old.others.items ≡ (front, others)) where
   pub front-kept : IsKept files front
-  front-kept = subst (λ (r : Slot × List Slot). IsKept files r.0) slots (brought-all (IsKept files) id old.front old.others.items kept.front kept.others).0
+  front-kept = subst (λ (r : Slot × List Slot). IsKept files r.0) slots
+      (brought-all (IsKept files) id old.front old.others.items kept.front kept.others).0
 
   pub others-kept : AllByRecursion (IsKept files) others
   others-kept =
-      subst (λ (r : Slot × List Slot). AllByRecursion (IsKept files) r.1) slots (brought-all (IsKept files) id old.front old.others.items kept.front kept.others).1
+      subst (λ (r : Slot × List Slot). AllByRecursion (IsKept files) r.1) slots
+      (brought-all (IsKept files) id old.front old.others.items kept.front kept.others).1
 
   -- where the front is kept all are
   pub still-kept : IsKept files new.front → new.others.items ≡ others → AreKept files new
@@ -187,8 +202,10 @@ module _ {R : Type 0} (files : Files) (id : BlockId) (old new : BlockReader R) (
 -- ---- a block that was read
 
 -- what was read is in the slot
-pub slot_has : (slot : Slot) (id : BlockId) (bytes frame starts : List ℕ) (count : ℕ) (es : List Entry) → slot.block ≡ Some id → slot.frame.items ≡ frame
-    → slot.starts.items ≡ starts → slot.count ≡ count → HasFrame id bytes (take id.length frame) (take count starts) es → HasBlock slot id bytes es
+pub slot_has : (slot : Slot) (id : BlockId) (bytes frame starts : List ℕ) (count : ℕ) (es : List Entry)
+    → slot.block ≡ Some id → slot.frame.items ≡ frame
+    → slot.starts.items ≡ starts → slot.count ≡ count → HasFrame id bytes (take id.length frame) (take count starts) es
+    → HasBlock slot id bytes es
 slot_has slot id bytes frame starts count es block frames all counts has = record {
   block = block;
   has = subst (λ (f : List ℕ). HasFrame id bytes (take id.length f) (take slot.count slot.starts.items) es) (sym frames)
@@ -208,7 +225,8 @@ loaded-kept files before now told id slot (Ok done) is empty file answers = λ o
   where
     same_some : (a b : BlockId) → Some a ≡ Some b → a ≡ b
     same_some a b e = cc
-loaded-kept files before now told id slot (Err e) is empty file answers = λ other block bytes stands. absurd (none other (sym empty ∙ block))
+loaded-kept files before now told id slot (Err e) is empty file answers = λ other block bytes stands. absurd
+    (none other (sym empty ∙ block))
   where
     none : (b : BlockId) → None ≡ Some b → ⊥
     none b e = cc

@@ -1,5 +1,6 @@
 -- A look-up finds in its blocks what it would find in all entries of the table.
-use Rattle.std.proofs.Common.{◌≡◌, ℕ, suc, ◌+◌, ◌≤◌, Bool, true, false, cond, List, [], ◌∷◌, ◌++◌, length, drop, refl, ap, sym, ◌∙◌, arith, Option}
+use Rattle.std.proofs.Common.{◌≡◌, ℕ, suc, ◌+◌, ◌≤◌, Bool, true, false, cond, List, [], ◌∷◌, ◌++◌, length, drop, refl}
+use Rattle.std.proofs.Common.{ap, sym, ◌∙◌, arith, Option}
 use Rattle.std.specs.List.{AllByRecursion, prefix_len}
 use Rattle.vl_model.specs.Winners.{winner, exact}
 use Rattle.vl_model.specs.declared.entry.Entry.{Entry}
@@ -11,7 +12,8 @@ use Rattle.vl_run.specs.laws.Lookup.{found_winner, rising-parted, found_exact}
 use Rattle.vl_run.specs.Lookups.{is_ahead, if_of_key, if_exact, or_else, is_below, first_failing, IsParted, first_over}
 use Rattle.vl_block.specs.declared.index.BlockPlace.{BlockPlace}
 use Rattle.vl_block.specs.Bytes.{block_places}
-use Rattle.vl_run.specs.laws.LookupLaws.{all-back, all-front, below-chain, first_failing-append, none_failing, rising-back, rising-front, below-ahead}
+use Rattle.vl_run.specs.laws.LookupLaws.{all-back, all-front, below-chain, first_failing-append, none_failing}
+use Rattle.vl_run.specs.laws.LookupLaws.{rising-back, rising-front, below-ahead}
 
 module _ (key : List ℕ) (version : ℕ) where
   -- where the last key of entries in order is below the key, they all come before its place
@@ -32,7 +34,8 @@ module _ (key : List ℕ) (version : ℕ) where
 
   -- a look-up may begin behind the blocks whose last key is below the key
   pub first-skipped : (format at : ℕ) (bs : List (List Entry)) → IsRising (joined bs)
-      → first_over key version (drop (prefix_len (λ (p : BlockPlace). is_below key p.last) (block_places format at bs)) bs) ≡ first_over key version bs
+      → first_over key version
+      (drop (prefix_len (λ (p : BlockPlace). is_below key p.last) (block_places format at bs)) bs) ≡ first_over key version bs
   first-skipped format at [] rising = refl
   first-skipped format at (b ∷ bs) rising =
       by (first-skipped format (at + block_frame_length format b) bs (rising-back b (joined bs) rising)) (is_below key (last_key b)) refl
@@ -81,7 +84,8 @@ module _ (key : List ℕ) (version : ℕ) where
       → IsParted (λ (p : BlockPlace). is_below key p.last) (block_places format at bs)
   index-parted format at [] some rising = tt
   index-parted format at (b ∷ bs) some rising = (
-    of_blocks (λ k. is_below key k ≡ true → is_below key (last_key b) ≡ true) format (at + block_frame_length format b) bs some.1 (behind-last b (joined bs) some.0 rising),
+    of_blocks (λ k. is_below key k ≡ true → is_below key (last_key b) ≡ true) format (at + block_frame_length format b)
+        bs some.1 (behind-last b (joined bs) some.0 rising),
     index-parted format (at + block_frame_length format b) bs some.1 (rising-back b (joined bs) rising),
   )
 

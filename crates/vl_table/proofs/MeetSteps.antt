@@ -38,7 +38,8 @@ module _ (t : TableShape) (key : List ℕ) (version : ℕ) (bytes : List ℕ) wh
     split : drop at t.blocks.items ≡ p ∷ drop (at + 1) t.blocks.items
     split = drop_more t.blocks.items at p within ∙ ap (λ (q : BlockPlace). q ∷ drop (at + 1) t.blocks.items) (sym named)
 
-    meets : (first : Option Entry) → MeetsFirst (first_failing (is_ahead key version) es) first (Meets t.format t.number bytes key version (drop (at + 1) t.blocks.items) first)
+    meets : (first : Option Entry) → MeetsFirst (first_failing (is_ahead key version) es) first
+        (Meets t.format t.number bytes key version (drop (at + 1) t.blocks.items) first)
         → Meets t.format t.number bytes key version (drop at t.blocks.items) first
     meets first is = subst (λ (l : List BlockPlace). Meets t.format t.number bytes key version l first) (sym split) (es, stands, is)
 
@@ -48,12 +49,17 @@ module _ (t : TableShape) (key : List ℕ) (version : ℕ) (bytes : List ℕ) wh
     met_here makes e found so first is = record {
       met = λ rises. (
         Some e,
-        so rises (Some e) (meets (Some e) (subst (λ (o : Option Entry). MeetsFirst o (Some e) (Meets t.format t.number bytes key version (drop (at + 1) t.blocks.items) (Some e))) (sym first) refl)),
+        so rises (Some e) (meets (Some e)
+            (subst (λ (o : Option Entry). MeetsFirst o (Some e)
+            (Meets t.format t.number bytes key version (drop (at + 1) t.blocks.items) (Some e))) (sym first) refl)),
         is,
       );
     }
 
     -- it has none
-    pub met_behind : MetSoFar t key version bytes at → first_failing (is_ahead key version) es ≡ None → MetSoFar t key version bytes (at + 1)
+    pub met_behind : MetSoFar t key version bytes at → first_failing (is_ahead key version) es ≡ None
+        → MetSoFar t key version bytes (at + 1)
     met_behind so none rises first later =
-        so rises first (meets first (subst (λ (o : Option Entry). MeetsFirst o first (Meets t.format t.number bytes key version (drop (at + 1) t.blocks.items) first)) (sym none) later))
+        so rises first (meets first
+        (subst (λ (o : Option Entry). MeetsFirst o first
+        (Meets t.format t.number bytes key version (drop (at + 1) t.blocks.items) first)) (sym none) later))

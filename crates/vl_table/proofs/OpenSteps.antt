@@ -18,21 +18,31 @@ use Rattle.vl_table.specs.OpenBlocks.{Begins, IsOpen, said_at}
 use Rattle.vl_table.proofs.BlockSays.{entry_in-says, framed}
 
 -- more bytes behind those in which an entry starts make no difference
-longer : (format : ℕ) (bytes more : List ℕ) (place : ℕ) (e : Entry) → StartsAt format bytes place e → StartsAt format (bytes ++ more) place e
+longer : (format : ℕ) (bytes more : List ℕ) (place : ℕ) (e : Entry) → StartsAt format bytes place e
+    → StartsAt format (bytes ++ more) place e
 longer format bytes more place e starts =
-    let inside : place ≤ length bytes = omega (arith, length-drop place bytes, ap length starts.spelled, length-append (entry_bytes format e) starts.rest, entry_is_some format e) in
+    let inside : place ≤ length bytes = omega (
+      arith,
+      length-drop place bytes,
+      ap length starts.spelled,
+      length-append (entry_bytes format e) starts.rest,
+      entry_is_some format e,
+    ) in
     record {
       rest = starts.rest ++ more;
-      spelled = drop-append-le place bytes more inside ∙ ap (λ (l : List ℕ). l ++ more) starts.spelled ∙ append_assoc (entry_bytes format e) starts.rest more;
+      spelled = drop-append-le place bytes more inside ∙ ap (λ (l : List ℕ). l ++ more) starts.spelled
+          ∙ append_assoc (entry_bytes format e) starts.rest more;
     }
 
-all_longer : (format : ℕ) (bytes more : List ℕ) (places : List ℕ) (es : List Entry) → AreStarts format bytes places es → AreStarts format (bytes ++ more) places es
+all_longer : (format : ℕ) (bytes more : List ℕ) (places : List ℕ) (es : List Entry) → AreStarts format bytes places es
+    → AreStarts format (bytes ++ more) places es
 all_longer format bytes more [] [] are = tt
 all_longer format bytes more [] (e ∷ es) are = absurd are
 all_longer format bytes more (p ∷ ps) [] are = absurd are
 all_longer format bytes more (p ∷ ps) (e ∷ es) are = (longer format bytes more p e are.0, all_longer format bytes more ps es are.1)
 
-said_all : (format : ℕ) (bytes places : List ℕ) (es : List Entry) → AllByRecursion (IsEntry format) es → AreStarts format bytes places es → said_at format bytes places ≡ es
+said_all : (format : ℕ) (bytes places : List ℕ) (es : List Entry) → AllByRecursion (IsEntry format) es
+    → AreStarts format bytes places es → said_at format bytes places ≡ es
 said_all format bytes [] [] each are = refl
 said_all format bytes [] (e ∷ es) each are = absurd are
 said_all format bytes (p ∷ ps) [] each are = absurd are
@@ -90,7 +100,8 @@ said_here format count index start frame places e open_block within here found =
     let inside : index < length xs = omega (arith, within, length-map xs say) in
     let few : index < count = omega (arith, inside, length-take count places) in
     let same : get_or xs index start ≡ start = get_or-take count places index start few ∙ sym here in
-    let b : Begins format bytes start = subst (Begins format bytes) same (each_at (Begins format bytes) xs index start open_block.each inside) in
+    let b : Begins format bytes start = subst (Begins format bytes) same
+    (each_at (Begins format bytes) xs index start open_block.each inside) in
     found b.entry b.lawful b.starts
     ∙ sym (ap (entry_in format) b.starts.spelled ∙ entry_in-says format b.entry b.starts.rest b.lawful)
     ∙ ap say (sym same)
@@ -98,7 +109,8 @@ said_here format count index start frame places e open_block within here found =
 
 -- ---- a block that was read
 
-pub opens : (format count : ℕ) (frame places now now_places : List ℕ) → now ≡ frame → now_places ≡ places → length frame ≡ 4190 → length places ≡ 347
+pub opens : (format count : ℕ) (frame places now now_places : List ℕ) → now ≡ frame → now_places ≡ places
+    → length frame ≡ 4190 → length places ≡ 347
     → count ≤ 347 → AllByRecursion (Begins format (drop 9 frame)) (take count places) → IsOpen format now now_places count
 opens format count frame places now now_places same same_places room places_room few each = record {
   room = ap length same ∙ room;

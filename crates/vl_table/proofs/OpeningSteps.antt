@@ -11,7 +11,8 @@ use Rattle.vl_table.specs.declared.fault.TableFault.{TableFault}
 use Rattle.vl_table.specs.declared.opening.Parts.{Parts}
 
 module _ (format number : ℕ) (bytes : List ℕ) where
-  has_footer : (place : ℕ) (f : Foot) → IsBegun format number bytes → IsPlace bytes place → StandsFooter format number bytes place f → HasFooter number bytes format f
+  has_footer : (place : ℕ) (f : Foot) → IsBegun format number bytes → IsPlace bytes place
+      → StandsFooter format number bytes place f → HasFooter number bytes format f
   has_footer place f begun at stands = record {
     begun = begun;
     inside = subst (IsInside bytes) at.0 at.1;
@@ -23,21 +24,33 @@ module _ (format number : ℕ) (bytes : List ℕ) where
   led_damage f damage has (without_filter ps index p named none) = no_filter format f has ps index p named none.0 none.1
 
   -- what the stages behind the place miss is the table's damage
-  parts_damage : (place : ℕ) → IsBegun format number bytes → IsPlace bytes place → (damage : ℕ) → NoParts format number place bytes damage → IsDamaged number bytes damage
+  parts_damage : (place : ℕ) → IsBegun format number bytes → IsPlace bytes place → (damage : ℕ)
+      → NoParts format number place bytes damage → IsDamaged number bytes damage
   parts_damage place begun at damage (without_footer none) =
-      no_footer format begun (subst (IsInside bytes) at.0 at.1) (subst (λ (n : ℕ). (f : Foot) → StandsFooter format number bytes n f → ⊥) at.0 none.0) (none.1 ∙ at.0)
+      no_footer format begun (subst (IsInside bytes) at.0 at.1)
+      (subst (λ (n : ℕ). (f : Foot) → StandsFooter format number bytes n f → ⊥) at.0 none.0) (none.1 ∙ at.0)
   parts_damage place begun at damage (with_footer f stands none) = led_damage f damage (has_footer place f begun at stands) none
 
   -- all stages went well
   pub is_read : (place : ℕ) (parts : Parts) → IsBegun format number bytes → IsPlace bytes place → HasParts format number place bytes parts
-      → IsRead number bytes (record { format = format; foot = foot_of parts.footer; place = place; places = parts.blocks.items; bits = parts.filter.items })
+      → IsRead number bytes (record
+      { format = format; foot = foot_of parts.footer; place = place; places = parts.blocks.items; bits = parts.filter.items })
   is_read place parts begun at has =
       let footer = has_footer place (foot_of parts.footer) begun at has.footer in
-      record { begun = begun; inside = footer.inside; footer = footer.footer; index = has.rest.index; filter = has.rest.filter; place = at.0 }
+      record {
+        begun = begun;
+        inside = footer.inside;
+        footer = footer.footer;
+        index = has.rest.index;
+        filter = has.rest.filter;
+        place = at.0;
+      }
 
 -- the last stage, behind the others
-pub opened : {T : Type 0} (format number : ℕ) (told : Option (List ℕ)) (a b c d place : ℕ) (good : List ℕ → T → Type 0) (r : Result T TableFault)
-    → Answers {T = ℕ} a b number told (λ bytes f. IsBegun f number bytes) (NoHeader number) (Ok format) → Answers b c number told IsPlace NoPlace (Ok place)
+pub opened : {T : Type 0} (format number : ℕ) (told : Option (List ℕ)) (a b c d place : ℕ) (good : List ℕ → T → Type 0)
+    (r : Result T TableFault)
+    → Answers {T = ℕ} a b number told (λ bytes f. IsBegun f number bytes) (NoHeader number) (Ok format)
+    → Answers b c number told IsPlace NoPlace (Ok place)
     → Answers {T = T} c d number told good (NoParts format number place) r
     → Answers {T = T} a d number told (λ bytes x. IsBegun format number bytes × IsPlace bytes place × good bytes x) (IsDamaged number) r
 opened format number told a b c d place good r first second third =

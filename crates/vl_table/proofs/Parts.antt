@@ -1,7 +1,8 @@
 -- One frame of a table, cut out of its bytes.
 use Rattle.std.specs.Prelude.{◌≡◌, ◌+◌, ◌-◌, ◌≤◌, ℕ, List, [], ◌∷◌, ◌++◌, take, drop, length}
 use Rattle.std.proofs.Common.{refl, ap, sym, ◌∙◌, append-nil, length-append, arith, Vec}
-use Rattle.std.proofs.lemmas.List.{drop-append-le, drop-drop, take_at, take-append-drop, take-append-le, length-drop, length-take-le, with_items_is}
+use Rattle.std.proofs.lemmas.List.{drop-append-le, drop-drop, take_at, take-append-drop, take-append-le, length-drop}
+use Rattle.std.proofs.lemmas.List.{length-take-le, with_items_is}
 use Rattle.std.proofs.Math.Seq.{take-length}
 use Rattle.std.specs.Vec.{with_items}
 use Rattle.vl_disk.specs.DiskState.{bytes_at}
@@ -21,7 +22,8 @@ pub fills : (number place : ℕ) (b : List ℕ) (kind : FrameKind) (body : List 
     → b ≡ frame_bytes number place kind body
 fills number place b kind body s sized =
     let frame = frame_bytes number place kind body in
-    let none : length s.rest ≡ 0 = omega (arith, sized, ap length s.spelled, length-append frame s.rest, length-frame_bytes number place kind body) in
+    let none : length s.rest ≡ 0 = omega
+    (arith, sized, ap length s.spelled, length-append frame s.rest, length-frame_bytes number place kind body) in
     s.spelled ∙ ap (λ (r : List ℕ). frame ++ r) (nothing_left s.rest none) ∙ append-nil frame
 
 -- what was cut out is a frame, so it stands there
@@ -33,7 +35,8 @@ stands number place size kind bytes b body cut s sized filled = record {
     in_file = s.in_file;
     short = s.short;
     rest = drop size (drop place bytes);
-    spelled = sym (take-append-drop size (drop place bytes)) ∙ ap (λ (l : List ℕ). l ++ drop size (drop place bytes)) (sym cut ∙ fills number place b kind body s sized);
+    spelled = sym (take-append-drop size (drop place bytes))
+        ∙ ap (λ (l : List ℕ). l ++ drop size (drop place bytes)) (sym cut ∙ fills number place b kind body s sized);
   };
   sized = filled ∙ sized;
 }
@@ -60,14 +63,23 @@ pub lies_inside : (number place size : ℕ) (kind : FrameKind) (bytes body : Lis
     → FrameAt number bytes place size kind body → place + size ≤ length bytes
 lies_inside number place size kind bytes body at =
     let frame = frame_bytes number place kind body in
-    omega (arith, at.sized, ap length at.frame.spelled, length-append frame at.frame.rest, length-frame_bytes number place kind body, length-drop place bytes)
+    omega (
+      arith,
+      at.sized,
+      ap length at.frame.spelled,
+      length-append frame at.frame.rest,
+      length-frame_bytes number
+          place kind body,
+      length-drop place bytes,
+    )
 
 pub body_behind : (number place : ℕ) (kind : FrameKind) (body frame : List ℕ) → frame ≡ frame_bytes number place kind body
     → take (length frame - 8 - 5) (drop 5 frame) ≡ body
 unfolding frame_bytes
 body_behind number place kind body frame is =
     ap (λ (l : List ℕ). take (length l - 8 - 5) (drop 5 l)) is
-    ∙ take_at body (check_of number place kind body) (length (frame_bytes number place kind body) - 8 - 5) (omega (arith, length-frame_bytes number place kind body))
+    ∙ take_at body (check_of number place kind body) (length (frame_bytes number place kind body) - 8 - 5)
+    (omega (arith, length-frame_bytes number place kind body))
 
 pub length-cut : (place size : ℕ) (bytes : List ℕ) → place + size ≤ length bytes → length (bytes_at place size bytes) ≡ size
 length-cut place size bytes inside = length-take-le size (drop place bytes) (omega (arith, inside, length-drop place bytes))
@@ -86,11 +98,13 @@ whole_rest place size bytes is =
     ap (λ (n : ℕ). take n (drop place bytes)) (is ∙ sym (length-drop place bytes)) ∙ take-length (drop place bytes)
 
 -- a part of the bytes that stand from a place on
-pub part_of : (place from n : ℕ) (bytes items rest : List ℕ) → from ≤ place → (place - from) + n ≤ length items → drop from bytes ≡ items ++ rest
+pub part_of : (place from n : ℕ) (bytes items rest : List ℕ) → from ≤ place → (place - from) + n ≤ length items
+    → drop from bytes ≡ items ++ rest
     → take n (drop (place - from) items) ≡ bytes_at place n bytes
 part_of place from n bytes items rest le within is =
     let past = place - from in
     let there : place ≡ from + past = omega (arith, le) in
     let enough : n ≤ length (drop past items) = omega (arith, within, length-drop past items) in
-    sym (ap (λ (k : ℕ). take n (drop k bytes)) there ∙ ap (take n) (sym (drop-drop past from bytes)) ∙ ap (λ (l : List ℕ). take n (drop past l)) is
+    sym (ap (λ (k : ℕ). take n (drop k bytes)) there ∙ ap (take n) (sym (drop-drop past from bytes))
+    ∙ ap (λ (l : List ℕ). take n (drop past l)) is
     ∙ ap (take n) (drop-append-le past items rest (omega (arith, within))) ∙ take-append-le n (drop past items) rest enough)

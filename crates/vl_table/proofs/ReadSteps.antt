@@ -18,12 +18,14 @@ module _ (id : BlockId) (bytes written old body : List ℕ) (size : ℕ) (sized 
     (at : FrameAt id.number bytes id.place size kinds.Block body) (is : written ≡ frame_bytes id.number id.place kinds.Block body) where
   pub front_is : take id.length (written ++ drop id.length old) ≡ frame_bytes id.number id.place kinds.Block body
   front_is =
-      take_at written (drop id.length old) id.length (ap length is ∙ length-frame_bytes id.number id.place kinds.Block body ∙ sym at.sized ∙ sized) ∙ is
+      take_at written (drop id.length old) id.length
+      (ap length is ∙ length-frame_bytes id.number id.place kinds.Block body ∙ sym at.sized ∙ sized) ∙ is
 
   pub stands_at : FrameAt id.number bytes id.place id.length kinds.Block body
   stands_at = subst (λ (n : ℕ). FrameAt id.number bytes id.place n kinds.Block body) sized at
 
-  pub has_frame : (said starts : List ℕ) (es : List Entry) → said ≡ body → SpellsBlock id.format said es → AreStarts id.format (drop 4 said) starts es
+  pub has_frame : (said starts : List ℕ) (es : List Entry) → said ≡ body → SpellsBlock id.format said es
+      → AreStarts id.format (drop 4 said) starts es
       → HasFrame id bytes (take id.length (written ++ drop id.length old)) starts es
   has_frame said starts es same says are = record {
     stands = record { body = body; frame = stands_at; says = subst (λ (b : List ℕ). SpellsBlock id.format b es) same says };
@@ -35,5 +37,6 @@ module _ (id : BlockId) (bytes written old body : List ℕ) (size : ℕ) (sized 
   pub not_block : (said : List ℕ) → said ≡ body → ((es : List Entry) → SpellsBlock id.format said es → ⊥)
       → (es : List Entry) → StandsBlock id.format id.number bytes id.place id.length es → ⊥
   not_block said same none es stands =
-      let one = one_frame files.Table id.number id.place (drop id.place bytes) kinds.Block kinds.Block body stands.body at.frame stands.frame.frame in
+      let one = one_frame files.Table id.number id.place (drop id.place bytes) kinds.Block kinds.Block body stands.body
+      at.frame stands.frame.frame in
       none es (subst (λ (b : List ℕ). SpellsBlock id.format b es) (sym (same ∙ one.1)) stands.says)

@@ -1,7 +1,8 @@
 -- What holds of a result that is handed on.
 use Rattle.std.specs.Prelude.{◌≡◌, true, false, Option, None, Some, Result, Ok, Err, IfOk, IfNone}
 
-pub none_weaker : {T E : Type 0} (r : Result (Option T) E) (P Q : Type 0) → (P → Q) → IfOk r (λ read. IfNone read P) → IfOk r (λ read. IfNone read Q)
+pub none_weaker : {T E : Type 0} (r : Result (Option T) E) (P Q : Type 0) → (P → Q) → IfOk r (λ read. IfNone read P)
+    → IfOk r (λ read. IfNone read Q)
 none_weaker (Ok None) P Q f p = f p
 none_weaker (Ok (Some x)) P Q f p = tt
 none_weaker (Err e) P Q f p = tt

@@ -77,8 +77,10 @@ module _ {H : Type 0} (bytes_of : H → Option (List ℕ)) (t : Table H) (key : 
       → Answers {T = Unit {0}} b c (number_of t) (bytes_of t.held) (Loaded t p slot) (NoBlock (shape_of t).format (number_of t) p) (Err e)
       → Answers {T = Option Found} a c (number_of t) (bytes_of t.held) (Finds bytes_of t key version) (IsBadBlock (shape_of t)) (Err e)
   load_fails a b c slot e same load =
-      subst (λ (n : ℕ). Answers {T = Option Found} n c (number_of t) (bytes_of t.held) (Finds bytes_of t key version) (IsBadBlock (shape_of t)) (Err e)) same
-      (fails b c (number_of t) (bytes_of t.held) (Loaded t p slot) (Finds bytes_of t key version) (NoBlock (shape_of t).format (number_of t) p) (IsBadBlock (shape_of t)) e
+      subst (λ (n : ℕ). Answers {T = Option Found} n c (number_of t) (bytes_of t.held) (Finds bytes_of t key version)
+      (IsBadBlock (shape_of t)) (Err e)) same
+      (fails b c (number_of t) (bytes_of t.held) (Loaded t p slot) (Finds bytes_of t key version)
+      (NoBlock (shape_of t).format (number_of t) p) (IsBadBlock (shape_of t)) e
       (λ bytes told damage none. record { at = i; place = p; named = within; place_is = found; none = none }) load)
 
   -- the block of a true table that was loaded
@@ -91,7 +93,8 @@ module _ {H : Type 0} (bytes_of : H → Option (List ℕ)) (t : Table H) (key : 
       let same : bytes ≡ table_bytes s.format s.number es = some_same bytes (table_bytes s.format s.number es) (sym told ∙ is.told) in (
         b,
         block_is slot (id_of s p) (table_bytes s.format s.number es) others b.block
-            (subst (λ (l : List ℕ). HasBlock slot (id_of (shape_of t) p) l others) same has) (block_stands s.format s.number es i p is.shape.table b),
+            (subst (λ (l : List ℕ). HasBlock slot (id_of (shape_of t) p) l others) same has)
+            (block_stands s.format s.number es i p is.shape.table b),
       )
     where
       some_same : (x y : List ℕ) → Some x ≡ Some y → x ≡ y
@@ -104,30 +107,37 @@ module _ {H : Type 0} (bytes_of : H → Option (List ℕ)) (t : Table H) (key : 
 
   -- or that all entries come before it
   abbrev pub SaysNone : Slot → Type 0
-  SaysNone slot = (bytes : List ℕ) (es : List Entry) → HasBlock slot (id_of (shape_of t) p) bytes es → first_failing (is_ahead key version) es ≡ None
+  SaysNone slot = (bytes : List ℕ) (es : List Entry) → HasBlock slot (id_of (shape_of t) p) bytes es
+      → first_failing (is_ahead key version) es ≡ None
 
   pub found_here : (a b c : ℕ) (slot : Slot) (x : Option Found) → b ≡ a
-      → Answers {T = Unit {0}} b c (number_of t) (bytes_of t.held) (Loaded t p slot) (NoBlock (shape_of t).format (number_of t) p) (Ok (tt {0}))
+      → Answers {T = Unit {0}} b c (number_of t) (bytes_of t.held) (Loaded t p slot)
+      (NoBlock (shape_of t).format (number_of t) p) (Ok (tt {0}))
       → Says slot x
       → ((es : List Entry) → IsOf bytes_of t es
       → first_over key version (drop i (blocks (shape_of t).format es)) ≡ first_over key version (blocks (shape_of t).format es))
       → Answers {T = Option Found} a c (number_of t) (bytes_of t.held) (Finds bytes_of t key version) (IsBadBlock (shape_of t)) (Ok x)
   found_here a b c slot x same load says so_far =
-      subst (λ (n : ℕ). Answers {T = Option Found} n c (number_of t) (bytes_of t.held) (Finds bytes_of t key version) (IsBadBlock (shape_of t)) (Ok x)) same
+      subst (λ (n : ℕ). Answers {T = Option Found} n c (number_of t) (bytes_of t.held) (Finds bytes_of t key version)
+      (IsBadBlock (shape_of t)) (Ok x)) same
       (and_then b c c (number_of t) (bytes_of t.held) (Loaded t p slot) (λ bytes (y : Option Found). y ≡ x) (Finds bytes_of t key version)
       (NoBlock (shape_of t).format (number_of t) p) (λ bytes damage. ⊥) (IsBadBlock (shape_of t)) (tt {0}) (Ok x)
       (λ bytes told has y is_x es is.
       let one = loaded slot bytes es has.0 told is has.1 in
       let said = says bytes has.0 has.1 in
-      let first : first_failing (is_ahead key version) one.0.block ≡ Some said.0 = ap (first_failing (is_ahead key version)) (sym one.1) ∙ said.1 in
+      let first : first_failing (is_ahead key version) one.0.block ≡ Some said.0 = ap
+      (first_failing (is_ahead key version)) (sym one.1) ∙ said.1 in
       let bs = blocks (shape_of t).format es in
       ap (option_map (found_of key)) is_x ∙ said.2 ∙ ap (if_of_key key) (sym first)
-      ∙ ap (if_of_key key) (stops_in key version i bs one.0.front one.0.block one.0.back one.0.split one.0.counted (first_over key version bs) said.0 first (so_far es is)))
+      ∙ ap (if_of_key key) (stops_in key version i bs one.0.front one.0.block one.0.back one.0.split one.0.counted
+      (first_over key version bs) said.0 first (so_far es is)))
       (λ bytes told has damage none. absurd none) load
       (gives c (number_of t) (bytes_of t.held) (λ bytes (y : Option Found). y ≡ x) (λ bytes damage. ⊥) x (λ bytes told. refl)))
 
-  pub moves_on : {R : Type 0} (a b c : ℕ) (files : Files) (old new : BlockReader R) → Seeking bytes_of t key version files a b old i → AreKept files new
-      → Answers {T = Unit {0}} b c (number_of t) (bytes_of t.held) (Loaded t p new.front) (NoBlock (shape_of t).format (number_of t) p) (Ok (tt {0}))
+  pub moves_on : {R : Type 0} (a b c : ℕ) (files : Files) (old new : BlockReader R)
+      → Seeking bytes_of t key version files a b old i → AreKept files new
+      → Answers {T = Unit {0}} b c (number_of t) (bytes_of t.held) (Loaded t p new.front)
+      (NoBlock (shape_of t).format (number_of t) p) (Ok (tt {0}))
       → SaysNone new.front
       → Seeking bytes_of t key version files a c new (i + 1)
   moves_on a b c files old new so kept load says = record {
@@ -148,24 +158,28 @@ module _ {H : Type 0} (bytes_of : H → Option (List ℕ)) (t : Table H) (key : 
 
   -- what was found was met
   pub looks_here : (b c : ℕ) (slot : Slot) (x : Option Found)
-      → Answers {T = Unit {0}} b c (number_of t) (bytes_of t.held) (Loaded t p slot) (NoBlock (shape_of t).format (number_of t) p) (Ok (tt {0}))
+      → Answers {T = Unit {0}} b c (number_of t) (bytes_of t.held) (Loaded t p slot)
+      (NoBlock (shape_of t).format (number_of t) p) (Ok (tt {0}))
       → Says slot x → ForSome (bytes_of t.held) (λ bytes. MetSoFar (shape_of t) key version bytes i)
       → LooksIn bytes_of (if_of_key key) t key version (Ok x)
   looks_here b c slot x load says met = λ bytes told.
       let has = load.answer bytes told in
       let said = says bytes has.0 has.1 in
-      met_here (shape_of t) key version bytes i p within found has.0 has.1.has.stands (if_of_key key) said.0 (option_map (found_of key) x) (met bytes told) said.1 said.2
+      met_here (shape_of t) key version bytes i p within found has.0 has.1.has.stands (if_of_key key) said.0
+      (option_map (found_of key) x) (met bytes told) said.1 said.2
 
 -- what a look-up in a block says of its first entry at or behind the place
 pub says_at : {H : Type 0} (key : List ℕ) (version : ℕ) (t : Table H) (p : BlockPlace) (slot : Slot) (f : Found)
-    → ((bytes : List ℕ) (es : List Entry) → HasBlock slot (id_of (shape_of t) p) bytes es → IsScan key (first_failing (is_ahead key version) es) (scans.At f))
+    → ((bytes : List ℕ) (es : List Entry) → HasBlock slot (id_of (shape_of t) p) bytes es
+    → IsScan key (first_failing (is_ahead key version) es) (scans.At f))
     → (bytes : List ℕ) (es : List Entry) → HasBlock slot (id_of (shape_of t) p) bytes es
     → (e : Entry) × (first_failing (is_ahead key version) es ≡ Some e) × (option_map (found_of key) (Some f) ≡ if_of_key key (Some e))
 says_at key version t p slot f scan bytes es has =
     let said = scan bytes es has in (found_of key f, said.0, sym (sym (ap (if_of_key key) said.0) ∙ said.1))
 
 pub says_other : {H : Type 0} (key : List ℕ) (version : ℕ) (t : Table H) (p : BlockPlace) (slot : Slot)
-    → ((bytes : List ℕ) (es : List Entry) → HasBlock slot (id_of (shape_of t) p) bytes es → IsScan key (first_failing (is_ahead key version) es) scans.Other)
+    → ((bytes : List ℕ) (es : List Entry) → HasBlock slot (id_of (shape_of t) p) bytes es
+    → IsScan key (first_failing (is_ahead key version) es) scans.Other)
     → (bytes : List ℕ) (es : List Entry) → HasBlock slot (id_of (shape_of t) p) bytes es
     → (e : Entry) × (first_failing (is_ahead key version) es ≡ Some e) × (option_map (found_of key) None ≡ if_of_key key (Some e))
 says_other key version t p slot scan bytes es has =
@@ -176,7 +190,8 @@ pub finds_none : {H R : Type 0} (bytes_of : H → Option (List ℕ)) (t : Table 
     (b : BlockReader R) (at : ℕ) → Seeking bytes_of t key version files a c b at → length (shape_of t).blocks.items ≤ at
     → Answers {T = Option Found} a c (number_of t) (bytes_of t.held) (Finds bytes_of t key version) (IsBadBlock (shape_of t)) (Ok None)
 finds_none bytes_of t key version files a c b at so past =
-    subst (λ (n : ℕ). Answers {T = Option Found} n c (number_of t) (bytes_of t.held) (Finds bytes_of t key version) (IsBadBlock (shape_of t)) (Ok None)) so.steady
+    subst (λ (n : ℕ). Answers {T = Option Found} n c (number_of t) (bytes_of t.held) (Finds bytes_of t key version)
+    (IsBadBlock (shape_of t)) (Ok None)) so.steady
     (gives c (number_of t) (bytes_of t.held) (Finds bytes_of t key version) (IsBadBlock (shape_of t)) None
     (λ bytes told es is.
     let bs = blocks (shape_of t).format es in

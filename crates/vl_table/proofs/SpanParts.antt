@@ -49,12 +49,16 @@ module _ {X : Type 0} (test : X → Bool) where
     where
       by : (is_parted test xs ≡ true → IsParted test xs) → (t : Bool) → test x ≡ t
           → list_all (λ y. not (test y)) (drop (cond t (1 + prefix_len test xs) 0) (x ∷ xs)) ≡ true → IsParted test (x ∷ xs)
-      by later true is parted =
-          (passing xs (test x) is, later (ap (λ (n : ℕ). list_all (λ y. not (test y)) (drop n (x ∷ xs))) (sym (one_more (prefix_len test xs))) ∙ parted))
+      by later true is parted = (
+        passing xs (test x) is,
+        later
+            (ap (λ (n : ℕ). list_all (λ y. not (test y)) (drop n (x ∷ xs))) (sym (one_more (prefix_len test xs))) ∙ parted),
+      )
       by later false is parted = parted_none (x ∷ xs) parted
 
   -- none behind one that fails passes
-  none_behind : (xs : List X) (b : Bool) → b ≡ false → AllByRecursion (λ later. test later ≡ true → b ≡ true) xs → list_all (λ x. not (test x)) xs ≡ true
+  none_behind : (xs : List X) (b : Bool) → b ≡ false → AllByRecursion (λ later. test later ≡ true → b ≡ true) xs
+      → list_all (λ x. not (test x)) xs ≡ true
   none_behind [] b is all = refl
   none_behind (x ∷ xs) b is all =
       and_both (not (test x)) (list_all (λ y. not (test y)) xs) (by (test x) all.0) (none_behind xs b is all.1)
@@ -67,6 +71,7 @@ module _ {X : Type 0} (test : X → Bool) where
   parted_to [] parted = refl
   parted_to (x ∷ xs) parted = by (parted_to xs parted.1) (test x) refl
     where
-      by : is_parted test xs ≡ true → (t : Bool) → test x ≡ t → list_all (λ y. not (test y)) (drop (cond t (1 + prefix_len test xs) 0) (x ∷ xs)) ≡ true
+      by : is_parted test xs ≡ true → (t : Bool) → test x ≡ t
+          → list_all (λ y. not (test y)) (drop (cond t (1 + prefix_len test xs) 0) (x ∷ xs)) ≡ true
       by later true is = ap (λ (n : ℕ). list_all (λ y. not (test y)) (drop n (x ∷ xs))) (one_more (prefix_len test xs)) ∙ later
       by later false is = and_both (not (test x)) (list_all (λ y. not (test y)) xs) (ap not is) (none_behind xs (test x) is parted.0)

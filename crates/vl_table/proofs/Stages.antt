@@ -27,7 +27,8 @@ behind_place {T = T} format number told a b c d place good bad worst r first sec
     and_then a b d number told (λ bytes (f : ℕ). IsBegun f number bytes) (λ bytes x. IsPlace bytes place × good bytes x)
     (λ bytes x. IsBegun format number bytes × IsPlace bytes place × good bytes x)
     (NoHeader number) (λ bytes damage. IsPlace bytes place × bad bytes damage) worst format r
-    (λ bytes told_is begun x rest. (begun, rest.0, rest.1)) (λ bytes told_is begun damage rest. worse bytes begun rest.0 damage rest.1) first
+    (λ bytes told_is begun x rest. (begun, rest.0, rest.1))
+    (λ bytes told_is begun damage rest. worse bytes begun rest.0 damage rest.1) first
     (and_then b c d number told IsPlace good (λ bytes x. IsPlace bytes place × good bytes x) NoPlace bad
     (λ bytes damage. IsPlace bytes place × bad bytes damage) place r
     (λ bytes told_is at x is. (at, is)) (λ bytes told_is at damage is. (at, is)) second third)

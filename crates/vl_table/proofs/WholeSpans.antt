@@ -1,5 +1,6 @@
 -- A cursor over true tables has all their entries within its interval to give.
-use Rattle.std.specs.Prelude.{◌≡◌, ◌+◌, ◌-◌, ◌≤◌, ◌&&◌, ℕ, zero, suc, min, not, Bool, true, false, List, [], ◌∷◌, ◌++◌, Option, Some, None, drop, length, reverse, take}
+use Rattle.std.specs.Prelude.{◌≡◌, ◌+◌, ◌-◌, ◌≤◌, ◌&&◌, ℕ, zero, suc, min, not, Bool, true, false, List, [], ◌∷◌}
+use Rattle.std.specs.Prelude.{◌++◌, Option, Some, None, drop, length, reverse, take}
 use Rattle.std.specs.List.{AllByRecursion, prefix_len}
 use Rattle.std.specs.Ordering.{is_lt}
 use Rattle.std.specs.declared.cmp.Ordering.{Ordering}
@@ -64,7 +65,8 @@ up_to_falls (Some high) true e f less is = by (is_lt (key_cmp high e.key)) refl
     by : (t : Bool) → is_lt (key_cmp high e.key) ≡ t → not (is_lt (key_cmp high e.key)) ≡ true
     by false at = ap not at
     by true at =
-        let above : is_lt (key_cmp high f.key) ≡ true = ap is_lt (below_up_to high e.key f.key (lt_less (key_cmp high e.key) at) (keys_up e f less)) in
+        let above : is_lt (key_cmp high f.key) ≡ true = ap is_lt
+        (below_up_to high e.key f.key (lt_less (key_cmp high e.key) at) (keys_up e f less)) in
         absurd (true_not (is_lt (key_cmp high f.key)) is above)
 
 -- ---- blocks of entries in order
@@ -77,7 +79,8 @@ module _ (test : List ℕ → Bool) (falls : Falls test) where
   all_up_to (e ∷ f ∷ fs) rises is = let rest = all_up_to (f ∷ fs) rises.1 is in (falls e f rises.0.0 rest.0, rest)
 
   -- of what stands behind some entries it passes only where it does of their last
-  all_behind : (b rest : List Entry) → 1 ≤ length b → IsRising (b ++ rest) → AllByRecursion (λ f. test f.key ≡ true → test (last_key b) ≡ true) rest
+  all_behind : (b rest : List Entry) → 1 ≤ length b → IsRising (b ++ rest)
+      → AllByRecursion (λ f. test f.key ≡ true → test (last_key b) ≡ true) rest
   all_behind [] rest some rises = absurd (omega arith)
   all_behind (e ∷ []) rest some rises = each rest rises.0
     where
@@ -103,15 +106,18 @@ module _ (test : List ℕ → Bool) (falls : Falls test) where
       → IsParted (λ (p : BlockPlace). test p.last) (block_places format at bs)
   index_parted format at [] some rises = tt
   index_parted format at (b ∷ bs) some rises = (
-    of_blocks (λ k. test k ≡ true → test (last_key b) ≡ true) format (at + block_frame_length format b) bs some.1 (all_behind b (joined bs) some.0 rises),
+    of_blocks (λ k. test k ≡ true → test (last_key b) ≡ true) format (at + block_frame_length format b) bs some.1
+        (all_behind b (joined bs) some.0 rises),
     index_parted format (at + block_frame_length format b) bs some.1 (rising-back b (joined bs) rises),
   )
 
 pub index_rises : (span : Span) (format at : ℕ) (bs : List (List Entry)) → AllByRecursion (λ b. 1 ≤ length b) bs → IsRising (joined bs)
     → rises_over span (block_places format at bs) ≡ true
 index_rises span format at bs some rises =
-    both _ _ (parted_to (ends_before span) (block_places format at bs) (index_parted (λ k. not (is_from span.lo k)) (below_falls span.lo) format at bs some rises))
-    (parted_to (ends_within span) (block_places format at bs) (index_parted (λ k. is_up_to span.hi span.closed k) (up_to_falls span.hi span.closed) format at bs some rises))
+    both _ _ (parted_to (ends_before span) (block_places format at bs)
+    (index_parted (λ k. not (is_from span.lo k)) (below_falls span.lo) format at bs some rises))
+    (parted_to (ends_within span) (block_places format at bs)
+    (index_parted (λ k. is_up_to span.hi span.closed k) (up_to_falls span.hi span.closed) format at bs some rises))
   where
     both : (a b : Bool) → a ≡ true → b ≡ true → a && b ≡ true
     both true b first second = second
@@ -130,7 +136,8 @@ none_within span (e ∷ b) all = ap (λ (t : Bool). cond t (e ∷ within span b)
 short_out : (span : Span) (b : List Entry) → AllByRecursion (λ e. not (is_from span.lo e.key) ≡ true) b → within span b ≡ []
 short_out span b all = none_within span b (each b all)
   where
-    each : (b : List Entry) → AllByRecursion (λ e. not (is_from span.lo e.key) ≡ true) b → AllByRecursion (λ e. is_in_span span e.key ≡ false) b
+    each : (b : List Entry) → AllByRecursion (λ e. not (is_from span.lo e.key) ≡ true) b
+        → AllByRecursion (λ e. is_in_span span e.key ≡ false) b
     each [] all = tt
     each (e ∷ b) all = (ap (λ (t : Bool). t && is_up_to span.hi span.closed e.key) (not_true (is_from span.lo e.key) all.0), each b all.1)
 
@@ -141,7 +148,8 @@ past_out span b all = none_within span b (each b all)
     and_false true = refl
     and_false false = refl
 
-    each : (b : List Entry) → AllByRecursion (λ e. is_up_to span.hi span.closed e.key ≡ false) b → AllByRecursion (λ e. is_in_span span e.key ≡ false) b
+    each : (b : List Entry) → AllByRecursion (λ e. is_up_to span.hi span.closed e.key ≡ false) b
+        → AllByRecursion (λ e. is_in_span span e.key ≡ false) b
     each [] all = tt
     each (e ∷ b) all = (ap (λ (t : Bool). is_from span.lo e.key && t) all.0 ∙ and_false (is_from span.lo e.key), each b all.1)
 
@@ -152,7 +160,8 @@ above_out span (e ∷ es) rises is =
     past_out span (e ∷ es) (
       is,
       all_map (λ f. entry_cmp e f ≡ Less) (λ f. is_up_to span.hi span.closed f.key ≡ false)
-          (λ f less. fails (is_up_to span.hi span.closed f.key) (is_up_to span.hi span.closed e.key) is (up_to_falls span.hi span.closed e f less)) es rises.0,
+          (λ f less. fails (is_up_to span.hi span.closed f.key) (is_up_to span.hi span.closed e.key) is
+          (up_to_falls span.hi span.closed e f less)) es rises.0,
     )
   where
     fails : (t b : Bool) → b ≡ false → (t ≡ true → b ≡ true) → t ≡ false
@@ -167,18 +176,22 @@ before_out : (span : Span) (format at : ℕ) (bs : List (List Entry)) → IsRisi
     → Outside span (take (prefix_len (ends_before span) (block_places format at bs)) bs)
 before_out span format at [] rises = tt
 before_out span format at (b ∷ bs) rises =
-    by (before_out span format (at + block_frame_length format b) bs (rising-back b (joined bs) rises)) (not (is_from span.lo (last_key b))) refl
+    by (before_out span format (at + block_frame_length format b) bs (rising-back b (joined bs) rises))
+    (not (is_from span.lo (last_key b))) refl
   where
     count : ℕ
     count = prefix_len (ends_before span) (block_places format (at + block_frame_length format b) bs)
 
-    by : Outside span (take count bs) → (t : Bool) → not (is_from span.lo (last_key b)) ≡ t → Outside span (take (cond t (1 + count) 0) (b ∷ bs))
+    by : Outside span (take count bs) → (t : Bool) → not (is_from span.lo (last_key b)) ≡ t
+        → Outside span (take (cond t (1 + count) 0) (b ∷ bs))
     by later true is =
-        let here = short_out span b (all_up_to (λ k. not (is_from span.lo k)) (below_falls span.lo) b (rising-front b (joined bs) rises) is) in
+        let here = short_out span b
+        (all_up_to (λ k. not (is_from span.lo k)) (below_falls span.lo) b (rising-front b (joined bs) rises) is) in
         subst (λ (n : ℕ). Outside span (take n (b ∷ bs))) (sym (one_more count)) (here, later)
     by later false is = tt
 
-each_out : (span : Span) (bs : List (List Entry)) → AllByRecursion (λ e. is_up_to span.hi span.closed e.key ≡ false) (joined bs) → Outside span bs
+each_out : (span : Span) (bs : List (List Entry)) → AllByRecursion (λ e. is_up_to span.hi span.closed e.key ≡ false)
+    (joined bs) → Outside span bs
 each_out span [] all = tt
 each_out span (b ∷ bs) all =
     let front = all-front (λ e. is_up_to span.hi span.closed e.key ≡ false) b (joined bs) all in
@@ -188,13 +201,15 @@ each_out span (b ∷ bs) all =
 -- blocks behind the first that ends above it
 behind_out : (span : Span) (format at : ℕ) (bs : List (List Entry)) → AllByRecursion (λ b. 1 ≤ length b) bs → IsRising (joined bs)
     → Outside span (drop (prefix_len (ends_within span) (block_places format at bs) + 1) bs)
-behind_out span format at [] some rises = subst (Outside span) (sym (nothing (prefix_len (ends_within span) (block_places format at []) + 1))) tt
+behind_out span format at [] some rises = subst (Outside span)
+    (sym (nothing (prefix_len (ends_within span) (block_places format at []) + 1))) tt
   where
     nothing : (n : ℕ) → drop {A = List Entry} n [] ≡ []
     nothing zero = refl
     nothing (suc n) = refl
 behind_out span format at (b ∷ bs) some rises =
-    by (behind_out span format (at + block_frame_length format b) bs some.1 (rising-back b (joined bs) rises)) (is_up_to span.hi span.closed (last_key b)) refl
+    by (behind_out span format (at + block_frame_length format b) bs some.1 (rising-back b (joined bs) rises))
+    (is_up_to span.hi span.closed (last_key b)) refl
   where
     count : ℕ
     count = prefix_len (ends_within span) (block_places format (at + block_frame_length format b) bs)
@@ -202,7 +217,8 @@ behind_out span format at (b ∷ bs) some rises =
     two : (n : ℕ) → 1 + n + 1 ≡ suc (n + 1)
     two n = omega arith
 
-    fails : (t : Bool) → (t ≡ true → is_up_to span.hi span.closed (last_key b) ≡ true) → is_up_to span.hi span.closed (last_key b) ≡ false → t ≡ false
+    fails : (t : Bool) → (t ≡ true → is_up_to span.hi span.closed (last_key b) ≡ true)
+        → is_up_to span.hi span.closed (last_key b) ≡ false → t ≡ false
     fails true sends is = let same = sends refl in cc
     fails false sends is = refl
 
@@ -212,10 +228,12 @@ behind_out span format at (b ∷ bs) some rises =
     each [] is all = tt
     each (f ∷ fs) is all = (fails (is_up_to span.hi span.closed f.key) all.0 is, each fs is all.1)
 
-    by : Outside span (drop (count + 1) bs) → (t : Bool) → is_up_to span.hi span.closed (last_key b) ≡ t → Outside span (drop (cond t (1 + count) 0 + 1) (b ∷ bs))
+    by : Outside span (drop (count + 1) bs) → (t : Bool) → is_up_to span.hi span.closed (last_key b) ≡ t
+        → Outside span (drop (cond t (1 + count) 0 + 1) (b ∷ bs))
     by later true is = subst (λ (n : ℕ). Outside span (drop n (b ∷ bs))) (sym (two count)) later
     by later false is =
-        each_out span bs (each (joined bs) is (all_behind (λ k. is_up_to span.hi span.closed k) (up_to_falls span.hi span.closed) b (joined bs) some.0 rises))
+        each_out span bs (each (joined bs) is
+        (all_behind (λ k. is_up_to span.hi span.closed k) (up_to_falls span.hi span.closed) b (joined bs) some.0 rises))
 
 -- ---- the blocks between
 
@@ -223,14 +241,16 @@ all_out : (span : Span) (bs : List (List Entry)) → Outside span bs → within 
 all_out span [] out = refl
 all_out span (b ∷ bs) out = filter-append (λ e. is_in_span span e.key) b (joined bs) ∙ (λ i. out.0 i ++ all_out span bs out.1 i)
 
-drop_out : (span : Span) (f : ℕ) (bs : List (List Entry)) → Outside span (take f bs) → within span (joined (drop f bs)) ≡ within span (joined bs)
+drop_out : (span : Span) (f : ℕ) (bs : List (List Entry)) → Outside span (take f bs)
+    → within span (joined (drop f bs)) ≡ within span (joined bs)
 drop_out span zero bs out = refl
 drop_out span (suc f) [] out = refl
 drop_out span (suc f) (b ∷ bs) out =
     drop_out span f bs out.1
     ∙ sym (filter-append (λ e. is_in_span span e.key) b (joined bs) ∙ ap (λ (l : List Entry). l ++ within span (joined bs)) out.0)
 
-take_out : (span : Span) (n : ℕ) (bs : List (List Entry)) → Outside span (drop n bs) → within span (joined (take n bs)) ≡ within span (joined bs)
+take_out : (span : Span) (n : ℕ) (bs : List (List Entry)) → Outside span (drop n bs)
+    → within span (joined (take n bs)) ≡ within span (joined bs)
 take_out span zero bs out = sym (all_out span bs out)
 take_out span (suc n) [] out = refl
 take_out span (suc n) (b ∷ bs) out =
@@ -257,9 +277,11 @@ stretch_cut (suc first) (suc end) (b ∷ bs) =
     let same : suc end - suc first ≡ end - first = omega arith in
     ap (λ (n : ℕ). take n (drop first bs)) same ∙ stretch_cut first end bs
 
-at_most : (span : Span) (n count : ℕ) (bs : List (List Entry)) → count ≡ length bs → Outside span (drop n bs) → Outside span (drop (min n count) bs)
+at_most : (span : Span) (n count : ℕ) (bs : List (List Entry)) → count ≡ length bs → Outside span (drop n bs)
+    → Outside span (drop (min n count) bs)
 at_most span zero count bs is out = let same : min 0 count ≡ 0 = omega arith in subst (λ (m : ℕ). Outside span (drop m bs)) (sym same) out
-at_most span (suc n) zero bs is out = let same : min (suc n) 0 ≡ 0 = omega arith in subst (λ (m : ℕ). Outside span (drop m bs)) (sym same) (nothing bs (sym is))
+at_most span (suc n) zero bs is out = let same : min (suc n) 0 ≡ 0 = omega arith in subst
+    (λ (m : ℕ). Outside span (drop m bs)) (sym same) (nothing bs (sym is))
   where
     nothing : (bs : List (List Entry)) → length bs ≡ 0 → Outside span bs
     nothing [] none = tt
@@ -277,7 +299,8 @@ span_blocks span format at bs some rises =
     let end = min (prefix_len (ends_within span) ps + 1) (length ps) in
     ap (λ (l : List (List Entry)). within span (joined l)) (stretch_cut first end bs)
     ∙ drop_out span first (take end bs) (fewer_out span first end bs (before_out span format at bs rises))
-    ∙ take_out span end bs (at_most span (prefix_len (ends_within span) ps + 1) (length ps) bs (length-block_places format at bs) (behind_out span format at bs some rises))
+    ∙ take_out span end bs (at_most span (prefix_len (ends_within span) ps + 1) (length ps) bs
+    (length-block_places format at bs) (behind_out span format at bs some rises))
 
 -- ---- both ways
 

@@ -1,5 +1,6 @@
 -- What a cursor over true tables is told of their blocks.
-use Rattle.std.specs.Prelude.{◌≡◌, ◌+◌, ◌-◌, ◌&&◌, ℕ, zero, suc, Bool, true, false, Option, Some, None, List, [], ◌∷◌, ◌++◌, drop, length, map, reverse, take}
+use Rattle.std.specs.Prelude.{◌≡◌, ◌+◌, ◌-◌, ◌&&◌, ℕ, zero, suc, Bool, true, false, Option, Some, None, List, [], ◌∷◌}
+use Rattle.std.specs.Prelude.{◌++◌, drop, length, map, reverse, take}
 use Rattle.std.specs.List.{sum_by}
 use Rattle.std.specs.Option.{option_and_then, option_map}
 use Rattle.std.proofs.Common.{cond, refl, ap, sym, subst, ◌∙◌, append_assoc, arith}
@@ -40,27 +41,31 @@ AreSaid format bytes (p ∷ ps) [] = ⊥
 AreSaid format bytes (p ∷ ps) (b ∷ bs) = (block_entries format bytes p ≡ b) × AreSaid format bytes ps bs
 
 module _ (format : ℕ) (bytes : List ℕ) where
-  said_take : (n : ℕ) (ps : List BlockPlace) (bs : List (List Entry)) → AreSaid format bytes ps bs → AreSaid format bytes (take n ps) (take n bs)
+  said_take : (n : ℕ) (ps : List BlockPlace) (bs : List (List Entry)) → AreSaid format bytes ps bs
+      → AreSaid format bytes (take n ps) (take n bs)
   said_take zero ps bs said = tt
   said_take (suc n) [] [] said = tt
   said_take (suc n) [] (b ∷ bs) said = said
   said_take (suc n) (p ∷ ps) [] said = said
   said_take (suc n) (p ∷ ps) (b ∷ bs) said = (said.0, said_take n ps bs said.1)
 
-  said_drop : (n : ℕ) (ps : List BlockPlace) (bs : List (List Entry)) → AreSaid format bytes ps bs → AreSaid format bytes (drop n ps) (drop n bs)
+  said_drop : (n : ℕ) (ps : List BlockPlace) (bs : List (List Entry)) → AreSaid format bytes ps bs
+      → AreSaid format bytes (drop n ps) (drop n bs)
   said_drop zero ps bs said = said
   said_drop (suc n) [] [] said = tt
   said_drop (suc n) [] (b ∷ bs) said = absurd said
   said_drop (suc n) (p ∷ ps) [] said = absurd said
   said_drop (suc n) (p ∷ ps) (b ∷ bs) said = said_drop n ps bs said.1
 
-  said_append : (ps qs : List BlockPlace) (bs cs : List (List Entry)) → AreSaid format bytes ps bs → AreSaid format bytes qs cs → AreSaid format bytes (ps ++ qs) (bs ++ cs)
+  said_append : (ps qs : List BlockPlace) (bs cs : List (List Entry)) → AreSaid format bytes ps bs
+      → AreSaid format bytes qs cs → AreSaid format bytes (ps ++ qs) (bs ++ cs)
   said_append [] qs [] cs first second = second
   said_append [] qs (b ∷ bs) cs first second = absurd first
   said_append (p ∷ ps) qs [] cs first second = absurd first
   said_append (p ∷ ps) qs (b ∷ bs) cs first second = (first.0, said_append ps qs bs cs first.1 second)
 
-  said_reverse : (ps : List BlockPlace) (bs : List (List Entry)) → AreSaid format bytes ps bs → AreSaid format bytes (reverse ps) (reverse bs)
+  said_reverse : (ps : List BlockPlace) (bs : List (List Entry)) → AreSaid format bytes ps bs
+      → AreSaid format bytes (reverse ps) (reverse bs)
   said_reverse [] [] said = tt
   said_reverse [] (b ∷ bs) said = absurd said
   said_reverse (p ∷ ps) [] said = absurd said
@@ -69,32 +74,40 @@ module _ (format : ℕ) (bytes : List ℕ) where
       (subst (λ (l : List (List Entry)). AreSaid format bytes (reverse ps ++ p ∷ []) l) (sym (reverse-append (b ∷ []) bs))
       (said_append (reverse ps) (p ∷ []) (reverse bs) (b ∷ []) (said_reverse ps bs said.1) (said.0, tt)))
 
-  said_way : (way : Way) (ps : List BlockPlace) (bs : List (List Entry)) → AreSaid format bytes ps bs → AreSaid format bytes (on_way way ps) (on_way way bs)
+  said_way : (way : Way) (ps : List BlockPlace) (bs : List (List Entry)) → AreSaid format bytes ps bs
+      → AreSaid format bytes (on_way way ps) (on_way way bs)
   said_way Up ps bs said = said
   said_way Down ps bs said = said_reverse ps bs said
 
 -- those of a true table have its entries
-said_all : (format number : ℕ) (es : List Entry) (at : ℕ) (front back : List (List Entry)) → IsTable format number es → blocks format es ≡ front ++ back
+said_all : (format number : ℕ) (es : List Entry) (at : ℕ) (front back : List (List Entry)) → IsTable format number es
+    → blocks format es ≡ front ++ back
     → at ≡ 16 + sum_by (block_frame_length format) front → AreSaid format (table_bytes format number es) (block_places format at back) back
 said_all format number es at front [] is split here = tt
 said_all format number es at front (b ∷ back) is split here =
     let p : BlockPlace = record { place = at; length = block_frame_length format b; last = last_key b } in
-    let stands = block_stands format number es (length front) p is (record { front = front; block = b; back = back; split = split; counted = refl; place = here; length = refl; last = refl }) in (
+    let stands = block_stands format number es (length front) p is
+    (record { front = front; block = b; back = back; split = split; counted = refl; place = here; length = refl; last = refl }) in (
       block_entries-says format number (table_bytes format number es) p b stands,
-      said_all format number es (at + block_frame_length format b) (front ++ b ∷ []) back is (split ∙ sym (append_assoc front (b ∷ []) back)) (omega (arith, here, behind front b)),
+      said_all format number es (at + block_frame_length format b) (front ++ b ∷ []) back is
+          (split ∙ sym (append_assoc front (b ∷ []) back)) (omega (arith, here, behind front b)),
     )
   where
-    behind : (front : List (List Entry)) (b : List Entry) → sum_by (block_frame_length format) (front ++ b ∷ []) ≡ sum_by (block_frame_length format) front + block_frame_length format b
+    behind : (front : List (List Entry)) (b : List Entry)
+        → sum_by (block_frame_length format) (front ++ b ∷ []) ≡ sum_by (block_frame_length format) front + block_frame_length format b
     behind [] b = omega (arith, sum_by-cons (block_frame_length format) b [])
-    behind (a ∷ front) b = omega (arith, behind front b, sum_by-cons (block_frame_length format) a front, sum_by-cons (block_frame_length format) a (front ++ b ∷ []))
+    behind (a ∷ front) b = omega
+        (arith, behind front b, sum_by-cons (block_frame_length format) a front, sum_by-cons (block_frame_length format) a (front ++ b ∷ []))
 
 -- ---- tables
 
 module _ {H : Type 0} (bytes_of : H → Option (List ℕ)) (span : Span) (way : Way) where
   -- in front of what is told of others
-  told_front : (t : Table H) (bytes : List ℕ) (ps : List BlockPlace) (bs : List (List Entry)) (others : List (Block H)) → bytes_of t.held ≡ Some bytes
+  told_front : (t : Table H) (bytes : List ℕ) (ps : List BlockPlace) (bs : List (List Entry)) (others : List (Block H))
+      → bytes_of t.held ≡ Some bytes
       → AreSaid (shape_of t).format bytes ps bs
-      → entries_told bytes_of span way (map (λ p. (t, p)) ps ++ others) ≡ option_map (λ later. flat span way bs ++ later) (entries_told bytes_of span way others)
+      → entries_told bytes_of span way (map (λ p. (t, p)) ps ++ others) ≡ option_map
+      (λ later. flat span way bs ++ later) (entries_told bytes_of span way others)
   told_front t bytes [] [] others told said = same (entries_told bytes_of span way others)
     where
       same : (o : Option (List Entry)) → o ≡ option_map (λ (later : List Entry). later) o
@@ -103,11 +116,14 @@ module _ {H : Type 0} (bytes_of : H → Option (List ℕ)) (span : Span) (way : 
   told_front t bytes [] (b ∷ bs) others told said = absurd said
   told_front t bytes (p ∷ ps) [] others told said = absurd said
   told_front t bytes (p ∷ ps) (b ∷ bs) others told said =
-      ap (option_and_then (λ x. option_map (λ later. within span (on_way way (block_entries (shape_of t).format x p)) ++ later) (entries_told bytes_of span way (map (λ q. (t, q)) ps ++ others)))) told
+      ap (option_and_then (λ x. option_map
+      (λ later. within span (on_way way (block_entries (shape_of t).format x p)) ++ later)
+      (entries_told bytes_of span way (map (λ q. (t, q)) ps ++ others)))) told
       ∙ (λ i. option_map (λ later. within span (on_way way (said.0 i)) ++ later) (told_front t bytes ps bs others told said.1 i))
       ∙ twice (entries_told bytes_of span way others)
     where
-      twice : (o : Option (List Entry)) → option_map (λ later. within span (on_way way b) ++ later) (option_map (λ later. flat span way bs ++ later) o)
+      twice : (o : Option (List Entry))
+          → option_map (λ later. within span (on_way way b) ++ later) (option_map (λ later. flat span way bs ++ later) o)
           ≡ option_map (λ later. (within span (on_way way b) ++ flat span way bs) ++ later) o
       twice None = refl
       twice (Some later) = ap Some (sym (append_assoc (within span (on_way way b)) (flat span way bs) later))
@@ -125,14 +141,16 @@ module _ {H : Type 0} (bytes_of : H → Option (List ℕ)) (span : Span) (way : 
       let range = blocks_of span ps in
       let said = said_all format (number_of t) es 16 [] bs is.shape.table refl (omega arith) in
       let part = said_way format bytes way (stretch_of range ps) (stretch_of range bs)
-      (said_take format bytes (range.end - range.first) (drop range.first ps) (drop range.first bs) (said_drop format bytes range.first ps bs said)) in
+      (said_take format bytes (range.end - range.first) (drop range.first ps) (drop range.first bs)
+      (said_drop format bytes range.first ps bs said)) in
       let whole = blocks-whole format es in
       let rises = rising (joined bs) (subst IsInOrder (sym whole) is.shape.table.tabled.ordered) in
       let same : flat span way (on_way way (stretch_of range bs)) ≡ within span (on_way way es) =
       flat_way span way (stretch_of range bs) ∙ within_way span way (joined (stretch_of range bs))
       ∙ ap (on_way way) (span_blocks span format 16 bs (blocks-some format es) rises ∙ ap (within span) whole)
       ∙ sym (within_way span way es) in
-      ap (λ (l : List BlockPlace). entries_told bytes_of span way (map (λ p. (t, p)) (on_way way (stretch_of (blocks_of span l) l)) ++ others)) is.shape.blocks
+      ap (λ (l : List BlockPlace). entries_told bytes_of span way
+      (map (λ p. (t, p)) (on_way way (stretch_of (blocks_of span l) l)) ++ others)) is.shape.blocks
       ∙ told_front t bytes (on_way way (stretch_of range ps)) (on_way way (stretch_of range bs)) others is.told part
       ∙ ap (λ (l : List Entry). option_map (λ later. l ++ later) (entries_told bytes_of span way others)) same
 
@@ -157,12 +175,14 @@ module _ {H : Type 0} (bytes_of : H → Option (List ℕ)) (span : Span) (way : 
       by false up =
           let first = ap (is_up_to span.hi span.closed) (sym (first_is (number_of t) (shape_of t) es is.shape)) ∙ up in
           let none : within span (on_way way es) ≡ [] =
-          within_way span way es ∙ ap (on_way way) (above_out span es (in_order (number_of t) (shape_of t) es is.shape) first) ∙ no_entries way in
+          within_way span way es ∙ ap (on_way way)
+          (above_out span es (in_order (number_of t) (shape_of t) es is.shape) first) ∙ no_entries way in
           ap (λ (l : List (Block H)). entries_told bytes_of span way (l ++ others)) (none_at way (Some t) no_blocks (omega arith))
           ∙ same (entries_told bytes_of span way others)
           ∙ ap (λ (l : List Entry). option_map (λ later. l ++ later) (entries_told bytes_of span way others)) (sym none)
 
-  told_tables : (ts : List (Table H)) (ess : List (List Entry)) → AreOf bytes_of ts ess → entries_told bytes_of span way (blocks_over span way ts) ≡ Some (flat span way ess)
+  told_tables : (ts : List (Table H)) (ess : List (List Entry)) → AreOf bytes_of ts ess
+      → entries_told bytes_of span way (blocks_over span way ts) ≡ Some (flat span way ess)
   told_tables [] [] are = refl
   told_tables [] (es ∷ ess) are = absurd are
   told_tables (t ∷ ts) [] are = absurd are
@@ -181,7 +201,8 @@ module _ {H : Type 0} (bytes_of : H → Option (List ℕ)) (span : Span) (way : 
   tables_rise [] [] are = refl
   tables_rise [] (es ∷ ess) are = absurd are
   tables_rise (t ∷ ts) [] are = absurd are
-  tables_rise (t ∷ ts) (es ∷ ess) are = both (rises_over span (index_of t)) (rise_over span ts) (table_rises t es are.0) (tables_rise ts ess are.1)
+  tables_rise (t ∷ ts) (es ∷ ess) are = both (rises_over span (index_of t)) (rise_over span ts) (table_rises t es are.0)
+      (tables_rise ts ess are.1)
     where
       both : (a b : Bool) → a ≡ true → b ≡ true → a && b ≡ true
       both a b first second = λ i. and (first i) (second i)
@@ -189,14 +210,16 @@ module _ {H : Type 0} (bytes_of : H → Option (List ℕ)) (span : Span) (way : 
           and : Bool → Bool → Bool
           and a b = a && b
 
-of_append : {H : Type 0} (bytes_of : H → Option (List ℕ)) (ts us : List (Table H)) (ess fss : List (List Entry)) → AreOf bytes_of ts ess → AreOf bytes_of us fss
+of_append : {H : Type 0} (bytes_of : H → Option (List ℕ)) (ts us : List (Table H)) (ess fss : List (List Entry))
+    → AreOf bytes_of ts ess → AreOf bytes_of us fss
     → AreOf bytes_of (ts ++ us) (ess ++ fss)
 of_append bytes_of [] us [] fss first second = second
 of_append bytes_of [] us (es ∷ ess) fss first second = absurd first
 of_append bytes_of (t ∷ ts) us [] fss first second = absurd first
 of_append bytes_of (t ∷ ts) us (es ∷ ess) fss first second = (first.0, of_append bytes_of ts us ess fss first.1 second)
 
-of_reverse : {H : Type 0} (bytes_of : H → Option (List ℕ)) (ts : List (Table H)) (ess : List (List Entry)) → AreOf bytes_of ts ess → AreOf bytes_of (reverse ts) (reverse ess)
+of_reverse : {H : Type 0} (bytes_of : H → Option (List ℕ)) (ts : List (Table H)) (ess : List (List Entry))
+    → AreOf bytes_of ts ess → AreOf bytes_of (reverse ts) (reverse ess)
 of_reverse bytes_of [] [] are = tt
 of_reverse bytes_of [] (es ∷ ess) are = absurd are
 of_reverse bytes_of (t ∷ ts) [] are = absurd are
@@ -205,7 +228,8 @@ of_reverse {H} bytes_of (t ∷ ts) (es ∷ ess) are =
     (subst (λ (l : List (List Entry)). AreOf bytes_of (reverse ts ++ t ∷ []) l) (sym (reverse-append (es ∷ []) ess))
     (of_append bytes_of (reverse ts) (t ∷ []) (reverse ess) (es ∷ []) (of_reverse bytes_of ts ess are.1) (are.0, tt)))
 
-of_way : {H : Type 0} (bytes_of : H → Option (List ℕ)) (way : Way) (ts : List (Table H)) (ess : List (List Entry)) → AreOf bytes_of ts ess → AreOf bytes_of (on_way way ts) (on_way way ess)
+of_way : {H : Type 0} (bytes_of : H → Option (List ℕ)) (way : Way) (ts : List (Table H)) (ess : List (List Entry))
+    → AreOf bytes_of ts ess → AreOf bytes_of (on_way way ts) (on_way way ess)
 of_way bytes_of Up ts ess are = are
 of_way bytes_of Down ts ess are = of_reverse bytes_of ts ess are
 
@@ -215,9 +239,11 @@ along_way Down es = refl
 
 -- ---- the whole
 
-pub told_whole : {H : Type 0} (bytes_of : H → Option (List ℕ)) (span : Span) (way : Way) (ts : List (Table H)) (ess : List (List Entry)) (count : ℕ) → count ≡ length ts
+pub told_whole : {H : Type 0} (bytes_of : H → Option (List ℕ)) (span : Span) (way : Way) (ts : List (Table H))
+    (ess : List (List Entry)) (count : ℕ) → count ≡ length ts
     → AreOf bytes_of ts ess
-    → (rise_over span ts ≡ true) × (entries_told bytes_of span way (blocks_over span way (on_way way (stretch_of (record { first = 0; end = count }) ts)))
+    → (rise_over span ts ≡ true)
+    × (entries_told bytes_of span way (blocks_over span way (on_way way (stretch_of (record { first = 0; end = count }) ts)))
     ≡ Some (along way (within span (joined ess))))
 told_whole bytes_of span way ts ess count is are = (
   tables_rise bytes_of span way ts ess are,

@@ -10,13 +10,16 @@ use Rattle.vl_block.specs.Footer.{Head, frame_place_bytes, head_bytes}
 use Rattle.vl_block.specs.laws.ListLaws.{items_bytes-push}
 use Rattle.vl_block.specs.Lists.{items_bytes}
 
-pub body_added : (n : ℕ) (es : List Entry) (e : Entry) (old with_entry new : List ℕ) → n ≡ length es → old ≡ 0 ∷ 0 ∷ 0 ∷ 0 ∷ 0 ∷ block_body table_format es
+pub body_added : (n : ℕ) (es : List Entry) (e : Entry) (old with_entry new : List ℕ) → n ≡ length es
+    → old ≡ 0 ∷ 0 ∷ 0 ∷ 0 ∷ 0 ∷ block_body table_format es
     → with_entry ≡ old ++ entry_bytes table_format e → new ≡ take 5 with_entry ++ (big_bytes 4 (n + 1) ++ drop 9 with_entry)
     → new ≡ 0 ∷ 0 ∷ 0 ∷ 0 ∷ 0 ∷ block_body table_format (es ++ e ∷ [])
 body_added n es e old with_entry new counted is added counts =
-    let whole : with_entry ≡ 0 ∷ 0 ∷ 0 ∷ 0 ∷ 0 ∷ (big_bytes 4 (length es) ++ (items_bytes (entries table_format) es ++ entry_bytes table_format e)) =
+    let whole : with_entry ≡ 0 ∷ 0 ∷ 0 ∷ 0 ∷ 0
+    ∷ (big_bytes 4 (length es) ++ (items_bytes (entries table_format) es ++ entry_bytes table_format e)) =
     added ∙ ap (λ (l : List ℕ). l ++ entry_bytes table_format e) is in
-    let behind : drop 9 with_entry ≡ items_bytes (entries table_format) (es ++ e ∷ []) = ap (drop 9) whole ∙ sym (items_bytes-push (entries table_format) es e) in
+    let behind : drop 9 with_entry ≡ items_bytes (entries table_format) (es ++ e ∷ []) = ap (drop 9) whole
+    ∙ sym (items_bytes-push (entries table_format) es e) in
     let count : n + 1 ≡ length (es ++ e ∷ []) = omega (arith, counted, length-append es (e ∷ [])) in
     counts ∙ ap (λ (l : List ℕ). take 5 l ++ (big_bytes 4 (n + 1) ++ drop 9 with_entry)) whole
     ∙ ap (λ (l : List ℕ). 0 ∷ 0 ∷ 0 ∷ 0 ∷ 0 ∷ (big_bytes 4 (n + 1) ++ l)) behind
@@ -36,9 +39,11 @@ four_behind h old one two three first second third =
 
 -- a count written over the old one leaves the length
 pub body_length : (es : List Entry) (e : Entry) (old with_entry new : List ℕ) (n : ℕ) → old ≡ 0 ∷ 0 ∷ 0 ∷ 0 ∷ 0 ∷ block_body table_format es
-    → with_entry ≡ old ++ entry_bytes table_format e → new ≡ take 5 with_entry ++ (big_bytes 4 n ++ drop 9 with_entry) → length new ≡ length with_entry
+    → with_entry ≡ old ++ entry_bytes table_format e → new ≡ take 5 with_entry ++ (big_bytes 4 n ++ drop 9 with_entry)
+    → length new ≡ length with_entry
 body_length es e old with_entry new n is added counts =
     ap length (counts ∙ ap (λ (l : List ℕ). take 5 l ++ (big_bytes 4 n ++ drop 9 l)) whole) ∙ sym (ap length whole)
   where
-    whole : with_entry ≡ 0 ∷ 0 ∷ 0 ∷ 0 ∷ 0 ∷ (big_bytes 4 (length es) ++ (items_bytes (entries table_format) es ++ entry_bytes table_format e))
+    whole : with_entry ≡ 0 ∷ 0 ∷ 0 ∷ 0 ∷ 0
+        ∷ (big_bytes 4 (length es) ++ (items_bytes (entries table_format) es ++ entry_bytes table_format e))
     whole = added ∙ ap (λ (l : List ℕ). l ++ entry_bytes table_format e) is

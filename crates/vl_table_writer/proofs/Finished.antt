@@ -14,7 +14,8 @@ use Rattle.vl_block.specs.Cutting.{blocks, file_length, filter_frame_length, ind
 use Rattle.vl_block.specs.Blocks.{block_body}
 use Rattle.vl_block.specs.Footer.{Foot, foot_of, footer_body}
 use Rattle.vl_block.specs.Index.{index_body}
-use Rattle.vl_block.specs.Bytes.{block_places, blocks_bytes, filter_bits, filter_bytes, filter_place, foot, IsTable, footer_bytes, footer_place, index_bytes, index_place, table_bytes, table_header}
+use Rattle.vl_block.specs.Bytes.{block_places, blocks_bytes, filter_bits, filter_bytes, filter_place, foot, IsTable}
+use Rattle.vl_block.specs.Bytes.{footer_bytes, footer_place, index_bytes, index_place, table_bytes, table_header}
 use Rattle.vl_block.specs.laws.Lengths.{length-filter_frame, length-footer, length-index}
 use Rattle.vl_table_writer.specs.Framing.{AreBehind, IsRest}
 use Rattle.vl_table_writer.specs.Tails.{IsTail, tail_bytes}
@@ -31,8 +32,11 @@ pub tail_whole : (t : Tail) (number : ℕ) (es : List Entry) (given : List ℕ) 
     → given ++ tail_bytes t ≡ table_bytes table_format number es
 tail_whole t number es given is =
     let bs = blocks table_format es in
-    let rest = index_bytes table_format number bs ++ (filter_bytes table_format number es bs ++ (footer_bytes table_format number es bs ++ big_bytes 8 (footer_place table_format es bs))) in
-    let same : t.index.items ++ (t.filter.items ++ (t.footer.items ++ t.place)) ≡ rest = λ k. is.index k ++ (is.filter k ++ (is.footer k ++ is.place k)) in
+    let rest = index_bytes table_format number bs
+    ++ (filter_bytes table_format number es bs
+    ++ (footer_bytes table_format number es bs ++ big_bytes 8 (footer_place table_format es bs))) in
+    let same : t.index.items ++ (t.filter.items ++ (t.footer.items ++ t.place)) ≡ rest = λ k. is.index k
+    ++ (is.filter k ++ (is.footer k ++ is.place k)) in
     ap (λ (l : List ℕ). given ++ (t.block.items ++ l)) same
     ∙ sym (append_assoc given t.block.items rest)
     ∙ ap (λ (l : List ℕ). l ++ rest) is.block
@@ -50,7 +54,8 @@ module _ (w : TableWriter) (v : BlocksWriter) (r : Rest) (number : ℕ) (es : Li
   long : r.index.at.length ≡ index_frame_length bs
   long =
       rest.index.long ∙ ap (λ l. frame_length (length (index_body l))) has.places
-      ∙ sym (length-frame_bytes number (index_place table_format bs) kinds.Index (index_body (block_places table_format 16 bs))) ∙ length-index table_format number bs
+      ∙ sym (length-frame_bytes number (index_place table_format bs) kinds.Index
+      (index_body (block_places table_format 16 bs))) ∙ length-index table_format number bs
 
   at : v.place + r.index.at.length ≡ filter_place table_format bs
   at = λ k. has.place k + long k
@@ -58,7 +63,8 @@ module _ (w : TableWriter) (v : BlocksWriter) (r : Rest) (number : ℕ) (es : Li
   deep : r.filter.at.length ≡ filter_frame_length table_format es
   deep =
       rest.filter.long ∙ ap (λ (l : List Hashes). frame_length (length (marked_body l))) is.sums.keys
-      ∙ sym (length-frame_bytes number (filter_place table_format bs) kinds.Filter (marked_body (map hashes_of (keys_of es)))) ∙ length-filter_frame table_format number es bs
+      ∙ sym (length-frame_bytes number (filter_place table_format bs) kinds.Filter
+      (marked_body (map hashes_of (keys_of es)))) ∙ length-filter_frame table_format number es bs
 
   stands : r.filter.at.place ≡ filter_place table_format bs
   stands = rest.filter.stands ∙ at
@@ -100,7 +106,8 @@ module _ (w : TableWriter) (v : BlocksWriter) (r : Rest) (number : ℕ) (es : Li
       )))
 
   -- The last block, index, filter, footer and its place, and what is known of the table.
-  pub ends : (t : Tail) (block : List ℕ) → block ≡ frame_bytes w.blocks.number w.blocks.place kinds.Block (block_body table_format is.open_block)
+  pub ends : (t : Tail) (block : List ℕ) → block ≡ frame_bytes w.blocks.number w.blocks.place kinds.Block
+      (block_body table_format is.open_block)
       → AreBehind r block v t → IsTail t number es given
   ends t block closed parts =
       let frame = frame_bytes w.blocks.number w.blocks.place kinds.Block (block_body table_format is.open_block) in
@@ -109,7 +116,8 @@ module _ (w : TableWriter) (v : BlocksWriter) (r : Rest) (number : ℕ) (es : Li
       let back : bs ≡ blocks table_format es = sym cut in
       let whole : given ++ t.block.items ≡ head ++ blocks_bytes table_format number 16 bs =
       (λ k. is.given_out k ++ (parts.block ∙ closed) k) ∙ append_assoc head before frame
-      ∙ ap (λ (l : List ℕ). head ++ l) (closed_frame number is.closed is.open_block w.blocks.number w.blocks.place frame is.numbered is.has.place (λ k. frame)) in
+      ∙ ap (λ (l : List ℕ). head ++ l)
+      (closed_frame number is.closed is.open_block w.blocks.number w.blocks.place frame is.numbered is.has.place (λ k. frame)) in
       let of_index : t.index.items ≡ index_bytes table_format number bs =
       parts.index ∙ rest.index.bytes ∙ (λ k. frame_bytes (numbered k) (has.place k) kinds.Index (index_body (has.places k))) in
       let of_filter : t.filter.items ≡ filter_bytes table_format number es bs =
@@ -131,8 +139,10 @@ module _ (w : TableWriter) (v : BlocksWriter) (r : Rest) (number : ℕ) (es : Li
           numbered = parts.number ∙ numbered;
           table = subst (λ (n : ℕ). IsTable n number es) formats table;
           foot = parts.says ∙ says ∙ ap (foot table_format es) back ∙ ap (λ (n : ℕ). foot n es (blocks n es)) formats;
-          place = parts.stands ∙ of_place ∙ ap (footer_place table_format es) back ∙ ap (λ (n : ℕ). footer_place n es (blocks n es)) formats;
-          blocks = parts.blocks ∙ has.places ∙ ap (block_places table_format 16) back ∙ ap (λ (n : ℕ). block_places n 16 (blocks n es)) formats;
+          place = parts.stands ∙ of_place ∙ ap (footer_place table_format es) back
+              ∙ ap (λ (n : ℕ). footer_place n es (blocks n es)) formats;
+          blocks = parts.blocks ∙ has.places ∙ ap (block_places table_format 16) back
+              ∙ ap (λ (n : ℕ). block_places n 16 (blocks n es)) formats;
           filter = of_bits ∙ ap (λ (n : ℕ). filter_bits n es) formats;
         };
       }

@@ -11,7 +11,8 @@ use Rattle.vl_model.specs.declared.entry.Entry.{Entry}
 use Rattle.vl_model.specs.declared.entry.Body.{Body}
 use Rattle.vl_model.specs.declared.entry.Body.TheVariants.{Inline, Gone, Far, Logged}
 use Rattle.vl_block.specs.laws.CuttingLaws.{blocks-whole, blocks-some}
-use Rattle.vl_block.specs.Cutting.{joined, block_frame_length, blocks, entry_length, filter_frame_length, first_key, keys_of, last_key, pointed, points_of, table_length, with_key, with_point}
+use Rattle.vl_block.specs.Cutting.{joined, block_frame_length, blocks, entry_length, filter_frame_length, first_key}
+use Rattle.vl_block.specs.Cutting.{keys_of, last_key, pointed, points_of, table_length, with_key, with_point}
 use Rattle.vl_table_writer.proofs.PointLaws.{pointed-above, pointed-below, pointed-same, three_ways}
 use Rattle.vl_block.specs.declared.points.Point.{Point}
 use Rattle.vl_run.specs.Order.{IsInOrder}
@@ -47,15 +48,19 @@ module _ (format : ℕ) where
     ordered = ordered-entries b rising;
   }
 
-  lawful-blocks : (bs : List (List Entry)) → AllByRecursion (IsEntry format) (joined bs) → IsRising (joined bs) → sum_by (block_frame_length format) bs < 2 ^ 32
+  lawful-blocks : (bs : List (List Entry)) → AllByRecursion (IsEntry format) (joined bs) → IsRising (joined bs)
+      → sum_by (block_frame_length format) bs < 2 ^ 32
       → AllByRecursion (IsBlock format) bs
   lawful-blocks [] each rising small = tt
   lawful-blocks (b ∷ bs) each rising small = (
-    lawful-block b (all-front (IsEntry format) b (joined bs) each) (rising-front b (joined bs) rising) (omega (arith, small, sum_by-cons (block_frame_length format) b bs)),
-    lawful-blocks bs (all-back (IsEntry format) b (joined bs) each) (rising-back b (joined bs) rising) (omega (arith, small, sum_by-cons (block_frame_length format) b bs)),
+    lawful-block b (all-front (IsEntry format) b (joined bs) each) (rising-front b (joined bs) rising)
+        (omega (arith, small, sum_by-cons (block_frame_length format) b bs)),
+    lawful-blocks bs (all-back (IsEntry format) b (joined bs) each) (rising-back b (joined bs) rising)
+        (omega (arith, small, sum_by-cons (block_frame_length format) b bs)),
   )
 
-  short-blocks : (bs : List (List Entry)) → sum_by (block_frame_length format) bs < 2 ^ 32 → AllByRecursion (λ b. length (block_body format b) < 2 ^ 32) bs
+  short-blocks : (bs : List (List Entry)) → sum_by (block_frame_length format) bs < 2 ^ 32
+      → AllByRecursion (λ b. length (block_body format b) < 2 ^ 32) bs
   short-blocks [] small = tt
   short-blocks (b ∷ bs) small = (
     omega (arith, small, sum_by-cons (block_frame_length format) b bs, length-block_body format b),
@@ -79,7 +84,8 @@ module _ (format : ℕ) where
       size = omega (arith, small, sum_by-cons (block_frame_length format) b bs);
       last = last-lawful b some.0 (all-front (IsEntry format) b (joined bs) each);
     },
-    lawful-places (at + block_frame_length format b) bs some.1 (all-back (IsEntry format) b (joined bs) each) (omega (arith, small, sum_by-cons (block_frame_length format) b bs)),
+    lawful-places (at + block_frame_length format b) bs some.1 (all-back (IsEntry format) b (joined bs) each)
+        (omega (arith, small, sum_by-cons (block_frame_length format) b bs)),
   )
 
   ordered-places : (ps : List BlockPlace) → AreOrdered places ps
@@ -93,7 +99,8 @@ module _ (format : ℕ) where
 
   counted-joined : (bs : List (List Entry)) → length (joined bs) ≤ sum_by (block_frame_length format) bs
   counted-joined [] = omega arith
-  counted-joined (b ∷ bs) = omega (arith, length-append b (joined bs), counted-entries b, sum_by-cons (block_frame_length format) b bs, counted-joined bs)
+  counted-joined (b ∷ bs) = omega
+      (arith, length-append b (joined bs), counted-entries b, sum_by-cons (block_frame_length format) b bs, counted-joined bs)
 
   -- ---- the footer
 
@@ -125,9 +132,12 @@ module _ (format : ℕ) where
         let P = λ (l : List Point). AllByRecursion (λ (q : Point). (q.segment < 2 ^ 32) × (q.bytes ≤ (n + 1) * 4294967296)) l in
         let rest = more-each n ps each.1 in
         let later = pointed-each ps each.1 in
-        ⊎_elim (λ (below : segment < p.segment). subst P (sym (pointed-below segment bytes p ps below)) ((fits, omega arith), ((each.0.0, omega (arith, each.0.1)), rest)))
-        (⊎_elim (λ (same : segment ≡ p.segment). subst P (sym (pointed-same segment bytes p ps same)) ((each.0.0, omega (arith, each.0.1)), rest))
-        (λ (above : p.segment < segment). subst P (sym (pointed-above segment bytes p ps above)) ((each.0.0, omega (arith, each.0.1)), later)))
+        ⊎_elim (λ (below : segment < p.segment). subst P (sym (pointed-below segment bytes p ps below))
+        ((fits, omega arith), ((each.0.0, omega (arith, each.0.1)), rest)))
+        (⊎_elim (λ (same : segment ≡ p.segment). subst P (sym (pointed-same segment bytes p ps same))
+        ((each.0.0, omega (arith, each.0.1)), rest))
+        (λ (above : p.segment < segment). subst P (sym (pointed-above segment bytes p ps above))
+        ((each.0.0, omega (arith, each.0.1)), later)))
         (three_ways segment p.segment)
 
     -- the first of them lies behind what lay in front of the others
@@ -152,7 +162,8 @@ module _ (format : ℕ) where
         let P = λ (l : List Point). AreOrdered points l in
         let later = pointed-ordered ps ordered.1 in
         ⊎_elim (λ (below : segment < p.segment). subst P (sym (pointed-below segment bytes p ps below)) (below, ordered))
-        (⊎_elim (λ (same : segment ≡ p.segment). subst P (sym (pointed-same segment bytes p ps same)) (merged-front p (p.bytes + bytes) ps ordered.0, ordered.1))
+        (⊎_elim (λ (same : segment ≡ p.segment). subst P (sym (pointed-same segment bytes p ps same))
+        (merged-front p (p.bytes + bytes) ps ordered.0, ordered.1))
         (λ (above : p.segment < segment). subst P (sym (pointed-above segment bytes p ps above)) (front p ps above ordered.0, later)))
         (three_ways segment p.segment)
 
@@ -167,7 +178,8 @@ module _ (format : ℕ) where
 
   pub points-sums : (es : List Entry) → AllByRecursion (IsEntry format) es → AreSums (length es) (points_of es)
   points-sums [] each = record { each = tt; ordered = tt }
-  points-sums (e ∷ es) each = subst (λ (n : ℕ). AreSums n (points_of (e ∷ es))) (one_more (length es)) (with-sums (length es) e.body (points_of es) each.0.body (points-sums es each.1))
+  points-sums (e ∷ es) each = subst (λ (n : ℕ). AreSums n (points_of (e ∷ es))) (one_more (length es))
+      (with-sums (length es) e.body (points_of es) each.0.body (points-sums es each.1))
     where
       one_more : (n : ℕ) → n + 1 ≡ suc n
       one_more n = omega arith
@@ -187,7 +199,8 @@ module _ (format : ℕ) where
 
   blocks-long : (bs : List (List Entry)) → 11 * length (joined bs) ≤ sum_by (block_frame_length format) bs
   blocks-long [] = omega arith
-  blocks-long (b ∷ bs) = omega (arith, length-append b (joined bs), entries-long b, sum_by-cons (block_frame_length format) b bs, blocks-long bs)
+  blocks-long (b ∷ bs) = omega
+      (arith, length-append b (joined bs), entries-long b, sum_by-cons (block_frame_length format) b bs, blocks-long bs)
 
   few-keys : (es : List Entry) → length (keys_of es) ≤ length es
   few-keys [] = omega arith
@@ -228,10 +241,17 @@ module _ (format : ℕ) where
           each = lawful-places 16 bs (blocks-some format es) each (omega (arith, small));
           ordered = ordered-places (block_places format 16 bs);
         };
-        index_short = omega (arith, small, length-index format number bs, length-frame_bytes number (index_place format bs) kinds.Index (index_body (block_places format 16 bs)));
+        index_short = omega (
+          arith,
+          small,
+          length-index format number bs,
+          length-frame_bytes number
+              (index_place format bs) kinds.Index (index_body (block_places format 16 bs)),
+        );
         filter_short = λ some. omega (arith, small, blocks-long bs, ap length whole, few-keys es);
         head = record {
-          filter = said-lawful (has_filter format) (filter_place format bs) (filter_frame_length format es) (omega (arith, small)) (omega (arith, small));
+          filter = said-lawful (has_filter format) (filter_place format bs) (filter_frame_length format es)
+              (omega (arith, small)) (omega (arith, small));
           index_place = omega (arith, small);
           index_length = omega (arith, small);
           count = omega (arith, counted, framed);
@@ -244,6 +264,12 @@ module _ (format : ℕ) where
           each = fitting (length es) (points_of es) (omega (arith, counted, framed)) sums.each;
           ordered = sums.ordered;
         };
-        footer_short = omega (arith, small, length-footer format number es bs, length-frame_bytes number (footer_place format es bs) kinds.Footer (footer_body (foot format es bs)));
+        footer_short = omega (
+          arith,
+          small,
+          length-footer format number es bs,
+          length-frame_bytes number
+              (footer_place format es bs) kinds.Footer (footer_body (foot format es bs)),
+        );
         place = omega (arith, small);
       }

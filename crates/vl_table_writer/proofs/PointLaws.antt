@@ -37,17 +37,20 @@ is_same m n same = grind (arith, nat_tests)
 pub pointed-above : (segment bytes : ℕ) (p : Point) (ps : List Point) → p.segment < segment
     → pointed segment bytes (p ∷ ps) ≡ p ∷ pointed segment bytes ps
 pointed-above segment bytes p ps less =
-    ap (λ r. by_order r (record { segment = segment; bytes = bytes } ∷ p ∷ ps) (record { segment = p.segment; bytes = p.bytes + bytes } ∷ ps) (p ∷ pointed segment bytes ps)) (is_above segment p.segment less)
+    ap (λ r. by_order r (record { segment = segment; bytes = bytes } ∷ p ∷ ps)
+    (record { segment = p.segment; bytes = p.bytes + bytes } ∷ ps) (p ∷ pointed segment bytes ps)) (is_above segment p.segment less)
 
 pub pointed-below : (segment bytes : ℕ) (p : Point) (ps : List Point) → segment < p.segment
     → pointed segment bytes (p ∷ ps) ≡ record { segment = segment; bytes = bytes } ∷ p ∷ ps
 pointed-below segment bytes p ps less =
-    ap (λ r. by_order r (record { segment = segment; bytes = bytes } ∷ p ∷ ps) (record { segment = p.segment; bytes = p.bytes + bytes } ∷ ps) (p ∷ pointed segment bytes ps)) (is_below segment p.segment less)
+    ap (λ r. by_order r (record { segment = segment; bytes = bytes } ∷ p ∷ ps)
+    (record { segment = p.segment; bytes = p.bytes + bytes } ∷ ps) (p ∷ pointed segment bytes ps)) (is_below segment p.segment less)
 
 pub pointed-same : (segment bytes : ℕ) (p : Point) (ps : List Point) → segment ≡ p.segment
     → pointed segment bytes (p ∷ ps) ≡ record { segment = p.segment; bytes = p.bytes + bytes } ∷ ps
 pointed-same segment bytes p ps same =
-    ap (λ r. by_order r (record { segment = segment; bytes = bytes } ∷ p ∷ ps) (record { segment = p.segment; bytes = p.bytes + bytes } ∷ ps) (p ∷ pointed segment bytes ps)) (is_same segment p.segment same)
+    ap (λ r. by_order r (record { segment = segment; bytes = bytes } ∷ p ∷ ps)
+    (record { segment = p.segment; bytes = p.bytes + bytes } ∷ ps) (p ∷ pointed segment bytes ps)) (is_same segment p.segment same)
 
 pub three_ways : (m n : ℕ) → (m < n) ⊎ ((m ≡ n) ⊎ (n < m))
 three_ways m n = ⊎_elim (λ (e : m ≡ n). inr (inl e)) (λ (o : m ≢ n). apart (nat_lt m n) refl o) (cases_eq m n)
@@ -62,7 +65,8 @@ three_ways m n = ⊎_elim (λ (e : m ≡ n). inr (inl e)) (λ (o : m ≢ n). apa
 pub points-insert : (segment bytes : ℕ) (es : List (ℕ × ℕ)) → IsStrictlySortedBy nat_cmp (keys_of es)
     → map point_of (insert_entry nat_cmp es segment (unwrap_or (lookup (is_at (nat_cmp segment)) es) 0 + bytes))
     ≡ pointed segment bytes (map point_of es)
-points-insert segment bytes [] ordered = let none : 0 + bytes ≡ bytes = omega arith in ap (λ (n : ℕ). record { segment = segment; bytes = n } ∷ []) none
+points-insert segment bytes [] ordered = let none : 0 + bytes ≡ bytes = omega arith in ap
+    (λ (n : ℕ). record { segment = segment; bytes = n } ∷ []) none
 points-insert segment bytes (e ∷ es) ordered =
     by (points-insert segment bytes es (sorted_tail nat_cmp e.0 (keys_of es) ordered)) (nat_cmp segment e.0) refl
   where
@@ -85,18 +89,21 @@ points-insert segment bytes (e ∷ es) ordered =
         ap (λ r. put r sum) is
         ∙ ap (λ (o : Option ℕ). put Less (unwrap_or o 0 + bytes)) absent
         ∙ ap (λ (n : ℕ). put Less n) none
-        ∙ sym (ap (λ r. by_order r (record { segment = segment; bytes = bytes } ∷ map point_of (e ∷ es)) (record { segment = e.0; bytes = e.1 + bytes } ∷ map point_of es) (point_of e ∷ pointed segment bytes (map point_of es))) is)
+        ∙ sym (ap (λ r. by_order r (record { segment = segment; bytes = bytes } ∷ map point_of (e ∷ es))
+        (record { segment = e.0; bytes = e.1 + bytes } ∷ map point_of es) (point_of e ∷ pointed segment bytes (map point_of es))) is)
     by later Equal is =
         let found = lookup_head (is_at (nat_cmp segment)) e es (ap is_eq is) in
         ap (λ r. put r sum) is
         ∙ ap (λ (o : Option ℕ). put Equal (unwrap_or o 0 + bytes)) found
-        ∙ sym (ap (λ r. by_order r (record { segment = segment; bytes = bytes } ∷ map point_of (e ∷ es)) (record { segment = e.0; bytes = e.1 + bytes } ∷ map point_of es) (point_of e ∷ pointed segment bytes (map point_of es))) is)
+        ∙ sym (ap (λ r. by_order r (record { segment = segment; bytes = bytes } ∷ map point_of (e ∷ es))
+        (record { segment = e.0; bytes = e.1 + bytes } ∷ map point_of es) (point_of e ∷ pointed segment bytes (map point_of es))) is)
     by later Greater is =
         let behind = lookup_tail (is_at (nat_cmp segment)) e es (ap is_eq is) in
         ap (λ r. put r sum) is
         ∙ ap (λ (o : Option ℕ). put Greater (unwrap_or o 0 + bytes)) behind
         ∙ ap (λ (l : List Point). point_of e ∷ l) later
-        ∙ sym (ap (λ r. by_order r (record { segment = segment; bytes = bytes } ∷ map point_of (e ∷ es)) (record { segment = e.0; bytes = e.1 + bytes } ∷ map point_of es) (point_of e ∷ pointed segment bytes (map point_of es))) is)
+        ∙ sym (ap (λ r. by_order r (record { segment = segment; bytes = bytes } ∷ map point_of (e ∷ es))
+        (record { segment = e.0; bytes = e.1 + bytes } ∷ map point_of es) (point_of e ∷ pointed segment bytes (map point_of es))) is)
 
 -- ---- the order makes no difference
 
@@ -129,10 +136,12 @@ module _ (a m b n : ℕ) (le : a ≤ b) (p : Point) (ps : List Point) where
   lower below (inl b_below) = pair a m b n (p ∷ ps) le (pointed-below b n p ps b_below) (pointed-below a m p ps below) (less_or_same a b le)
   lower below (inr (inl b_same)) =
       ap (pointed a m) (pointed-same b n p ps b_same) ∙ pointed-below a m (point p.segment (p.bytes + n)) ps below
-      ∙ sym (ap (pointed b n) (pointed-below a m p ps below) ∙ pointed-above b n (point a m) (p ∷ ps) (omega arith) ∙ ap (λ l. point a m ∷ l) (pointed-same b n p ps b_same))
+      ∙ sym (ap (pointed b n) (pointed-below a m p ps below) ∙ pointed-above b n (point a m) (p ∷ ps) (omega arith)
+      ∙ ap (λ l. point a m ∷ l) (pointed-same b n p ps b_same))
   lower below (inr (inr b_above)) =
       ap (pointed a m) (pointed-above b n p ps b_above) ∙ pointed-below a m p (pointed b n ps) below
-      ∙ sym (ap (pointed b n) (pointed-below a m p ps below) ∙ pointed-above b n (point a m) (p ∷ ps) (omega arith) ∙ ap (λ l. point a m ∷ l) (pointed-above b n p ps b_above))
+      ∙ sym (ap (pointed b n) (pointed-below a m p ps below) ∙ pointed-above b n (point a m) (p ∷ ps) (omega arith)
+      ∙ ap (λ l. point a m ∷ l) (pointed-above b n p ps b_above))
 
   here : a ≡ p.segment → (b < p.segment) ⊎ ((b ≡ p.segment) ⊎ (p.segment < b))
       → pointed a m (pointed b n (p ∷ ps)) ≡ pointed b n (pointed a m (p ∷ ps))

@@ -13,7 +13,8 @@ use Rattle.vl_filter.specs.declared.hashes.Hashes.{Hashes}
 use Rattle.vl_model.specs.Keys.{key_cmp}
 use Rattle.vl_model.specs.laws.WinnerLaws.{same_key}
 use Rattle.vl_model.specs.declared.entry.Entry.{Entry}
-use Rattle.vl_block.specs.Cutting.{begun_length, block_frame_length, blocks, blocks_from, entry_length, first_key, keys_of, last_key, max_block_bytes, with_key}
+use Rattle.vl_block.specs.Cutting.{begun_length, block_frame_length, blocks, blocks_from, entry_length, first_key}
+use Rattle.vl_block.specs.Cutting.{keys_of, last_key, max_block_bytes, with_key}
 use Rattle.vl_run.specs.laws.OrderLaws.{all-append}
 use Rattle.vl_block.specs.Blocks.{block_body}
 use Rattle.vl_block.specs.Entries.{IsEntry}
@@ -36,19 +37,31 @@ greatest-push [] e = omega arith
 greatest-push (d ∷ es) e = omega (arith, greatest-push es e)
 
 pub sum-push : (closed : List (List Entry)) (b : List Entry)
-    → sum_by (block_frame_length table_format) (closed ++ b ∷ []) ≡ sum_by (block_frame_length table_format) closed + block_frame_length table_format b
+    → sum_by (block_frame_length table_format) (closed ++ b ∷ []) ≡ sum_by (block_frame_length table_format) closed
+    + block_frame_length table_format b
 sum-push [] b = omega (arith, sum_by-cons (block_frame_length table_format) b [])
 sum-push (a ∷ closed) b =
-    omega (arith, sum_by-cons (block_frame_length table_format) a (closed ++ b ∷ []), sum_by-cons (block_frame_length table_format) a closed, sum-push closed b)
+    omega (
+      arith,
+      sum_by-cons (block_frame_length table_format) a (closed ++ b ∷ []),
+      sum_by-cons
+          (block_frame_length table_format) a closed,
+      sum-push closed b,
+    )
 
 pub places-push : (at : ℕ) (closed : List (List Entry)) (b : List Entry)
-    → block_places table_format at (closed ++ b ∷ []) ≡ block_places table_format at closed ++ record { place = at + sum_by (block_frame_length table_format) closed; length = block_frame_length table_format b; last = last_key b } ∷ []
-places-push at [] b = let same : at ≡ at + 0 = omega arith in ap (λ (n : ℕ). record { place = n; length = block_frame_length table_format b; last = last_key b } ∷ []) same
+    → block_places table_format at (closed ++ b ∷ []) ≡ block_places table_format at closed ++ record
+    { place = at + sum_by (block_frame_length table_format) closed; length = block_frame_length table_format b; last = last_key b } ∷ []
+places-push at [] b = let same : at ≡ at + 0 = omega arith in ap
+    (λ (n : ℕ). record { place = n; length = block_frame_length table_format b; last = last_key b } ∷ []) same
 places-push at (a ∷ closed) b =
     let first : BlockPlace = record { place = at; length = block_frame_length table_format a; last = last_key a } in
-    let place : at + block_frame_length table_format a + sum_by (block_frame_length table_format) closed ≡ at + sum_by (block_frame_length table_format) (a ∷ closed) = omega (arith, sum_by-cons (block_frame_length table_format) a closed) in
+    let place : at + block_frame_length table_format a + sum_by (block_frame_length table_format) closed ≡ at + sum_by
+    (block_frame_length table_format) (a ∷ closed) = omega (arith, sum_by-cons (block_frame_length table_format) a closed) in
     ap (λ l. first ∷ l) (places-push (at + block_frame_length table_format a) closed b)
-    ∙ ap (λ (n : ℕ). first ∷ (block_places table_format (at + block_frame_length table_format a) closed ++ record { place = n; length = block_frame_length table_format b; last = last_key b } ∷ [])) place
+    ∙ ap (λ (n : ℕ). first ∷
+    (block_places table_format (at + block_frame_length table_format a) closed ++ record
+    { place = n; length = block_frame_length table_format b; last = last_key b } ∷ [])) place
 
 pub first_key-push : (es : List Entry) (e : Entry) → 1 ≤ length es → first_key (es ++ e ∷ []) ≡ first_key es
 first_key-push [] e some = absurd (omega arith)
@@ -56,7 +69,8 @@ first_key-push (d ∷ es) e some = refl
 
 pub places_alike : (ps : List BlockPlace) (place other_place size other_size : ℕ) (last other_last : List ℕ)
     → place ≡ other_place → size ≡ other_size → last ≡ other_last
-    → ps ++ record { place = place; length = size; last = last } ∷ [] ≡ ps ++ record { place = other_place; length = other_size; last = other_last } ∷ []
+    → ps ++ record { place = place; length = size; last = last } ∷ [] ≡ ps ++ record
+    { place = other_place; length = other_size; last = other_last } ∷ []
 places_alike ps place other_place size other_size last other_last a b c = λ k. ps ++ record { place = a k; length = b k; last = c k } ∷ []
 
 -- ---- a table that grows
@@ -68,7 +82,8 @@ pub closed_frame : (number : ℕ) (closed : List (List Entry)) (b : List Entry) 
     → blocks_bytes table_format number 16 closed ++ frame ≡ blocks_bytes table_format number 16 (closed ++ b ∷ [])
 closed_frame number closed b said place frame numbered at written =
     ap (λ (l : List ℕ). (blocks_bytes table_format) number 16 closed ++ l)
-    (written ∙ ap (λ (n : ℕ). frame_bytes n place kinds.Block (block_body table_format b)) numbered ∙ ap (λ (n : ℕ). frame_bytes number n kinds.Block (block_body table_format b)) at
+    (written ∙ ap (λ (n : ℕ). frame_bytes n place kinds.Block (block_body table_format b)) numbered
+    ∙ ap (λ (n : ℕ). frame_bytes number n kinds.Block (block_body table_format b)) at
     ∙ sym (append-nil (frame_bytes number (16 + sum_by (block_frame_length table_format) closed) kinds.Block (block_body table_format b))))
     ∙ sym (blocks-split table_format number 16 closed b [])
 
@@ -103,15 +118,19 @@ not_chosen false x y is = refl
 
 body-push : (open_block : List Entry) (e : Entry)
     → length (block_body table_format open_block) + entry_length table_format e ≡ length (block_body table_format (open_block ++ e ∷ []))
-body-push open_block e = omega (arith, length-block_body table_format open_block, length-block_body table_format (open_block ++ e ∷ []), entries-push open_block e)
+body-push open_block e = omega
+    (arith, length-block_body table_format open_block, length-block_body table_format (open_block ++ e ∷ []), entries-push open_block e)
   where
-    entries-push : (es : List Entry) (e : Entry) → sum_by (entry_length table_format) (es ++ e ∷ []) ≡ sum_by (entry_length table_format) es + entry_length table_format e
+    entries-push : (es : List Entry) (e : Entry) → sum_by (entry_length table_format) (es ++ e ∷ []) ≡ sum_by
+        (entry_length table_format) es + entry_length table_format e
     entries-push [] e = omega (arith, sum_by-cons (entry_length table_format) e [])
-    entries-push (d ∷ es) e = omega (arith, sum_by-cons (entry_length table_format) d (es ++ e ∷ []), sum_by-cons (entry_length table_format) d es, entries-push es e)
+    entries-push (d ∷ es) e = omega
+        (arith, sum_by-cons (entry_length table_format) d (es ++ e ∷ []), sum_by-cons (entry_length table_format) d es, entries-push es e)
 
 -- the entry goes into the open block
 pub stays_open : (w : TableWriter) (number : ℕ) (es : List Entry) (given : List ℕ) (e : Entry) → (is : IsWriting w number es given)
-    → nat_le (length (block_body table_format is.open_block) + entry_length table_format e) max_block_bytes ≡ true → HasRoom w number es given e
+    → nat_le (length (block_body table_format is.open_block) + entry_length table_format e) max_block_bytes ≡ true
+    → HasRoom w number es given e
 stays_open w number es given e is fits = record {
   some = is.some;
   closed = is.closed;
@@ -124,9 +143,11 @@ stays_open w number es given e is fits = record {
   ordered = is.ordered;
   given_out = is.given_out;
   cut = λ later.
-      let grown = blocks_from table_format (is.open_block ++ e ∷ []) (length (block_body table_format is.open_block) + entry_length table_format e) later in
+      let grown = blocks_from table_format (is.open_block ++ e ∷ [])
+      (length (block_body table_format is.open_block) + entry_length table_format e) later in
       is.cut (e ∷ later) ∙ ap (λ l. is.closed ++ l)
-      (chosen (nat_le (length (block_body table_format is.open_block) + entry_length table_format e) max_block_bytes) grown (is.open_block ∷ blocks_from table_format (e ∷ []) (begun_length table_format e) later) fits
+      (chosen (nat_le (length (block_body table_format is.open_block) + entry_length table_format e) max_block_bytes)
+      grown (is.open_block ∷ blocks_from table_format (e ∷ []) (begun_length table_format e) later) fits
       ∙ ap (λ (n : ℕ). (blocks_from table_format) (is.open_block ++ e ∷ []) n later) (body-push is.open_block e));
 }
 
@@ -147,13 +168,17 @@ closes w v number es given frame e is full has numbered summary written = record
   each = is.each;
   ordered = is.ordered;
   given_out =
-      ap (λ (l : List ℕ). l ++ frame) is.given_out ∙ append_assoc (table_header table_format number) (blocks_bytes table_format number 16 is.closed) frame
-      ∙ ap (λ (l : List ℕ). (table_header table_format) number ++ l) (closed_frame number is.closed is.open_block w.blocks.number w.blocks.place frame is.numbered is.has.place written);
+      ap (λ (l : List ℕ). l ++ frame) is.given_out
+      ∙ append_assoc (table_header table_format number) (blocks_bytes table_format number 16 is.closed) frame
+      ∙ ap (λ (l : List ℕ). (table_header table_format) number ++ l)
+      (closed_frame number is.closed is.open_block w.blocks.number w.blocks.place frame is.numbered is.has.place written);
   cut = λ later.
       let next = blocks_from table_format (e ∷ []) (begun_length table_format e) later in
       is.cut (e ∷ later)
-      ∙ ap (λ l. is.closed ++ l) (not_chosen (nat_le (length (block_body table_format is.open_block) + entry_length table_format e) max_block_bytes)
-      (blocks_from table_format (is.open_block ++ e ∷ []) (length (block_body table_format is.open_block) + entry_length table_format e) later) (is.open_block ∷ next) full)
+      ∙ ap (λ l. is.closed ++ l)
+      (not_chosen (nat_le (length (block_body table_format is.open_block) + entry_length table_format e) max_block_bytes)
+      (blocks_from table_format (is.open_block ++ e ∷ [])
+      (length (block_body table_format is.open_block) + entry_length table_format e) later) (is.open_block ∷ next) full)
       ∙ sym (append_assoc is.closed (is.open_block ∷ []) next)
       ∙ ap (λ (n : ℕ). (is.closed ++ is.open_block ∷ []) ++ blocks_from table_format (e ∷ []) n later) (begun e);
 }
@@ -192,7 +217,8 @@ with_key-behind key k ks more = by (eq_by_cmp key_cmp key k)
     by false = refl
 
 -- of keys of which there is one
-keys-some : (key : List ℕ) (ks : List (List ℕ)) (more : List ℕ) → 1 ≤ length ks → with_key key (ks ++ more ∷ []) ≡ with_key key ks ++ more ∷ []
+keys-some : (key : List ℕ) (ks : List (List ℕ)) (more : List ℕ) → 1 ≤ length ks
+    → with_key key (ks ++ more ∷ []) ≡ with_key key ks ++ more ∷ []
 keys-some key [] more some = absurd (omega arith)
 keys-some key (k ∷ ks) more some = with_key-behind key k ks more
 
@@ -209,7 +235,8 @@ pub keys-push : (es : List Entry) (e : Entry) → 1 ≤ length es
 keys-push [] e some = absurd (omega arith)
 keys-push (d ∷ []) e some = by (eq_by_cmp key_cmp d.key e.key) refl
   where
-    by : (t : Bool) → eq_by_cmp key_cmp d.key e.key ≡ t → cond t (e.key ∷ []) (d.key ∷ e.key ∷ []) ≡ cond t (d.key ∷ []) (d.key ∷ e.key ∷ [])
+    by : (t : Bool) → eq_by_cmp key_cmp d.key e.key ≡ t → cond t (e.key ∷ []) (d.key ∷ e.key ∷ []) ≡ cond t (d.key ∷ [])
+        (d.key ∷ e.key ∷ [])
     by true same = ap (λ (k : List ℕ). k ∷ []) (sym (same_key d.key e.key same))
     by false same = refl
 keys-push (d ∷ f ∷ fs) e some =

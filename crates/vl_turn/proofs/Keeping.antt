@@ -42,7 +42,8 @@ module _ {T E : Type 0} (stands : T → T → List E → Type 0) (by : E → ℕ
       r.state
 
   -- the token with the turn knows something else, and keeps the turn
-  pub held_still : (s : Table T E) (r : Rule s) (ws : List ℕ) (hs : List (maybe.Option (Option T))) (list : List E) (id : ℕ) (v w : View T E) → get_elem? s.views id ≡ some v → HasIt s r id v
+  pub held_still : (s : Table T E) (r : Rule s) (ws : List ℕ) (hs : List (maybe.Option (Option T))) (list : List E)
+      (id : ℕ) (v w : View T E) → get_elem? s.views id ≡ some v → HasIt s r id v
       → w.holds ≡ true → w.seen ≡ list → hs ≡ out_slot w.closed → IsHeld (changed s ws hs id w) list
   held_still s r ws hs list id v w at h has knows out = record {
     holder = id;
@@ -55,7 +56,8 @@ module _ {T E : Type 0} (stands : T → T → List E → Type 0) (by : E → ℕ
   }
 
   -- a token knows something else; whether it has the turn, and what it has then seen, is as before
-  pub state_still : (s : Table T E) (ws : List ℕ) (list : List E) (turn id : ℕ) (v w : View T E) → get_elem? s.views id ≡ some v → w.holds ≡ v.holds → w.closed ≡ v.closed → (v.holds ≡ true → w.seen ≡ v.seen)
+  pub state_still : (s : Table T E) (ws : List ℕ) (list : List E) (turn id : ℕ) (v w : View T E)
+      → get_elem? s.views id ≡ some v → w.holds ≡ v.holds → w.closed ≡ v.closed → (v.holds ≡ true → w.seen ≡ v.seen)
       → IsState (stands start) s list turn → IsState (stands start) (changed s ws s.homes id w) list turn
   state_still s ws list turn id v w at holds closed seen state = ⊎_elim
       (λ (free : (turn ≡ 0) × IsFree (stands start) s list). let f = free.1 in inl (
@@ -64,7 +66,8 @@ module _ {T E : Type 0} (stands : T → T → List E → Type 0) (by : E → ℕ
           value = f.value;
           home = f.home;
           stands = f.stands;
-          nobody = each_after_change (λ (j : ℕ) (u : View T E). u.holds ≡ false) s.views id w (holds ∙ f.nobody id v at) (λ j u _ e. f.nobody j u e);
+          nobody = each_after_change (λ (j : ℕ) (u : View T E). u.holds ≡ false) s.views id w (holds ∙ f.nobody id v at)
+              (λ j u _ e. f.nobody j u e);
         },
       ))
       (λ (held : (turn ≡ 1) × IsHeld s list). let h = held.1 in inr (
@@ -80,7 +83,8 @@ module _ {T E : Type 0} (stands : T → T → List E → Type 0) (by : E → ℕ
               holds = holds ∙ has;
               knows = seen has ∙ (ap (λ (u : View T E). u.seen) is ∙ h.knows);
               out = h.out ∙ ap out_slot (sym (closed ∙ ap (λ (u : View T E). u.closed) is));
-              alone = each_after_change (λ (j : ℕ) (u : View T E). u.holds ≡ true → j ≡ id) s.views id w (λ _. refl) (λ j u _ e has'. h.alone j u e has' ∙ here);
+              alone = each_after_change (λ (j : ℕ) (u : View T E). u.holds ≡ true → j ≡ id) s.views id w (λ _. refl)
+                  (λ j u _ e has'. h.alone j u e has' ∙ here);
             })
             (λ other. record {
               holder = h.holder;
@@ -89,7 +93,8 @@ module _ {T E : Type 0} (stands : T → T → List E → Type 0) (by : E → ℕ
               holds = h.holds;
               knows = h.knows;
               out = h.out;
-              alone = each_after_change (λ (j : ℕ) (u : View T E). u.holds ≡ true → j ≡ h.holder) s.views id w (λ has. h.alone id v at (sym holds ∙ has)) (λ j u _ e. h.alone j u e);
+              alone = each_after_change (λ (j : ℕ) (u : View T E). u.holds ≡ true → j ≡ h.holder) s.views id w
+                  (λ has. h.alone id v at (sym holds ∙ has)) (λ j u _ e. h.alone j u e);
             }),
       ))
       state
@@ -116,14 +121,17 @@ module _ {T E : Type 0} (stands : T → T → List E → Type 0) (by : E → ℕ
           holds = h.holds;
           knows = h.knows;
           out = h.out;
-          alone = each_with_new (λ (j : ℕ) (u : View T E). u.holds ≡ true → j ≡ h.holder) s.views new (λ has. absurd (false≢true (sym idle ∙ has))) h.alone;
+          alone = each_with_new (λ (j : ℕ) (u : View T E). u.holds ≡ true → j ≡ h.holder) s.views new
+              (λ has. absurd (false≢true (sym idle ∙ has))) h.alone;
         },
       ))
       state
 
   -- a token knows something else, and the list and the sessions are as before
-  pub kept_still : (s : Table T E) (r : Rule s) (ws : List ℕ) (hs : List (maybe.Option (Option T))) (turn id : ℕ) (w : View T E) → ws ≡ length r.list % 2 ^ 64 ∷ turn ∷ r.count % 2 ^ 64 ∷ []
-      → Fits by start r.list r.count r.token_of r.root id w → IsState (stands start) (changed s ws hs id w) r.list turn → Rule (changed s ws hs id w)
+  pub kept_still : (s : Table T E) (r : Rule s) (ws : List ℕ) (hs : List (maybe.Option (Option T))) (turn id : ℕ)
+      (w : View T E) → ws ≡ length r.list % 2 ^ 64 ∷ turn ∷ r.count % 2 ^ 64 ∷ []
+      → Fits by start r.list r.count r.token_of r.root id w → IsState (stands start) (changed s ws hs id w) r.list turn
+      → Rule (changed s ws hs id w)
   kept_still s r ws hs turn id w words fits state = record {
     list = r.list;
     turn = turn;

@@ -11,7 +11,8 @@ module _ {A : Type 0} where
   at_changed (x ∷ xs) (suc i) a b e = at_changed xs i a b e
 
   -- what is so of each, where one has changed
-  pub each_after_change : (P : ℕ → A → Type 0) (l : List A) (i : ℕ) (b : A) → P i b → ((j : ℕ) (a : A) → j ≢ i → get_elem? l j ≡ some a → P j a) → (j : ℕ) (a : A) → get_elem? (set l i b) j ≡ some a → P j a
+  pub each_after_change : (P : ℕ → A → Type 0) (l : List A) (i : ℕ) (b : A) → P i b
+      → ((j : ℕ) (a : A) → j ≢ i → get_elem? l j ≡ some a → P j a) → (j : ℕ) (a : A) → get_elem? (set l i b) j ≡ some a → P j a
   each_after_change P l i b this others j a e = ⊎_elim
       (λ (is : (j ≡ i) × (b ≡ a)). subst (λ (x : ℕ × A). P x.0 x.1) (λ k. (sym is.0 k, is.1 k)) this)
       (λ (other : (j ≢ i) × (get_elem? l j ≡ some a)). others j a other.0 other.1)
@@ -24,7 +25,8 @@ module _ {A : Type 0} where
   at_end (x ∷ xs) b a (suc j) e = ⊎_elim inl (λ is. inr (ap suc is.0, is.1)) (at_end xs b a j e)
 
   -- what is so of each, where one has come
-  pub each_with_new : (P : ℕ → A → Type 0) (l : List A) (b : A) → P (length l) b → ((j : ℕ) (a : A) → get_elem? l j ≡ some a → P j a) → (j : ℕ) (a : A) → get_elem? (l ++ b ∷ []) j ≡ some a → P j a
+  pub each_with_new : (P : ℕ → A → Type 0) (l : List A) (b : A) → P (length l) b
+      → ((j : ℕ) (a : A) → get_elem? l j ≡ some a → P j a) → (j : ℕ) (a : A) → get_elem? (l ++ b ∷ []) j ≡ some a → P j a
   each_with_new P l b new others j a e = ⊎_elim (others j a)
       (λ (is : (j ≡ length l) × (b ≡ a)). subst (λ (x : ℕ × A). P x.0 x.1) (λ k. (sym is.0 k, is.1 k)) new)
       (at_end l b a j e)

@@ -1,5 +1,6 @@
 -- Beginnings of one list.
-use Rattle.std.proofs.Common.{◌≡◌, ◌≤◌, List, [], ◌∷◌, ◌++◌, length, Bool, true, false, if◌then◌else◌, nat_le, refl, ap, sym, ◌∙◌, arith, append_assoc, append-nil}
+use Rattle.std.proofs.Common.{◌≡◌, ◌≤◌, List, [], ◌∷◌, ◌++◌, length, Bool, true, false, if◌then◌else◌, nat_le, refl}
+use Rattle.std.proofs.Common.{ap, sym, ◌∙◌, arith, append_assoc, append-nil}
 use Rattle.std.proofs.lemmas.Bool.Decides.{nat_tests}
 use mathlib.Core.List.{IsPrefix}
 use Rattle.vl_turn.specs.Entries.{longer, shorter}
@@ -24,12 +25,14 @@ module _ {A : Type 0} where
       let rest : IsPrefix xs ys = goes_on xs xs' ys ys' (cc same) (omega arith) in
       (rest.0, cc (same, rest.1))
 
-  by_length : (P : List A → List A → Type 0) (xs ys : List A) (b : Bool) → (b ≡ true → P xs ys) → (b ≡ false → P ys xs) → P (if b then xs else ys) (if b then ys else xs)
+  by_length : (P : List A → List A → Type 0) (xs ys : List A) (b : Bool) → (b ≡ true → P xs ys) → (b ≡ false → P ys xs)
+      → P (if b then xs else ys) (if b then ys else xs)
   by_length P xs ys true first second = first refl
   by_length P xs ys false first second = second refl
 
   -- of two beginnings of one list the longer is a beginning, which the shorter begins
-  pub longer_begins : (xs ys list : List A) → IsPrefix xs list → IsPrefix ys list → IsPrefix (longer xs ys) list × IsPrefix (shorter xs ys) (longer xs ys)
+  pub longer_begins : (xs ys list : List A) → IsPrefix xs list → IsPrefix ys list → IsPrefix (longer xs ys) list
+      × IsPrefix (shorter xs ys) (longer xs ys)
   longer_begins xs ys list p q = by_length (λ l k. IsPrefix l list × IsPrefix k l) xs ys (nat_le (length ys) (length xs))
       (λ is. (p, goes_on ys q.0 xs p.0 (q.1 ∙ sym p.1) (grind (arith, nat_tests))))
       (λ is. (q, goes_on xs p.0 ys q.0 (p.1 ∙ sym q.1) (grind (arith, nat_tests))))

@@ -1,5 +1,6 @@
 -- The steps among tokens keep the rule: load, number, split, join.
-use Rattle.std.proofs.Common.{◌≡◌, ◌≢◌, ℕ, ◌+◌, ◌%◌, ◌^◌, ◌<◌, eq-eqb, false, if◌then◌else◌, List, [], ◌∷◌, ◌++◌, length, get_or, set, Option, Some, None, IfSome, sym, refl, ap, ◌∙◌, subst, arith}
+use Rattle.std.proofs.Common.{◌≡◌, ◌≢◌, ℕ, ◌+◌, ◌%◌, ◌^◌, ◌<◌, eq-eqb, false, if◌then◌else◌, List, [], ◌∷◌, ◌++◌}
+use Rattle.std.proofs.Common.{length, get_or, set, Option, Some, None, IfSome, sym, refl, ap, ◌∙◌, subst, arith}
 use Rattle.std.proofs.lemmas.Bool.{false≢true}
 use Rattle.std.proofs.Math.Nat.{mod-add-mod}
 use mathlib.Core.Option.{some}
@@ -12,7 +13,8 @@ use Rattle.vl_turn.specs.Views.{next_of, spent, looked, copied, joined, numbered
 use Rattle.vl_turn.specs.Rule.{OwnsFit, Fits, Table}
 use Rattle.vl_turn.specs.Steps.{TokenState, Loads, Numbers}
 use Rattle.vl_turn.proofs.Prefixes.{longer_begins}
-use Rattle.vl_turn.proofs.Sessions.{of_next, numbered_more, next_differs, token_more, fit_more, token_moved, fit_stays, fit_moves, fit_both, apart_both}
+use Rattle.vl_turn.proofs.Sessions.{of_next, numbered_more, next_differs, token_more, fit_more, token_moved}
+use Rattle.vl_turn.proofs.Sessions.{fit_stays, fit_moves, fit_both, apart_both}
 use Rattle.vl_turn.proofs.Places.{each_after_change, each_with_new}
 use Rattle.vl_turn.proofs.Keeping.{Rule, changed, state_still, state_with_new, kept_still}
 
@@ -31,14 +33,22 @@ module _ {T E : Type 0} (stands : T → T → List E → Type 0) (by : E → ℕ
         tt,
         kept_still stands by start s r ws s.homes r.turn id w
             (ap (λ ws. set ws 0 (get_or ws 0 0)) r.words)
-            (record { same = mine.same; seen = mine.seen; lagging = (m.0.seen, refl); owns = mine.owns; apart = mine.apart; made = mine.made })
+            (record {
+              same = mine.same;
+              seen = mine.seen;
+              lagging = (m.0.seen, refl);
+              owns = mine.owns;
+              apart = mine.apart;
+              made = mine.made;
+            })
             (state_still stands by start s ws r.list r.turn id m.0 w at refl refl (λ _. refl) r.state),
         (refl, mine.lagging),
       )
 
   -- number
 
-  numbered_fits : (list : List E) (count : ℕ) (token_of : ℕ → ℕ) (root id : ℕ) (v : View T E) (next : ℕ) → v.made ≡ Some next → AreNumbered by count list → Fits by start list count token_of root id v
+  numbered_fits : (list : List E) (count : ℕ) (token_of : ℕ → ℕ) (root id : ℕ) (v : View T E) (next : ℕ)
+      → v.made ≡ Some next → AreNumbered by count list → Fits by start list count token_of root id v
       → (next ≡ count) × (id ≡ root) × Fits by start list (count + 1) (token_more by token_of count id) root id (numbered next v)
   numbered_fits list count token_of root id v next is numbers mine =
       let made : (next ≡ count) × (id ≡ root) = subst (λ o. IfSome o (λ k. (k ≡ count) × (id ≡ root))) is mine.made in
@@ -51,23 +61,28 @@ module _ {T E : Type 0} (stands : T → T → List E → Type 0) (by : E → ℕ
           same = mine.same;
           seen = mine.seen;
           lagging = mine.lagging;
-          owns = subst (λ k. OwnsFit by list (count + 1) more id (record { number = k; entries = [] } ∷ v.owns)) (sym made.0) (own, fit_more by list count token_of id id v.owns mine.owns);
-          apart = subst (λ k. AreApart (record { number = k; entries = [] } ∷ v.owns)) (sym made.0) (next_differs by list count token_of id v.owns mine.owns, mine.apart);
+          owns = subst (λ k. OwnsFit by list (count + 1) more id (record { number = k; entries = [] } ∷ v.owns))
+              (sym made.0) (own, fit_more by list count token_of id id v.owns mine.owns);
+          apart = subst (λ k. AreApart (record { number = k; entries = [] } ∷ v.owns)) (sym made.0)
+              (next_differs by list count token_of id v.owns mine.owns, mine.apart);
           made = (ap (λ k. k + 1) made.0, made.1);
         },
       )
 
-  other_fits : (list : List E) (count : ℕ) (token_of : ℕ → ℕ) (root id j : ℕ) (u : View T E) → id ≡ root → j ≢ id → Fits by start list count token_of root j u → Fits by start list (count + 1) (token_more by token_of count id) root j u
+  other_fits : (list : List E) (count : ℕ) (token_of : ℕ → ℕ) (root id j : ℕ) (u : View T E) → id ≡ root → j ≢ id
+      → Fits by start list count token_of root j u → Fits by start list (count + 1) (token_more by token_of count id) root j u
   other_fits list count token_of root id j u is other f = record {
     same = f.same;
     seen = f.seen;
     lagging = f.lagging;
     owns = fit_more by list count token_of id j u.owns f.owns;
     apart = f.apart;
-    made = if_never (λ n. (n ≡ count + 1) × (j ≡ root)) u.made (λ k is'. other ((subst (λ o. IfSome o (λ n. (n ≡ count) × (j ≡ root))) is' f.made).1 ∙ sym is));
+    made = if_never (λ n. (n ≡ count + 1) × (j ≡ root)) u.made
+        (λ k is'. other ((subst (λ o. IfSome o (λ n. (n ≡ count) × (j ≡ root))) is' f.made).1 ∙ sym is));
   }
 
-  pub number_keeps : (n id : ℕ) (m : TokenState T E) (next : ℕ) → m.0.made ≡ Some next → Allows (Rule stands by start) n id m 2 (λ x. (x + 1) % 2 ^ 64) (Numbers m)
+  pub number_keeps : (n id : ℕ) (m : TokenState T E) (next : ℕ) → m.0.made ≡ Some next
+      → Allows (Rule stands by start) n id m 2 (λ x. (x + 1) % 2 ^ 64) (Numbers m)
   number_keeps n id m next is s r wide at _ =
       let mine = numbered_fits r.list r.count r.token_of r.root id m.0 next is r.numbers (r.views id m.0 at) in
       let w : View T E = numbered next m.0 in
@@ -82,9 +97,11 @@ module _ {T E : Type 0} (stands : T → T → List E → Type 0) (by : E → ℕ
           count = r.count + 1;
           token_of = token_of;
           root = r.root;
-          words = ap (λ ws. set ws 2 ((get_or ws 2 0 + 1) % 2 ^ 64)) r.words ∙ ap (λ x. length r.list % 2 ^ 64 ∷ r.turn ∷ x ∷ []) (mod-add-mod r.count (2 ^ 64) 1);
+          words = ap (λ ws. set ws 2 ((get_or ws 2 0 + 1) % 2 ^ 64)) r.words
+              ∙ ap (λ x. length r.list % 2 ^ 64 ∷ r.turn ∷ x ∷ []) (mod-add-mod r.count (2 ^ 64) 1);
           numbers = numbered_more by r.count r.list r.numbers;
-          views = each_after_change (Fits by start r.list (r.count + 1) token_of r.root) s.views id w mine.2 (λ j u other e. other_fits r.list r.count r.token_of r.root id j u mine.1 other (r.views j u e));
+          views = each_after_change (Fits by start r.list (r.count + 1) token_of r.root) s.views id w mine.2
+              (λ j u other e. other_fits r.list r.count r.token_of r.root id j u mine.1 other (r.views j u e));
           state = state_still stands by start s ws r.list r.turn id m.0 w at refl refl (λ _. refl) r.state;
         },
         (λ k is'. ap (λ o. (numbered (next_of o) m.0, m.1)) (sym is ∙ is')),
@@ -93,8 +110,10 @@ module _ {T E : Type 0} (stands : T → T → List E → Type 0) (by : E → ℕ
   -- split
 
   -- the token's view changes, and a new token comes, without the turn
-  kept_with_new : (s : Table T E) (r : Rule stands by start s) (token_of : ℕ → ℕ) (id : ℕ) (v left right : View T E) → get_elem? s.views id ≡ some v → left.holds ≡ v.holds → left.closed ≡ v.closed → left.seen ≡ v.seen → right.holds ≡ false
-      → Fits by start r.list r.count token_of r.root id left → Fits by start r.list r.count token_of r.root (length (set s.views id left)) right
+  kept_with_new : (s : Table T E) (r : Rule stands by start s) (token_of : ℕ → ℕ) (id : ℕ) (v left right : View T E)
+      → get_elem? s.views id ≡ some v → left.holds ≡ v.holds → left.closed ≡ v.closed → left.seen ≡ v.seen → right.holds ≡ false
+      → Fits by start r.list r.count token_of r.root id left
+      → Fits by start r.list r.count token_of r.root (length (set s.views id left)) right
       → ((j : ℕ) (u : View T E) → j ≢ id → get_elem? s.views j ≡ some u → Fits by start r.list r.count token_of r.root j u)
       → Rule stands by start record { words = s.words; homes = s.homes; views = set s.views id left ++ right ∷ [] }
   kept_with_new s r token_of id v left right at holds closed seen idle mine new others =
@@ -106,7 +125,8 @@ module _ {T E : Type 0} (stands : T → T → List E → Type 0) (by : E → ℕ
         root = r.root;
         words = r.words;
         numbers = r.numbers;
-        views = each_with_new (Fits by start r.list r.count token_of r.root) (set s.views id left) right new (each_after_change (Fits by start r.list r.count token_of r.root) s.views id left mine others);
+        views = each_with_new (Fits by start r.list r.count token_of r.root) (set s.views id left) right new
+            (each_after_change (Fits by start r.list r.count token_of r.root) s.views id left mine others);
         state = state_with_new stands by start (changed stands by start s s.words s.homes id left) r.list r.turn right idle middle;
       }
 
@@ -124,12 +144,29 @@ module _ {T E : Type 0} (stands : T → T → List E → Type 0) (by : E → ℕ
       let new : ℕ = length (set s.views id (disowned v)) in
       kept_with_new s r (token_moved by r.token_of id new) id v (disowned v) (dealt v) at refl refl refl refl
       (record { same = mine.same; seen = mine.seen; lagging = mine.lagging; owns = tt; apart = tt; made = mine.made })
-      (record { same = mine.same; seen = mine.seen; lagging = (v.seen, refl); owns = fit_moves by r.list r.count r.token_of id new v.owns mine.owns; apart = mine.apart; made = tt })
-      (λ j u other e. let f = r.views j u e in record { same = f.same; seen = f.seen; lagging = f.lagging; owns = fit_stays by r.list r.count r.token_of id new j u.owns other f.owns; apart = f.apart; made = f.made })
+      (record {
+        same = mine.same;
+        seen = mine.seen;
+        lagging = (v.seen, refl);
+        owns = fit_moves by r.list r.count
+            r.token_of id new v.owns mine.owns;
+        apart = mine.apart;
+        made = tt;
+      })
+      (λ j u other e. let f = r.views j u e in record {
+        same = f.same;
+        seen = f.seen;
+        lagging = f.lagging;
+        owns = fit_stays by r.list r.count r.token_of id new j
+            u.owns other f.owns;
+        apart = f.apart;
+        made = f.made;
+      })
 
   -- join
 
-  joined_fits : (list : List E) (count : ℕ) (token_of : ℕ → ℕ) (root id other : ℕ) (v w : View T E) → other ≢ id → Fits by start list count token_of root id v → Fits by start list count token_of root other w
+  joined_fits : (list : List E) (count : ℕ) (token_of : ℕ → ℕ) (root id other : ℕ) (v w : View T E) → other ≢ id
+      → Fits by start list count token_of root id v → Fits by start list count token_of root other w
       → Fits by start list count (token_moved by token_of other id) root id (joined v w)
   joined_fits list count token_of root id other v w apart mine its =
       let longest = longer_begins v.seen w.seen list mine.seen its.seen in
@@ -143,16 +180,26 @@ module _ {T E : Type 0} (stands : T → T → List E → Type 0) (by : E → ℕ
         made = mine.made;
       }
 
-  pub join_keeps : (id : ℕ) (v : View T E) (other : ℕ) (w : View T E) → v.holds ≡ false → w.holds ≡ false → w.closed ≡ false → Joins (Rule stands by start) id v other w (joined v w) spent
+  pub join_keeps : (id : ℕ) (v : View T E) (other : ℕ) (w : View T E) → v.holds ≡ false → w.holds ≡ false
+      → w.closed ≡ false → Joins (Rule stands by start) id v other w (joined v w) spent
   join_keeps id v other w idle idle' unclosed s r at apart at' =
       let both : View T E = joined v w in
       let there : get_elem? s.views other ≡ some w = sym (set_else s.views id other both apart) ∙ at' in
       let token_of : ℕ → ℕ = token_moved by r.token_of other id in
       let Fit : ℕ → View T E → Type 0 = Fits by start r.list r.count token_of r.root in
       let middle = changed stands by start s s.words s.homes id both in
-      let first = state_still stands by start s s.words r.list r.turn id v both at refl refl (λ has. absurd (false≢true (sym idle ∙ has))) r.state in
+      let first = state_still stands by start s s.words r.list r.turn id v both at refl refl
+      (λ has. absurd (false≢true (sym idle ∙ has))) r.state in
       let stays : (j : ℕ) (u : View T E) → j ≢ other → get_elem? s.views j ≡ some u → Fit j u
-      = λ j u far e. let f = r.views j u e in record { same = f.same; seen = f.seen; lagging = f.lagging; owns = fit_stays by r.list r.count r.token_of other id j u.owns far f.owns; apart = f.apart; made = f.made } in
+      = λ j u far e. let f = r.views j u e in record {
+        same = f.same;
+        seen = f.seen;
+        lagging = f.lagging;
+        owns = fit_stays by r.list r.count r.token_of other id j
+            u.owns far f.owns;
+        apart = f.apart;
+        made = f.made;
+      } in
       record {
         list = r.list;
         turn = r.turn;
@@ -167,5 +214,6 @@ module _ {T E : Type 0} (stands : T → T → List E → Type 0) (by : E → ℕ
             (λ _. joined_fits r.list r.count r.token_of r.root id other v w apart (r.views id v at) (r.views other w there))
             (λ i x _ e' far'. stays i x far' e')
             j u e far);
-        state = state_still stands by start middle s.words r.list r.turn other w spent at' (sym idle') (sym unclosed) (λ has. absurd (false≢true (sym idle' ∙ has))) first;
+        state = state_still stands by start middle s.words r.list r.turn other w spent at' (sym idle') (sym unclosed)
+            (λ has. absurd (false≢true (sym idle' ∙ has))) first;
       }

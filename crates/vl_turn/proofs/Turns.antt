@@ -1,5 +1,7 @@
 -- The steps of a turn keep the rule: take, enter, give; and those of an empty lock.
-use Rattle.std.proofs.Common.{◌≡◌, ℕ, zero, suc, ◌+◌, ◌%◌, ◌^◌, ◌<◌, Bool, true, false, List, [], ◌∷◌, ◌++◌, length, get_or, set, Option, Some, None, IfSome, sym, refl, ap, ◌∙◌, subst, ⊎_elim, inl, inr, arith, length-append}
+use Rattle.std.proofs.Common.{◌≡◌, ℕ, zero, suc, ◌+◌, ◌%◌, ◌^◌, ◌<◌, Bool, true, false, List, [], ◌∷◌, ◌++◌, length}
+use Rattle.std.proofs.Common.{get_or, set, Option, Some, None, IfSome, sym, refl, ap, ◌∙◌, subst, ⊎_elim, inl, inr}
+use Rattle.std.proofs.Common.{arith, length-append}
 use Rattle.std.proofs.lemmas.Bool.{false≢true}
 use Rattle.std.proofs.Math.Nat.{mod-add-mod}
 use mathlib.Core.List.{IsPrefix}
@@ -42,7 +44,19 @@ module _ {T E : Type 0} (stands : T → T → List E → Type 0) (by : E → ℕ
     words = refl;
     numbers = tt;
     views = root_fits;
-    state = inr (refl, record { holder = 0; view = root start; at = refl; holds = refl; knows = refl; out = refl; alone = λ j u e has. place_of_one (root start) u j e });
+    state = inr (
+      refl,
+      record {
+        holder = 0;
+        view = root start;
+        at = refl;
+        holds = refl;
+        knows = refl;
+        out = refl;
+        alone = λ j u e has.
+            place_of_one (root start) u j e;
+      },
+    );
   }
 
   pub empty_kept : (items : List (Option T)) → items ≡ None ∷ [] → Rule stands by start (opening (0 ∷ 1 ∷ 0 ∷ []) items (root start))
@@ -50,7 +64,8 @@ module _ {T E : Type 0} (stands : T → T → List E → Type 0) (by : E → ℕ
 
   -- take
 
-  taken_free : (n id : ℕ) (m : TokenState T E) → m.0.closed ≡ false → (s : Table T E) (r : Rule stands by start s) → get_elem? s.views id ≡ some m.0 → (r.turn ≡ 0) × IsFree (stands start) s r.list
+  taken_free : (n id : ℕ) (m : TokenState T E) → m.0.closed ≡ false → (s : Table T E) (r : Rule stands by start s)
+      → get_elem? s.views id ≡ some m.0 → (r.turn ≡ 0) × IsFree (stands start) s r.list
       → (w : View T E) × (a : Act (Option T)) × Valid s.homes m.1 a
       × Rule stands by start (stepped s 1 1 id m.1 w a) × Takes stands by m (get_or s.words 1 0) (w, carried_after m.1 a)
   taken_free n id m unclosed s r at free =
@@ -60,21 +75,50 @@ module _ {T E : Type 0} (stands : T → T → List E → Type 0) (by : E → ℕ
       let w : View T E = holding m.0 r.list in
       let hs = set s.homes 0 none in
       let alone : (j : ℕ) (u : View T E) → get_elem? (set s.views id w) j ≡ some u → u.holds ≡ true → j ≡ id
-      = each_after_change (λ (j : ℕ) (u : View T E). u.holds ≡ true → j ≡ id) s.views id w (λ _. refl) (λ j u _ e has. absurd (false≢true (sym (f.nobody j u e) ∙ has))) in (
+      = each_after_change (λ (j : ℕ) (u : View T E). u.holds ≡ true → j ≡ id) s.views id w (λ _. refl)
+      (λ j u _ e has. absurd (false≢true (sym (f.nobody j u e) ∙ has))) in (
         w,
         takes 0 (Some f.value),
         ap (λ hs. get_elem? hs 0) f.home,
         kept_still stands by start s r (set s.words 1 1) hs 1 id w
             (ap (λ ws. set ws 1 1) r.words)
-            (record { same = mine.same; seen = begins_itself r.list; lagging = begins_more m.0.lagging m.0.seen r.list mine.lagging mine.seen; owns = mine.owns; apart = mine.apart; made = mine.made })
-            (inr (refl, record { holder = id; view = w; at = at_changed s.views id m.0 w at; holds = refl; knows = refl; out = ap (λ hs. set hs 0 none) f.home ∙ ap out_slot (sym unclosed); alone = alone })),
+            (record {
+              same = mine.same;
+              seen = begins_itself r.list;
+              lagging = begins_more m.0.lagging m.0.seen r.list
+                  mine.lagging mine.seen;
+              owns = mine.owns;
+              apart = mine.apart;
+              made = mine.made;
+            })
+            (inr (
+              refl,
+              record {
+                holder = id;
+                view = w;
+                at = at_changed s.views id m.0 w at;
+                holds = refl;
+                knows = refl;
+                out = ap (λ hs. set hs 0 none) f.home ∙ ap out_slot (sym unclosed);
+                alone = alone;
+              },
+            )),
         (
-          (λ _. record { value = f.value; list = r.list; later = mine.seen; is = refl; owns = owned by r.list r.count r.token_of id m.0.owns mine.owns; meaning = of_start (λ (x : T). stands x f.value r.list) start m.0.start mine.same f.stands }),
+          (λ _. record {
+            value = f.value;
+            list = r.list;
+            later = mine.seen;
+            is = refl;
+            owns = owned by r.list r.count
+                r.token_of id m.0.owns mine.owns;
+            meaning = of_start (λ (x : T). stands x f.value r.list) start m.0.start mine.same f.stands;
+          }),
           (λ other. absurd (other found)),
         ),
       )
 
-  pub take_keeps : (n id : ℕ) (m : TokenState T E) → m.0.closed ≡ false → Allows (Rule stands by start) n id m 1 (λ _. 1) (Takes stands by m)
+  pub take_keeps : (n id : ℕ) (m : TokenState T E) → m.0.closed ≡ false
+      → Allows (Rule stands by start) n id m 1 (λ _. 1) (Takes stands by m)
   take_keeps n id m unclosed s r wide at _ = ⊎_elim
       (taken_free n id m unclosed s r at)
       (λ (held : (r.turn ≡ 1) × IsHeld s r.list).
@@ -91,12 +135,16 @@ module _ {T E : Type 0} (stands : T → T → List E → Type 0) (by : E → ℕ
 
   -- enter
 
-  counted_up : (ws : List ℕ) (list list' : List E) (turn count k : ℕ) → ws ≡ length list % 2 ^ 64 ∷ turn ∷ count % 2 ^ 64 ∷ [] → length list + k ≡ length list'
+  counted_up : (ws : List ℕ) (list list' : List E) (turn count k : ℕ)
+      → ws ≡ length list % 2 ^ 64 ∷ turn ∷ count % 2 ^ 64 ∷ [] → length list + k ≡ length list'
       → set ws 0 ((get_or ws 0 0 + k) % 2 ^ 64) ≡ length list' % 2 ^ 64 ∷ turn ∷ count % 2 ^ 64 ∷ []
-  counted_up ws list list' turn count k is more = ap (λ us. set us 0 ((get_or us 0 0 + k) % 2 ^ 64)) is ∙ ap (λ x. x ∷ turn ∷ count % 2 ^ 64 ∷ []) (mod-add-mod (length list) (2 ^ 64) k ∙ ap (λ y. y % 2 ^ 64) more)
+  counted_up ws list list' turn count k is more = ap (λ us. set us 0 ((get_or us 0 0 + k) % 2 ^ 64)) is
+      ∙ ap (λ x. x ∷ turn ∷ count % 2 ^ 64 ∷ []) (mod-add-mod (length list) (2 ^ 64) k ∙ ap (λ y. y % 2 ^ 64) more)
 
-  entered_fits : (list : List E) (count : ℕ) (token_of : ℕ → ℕ) (root id : ℕ) (v : View T E) (e : E) (own : List E) → v.owns ≡ record { number = by e; entries = own } ∷ [] → v.seen ≡ list
-      → Fits by start list count token_of root id v → (by e < count) × (token_of (by e) ≡ id) × Fits by start (list ++ e ∷ []) count token_of root id (entered v (Some e))
+  entered_fits : (list : List E) (count : ℕ) (token_of : ℕ → ℕ) (root id : ℕ) (v : View T E) (e : E) (own : List E)
+      → v.owns ≡ record { number = by e; entries = own } ∷ [] → v.seen ≡ list
+      → Fits by start list count token_of root id v → (by e < count) × (token_of (by e) ≡ id)
+      × Fits by start (list ++ e ∷ []) count token_of root id (entered v (Some e))
   entered_fits list count token_of root id v e own owns knows mine =
       let fit = subst (OwnsFit by list count token_of id) owns mine.owns in (
         fit.0.0,
@@ -105,13 +153,15 @@ module _ {T E : Type 0} (stands : T → T → List E → Type 0) (by : E → ℕ
           same = mine.same;
           seen = subst (λ l. IsPrefix (v.seen ++ e ∷ []) (l ++ e ∷ [])) knows (begins_itself (v.seen ++ e ∷ []));
           lagging = begins_grown v.lagging v.seen e mine.lagging;
-          owns = subst (λ os. OwnsFit by (list ++ e ∷ []) count token_of id (own_grown e os)) (sym owns) ((fit.0.0, fit.0.1, ap (λ l. l ++ e ∷ []) fit.0.2 ∙ sym (of_this by list e)), tt);
+          owns = subst (λ os. OwnsFit by (list ++ e ∷ []) count token_of id (own_grown e os)) (sym owns)
+              ((fit.0.0, fit.0.1, ap (λ l. l ++ e ∷ []) fit.0.2 ∙ sym (of_this by list e)), tt);
           apart = subst (λ os. AreApart (own_grown e os)) (sym owns) (tt, tt);
           made = mine.made;
         },
       )
 
-  pub enter_keeps : (n id : ℕ) (m : TokenState T E) (k : ℕ) (e : Option E) → m.0.holds ≡ true → MayEnter by m.0 e k → Allows (Rule stands by start) n id m 0 (λ x. (x + k) % 2 ^ 64) (Enters e m)
+  pub enter_keeps : (n id : ℕ) (m : TokenState T E) (k : ℕ) (e : Option E) → m.0.holds ≡ true → MayEnter by m.0 e k
+      → Allows (Rule stands by start) n id m 0 (λ x. (x + k) % 2 ^ 64) (Enters e m)
   enter_keeps n id m k None has may s r wide at _ =
       let ws = set s.words 0 ((get_or s.words 0 0 + k) % 2 ^ 64) in (
         m.0,
@@ -157,7 +207,8 @@ module _ {T E : Type 0} (stands : T → T → List E → Type 0) (by : E → ℕ
 
   -- give
 
-  pub give_keeps : (n id : ℕ) (m : TokenState T E) (x value : T) → m.0.holds ≡ true → m.0.closed ≡ false → m.0.start ≡ Some x → m.1 ≡ (0, Some value) ∷ [] → stands x value m.0.seen
+  pub give_keeps : (n id : ℕ) (m : TokenState T E) (x value : T) → m.0.holds ≡ true → m.0.closed ≡ false
+      → m.0.start ≡ Some x → m.1 ≡ (0, Some value) ∷ [] → stands x value m.0.seen
       → Allows (Rule stands by start) n id m 1 (λ _. 0) (λ _. Gives m 0)
   give_keeps n id m x value has unclosed from slot meaning s r wide at _ =
       let h = has_it stands by start s r id m.0 at has in
@@ -165,7 +216,8 @@ module _ {T E : Type 0} (stands : T → T → List E → Type 0) (by : E → ℕ
       let same : x ≡ start = subst (λ o. IfSome o (λ y. y ≡ start)) from mine.same in
       let w : View T E = gave m.0 in
       let nobody : (j : ℕ) (u : View T E) → get_elem? (set s.views id w) j ≡ some u → u.holds ≡ false
-      = each_after_change (λ (j : ℕ) (u : View T E). u.holds ≡ false) s.views id w refl (λ j u other e. not_true u.holds (λ has'. other (h.alone j u e has'))) in (
+      = each_after_change (λ (j : ℕ) (u : View T E). u.holds ≡ false) s.views id w refl
+      (λ j u other e. not_true u.holds (λ has'. other (h.alone j u e has'))) in (
         w,
         gives,
         tt,
@@ -186,7 +238,8 @@ module _ {T E : Type 0} (stands : T → T → List E → Type 0) (by : E → ℕ
 
   -- an empty lock: the slot is taken with nothing in it, and goes home with nothing in it
 
-  pub open_keeps : (n id : ℕ) (m : TokenState T E) → m.0.holds ≡ true → m.0.closed ≡ true → Allows (Rule stands by start) n id m 1 (λ _. 1) (λ _. Opens m 1)
+  pub open_keeps : (n id : ℕ) (m : TokenState T E) → m.0.holds ≡ true → m.0.closed ≡ true
+      → Allows (Rule stands by start) n id m 1 (λ _. 1) (λ _. Opens m 1)
   open_keeps n id m has closed s r wide at _ =
       let h = has_it stands by start s r id m.0 at has in
       let mine = r.views id m.0 at in
@@ -198,11 +251,16 @@ module _ {T E : Type 0} (stands : T → T → List E → Type 0) (by : E → ℕ
         kept_still stands by start s r (set s.words 1 1) (set s.homes 0 none) 1 id w
             (ap (λ ws. set ws 1 1) r.words)
             (record { same = mine.same; seen = mine.seen; lagging = mine.lagging; owns = mine.owns; apart = mine.apart; made = mine.made })
-            (inr (refl, held_still stands by start s r (set s.words 1 1) (set s.homes 0 none) r.list id m.0 w at h has h.knows (ap (λ hs. set hs 0 none) out))),
+            (inr (
+              refl,
+              held_still stands by start s r (set s.words 1 1) (set s.homes 0 none) r.list id m.0 w at h has
+                  h.knows (ap (λ hs. set hs 0 none) out),
+            )),
         refl,
       )
 
-  pub close_keeps : (n id : ℕ) (m : TokenState T E) → m.0.holds ≡ true → m.0.closed ≡ false → m.1 ≡ (0, None) ∷ [] → Allows (Rule stands by start) n id m 1 (λ _. 1) (λ _. Closes m 1)
+  pub close_keeps : (n id : ℕ) (m : TokenState T E) → m.0.holds ≡ true → m.0.closed ≡ false → m.1 ≡ (0, None) ∷ []
+      → Allows (Rule stands by start) n id m 1 (λ _. 1) (λ _. Closes m 1)
   close_keeps n id m has unclosed slot s r wide at _ =
       let h = has_it stands by start s r id m.0 at has in
       let mine = r.views id m.0 at in
@@ -214,6 +272,10 @@ module _ {T E : Type 0} (stands : T → T → List E → Type 0) (by : E → ℕ
         kept_still stands by start s r (set s.words 1 1) hs 1 id w
             (ap (λ ws. set ws 1 1) r.words)
             (record { same = mine.same; seen = mine.seen; lagging = mine.lagging; owns = mine.owns; apart = mine.apart; made = mine.made })
-            (inr (refl, held_still stands by start s r (set s.words 1 1) hs r.list id m.0 w at h has h.knows (ap (put_back s.homes) slot ∙ ap (λ hs. set hs 0 (some None)) (h.out ∙ ap out_slot unclosed)))),
+            (inr (
+              refl,
+              held_still stands by start s r (set s.words 1 1) hs r.list id m.0 w at h has h.knows
+                  (ap (put_back s.homes) slot ∙ ap (λ hs. set hs 0 (some None)) (h.out ∙ ap out_slot unclosed)),
+            )),
         ap (λ c. (closing m.0, rest c)) slot,
       )

@@ -24,7 +24,8 @@ OwnsFit by list count token_of id (own ∷ owns) =
     OwnFits by list count token_of id own × OwnsFit by list count token_of id owns
 
 -- what the token `id` knows is so; `root` is the one token that numbers sessions
-pub record Fits {T E : Type 0} (by : E → ℕ) (start : T) (list : List E) (count : ℕ) (token_of : ℕ → ℕ) (root id : ℕ) (v : View T E) : Type 0 where
+pub record Fits {T E : Type 0} (by : E → ℕ) (start : T) (list : List E) (count : ℕ) (token_of : ℕ → ℕ) (root id : ℕ)
+    (v : View T E) : Type 0 where
   pub same : IfSome v.start (λ x. x ≡ start)
   pub seen : IsPrefix v.seen list
   pub lagging : IsPrefix v.lagging v.seen

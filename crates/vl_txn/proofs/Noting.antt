@@ -1,5 +1,7 @@
 -- What one more note covers.
-use Rattle.std.proofs.Common.{◌≡◌, ℕ, suc, Bool, true, false, cond, ◌||◌, List, [], ◌∷◌, ◌++◌, length, slice_get, refl, ap, sym, ◌∙◌, arith, ◌-◌, ◌<◌, ◌≤◌, Bor, Option, Some, None, is_some, map, Result, Ok, Err, OnOk}
+use Rattle.std.proofs.Common.{◌≡◌, ℕ, suc, Bool, true, false, cond, ◌||◌, List, [], ◌∷◌, ◌++◌, length, slice_get}
+use Rattle.std.proofs.Common.{refl, ap, sym, ◌∙◌, arith, ◌-◌, ◌<◌, ◌≤◌, Bor, Option, Some, None, is_some, map, Result}
+use Rattle.std.proofs.Common.{Ok, Err, OnOk}
 use Rattle.std.specs.Prelude.{nat_le}
 use Rattle.std.proofs.lemmas.Bool.Decides.{nat_tests}
 use Rattle.std.specs.Option.{option_map, option_copied}
@@ -134,7 +136,8 @@ pub span_noted : (scan : Writes → Scan) (notes : Notes) (new : Notes) → Adds
 span_noted scan notes new adds reads own are q =
     ap (λ (n : Notes). is_noted n.keys n.spans q) (adds own)
     ∙ ap (λ b. list_any (eq_by_cmp key_cmp q) notes.keys || b) (any-append (λ span. is_in_span span q) notes.spans (covered (scan own)))
-    ∙ span_behind (list_any (eq_by_cmp key_cmp q) notes.keys) (list_any (λ span. is_in_span span q) notes.spans) (is_in_span (covered (scan own)) q)
+    ∙ span_behind (list_any (eq_by_cmp key_cmp q) notes.keys) (list_any (λ span. is_in_span span q) notes.spans)
+    (is_in_span (covered (scan own)) q)
     ∙ ap (λ b. b || is_in_span (covered (scan own)) q) (are q)
     ∙ sym (any-append (is_read_by q) reads (RangeRead (scan own)))
 
@@ -142,7 +145,8 @@ span_noted scan notes new adds reads own are q =
 pub get_noted : (own : Writes) (key : List ℕ) (old new : Notes) → new ≡ after_get own key old → NotesGet own key old new
 get_noted own key old new is reads answer are = by_test (is_some (get own key)) is
   where
-    by_test : (b : Bool) → new ≡ cond b old (with_key old key) → AreNotesOf (cond b reads (reads ++ (KeyRead key answer ∷ []))) new.keys new.spans
+    by_test : (b : Bool) → new ≡ cond b old (with_key old key)
+        → AreNotesOf (cond b reads (reads ++ (KeyRead key answer ∷ []))) new.keys new.spans
     by_test true same q = ap (λ (n : Notes). is_noted n.keys n.spans q) same ∙ are q
     by_test false same q = ap (λ (n : Notes). is_noted n.keys n.spans q) same ∙ key_noted old key reads answer are q
 
@@ -151,22 +155,26 @@ get_noted own key old new is reads answer are = by_test (is_some (get own key)) 
 pub last_key-last : (rows : List Row) → last_key rows ≡ option_map (λ (row : Row). row.0) (slice_get rows (length rows - 1))
 last_key-last [] = refl
 last_key-last (row ∷ []) = refl
-last_key-last (row ∷ next ∷ rows) = last_key-last (next ∷ rows) ∙ ap (λ n. option_map (λ (row : Row). row.0) (slice_get (row ∷ next ∷ rows) n)) (deeper (length rows))
+last_key-last (row ∷ next ∷ rows) = last_key-last (next ∷ rows)
+    ∙ ap (λ n. option_map (λ (row : Row). row.0) (slice_get (row ∷ next ∷ rows) n)) (deeper (length rows))
   where
     deeper : (n : ℕ) → suc (suc n - 1) ≡ suc (suc n) - 1
     deeper n = omega arith
 
-covered_by_key : (low high : List ℕ) (limit : ℕ) (way : Way) (rows : List Row) (own : Writes) (o : Option Row) → covered_up_to low high way o ≡ covered_to (scan_of low high limit way rows own) way (option_map (λ (row : Row). row.0) o)
+covered_by_key : (low high : List ℕ) (limit : ℕ) (way : Way) (rows : List Row) (own : Writes) (o : Option Row)
+    → covered_up_to low high way o ≡ covered_to (scan_of low high limit way rows own) way (option_map (λ (row : Row). row.0) o)
 covered_by_key low high limit Up rows own None = refl
 covered_by_key low high limit Down rows own None = refl
 covered_by_key low high limit Up rows own (Some row) = refl
 covered_by_key low high limit Down rows own (Some row) = refl
 
 -- up to the last row where there are as many as the limit, and else the whole
-pub covered-scan : (low high : List ℕ) (limit : ℕ) (way : Way) (rows : List Row) (own : Writes) (last : Option Row) → last ≡ cond (nat_le limit (length rows)) (slice_get rows (length rows - 1)) None
+pub covered-scan : (low high : List ℕ) (limit : ℕ) (way : Way) (rows : List Row) (own : Writes) (last : Option Row)
+    → last ≡ cond (nat_le limit (length rows)) (slice_get rows (length rows - 1)) None
     → covered_up_to low high way last ≡ covered (scan_of low high limit way rows own)
 covered-scan low high limit way rows own last is =
-    ap (covered_up_to low high way) is ∙ covered_by_key low high limit way rows own (cond (nat_le limit (length rows)) (slice_get rows (length rows - 1)) None)
+    ap (covered_up_to low high way) is
+    ∙ covered_by_key low high limit way rows own (cond (nat_le limit (length rows)) (slice_get rows (length rows - 1)) None)
     ∙ ap (covered_to (scan_of low high limit way rows own) way) (by_test (nat_le limit (length rows)))
   where
     by_test : (b : Bool) → option_map (λ (row : Row). row.0) (cond b (slice_get rows (length rows - 1)) None) ≡ cond b (last_key rows) None
@@ -179,15 +187,18 @@ as_le n m le = grind (arith, nat_tests)
 as_above : (n m : ℕ) → m < n → nat_le n m ≡ false
 as_above n m above = grind (arith, nat_tests)
 
-pub as_many : (rows : List Row) (limit : ℕ) → limit ≤ length rows → cond (nat_le limit (length rows)) (slice_get rows (length rows - 1)) None ≡ slice_get rows (length rows - 1)
+pub as_many : (rows : List Row) (limit : ℕ) → limit ≤ length rows
+    → cond (nat_le limit (length rows)) (slice_get rows (length rows - 1)) None ≡ slice_get rows (length rows - 1)
 as_many rows limit le = ap (λ b. cond b (slice_get rows (length rows - 1)) None) (as_le limit (length rows) le)
 
-pub fewer : (rows : List Row) (limit : ℕ) → length rows < limit → cond (nat_le limit (length rows)) (slice_get rows (length rows - 1)) None ≡ None
+pub fewer : (rows : List Row) (limit : ℕ) → length rows < limit
+    → cond (nat_le limit (length rows)) (slice_get rows (length rows - 1)) None ≡ None
 fewer rows limit above = ap (λ b. cond b (slice_get rows (length rows - 1)) None) (as_above limit (length rows) above)
 
 -- ---- an own write
 
-pub written_alike : (lent : Option (Bor Change)) (b : Bool) (found : Option Change) → option_copied lent ≡ found → b ≡ is_some lent → is_some found ≡ b
+pub written_alike : (lent : Option (Bor Change)) (b : Bool) (found : Option Change) → option_copied lent ≡ found
+    → b ≡ is_some lent → is_some found ≡ b
 written_alike None b found is same = ap is_some (sym is) ∙ sym same
 written_alike (Some change) b found is same = ap is_some (sym is) ∙ sym same
 

@@ -1,5 +1,6 @@
 -- The place in a list before the first element that fails a test.
-use Rattle.std.proofs.Common.{◌≡◌, ℕ, zero, suc, ◌+◌, ◌<◌, ◌≤◌, Bool, true, false, cond, List, [], ◌∷◌, length, get_or, set, refl, ap, sym, ◌∙◌, arith, Option, Some, None, slice_get, Bor}
+use Rattle.std.proofs.Common.{◌≡◌, ℕ, zero, suc, ◌+◌, ◌<◌, ◌≤◌, Bool, true, false, cond, List, [], ◌∷◌, length}
+use Rattle.std.proofs.Common.{get_or, set, refl, ap, sym, ◌∙◌, arith, Option, Some, None, slice_get, Bor}
 use Rattle.std.specs.List.{AllByRecursion, prefix_len, insert}
 use Rattle.std.specs.List.Sorted.{IsPartitionedBy, IsPartitionPoint}
 use Rattle.std.specs.Option.{option_copied}
@@ -25,9 +26,11 @@ module _ {X : Type 0} (p : X → Bool) where
   partitioned (x ∷ xs) parted (suc i) zero d le within = absurd (omega arith)
   partitioned (x ∷ xs) parted (suc i) (suc j) d le within = partitioned xs parted.1 i j d (omega arith) (omega arith)
 
-  pub prefix_len-point : (xs : List X) (i : ℕ) → i ≤ length xs → IsPartitionPoint (λ x. p x ≡ true) (λ x. p x ≡ false) xs i → i ≡ prefix_len p xs
+  pub prefix_len-point : (xs : List X) (i : ℕ) → i ≤ length xs
+      → IsPartitionPoint (λ x. p x ≡ true) (λ x. p x ≡ false) xs i → i ≡ prefix_len p xs
   prefix_len-point [] i le point = omega arith
-  prefix_len-point (x ∷ xs) i le point = sym (prefix_len_is p (x ∷ xs) i x le (λ k lt. point.0 k x (omega arith) lt) (λ lt. point.1 i x (omega arith) lt))
+  prefix_len-point (x ∷ xs) i le point = sym
+      (prefix_len_is p (x ∷ xs) i x le (λ k lt. point.0 k x (omega arith) lt) (λ lt. point.1 i x (omega arith) lt))
 
   -- the first element that fails
   abbrev pub first_failing : List X → Option X

@@ -1,5 +1,6 @@
 -- Which calls of a transaction are refused, by the limits on keys, values and transactions.
-use Rattle.std.specs.Prelude.{◌≡◌, ℕ, ◌+◌, ◌==◌, Bool, ◌&&◌, not, nat_le, if◌then◌else◌, List, length, sum_by, Option, Some, None, Result, Ok, Err, ⊤}
+use Rattle.std.specs.Prelude.{◌≡◌, ℕ, ◌+◌, ◌==◌, Bool, ◌&&◌, not, nat_le, if◌then◌else◌, List, length, sum_by, Option}
+use Rattle.std.specs.Prelude.{Some, None, Result, Ok, Err, ⊤}
 use Rattle.std.specs.FinMap.{entries, len, insert}
 use Rattle.vl_model.specs.Formats.{log_format}
 use Rattle.vl_model.specs.Keys.{Writes, value_bytes, is_value_length}

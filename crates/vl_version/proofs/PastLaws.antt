@@ -1,5 +1,6 @@
 -- The newest version of a key is that of the entry that wins, and the next ones are found below it.
-use Rattle.std.proofs.Common.{◌≡◌, ℕ, ◌+◌, ◌-◌, ◌≤◌, suc, Bool, true, false, cond, ◌&&◌, List, [], ◌∷◌, map, refl, ap, sym, ◌∙◌, subst, arith}
+use Rattle.std.proofs.Common.{◌≡◌, ℕ, ◌+◌, ◌-◌, ◌≤◌, suc, Bool, true, false, cond, ◌&&◌, List, [], ◌∷◌, map, refl, ap}
+use Rattle.std.proofs.Common.{sym, ◌∙◌, subst, arith}
 use Rattle.std.proofs.lemmas.Bool.Decides.{nat_tests}
 use Rattle.std.specs.Prelude.{nat_le, nat_lt, Option, Some, None, Result, Ok, Err, IsErrAnd}
 use Rattle.std.specs.List.{filter}
@@ -28,10 +29,11 @@ version_in w = option_map (λ (e : Entry). e.version) w
 
 newest_greater : (e : Entry) (w : Option Entry) → version_in (newest_of (Some e) w) ≡ greater (Some e.version) (version_in w)
 newest_greater e None = refl
-newest_greater e (Some f) = elim (nat_le f.version e.version) as (λ b. version_in (cond b (Some e) (Some f)) ≡ cond b (Some e.version) (Some f.version)) [
-  | true ↦ refl
-  | false ↦ refl
-]
+newest_greater e (Some f) = elim (nat_le f.version e.version) as
+    (λ b. version_in (cond b (Some e) (Some f)) ≡ cond b (Some e.version) (Some f.version)) [
+      | true ↦ refl
+      | false ↦ refl
+    ]
 
 same_bound : (n m : ℕ) → nat_lt n (m + 1) ≡ nat_le n m
 same_bound n m = by (nat_le n m) refl
@@ -45,25 +47,30 @@ pub newest_version : (es : List Entry) (key : List ℕ) (number : ℕ)
 newest_version [] key number = refl
 newest_version (e ∷ es) key number = by_key (newest_version es key number) (eq_by_cmp key_cmp key e.key) refl
   where
-    by_bound : (version_in (winner es key number) ≡ greatest_below (number + 1) (versions_in es key)) → (b : Bool) → version_in (newest_of (only_if b e) (winner es key number))
+    by_bound : (version_in (winner es key number) ≡ greatest_below (number + 1) (versions_in es key)) → (b : Bool)
+        → version_in (newest_of (only_if b e) (winner es key number))
         ≡ greater (cond b (Some e.version) None) (greatest_below (number + 1) (versions_in es key))
     by_bound later true = newest_greater e (winner es key number) ∙ ap (greater (Some e.version)) later
     by_bound later false = later
 
-    by_key : (version_in (winner es key number) ≡ greatest_below (number + 1) (versions_in es key)) → (b : Bool) → eq_by_cmp key_cmp key e.key ≡ b
+    by_key : (version_in (winner es key number) ≡ greatest_below (number + 1) (versions_in es key)) → (b : Bool)
+        → eq_by_cmp key_cmp key e.key ≡ b
         → version_in (newest_of (only_if (counts key number e) e) (winner es key number))
         ≡ greatest_below (number + 1) (versions_in (e ∷ es) key)
     by_key later true is =
         ap (λ (b : Bool). version_in (newest_of (only_if (b && nat_le e.version number) e) (winner es key number))) is
         ∙ by_bound later (nat_le e.version number)
-        ∙ ap (λ (b : Bool). greater (cond b (Some e.version) None) (greatest_below (number + 1) (versions_in es key))) (sym (same_bound e.version number))
+        ∙ ap (λ (b : Bool). greater (cond b (Some e.version) None) (greatest_below (number + 1) (versions_in es key)))
+        (sym (same_bound e.version number))
         ∙ ap (λ (b : Bool). greatest_below (number + 1) (map (λ (x : Entry). x.version)
-        (cond b (e ∷ filter (λ (x : Entry). eq_by_cmp key_cmp key x.key) es) (filter (λ (x : Entry). eq_by_cmp key_cmp key x.key) es)))) (sym is)
+        (cond b (e ∷ filter (λ (x : Entry). eq_by_cmp key_cmp key x.key) es)
+        (filter (λ (x : Entry). eq_by_cmp key_cmp key x.key) es)))) (sym is)
     by_key later false is =
         ap (λ (b : Bool). version_in (newest_of (only_if (b && nat_le e.version number) e) (winner es key number))) is
         ∙ later
         ∙ ap (λ (b : Bool). greatest_below (number + 1) (map (λ (x : Entry). x.version)
-        (cond b (e ∷ filter (λ (x : Entry). eq_by_cmp key_cmp key x.key) es) (filter (λ (x : Entry). eq_by_cmp key_cmp key x.key) es)))) (sym is)
+        (cond b (e ∷ filter (λ (x : Entry). eq_by_cmp key_cmp key x.key) es)
+        (filter (λ (x : Entry). eq_by_cmp key_cmp key x.key) es)))) (sym is)
 
 -- none is below zero
 pub none_below : (ns : List ℕ) → None ≡ greatest_below 0 ns

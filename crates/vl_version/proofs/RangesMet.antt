@@ -95,7 +95,8 @@ and_none true = refl
 and_none false = refl
 
 module _ {H : Type 0} (bytes_of : H → Option (List ℕ)) where
-  pub meets_none : (span : Span) (t : Table H) (es : List Entry) → IsOf bytes_of t es → meets span (shape_of t) ≡ false → within span es ≡ []
+  pub meets_none : (span : Span) (t : Table H) (es : List Entry) → IsOf bytes_of t es → meets span (shape_of t) ≡ false
+      → within span es ≡ []
   meets_none span t es is out = none_within span es (by (is_from span.lo (footer_of t).last) refl out)
     where
       rises : IsRising es

@@ -1,5 +1,6 @@
 -- Cursors over tables as sources of a scan.
-use Rattle.std.proofs.Common.{◌≡◌, ℕ, zero, suc, ◌+◌, ◌<◌, List, [], ◌∷◌, ◌++◌, length, take, drop, refl, ap, sym, ◌∙◌, subst, append-nil, append_assoc, arith}
+use Rattle.std.proofs.Common.{◌≡◌, ℕ, zero, suc, ◌+◌, ◌<◌, List, [], ◌∷◌, ◌++◌, length, take, drop, refl, ap, sym}
+use Rattle.std.proofs.Common.{◌∙◌, subst, append-nil, append_assoc, arith}
 use Rattle.std.proofs.Common.{Global, get_or, inl, inr}
 use Rattle.std.proofs.lemmas.Bool.Decides.{nat_tests}
 use Rattle.std.proofs.lemmas.List.Elements.{filter-append}
@@ -210,7 +211,8 @@ module _ {H : Type 0} (bytes_of : H → Option (List ℕ)) where
       → all_tables levels ≡ [] → level ≡ []
   no_level levels i level inside is none =
       no_back (all_tables (take i levels)) level
-      (no_front (all_tables (take i levels) ++ level) (all_tables (drop (suc i) levels)) (sym (tables-split levels i level inside is) ∙ none))
+      (no_front (all_tables (take i levels) ++ level) (all_tables (drop (suc i) levels))
+      (sym (tables-split levels i level inside is) ∙ none))
 
 -- ---- lists without elements
 

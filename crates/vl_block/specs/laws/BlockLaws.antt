@@ -30,13 +30,26 @@ some_key n lawful = grind (arith, nat_tests)
 -- two bytes of length, a key, a version and a body's kind
 entry-long : (format : ℕ) (e : Entry) → IsEntry format e → 12 ≤ length (entry_bytes format e)
 entry-long format e is =
-    omega (arith, some_key (length e.key) is.key, some_body format e.body, length-append (key_bytes e.key) (big_bytes 8 e.version ++ body_bytes format e.body))
+    omega (
+      arith,
+      some_key (length e.key) is.key,
+      some_body format e.body,
+      length-append (key_bytes e.key)
+          (big_bytes 8 e.version ++ body_bytes format e.body),
+    )
 
 -- so of few bytes there are few entries
-pub entries-few : (format : ℕ) (es : List Entry) → AllByRecursion (IsEntry format) es → 12 * length es ≤ length (items_bytes (entries format) es)
+pub entries-few : (format : ℕ) (es : List Entry) → AllByRecursion (IsEntry format) es
+    → 12 * length es ≤ length (items_bytes (entries format) es)
 entries-few format [] each = omega arith
 entries-few format (e ∷ es) each =
-    omega (arith, entries-few format es each.1, entry-long format e each.0, length-append (entry_bytes format e) (items_bytes (entries format) es))
+    omega (
+      arith,
+      entries-few format es each.1,
+      entry-long format e each.0,
+      length-append (entry_bytes format e)
+          (items_bytes (entries format) es),
+    )
 
 pub one_block : (format : ℕ) (body : List ℕ) (es fs : List Entry) → SpellsBlock format body es → SpellsBlock format body fs → es ≡ fs
 one_block format body es fs p q = one_list (entries format) body es fs p.lawful q.lawful p.spelled q.spelled

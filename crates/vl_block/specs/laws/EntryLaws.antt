@@ -11,7 +11,8 @@ use Rattle.vl_model.specs.declared.entry.Body.TheVariants.{Inline, Gone, Far, Lo
 use Rattle.vl_model.specs.declared.pointer.Pointer.{Pointer}
 use Rattle.vl_model.specs.declared.value.Value.{Value}
 use Rattle.vl_block.specs.Formats.{has_tags}
-use Rattle.vl_block.specs.Entries.{key_bytes, pointer_bytes, inline_bytes, tag_bytes, body_bytes, entry_bytes, IsPointer, IsInline, IsBody, IsEntry}
+use Rattle.vl_block.specs.Entries.{key_bytes, pointer_bytes, inline_bytes, tag_bytes, body_bytes, entry_bytes}
+use Rattle.vl_block.specs.Entries.{IsPointer, IsInline, IsBody, IsEntry}
 
 key-fits : (n : ℕ) → is_key_length n ≡ true → n < 65536
 key-fits n lawful = grind (arith, nat_tests)
@@ -27,7 +28,8 @@ one_key key other x y lawful also e =
 pub one_pointer : (p q : Pointer) (x y : List ℕ) → IsPointer p → IsPointer q
     → pointer_bytes p ++ x ≡ pointer_bytes q ++ y → (p ≡ q) × (x ≡ y)
 one_pointer p q x y fits also e =
-    let both : big_bytes 4 p.segment ++ (big_bytes 8 p.place ++ (big_bytes 4 p.length ++ x)) ≡ big_bytes 4 q.segment ++ (big_bytes 8 q.place ++ (big_bytes 4 q.length ++ y)) = e in
+    let both : big_bytes 4 p.segment ++ (big_bytes 8 p.place ++ (big_bytes 4 p.length ++ x)) ≡ big_bytes 4 q.segment
+    ++ (big_bytes 8 q.place ++ (big_bytes 4 q.length ++ y)) = e in
     let a = one_number 4 p.segment q.segment _ _ fits.segment also.segment both in
     let b = one_number 8 p.place q.place _ _ fits.place also.place a.1 in
     let c = one_number 4 p.length q.length x y fits.length also.length b.1 in
@@ -89,11 +91,15 @@ one_body format (Far p) Gone x y i j e = let no = first_byte 2 1 _ _ e in absurd
 pub entry-parts : (format : ℕ) (e : Entry) (x : List ℕ)
     → entry_bytes format e ++ x ≡ key_bytes e.key ++ (big_bytes 8 e.version ++ (body_bytes format e.body ++ x))
 entry-parts format e x =
-    let one : entry_bytes format e ++ x ≡ key_bytes e.key ++ ((big_bytes 8 e.version ++ body_bytes format e.body) ++ x) = append_assoc (key_bytes e.key) (big_bytes 8 e.version ++ body_bytes format e.body) x in
-    let two : (big_bytes 8 e.version ++ body_bytes format e.body) ++ x ≡ big_bytes 8 e.version ++ (body_bytes format e.body ++ x) = append_assoc (big_bytes 8 e.version) (body_bytes format e.body) x in
+    let one : entry_bytes format e ++ x ≡ key_bytes e.key
+    ++ ((big_bytes 8 e.version ++ body_bytes format e.body) ++ x) = append_assoc (key_bytes e.key)
+    (big_bytes 8 e.version ++ body_bytes format e.body) x in
+    let two : (big_bytes 8 e.version ++ body_bytes format e.body) ++ x ≡ big_bytes 8 e.version
+    ++ (body_bytes format e.body ++ x) = append_assoc (big_bytes 8 e.version) (body_bytes format e.body) x in
     one ∙ ap (λ (l : List ℕ). key_bytes e.key ++ l) two
 
-pub one_entry : (format : ℕ) (e f : Entry) (x y : List ℕ) → IsEntry format e → IsEntry format f → entry_bytes format e ++ x ≡ entry_bytes format f ++ y
+pub one_entry : (format : ℕ) (e f : Entry) (x y : List ℕ) → IsEntry format e → IsEntry format f
+    → entry_bytes format e ++ x ≡ entry_bytes format f ++ y
     → (e ≡ f) × (x ≡ y)
 one_entry format e f x y i j same =
     let both = sym (entry-parts format e x) ∙ same ∙ entry-parts format f y in

@@ -28,10 +28,16 @@ one_frame_place false (Some p) q x y i j e = absurd i
 -- a head's bytes come apart
 pub head-parts : (h : Head) (x : List ℕ)
     → head_bytes h ++ x
-    ≡ frame_place_bytes h.filter ++ (big_bytes 8 h.index_place ++ (big_bytes 4 h.index_length ++ (big_bytes 8 h.count ++ (big_bytes 8 h.greatest ++ (key_bytes h.first ++ (key_bytes h.last ++ x))))))
+    ≡ frame_place_bytes h.filter
+    ++ (big_bytes 8 h.index_place
+    ++ (big_bytes 4 h.index_length
+    ++ (big_bytes 8 h.count ++ (big_bytes 8 h.greatest ++ (key_bytes h.first ++ (key_bytes h.last ++ x))))))
 head-parts h x =
-    append_assoc (frame_place_bytes h.filter) (big_bytes 8 h.index_place ++ (big_bytes 4 h.index_length ++ (big_bytes 8 h.count ++ (big_bytes 8 h.greatest ++ (key_bytes h.first ++ key_bytes h.last))))) x
-    ∙ ap (λ (l : List ℕ). frame_place_bytes h.filter ++ (big_bytes 8 h.index_place ++ (big_bytes 4 h.index_length ++ (big_bytes 8 h.count ++ (big_bytes 8 h.greatest ++ l)))))
+    append_assoc (frame_place_bytes h.filter)
+    (big_bytes 8 h.index_place
+    ++ (big_bytes 4 h.index_length ++ (big_bytes 8 h.count ++ (big_bytes 8 h.greatest ++ (key_bytes h.first ++ key_bytes h.last))))) x
+    ∙ ap (λ (l : List ℕ). frame_place_bytes h.filter
+    ++ (big_bytes 8 h.index_place ++ (big_bytes 4 h.index_length ++ (big_bytes 8 h.count ++ (big_bytes 8 h.greatest ++ l)))))
     (append_assoc (key_bytes h.first) (key_bytes h.last) x)
 
 -- what was taken one after the other is a head
@@ -70,11 +76,22 @@ one_head format g h x y i j e =
     let c = one_number 8 g.count h.count _ _ i.count j.count b.1 in
     let d = one_number 8 g.greatest h.greatest _ _ i.greatest j.greatest c.1 in
     let f = one_key g.first h.first _ _ i.first j.first d.1 in
-    let l = one_key g.last h.last x y i.last j.last f.1 in
-    ((λ k. record { filter = p.0 k; index_place = a.0 k; index_length = b.0 k; count = c.0 k; greatest = d.0 k; first = f.0 k; last = l.0 k }), l.1)
+    let l = one_key g.last h.last x y i.last j.last f.1 in (
+      (λ k. record {
+        filter = p.0 k;
+        index_place = a.0 k;
+        index_length = b.0 k;
+        count = c.0 k;
+        greatest = d.0 k;
+        first = f.0 k;
+        last = l.0 k;
+      }),
+      l.1,
+    )
 
 pub one_footer : (format : ℕ) (body : List ℕ) (f g : Foot) → SpellsFooter format body f → SpellsFooter format body g → f ≡ g
 one_footer format body f g i j =
-    let heads = one_head format f.head g.head (counted_bytes points f.points) (counted_bytes points g.points) i.head j.head (sym i.spelled ∙ j.spelled) in
+    let heads = one_head format f.head g.head (counted_bytes points f.points) (counted_bytes points g.points) i.head
+    j.head (sym i.spelled ∙ j.spelled) in
     let lists = one_list points (counted_bytes points f.points) f.points g.points i.points j.points refl heads.1 in
     λ k. record { head = heads.0 k; points = lists k }

@@ -15,7 +15,10 @@ use Rattle.vl_model.specs.declared.entry.Body.{Body}
 use Rattle.vl_model.specs.declared.entry.Body.TheVariants.{Inline, Gone, Far, Logged}
 use Rattle.vl_filter.specs.Filters.{byte_count, filter_body}
 use Rattle.vl_filter.specs.laws.Lengths.{length-filter_body}
-use Rattle.vl_block.specs.Cutting.{begun_length, block_frame_length, blocks, body_length, entry_length, filter_frame_length, filter_place_length, first_key, footer_frame_length, index_frame_length, keys_of, last_key, longest_body, points_of, table_length, tag_length}
+use Rattle.vl_block.specs.Cutting.{begun_length, block_frame_length, blocks, body_length, entry_length}
+use Rattle.vl_block.specs.Cutting.{filter_frame_length, filter_place_length, first_key, footer_frame_length}
+use Rattle.vl_block.specs.Cutting.{index_frame_length, keys_of, last_key, longest_body, points_of, table_length}
+use Rattle.vl_block.specs.Cutting.{tag_length}
 use Rattle.vl_block.specs.declared.points.Point.{Point}
 use Rattle.vl_block.specs.Blocks.{block_body, entries}
 use Rattle.vl_block.specs.laws.CuttingLaws.{blocks-fit}
@@ -24,7 +27,8 @@ use Rattle.vl_block.specs.Formats.{has_filter, has_tags}
 use Rattle.vl_block.specs.Footer.{footer_body, frame_place_bytes, head_bytes, points}
 use Rattle.vl_block.specs.Index.{index_body, places}
 use Rattle.vl_block.specs.Lists.{counted_bytes, items_bytes}
-use Rattle.vl_block.specs.Bytes.{block_places, blocks_bytes, filter_bytes, filter_place, filter_said, foot, footer_bytes, footer_place, index_bytes, index_place, table_bytes}
+use Rattle.vl_block.specs.Bytes.{block_places, blocks_bytes, filter_bytes, filter_place, filter_said, foot}
+use Rattle.vl_block.specs.Bytes.{footer_bytes, footer_place, index_bytes, index_place, table_bytes}
 
 key_short : (n : ℕ) → is_key_length n ≡ true → n ≤ 4096
 key_short n lawful = grind (arith, nat_tests)
@@ -80,7 +84,8 @@ pub bodies-fit : (format : ℕ) (es : List Entry) → AllByRecursion (IsEntry fo
     → AllByRecursion (λ (b : List Entry). length (block_body format b) ≤ longest_body) (blocks format es)
 bodies-fit format es each = all_bodies (blocks format es) (blocks-fit format es (all_entries es each))
   where
-    all_entries : (fs : List Entry) → AllByRecursion (IsEntry format) fs → AllByRecursion (λ (e : Entry). begun_length format e ≤ longest_body) fs
+    all_entries : (fs : List Entry) → AllByRecursion (IsEntry format) fs
+        → AllByRecursion (λ (e : Entry). begun_length format e ≤ longest_body) fs
     all_entries [] all = tt
     all_entries (f ∷ fs) all = (entry-fits format f all.0, all_entries fs all.1)
 
@@ -99,7 +104,8 @@ length-blocks format number at [] = refl
 length-blocks format number at (b ∷ bs) =
     omega (
       arith,
-      length-append (frame_bytes number at kinds.Block (block_body format b)) (blocks_bytes format number (at + block_frame_length format b) bs),
+      length-append (frame_bytes number at kinds.Block (block_body format b))
+          (blocks_bytes format number (at + block_frame_length format b) bs),
       length-block format number at b,
       length-blocks format number (at + block_frame_length format b) bs,
       sum_by-cons (block_frame_length format) b bs,
@@ -143,7 +149,8 @@ length-said : (format : ℕ) (es : List Entry) (bs : List (List Entry))
 length-said format es bs = by (has_filter format)
   where
     by : (t : Bool)
-        → length (frame_place_bytes (cond t (Some (record { place = filter_place format bs; length = filter_frame_length format es })) None))
+        → length (frame_place_bytes
+        (cond t (Some (record { place = filter_place format bs; length = filter_frame_length format es })) None))
         ≡ cond t 12 0
     by true = refl
     by false = refl
@@ -152,7 +159,8 @@ pub length-footer : (format number : ℕ) (es : List Entry) (bs : List (List Ent
     → length (footer_bytes format number es bs) ≡ footer_frame_length format es
 length-footer format number es bs =
     let h = (foot format es bs).head in
-    let fixed = big_bytes 8 h.index_place ++ (big_bytes 4 h.index_length ++ (big_bytes 8 h.count ++ (big_bytes 8 h.greatest ++ (key_bytes h.first ++ key_bytes h.last)))) in
+    let fixed = big_bytes 8 h.index_place
+    ++ (big_bytes 4 h.index_length ++ (big_bytes 8 h.count ++ (big_bytes 8 h.greatest ++ (key_bytes h.first ++ key_bytes h.last)))) in
     omega (
       arith,
       length-frame_bytes number (footer_place format es bs) kinds.Footer (footer_body (foot format es bs)),

@@ -14,7 +14,8 @@ module _ {Item : Type 0} where
   pub last-of : (items : List Item) (d : Item) → 0 < length items → last_item items ≡ Some (get_or items (length items - 1) d)
   last-of [] d some = absurd (omega arith)
   last-of (a ∷ []) d some = refl
-  last-of (a ∷ b ∷ items) d some = last-of (b ∷ items) d (omega arith) ∙ ap (λ (n : ℕ). Some (get_or (a ∷ b ∷ items) n d)) (one_less (length items))
+  last-of (a ∷ b ∷ items) d some = last-of (b ∷ items) d (omega arith)
+      ∙ ap (λ (n : ℕ). Some (get_or (a ∷ b ∷ items) n d)) (one_less (length items))
     where
       one_less : (n : ℕ) → suc (suc n - 1) ≡ suc (suc n) - 1
       one_less n = omega arith
@@ -67,7 +68,8 @@ module _ {Item : Type 0} (S : Spelling Item) where
     pub each : AllByRecursion S.lawful later
     pub spelled : after ≡ items_bytes S later
 
-  none_left : (later : List Item) (rest : List ℕ) (a : Item) (after : List ℕ) → length rest ≡ 0 → rest ≡ S.bytes a ++ after → 1 ≤ length (S.bytes a) → ⊥
+  none_left : (later : List Item) (rest : List ℕ) (a : Item) (after : List ℕ) → length rest ≡ 0
+      → rest ≡ S.bytes a ++ after → 1 ≤ length (S.bytes a) → ⊥
   none_left later rest a after none e some = omega (arith, ap length e, length-append (S.bytes a) after)
 
   next_of : (all taken later : List Item) (rest : List ℕ) (a : Item) (after : List ℕ) → all ≡ taken ++ later → AllByRecursion S.lawful later
@@ -84,7 +86,8 @@ module _ {Item : Type 0} (S : Spelling Item) where
 
   pub next : (all taken : List Item) (rest : List ℕ) (a : Item) (after : List ℕ) → Behind all taken rest → 1 ≤ length (S.bytes a)
       → S.lawful a → rest ≡ S.bytes a ++ after → Next all taken a after
-  next all taken rest a after behind some lawful e = next_of all taken behind.later rest a after behind.split behind.each behind.spelled some lawful e
+  next all taken rest a after behind some lawful e = next_of all taken behind.later rest a after behind.split
+      behind.each behind.spelled some lawful e
 
   pub one_more : (all taken : List Item) (a : Item) (after : List ℕ) → Next all taken a after → Behind all (taken ++ a ∷ []) after
   one_more all taken a after n = record {
@@ -94,7 +97,8 @@ module _ {Item : Type 0} (S : Spelling Item) where
     spelled = n.spelled;
   }
 
-  none_later : (all taken later : List Item) (rest : List ℕ) → all ≡ taken ++ later → AllByRecursion S.lawful later → rest ≡ items_bytes S later
+  none_later : (all taken later : List Item) (rest : List ℕ) → all ≡ taken ++ later → AllByRecursion S.lawful later
+      → rest ≡ items_bytes S later
       → ((a : Item) (after : List ℕ) → S.lawful a → rest ≡ S.bytes a ++ after → ⊥) → all ≡ taken
   none_later all taken [] rest split each spelled none = split ∙ append-nil taken
   none_later all taken (b ∷ later) rest split each spelled none = absurd (none b (items_bytes S later) each.0 spelled)

@@ -4,7 +4,8 @@ use Rattle.std.proofs.Math.Seq.{drop-cons}
 use Rattle.std.proofs.Common.{sym, ap, ◌∙◌, append_assoc, arith}
 use Rattle.vl_block.specs.Lists.{Spelling, items_bytes}
 
-drop_at : {Item : Type 0} (items : List Item) (i : ℕ) (a d : Item) → i < length items → a ≡ get_or items i d → drop i items ≡ a ∷ drop (i + 1) items
+drop_at : {Item : Type 0} (items : List Item) (i : ℕ) (a d : Item) → i < length items → a ≡ get_or items i d
+    → drop i items ≡ a ∷ drop (i + 1) items
 drop_at items i a d within is =
     drop-cons items i d within ∙ ap (λ x. x ∷ drop (suc i) items) (sym is) ∙ ap (λ n. a ∷ drop n items) (more i)
   where

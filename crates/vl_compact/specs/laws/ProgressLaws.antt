@@ -1,5 +1,6 @@
 -- A merge that has made its first tables goes on behind their last key: what it keeps behind that is cut into the other tables.
-use Rattle.std.proofs.Common.{◌≡◌, ℕ, zero, suc, ◌+◌, ◌<◌, ◌≤◌, Bool, true, false, cond, not, List, [], ◌∷◌, ◌++◌, length, take, drop, refl, ap, sym, ◌∙◌, subst, arith, append_assoc, Option, Some, None}
+use Rattle.std.proofs.Common.{◌≡◌, ℕ, zero, suc, ◌+◌, ◌<◌, ◌≤◌, Bool, true, false, cond, not, List, [], ◌∷◌, ◌++◌}
+use Rattle.std.proofs.Common.{length, take, drop, refl, ap, sym, ◌∙◌, subst, arith, append_assoc, Option, Some, None}
 use Rattle.std.proofs.lemmas.List.{drop_at, drop-drop}
 use Rattle.std.proofs.lemmas.List.Elements.{filter-append}
 use Rattle.std.specs.Cmp.Lexicographic.{nat_list_cmp_total}
@@ -19,7 +20,8 @@ use Rattle.vl_run.specs.laws.OrderLaws.{IsRising, in_order-again, in_order-risin
 use Rattle.vl_compact.specs.Walking.{is_behind}
 use Rattle.vl_compact.specs.laws.BehindLaws.{filter-all, is_less}
 use Rattle.vl_compact.specs.laws.Chosen.{all-filter}
-use Rattle.vl_compact.specs.laws.FirstTable.{all_later, turned_all, closes, cut-first, first_table, last-append, none-pass, rest-behind, table_and_rest}
+use Rattle.vl_compact.specs.laws.FirstTable.{all_later, turned_all, closes, cut-first, first_table, last-append}
+use Rattle.vl_compact.specs.laws.FirstTable.{none-pass, rest-behind, table_and_rest}
 use Rattle.vl_compact.specs.laws.Repeats.{true_false}
 
 -- ---- filters one after the other
@@ -96,7 +98,8 @@ parted-rising at (e ∷ es) up = by (is_behind at e) refl (parted-rising at es u
         ++ cond b (e ∷ filter (is_behind at) es) (filter (is_behind at) es) ≡ e ∷ es
     by true is later =
         let all = all_later at e es up.0 is in
-        ap (λ l. l ++ e ∷ filter (is_behind at) es) (none-pass (λ (e : Entry). not (is_behind at e)) es (turned_all (is_behind at) true es all))
+        ap (λ l. l ++ e ∷ filter (is_behind at) es)
+        (none-pass (λ (e : Entry). not (is_behind at e)) es (turned_all (is_behind at) true es all))
         ∙ ap (λ l. e ∷ l) (filter-all (is_behind at) es all)
     by false is later = ap (λ l. e ∷ l) later
 

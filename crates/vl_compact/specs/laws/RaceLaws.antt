@@ -1,5 +1,6 @@
 -- The race that a merge lost is found by its needless deletions in order: the first of their keys that was moved.
-use Rattle.std.proofs.Common.{◌≡◌, ◌⊎◌, inl, inr, ℕ, ◌<◌, Bool, true, false, cond, List, [], ◌∷◌, map, refl, ap, sym, ◌∙◌, subst, Some, None, Option}
+use Rattle.std.proofs.Common.{◌≡◌, ◌⊎◌, inl, inr, ℕ, ◌<◌, Bool, true, false, cond, List, [], ◌∷◌, map, refl, ap, sym}
+use Rattle.std.proofs.Common.{◌∙◌, subst, Some, None, Option}
 use Rattle.std.specs.Cmp.{upto}
 use Rattle.std.specs.Cmp.Lexicographic.{nat_list_cmp_total}
 use Rattle.std.specs.FinMap.{find, put as put_named}

@@ -1,13 +1,15 @@
 -- What a merge keeps is what is kept of its inputs' entries as they come, one after the other, and so are the deletions that it
 -- drops as needless.
-use Rattle.std.proofs.Common.{◌≡◌, ◌⊎◌, inl, inr, ℕ, ◌+◌, ◌<◌, ◌≤◌, Bool, true, false, cond, not, ◌&&◌, ◌||◌, List, [], ◌∷◌, refl, ap, sym, ◌∙◌, arith, Option, Some, None}
+use Rattle.std.proofs.Common.{◌≡◌, ◌⊎◌, inl, inr, ℕ, ◌+◌, ◌<◌, ◌≤◌, Bool, true, false, cond, not, ◌&&◌, ◌||◌, List}
+use Rattle.std.proofs.Common.{[], ◌∷◌, refl, ap, sym, ◌∙◌, arith, Option, Some, None}
 use Rattle.std.specs.Prelude.{nat_le, max}
 use Rattle.std.specs.Cmp.Lexicographic.{nat_list_cmp_total}
 use Rattle.std.specs.List.{AllByRecursion, filter}
 use Rattle.std.specs.Ordering.{is_eq, is_gt, eq_by_cmp}
 use Rattle.std.specs.declared.cmp.Ordering.{Ordering}
 use Rattle.std.specs.declared.cmp.Ordering.TheVariants.{Less, Equal, Greater}
-use Rattle.vl_layout.specs.Merging.{Sourced, if_so, inputs_of, outside_of, is_shadowed, is_outdated, is_needless, kept_from, merged_entries, needless, needless_from, gone_after}
+use Rattle.vl_layout.specs.Merging.{Sourced, if_so, inputs_of, outside_of, is_shadowed, is_outdated, is_needless}
+use Rattle.vl_layout.specs.Merging.{kept_from, merged_entries, needless, needless_from, gone_after}
 use Rattle.vl_layout.specs.declared.job.Job.{Job}
 use Rattle.vl_merge.specs.Merging.{merged}
 use Rattle.vl_model.specs.Entries.{entry_cmp, put, in_order, by_order}
@@ -16,9 +18,11 @@ use Rattle.vl_model.specs.declared.entry.Entry.{Entry}
 use Rattle.vl_model.specs.declared.way.Way.TheVariants.{Up}
 use Rattle.vl_model.specs.laws.WinnerLaws.{key_tied, entries_tied}
 use Rattle.vl_run.specs.laws.OrderLaws.{IsBefore, IsRising, rising-in_order}
-use Rattle.vl_compact.specs.Walking.{Place, comes_again, seen_before, place_of, is_hidden, is_old, is_spent, is_let_go, is_spent_alone, walk, spent}
+use Rattle.vl_compact.specs.Walking.{Place, comes_again, seen_before, place_of, is_hidden, is_old, is_spent}
+use Rattle.vl_compact.specs.Walking.{is_let_go, is_spent_alone, walk, spent}
 use Rattle.vl_compact.specs.laws.Chosen.{chosen, is_chosen, chosen-in_order, filter-same}
-use Rattle.vl_compact.specs.laws.Counted.{is_above, one_if, count_above, above_parts, above_from, not_true, nat_le_is, le_nat, tied_keys, less_parts, keys_apart, none_from, outdated-counted}
+use Rattle.vl_compact.specs.laws.Counted.{is_above, one_if, count_above, above_parts, above_from, not_true, nat_le_is}
+use Rattle.vl_compact.specs.laws.Counted.{le_nat, tied_keys, less_parts, keys_apart, none_from, outdated-counted}
 use Rattle.vl_compact.specs.laws.Repeats.{true_false, is_again, once, once-merged}
 
 -- ---- one walk for both

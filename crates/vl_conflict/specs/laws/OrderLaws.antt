@@ -36,7 +36,8 @@ lt-is Greater h = absurd h
 pub above-all : (x : Named) (es : List Named) → T (below_all key_cmp x.0 es) → AllByRecursion (λ (e : Named). key_cmp x.0 e.0 ≡ Less) es
 above-all x [] below = tt
 above-all x (e ∷ es) below =
-    let parts = two_parts (is_lt (key_cmp x.0 e.0)) (below_all key_cmp x.0 es) below in (lt-is (key_cmp x.0 e.0) parts.0, above-all x es parts.1)
+    let parts = two_parts (is_lt (key_cmp x.0 e.0)) (below_all key_cmp x.0 es) below
+    in (lt-is (key_cmp x.0 e.0) parts.0, above-all x es parts.1)
 
 -- ---- those that pass a test
 
@@ -57,7 +58,8 @@ module _ (test : Named → Bool) where
       let parts = two_parts (below_all key_cmp n.0 ns) (is_sorted key_cmp ns) rising in
       let later = filter_sorted ns parts.1 in
       elim (test n) as (λ b. T (is_sorted key_cmp (cond b (n ∷ filter test ns) (filter test ns)))) [
-        | true ↦ both_parts (below_all key_cmp n.0 (filter test ns)) (is_sorted key_cmp (filter test ns)) (below_filtered n.0 ns parts.0) later
+        | true ↦ both_parts (below_all key_cmp n.0 (filter test ns)) (is_sorted key_cmp (filter test ns))
+            (below_filtered n.0 ns parts.0) later
         | false ↦ later
       ]
 
@@ -66,5 +68,7 @@ module _ (test : Named → Bool) where
 
 -- ---- one key more
 
-pub put_rising : (list : List Named) (key : List ℕ) (number : ℕ) → is_sorted key_cmp list ≡ true → is_sorted key_cmp (put key_cmp key number list) ≡ true
-put_rising list key number sorted = from_T _ (is_sorted-put key_cmp nat_list_cmp_total key number list (as_T (is_sorted key_cmp list) sorted))
+pub put_rising : (list : List Named) (key : List ℕ) (number : ℕ) → is_sorted key_cmp list ≡ true
+    → is_sorted key_cmp (put key_cmp key number list) ≡ true
+put_rising list key number sorted = from_T _
+    (is_sorted-put key_cmp nat_list_cmp_total key number list (as_T (is_sorted key_cmp list) sorted))

@@ -27,7 +27,8 @@ never_synced (Some bytes) = record { durable = refl; whole = λ is. absurd (let 
 pub lent_left : (name : Name) (disk : DiskState) → IsJustMade name disk → (left : Option (List ℕ))
     → MayLeaveOne (get (without name disk).standing name) (get (without name disk).removed name) left
 lent_left name disk made left =
-    subst (λ (standing : Option File). MayLeaveOne standing (get (without name disk).removed name) left) (sym (get_removed disk.standing name))
+    subst (λ (standing : Option File). MayLeaveOne standing (get (without name disk).removed name) left)
+    (sym (get_removed disk.standing name))
     (subst (λ (removed : Option File). MayLeaveOne None removed left)
     (sym (without_removed name disk ∙ ap (λ (o : Option File). last_file o (get disk.removed name)) made)) (never_synced left))
 
@@ -52,6 +53,7 @@ created_just_made name old new changed = holds_after (created name) old new (λ 
 pub written_file : (first second : List ℕ) (f0 f1 f2 f3 : Option File) → f0 ≡ Some new_file → TakesAll first f0 f1
     → TakesAll second f1 f2 → Settles f2 f3 → f3 ≡ Some (settled (first ++ second))
 written_file first second f0 f1 f2 f3 new one two settles =
-    settles ∙ ap (option_map synced_file) (two ∙ ap (option_map (lengthened second (length second))) (one ∙ ap (option_map (lengthened first (length first))) new))
+    settles ∙ ap (option_map synced_file)
+    (two ∙ ap (option_map (lengthened second (length second))) (one ∙ ap (option_map (lengthened first (length first))) new))
     ∙ ap (λ (bytes : List ℕ). Some (settled (bytes ++ take (length second) second))) (take_all (length first) first (omega arith))
     ∙ ap (λ (bytes : List ℕ). Some (settled (first ++ bytes))) (take_all (length second) second (omega arith))

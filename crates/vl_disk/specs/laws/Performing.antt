@@ -1,5 +1,6 @@
 -- Each call is a run of changing calls, and one run behind another is one.
-use Rattle.std.proofs.Common.{◌≡◌, ◌⊎◌, ⊎_elim, inl, inr, ℕ, ◌+◌, List, [], ◌∷◌, ◌++◌, length, append_assoc, length-append, refl, sym, ap, subst, ◌∙◌, arith}
+use Rattle.std.proofs.Common.{◌≡◌, ◌⊎◌, ⊎_elim, inl, inr, ℕ, ◌+◌, List, [], ◌∷◌, ◌++◌, length, append_assoc}
+use Rattle.std.proofs.Common.{length-append, refl, sym, ap, subst, ◌∙◌, arith}
 use Rattle.std.specs.Prelude.{zero, suc, true, false, Option, None, Some, Result, Ok, Err, IsErr, OnErr, OnOk, ◌≤◌}
 use Rattle.std.specs.Option.{option_map}
 use Rattle.vl_disk.specs.Calls.{Appends, Cuts, Removes, Syncs}
@@ -191,7 +192,8 @@ module _ {D T E : Type 0} (g : Ghosts D) (old new : D) where
     }
 
 -- One step behind another.
-module _ {D T U E F : Type 0} (g : Ghosts D) (after later : DiskState → DiskState) (during meanwhile : DiskState → DiskState → Type 0) (n m : ℕ)
+module _ {D T U E F : Type 0} (g : Ghosts D) (after later : DiskState → DiskState)
+    (during meanwhile : DiskState → DiskState → Type 0) (n m : ℕ)
     (old mid new : D) (x : T) where
   pub performs_then : (result : Result U F) → Performs {E = E} g after during n old mid (Ok x) → Performs g later meanwhile m mid new result
       → Performs g (λ disk. later (after disk)) (λ disk now. during disk now ⊎ meanwhile (after disk) now) (m + n) old new result
@@ -201,7 +203,8 @@ module _ {D T U E F : Type 0} (g : Ghosts D) (after later : DiskState → DiskSt
     stops = some result second.stops;
     tells = λ state is. second.tells (after state) (first.done ∙ ap (option_map after) is);
     time = passes_then (past_of g old) (past_of g mid) (past_of g new)
-        (While (g.told old) during) (While (g.told mid) meanwhile) (While (g.told old) (λ disk now. during disk now ⊎ meanwhile (after disk) now))
+        (While (g.told old) during) (While (g.told mid) meanwhile)
+        (While (g.told old) (λ disk now. during disk now ⊎ meanwhile (after disk) now))
         first.time second.time
         (λ now is disk told. inl (is disk told))
         (λ now is disk told. inr (is (after disk) (first.done ∙ ap (option_map after) told)));
@@ -212,15 +215,24 @@ module _ {D T U E F : Type 0} (g : Ghosts D) (after later : DiskState → DiskSt
       one None = refl
       one (Some disk) = refl
 
-      both : (r : Result U F) → OnOk r (IsChangedBy later (g.told mid) (g.told new)) → OnOk r (IsChangedBy (λ disk. later (after disk)) (g.told old) (g.told new))
+      both : (r : Result U F) → OnOk r (IsChangedBy later (g.told mid) (g.told new))
+          → OnOk r (IsChangedBy (λ disk. later (after disk)) (g.told old) (g.told new))
       both (Ok y) changed = changed ∙ ap (option_map later) first.done ∙ one (g.told old)
       both (Err f) changed = tt
 
-      some : (r : Result U F) → OnErr r (StopsAmong m (g.calls mid) (g.calls new)) → OnErr r (StopsAmong (m + n) (g.calls old) (g.calls new))
+      some : (r : Result U F) → OnErr r (StopsAmong m (g.calls mid) (g.calls new))
+          → OnErr r (StopsAmong (m + n) (g.calls old) (g.calls new))
       some (Ok y) is = tt
-      some (Err f) is = (is.0 + n, omega (arith, is.1), omega (arith, is.2), is.3 ∙ ap (after_calls is.0) first.calls ∙ sym (calls_then is.0 n (g.calls old)))
+      some (Err f) is = (
+        is.0 + n,
+        omega (arith, is.1),
+        omega (arith, is.2),
+        is.3 ∙ ap (after_calls is.0) first.calls
+            ∙ sym (calls_then is.0 n (g.calls old)),
+      )
 
-      counted : (r : Result U F) → OnOk r (g.calls new ≡ after_calls m (g.calls mid)) → OnOk r (g.calls new ≡ after_calls (m + n) (g.calls old))
+      counted : (r : Result U F) → OnOk r (g.calls new ≡ after_calls m (g.calls mid))
+          → OnOk r (g.calls new ≡ after_calls (m + n) (g.calls old))
       counted (Ok y) is = is ∙ ap (after_calls m) first.calls ∙ sym (calls_then m n (g.calls old))
       counted (Err f) is = tt
 
@@ -261,5 +273,6 @@ failed_behind passed files before mid now name made failed = record {
   files_are = ap (λ (l : List Name). passed ++ l) failed.files_are ∙ sym (append_assoc passed failed.front (name ∷ failed.back));
   calls = failed.calls ∙ ap (after_calls (length failed.front + 1)) made ∙ sym (calls_then (length failed.front + 1) (length passed) before)
       ∙ ap (λ (n : ℕ). after_calls n before)
-      (let e : length failed.front + 1 + length passed ≡ length (passed ++ failed.front) + 1 = omega (arith, length-append passed failed.front) in e);
+      (let e : length failed.front + 1 + length passed ≡ length (passed ++ failed.front) + 1 = omega
+      (arith, length-append passed failed.front) in e);
 }

@@ -19,10 +19,12 @@ none_some x e = cc
 pub holds_after : (change : DiskState → DiskState) (old new : Option DiskState) (P Q : DiskState → Type 0)
     → IsChangedBy change old new → ((disk : DiskState) → P disk → Q (change disk)) → ForSome old P → ForSome new Q
 holds_after change None new P Q changed keeps holds disk is = absurd (none_some disk (sym changed ∙ is))
-holds_after change (Some old) new P Q changed keeps holds disk is = subst Q (some_state (change old) disk (sym changed ∙ is)) (keeps old (holds old refl))
+holds_after change (Some old) new P Q changed keeps holds disk is = subst Q
+    (some_state (change old) disk (sym changed ∙ is)) (keeps old (holds old refl))
 
 -- a file that is changed stands
-pub changed_stands : (name : Name) (change : File → File) (old new : Option DiskState) → IsChangedBy (with_file name change) old new → ForSome old (Stands name) → ForSome new (Stands name)
+pub changed_stands : (name : Name) (change : File → File) (old new : Option DiskState)
+    → IsChangedBy (with_file name change) old new → ForSome old (Stands name) → ForSome new (Stands name)
 changed_stands name change old new changed = holds_after (with_file name change) old new (Stands name) (Stands name) changed
     (λ disk stands. subst IsSome (sym (changed_there name disk change)) (of (get disk.standing name) stands))
   where
@@ -35,4 +37,5 @@ created_stands name old new changed = holds_after (created name) old new (λ _. 
     (λ disk _. subst IsSome (sym (created_there name disk)) refl) (λ _ _. tt)
 
 pub removed_free : (name : Name) (old new : Option DiskState) → IsChangedBy (without name) old new → ForSome new (IsFree name)
-removed_free name old new changed = holds_after (without name) old new (λ _. Unit {0}) (IsFree name) changed (λ disk _. get_removed disk.standing name) (λ _ _. tt)
+removed_free name old new changed = holds_after (without name) old new (λ _. Unit {0}) (IsFree name) changed
+    (λ disk _. get_removed disk.standing name) (λ _ _. tt)

@@ -1,6 +1,7 @@
 -- The tables that reads show lie in their levels as an engine's have to: no number stands twice, footers tell true ranges, and the
 -- tables of a deeper level are apart.
-use Rattle.std.specs.Prelude.{◌≡◌, ◌≢◌, ℕ, ◌-◌, ◌<◌, ◌==◌, ◌||◌, Bool, true, false, List, [], ◌∷◌, ◌++◌, map, Option, None, Some, Result, Ok, Err, refl}
+use Rattle.std.specs.Prelude.{◌≡◌, ◌≢◌, ℕ, ◌-◌, ◌<◌, ◌==◌, ◌||◌, Bool, true, false, List, [], ◌∷◌, ◌++◌, map, Option}
+use Rattle.std.specs.Prelude.{None, Some, Result, Ok, Err, refl}
 use Rattle.std.specs.List.{AllByRecursion}
 use Rattle.std.proofs.Common.{sym, ap, subst, ◌∙◌, cond, arith}
 use Rattle.std.proofs.lemmas.Bool.Decides.{nat_tests}
@@ -30,7 +31,9 @@ use Rattle.vl_model.specs.declared.entry.Entry.{Entry}
 use Rattle.vl_recover.specs.laws.opening.OpeningLaws.{opened}
 use Rattle.vl_recover.specs.laws.repairing.StageLaws.{ok_err, ok_same}
 use Rattle.vl_recover.specs.opening.Answers.{Finds}
-use Rattle.vl_recover.specs.opening.Opening.{Bare, FoundTable, Heading, Headless, IsAbove, Led, NamedLevel, NamedLevels, NewerFormat, Newest, NotAStore, Refusal, Says, key_before, of_manifest}
+use Rattle.vl_recover.specs.opening.Opening.{Bare, FoundTable, Heading, Headless, IsAbove, Led, NamedLevel}
+use Rattle.vl_recover.specs.opening.Opening.{NamedLevels, NewerFormat, Newest, NotAStore, Refusal, Says, key_before}
+use Rattle.vl_recover.specs.opening.Opening.{of_manifest}
 use Rattle.vl_recover.specs.opening.Opening as openings
 
 -- ---- ranges

@@ -1,5 +1,6 @@
 -- The layout with which an engine begins is tidy.
-use Rattle.std.specs.Prelude.{◌≡◌, ◌≢◌, ◌≤◌, ◌<◌, ℕ, ◌+◌, ◌-◌, ◌==◌, max, nat_lt, Bool, true, false, if◌then◌else◌, List, [], ◌∷◌, Some, refl}
+use Rattle.std.specs.Prelude.{◌≡◌, ◌≢◌, ◌≤◌, ◌<◌, ℕ, ◌+◌, ◌-◌, ◌==◌, max, nat_lt, Bool, true, false, if◌then◌else◌}
+use Rattle.std.specs.Prelude.{List, [], ◌∷◌, Some, refl}
 use Rattle.std.specs.List.{AllByRecursion}
 use Rattle.std.proofs.Common.{sym, ap, subst, ◌∙◌, arith, inl, inr}
 use Rattle.std.proofs.lemmas.Bool.Decides.{nat_tests}
@@ -17,7 +18,8 @@ use Rattle.vl_engine.specs.laws.BegunLevels.{begun_levels, files_shown}
 use Rattle.vl_engine.specs.laws.BegunShows.{begun_shows}
 use Rattle.vl_engine.specs.laws.FileLaws.{all_each, has_numbered}
 use Rattle.vl_engine.specs.laws.LedLaws.{AreFarTo, ArePointsTo, AreRisingNumbers, IsFarTo, led_rise, points_led}
-use Rattle.vl_engine.specs.laws.StartLaws.{active_from, before_from, before_rise, before_true, distinct_sealed, each_sealed, not_above, other_number}
+use Rattle.vl_engine.specs.laws.StartLaws.{active_from, before_from, before_rise, before_true, distinct_sealed}
+use Rattle.vl_engine.specs.laws.StartLaws.{each_sealed, not_above, other_number}
 use Rattle.vl_layout.specs.Jobs.{AreDistinct}
 use Rattle.vl_layout.specs.Start.{IsWellRecovered, Recovered}
 use Rattle.vl_layout.specs.Stock.{HasBytes, HasBytesAt, IsFooted, PointsDrawn}

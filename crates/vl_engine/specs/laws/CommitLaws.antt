@@ -16,7 +16,9 @@ use Rattle.vl_engine.specs.Pointed.{layout_logs}
 use Rattle.vl_engine.specs.Shown.{ShowsBetween}
 use Rattle.vl_engine.specs.Spared.{at_rest, Spares}
 use Rattle.vl_engine.specs.laws.HeldLaws.{image_shows, led_stay, sources_held, store_held, view}
-use Rattle.vl_engine.specs.laws.KeptLaws.{AreOtherLogs, appending_elsewhere, base_kept, each_log_kept, manifests_beside_log, sources_kept, syncing_elsewhere, tables_beside_log, tables_kept, written_elsewhere}
+use Rattle.vl_engine.specs.laws.KeptLaws.{AreOtherLogs, appending_elsewhere, base_kept, each_log_kept}
+use Rattle.vl_engine.specs.laws.KeptLaws.{manifests_beside_log, sources_kept, syncing_elsewhere, tables_beside_log}
+use Rattle.vl_engine.specs.laws.KeptLaws.{tables_kept, written_elsewhere}
 use Rattle.vl_engine.specs.laws.SegmentLaws.{not_among, other_behind, other_logs}
 use Rattle.vl_engine.specs.laws.ShownLaws.{shown_later}
 use Rattle.vl_frame.specs.Runs.{HasFrame}
@@ -33,7 +35,8 @@ use Rattle.vl_model.specs.laws.HistoryLaws.{with_commit-extends}
 use Rattle.vl_recover.specs.crash.Alike.{IsLeft}
 use Rattle.vl_recover.specs.crash.Held.{GoOn, HoldsLogs, HoldsStore, View, opening_held}
 use Rattle.vl_recover.specs.crash.Starts.{AllStay, MayOpen}
-use Rattle.vl_recover.specs.laws.crash.AppendLaws.{OpensEither, append_holds, append_leaves, append_may_open, commit_counts, goes_on, sync_leaves, sync_may_open, with_frame}
+use Rattle.vl_recover.specs.laws.crash.AppendLaws.{OpensEither, append_holds, append_leaves, append_may_open}
+use Rattle.vl_recover.specs.laws.crash.AppendLaws.{commit_counts, goes_on, sync_leaves, sync_may_open, with_frame}
 use Rattle.vl_recover.specs.laws.crash.TornFrames.{frame_behind}
 use Rattle.vl_recover.specs.laws.opening.ReadImage.{read_image}
 use Rattle.vl_recover.specs.opening.Opening.{IsAmong, Opens, led_into}

@@ -1,6 +1,7 @@
 -- A flush: a table is made, and a switch names it. Whatever a crash leaves meanwhile shows the history, and then the disk holds
 -- the layout that the ruling leaves.
-use Rattle.std.specs.Prelude.{◌≡◌, ◌≢◌, ◌⊎◌, ◌<◌, ℕ, ◌+◌, ◌&&◌, not, nat_le, length, Bool, true, false, if◌then◌else◌, List, [], ◌∷◌, ◌++◌, map, Option, None, Some, refl, insert}
+use Rattle.std.specs.Prelude.{◌≡◌, ◌≢◌, ◌⊎◌, ◌<◌, ℕ, ◌+◌, ◌&&◌, not, nat_le, length, Bool, true, false, if◌then◌else◌}
+use Rattle.std.specs.Prelude.{List, [], ◌∷◌, ◌++◌, map, Option, None, Some, refl, insert}
 use Rattle.std.specs.FinMap.{get}
 use Rattle.std.specs.List.{AllByRecursion, filter, flat_map}
 use Rattle.std.specs.Option.{option_map}
@@ -24,7 +25,9 @@ use Rattle.vl_engine.specs.laws.FileLaws.{all_each, all_filtered, all_front}
 use Rattle.vl_engine.specs.laws.FlushBase.{before_then, first_framed, first_number, flush_base, head_then, then_holds}
 use Rattle.vl_engine.specs.laws.FlushTidy.{flush_led, flush_tidy}
 use Rattle.vl_engine.specs.laws.HeldLaws.{needed_shows, sources_held}
-use Rattle.vl_engine.specs.laws.KeptLaws.{AreOtherTables, base_kept, files_kept, from_beside_table, log_table, logs_beside_table, manifests_beside_table, nothing_elsewhere, table_same, written_elsewhere}
+use Rattle.vl_engine.specs.laws.KeptLaws.{AreOtherTables, base_kept, files_kept, from_beside_table, log_table}
+use Rattle.vl_engine.specs.laws.KeptLaws.{logs_beside_table, manifests_beside_table, nothing_elsewhere, table_same}
+use Rattle.vl_engine.specs.laws.KeptLaws.{written_elsewhere}
 use Rattle.vl_engine.specs.laws.SwitchLaws.{switch_frame, switch_holds, switch_keeps, switched_base, switching_shows}
 use Rattle.vl_frame.specs.Runs.{HasFrame}
 use Rattle.vl_layout.specs.Levels.{in_front}
@@ -41,7 +44,8 @@ use Rattle.vl_layout_laws.specs.laws.TidyLogs.{frozen_split}
 use Rattle.vl_manifest.specs.Grammar.{edits_grammar}
 use Rattle.vl_manifest.specs.Levels.{all_tables, is_in, put_at}
 use Rattle.vl_manifest.specs.Manifest.{manifest_bytes}
-use Rattle.vl_manifest.specs.States.{all_applied, are_next, as_draft, finish, flush_edits, given_if, is_file_number, is_head, next_state, then_applied, with_levels}
+use Rattle.vl_manifest.specs.States.{all_applied, are_next, as_draft, finish, flush_edits, given_if, is_file_number}
+use Rattle.vl_manifest.specs.States.{is_head, next_state, then_applied, with_levels}
 use Rattle.vl_manifest.specs.Switching.{WhileSwitching, switched}
 use Rattle.vl_manifest.specs.declared.edit.Edit.{Edit}
 use Rattle.vl_manifest.specs.declared.edit.Edit.TheVariants.{Head, Next}

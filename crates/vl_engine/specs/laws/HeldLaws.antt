@@ -13,7 +13,8 @@ use Rattle.vl_engine.specs.Held.{Base, Holds, HoldsBase, HoldsFiles, HoldsSource
 use Rattle.vl_engine.specs.Pointed.{bytes_of_log, layout_logs}
 use Rattle.vl_engine.specs.Shown.{EntriesShow, HasFramedAmong, Shown, entries_among, logs_entries}
 use Rattle.vl_engine.specs.Spared.{IsSpared}
-use Rattle.vl_engine.specs.laws.FileLaws.{IsTableAmong, all_each, all_filtered, all_more, has_numbered, named_among, named_levels, named_logs, segment_all, segment_number}
+use Rattle.vl_engine.specs.laws.FileLaws.{IsTableAmong, all_each, all_filtered, all_more, has_numbered, named_among}
+use Rattle.vl_engine.specs.laws.FileLaws.{named_levels, named_logs, segment_all, segment_number}
 use Rattle.vl_engine.specs.laws.LogEntries.{entries-append, entries-filtered, entries-newest}
 use Rattle.vl_engine.specs.laws.ShownLaws.{shown_by}
 use Rattle.vl_layout.specs.Logs.{memtable}

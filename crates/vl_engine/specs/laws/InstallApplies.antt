@@ -1,6 +1,7 @@
 -- What an install stages isn't refused: its switch can be applied to what the manifest says, and makes of it what the ruling
 -- makes of the layout.
-use Rattle.std.specs.Prelude.{◌≡◌, ◌⊎◌, ◌==◌, ◌&&◌, ◌||◌, ◌≤◌, ◌<◌, ◌^◌, ◌-◌, ℕ, max, Bool, true, false, not, nat_le, if◌then◌else◌, List, [], ◌∷◌, ◌++◌, length, map, Some, refl}
+use Rattle.std.specs.Prelude.{◌≡◌, ◌⊎◌, ◌==◌, ◌&&◌, ◌||◌, ◌≤◌, ◌<◌, ◌^◌, ◌-◌, ℕ, max, Bool, true, false, not, nat_le}
+use Rattle.std.specs.Prelude.{if◌then◌else◌, List, [], ◌∷◌, ◌++◌, length, map, Some, refl}
 use Rattle.std.specs.List.{AllByRecursion, flat_map, list_any}
 use Rattle.std.proofs.Common.{sym, ap, subst, ◌∙◌, arith, inl, inr, ⊎_elim}
 use Rattle.std.proofs.lemmas.Bool.Decides.{nat_tests}
@@ -16,7 +17,8 @@ use Rattle.vl_engine.specs.laws.HeldLaws.{base_says}
 use Rattle.vl_engine.specs.laws.InstallPlaces.{IsPutAt, place, put_at_place}
 use Rattle.vl_layout.specs.Jobs.{AreDistinct, AreLent, AreOutputs, Made, lent_numbers}
 use Rattle.vl_layout.specs.Levels.{is_among, without}
-use Rattle.vl_layout.specs.Merging.{drops_by_need, gone_after, if_so, inputs_of, is_below, is_needless, is_needless_one, is_outdated, is_shadowed, needless, needless_from, outside_of}
+use Rattle.vl_layout.specs.Merging.{drops_by_need, gone_after, if_so, inputs_of, is_below, is_needless}
+use Rattle.vl_layout.specs.Merging.{is_needless_one, is_outdated, is_shadowed, needless, needless_from, outside_of}
 use Rattle.vl_layout.specs.OpenJobs.{IsOpenWell}
 use Rattle.vl_layout.specs.Rulings.Install.{installed}
 use Rattle.vl_layout.specs.Sources.{numbers_of, tables}

@@ -21,7 +21,9 @@ use Rattle.vl_engine.specs.Pointed.{layout_logs}
 use Rattle.vl_engine.specs.Shown.{LeavesBetween}
 use Rattle.vl_engine.specs.laws.FileLaws.{named_among}
 use Rattle.vl_engine.specs.laws.HeldLaws.{base_says, held_opens_again, needed_shows}
-use Rattle.vl_engine.specs.laws.KeptLaws.{AreOtherTables, base_kept, files_kept, from_beside_table, log_table, logs_beside_table, manifests_beside_table, nothing_elsewhere, table_same, tables_kept}
+use Rattle.vl_engine.specs.laws.KeptLaws.{AreOtherTables, base_kept, files_kept, from_beside_table, log_table}
+use Rattle.vl_engine.specs.laws.KeptLaws.{logs_beside_table, manifests_beside_table, nothing_elsewhere, table_same}
+use Rattle.vl_engine.specs.laws.KeptLaws.{tables_kept}
 use Rattle.vl_engine.specs.laws.OpensAgain.{below_lead, shown_may_open, table_may}
 use Rattle.vl_layout.specs.Jobs.{Made, job_ended}
 use Rattle.vl_layout.specs.Rulings.Fresh.{drawn}

@@ -4,7 +4,8 @@ use Rattle.std.proofs.Common.{sym, ap, ◌∙◌, arith}
 use Rattle.std.proofs.lemmas.Bool.Decides.{nat_tests}
 use Rattle.vl_layout.specs.Jobs.{Made, job_ended}
 use Rattle.vl_layout.specs.Ruling.{Ruling, has_no_version, leaving}
-use Rattle.vl_layout.specs.Rulings.Install.{Exhausted, Halted, InstallAnswer, Installed, Raced, install_checked, install_ruling, install_unless, installed, moved_since, race}
+use Rattle.vl_layout.specs.Rulings.Install.{Exhausted, Halted, InstallAnswer, Installed, Raced, install_checked}
+use Rattle.vl_layout.specs.Rulings.Install.{install_ruling, install_unless, installed, moved_since, race}
 use Rattle.vl_layout.specs.declared.file_name.FileName.{FileName}
 use Rattle.vl_layout.specs.declared.job.Job.{Job}
 use Rattle.vl_layout.specs.declared.job.OpenJob.{OpenJob}

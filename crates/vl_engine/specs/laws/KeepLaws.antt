@@ -1,6 +1,7 @@
 -- A change of how many versions are kept: one switch of the manifest. Whatever a crash leaves meanwhile shows the history, and
 -- then the disk holds the layout that the ruling leaves.
-use Rattle.std.specs.Prelude.{◌≡◌, ◌≢◌, ◌≤◌, ◌==◌, ℕ, ◌||◌, Bool, true, false, length, nat_lt, if◌then◌else◌, List, [], ◌∷◌, Some, None, refl}
+use Rattle.std.specs.Prelude.{◌≡◌, ◌≢◌, ◌≤◌, ◌==◌, ℕ, ◌||◌, Bool, true, false, length, nat_lt, if◌then◌else◌, List}
+use Rattle.std.specs.Prelude.{[], ◌∷◌, Some, None, refl}
 use Rattle.std.specs.FinMap.{get}
 use Rattle.std.proofs.Common.{sym, ap, ◌∙◌, arith, ⊎_elim}
 use Rattle.std.proofs.lemmas.Bool.Decides.{nat_tests}

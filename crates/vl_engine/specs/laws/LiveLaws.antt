@@ -1,5 +1,6 @@
 -- What lives, as the oracle has it and as the layout has it: tickets, the floor, and what begins and ends.
-use Rattle.std.specs.Prelude.{◌≡◌, ◌≤◌, ℕ, ◌+◌, ◌==◌, min, Bool, true, false, not, nat_lt, List, [], ◌∷◌, Option, None, Some, unwrap_or, refl}
+use Rattle.std.specs.Prelude.{◌≡◌, ◌≤◌, ℕ, ◌+◌, ◌==◌, min, Bool, true, false, not, nat_lt, List, [], ◌∷◌, Option}
+use Rattle.std.specs.Prelude.{None, Some, unwrap_or, refl}
 use Rattle.std.specs.Cmp.{nat_cmp_total, unsigned_tied}
 use Rattle.std.specs.FinMap.{find, put}
 use Rattle.std.specs.FinMap.Entries.{by_order, find-put, find-where_key}

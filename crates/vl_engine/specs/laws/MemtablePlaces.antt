@@ -5,7 +5,8 @@ use Rattle.std.specs.Option.{option_map}
 use Rattle.std.proofs.Common.{ap, ◌∙◌}
 use Rattle.vl_engine.specs.Files.{IsLogFile}
 use Rattle.vl_engine.specs.Pointed.{bytes_of_log}
-use Rattle.vl_layout.specs.Logs.{committed_records, frame_entries, logged_body, logged_entries, memtable, pointer_to, record_entry, relocated_records}
+use Rattle.vl_layout.specs.Logs.{committed_records, frame_entries, logged_body, logged_entries, memtable, pointer_to}
+use Rattle.vl_layout.specs.Logs.{record_entry, relocated_records}
 use Rattle.vl_layout.specs.Shown.{ArePlaced}
 use Rattle.vl_layout.specs.declared.segment.Segment.{Segment}
 use Rattle.vl_layout.specs.laws.OrderShows.{all-in_order}
@@ -25,7 +26,8 @@ use Rattle.vl_model.specs.declared.log_frame.LogFrame.TheVariants.{Committed, Re
 use Rattle.vl_model.specs.declared.log_frame.Moved.{Moved}
 use Rattle.vl_model.specs.declared.pointer.Pointer.{Pointer}
 use Rattle.vl_seglog.specs.LogReading.{LogReading}
-use Rattle.vl_seglog.specs.Stored.{AllLead, LeadToAll, LeadsTo, frame_pointers, frame_writes, moved_pointers, moved_write, pointers_from, stored_at}
+use Rattle.vl_seglog.specs.Stored.{AllLead, LeadToAll, LeadsTo, frame_pointers, frame_writes, moved_pointers}
+use Rattle.vl_seglog.specs.Stored.{moved_write, pointers_from, stored_at}
 use Rattle.vl_seglog.specs.laws.LogReadingLaws.{reads_written}
 use Rattle.vl_seglog.specs.laws.StoredLaws.{leads_stored, reading_leads}
 

@@ -8,7 +8,8 @@ use Rattle.std.proofs.lemmas.Bool.Decides.{nat_tests}
 use Rattle.vl_back.specs.Tables.{AreSpellable, IsSpellable, IsSpellableBody}
 use Rattle.vl_engine.specs.Files.{IsLogFile}
 use Rattle.vl_frame.specs.Runs.{HasFrame}
-use Rattle.vl_layout.specs.Logs.{LogRecord, committed_records, frame_entries, logged_body, logged_entries, memtable, record_entry, relocated_records}
+use Rattle.vl_layout.specs.Logs.{LogRecord, committed_records, frame_entries, logged_body, logged_entries, memtable}
+use Rattle.vl_layout.specs.Logs.{record_entry, relocated_records}
 use Rattle.vl_layout.specs.Start.{has_frames, is_any}
 use Rattle.vl_layout.specs.declared.segment.Segment.{Segment}
 use Rattle.vl_layout.specs.laws.OrderShows.{all-in_order}

@@ -20,7 +20,9 @@ use Rattle.vl_engine.specs.Held.{Base, Holds, HoldsBase, HoldsFiles, IsBase, fra
 use Rattle.vl_engine.specs.Pointed.{layout_logs}
 use Rattle.vl_engine.specs.Shown.{Shown}
 use Rattle.vl_engine.specs.laws.FlushBase.{before_then}
-use Rattle.vl_engine.specs.laws.FlushLaws.{CanFlush, WhileFlushing, base_beside, base_mid, base_then, bytes_of, edits_of, files_beside, files_mid, files_then, flush_holds, frame, mid, mid_settled, tables_apart, tidy_then}
+use Rattle.vl_engine.specs.laws.FlushLaws.{CanFlush, WhileFlushing, base_beside, base_mid, base_then, bytes_of}
+use Rattle.vl_engine.specs.laws.FlushLaws.{edits_of, files_beside, files_mid, files_then, flush_holds, frame, mid}
+use Rattle.vl_engine.specs.laws.FlushLaws.{mid_settled, tables_apart, tidy_then}
 use Rattle.vl_engine.specs.laws.HeldLaws.{base_says, has_stays, held_opens_again, needed_shows}
 use Rattle.vl_engine.specs.laws.KeptLaws.{log_manifest, log_table, table_manifest}
 use Rattle.vl_engine.specs.laws.FileLaws.{named_among}

@@ -1,5 +1,6 @@
 -- A history that is gone on with from a number has up to it what it had, and from the same least numbers on.
-use Rattle.std.specs.Prelude.{◌≡◌, ◌<◌, ◌≤◌, ℕ, zero, suc, ◌+◌, ◌-◌, ◌&&◌, T, min, Bool, true, false, nat_le, nat_lt, ◌==◌, List, [], ◌∷◌, ◌++◌, map, take, is_some, Option, None, Some, refl}
+use Rattle.std.specs.Prelude.{◌≡◌, ◌<◌, ◌≤◌, ℕ, zero, suc, ◌+◌, ◌-◌, ◌&&◌, T, min, Bool, true, false, nat_le, nat_lt}
+use Rattle.std.specs.Prelude.{◌==◌, List, [], ◌∷◌, ◌++◌, map, take, is_some, Option, None, Some, refl}
 use Rattle.std.specs.FinMap.{entries, entries-from_sorted, entries_sorted, get}
 use Rattle.std.specs.FinMap.Entries.{below_all, is_sorted}
 use Rattle.std.specs.List.{AllByRecursion, filter}

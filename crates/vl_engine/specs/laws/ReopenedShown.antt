@@ -69,7 +69,8 @@ entries_show_reopened keep since logs es h m show = record {
   versions = of_reopened h m es show.versions show.up_to;
   up_to = show.up_to;
   spared = λ two key n le there missing.
-      show.spared two key n le (from-filtered m n (versions h key) (subst (λ (ns : List ℕ). has n ns ≡ true) (versions-reopened h m key) there)) missing;
+      show.spared two key n le
+      (from-filtered m n (versions h key) (subst (λ (ns : List ℕ). has n ns ≡ true) (versions-reopened h m key) there)) missing;
 }
 
 -- An image shows, of the history as it is gone on with from a number, what it shows of the history there.

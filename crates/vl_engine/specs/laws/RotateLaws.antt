@@ -1,6 +1,7 @@
 -- A new log is begun behind the logs of a disk that holds a layout: what a crash leaves meanwhile, and what is held then. The
 -- tables stay, and the logs that they lead into.
-use Rattle.std.specs.Prelude.{◌≡◌, ◌≢◌, ◌≤◌, ◌<◌, ℕ, ◌+◌, ◌==◌, Bool, true, false, if◌then◌else◌, List, [], ◌∷◌, ◌++◌, length, map, All, Option, None, Some, refl}
+use Rattle.std.specs.Prelude.{◌≡◌, ◌≢◌, ◌≤◌, ◌<◌, ℕ, ◌+◌, ◌==◌, Bool, true, false, if◌then◌else◌, List, [], ◌∷◌, ◌++◌}
+use Rattle.std.specs.Prelude.{length, map, All, Option, None, Some, refl}
 use Rattle.std.specs.FinMap.{get}
 use Rattle.std.specs.List.{AllByRecursion, filter}
 use Rattle.std.proofs.Common.{sym, ap, subst, ◌∙◌, arith, ⊎_elim}
@@ -45,7 +46,9 @@ use Rattle.vl_recover.specs.crash.Starts.{MayOpen}
 use Rattle.vl_recover.specs.laws.crash.AlikeLaws.{LastIsWhole, SameBut, alike_some, log_same, one_more}
 use Rattle.vl_recover.specs.laws.crash.AppendLaws.{HoldsLast, last_held}
 use Rattle.vl_recover.specs.laws.crash.NewLogLaws.{making_may_open}
-use Rattle.vl_recover.specs.laws.crash.OneName.{IsLeftOne, IsPart, Making, WasLeft, as_before, done, left_still, made_elsewhere, made_there, making, may_miss, one_name, part_empty, part_some, torn, waits}
+use Rattle.vl_recover.specs.laws.crash.OneName.{IsLeftOne, IsPart, Making, WasLeft, as_before, done, left_still}
+use Rattle.vl_recover.specs.laws.crash.OneName.{made_elsewhere, made_there, making, may_miss, one_name, part_empty}
+use Rattle.vl_recover.specs.laws.crash.OneName.{part_some, torn, waits}
 use Rattle.vl_recover.specs.laws.crash.Torn.{ReadsFrames, header_reads, no_reading, part_loose, part_synced, torn_header}
 use Rattle.vl_recover.specs.laws.opening.ContentLaws.{SameContent, none_each, same_each, walk_more}
 use Rattle.vl_recover.specs.laws.opening.HeldLaws.{held_current, left_nowhere, left_settled}

@@ -30,7 +30,8 @@ use Rattle.vl_recover.specs.crash.Alike.{IsLeft, OpensAsOf, OpensLike, SameNeede
 use Rattle.vl_recover.specs.crash.Held.{View, opening_held}
 use Rattle.vl_recover.specs.laws.opening.OpeningLaws.{opened}
 use Rattle.vl_recover.specs.laws.repairing.StageLaws.{ok_same}
-use Rattle.vl_recover.specs.opening.Opening.{FoundTable, IsAmong, IsNamed, NamedLevel, NamedLevels, Opening, Opens, Refusal, key_before, led_into}
+use Rattle.vl_recover.specs.opening.Opening.{FoundTable, IsAmong, IsNamed, NamedLevel, NamedLevels, Opening, Opens}
+use Rattle.vl_recover.specs.opening.Opening.{Refusal, key_before, led_into}
 
 -- ---- a later history
 

@@ -1,5 +1,6 @@
 -- From the entries a key can be read from the same number on as from the history, whatever merges dropped; and what keeps it so.
-use Rattle.std.proofs.Common.{◌≡◌, ◌⊎◌, inl, inr, ⊎_elim, ℕ, zero, suc, ◌+◌, ◌≤◌, ◌<◌, Bool, true, false, cond, ◌||◌, List, [], ◌∷◌, length, map, refl, ap, sym, ◌∙◌, subst, arith}
+use Rattle.std.proofs.Common.{◌≡◌, ◌⊎◌, inl, inr, ⊎_elim, ℕ, zero, suc, ◌+◌, ◌≤◌, ◌<◌, Bool, true, false, cond, ◌||◌}
+use Rattle.std.proofs.Common.{List, [], ◌∷◌, length, map, refl, ap, sym, ◌∙◌, subst, arith}
 use Rattle.std.proofs.lemmas.Bool.{and_parts}
 use Rattle.std.proofs.lemmas.Bool.Decides.{nat_tests}
 use Rattle.std.specs.Prelude.{min, Option, Some, None, is_some, nat_lt, ◌==◌}
@@ -196,7 +197,8 @@ numbered_least key number m (w ∷ ws) there =
     here false is later t = let le = later t in omega (arith, le)
 
     by_test : (b : Bool) → (has m (naming key (numbered (number + 1) ws)) ≡ true → number + 1 ≤ m)
-        → has m (map (λ (c : Numbered). c.0) (cond b ((number, w) ∷ filter (λ (c : Numbered). is_some (get c.1 key)) (numbered (number + 1) ws))
+        → has m (map (λ (c : Numbered). c.0)
+        (cond b ((number, w) ∷ filter (λ (c : Numbered). is_some (get c.1 key)) (numbered (number + 1) ws))
         (filter (λ (c : Numbered). is_some (get c.1 key)) (numbered (number + 1) ws)))) ≡ true → number ≤ m
     by_test true later t = here (number == m) refl later t
     by_test false later t = let le = later t in omega (arith, le)

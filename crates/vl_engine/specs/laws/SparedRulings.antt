@@ -6,7 +6,8 @@ use Rattle.vl_engine.specs.Spared.{Spares, SparesRuled}
 use Rattle.vl_engine.specs.laws.SparedSteps.{spares_begun, spares_committed, spares_ended, spares_flushed, spares_keeping, spares_rotated}
 use Rattle.vl_layout.specs.Ruling.{Ruling, ended, has_no_number, has_no_version, logged}
 use Rattle.vl_layout.specs.Rulings.Begin.{begin_ruling}
-use Rattle.vl_layout.specs.Rulings.Commit.{Transaction, commit_checked, commit_frame, commit_ruling, commit_running, commit_unless, committed}
+use Rattle.vl_layout.specs.Rulings.Commit.{Transaction, commit_checked, commit_frame, commit_ruling, commit_running}
+use Rattle.vl_layout.specs.Rulings.Commit.{commit_unless, committed}
 use Rattle.vl_layout.specs.Rulings.Flush.{flush_of, flush_ruling, flush_unless}
 use Rattle.vl_layout.specs.Rulings.Keep.{keep_ruling, keep_unless}
 use Rattle.vl_layout.specs.Rulings.Rotate.{rotate_of, rotate_ruling, rotate_unless}
@@ -37,7 +38,8 @@ module _ (l : Layout) (h : History) (spares : Spares l h) where
   module _ (t : Transaction) (rising : T (is_sorted key_cmp t.writes)) where
     pub committed_spares : SparesRuled (committed l h t)
     committed_spares =
-        subst (λ (ws : List (List ℕ × Change)). Spares (logged (commit_frame h ws) (ended t.ticket l)) (with_commit h (from_sorted t.writes)))
+        subst (λ (ws : List (List ℕ × Change)). Spares (logged (commit_frame h ws) (ended t.ticket l))
+        (with_commit h (from_sorted t.writes)))
         (entries-from_sorted key_cmp t.writes rising) (spares_committed l h t.ticket (from_sorted t.writes) spares)
 
     checked_spares : (conflict : Option Named) → SparesRuled (commit_checked l h t conflict)

@@ -1,5 +1,6 @@
 -- What each step leaves of the sources spares versions as it should.
-use Rattle.std.proofs.Common.{◌≡◌, ℕ, ◌+◌, ◌≤◌, Bool, true, false, cond, ◌&&◌, ◌||◌, List, [], ◌∷◌, ◌++◌, length, map, refl, ap, sym, ◌∙◌, subst, arith}
+use Rattle.std.proofs.Common.{◌≡◌, ℕ, ◌+◌, ◌≤◌, Bool, true, false, cond, ◌&&◌, ◌||◌, List, [], ◌∷◌, ◌++◌, length, map}
+use Rattle.std.proofs.Common.{refl, ap, sym, ◌∙◌, subst, arith}
 use Rattle.std.proofs.lemmas.Bool.Decides.{nat_tests}
 use Rattle.std.specs.Prelude.{Some, is_some, ◌==◌, not}
 use Rattle.std.specs.List.{flat_map, list_any}
@@ -61,7 +62,8 @@ no_later h = record { first = refl; base = refl; later = []; commits = nothing h
 pub spares_begun : (l : Layout) (h : History) (ticket : ℕ) → Spares l h → Spares (begun l ticket (last_number h)) h
 spares_begun l h ticket =
     spares_floor l (begun l ticket (last_number h)) h refl refl refl
-    (let same = floor-begun l (begun l ticket (last_number h)) h (record { ticket = ticket; number = last_number h; pin = pin_of l }) refl refl
+    (let same = floor-begun l (begun l ticket (last_number h)) h
+    (record { ticket = ticket; number = last_number h; pin = pin_of l }) refl refl
     in omega (arith, same))
 
 pub spares_ended : (l : Layout) (h : History) (ticket : ℕ) → Spares l h → Spares (ended ticket l) h

@@ -14,7 +14,8 @@ use Rattle.vl_engine.specs.Pointed.{layout_logs}
 use Rattle.vl_engine.specs.Shown.{Shown}
 use Rattle.vl_engine.specs.laws.FileLaws.{all_more}
 use Rattle.vl_engine.specs.laws.HeldLaws.{shows_under}
-use Rattle.vl_engine.specs.laws.KeptLaws.{appending_elsewhere, files_kept, from_beside_manifest, logs_beside_manifest, manifest_same, syncing_elsewhere, tables_beside_manifest, written_elsewhere}
+use Rattle.vl_engine.specs.laws.KeptLaws.{appending_elsewhere, files_kept, from_beside_manifest, logs_beside_manifest}
+use Rattle.vl_engine.specs.laws.KeptLaws.{manifest_same, syncing_elsewhere, tables_beside_manifest, written_elsewhere}
 use Rattle.vl_frame.specs.Runs.{HasFrame, item_frame}
 use Rattle.vl_layout.specs.Sources.{tables}
 use Rattle.vl_layout.specs.Tidy.{IsTidy}

@@ -3,7 +3,8 @@ use Rattle.std.specs.Prelude.{◌≡◌, ◌+◌, ◌-◌, ◌≤◌, ◌<◌, �
 use Rattle.std.proofs.Common.{cond, refl, ap, sym, subst, ◌∙◌, append-nil, arith}
 use Rattle.byteorder.specs.Endian.{big_bytes, big_number}
 use Rattle.byteorder.specs.Numbers.{big_number-reads_back}
-use Rattle.vl_block.specs.Bytes.{IsTable, block_places, blocks_bytes, filter_bits, filter_place, filter_said, foot, footer_bytes, footer_place, index_bytes, index_place, table_bytes}
+use Rattle.vl_block.specs.Bytes.{IsTable, block_places, blocks_bytes, filter_bits, filter_place, filter_said, foot}
+use Rattle.vl_block.specs.Bytes.{footer_bytes, footer_place, index_bytes, index_place, table_bytes}
 use Rattle.vl_block.specs.Cutting.{blocks, filter_frame_length, keys_of}
 use Rattle.vl_block.specs.Footer.{footer_body}
 use Rattle.vl_block.specs.Formats.{has_filter}
@@ -22,7 +23,8 @@ use Rattle.vl_table.specs.Begun.{IsInside, said_place}
 use Rattle.vl_table.specs.Opening.{IsRead, StandsFilter, StandsFooter, said_of}
 use Rattle.vl_table.specs.laws.TablePlaces.{behind_index, drop-end, drop-filter, drop-footer, drop-index}
 
-says_place : (format number : ℕ) (es : List Entry) → IsTable format number es → said_place (table_bytes format number es) ≡ footer_place format es (blocks format es)
+says_place : (format number : ℕ) (es : List Entry) → IsTable format number es
+    → said_place (table_bytes format number es) ≡ footer_place format es (blocks format es)
 says_place format number es is =
     let bs = blocks format es in
     let place = footer_place format es bs in
@@ -34,7 +36,8 @@ says_place format number es is =
 -- its filter stands where its footer says
 stands_filter : (format number : ℕ) (es : List Entry) → IsTable format number es
     → StandsFilter number (table_bytes format number es) (filter_said format es (blocks format es)) (filter_bits format es)
-stands_filter format number es is = by (has_filter format) is.filter_short (drop-filter format number es bs) (length-filter_frame format number es bs)
+stands_filter format number es is = by (has_filter format) is.filter_short (drop-filter format number es bs)
+    (length-filter_frame format number es bs)
   where
     bs : List (List Entry)
     bs = blocks format es
@@ -43,7 +46,8 @@ stands_filter format number es is = by (has_filter format) is.filter_short (drop
         → drop (filter_place format (blocks format es)) (table_bytes format number es)
         ≡ cond t (frame_bytes number (filter_place format (blocks format es)) kinds.Filter (filter_body (keys_of es))) []
         ++ (footer_bytes format number es (blocks format es) ++ big_bytes 8 (footer_place format es (blocks format es)))
-        → length (cond t (frame_bytes number (filter_place format (blocks format es)) kinds.Filter (filter_body (keys_of es))) []) ≡ filter_frame_length format es
+        → length (cond t (frame_bytes number (filter_place format (blocks format es)) kinds.Filter
+        (filter_body (keys_of es))) []) ≡ filter_frame_length format es
         → StandsFilter number (table_bytes format number es)
         (cond t (Some (record { place = filter_place format (blocks format es); length = filter_frame_length format es })) None)
         (cond t (filters.filter_bytes (keys_of es)) [])
@@ -83,7 +87,8 @@ reads_table format number es first readable is =
           };
         };
       };
-      inside = subst (IsInside bytes) (sym says) (omega arith, omega (arith, length-table_bytes format number es, length-index format number bs));
+      inside = subst (IsInside bytes) (sym says)
+          (omega arith, omega (arith, length-table_bytes format number es, length-index format number bs));
       footer = subst (λ (n : ℕ). StandsFooter format number bytes n (foot format es bs)) (sym says) (record {
         body = footer_body (foot format es bs);
         frame = record { in_file = refl; short = is.footer_short; rest = big_bytes 8 place; spelled = drop-footer format number es bs };
@@ -92,8 +97,14 @@ reads_table format number es first readable is =
       index = record {
         body = index_body (block_places format 16 bs);
         frame = record {
-          frame = record { in_file = refl; short = is.index_short; rest = behind_index format number es bs; spelled = drop-index format number es bs };
-          sized = sym (length-index format number bs) ∙ length-frame_bytes number (index_place format bs) kinds.Index (index_body (block_places format 16 bs));
+          frame = record {
+            in_file = refl;
+            short = is.index_short;
+            rest = behind_index format number es bs;
+            spelled = drop-index format number es bs;
+          };
+          sized = sym (length-index format number bs) ∙ length-frame_bytes number (index_place format bs) kinds.Index
+              (index_body (block_places format 16 bs));
         };
         says = record { lawful = is.index; spelled = refl };
       };

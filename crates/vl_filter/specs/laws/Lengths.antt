@@ -9,7 +9,8 @@ use Rattle.vl_filter.specs.declared.hashes.Hashes.{Hashes}
 
 pub length-marked_bytes : (list : List Hashes) → length (marked_bytes list) ≡ byte_count (length list)
 length-marked_bytes list =
-    length-map-range_with_len (λ at. number_with (λ bit. is_marked (8 * byte_count (length list)) list (8 * at + bit)) 8) 0 (byte_count (length list))
+    length-map-range_with_len
+    (λ at. number_with (λ bit. is_marked (8 * byte_count (length list)) list (8 * at + bit)) 8) 0 (byte_count (length list))
 
 pub length-marked_body : (list : List Hashes) → length (marked_body list) ≡ 4 + byte_count (length list)
 length-marked_body list = omega (arith, length-marked_bytes list)

@@ -1,5 +1,6 @@
 -- The bytes of a filter have the bits that are marked, and no other bytes have these bits.
-use Rattle.std.proofs.Common.{◌≡◌, ℕ, zero, suc, ◌+◌, ◌-◌, ◌*◌, ◌/◌, ◌%◌, ◌^◌, ◌<◌, ◌≤◌, Bool, true, false, cond, ◌==◌, ◌||◌, List, [], ◌∷◌, length, get_or, refl, ap, sym, ◌∙◌, arith, ⊎_elim}
+use Rattle.std.proofs.Common.{◌≡◌, ℕ, zero, suc, ◌+◌, ◌-◌, ◌*◌, ◌/◌, ◌%◌, ◌^◌, ◌<◌, ◌≤◌, Bool, true, false, cond}
+use Rattle.std.proofs.Common.{◌==◌, ◌||◌, List, [], ◌∷◌, length, get_or, refl, ap, sym, ◌∙◌, arith, ⊎_elim}
 use Rattle.std.specs.Int.{bit_at}
 use Rattle.std.proofs.Math.Nat.{pow-succ'}
 use Rattle.std.proofs.lemmas.Bool.{cases_lt}
@@ -32,7 +33,8 @@ scaled false k = omega arith
 module _ (bit : ℕ → Bool) where
   number-fits : (n : ℕ) → number_with bit n < 2 ^ n
   number-fits zero = omega arith
-  number-fits (suc n) = more (2 ^ n) (bit_value (bit n) * 2 ^ n) (number_with bit n) (2 ^ suc n) (pow-succ' 2 n) (scaled (bit n) (2 ^ n)) (number-fits n)
+  number-fits (suc n) = more (2 ^ n) (bit_value (bit n) * 2 ^ n) (number_with bit n) (2 ^ suc n) (pow-succ' 2 n)
+      (scaled (bit n) (2 ^ n)) (number-fits n)
     where
       more : (k a b m : ℕ) → m ≡ 2 * k → a ≤ k → b < k → a + b < m
       more k a b m is le less = omega (arith, is, le, less)
@@ -72,7 +74,8 @@ past_place bits hashes (suc n) p some past =
 past_marked : (bits : ℕ) (list : List Hashes) (p : ℕ) → 0 < bits → bits ≤ p → is_marked bits list p ≡ false
 past_marked bits [] p some past = refl
 past_marked bits (hashes ∷ list) p some past =
-    neither (has_place_below bits hashes 7 p) (is_marked bits list p) (past_place bits hashes 7 p some past) (past_marked bits list p some past)
+    neither (has_place_below bits hashes 7 p) (is_marked bits list p) (past_place bits hashes 7 p some past)
+    (past_marked bits list p some past)
   where
     neither : (a b : Bool) → a ≡ false → b ≡ false → (a || b) ≡ false
     neither true b is also = absurd cc
@@ -99,8 +102,10 @@ module _ (list : List Hashes) where
   marked-bits p =
       ⊎_elim
       (λ (within : p / 8 < byte_count (length list)).
-      ap (λ (n : ℕ). bit_at n (p % 8) == 1) (get_or-map-range_with_len byte_at 0 (byte_count (length list)) (p / 8) (p / 8) 0 within (omega arith))
-      ∙ ap (λ (n : ℕ). n == 1) (number-bit (λ bit. is_marked (8 * byte_count (length list)) list (8 * (p / 8) + bit)) 8 (p % 8) (omega arith))
+      ap (λ (n : ℕ). bit_at n (p % 8) == 1)
+      (get_or-map-range_with_len byte_at 0 (byte_count (length list)) (p / 8) (p / 8) 0 within (omega arith))
+      ∙ ap (λ (n : ℕ). n == 1)
+      (number-bit (λ bit. is_marked (8 * byte_count (length list)) list (8 * (p / 8) + bit)) 8 (p % 8) (omega arith))
       ∙ test_of (is_marked (8 * byte_count (length list)) list (8 * (p / 8) + p % 8))
       ∙ ap (is_marked (8 * byte_count (length list)) list) (parts p))
       (λ (past : byte_count (length list) ≤ p / 8).
@@ -123,10 +128,12 @@ module _ (list : List Hashes) where
   unfolding is_set byte_at
   only-marked bytes fits long exact =
       fill_by_all byte_at bytes (byte_count (length list)) 0 long (λ k within.
-      same_from_bits_below 8 (get_or bytes k 0) (byte_at k) (fits k) (number-fits (λ bit. is_marked (8 * byte_count (length list)) list (8 * k + bit)) 8)
+      same_from_bits_below 8 (get_or bytes k 0) (byte_at k) (fits k)
+      (number-fits (λ bit. is_marked (8 * byte_count (length list)) list (8 * k + bit)) 8)
       (λ i small.
       of_test (bit_at (get_or bytes k 0) i) (is_marked (8 * byte_count (length list)) list (8 * k + i)) (bit_at-lt (get_or bytes k 0) i)
-      (sym (ap (λ (n : ℕ). bit_at (get_or bytes n 0) i == 1) (front k i small)) ∙ sym (ap (λ (n : ℕ). bit_at (get_or bytes ((8 * k + i) / 8) 0) n == 1) (back k i small)) ∙ exact (8 * k + i))
+      (sym (ap (λ (n : ℕ). bit_at (get_or bytes n 0) i == 1) (front k i small))
+      ∙ sym (ap (λ (n : ℕ). bit_at (get_or bytes ((8 * k + i) / 8) 0) n == 1) (back k i small)) ∙ exact (8 * k + i))
       ∙ sym (number-bit (λ bit. is_marked (8 * byte_count (length list)) list (8 * k + bit)) 8 i small)))
     where
       front : (k i : ℕ) → i < 8 → (8 * k + i) / 8 ≡ k

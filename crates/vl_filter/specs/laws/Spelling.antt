@@ -10,7 +10,8 @@ use Rattle.vl_filter.specs.laws.Lengths.{length-marked_bytes}
 
 one_front : (a b : ℕ) (x y : List ℕ) → a < 2 ^ 32 → b < 2 ^ 32 → big_bytes 4 a ++ x ≡ big_bytes 4 b ++ y → x ≡ y
 one_front a b x y a-fits b-fits e =
-    sym (drop_at (big_bytes 4 a) x 4 (length-bytes_high_first 4 a)) ∙ ap (drop 4) e ∙ drop_at (big_bytes 4 b) y 4 (length-bytes_high_first 4 b)
+    sym (drop_at (big_bytes 4 a) x 4 (length-bytes_high_first 4 a)) ∙ ap (drop 4) e
+    ∙ drop_at (big_bytes 4 b) y 4 (length-bytes_high_first 4 b)
 
 pub one_filter : (body bytes others : List ℕ) → SpellsFilter body bytes → SpellsFilter body others → bytes ≡ others
 one_filter body bytes others a b =

@@ -41,17 +41,21 @@ pub record SameHeader (front other_front : List ℕ) (format other_format number
   pub number_is : number ≡ other_number
   pub last_is : last ≡ other_last
 
-pub regrouped : (front : List ℕ) (format number last : ℕ) (rest : List ℕ) → front ++ big_bytes 4 format ++ big_bytes 4 number ++ big_bytes 4 last ++ rest ≡ front ++ (big_bytes 4 format ++ (big_bytes 4 number ++ (big_bytes 4 last ++ rest)))
+pub regrouped : (front : List ℕ) (format number last : ℕ) (rest : List ℕ)
+    → front ++ big_bytes 4 format ++ big_bytes 4 number ++ big_bytes 4 last ++ rest ≡ front
+    ++ (big_bytes 4 format ++ (big_bytes 4 number ++ (big_bytes 4 last ++ rest)))
 regrouped front format number last rest =
     append_assoc (front ++ big_bytes 4 format ++ big_bytes 4 number) (big_bytes 4 last) rest
     ∙ append_assoc (front ++ big_bytes 4 format) (big_bytes 4 number) (big_bytes 4 last ++ rest)
     ∙ append_assoc front (big_bytes 4 format) (big_bytes 4 number ++ (big_bytes 4 last ++ rest))
 
 -- Bytes come apart into four and three numbers in one way.
-pub one_header_apart : (bytes front other_front : List ℕ) (format other_format number other_number last other_last : ℕ) → IsHeaderApart front format number last bytes → IsHeaderApart other_front other_format other_number other_last bytes
+pub one_header_apart : (bytes front other_front : List ℕ) (format other_format number other_number last other_last : ℕ)
+    → IsHeaderApart front format number last bytes → IsHeaderApart other_front other_format other_number other_last bytes
     → SameHeader front other_front format other_format number other_number last other_last
 one_header_apart bytes front other_front format other_format number other_number last other_last p q =
-    let both = sym (regrouped front format number last p.rest) ∙ sym p.spelled ∙ q.spelled ∙ regrouped other_front other_format other_number other_last q.rest in
+    let both = sym (regrouped front format number last p.rest) ∙ sym p.spelled ∙ q.spelled
+    ∙ regrouped other_front other_format other_number other_last q.rest in
     let a = same_front front other_front _ _ (p.front_length ∙ sym q.front_length) both in
     let b = one_number 4 format other_format _ _ p.format_fits q.format_fits a.1 in
     let c = one_number 4 number other_number _ _ p.number_fits q.number_fits b.1 in
@@ -59,31 +63,45 @@ one_header_apart bytes front other_front format other_format number other_number
     record { front_is = a.0; format_is = b.0; number_is = c.0; last_is = d.0 }
 
 -- a header comes apart into its parts
-pub header_apart : (kind : FileKind) (format number : ℕ) (bytes : List ℕ) → IsHeader kind format number bytes → IsHeaderApart (letters kind) format number 0 bytes
+pub header_apart : (kind : FileKind) (format number : ℕ) (bytes : List ℕ) → IsHeader kind format number bytes
+    → IsHeaderApart (letters kind) format number 0 bytes
 header_apart kind format number bytes h =
-    record { front_length = length-letters kind; format_fits = h.format_fits; number_fits = h.number_fits; last_fits = omega arith; rest = h.rest; spelled = h.spelled }
+    record {
+      front_length = length-letters kind;
+      format_fits = h.format_fits;
+      number_fits = h.number_fits;
+      last_fits = omega arith;
+      rest = h.rest;
+      spelled = h.spelled;
+    }
 
 -- At the front of the same bytes stands one header at most.
-pub one_header : (bytes : List ℕ) (kind other_kind : FileKind) (format other_format number other_number : ℕ) → IsHeader kind format number bytes → IsHeader other_kind other_format other_number bytes
+pub one_header : (bytes : List ℕ) (kind other_kind : FileKind) (format other_format number other_number : ℕ)
+    → IsHeader kind format number bytes → IsHeader other_kind other_format other_number bytes
     → (kind ≡ other_kind) × (format ≡ other_format) × (number ≡ other_number)
 one_header bytes kind other_kind format other_format number other_number one other =
-    let same = one_header_apart bytes (letters kind) (letters other_kind) format other_format number other_number 0 0 (header_apart kind format number bytes one) (header_apart other_kind other_format other_number bytes other) in
+    let same = one_header_apart bytes (letters kind) (letters other_kind) format other_format number other_number 0 0
+    (header_apart kind format number bytes one) (header_apart other_kind other_format other_number bytes other) in
     (one_kind kind other_kind same.front_is, same.format_is, same.number_is)
 
 -- A header says its format.
-pub header_has_format : (kind : FileKind) (format number : ℕ) (bytes : List ℕ) → IsHeader kind format number bytes → HasFormat kind bytes format
+pub header_has_format : (kind : FileKind) (format number : ℕ) (bytes : List ℕ) → IsHeader kind format number bytes
+    → HasFormat kind bytes format
 header_has_format kind format number bytes h = record {
   fits = h.format_fits;
   rest = big_bytes 4 number ++ (big_bytes 4 0 ++ h.rest);
   long = omega arith;
-  spelled = h.spelled ∙ regrouped (letters kind) format number 0 h.rest ∙ sym (append_assoc (letters kind) (big_bytes 4 format) (big_bytes 4 number ++ (big_bytes 4 0 ++ h.rest)));
+  spelled = h.spelled ∙ regrouped (letters kind) format number 0 h.rest
+      ∙ sym (append_assoc (letters kind) (big_bytes 4 format) (big_bytes 4 number ++ (big_bytes 4 0 ++ h.rest)));
 }
 
 -- Bytes say one kind and one format.
-pub one_format : (bytes : List ℕ) (kind other_kind : FileKind) (format other_format : ℕ) → HasFormat kind bytes format → HasFormat other_kind bytes other_format → (kind ≡ other_kind) × (format ≡ other_format)
+pub one_format : (bytes : List ℕ) (kind other_kind : FileKind) (format other_format : ℕ) → HasFormat kind bytes format
+    → HasFormat other_kind bytes other_format → (kind ≡ other_kind) × (format ≡ other_format)
 one_format bytes kind other_kind format other_format one other =
     let both : letters kind ++ (big_bytes 4 format ++ one.rest) ≡ letters other_kind ++ (big_bytes 4 other_format ++ other.rest) =
-    sym (append_assoc (letters kind) (big_bytes 4 format) one.rest) ∙ sym one.spelled ∙ other.spelled ∙ append_assoc (letters other_kind) (big_bytes 4 other_format) other.rest in
+    sym (append_assoc (letters kind) (big_bytes 4 format) one.rest) ∙ sym one.spelled ∙ other.spelled
+    ∙ append_assoc (letters other_kind) (big_bytes 4 other_format) other.rest in
     let a = same_front (letters kind) (letters other_kind) _ _ (length-letters kind ∙ sym (length-letters other_kind)) both in
     let b = one_number 4 format other_format one.rest other.rest one.fits other.fits a.1 in
     (one_kind kind other_kind a.0, b.0)

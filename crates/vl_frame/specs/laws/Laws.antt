@@ -12,7 +12,8 @@ use Rattle.vl_frame.specs.laws.NumberLaws.{one_number, same_front}
 use Rattle.vl_frame.specs.FrameFields.{IsApart}
 
 kind_at : ℕ → FrameKind
-kind_at n = cond (nat_eq n 1) Commit (cond (nat_eq n 2) Move (cond (nat_eq n 3) Block (cond (nat_eq n 4) Index (cond (nat_eq n 5) Footer (cond (nat_eq n 6) Edits Filter)))))
+kind_at n = cond (nat_eq n 1) Commit
+    (cond (nat_eq n 2) Move (cond (nat_eq n 3) Block (cond (nat_eq n 4) Index (cond (nat_eq n 5) Footer (cond (nat_eq n 6) Edits Filter)))))
 
 kind_at-code : (kind : FrameKind) → kind_at (frame_code kind) ≡ kind
 unfolding kind_at
@@ -33,29 +34,36 @@ length-check_of number at kind body =
     let m = place_bytes (file_of kind) number at ++ head_bytes kind (length body) ++ body in
     length-take-le 8 (sha256 m) (omega (arith, length-sha256 m))
 
-length-spelling : (kind : FrameKind) (body check : List ℕ) → length check ≡ 8 → length (spelling kind body check) ≡ frame_length (length body)
+length-spelling : (kind : FrameKind) (body check : List ℕ) → length check ≡ 8
+    → length (spelling kind body check) ≡ frame_length (length body)
 length-spelling kind body check e = omega (arith, length-append body check)
 
 -- A frame has 13 bytes more than its body.
-pub length-frame_bytes : (number at : ℕ) (kind : FrameKind) (body : List ℕ) → length (frame_bytes number at kind body) ≡ frame_length (length body)
+pub length-frame_bytes : (number at : ℕ) (kind : FrameKind) (body : List ℕ)
+    → length (frame_bytes number at kind body) ≡ frame_length (length body)
 unfolding frame_bytes
 length-frame_bytes number at kind body = length-spelling kind body (check_of number at kind body) (length-check_of number at kind body)
 
 -- Bytes come apart into a kind, a body and a check in one way.
-pub one_apart : (bytes : List ℕ) (kind kind' : FrameKind) (body body' check check' : List ℕ) → IsApart bytes kind body check → IsApart bytes kind' body' check'
+pub one_apart : (bytes : List ℕ) (kind kind' : FrameKind) (body body' check check' : List ℕ)
+    → IsApart bytes kind body check → IsApart bytes kind' body' check'
     → (kind ≡ kind') × (body ≡ body') × (check ≡ check')
 one_apart bytes kind kind' body body' check check' p q =
     let both = sym p.spelled ∙ q.spelled in
-    let behind : big_bytes 4 (length body) ++ ((body ++ check) ++ p.rest) ≡ big_bytes 4 (length body') ++ ((body' ++ check') ++ q.rest) = ap (drop 1) both in
+    let behind : big_bytes 4 (length body) ++ ((body ++ check) ++ p.rest) ≡ big_bytes 4 (length body')
+    ++ ((body' ++ check') ++ q.rest) = ap (drop 1) both in
     let size = one_number 4 (length body) (length body') _ _ p.short q.short behind in
-    let bodies = same_front body body' (check ++ p.rest) (check' ++ q.rest) size.0 (sym (append_assoc body check p.rest) ∙ size.1 ∙ append_assoc body' check' q.rest) in
+    let bodies = same_front body body' (check ++ p.rest) (check' ++ q.rest) size.0
+    (sym (append_assoc body check p.rest) ∙ size.1 ∙ append_assoc body' check' q.rest) in
     let checks = same_front check check' p.rest q.rest (p.check_length ∙ sym q.check_length) bodies.1 in
     (one_code kind kind' (ap (λ (l : List ℕ). get_or l 0 0) both), bodies.0, checks.0)
 
 -- A frame that stands comes apart into its kind, its body and its check.
-pub spelled_apart : (file : FileKind) (number at : ℕ) (bytes : List ℕ) (kind : FrameKind) (body : List ℕ) → IsSpelled file number at bytes kind body → IsApart bytes kind body (check_of number at kind body)
+pub spelled_apart : (file : FileKind) (number at : ℕ) (bytes : List ℕ) (kind : FrameKind) (body : List ℕ)
+    → IsSpelled file number at bytes kind body → IsApart bytes kind body (check_of number at kind body)
 unfolding frame_bytes
-spelled_apart file number at bytes kind body s = record { short = s.short; check_length = length-check_of number at kind body; rest = s.rest; spelled = s.spelled }
+spelled_apart file number at bytes kind body s = record
+    { short = s.short; check_length = length-check_of number at kind body; rest = s.rest; spelled = s.spelled }
 
 -- At one place of one file no two frames stand at the front of the same bytes, and what stands behind the frame is the same.
 pub one_frame : (file : FileKind) (number at : ℕ) (bytes : List ℕ) (kind other_kind : FrameKind) (body other_body : List ℕ)

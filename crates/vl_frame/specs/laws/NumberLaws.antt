@@ -9,7 +9,8 @@ use Rattle.byteorder.specs.Numbers.{big_number-reads_back, length-bytes_high_fir
 pub one_number : (n a b : ℕ) (x y : List ℕ) → a < 256 ^ n → b < 256 ^ n → big_bytes n a ++ x ≡ big_bytes n b ++ y → (a ≡ b) × (x ≡ y)
 one_number n a b x y a-fits b-fits e =
     let number : a ≡ b = sym (big_number-reads_back n a x a-fits) ∙ ap (big_number n) e ∙ big_number-reads_back n b y b-fits in
-    let behind : x ≡ y = sym (drop_at (big_bytes n a) x n (length-bytes_high_first n a)) ∙ ap (drop n) e ∙ drop_at (big_bytes n b) y n (length-bytes_high_first n b) in
+    let behind : x ≡ y = sym (drop_at (big_bytes n a) x n (length-bytes_high_first n a)) ∙ ap (drop n) e
+    ∙ drop_at (big_bytes n b) y n (length-bytes_high_first n b) in
     (number, behind)
 
 -- As many bytes at the front of the same bytes are the same, and the same stands behind them.

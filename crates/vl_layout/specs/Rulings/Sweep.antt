@@ -1,5 +1,6 @@
 -- Retired files that no pin holds are removed.
-use Rattle.std.specs.Prelude.{ℕ, Bool, not, ◌&&◌, nat_lt, nat_le, ◌==◌, List, [], ◌∷◌, ◌++◌, map, length, take, Option, Some, None, true, false}
+use Rattle.std.specs.Prelude.{ℕ, Bool, not, ◌&&◌, nat_lt, nat_le, ◌==◌, List, [], ◌∷◌, ◌++◌, map, length, take}
+use Rattle.std.specs.Prelude.{Option, Some, None, true, false}
 use Rattle.std.specs.List.{filter, list_any}
 use Rattle.vl_model.specs.History.{History}
 use Rattle.vl_layout.specs.Ruling.{Ruling, leaving}

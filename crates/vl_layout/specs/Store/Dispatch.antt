@@ -31,8 +31,13 @@ use Rattle.vl_layout.specs.Rulings.Sweep as sweep
 use Rattle.vl_layout.specs.Rulings.Sweep.{SweepAnswer, sweep_ruling}
 use Rattle.vl_layout.specs.Start.{fresh_layout}
 use Rattle.vl_layout.specs.Store.Commits.{history_in}
-use Rattle.vl_layout.specs.Store.Lines.{Name, Line, Begin, View, Get, GetTagged, GetAt, Set, SetTagged, Delete, Scan, Commit, Drop, Rotate, Flush, Plan, Drain, Install, Pick, Batch, Move, Sweep, Stats, Keep, Answer, Done, Number, Taken, Unknown, Invalid, Full, Exhausted, Idle, Raced, Rejected, NoRewrite, Found, End, Moved, Removed, Segments, Halted}
-use Rattle.vl_layout.specs.Store.Reading.{answer_of, answer_with_tag, a_transaction, a_view, begin_as, get_by, get_at_by, scan_by, write_by, commit_by}
+use Rattle.vl_layout.specs.Store.Lines.{Name, Line, Begin, View, Get, GetTagged, GetAt, Set, SetTagged, Delete, Scan}
+use Rattle.vl_layout.specs.Store.Lines.{Commit, Drop, Rotate, Flush, Plan, Drain, Install, Pick, Batch, Move, Sweep}
+use Rattle.vl_layout.specs.Store.Lines.{Stats, Keep, Answer, Done, Number, Taken, Unknown, Invalid, Full, Exhausted}
+use Rattle.vl_layout.specs.Store.Lines.{Idle, Raced, Rejected, NoRewrite, Found, End, Moved, Removed, Segments}
+use Rattle.vl_layout.specs.Store.Lines.{Halted}
+use Rattle.vl_layout.specs.Store.Reading.{answer_of, answer_with_tag, a_transaction, a_view, begin_as, get_by}
+use Rattle.vl_layout.specs.Store.Reading.{get_at_by, scan_by, write_by, commit_by}
 use Rattle.vl_layout.specs.Store.Things.{Thing, ATransaction, AView, AJob, APass, State, Step, only, thing_of, with_thing, without_thing}
 use Rattle.vl_layout.specs.declared.job.Job.{Job}
 use Rattle.vl_layout.specs.declared.layout.Layout.{Layout}
@@ -68,8 +73,10 @@ made_of job numbers = record { tables = tables_made numbers (outputs job); leavi
 -- by what drawing a number answers; where it is refused the job ends, and its name is free
 abbrev pub filled : State → Layout → Made → ℕ → Step → FreshAnswer → Step
 filled s l made calls more (fresh.Drawn n) = more
-filled s l made calls more (fresh.Halted file) = record { answer = Halted file; state = record s { layout = job_ended made l }; calls = calls }
-filled s l made calls more (fresh.Exhausted c) = record { answer = Exhausted c; state = record s { layout = job_ended made l }; calls = calls }
+filled s l made calls more (fresh.Halted file) = record
+    { answer = Halted file; state = record s { layout = job_ended made l }; calls = calls }
+filled s l made calls more (fresh.Exhausted c) = record
+    { answer = Exhausted c; state = record s { layout = job_ended made l }; calls = calls }
 
 -- a job draws a number for each table, and fills it
 abbrev pub fill : State → Name → Job → Layout → List (List Entry) → List ℕ → ℕ → Step

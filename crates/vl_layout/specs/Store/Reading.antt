@@ -17,7 +17,9 @@ use Rattle.vl_layout.specs.Rulings.Begin.{BeginAnswer, begin_ruling}
 use Rattle.vl_layout.specs.Rulings.Commit as commit
 use Rattle.vl_layout.specs.Rulings.Commit.{Transaction, CommitAnswer, commit_unless}
 use Rattle.vl_layout.specs.Store.Commits.{Changes, history_in, with_changes, value_in, rows_in, at_answer_in, conflict_in}
-use Rattle.vl_layout.specs.Store.Lines.{Name, Answer, Done, Number, Value, ValueTagged, NoValue, Dropped, Rows, Taken, Unknown, ReadOnly, Invalid, TooBig, TooMany, Nothing, Conflict, Full, Exhausted, Halted}
+use Rattle.vl_layout.specs.Store.Lines.{Name, Answer, Done, Number, Value, ValueTagged, NoValue, Dropped, Rows, Taken}
+use Rattle.vl_layout.specs.Store.Lines.{Unknown, ReadOnly, Invalid, TooBig, TooMany, Nothing, Conflict, Full}
+use Rattle.vl_layout.specs.Store.Lines.{Exhausted, Halted}
 use Rattle.vl_layout.specs.Store.Things.{Thing, ATransaction, AView, AJob, APass, State, Step, only, with_thing, without_thing}
 
 -- ---- begin and view
@@ -138,7 +140,8 @@ write_by s name key change (Some (AView v b)) = only ReadOnly s
 write_by s name key change (Some (ATransaction t b)) =
     let writes = put key_cmp key change t.writes in
     if not (is_key_length (length key) && is_value_length log_format (length (value_bytes change))) then only Invalid s
-    else (if is_small_enough writes then record { answer = Done; state = with_thing s s.layout name (ATransaction (record t { writes = writes }) b); calls = 0 }
+    else (if is_small_enough writes then record
+    { answer = Done; state = with_thing s s.layout name (ATransaction (record t { writes = writes }) b); calls = 0 }
     else only TooBig s)
 
 -- ---- commits

@@ -1,5 +1,6 @@
 -- The entries of a commit in front of the sources show the history with that commit.
-use Rattle.std.proofs.Common.{◌≡◌, ℕ, ◌+◌, ◌≤◌, ◌<◌, Bool, true, false, cond, ◌&&◌, List, [], ◌∷◌, ◌++◌, map, refl, ap, sym, ◌∙◌, subst, arith, ⊎_elim, zero-add}
+use Rattle.std.proofs.Common.{◌≡◌, ℕ, ◌+◌, ◌≤◌, ◌<◌, Bool, true, false, cond, ◌&&◌, List, [], ◌∷◌, ◌++◌, map, refl}
+use Rattle.std.proofs.Common.{ap, sym, ◌∙◌, subst, arith, ⊎_elim, zero-add}
 use Rattle.std.proofs.lemmas.Bool.{cases_lt}
 use Rattle.std.proofs.lemmas.Bool.Decides.{nat_tests}
 use Rattle.std.specs.Prelude.{T, Option, Some, None, nat_le, ◌==◌, if◌then◌else◌}
@@ -78,7 +79,8 @@ found_later : (w : List ℕ × Change) (all ws : List (List ℕ × Change)) → 
     → AreFound all ws → AreFound (w ∷ all) ws
 found_later w all [] below found = tt
 found_later w all (v ∷ vs) below found = (
-  ap (λ b. cond b (Some w.1) (find key_cmp v.0 all)) (apart_from w.0 v.0 (first_part (is_lt (key_cmp w.0 v.0)) (below_all key_cmp w.0 vs) below)) ∙ found.0,
+  ap (λ b. cond b (Some w.1) (find key_cmp v.0 all))
+      (apart_from w.0 v.0 (first_part (is_lt (key_cmp w.0 v.0)) (below_all key_cmp w.0 vs) below)) ∙ found.0,
   found_later w all vs (second_part (is_lt (key_cmp w.0 v.0)) (below_all key_cmp w.0 vs) below) found.1,
 )
 
@@ -86,7 +88,8 @@ pub all_found : (ws : List (List ℕ × Change)) → T (is_sorted key_cmp ws) �
 all_found [] rising = tt
 all_found (w ∷ ws) rising = (
   find_first w ws,
-  found_later w ws ws (first_part (below_all key_cmp w.0 ws) (is_sorted key_cmp ws) rising) (all_found ws (second_part (below_all key_cmp w.0 ws) (is_sorted key_cmp ws) rising)),
+  found_later w ws ws (first_part (below_all key_cmp w.0 ws) (is_sorted key_cmp ws) rising)
+      (all_found ws (second_part (below_all key_cmp w.0 ws) (is_sorted key_cmp ws) rising)),
 )
 
 -- ---- a commit's winners
@@ -99,7 +102,9 @@ module _ (format segment number : ℕ) where
   early key n place (w ∷ ws) lt =
       let not_yet : nat_le number n ≡ false = grind (arith, nat_tests) in
       let first : Entry = record_entry format segment (record { key = w.0; version = number; change = w.1; place = place }) in
-      ap (λ b. newest_of (only_if b first) (winner (committed_entries format segment (place + record_length format w.0 w.1) number ws) key n)) (neither (eq_by_cmp key_cmp key w.0) (nat_le number n) not_yet)
+      ap (λ b. newest_of (only_if b first)
+      (winner (committed_entries format segment (place + record_length format w.0 w.1) number ws) key n))
+      (neither (eq_by_cmp key_cmp key w.0) (nat_le number n) not_yet)
       ∙ early key n (place + record_length format w.0 w.1) ws lt
     where
       neither : (a b : Bool) → b ≡ false → (a && b) ≡ false
@@ -116,7 +121,8 @@ module _ (format segment number : ℕ) where
   late : (logs : Logs) (key : List ℕ) (n place : ℕ) (ws : List (List ℕ × Change)) → number ≤ n
       → IsNamed logs (winner (committed_entries format segment place number ws) key n) (find key_cmp key ws)
   late logs key n place [] le = tt
-  late logs key n place (w ∷ ws) le = by_test (eq_by_cmp key_cmp key w.0) refl (late logs key n (place + record_length format w.0 w.1) ws le)
+  late logs key n place (w ∷ ws) le = by_test (eq_by_cmp key_cmp key w.0) refl
+      (late logs key n (place + record_length format w.0 w.1) ws le)
     where
       first : Entry
       first = record_entry format segment (record { key = w.0; version = number; change = w.1; place = place })
@@ -131,16 +137,23 @@ module _ (format segment number : ℕ) where
           → newest_of (Some first) r ≡ Some first
       newest None c is = refl
       newest (Some f) None is = absurd is
-      newest (Some f) (Some c) is = let v = is.0 in let t : nat_le f.version number ≡ true = grind (arith, nat_tests) in ap (λ b. cond b (Some first) (Some f)) t
+      newest (Some f) (Some c) is = let v = is.0 in let t : nat_le f.version number ≡ true = grind (arith, nat_tests)
+          in ap (λ b. cond b (Some first) (Some f)) t
 
       by_test : (b : Bool) → eq_by_cmp key_cmp key w.0 ≡ b → IsNamed logs rest (find key_cmp key ws)
           → IsNamed logs (newest_of (only_if (eq_by_cmp key_cmp key w.0 && nat_le number n) first) rest) (find key_cmp key (w ∷ ws))
       by_test true is later =
-          subst (λ b. IsNamed logs (newest_of (only_if (b && nat_le number n) first) rest) (cond b (Some w.1) (find key_cmp key ws))) (sym is)
+          subst (λ b. IsNamed logs (newest_of (only_if (b && nat_le number n) first) rest)
+          (cond b (Some w.1) (find key_cmp key ws))) (sym is)
           (subst (λ b. IsNamed logs (newest_of (only_if b first) rest) (Some w.1)) (sym counted)
-          (subst (λ r. IsNamed logs r (Some w.1)) (sym (newest rest (find key_cmp key ws) later)) (refl, logged_leads logs w.0 w.1 (pointer_to format segment (record { key = w.0; version = number; change = w.1; place = place })))))
+          (subst (λ r. IsNamed logs r (Some w.1)) (sym (newest rest (find key_cmp key ws) later)) (
+            refl,
+            logged_leads logs w.0 w.1
+                (pointer_to format segment (record { key = w.0; version = number; change = w.1; place = place })),
+          )))
       by_test false is later =
-          subst (λ b. IsNamed logs (newest_of (only_if (b && nat_le number n) first) rest) (cond b (Some w.1) (find key_cmp key ws))) (sym is) later
+          subst (λ b. IsNamed logs (newest_of (only_if (b && nat_le number n) first) rest)
+          (cond b (Some w.1) (find key_cmp key ws))) (sym is) later
 
 -- ---- winners of older entries
 
@@ -154,13 +167,15 @@ either_at_most : (last : ℕ) (a b : Option Entry) → IsAtMost last a → IsAtM
     → IsAtMost last (newest_of a b)
 either_at_most last None b p q = q
 either_at_most last (Some e) None p q = p
-either_at_most last (Some e) (Some f) p q = elim (nat_le f.version e.version) as (λ t. IsAtMost last (cond t (Some e) (Some f))) [ true ↦ p | false ↦ q ]
+either_at_most last (Some e) (Some f) p q = elim (nat_le f.version e.version) as
+    (λ t. IsAtMost last (cond t (Some e) (Some f))) [ true ↦ p | false ↦ q ]
 
 winner_at_most : (last n : ℕ) (key : List ℕ) (es : List Entry) → AreUpTo last es
     → IsAtMost last (winner es key n)
 winner_at_most last n key [] up = tt
 winner_at_most last n key (e ∷ es) up =
-    either_at_most last (only_if (counts key n e) e) (winner es key n) (elim (counts key n e) as (λ t. IsAtMost last (only_if t e)) [ true ↦ up.0 | false ↦ tt ]) (winner_at_most last n key es up.1)
+    either_at_most last (only_if (counts key n e) e) (winner es key n)
+    (elim (counts key n e) as (λ t. IsAtMost last (only_if t e)) [ true ↦ up.0 | false ↦ tt ]) (winner_at_most last n key es up.1)
 
 pub same_from : (last n : ℕ) (key : List ℕ) (es : List Entry) → AreUpTo last es → last ≤ n
     → winner es key n ≡ winner es key last
@@ -169,7 +184,8 @@ same_from last n key (e ∷ es) up le =
     let below = up.0 in
     let here : nat_le e.version n ≡ true = grind (arith, nat_tests) in
     let there : nat_le e.version last ≡ true = grind (arith, nat_tests) in
-    ap (λ b. newest_of (only_if (eq_by_cmp key_cmp key e.key && b) e) (winner es key n)) (here ∙ sym there) ∙ ap (newest_of (only_if (counts key last e) e)) (same_from last n key es up.1 le)
+    ap (λ b. newest_of (only_if (eq_by_cmp key_cmp key e.key && b) e) (winner es key n)) (here ∙ sym there)
+    ∙ ap (newest_of (only_if (counts key last e) e)) (same_from last n key es up.1 le)
 
 -- ---- how often a key and version stand
 
@@ -193,8 +209,11 @@ module _ (format segment number : ℕ) (key : List ℕ) (version : ℕ) where
       → times key version (committed_entries format segment place number ws) ≡ 0
   times_other place [] apart = refl
   times_other place (w ∷ ws) apart =
-      ap (λ b. cond b 1 0 + times key version (committed_entries format segment (place + record_length format w.0 w.1) number ws)) (neither (eq_by_cmp key_cmp key w.0) (number == version) apart)
-      ∙ zero-add (times key version (committed_entries format segment (place + record_length format w.0 w.1) number ws)) ∙ times_other (place + record_length format w.0 w.1) ws apart
+      ap (λ b. cond b 1 0 + times key version
+      (committed_entries format segment (place + record_length format w.0 w.1) number ws))
+      (neither (eq_by_cmp key_cmp key w.0) (number == version) apart)
+      ∙ zero-add (times key version (committed_entries format segment (place + record_length format w.0 w.1) number ws))
+      ∙ times_other (place + record_length format w.0 w.1) ws apart
     where
       neither : (a b : Bool) → b ≡ false → (a && b) ≡ false
       neither true b e = e
@@ -204,9 +223,11 @@ module _ (format segment number : ℕ) (key : List ℕ) (version : ℕ) where
       → times key version (committed_entries format segment place number ws) ≡ 0
   below_none place [] below = refl
   below_none place (w ∷ ws) below =
-      ap (λ b. cond (b && (number == version)) 1 0 + times key version (committed_entries format segment (place + record_length format w.0 w.1) number ws))
+      ap (λ b. cond (b && (number == version)) 1 0 + times key version
+      (committed_entries format segment (place + record_length format w.0 w.1) number ws))
       (not_tied (key_cmp key w.0) (first_part (is_lt (key_cmp key w.0)) (below_all key_cmp key ws) below))
-      ∙ zero-add (times key version (committed_entries format segment (place + record_length format w.0 w.1) number ws)) ∙ below_none (place + record_length format w.0 w.1) ws (second_part (is_lt (key_cmp key w.0)) (below_all key_cmp key ws) below)
+      ∙ zero-add (times key version (committed_entries format segment (place + record_length format w.0 w.1) number ws))
+      ∙ below_none (place + record_length format w.0 w.1) ws (second_part (is_lt (key_cmp key w.0)) (below_all key_cmp key ws) below)
 
   -- no key comes twice in a commit
   once : (place : ℕ) (ws : List (List ℕ × Change)) → T (is_sorted key_cmp ws)
@@ -227,8 +248,11 @@ module _ (format segment number : ℕ) (key : List ℕ) (version : ℕ) where
           → cond (eq_by_cmp key_cmp key w.0 && (number == version)) 1 0 + rest ≤ 1
       by_test false is later = subst (λ b. cond (b && (number == version)) 1 0 + rest ≤ 1) (sym is) (omega (arith, later))
       by_test true is later =
-          let none : rest ≡ 0 = below_none (place + record_length format w.0 w.1) ws (subst (λ (k : List ℕ). T (below_all key_cmp k ws)) (sym (same_key key w.0 is)) (first_part (below_all key_cmp w.0 ws) (is_sorted key_cmp ws) rising)) in
-          subst (λ n. cond (eq_by_cmp key_cmp key w.0 && (number == version)) 1 0 + n ≤ 1) (sym none) (one_at_most (eq_by_cmp key_cmp key w.0 && (number == version)))
+          let none : rest ≡ 0 = below_none (place + record_length format w.0 w.1) ws
+          (subst (λ (k : List ℕ). T (below_all key_cmp k ws)) (sym (same_key key w.0 is))
+          (first_part (below_all key_cmp w.0 ws) (is_sorted key_cmp ws) rising)) in
+          subst (λ n. cond (eq_by_cmp key_cmp key w.0 && (number == version)) 1 0 + n ≤ 1) (sym none)
+          (one_at_most (eq_by_cmp key_cmp key w.0 && (number == version)))
 
 -- ---- the history with the commit
 
@@ -254,14 +278,18 @@ module _ (logs : Logs) (es : List Entry) (h : History) (from : List ℕ → ℕ)
   old_mean : (meaning : Meaning) (fs : List Entry) → AreUpTo (last_number h) fs
       → AllByRecursion (Means logs meaning) fs → AllByRecursion (Means logs (meant meaning)) fs
   old_mean meaning [] up all = tt
-  old_mean meaning (f ∷ fs) up all = (all.0 ∙ ap Some (sym (older meaning f.key f.version (not_new f.version up.0))), old_mean meaning fs up.1 all.1)
+  old_mean meaning (f ∷ fs) up
+      all = (all.0 ∙ ap Some (sym (older meaning f.key f.version (not_new f.version up.0))), old_mean meaning fs up.1 all.1)
 
   new_mean : (meaning : Meaning) (at : ℕ) (ws : List (List ℕ × Change))
       → AreFound (entries writes) ws
       → AllByRecursion (Means logs (meant meaning)) (committed_entries format segment at (last_number h + 1) ws)
   new_mean meaning at [] found = tt
-  new_mean meaning at (w ∷ ws) found =
-      (logged_leads logs w.0 w.1 _ ∙ ap Some (sym (newer meaning w.0 ∙ ap change_meant found.0)), new_mean meaning (at + record_length format w.0 w.1) ws found.1)
+  new_mean meaning at (w ∷ ws) found = (
+    logged_leads logs w.0 w.1 _ ∙ ap Some (sym (newer meaning w.0 ∙ ap change_meant found.0)),
+    new_mean meaning
+        (at + record_length format w.0 w.1) ws found.1,
+  )
 
   at_last : (o : Option Change) (new old : Option Entry) (value : Option Stored)
       → IsNamed format segment (last_number h + 1) logs new o → IsAtMost (last_number h) old
@@ -273,9 +301,11 @@ module _ (logs : Logs) (es : List Entry) (h : History) (from : List ℕ → ℕ)
   at_last (Some (Set v)) (Some e) None value named up leads = named.1
   at_last (Some Delete) (Some e) None value named up leads = named.1
   at_last (Some (Set v)) (Some e) (Some f) value named up leads =
-      let n = named.0 in let t : nat_le f.version e.version ≡ true = grind (arith, nat_tests) in ap (λ b. resolved_at logs (cond b (Some e) (Some f))) t ∙ named.1
+      let n = named.0 in let t : nat_le f.version e.version ≡ true = grind (arith, nat_tests) in ap
+      (λ b. resolved_at logs (cond b (Some e) (Some f))) t ∙ named.1
   at_last (Some Delete) (Some e) (Some f) value named up leads =
-      let n = named.0 in let t : nat_le f.version e.version ≡ true = grind (arith, nat_tests) in ap (λ b. resolved_at logs (cond b (Some e) (Some f))) t ∙ named.1
+      let n = named.0 in let t : nat_le f.version e.version ≡ true = grind (arith, nat_tests) in ap
+      (λ b. resolved_at logs (cond b (Some e) (Some f))) t ∙ named.1
 
   new : List Entry
   new = committed_entries format segment place (last_number h + 1) (entries writes)
@@ -287,7 +317,8 @@ module _ (logs : Logs) (es : List Entry) (h : History) (from : List ℕ → ℕ)
   unfolding new
   alone meaning up few key version none = by_test (version == last_number h + 1) refl
     where
-      both : times key version (committed_entries format segment place (last_number h + 1) (entries writes) ++ es) ≡ times key version (committed_entries format segment place (last_number h + 1) (entries writes)) + times key version es
+      both : times key version (committed_entries format segment place (last_number h + 1) (entries writes) ++ es) ≡
+          times key version (committed_entries format segment place (last_number h + 1) (entries writes)) + times key version es
       both = times-append key version (committed_entries format segment place (last_number h + 1) (entries writes)) es
 
       by_test : (b : Bool) → (version == last_number h + 1) ≡ b
@@ -305,7 +336,8 @@ module _ (logs : Logs) (es : List Entry) (h : History) (from : List ℕ → ℕ)
 
   pub shows_committed : AreUpTo (last_number h) es → ((key : List ℕ) → from key ≤ last_number h)
       → Shows logs es h from (last_number h)
-      → Shows logs (committed_entries format segment place (last_number h + 1) (entries writes) ++ es) (with_commit h writes) from (last_number h + 1)
+      → Shows logs (committed_entries format segment place (last_number h + 1) (entries writes) ++ es)
+      (with_commit h writes) from (last_number h + 1)
   unfolding new
   shows_committed up begins shows = record {
     values = λ key n low high. ⊎_elim
@@ -316,14 +348,20 @@ module _ (logs : Logs) (es : List Entry) (h : History) (from : List ℕ → ℕ)
         (λ (there : last_number h + 1 ≤ n).
         let is : n ≡ last_number h + 1 = omega arith in
         let old_is : resolved_at logs (winner es key n) ≡ Some (value_at h (last_number h) key) =
-        ap (resolved_at logs) (same_from (last_number h) n key es up (omega arith)) ∙ shows.values key (last_number h) (begins key) (omega arith) in
+        ap (resolved_at logs) (same_from (last_number h) n key es up (omega arith))
+        ∙ shows.values key (last_number h) (begins key) (omega arith) in
         ap (resolved_at logs) (winner-append key n (committed_entries format segment place (last_number h + 1) (entries writes)) es)
-        ∙ at_last (find key_cmp key (entries writes)) (winner (committed_entries format segment place (last_number h + 1) (entries writes)) key n) (winner es key n) (value_at h (last_number h) key)
-        (late format segment (last_number h + 1) logs key n place (entries writes) there) (winner_at_most (last_number h) n key es up) old_is
-        ∙ ap Some (ap (value_left (value_at h (last_number h) key)) (sym (get-entries writes key)) ∙ sym (value_at-with_commit h writes key) ∙ ap (λ m. value_at (with_commit h writes) m key) (sym is)))
+        ∙ at_last (find key_cmp key (entries writes))
+        (winner (committed_entries format segment place (last_number h + 1) (entries writes)) key n) (winner es key n)
+        (value_at h (last_number h) key)
+        (late format segment (last_number h + 1) logs key n place (entries writes) there)
+        (winner_at_most (last_number h) n key es up) old_is
+        ∙ ap Some (ap (value_left (value_at h (last_number h) key)) (sym (get-entries writes key))
+        ∙ sym (value_at-with_commit h writes key) ∙ ap (λ m. value_at (with_commit h writes) m key) (sym is)))
         (cases_lt n (last_number h + 1));
     meaning = meant shows.meaning;
     resolves = all_both (Means logs (meant shows.meaning)) (committed_entries format segment place (last_number h + 1) (entries writes)) es
-        (new_mean shows.meaning place (entries writes) (all_found (entries writes) (entries_sorted writes))) (old_mean shows.meaning es up shows.resolves);
+        (new_mean shows.meaning place (entries writes) (all_found (entries writes) (entries_sorted writes)))
+        (old_mean shows.meaning es up shows.resolves);
     gone_once = alone shows.meaning up shows.gone_once;
   }

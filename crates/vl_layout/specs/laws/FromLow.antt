@@ -1,5 +1,6 @@
 -- From the least number on at which a key can be read, a merge that keeps so many versions may be seen.
-use Rattle.std.proofs.Common.{◌≡◌, ◌⊎◌, ⊎_elim, ℕ, zero, suc, ◌+◌, ◌≤◌, ◌<◌, Bool, true, false, cond, ◌&&◌, ◌||◌, List, [], ◌∷◌, map, refl, ap, sym, ◌∙◌, subst, arith}
+use Rattle.std.proofs.Common.{◌≡◌, ◌⊎◌, ⊎_elim, ℕ, zero, suc, ◌+◌, ◌≤◌, ◌<◌, Bool, true, false, cond, ◌&&◌, ◌||◌}
+use Rattle.std.proofs.Common.{List, [], ◌∷◌, map, refl, ap, sym, ◌∙◌, subst, arith}
 use Rattle.std.proofs.lemmas.Bool.{and_parts, and_from, cases_lt}
 use Rattle.std.proofs.lemmas.Bool.Decides.{nat_tests}
 use Rattle.std.specs.Prelude.{min, Option, Some, None, nat_le, nat_lt, ◌==◌}
@@ -25,7 +26,10 @@ pub has-versions_in : (key : List ℕ) (version : ℕ) (es : List Entry)
     → has version (versions_in es key) ≡ list_any (is_at key version) es
 has-versions_in key version [] = refl
 has-versions_in key version (e ∷ es) =
-    elim (eq_by_cmp key_cmp key e.key) as (λ b. has version (map (λ (x : Entry). x.version) (cond b (e ∷ filter (λ (x : Entry). eq_by_cmp key_cmp key x.key) es) (filter (λ (x : Entry). eq_by_cmp key_cmp key x.key) es))) ≡ ((b && (e.version == version)) || list_any (is_at key version) es)) [
+    elim (eq_by_cmp key_cmp key e.key) as
+    (λ b. has version (map (λ (x : Entry). x.version)
+    (cond b (e ∷ filter (λ (x : Entry). eq_by_cmp key_cmp key x.key) es)
+    (filter (λ (x : Entry). eq_by_cmp key_cmp key x.key) es))) ≡ ((b && (e.version == version)) || list_any (is_at key version) es)) [
       | true ↦ ap (λ b. (e.version == version) || b) (has-versions_in key version es)
       | false ↦ has-versions_in key version es
     ]
@@ -52,9 +56,12 @@ passes_next numbers m n (Some w) less there p = by_reached (greatest_below w num
 module _ (inputs : List Entry) (floor : ℕ) (key : List ℕ) where
   -- an entry above that counts, and from which one version less is asked
   pub next_above : (keep : ℕ) (e : Entry) → e.key ≡ key → is_outdated (suc keep) inputs floor e ≡ true
-      → (f : Entry) × (f.key ≡ key) × (f.version ≤ floor) × (e.version < f.version) × (is_outdated keep inputs floor f ≡ true) × IsIn inputs f
+      → (f : Entry) × (f.key ≡ key) × (f.version ≤ floor) × (e.version < f.version)
+      × (is_outdated keep inputs floor f ≡ true) × IsIn inputs f
   next_above keep e keys outdated =
-      let f = picked (IsIn inputs) (λ (g : Entry). is_outdated keep inputs floor g && (counts e.key floor g && nat_lt e.version g.version)) inputs (members inputs) outdated in
+      let f = picked (IsIn inputs)
+      (λ (g : Entry). is_outdated keep inputs floor g && (counts e.key floor g && nat_lt e.version g.version)) inputs
+      (members inputs) outdated in
       let both = and_parts (is_outdated keep inputs floor f.0) (counts e.key floor f.0 && nat_lt e.version f.0.version) f.1 in
       let rest = and_parts (counts e.key floor f.0) (nat_lt e.version f.0.version) both.1 in
       let parts = counts_parts e.key floor f.0 rest.0 in
@@ -67,7 +74,8 @@ module _ (inputs : List Entry) (floor : ℕ) (key : List ℕ) where
   outdated_passes zero e keys up outdated = omega (arith, up)
   outdated_passes (suc keep) e keys up outdated =
       let f = next_above keep e keys outdated in
-      passes_next (versions_in inputs key) e.version f.0.version (nth_below (versions_in inputs key) (floor + 1) keep) f.3 (in_versions key inputs f.0 (sym f.1) f.5)
+      passes_next (versions_in inputs key) e.version f.0.version (nth_below (versions_in inputs key) (floor + 1) keep)
+      f.3 (in_versions key inputs f.0 (sym f.1) f.5)
       (outdated_passes keep f.0 f.1 f.2 f.4)
 
 -- below the floor a number from low on is at least since and the v-th newest version, and v isn't 1
@@ -109,24 +117,28 @@ past_low (suc keep) some inputs floor key numbers among now v since up kept numb
 
     fewer : number < floor → v ≤ suc keep
     fewer less = ⊎_elim (λ (few : v ≤ suc keep). few)
-        (λ (old : floor ≤ since). let b = (below less).1 in let s = since_low since (nth_below numbers (now + 1) v) in absurd (omega (arith, old, b, s, less))) kept
+        (λ (old : floor ≤ since). let b = (below less).1 in let s = since_low since (nth_below numbers (now + 1) v)
+        in absurd (omega (arith, old, b, s, less))) kept
 
     not_one : suc keep ≡ 1 → number < floor → ⊥
     not_one one less = by_v v refl
       where
         by_v : (w : ℕ) → v ≡ w → ⊥
-        by_v zero is = let b = subst (λ (k : ℕ). at_least since (nth_below numbers (now + 1) k) ≤ number) is (below less).1 in omega (arith, b, less, up)
+        by_v zero is = let b = subst (λ (k : ℕ). at_least since (nth_below numbers (now + 1) k) ≤ number) is
+            (below less).1 in omega (arith, b, less, up)
         by_v (suc w) is = let few = fewer less in let other = (below less).0 in grind (arith, nat_tests, few, other, is, one)
 
     -- an entry of the key that counts there, and is newer
     there : (e f : Entry) → f.key ≡ key → f.version ≤ number → e.version < f.version → IsIn inputs f
         → list_any (λ (g : Entry). counts key number g && nat_lt e.version g.version) inputs ≡ true
     there e f keys counted less within =
-        let tied : eq_by_cmp key_cmp key f.key ≡ true = ap (λ k. eq_by_cmp key_cmp k f.key) (sym keys) ∙ (and_parts (eq_by_cmp key_cmp f.key f.key) (f.version == f.version) (is_at-itself f)).0 in
+        let tied : eq_by_cmp key_cmp key f.key ≡ true = ap (λ k. eq_by_cmp key_cmp k f.key) (sym keys)
+        ∙ (and_parts (eq_by_cmp key_cmp f.key f.key) (f.version == f.version) (is_at-itself f)).0 in
         let low : nat_le f.version number ≡ true = grind (arith, nat_tests) in
         let more : nat_lt e.version f.version ≡ true = grind (arith, nat_tests) in
         within (λ (g : Entry). counts key number g && nat_lt e.version g.version)
-        (and_from (counts key number f) (nat_lt e.version f.version) (and_from (eq_by_cmp key_cmp key f.key) (nat_le f.version number) tied low) more)
+        (and_from (counts key number f) (nat_lt e.version f.version)
+        (and_from (eq_by_cmp key_cmp key f.key) (nat_le f.version number) tied low) more)
 
     here : (e : Entry) → e.key ≡ key → is_outdated (suc keep) inputs floor e ≡ true → floor ≤ number
         → list_any (λ (g : Entry). counts key number g && nat_lt e.version g.version) inputs ≡ true
@@ -141,9 +153,11 @@ past_low (suc keep) some inputs floor key numbers among now v since up kept numb
         let f = next_above inputs floor key keep e keys outdated in
         let up_f = f.2 in
         let more = f.3 in
-        by_found (nth_below (versions_in inputs key) (floor + 1) (suc keep)) (outdated_passes inputs floor key (suc keep) e keys (omega (arith, up_f, more)) outdated)
+        by_found (nth_below (versions_in inputs key) (floor + 1) (suc keep))
+        (outdated_passes inputs floor key (suc keep) e keys (omega (arith, up_f, more)) outdated)
         (found (nth_below (versions_in inputs key) (floor + 1) keep))
-        (risen (nth_below (versions_in inputs key) (floor + 1) (suc keep)) (nth_below numbers (now + 1) (suc keep)) (nth_below numbers (now + 1) v)
+        (risen (nth_below (versions_in inputs key) (floor + 1) (suc keep)) (nth_below numbers (now + 1) (suc keep))
+        (nth_below numbers (now + 1) v)
         (nth-risen (versions_in inputs key) numbers among (floor + 1) (now + 1) (suc keep) (omega (arith, up)))
         (nth-fewer_than numbers (now + 1) v (suc keep) (fewer less)))
       where

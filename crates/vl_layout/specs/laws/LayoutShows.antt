@@ -1,6 +1,7 @@
 -- The rulings that change sources keep what these show: a rotation, a commit, a flush and a
 -- relocation.
-use Rattle.std.proofs.Common.{◌≡◌, ℕ, ◌+◌, ◌≤◌, Bool, true, false, ◌||◌, List, [], ◌∷◌, ◌++◌, map, refl, ap, sym, ◌∙◌, subst, arith, append_assoc}
+use Rattle.std.proofs.Common.{◌≡◌, ℕ, ◌+◌, ◌≤◌, Bool, true, false, ◌||◌, List, [], ◌∷◌, ◌++◌, map, refl, ap, sym, ◌∙◌}
+use Rattle.std.proofs.Common.{subst, arith, append_assoc}
 use Rattle.std.proofs.lemmas.List.Sums.{sum_by-cons}
 use Rattle.std.specs.Prelude.{Option, Some}
 use Rattle.std.specs.FinMap.{entries}
@@ -18,7 +19,8 @@ use Rattle.vl_model.specs.declared.log_frame.LogFrame.TheVariants.{Relocated}
 use Rattle.vl_model.specs.declared.log_frame.Moved.{Moved}
 use Rattle.vl_layout.specs.laws.CommitShows.{shows_committed}
 use Rattle.vl_layout.specs.Levels.{in_front}
-use Rattle.vl_layout.specs.Logs.{LogRecord, record_entry, records_from, relocated_records, frame_entries, frame_records, logged_entries, memtable}
+use Rattle.vl_layout.specs.Logs.{LogRecord, record_entry, records_from, relocated_records, frame_entries}
+use Rattle.vl_layout.specs.Logs.{frame_records, logged_entries, memtable}
 use Rattle.vl_layout.specs.laws.OrderShows.{shows_taken_in}
 use Rattle.vl_layout.specs.laws.RelocationShows.{shows_moved}
 use Rattle.vl_layout.specs.Ruling.{logged, ended}
@@ -62,11 +64,13 @@ records_from-more format place [] f = nothing_behind (frame_records format place
     nothing_behind (r ∷ rs) = ap (λ xs. r ∷ xs) (nothing_behind rs)
 records_from-more format place (g ∷ gs) f =
     ap (λ rs. frame_records format place g ++ rs) (records_from-more format (place + frame_length format g) gs f)
-    ∙ sym (append_assoc (frame_records format place g) (records_from format (place + frame_length format g) gs) (frame_records format (place_behind format (place + frame_length format g) gs) f))
+    ∙ sym (append_assoc (frame_records format place g) (records_from format (place + frame_length format g) gs)
+    (frame_records format (place_behind format (place + frame_length format g) gs) f))
 
 -- a frame behind the others has its entries in front of theirs
 pub logged_entries-more : (format segment place : ℕ) (fs : List LogFrame) (f : LogFrame)
-    → logged_entries format segment place (fs ++ f ∷ []) ≡ frame_entries format segment (place_behind format place fs) f ++ logged_entries format segment place fs
+    → logged_entries format segment place (fs ++ f ∷ []) ≡ frame_entries format segment (place_behind format place fs) f
+    ++ logged_entries format segment place fs
 logged_entries-more format segment place [] f = nothing_behind (frame_entries format segment place f)
   where
     nothing_behind : (es : List Entry) → es ≡ es ++ []
@@ -74,7 +78,8 @@ logged_entries-more format segment place [] f = nothing_behind (frame_entries fo
     nothing_behind (e ∷ es) = ap (λ xs. e ∷ xs) (nothing_behind es)
 logged_entries-more format segment place (g ∷ gs) f =
     ap (λ es. es ++ frame_entries format segment place g) (logged_entries-more format segment (place + frame_length format g) gs f)
-    ∙ append_assoc (frame_entries format segment (place_behind format (place + frame_length format g) gs) f) (logged_entries format segment (place + frame_length format g) gs) (frame_entries format segment place g)
+    ∙ append_assoc (frame_entries format segment (place_behind format (place + frame_length format g) gs) f)
+    (logged_entries format segment (place + frame_length format g) gs) (frame_entries format segment place g)
 
 -- the entries that a frame adds to the active memtable
 abbrev pub added : Layout → LogFrame → List Entry
@@ -86,7 +91,8 @@ module _ (logs : Logs) (l : Layout) (f : LogFrame) (h : History) (from : List �
       → Shows logs (sources (logged f l)) h from to
   shows_logged shows =
       let old = logged_entries l.active.format l.active.number 16 l.active.frames in
-      subst (λ es. Shows logs (in_order es ++ behind_active l) h from to) (sym (logged_entries-more l.active.format l.active.number 16 l.active.frames f))
+      subst (λ es. Shows logs (in_order es ++ behind_active l) h from to)
+      (sym (logged_entries-more l.active.format l.active.number 16 l.active.frames f))
       (shows_taken_in logs (added l f) old (behind_active l) h from to
       (subst (λ es. Shows logs es h from to) (sym (append_assoc (added l f) (in_order old) (behind_active l))) shows))
 
@@ -98,7 +104,8 @@ pub commit_shows : (logs : Logs) (l : Layout) (ticket : ℕ) (h : History) (writ
     → Shows logs (sources (logged (commit_frame h (entries writes)) (ended ticket l))) (with_commit h writes) from (last_number h + 1)
 commit_shows logs l ticket h writes from up begins shows =
     shows_logged logs (ended ticket l) (commit_frame h (entries writes)) (with_commit h writes) from (last_number h + 1)
-    (shows_committed logs (sources l) h from writes l.active.format l.active.number (place_behind l.active.format 16 l.active.frames + 17) up begins shows)
+    (shows_committed logs (sources l) h from writes l.active.format l.active.number
+    (place_behind l.active.format 16 l.active.frames + 17) up begins shows)
 
 -- ---- a flush
 
@@ -145,13 +152,19 @@ module _ (logs : Logs) (l : Layout) (s : Segment) (h : History) (from : List ℕ
       → sources l ≡ memtable l.active ++ (flat_map memtable (but_oldest l.frozen) ++ (memtable s ++ flat_map table_entries (tables l)))
   flush_parts waits level deeper are =
       ap (λ es. memtable l.active ++ (es ++ flat_map table_entries (tables l))) (frozen_parts l.frozen s waits)
-      ∙ ap (λ es. memtable l.active ++ es) (append_assoc (flat_map memtable (but_oldest l.frozen)) (memtable s) (flat_map table_entries (tables l)))
+      ∙ ap (λ es. memtable l.active ++ es)
+      (append_assoc (flat_map memtable (but_oldest l.frozen)) (memtable s) (flat_map table_entries (tables l)))
 
   flushed_parts : (level : List Table) (deeper : List (List Table)) → l.levels ≡ level ∷ deeper
-      → sources (flushed l s) ≡ memtable l.active ++ (flat_map memtable (but_oldest l.frozen) ++ (map placed (memtable s) ++ flat_map table_entries (tables l)))
+      → sources (flushed l s) ≡ memtable l.active
+      ++ (flat_map memtable (but_oldest l.frozen) ++ (map placed (memtable s) ++ flat_map table_entries (tables l)))
   flushed_parts level deeper are =
-      ap (λ (levels : List (List Table)). memtable l.active ++ (flat_map memtable (but_oldest l.frozen) ++ flat_map table_entries (flat_map (λ ts. ts) (in_front (flushed_table l s) levels)))) are
-      ∙ sym (ap (λ (levels : List (List Table)). memtable l.active ++ (flat_map memtable (but_oldest l.frozen) ++ (map placed (memtable s) ++ flat_map table_entries (flat_map (λ ts. ts) levels)))) are)
+      ap (λ (levels : List (List Table)). memtable l.active
+      ++ (flat_map memtable (but_oldest l.frozen) ++ flat_map table_entries
+      (flat_map (λ ts. ts) (in_front (flushed_table l s) levels)))) are
+      ∙ sym (ap (λ (levels : List (List Table)). memtable l.active
+      ++ (flat_map memtable (but_oldest l.frozen)
+      ++ (map placed (memtable s) ++ flat_map table_entries (flat_map (λ ts. ts) levels)))) are)
 
   pub flush_shows : oldest l.frozen ≡ Some s → (level : List Table) (deeper : List (List Table))
       → l.levels ≡ level ∷ deeper → ArePlaced logs (memtable s)
@@ -160,8 +173,10 @@ module _ (logs : Logs) (l : Layout) (s : Segment) (h : History) (from : List ℕ
       let back = flat_map table_entries (tables l) in
       let front = flat_map memtable (but_oldest l.frozen) in
       subst (λ es. Shows logs es h from to) (sym (flushed_parts level deeper are))
-      (shows_replaced logs logs (memtable l.active ++ (front ++ (memtable s ++ back))) (memtable l.active ++ (front ++ (map placed (memtable s) ++ back))) h from to
-      (zip_both logs (memtable l.active) (memtable l.active) (front ++ (memtable s ++ back)) (front ++ (map placed (memtable s) ++ back)) (as_they_are logs (memtable l.active))
+      (shows_replaced logs logs (memtable l.active ++ (front ++ (memtable s ++ back)))
+      (memtable l.active ++ (front ++ (map placed (memtable s) ++ back))) h from to
+      (zip_both logs (memtable l.active) (memtable l.active) (front ++ (memtable s ++ back))
+      (front ++ (map placed (memtable s) ++ back)) (as_they_are logs (memtable l.active))
       (zip_both logs front front (memtable s ++ back) (map placed (memtable s) ++ back) (as_they_are logs front)
       (zip_both logs (memtable s) (map placed (memtable s)) back back (as_placed logs (memtable s) found) (as_they_are logs back))))
       (subst (λ es. Shows logs es h from to) (flush_parts waits level deeper are) shows))
@@ -170,13 +185,15 @@ module _ (logs : Logs) (l : Layout) (s : Segment) (h : History) (from : List ℕ
 
 -- each record has the value that its key's version has, and the sources have an entry of these
 abbrev pub AreShown : List Entry → (List ℕ → ℕ → Option Stored) → List Moved → Type 0
-AreShown es meaning moved = AllByRecursion (λ (m : Moved). (list_any (is_at m.key m.version) es ≡ true) × (meaning m.key m.version ≡ Some m.value)) moved
+AreShown es meaning moved = AllByRecursion
+    (λ (m : Moved). (list_any (is_at m.key m.version) es ≡ true) × (meaning m.key m.version ≡ Some m.value)) moved
 
 module _ (logs : Logs) (h : History) (from : List ℕ → ℕ) (to : ℕ) (es : List Entry) (shows : Shows logs es h from to) where
   any_behind : (p : Entry → Bool) (new old : List Entry) → list_any p old ≡ true
       → list_any p (new ++ old) ≡ true
   any_behind p [] old there = there
-  any_behind p (e ∷ new) old there = elim (p e) as (λ b. (b || list_any p (new ++ old)) ≡ true) [ true ↦ refl | false ↦ any_behind p new old there ]
+  any_behind p (e ∷ new) old there = elim (p e) as (λ b. (b || list_any p (new ++ old)) ≡ true)
+      [ true ↦ refl | false ↦ any_behind p new old there ]
 
   -- moved records in front of the sources, with the meaning that these have
   abbrev IsMoved : List Entry → Type 0
@@ -189,13 +206,16 @@ module _ (logs : Logs) (h : History) (from : List ℕ → ℕ) (to : ℕ) (es : 
       let later = moved_front format segment (place + moved_length format m) ms all.1 in
       let new = map (record_entry format segment) (relocated_records format (place + moved_length format m) ms) in
       let first = record_entry format segment (record { key = m.key; version = m.version; change = Set m.value; place = place + 8 }) in
-      let both = shows_moved logs h from to first (new ++ es) m.value later.0 (any_behind (is_at m.key m.version) new es all.0.0) refl (ap (λ meaning. meaning m.key m.version) later.1 ∙ all.0.1) in
+      let both = shows_moved logs h from to first (new ++ es) m.value later.0
+      (any_behind (is_at m.key m.version) new es all.0.0) refl (ap (λ meaning. meaning m.key m.version) later.1 ∙ all.0.1) in
       (both.0, both.1 ∙ later.1)
 
 -- Moved records in the active memtable show what the sources showed.
-pub relocate_shows : (logs : Logs) (l : Layout) (moved : List Moved) (h : History) (from : List ℕ → ℕ) (to : ℕ) (shows : Shows logs (sources l) h from to)
+pub relocate_shows : (logs : Logs) (l : Layout) (moved : List Moved) (h : History) (from : List ℕ → ℕ) (to : ℕ)
+    (shows : Shows logs (sources l) h from to)
     → AreShown (sources l) shows.meaning moved
     → Shows logs (sources (relocated l moved)) h from to
 relocate_shows logs l moved h from to shows all =
     shows_logged logs l (Relocated moved) h from to
-    (moved_front logs h from to (sources l) shows l.active.format l.active.number (place_behind l.active.format 16 l.active.frames + 9) moved all).0
+    (moved_front logs h from to (sources l) shows l.active.format l.active.number
+    (place_behind l.active.format 16 l.active.frames + 9) moved all).0

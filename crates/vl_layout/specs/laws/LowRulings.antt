@@ -19,7 +19,8 @@ use Rattle.vl_layout.specs.laws.LowShows.{shows_later, shows_keep, low_up, floor
 use Rattle.vl_layout.specs.Relocation.{Pass, Candidate, moved_of}
 use Rattle.vl_layout.specs.Ruling.{pin_of, Ruling, ended, has_no_number, has_no_version}
 use Rattle.vl_layout.specs.Rulings.Begin.{begun}
-use Rattle.vl_layout.specs.Rulings.Commit.{Transaction, committed, commit_checked, commit_running, commit_unless, commit_ruling, commit_frame}
+use Rattle.vl_layout.specs.Rulings.Commit.{Transaction, committed, commit_checked, commit_running, commit_unless}
+use Rattle.vl_layout.specs.Rulings.Commit.{commit_ruling, commit_frame}
 use Rattle.vl_layout.specs.Rulings.Flush.{flushed, flush_of, flush_unless, flush_ruling}
 use Rattle.vl_layout.specs.Rulings.Keep.{keeping}
 use Rattle.vl_layout.specs.Rulings.Relocate.{relocated, relocate_of, relocate_unless, relocate_ruling}
@@ -79,7 +80,8 @@ later_shows logs h h' l l' later shows =
 abbrev RuledLater : {A : Type 0} → History → Layout → Ruling A → Type 0
 RuledLater h l r = IsLater h l r.history r.layout
 
-either : {A : Type 0} (h : History) (l : Layout) (b : Bool) (x y : Ruling A) → RuledLater h l x → RuledLater h l y → RuledLater h l (if b then x else y)
+either : {A : Type 0} (h : History) (l : Layout) (b : Bool) (x y : Ruling A) → RuledLater h l x → RuledLater h l y
+    → RuledLater h l (if b then x else y)
 either h l true x y one other = one
 either h l false x y one other = other
 
@@ -92,46 +94,54 @@ module _ (h : History) (l : Layout) where
   committed_later : (t : Transaction) → RuledLater h l (committed l h t)
   committed_later t = record {
     extends = with_commit-extends h (from_sorted t.writes);
-    floors = floor-rises l (committed l h t).layout h (with_commit h (from_sorted t.writes)) (with_commit-extends h (from_sorted t.writes)) (λ (x : Live). not (x.ticket == t.ticket)) refl;
+    floors = floor-rises l (committed l h t).layout h (with_commit h (from_sorted t.writes))
+        (with_commit-extends h (from_sorted t.writes)) (λ (x : Live). not (x.ticket == t.ticket)) refl;
     keep = refl;
     since = refl;
   }
 
   checked_later : (t : Transaction) (conflict : Option Named) → RuledLater h l (commit_checked l h t conflict)
   checked_later t (Some named) = one_ended h l t.ticket
-  checked_later t None = either h l (nat_le (l.active.length + frame_length l.active.format (commit_frame h t.writes)) l.room) (committed l h t) _ (committed_later t) same
+  checked_later t None = either h l
+      (nat_le (l.active.length + frame_length l.active.format (commit_frame h t.writes)) l.room) (committed l h t) _ (committed_later t) same
 
   running_later : (t : Transaction) (conflict : Option Named) → RuledLater h l (commit_running l h t conflict)
   running_later t conflict =
       either h l (length t.writes == 0) _ _ (one_ended h l t.ticket)
       (either h l (nat_le max_commit_number (last_number h)) _ _ same (checked_later t conflict))
 
-  unless_later : (t : Transaction) (halted : Option FileName) → RuledLater h l (commit_unless halted l h t (first_conflict h t.number t.reads))
+  unless_later : (t : Transaction) (halted : Option FileName)
+      → RuledLater h l (commit_unless halted l h t (first_conflict h t.number t.reads))
   unless_later t (Some name) = one_ended h l t.ticket
   unless_later t None = running_later t (first_conflict h t.number t.reads)
 
-  pub commit_shows_low : (logs : Logs) (t : Transaction) → T (is_sorted key_cmp t.writes) → AreUpTo (last_number h) (sources l) → ShowsLow logs l h
+  pub commit_shows_low : (logs : Logs) (t : Transaction) → T (is_sorted key_cmp t.writes)
+      → AreUpTo (last_number h) (sources l) → ShowsLow logs l h
       → ShowsLow logs (commit_ruling l h t).layout (commit_ruling l h t).history
   commit_shows_low logs t rising up shows =
       later_shows logs h (commit_ruling l h t).history l (commit_ruling l h t).layout (unless_later t l.halted)
-      (commit_ruling-shows logs (low_at l h) l h t up (λ key. let a = low_up h (floor l h) l.keep l.since key in let b = floor-up l h in omega (arith, a, b)) rising shows)
+      (commit_ruling-shows logs (low_at l h) l h t up
+      (λ key. let a = low_up h (floor l h) l.keep l.since key in let b = floor-up l h in omega (arith, a, b)) rising shows)
 
   -- ---- a rotation, a flush, a relocation
 
   rotate_of-later : (frames : List LogFrame) → RuledLater h l (rotate_of frames l h)
   rotate_of-later [] = same
-  rotate_of-later (f ∷ fs) = either h l (has_no_number l.next_log 1) _ _ same (either h l (has_no_version l) _ _ same (as_it_was h l (rotated l) refl refl refl))
+  rotate_of-later (f ∷ fs) = either h l (has_no_number l.next_log 1) _ _ same
+      (either h l (has_no_version l) _ _ same (as_it_was h l (rotated l) refl refl refl))
 
   rotate_later : (halted : Option FileName) → RuledLater h l (rotate_unless halted l h)
   rotate_later (Some name) = same
   rotate_later None = rotate_of-later l.active.frames
 
   pub rotate_shows_low : (logs : Logs) → ShowsLow logs l h → ShowsLow logs (rotate_ruling l h).layout (rotate_ruling l h).history
-  rotate_shows_low logs shows = later_shows logs h (rotate_ruling l h).history l (rotate_ruling l h).layout (rotate_later l.halted) (rotate_ruling-shows logs (low_at l h) l h shows)
+  rotate_shows_low logs shows = later_shows logs h (rotate_ruling l h).history l (rotate_ruling l h).layout
+      (rotate_later l.halted) (rotate_ruling-shows logs (low_at l h) l h shows)
 
   flush_of-later : (o : Option Segment) → RuledLater h l (flush_of l h o)
   flush_of-later None = same
-  flush_of-later (Some s) = either h l (has_no_number l.next_table 1) _ _ same (either h l (has_no_version l) _ _ same (as_it_was h l (flushed l s) refl refl refl))
+  flush_of-later (Some s) = either h l (has_no_number l.next_table 1) _ _ same
+      (either h l (has_no_version l) _ _ same (as_it_was h l (flushed l s) refl refl refl))
 
   flush_later : (halted : Option FileName) → RuledLater h l (flush_unless halted l h)
   flush_later (Some name) = same
@@ -141,21 +151,26 @@ module _ (h : History) (l : Layout) where
       → ((s : Segment) → oldest l.frozen ≡ Some s → ArePlaced logs (memtable s))
       → ShowsLow logs l h → ShowsLow logs (flush_ruling l h).layout (flush_ruling l h).history
   flush_shows_low logs level deeper are found shows =
-      later_shows logs h (flush_ruling l h).history l (flush_ruling l h).layout (flush_later l.halted) (flush_ruling-shows logs (low_at l h) l h shows level deeper are found)
+      later_shows logs h (flush_ruling l h).history l (flush_ruling l h).layout (flush_later l.halted)
+      (flush_ruling-shows logs (low_at l h) l h shows level deeper are found)
 
   relocate_of-later : (moved : List Moved) → RuledLater h l (relocate_of l h moved)
   relocate_of-later [] = same
   relocate_of-later (m ∷ ms) =
-      either h l (has_no_version l) _ _ same (either h l (nat_le (l.active.length + frame_length l.active.format (Relocated (m ∷ ms))) l.room) _ _ (as_it_was h l (relocated l (m ∷ ms)) refl refl refl) same)
+      either h l (has_no_version l) _ _ same
+      (either h l (nat_le (l.active.length + frame_length l.active.format (Relocated (m ∷ ms))) l.room) _ _
+      (as_it_was h l (relocated l (m ∷ ms)) refl refl refl) same)
 
-  relocate_later : (pass : Pass) (batch : List Candidate) (halted : Option FileName) → RuledLater h l (relocate_unless halted l h pass batch)
+  relocate_later : (pass : Pass) (batch : List Candidate) (halted : Option FileName)
+      → RuledLater h l (relocate_unless halted l h pass batch)
   relocate_later pass batch (Some name) = same
   relocate_later pass batch None = relocate_of-later (moved_of (sources l) pass.segment (last_number h) batch)
 
   pub relocate_shows_low : (logs : Logs) (pass : Pass) (batch : List Candidate) → AllByRecursion (IsThere logs pass.segment) batch
       → ShowsLow logs l h → ShowsLow logs (relocate_ruling l h pass batch).layout (relocate_ruling l h pass batch).history
   relocate_shows_low logs pass batch there shows =
-      later_shows logs h (relocate_ruling l h pass batch).history l (relocate_ruling l h pass batch).layout (relocate_later pass batch l.halted) (relocate_ruling-shows logs (low_at l h) l h shows pass batch there)
+      later_shows logs h (relocate_ruling l h pass batch).history l (relocate_ruling l h pass batch).layout
+      (relocate_later pass batch l.halted) (relocate_ruling-shows logs (low_at l h) l h shows pass batch there)
 
   -- ---- begin, end and a change of v
 
@@ -165,7 +180,8 @@ module _ (h : History) (l : Layout) where
   begun_later : (ticket : ℕ) → IsLater h l h (begun l ticket (last_number h))
   begun_later ticket = record {
     extends = extends_itself h;
-    floors = let same_floor = floor-begun l (begun l ticket (last_number h)) h (record { ticket = ticket; number = last_number h; pin = pin_of l }) refl refl in omega (arith, same_floor);
+    floors = let same_floor = floor-begun l (begun l ticket (last_number h)) h
+        (record { ticket = ticket; number = last_number h; pin = pin_of l }) refl refl in omega (arith, same_floor);
     keep = refl;
     since = refl;
   }

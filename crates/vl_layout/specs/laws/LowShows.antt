@@ -52,7 +52,8 @@ low_up h f keep since key = low-floor (versions h key) f keep since
 
 pub low_rises : (least most : History) → Extends least most → (f f' keep since : ℕ) (key : List ℕ) → f ≤ f'
     → low least f keep since key ≤ low most f' keep since key
-low_rises least most e f f' keep since key le = low-rises (versions least key) (versions most key) (versions-stay least most e key) f f' keep since le
+low_rises least most e f f' keep since key le = low-rises (versions least key) (versions most key)
+    (versions-stay least most e key) f f' keep since le
 
 -- ---- steps
 
@@ -80,10 +81,12 @@ shows_merge logs ms keep at some h f v since to up kept of =
     (λ key number from. past_low keep some (marked_inputs ms) at key (versions h key) (of key) f v since up kept number from)
 
 pub shows_merge_at_once : (logs : Logs) (keep : ℕ) (ss : List Sourced) (at : ℕ) (h : History) (since to : ℕ) → 1 ≤ keep
-    → AreOf h (inputs_of ss) → Shows logs (plain ss) h (low h at keep since) to → Shows logs (kept_of (marks keep ss at)) h (low h at keep since) to
+    → AreOf h (inputs_of ss) → Shows logs (plain ss) h (low h at keep since) to
+    → Shows logs (kept_of (marks keep ss at)) h (low h at keep since) to
 shows_merge_at_once logs keep ss at h since to some of =
     shows_merged keep logs ss at h (low h at keep since) to
-    (λ key number from. past_low keep some (inputs_of ss) at key (versions h key) (of key) at keep since (omega arith) (inl (omega arith)) number from)
+    (λ key number from. past_low keep some (inputs_of ss) at key (versions h key) (of key) at keep since (omega arith)
+    (inl (omega arith)) number from)
 
 -- a read of the past
 pub shows_at : (logs : Logs) (es : List Entry) (h : History) (f v since to : ℕ) → Shows logs es h (low h f v since) to
@@ -115,7 +118,8 @@ least-ended : (n : ℕ) (p : Live → Bool) (xs : List Live) → least_number n 
 least-ended n p [] = omega arith
 least-ended n p (x ∷ xs) =
     let u = least-ended n p xs in
-    elim (p x) as (λ b. least_number n (x ∷ xs) ≤ least_number n (cond b (x ∷ filter p xs) (filter p xs))) [ true ↦ omega (arith, u) | false ↦ omega (arith, u) ]
+    elim (p x) as (λ b. least_number n (x ∷ xs) ≤ least_number n (cond b (x ∷ filter p xs) (filter p xs)))
+    [ true ↦ omega (arith, u) | false ↦ omega (arith, u) ]
 
 -- it rises where some end and commits come, and stays where one begins at the last number
 pub floor-rises : (l l' : Layout) (least most : History) → Extends least most → (p : Live → Bool) → l'.live ≡ filter p l.live
@@ -123,14 +127,17 @@ pub floor-rises : (l l' : Layout) (least most : History) → Extends least most 
 floor-rises l l' least most e p live =
     let a = least-rises (last_number least) (last_number most) l.live (last_number-extends least most e) in
     let b = least-ended (last_number most) p l.live in
-    subst (λ (xs : List Live). least_number (last_number least) l.live ≤ least_number (last_number most) xs) (sym live) (omega (arith, a, b))
+    subst (λ (xs : List Live). least_number (last_number least) l.live ≤ least_number (last_number most) xs) (sym live)
+    (omega (arith, a, b))
 
 least-put : (n : ℕ) (x : Live) (xs : List Live)
     → least_number n (put_by (λ (y : Live). y.ticket) x xs) ≡ min x.number (least_number n xs)
 least-put n x [] = refl
 least-put n x (y ∷ ys) =
     let later = least-put n x ys in
-    elim (nat_lt y.ticket x.ticket) as (λ b. least_number n (cond b (y ∷ put_by (λ (z : Live). z.ticket) x ys) (x ∷ y ∷ ys)) ≡ min x.number (min y.number (least_number n ys))) [
+    elim (nat_lt y.ticket x.ticket) as
+    (λ b. least_number n (cond b (y ∷ put_by (λ (z : Live). z.ticket) x ys) (x ∷ y ∷ ys)) ≡ min x.number
+    (min y.number (least_number n ys))) [
       | true ↦ omega (arith, later)
       | false ↦ refl
     ]
@@ -153,7 +160,8 @@ fits-keep keep at v since w last low known fits = by_less (nat_lt v w) refl
   where
     by_less : (b : Bool) → nat_lt v w ≡ b → (w ≤ keep) ⊎ (at ≤ cond b last since)
     by_less true is = inr low
-    by_less false is = let fewer : w ≤ v = grind (arith, nat_tests) in ⊎_elim (λ (few : v ≤ keep). inl (omega (arith, few, fewer))) (λ (old : at ≤ since). inr old) fits
+    by_less false is = let fewer : w ≤ v = grind (arith, nat_tests) in ⊎_elim
+        (λ (few : v ≤ keep). inl (omega (arith, few, fewer))) (λ (old : at ≤ since). inr old) fits
 
 -- since is never above the last number
 pub since-up : (v since w last : ℕ) → since ≤ last → since_kept last v since w ≤ last

@@ -1,6 +1,7 @@
 -- What a merge that keeps so many versions leaves of the sources shows what they showed, also from below its
 -- floor, and also where it is put in their place later than it was planned.
-use Rattle.std.proofs.Common.{◌≡◌, ◌⊎◌, inl, inr, ⊎_elim, ℕ, ◌≤◌, ◌<◌, Bool, true, false, not, ◌&&◌, ◌||◌, List, [], ◌∷◌, refl, ap, sym, ◌∙◌, subst, arith}
+use Rattle.std.proofs.Common.{◌≡◌, ◌⊎◌, inl, inr, ⊎_elim, ℕ, ◌≤◌, ◌<◌, Bool, true, false, not, ◌&&◌, ◌||◌, List, []}
+use Rattle.std.proofs.Common.{◌∷◌, refl, ap, sym, ◌∙◌, subst, arith}
 use Rattle.std.proofs.lemmas.Bool.{and_parts, and_from, cases_Bool, cases_lt}
 use Rattle.std.proofs.lemmas.Bool.Decides.{nat_tests}
 use Rattle.std.specs.Prelude.{Option, Some, None, nat_le, nat_lt, ◌==◌}
@@ -14,11 +15,13 @@ use Rattle.vl_model.specs.laws.WinnerLaws.{same_key, key_tied}
 use Rattle.vl_model.specs.declared.entry.Entry.{Entry}
 use Rattle.vl_model.specs.declared.entry.Body.{Body}
 use Rattle.vl_model.specs.declared.entry.Body.TheVariants.{Inline, Gone, Far, Logged}
-use Rattle.vl_layout.specs.Merging.{Sourced, if_so, inputs_of, outside_of, is_shadowed, is_below, is_outdated, is_needless_one, is_needless, is_dropped}
+use Rattle.vl_layout.specs.Merging.{Sourced, if_so, inputs_of, outside_of, is_shadowed, is_below, is_outdated}
+use Rattle.vl_layout.specs.Merging.{is_needless_one, is_needless, is_dropped}
 use Rattle.vl_layout.specs.laws.RelocationShows.{Has, Reaches, winner_has, winner_reaches}
 use Rattle.vl_layout.specs.Shows.{Shows, Meaning, Means, times}
 use Rattle.vl_layout.specs.laws.ShowsLaws.{shows_as, is_at-itself}
-use Rattle.vl_layout.specs.Marks.{Marked, all_of, kept_of, marked_inputs, marked_outside, plain, marks_from, marks, IsJustified, AreJustified, IsPast}
+use Rattle.vl_layout.specs.Marks.{Marked, all_of, kept_of, marked_inputs, marked_outside, plain, marks_from, marks}
+use Rattle.vl_layout.specs.Marks.{IsJustified, AreJustified, IsPast}
 
 -- ---- one of them
 
@@ -58,7 +61,8 @@ not_true false h = refl
 pub picked : (P : Entry → Type 0) (p : Entry → Bool) (es : List Entry) → AllByRecursion P es
     → list_any p es ≡ true → (f : Entry) × (p f ≡ true) × P f
 picked P p [] all h = absurd (true_false (sym h))
-picked P p (e ∷ es) all h = ⊎_elim (λ (here : p e ≡ true). (e, here, all.0)) (λ (later : list_any p es ≡ true). picked P p es all.1 later) (or_cases (p e) (list_any p es) h)
+picked P p (e ∷ es) all h = ⊎_elim (λ (here : p e ≡ true). (e, here, all.0))
+    (λ (later : list_any p es ≡ true). picked P p es all.1 later) (or_cases (p e) (list_any p es) h)
 
 -- ---- parts of the marked entries
 
@@ -124,7 +128,8 @@ module _ (keep : ℕ) (inputs outside : List Entry) (floor : ℕ) where
   first_dropped key version newer [] j within none there gone = absurd (true_false (sym there))
   first_dropped key version newer (m ∷ ms) j within none there gone =
       by_tests (is_at key version m.entry) m.kept refl refl
-      (λ apart later left. first_dropped key version (m.entry ∷ newer) ms j.1 (head_input inputs m ms within).1 (ap (λ b. b || list_any (is_at key version) newer) apart ∙ none) later left)
+      (λ apart later left. first_dropped key version (m.entry ∷ newer) ms j.1 (head_input inputs m ms within).1
+      (ap (λ b. b || list_any (is_at key version) newer) apart ∙ none) later left)
     where
       Found : Type 0
       Found = (e : Entry) × (is_at key version e ≡ true) × Reason e
@@ -136,22 +141,27 @@ module _ (keep : ℕ) (inputs outside : List Entry) (floor : ℕ) where
           let parts = and_parts _ _ at in
           let keys : m.entry.key ≡ key = sym (same_key key m.entry.key parts.0) in
           let versions : m.entry.version ≡ version = grind (arith, nat_tests, parts.1) in
-          let unshadowed : is_shadowed newer m.entry ≡ false = ap (λ k. list_any (is_at k m.entry.version) newer) keys ∙ ap (λ v. list_any (is_at key v) newer) versions ∙ none in
+          let unshadowed : is_shadowed newer m.entry ≡ false = ap (λ k. list_any (is_at k m.entry.version) newer) keys
+          ∙ ap (λ v. list_any (is_at key v) newer) versions ∙ none in
           let others = ⊎_elim
           (λ (shadowed : is_shadowed newer m.entry ≡ true). absurd (true_false (sym shadowed ∙ unshadowed)))
-          (λ (rules : (is_outdated keep inputs floor m.entry || is_needless keep outside floor m.entry) ≡ true). or_cases (is_outdated keep inputs floor m.entry) (is_needless keep outside floor m.entry) rules)
+          (λ (rules : (is_outdated keep inputs floor m.entry || is_needless keep outside floor m.entry) ≡ true).
+          or_cases (is_outdated keep inputs floor m.entry) (is_needless keep outside floor m.entry) rules)
           (or_cases (is_shadowed newer m.entry) (is_outdated keep inputs floor m.entry || is_needless keep outside floor m.entry) both.1) in
           (m.entry, at, ((head_input inputs m ms within).0 both.0, others))
 
       by_tests : (a k : Bool) → is_at key version m.entry ≡ a → m.kept ≡ k
-          → (is_at key version m.entry ≡ false → list_any (is_at key version) (all_of ms) ≡ true → list_any (is_at key version) (kept_of ms) ≡ false → (e : Entry) × (is_at key version e ≡ true) × Reason e)
+          → (is_at key version m.entry ≡ false → list_any (is_at key version) (all_of ms) ≡ true
+          → list_any (is_at key version) (kept_of ms) ≡ false → (e : Entry) × (is_at key version e ≡ true) × Reason e)
           → (e : Entry) × (is_at key version e ≡ true) × Reason e
       by_tests true false at keep rest = here at keep
       by_tests true true at keep rest =
-          absurd (true_false (sym (ap (λ b. b || list_any (is_at key version) (kept_of ms)) at) ∙ ap (λ k. list_any (is_at key version) (if_so k m.entry (kept_of ms))) (sym keep) ∙ gone))
+          absurd (true_false (sym (ap (λ b. b || list_any (is_at key version) (kept_of ms)) at)
+          ∙ ap (λ k. list_any (is_at key version) (if_so k m.entry (kept_of ms))) (sym keep) ∙ gone))
       by_tests false true at keep rest =
           rest at (sym (ap (λ b. b || list_any (is_at key version) (all_of ms)) at) ∙ there)
-          (sym (ap (λ b. b || list_any (is_at key version) (kept_of ms)) at) ∙ ap (λ k. list_any (is_at key version) (if_so k m.entry (kept_of ms))) (sym keep) ∙ gone)
+          (sym (ap (λ b. b || list_any (is_at key version) (kept_of ms)) at)
+          ∙ ap (λ k. list_any (is_at key version) (if_so k m.entry (kept_of ms))) (sym keep) ∙ gone)
       by_tests false false at keep rest =
           rest at (sym (ap (λ b. b || list_any (is_at key version) (all_of ms)) at) ∙ there)
           (ap (λ k. list_any (is_at key version) (if_so k m.entry (kept_of ms))) (sym keep) ∙ gone)
@@ -163,7 +173,8 @@ module _ (keep : ℕ) (inputs outside : List Entry) (floor : ℕ) where
 
   kept_one : (newer : List Entry) (m : Marked) → IsJustified keep inputs outside floor newer m
       → (m.input ≡ false → IsIn outside m.entry) → m.kept ≡ true → IsKept m.entry
-  kept_one newer m j out keep = ⊎_elim (λ (input : m.input ≡ true). inl (j.keeps keep input)) (λ (other : m.input ≡ false). inr (out other)) (cases_Bool m.input)
+  kept_one newer m j out keep = ⊎_elim (λ (input : m.input ≡ true). inl (j.keeps keep input))
+      (λ (other : m.input ≡ false). inr (out other)) (cases_Bool m.input)
 
   all_kept : (newer : List Entry) (ms : List Marked) → AreJustified keep inputs outside floor newer ms
       → AllByRecursion (IsIn outside) (marked_outside ms) → AllByRecursion IsKept (kept_of ms)
@@ -201,8 +212,10 @@ counts_parts key number e counted =
     let le : e.version ≤ number = grind (arith, nat_tests, both.1) in
     (same_key key e.key both.0, le)
 
-module _ (keep : ℕ) (logs : Logs) (meaning : Meaning) (ms : List Marked) (floor : ℕ) (resolves : AllByRecursion (Means logs meaning) (all_of ms))
-    (justified : AreJustified keep (marked_inputs ms) (marked_outside ms) floor [] ms) (key : List ℕ) (number : ℕ) (past : IsPast keep (marked_inputs ms) floor key number) where
+module _ (keep : ℕ) (logs : Logs) (meaning : Meaning) (ms : List Marked) (floor : ℕ)
+    (resolves : AllByRecursion (Means logs meaning) (all_of ms))
+    (justified : AreJustified keep (marked_inputs ms) (marked_outside ms) floor [] ms) (key : List ℕ) (number : ℕ)
+    (past : IsPast keep (marked_inputs ms) floor key number) where
   -- some entry of this key and version counts, so the winner is of at least that version
   reaches : (f : Entry) → counts key number f ≡ true → IsIn (all_of ms) f
       → Reaches key number (Means logs meaning) f.version (winner (all_of ms) key number)
@@ -227,7 +240,8 @@ module _ (keep : ℕ) (logs : Logs) (meaning : Meaning) (ms : List Marked) (floo
   -- a test that the winner passes is passed by one of all
   in_winner : (p : Entry → Bool) → (e : Entry) → p e ≡ true → winner (all_of ms) key number ≡ Some e
       → list_any p (all_of ms) ≡ true
-  in_winner p e passes won = (subst (Has key number (IsIn (all_of ms))) won (winner_has key number (IsIn (all_of ms)) (all_of ms) (members (all_of ms)))).1 p passes
+  in_winner p e passes won =
+      (subst (Has key number (IsIn (all_of ms))) won (winner_has key number (IsIn (all_of ms)) (all_of ms) (members (all_of ms)))).1 p passes
 
   -- what is so of the winner of those kept
   Left : Entry → Type 0
@@ -236,16 +250,20 @@ module _ (keep : ℕ) (logs : Logs) (meaning : Meaning) (ms : List Marked) (floo
   left_all : AllByRecursion Left (kept_of ms)
   unfolding Left
   left_all =
-      all_pairs (IsKept keep (marked_inputs ms) (marked_outside ms) floor) (λ g. Means logs meaning g × (IsIn (all_of ms) g × IsIn (kept_of ms) g)) (kept_of ms)
+      all_pairs (IsKept keep (marked_inputs ms) (marked_outside ms) floor)
+      (λ g. Means logs meaning g × (IsIn (all_of ms) g × IsIn (kept_of ms) g)) (kept_of ms)
       (all_kept keep (marked_inputs ms) (marked_outside ms) floor [] ms justified (members (marked_outside ms)))
-      (all_pairs (Means logs meaning) (λ g. IsIn (all_of ms) g × IsIn (kept_of ms) g) (kept_of ms) (of_kept (Means logs meaning) ms resolves)
-      (all_pairs (IsIn (all_of ms)) (IsIn (kept_of ms)) (kept_of ms) (of_kept (IsIn (all_of ms)) ms (members (all_of ms))) (members (kept_of ms))))
+      (all_pairs (Means logs meaning) (λ g. IsIn (all_of ms) g × IsIn (kept_of ms) g) (kept_of ms)
+      (of_kept (Means logs meaning) ms resolves)
+      (all_pairs (IsIn (all_of ms)) (IsIn (kept_of ms)) (kept_of ms)
+      (of_kept (IsIn (all_of ms)) ms (members (all_of ms))) (members (kept_of ms))))
 
   -- the winner isn't outdated: what makes it so would be newer
   not_outdated : (won e : Entry) → winner (all_of ms) key number ≡ Some won → e.key ≡ key
       → e.version ≡ won.version → is_outdated keep (marked_inputs ms) floor e ≡ true → ⊥
   not_outdated won e is keys versions outdated =
-      let f = picked (IsIn (all_of ms)) (λ (g : Entry). counts key number g && nat_lt e.version g.version) (marked_inputs ms) (of_inputs (IsIn (all_of ms)) ms (members (all_of ms))) (past.outdates e keys outdated) in
+      let f = picked (IsIn (all_of ms)) (λ (g : Entry). counts key number g && nat_lt e.version g.version)
+      (marked_inputs ms) (of_inputs (IsIn (all_of ms)) ms (members (all_of ms))) (past.outdates e keys outdated) in
       let both = and_parts (counts key number f.0) (nat_lt e.version f.0.version) f.1 in
       let most : f.0.version ≤ won.version = won_at_most won f.0 is both.0 f.2 in
       let more : e.version < f.0.version = grind (arith, nat_tests, both.1) in
@@ -264,12 +282,16 @@ module _ (keep : ℕ) (logs : Logs) (meaning : Meaning) (ms : List Marked) (floo
       let lt : nat_lt g.version e.version ≡ true = grind (arith, nat_tests) in
       ⊎_elim
       (λ (fresh : is_outdated keep (marked_inputs ms) floor g ≡ false).
-      let tied : eq_by_cmp key_cmp g.key e.key ≡ true = ap (λ k. eq_by_cmp key_cmp k e.key) (sym of_g ∙ sym keys) ∙ (and_parts _ _ (is_at-itself e)).0 in
-      let passes : (counts g.key floor e && nat_lt g.version e.version) ≡ true = and_from (counts g.key floor e) (nat_lt g.version e.version) (and_from (eq_by_cmp key_cmp g.key e.key) (nat_le e.version floor) tied more.0) lt in
-      true_false (sym (within (λ (f : Entry). counts g.key floor f && nat_lt g.version f.version) passes) ∙ subst (λ (k : ℕ). is_outdated k (marked_inputs ms) floor g ≡ false) one fresh))
+      let tied : eq_by_cmp key_cmp g.key e.key ≡ true = ap (λ k. eq_by_cmp key_cmp k e.key) (sym of_g ∙ sym keys)
+      ∙ (and_parts _ _ (is_at-itself e)).0 in
+      let passes : (counts g.key floor e && nat_lt g.version e.version) ≡ true = and_from (counts g.key floor e)
+      (nat_lt g.version e.version) (and_from (eq_by_cmp key_cmp g.key e.key) (nat_le e.version floor) tied more.0) lt in
+      true_false (sym (within (λ (f : Entry). counts g.key floor f && nat_lt g.version f.version) passes)
+      ∙ subst (λ (k : ℕ). is_outdated k (marked_inputs ms) floor g ≡ false) one fresh))
       (λ (out : IsIn (marked_outside ms) g).
       let tied : eq_by_cmp key_cmp e.key g.key ≡ true = ap (λ k. eq_by_cmp key_cmp k g.key) keys ∙ (and_parts _ _ counted).0 in
-      true_false (sym (out (is_below e) (and_from (eq_by_cmp key_cmp e.key g.key) (nat_lt g.version e.version) tied lt)) ∙ not_true (list_any (is_below e) (marked_outside ms)) more.1))
+      true_false (sym (out (is_below e) (and_from (eq_by_cmp key_cmp e.key g.key) (nat_lt g.version e.version) tied lt))
+      ∙ not_true (list_any (is_below e) (marked_outside ms)) more.1))
       kept
 
   -- an entry of the winner's key and version is kept: it leads to the same
@@ -311,18 +333,24 @@ module _ (keep : ℕ) (logs : Logs) (meaning : Meaning) (ms : List Marked) (floo
       meant_none : is_needless keep (marked_outside ms) floor e ≡ true
           → Some (meaning key won.version) ≡ Some None
       meant_none needless =
-          let gone_body : is_gone e.body ≡ true = (and_parts (is_gone e.body) (nat_le e.version floor && not (list_any (is_below e) (marked_outside ms))) (and_parts (keep == 1) (is_needless_one (marked_outside ms) floor e) needless).1).0 in
-          let passes : (is_at key won.version e && is_gone e.body) ≡ true = and_from (is_at key won.version e) (is_gone e.body) at gone_body in
-          let f = picked (Means logs meaning) (λ (g : Entry). is_at key won.version g && is_gone g.body) (marked_inputs ms) (of_inputs (Means logs meaning) ms resolves)
+          let gone_body : is_gone e.body ≡ true =
+          (and_parts (is_gone e.body) (nat_le e.version floor && not (list_any (is_below e) (marked_outside ms)))
+          (and_parts (keep == 1) (is_needless_one (marked_outside ms) floor e) needless).1).0 in
+          let passes : (is_at key won.version e && is_gone e.body) ≡ true = and_from (is_at key won.version e)
+          (is_gone e.body) at gone_body in
+          let f = picked (Means logs meaning) (λ (g : Entry). is_at key won.version g && is_gone g.body)
+          (marked_inputs ms) (of_inputs (Means logs meaning) ms resolves)
           (reason.0 (λ (g : Entry). is_at key won.version g && is_gone g.body) passes) in
           let both = and_parts (is_at key won.version f.0) (is_gone f.0.body) f.1 in
           let parts = and_parts (eq_by_cmp key_cmp key f.0.key) (f.0.version == won.version) both.0 in
           let f_key : f.0.key ≡ key = sym (same_key key f.0.key parts.0) in
           let f_version : f.0.version ≡ won.version = grind (arith, nat_tests, parts.1) in
-          ap Some (ap (λ k. meaning k won.version) (sym f_key) ∙ ap (meaning f.0.key) (sym f_version)) ∙ sym f.2 ∙ gone_leads logs f.0.key f.0.body both.1
+          ap Some (ap (λ k. meaning k won.version) (sym f_key) ∙ ap (meaning f.0.key) (sym f_version)) ∙ sym f.2
+          ∙ gone_leads logs f.0.key f.0.body both.1
 
       none : is_needless keep (marked_outside ms) floor e ≡ true → resolved_at logs (Some won) ≡ Some None
-      none needless = of_won.1 ∙ ap Some (ap (λ k. meaning k won.version) (sym (counts_parts key number won of_won.0).0)) ∙ meant_none needless
+      none needless = of_won.1
+          ∙ ap Some (ap (λ k. meaning k won.version) (sym (counts_parts key number won of_won.0).0)) ∙ meant_none needless
 
       by_winner : is_needless keep (marked_outside ms) floor e ≡ true → (w : Option Entry)
           → Has key number Left w → resolved_at logs w ≡ resolved_at logs (Some won)
@@ -332,7 +360,8 @@ module _ (keep : ℕ) (logs : Logs) (meaning : Meaning) (ms : List Marked) (floo
           (λ (least : won.version ≤ g.version).
           let most : g.version ≤ won.version = won_at_most won g is has.0 has.1.1.1.0 in
           let same : (g.version == won.version) ≡ true = grind (arith, nat_tests) in
-          let there : is_at key won.version g ≡ true = and_from (eq_by_cmp key_cmp key g.key) (g.version == won.version) (and_parts _ _ has.0).0 same in
+          let there : is_at key won.version g ≡ true = and_from (eq_by_cmp key_cmp key g.key) (g.version == won.version)
+          (and_parts _ _ has.0).0 same in
           absurd (true_false (sym (has.1.1.1.1 (is_at key won.version) there) ∙ gone)))
           (cases_lt g.version won.version)
 
@@ -355,16 +384,21 @@ module _ (keep : ℕ) (logs : Logs) (meaning : Meaning) (ms : List Marked) (floo
 
       there : list_any (is_at key won.version) (all_of ms) ≡ true
       there =
-          let at : is_at key won.version won ≡ true = ap (λ k. is_at k won.version won) (counts_parts key number won of_won.0).0 ∙ is_at-itself won in
+          let at : is_at key won.version won ≡ true = ap (λ k. is_at k won.version won)
+          (counts_parts key number won of_won.0).0 ∙ is_at-itself won in
           in_winner (is_at key won.version) won at is
 
       by_kept : (b : Bool) → list_any (is_at key won.version) (kept_of ms) ≡ b
           → resolved_at logs (winner (kept_of ms) key number) ≡ resolved_at logs (Some won)
       by_kept true kept =
           same_version won is (winner (kept_of ms) key number) has
-          (winner_reaches key number (Means logs meaning) key won.version (kept_of ms) (and_from (eq_by_cmp key_cmp key key) (nat_le won.version number) (tied_itself key) (and_parts (eq_by_cmp key_cmp key won.key) (nat_le won.version number) of_won.0).1) kept (of_kept (Means logs meaning) ms resolves))
+          (winner_reaches key number (Means logs meaning) key won.version (kept_of ms)
+          (and_from (eq_by_cmp key_cmp key key) (nat_le won.version number) (tied_itself key)
+          (and_parts (eq_by_cmp key_cmp key won.key) (nat_le won.version number) of_won.0).1) kept
+          (of_kept (Means logs meaning) ms resolves))
       by_kept false gone =
-          let first = first_dropped keep (marked_inputs ms) (marked_outside ms) floor key won.version [] ms justified (members (marked_inputs ms)) refl there gone in
+          let first = first_dropped keep (marked_inputs ms) (marked_outside ms) floor key won.version [] ms justified
+          (members (marked_inputs ms)) refl there gone in
           none_kept won is first.0 first.1 first.2 gone (winner (kept_of ms) key number) has
 
   -- from the floor on, what is left leads each key to what all led it to
@@ -432,8 +466,11 @@ shows_merged keep logs ss floor h from to past shows =
     let inputs = inputs_of ss in
     let outside = outside_of ss in
     let justified : AreJustified keep (marked_inputs ms) (marked_outside ms) floor [] ms =
-    subst (λ (es : List Entry). AreJustified keep es (marked_outside ms) floor [] ms) (sym (marked_inputs-marks keep inputs outside floor [] ss))
-    (subst (λ (es : List Entry). AreJustified keep inputs es floor [] ms) (sym (marked_outside-marks keep inputs outside floor [] ss)) (marks_justified keep inputs outside floor [] ss)) in
+    subst (λ (es : List Entry). AreJustified keep es (marked_outside ms) floor [] ms)
+    (sym (marked_inputs-marks keep inputs outside floor [] ss))
+    (subst (λ (es : List Entry). AreJustified keep inputs es floor [] ms)
+    (sym (marked_outside-marks keep inputs outside floor [] ss)) (marks_justified keep inputs outside floor [] ss)) in
     shows_installed keep logs ms floor h from to
-    (λ key number low. subst (λ (es : List Entry). IsPast keep es floor key number) (sym (marked_inputs-marks keep inputs outside floor [] ss)) (past key number low))
+    (λ key number low. subst (λ (es : List Entry). IsPast keep es floor key number)
+    (sym (marked_inputs-marks keep inputs outside floor [] ss)) (past key number low))
     justified (subst (λ (es : List Entry). Shows logs es h from to) (sym (all_of-marks keep inputs outside floor [] ss)) shows)

@@ -1,6 +1,7 @@
 -- What is shown hangs on each key's entries alone, and not on their order but for entries of one
 -- key and version.
-use Rattle.std.proofs.Common.{◌≡◌, ℕ, ◌+◌, ◌≤◌, Bool, true, false, cond, ◌&&◌, List, [], ◌∷◌, ◌++◌, refl, ap, sym, ◌∙◌, subst, arith, zero-add}
+use Rattle.std.proofs.Common.{◌≡◌, ℕ, ◌+◌, ◌≤◌, Bool, true, false, cond, ◌&&◌, List, [], ◌∷◌, ◌++◌, refl, ap, sym}
+use Rattle.std.proofs.Common.{◌∙◌, subst, arith, zero-add}
 use Rattle.std.specs.Prelude.{◌==◌}
 use Rattle.std.specs.List.{AllByRecursion}
 use Rattle.std.specs.Ordering.{eq_by_cmp, is_eq}
@@ -45,7 +46,8 @@ all-in_order P (e ∷ es) all = all-put P e (in_order es) all.0 (all-in_order P 
 times-in_order : (key : List ℕ) (version : ℕ) (es : List Entry)
     → times key version (in_order es) ≤ times key version es
 times-in_order key version [] = omega arith
-times-in_order key version (e ∷ es) = let here = times-put key version e (in_order es) in let later = times-in_order key version es in omega arith
+times-in_order key version (e ∷ es) = let here = times-put key version e (in_order es) in let later = times-in_order key
+    version es in omega arith
 
 -- entries in front of others in order, taken in among these
 pub all-taken_in : (P : Entry → Type 0) (es fs : List Entry) → AllByRecursion P (es ++ in_order fs)
@@ -56,7 +58,8 @@ all-taken_in P (e ∷ es) fs all = all-put P e (in_order (es ++ fs)) all.0 (all-
 times-taken_in : (key : List ℕ) (version : ℕ) (es fs : List Entry)
     → times key version (in_order (es ++ fs)) ≤ times key version (es ++ in_order fs)
 times-taken_in key version [] fs = omega arith
-times-taken_in key version (e ∷ es) fs = let here = times-put key version e (in_order (es ++ fs)) in let later = times-taken_in key version es fs in omega arith
+times-taken_in key version (e ∷ es) fs = let here = times-put key version e (in_order (es ++ fs)) in let
+    later = times-taken_in key version es fs in omega arith
 
 winner-taken_in : (key : List ℕ) (number : ℕ) (es fs : List Entry)
     → winner (in_order (es ++ fs)) key number ≡ winner (es ++ in_order fs) key number
@@ -72,7 +75,8 @@ pub shows_taken_in : (logs : Logs) (new old back : List Entry) (h : History) (fr
     → Shows logs (in_order (new ++ old) ++ back) h from to
 shows_taken_in logs new old back h from to shows =
     shows_as logs logs ((new ++ in_order old) ++ back) (in_order (new ++ old) ++ back) h from to shows
-    (λ key number low high. ap (resolved_at logs) (winner-middle key number [] (in_order (new ++ old)) (new ++ in_order old) back (winner-taken_in key number new old)))
+    (λ key number low high. ap (resolved_at logs)
+    (winner-middle key number [] (in_order (new ++ old)) (new ++ in_order old) back (winner-taken_in key number new old)))
     (λ meaning all. let both = all_parts (Means logs meaning) (new ++ in_order old) back all in
     all_both (Means logs meaning) (in_order (new ++ old)) back (all-taken_in (Means logs meaning) new old both.0) both.1)
     (λ key version.
@@ -91,7 +95,8 @@ shows_in_order logs front es back h from to shows =
     (λ meaning all.
     let outer = all_parts (Means logs meaning) (front ++ es) back all in
     let inner = all_parts (Means logs meaning) front es outer.0 in
-    all_both (Means logs meaning) (front ++ in_order es) back (all_both (Means logs meaning) front (in_order es) inner.0 (all-in_order (Means logs meaning) es inner.1)) outer.1)
+    all_both (Means logs meaning) (front ++ in_order es) back
+    (all_both (Means logs meaning) front (in_order es) inner.0 (all-in_order (Means logs meaning) es inner.1)) outer.1)
     (λ key version.
     let a = times-append key version (front ++ in_order es) back in
     let b = times-append key version front (in_order es) in
@@ -132,9 +137,12 @@ times-of_key : (key : List ℕ) (version : ℕ) (es : List Entry)
     → times key version (of_key key es) ≡ times key version es
 times-of_key key version [] = refl
 times-of_key key version (e ∷ es) =
-    elim (eq_by_cmp key_cmp key e.key) as (λ b. eq_by_cmp key_cmp key e.key ≡ b → times key version (cond b (e ∷ of_key key es) (of_key key es)) ≡ cond (eq_by_cmp key_cmp key e.key && (e.version == version)) 1 0 + times key version es) [
+    elim (eq_by_cmp key_cmp key e.key) as
+    (λ b. eq_by_cmp key_cmp key e.key ≡ b → times key version (cond b (e ∷ of_key key es) (of_key key es)) ≡ cond
+    (eq_by_cmp key_cmp key e.key && (e.version == version)) 1 0 + times key version es) [
       | true ↦ λ is. ap (λ n. cond (eq_by_cmp key_cmp key e.key && (e.version == version)) 1 0 + n) (times-of_key key version es)
-      | false ↦ λ is. times-of_key key version es ∙ sym (zero-add (times key version es)) ∙ ap (λ b. cond (b && (e.version == version)) 1 0 + times key version es) (sym is)
+      | false ↦ λ is. times-of_key key version es ∙ sym (zero-add (times key version es))
+          ∙ ap (λ b. cond (b && (e.version == version)) 1 0 + times key version es) (sym is)
     ] refl
 
 -- Where each key has the same entries in the same order, the same is shown: entries of other keys
@@ -144,8 +152,10 @@ pub shows_by_key : (logs : Logs) (es fs : List Entry) (h : History) (from : List
     → Shows logs fs h from to
 shows_by_key logs es fs h from to same shows =
     shows_as logs logs es fs h from to shows
-    (λ key number low high. ap (resolved_at logs) (sym (winner-of_key key number fs) ∙ ap (λ (xs : List Entry). winner xs key number) (same key) ∙ winner-of_key key number es))
-    (λ meaning all. all_by_key (Means logs meaning) fs (λ key. subst (AllByRecursion (Means logs meaning)) (sym (same key)) (all_of_key (Means logs meaning) key es all)))
+    (λ key number low high. ap (resolved_at logs)
+    (sym (winner-of_key key number fs) ∙ ap (λ (xs : List Entry). winner xs key number) (same key) ∙ winner-of_key key number es))
+    (λ meaning all. all_by_key (Means logs meaning) fs
+    (λ key. subst (AllByRecursion (Means logs meaning)) (sym (same key)) (all_of_key (Means logs meaning) key es all)))
     (λ key version.
     let here = times-of_key key version fs in
     let there = times-of_key key version es in
@@ -157,7 +167,8 @@ shows_by_key logs es fs h from to same shows =
 -- what is so of a key's entries is so of them in order
 own_in_order : (P : Entry → Type 0) (key : List ℕ) (es : List Entry)
     → AllByRecursion P (of_key key es) → AllByRecursion P (of_key key (in_order es))
-own_in_order P key es all = to_key (in_order es) (all-in_order (λ (e : Entry). eq_by_cmp key_cmp key e.key ≡ true → P e) es (from_key es all))
+own_in_order P key es all = to_key (in_order es)
+    (all-in_order (λ (e : Entry). eq_by_cmp key_cmp key e.key ≡ true → P e) es (from_key es all))
   where
     from_key : (xs : List Entry) → AllByRecursion P (of_key key xs)
         → AllByRecursion (λ (e : Entry). eq_by_cmp key_cmp key e.key ≡ true → P e) xs
@@ -173,10 +184,11 @@ own_in_order P key es all = to_key (in_order es) (all-in_order (λ (e : Entry). 
         → AllByRecursion (λ (e : Entry). eq_by_cmp key_cmp key e.key ≡ true → P e) xs
         → AllByRecursion P (of_key key xs)
     to_key [] all = tt
-    to_key (x ∷ xs) all = elim (eq_by_cmp key_cmp key x.key) as (λ b. eq_by_cmp key_cmp key x.key ≡ b → AllByRecursion P (cond b (x ∷ of_key key xs) (of_key key xs))) [
-      | true ↦ λ is. (all.0 is, to_key xs all.1)
-      | false ↦ λ is. to_key xs all.1
-    ] refl
+    to_key (x ∷ xs) all = elim (eq_by_cmp key_cmp key x.key) as
+        (λ b. eq_by_cmp key_cmp key x.key ≡ b → AllByRecursion P (cond b (x ∷ of_key key xs) (of_key key xs))) [
+          | true ↦ λ is. (all.0 is, to_key xs all.1)
+          | false ↦ λ is. to_key xs all.1
+        ] refl
 
 module _ (logs : Logs) (es some fs : List Entry) (gathers : (key : List ℕ) → Gathers key es some fs) where
   gathered_winner : (key : List ℕ) (number : ℕ) → winner fs key number ≡ winner es key number
@@ -196,7 +208,8 @@ module _ (logs : Logs) (es some fs : List Entry) (gathers : (key : List ℕ) →
       let outer = all_parts P (g.front ++ of_key key some) g.behind (subst (AllByRecursion P) g.apart (all_of_key P key es all)) in
       let inner = all_parts P g.front (of_key key some) outer.0 in
       subst (AllByRecursion P) (sym g.together)
-      (all_both P (g.front ++ of_key key (in_order some)) g.behind (all_both P g.front (of_key key (in_order some)) inner.0 (own_in_order P key some inner.1)) outer.1)
+      (all_both P (g.front ++ of_key key (in_order some)) g.behind
+      (all_both P g.front (of_key key (in_order some)) inner.0 (own_in_order P key some inner.1)) outer.1)
 
   gathered_times : (key : List ℕ) (version : ℕ) → times key version fs ≤ times key version es
   gathered_times key version =

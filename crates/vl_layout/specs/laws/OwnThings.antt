@@ -4,7 +4,9 @@ use Rattle.std.proofs.lemmas.Bool.{false≢true}
 use Rattle.std.proofs.lemmas.Bool.Decides.{nat_tests}
 use Rattle.std.specs.Prelude.{◌==◌, Option, Some, None, is_some}
 use Rattle.std.specs.Option.{option_map}
-use Rattle.vl_layout.specs.LockHistory.{OpenThings, job_after, pass_after, things_after, open_things, open_job, open_pass, number_after, job_in, segment_in, HasBegun, IsOwn, IsLegalStep, IsLegalEntry, IsLegalFrom, entries_by}
+use Rattle.vl_layout.specs.LockHistory.{OpenThings, job_after, pass_after, things_after, open_things, open_job}
+use Rattle.vl_layout.specs.LockHistory.{open_pass, number_after, job_in, segment_in, HasBegun, IsOwn, IsLegalStep}
+use Rattle.vl_layout.specs.LockHistory.{IsLegalEntry, IsLegalFrom, entries_by}
 use Rattle.vl_layout.specs.declared.job.Job.{Job}
 use Rattle.vl_layout.specs.declared.layout.Layout.{Layout}
 use Rattle.vl_layout.specs.declared.lock_history.LockEntry.{LockEntry}
@@ -71,7 +73,8 @@ job_stays last s j p o (e ∷ es) legal all is =
     by_test (e.session == s) refl (λ q next. job_stays (number_after e.step last) s j q (things_after e o) es legal.1 next) is
   where
     by_test : (b : Bool) → (e.session == s) ≡ b
-        → ((q : Option (ℕ × Job)) → (q ≡ Some (s, j) → (things_after e o).job ≡ Some (s, j)) → open_job q (entries_by s es) ≡ Some (s, j) → (open_things (things_after e o) es).job ≡ Some (s, j))
+        → ((q : Option (ℕ × Job)) → (q ≡ Some (s, j) → (things_after e o).job ≡ Some (s, j))
+        → open_job q (entries_by s es) ≡ Some (s, j) → (open_things (things_after e o) es).job ≡ Some (s, j))
         → open_job p (cond b (e ∷ entries_by s es) (entries_by s es)) ≡ Some (s, j) → (open_things (things_after e o) es).job ≡ Some (s, j)
     by_test true own rest is = rest (job_after e.session e.step e.layout p) (own_job_step e.session e.step e.layout p o.job (s, j) all) is
     by_test false other rest is = rest p (λ has. other_job_step last s e.session o e.step e.layout j other legal.0.step (all has)) is
@@ -114,7 +117,10 @@ pass_stays last s j p o (e ∷ es) legal all is =
     by_test (e.session == s) refl (λ q next. pass_stays (number_after e.step last) s j q (things_after e o) es legal.1 next) is
   where
     by_test : (b : Bool) → (e.session == s) ≡ b
-        → ((q : Option (ℕ × ℕ)) → (q ≡ Some (s, j) → (things_after e o).pass ≡ Some (s, j)) → open_pass q (entries_by s es) ≡ Some (s, j) → (open_things (things_after e o) es).pass ≡ Some (s, j))
-        → open_pass p (cond b (e ∷ entries_by s es) (entries_by s es)) ≡ Some (s, j) → (open_things (things_after e o) es).pass ≡ Some (s, j)
-    by_test true own rest is = rest (pass_after e.session e.step e.layout p) (own_pass_step e.session e.step e.layout p o.pass (s, j) all) is
+        → ((q : Option (ℕ × ℕ)) → (q ≡ Some (s, j) → (things_after e o).pass ≡ Some (s, j))
+        → open_pass q (entries_by s es) ≡ Some (s, j) → (open_things (things_after e o) es).pass ≡ Some (s, j))
+        → open_pass p (cond b (e ∷ entries_by s es) (entries_by s es)) ≡ Some (s, j)
+        → (open_things (things_after e o) es).pass ≡ Some (s, j)
+    by_test true own rest is = rest (pass_after e.session e.step e.layout p)
+        (own_pass_step e.session e.step e.layout p o.pass (s, j) all) is
     by_test false other rest is = rest p (λ has. other_pass_step last s e.session o e.step e.layout j other legal.0.step (all has)) is

@@ -29,7 +29,8 @@ module _ (key : List ℕ) (number : ℕ) where
       → counts key number f ≡ c → P f → Has P w → Has P (newest_of (only_if c f) w)
   either_has P f false w is p has = has
   either_has P f true None is p has = (is, p)
-  either_has P f true (Some g) is p has = elim (nat_le g.version f.version) as (λ b. Has P (cond b (Some f) (Some g))) [ true ↦ (is, p) | false ↦ has ]
+  either_has P f true (Some g) is p has = elim (nat_le g.version f.version) as (λ b. Has P (cond b (Some f) (Some g)))
+      [ true ↦ (is, p) | false ↦ has ]
 
   pub winner_has : (P : Entry → Type 0) (es : List Entry) → AllByRecursion P es
       → Has P (winner es key number)
@@ -70,12 +71,14 @@ module _ (key : List ℕ) (number : ℕ) where
           → (list_any (is_at at version) fs ≡ true → Reaches P version (winner fs key number))
           → Reaches P version (newest_of (only_if (counts key number f) f) (winner fs key number))
       by_test false is later =
-          later_reaches P version f (counts key number f) (winner fs key number) refl all.0 (later (sym (ap (λ b. b || list_any (is_at at version) fs) is) ∙ there))
+          later_reaches P version f (counts key number f) (winner fs key number) refl all.0
+          (later (sym (ap (λ b. b || list_any (is_at at version) fs) is) ∙ there))
       by_test true is later =
           let both = and_parts _ _ is in
           let keys : at ≡ f.key = same_key at f.key both.0 in
           let versions : f.version ≡ version = grind (arith, nat_tests, both.1) in
-          let counts_f : counts key number f ≡ true = ap (λ k. eq_by_cmp key_cmp key k && nat_le f.version number) (sym keys) ∙ ap (λ v. eq_by_cmp key_cmp key at && nat_le v number) versions ∙ counted in
+          let counts_f : counts key number f ≡ true = ap (λ k. eq_by_cmp key_cmp key k && nat_le f.version number)
+          (sym keys) ∙ ap (λ v. eq_by_cmp key_cmp key at && nat_le v number) versions ∙ counted in
           subst (λ b. Reaches P version (newest_of (only_if b f) (winner fs key number))) (sym counts_f)
           (first_reaches P version f (winner fs key number) (omega (arith, versions)) counts_f all.0 (winner_has P fs all.1))
 
@@ -104,12 +107,15 @@ module _ (logs : Logs) (h : History) (from : List ℕ → ℕ) (to : ℕ) where
           → resolved_at logs (newest_of (Some e) w) ≡ resolved_at logs w
       by_version key number counted None reached = absurd reached
       by_version key number counted (Some g) reached =
-          elim (nat_le g.version e.version) as (λ b. nat_le g.version e.version ≡ b → resolved_at logs (cond b (Some e) (Some g)) ≡ resolved_at logs (Some g)) [
+          elim (nat_le g.version e.version) as
+          (λ b. nat_le g.version e.version ≡ b → resolved_at logs (cond b (Some e) (Some g)) ≡ resolved_at logs (Some g)) [
             | true ↦ λ le.
                 let at_least = reached.0 in
                 let versions : g.version ≡ e.version = grind (arith, nat_tests) in
-                let keys : g.key ≡ e.key = sym (same_key key g.key (and_parts _ _ reached.1).0) ∙ same_key key e.key (and_parts _ _ counted).0 in
-                leads ∙ ap Some (sym means) ∙ sym (reached.2 ∙ ap Some (ap (λ k. shows.meaning k g.version) keys ∙ ap (shows.meaning e.key) versions))
+                let keys : g.key ≡ e.key = sym (same_key key g.key (and_parts _ _ reached.1).0)
+                ∙ same_key key e.key (and_parts _ _ counted).0 in
+                leads ∙ ap Some (sym means)
+                ∙ sym (reached.2 ∙ ap Some (ap (λ k. shows.meaning k g.version) keys ∙ ap (shows.meaning e.key) versions))
             | false ↦ λ less. refl
           ] refl
 
@@ -119,11 +125,13 @@ module _ (logs : Logs) (h : History) (from : List ℕ → ℕ) (to : ℕ) where
       front key number true is =
           let keys : key ≡ e.key = same_key key e.key (and_parts _ _ is).0 in
           ap (λ b. resolved_at logs (newest_of (only_if b e) (winner es key number))) is
-          ∙ by_version key number is (winner es key number) (winner_reaches key number (Means logs shows.meaning) e.key e.version es is there shows.resolves)
+          ∙ by_version key number is (winner es key number)
+          (winner_reaches key number (Means logs shows.meaning) e.key e.version es is there shows.resolves)
 
       once : (key : List ℕ) (version : ℕ) → shows.meaning key version ≡ None → (b : Bool)
           → is_at key version e ≡ b → times key version (e ∷ es) ≤ 1
-      once key version none false is = subst (λ b. cond b 1 0 + times key version es ≤ 1) (sym is) (let few = shows.gone_once key version none in omega (arith, few))
+      once key version none false is = subst (λ b. cond b 1 0 + times key version es ≤ 1) (sym is)
+          (let few = shows.gone_once key version none in omega (arith, few))
       once key version none true is =
           let both = and_parts _ _ is in
           let keys : key ≡ e.key = same_key key e.key both.0 in

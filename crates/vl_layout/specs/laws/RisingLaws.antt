@@ -12,7 +12,8 @@ module _ {X Y : Type 0} where
   map-put_by f key key' same x [] = refl
   map-put_by f key key' same x (y ∷ ys) =
       by_test (nat_lt (key y) (key x)) (map-put_by f key key' same x ys)
-      ∙ ap (λ b. cond b (f y ∷ put_by key' (f x) (map f ys)) (f x ∷ f y ∷ map f ys)) (ap (λ m. nat_lt m (key x)) (sym (same y)) ∙ ap (nat_lt (key' (f y))) (sym (same x)))
+      ∙ ap (λ b. cond b (f y ∷ put_by key' (f x) (map f ys)) (f x ∷ f y ∷ map f ys))
+      (ap (λ m. nat_lt m (key x)) (sym (same y)) ∙ ap (nat_lt (key' (f y))) (sym (same x)))
     where
       by_test : (b : Bool) → map f (put_by key x ys) ≡ put_by key' (f x) (map f ys)
           → map f (cond b (y ∷ put_by key x ys) (x ∷ y ∷ ys)) ≡ cond b (f y ∷ put_by key' (f x) (map f ys)) (f x ∷ f y ∷ map f ys)
@@ -69,7 +70,11 @@ module _ {X : Type 0} (key : X → ℕ) where
     where
       by_test : (b : Bool) → nat_lt (key y) (key x) ≡ b → IsRising key (put_by key x ys)
           → IsRising key (cond b (y ∷ put_by key x ys) (x ∷ y ∷ ys))
-      by_test true is later = (all-put_by (λ z. key y < key z) x ys (let less : key y < key x = grind (arith, nat_tests) in less) rising.0, later)
+      by_test true is later = (
+        all-put_by (λ z. key y < key z) x ys
+            (let less : key y < key x = grind (arith, nat_tests) in less) rising.0,
+        later,
+      )
       by_test false is later =
           let apart = other.0 in
           let le = not_less (key y) (key x) is in
@@ -101,18 +106,21 @@ module _ {X : Type 0} (key : X → ℕ) where
   filter-put_by p x (y ∷ ys) rising = by_test (nat_lt (key y) (key x)) refl (filter-put_by p x ys rising.1)
     where
       low : (a c : Bool) → nat_lt (key y) (key x) ≡ true → filter p (put_by key x ys) ≡ cond a (put_by key x (filter p ys)) (filter p ys)
-          → cond c (y ∷ filter p (put_by key x ys)) (filter p (put_by key x ys)) ≡ cond a (put_by key x (cond c (y ∷ filter p ys) (filter p ys))) (cond c (y ∷ filter p ys) (filter p ys))
+          → cond c (y ∷ filter p (put_by key x ys)) (filter p (put_by key x ys)) ≡ cond a
+          (put_by key x (cond c (y ∷ filter p ys) (filter p ys))) (cond c (y ∷ filter p ys) (filter p ys))
       low true true is later = ap (λ zs. y ∷ zs) later ∙ sym (ap (λ b. cond b (y ∷ put_by key x (filter p ys)) (x ∷ y ∷ filter p ys)) is)
       low true false is later = later
       low false true is later = ap (λ zs. y ∷ zs) later
       low false false is later = later
 
       high : (a c : Bool) → nat_lt (key y) (key x) ≡ false
-          → cond a (x ∷ cond c (y ∷ filter p ys) (filter p ys)) (cond c (y ∷ filter p ys) (filter p ys)) ≡ cond a (put_by key x (cond c (y ∷ filter p ys) (filter p ys))) (cond c (y ∷ filter p ys) (filter p ys))
+          → cond a (x ∷ cond c (y ∷ filter p ys) (filter p ys)) (cond c (y ∷ filter p ys) (filter p ys)) ≡ cond a
+          (put_by key x (cond c (y ∷ filter p ys) (filter p ys))) (cond c (y ∷ filter p ys) (filter p ys))
       high false c is = refl
       high true c is =
           let le : key x ≤ key y = not_less (key y) (key x) is in
-          sym (in_front x (cond c (y ∷ filter p ys) (filter p ys)) (elim c as (λ b. AllByRecursion (λ z. key x ≤ key z) (cond b (y ∷ filter p ys) (filter p ys))) [
+          sym (in_front x (cond c (y ∷ filter p ys) (filter p ys))
+          (elim c as (λ b. AllByRecursion (λ z. key x ≤ key z) (cond b (y ∷ filter p ys) (filter p ys))) [
             | true ↦ (le, all-filter (λ z. key x ≤ key z) p ys (from_first (key x) (key y) le ys rising.0))
             | false ↦ all-filter (λ z. key x ≤ key z) p ys (from_first (key x) (key y) le ys rising.0)
           ]))

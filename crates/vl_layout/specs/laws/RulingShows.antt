@@ -1,6 +1,7 @@
 -- Whatever a commit, a rotation, a flush or a relocation answers, its layout shows the history that
 -- it leaves.
-use Rattle.std.proofs.Common.{◌≡◌, ℕ, ◌+◌, ◌≤◌, Bool, true, false, cond, ◌||◌, List, [], ◌∷◌, map, length, refl, ap, sym, ◌∙◌, subst, arith, length-append}
+use Rattle.std.proofs.Common.{◌≡◌, ℕ, ◌+◌, ◌≤◌, Bool, true, false, cond, ◌||◌, List, [], ◌∷◌, map, length, refl, ap}
+use Rattle.std.proofs.Common.{sym, ◌∙◌, subst, arith, length-append}
 use Rattle.std.proofs.lemmas.Bool.{and_parts}
 use Rattle.std.proofs.lemmas.Bool.Decides.{nat_tests}
 use Rattle.std.specs.Prelude.{T, Option, Some, None, nat_le, ◌==◌, if◌then◌else◌}
@@ -28,10 +29,14 @@ use Rattle.vl_model.specs.declared.counter.Counter.TheVariants as counter
 use Rattle.vl_layout.specs.laws.LayoutShows.{AreShown, sources-rotated, commit_shows, flush_shows, relocate_shows}
 use Rattle.vl_layout.specs.Logs.{memtable}
 use Rattle.vl_layout.specs.Relocation.{Pass, Candidate, is_moved, moved_of}
-use Rattle.vl_layout.specs.Ruling.{Ruling, leaving, ended, logged, StepAnswer, Stepped, Exhausted as NoNumber, has_no_number, has_no_version}
-use Rattle.vl_layout.specs.Rulings.Commit.{Transaction, CommitAnswer, Nothing, Exhausted, Full, commit_ended, committed, commit_checked, commit_running, commit_unless, commit_ruling, commit_frame}
+use Rattle.vl_layout.specs.Ruling.{Ruling, leaving, ended, logged, StepAnswer, Stepped, Exhausted as NoNumber}
+use Rattle.vl_layout.specs.Ruling.{has_no_number, has_no_version}
+use Rattle.vl_layout.specs.Rulings.Commit.{Transaction, CommitAnswer, Nothing, Exhausted, Full, commit_ended}
+use Rattle.vl_layout.specs.Rulings.Commit.{committed, commit_checked, commit_running, commit_unless, commit_ruling}
+use Rattle.vl_layout.specs.Rulings.Commit.{commit_frame}
 use Rattle.vl_layout.specs.Rulings.Flush.{flushed, flush_of, flush_unless, flush_ruling}
-use Rattle.vl_layout.specs.Rulings.Relocate.{MoveAnswer, Moves, Exhausted as NoVersion, Full as NoRoom, relocated, relocate_of, relocate_unless, relocate_ruling}
+use Rattle.vl_layout.specs.Rulings.Relocate.{MoveAnswer, Moves, Exhausted as NoVersion, Full as NoRoom, relocated}
+use Rattle.vl_layout.specs.Rulings.Relocate.{relocate_of, relocate_unless, relocate_ruling}
 use Rattle.vl_layout.specs.Rulings.Rotate.{rotated, rotate_of, rotate_unless, rotate_ruling}
 use Rattle.vl_layout.specs.Shows.{Shows, Meaning, Means, AreUpTo}
 use Rattle.vl_layout.specs.Sources.{sources, oldest}
@@ -52,24 +57,31 @@ last_number-more : (h : History) (writes : Writes)
     → last_number (with_commit h writes) ≡ last_number h + 1
 last_number-more h writes = let both = length-append h.commits (writes ∷ []) in omega arith
 
-module _ (logs : Logs) (from : List ℕ → ℕ) (l : Layout) (h : History) (t : Transaction) (up : AreUpTo (last_number h) (sources l)) (begins : (key : List ℕ) → from key ≤ last_number h) (rising : T (is_sorted key_cmp t.writes)) (shows : Shows logs (sources l) h from (last_number h)) where
+module _ (logs : Logs) (from : List ℕ → ℕ) (l : Layout) (h : History) (t : Transaction)
+    (up : AreUpTo (last_number h) (sources l)) (begins : (key : List ℕ) → from key ≤ last_number h)
+    (rising : T (is_sorted key_cmp t.writes)) (shows : Shows logs (sources l) h from (last_number h)) where
   committed_shows : ShowsRuled logs from (committed l h t)
   committed_shows =
       let writes : Writes = from_sorted t.writes in
       subst (Shows logs (sources (committed l h t).layout) (with_commit h writes) from) (sym (last_number-more h writes))
-      (subst (λ (ws : List (List ℕ × Change)). Shows logs (sources (logged (commit_frame h ws) (ended t.ticket l))) (with_commit h writes) from (last_number h + 1))
+      (subst (λ (ws : List (List ℕ × Change)). Shows logs (sources (logged (commit_frame h ws) (ended t.ticket l)))
+      (with_commit h writes) from (last_number h + 1))
       (entries-from_sorted key_cmp t.writes rising) (commit_shows logs l t.ticket h writes from up begins shows))
 
   checked_shows : (conflict : Option Named) → ShowsRuled logs from (commit_checked l h t conflict)
   checked_shows (Some named) = shows
   checked_shows None =
-      either logs from (nat_le (l.active.length + frame_length l.active.format (commit_frame h t.writes)) l.room) (committed l h t) (leaving (Full l.active.length (frame_length l.active.format (commit_frame h t.writes))) h l) committed_shows shows
+      either logs from (nat_le (l.active.length + frame_length l.active.format (commit_frame h t.writes)) l.room)
+      (committed l h t) (leaving (Full l.active.length (frame_length l.active.format (commit_frame h t.writes))) h l)
+      committed_shows shows
 
   running_shows : (conflict : Option Named) → ShowsRuled logs from (commit_running l h t conflict)
   running_shows conflict =
-      let rest : Ruling CommitAnswer = if nat_le max_commit_number (last_number h) then leaving (Exhausted counter.Commit) h l else commit_checked l h t conflict in
+      let rest : Ruling CommitAnswer = if nat_le max_commit_number (last_number h) then leaving
+      (Exhausted counter.Commit) h l else commit_checked l h t conflict in
       either logs from (length t.writes == 0) (commit_ended Nothing l h t) rest shows
-      (either logs from (nat_le max_commit_number (last_number h)) (leaving (Exhausted counter.Commit) h l) (commit_checked l h t conflict) shows (checked_shows conflict))
+      (either logs from (nat_le max_commit_number (last_number h)) (leaving (Exhausted counter.Commit) h l)
+      (commit_checked l h t conflict) shows (checked_shows conflict))
 
   unless_shows : (halted : Option FileName)
       → ShowsRuled logs from (commit_unless halted l h t (first_conflict h t.number t.reads))
@@ -92,7 +104,8 @@ module _ (logs : Logs) (from : List ℕ → ℕ) (l : Layout) (h : History) (sho
       let made : Ruling StepAnswer = record { answer = Stepped l.active.number; history = h; layout = rotated l; calls = 3; gone = [] } in
       let rest : Ruling StepAnswer = if has_no_version l then leaving (NoNumber counter.Version) h l else made in
       either logs from (has_no_number l.next_log 1) (leaving (NoNumber counter.Log) h l) rest shows
-      (either logs from (has_no_version l) (leaving (NoNumber counter.Version) h l) made shows (stepped_shows (rotated l) 3 (sources-rotated l) (Stepped l.active.number)))
+      (either logs from (has_no_version l) (leaving (NoNumber counter.Version) h l) made shows
+      (stepped_shows (rotated l) 3 (sources-rotated l) (Stepped l.active.number)))
 
   rotate_unless-shows : (halted : Option FileName) → ShowsRuled logs from (rotate_unless halted l h)
   rotate_unless-shows (Some name) = shows
@@ -103,7 +116,9 @@ module _ (logs : Logs) (from : List ℕ → ℕ) (l : Layout) (h : History) (sho
 
 -- ---- a flush
 
-module _ (logs : Logs) (from : List ℕ → ℕ) (l : Layout) (h : History) (shows : Shows logs (sources l) h from (last_number h)) (level : List Table) (deeper : List (List Table)) (are : l.levels ≡ level ∷ deeper)
+module _ (logs : Logs) (from : List ℕ → ℕ) (l : Layout) (h : History)
+    (shows : Shows logs (sources l) h from (last_number h)) (level : List Table) (deeper : List (List Table))
+    (are : l.levels ≡ level ∷ deeper)
     (found : (s : Segment) → oldest l.frozen ≡ Some s → ArePlaced logs (memtable s)) where
   flush_of-shows : (o : Option Segment) → oldest l.frozen ≡ o
       → ShowsRuled logs from (flush_of l h o)
@@ -112,7 +127,8 @@ module _ (logs : Logs) (from : List ℕ → ℕ) (l : Layout) (h : History) (sho
       let made : Ruling StepAnswer = record { answer = Stepped l.next_table; history = h; layout = flushed l s; calls = 5; gone = [] } in
       let rest : Ruling StepAnswer = if has_no_version l then leaving (NoNumber counter.Version) h l else made in
       either logs from (has_no_number l.next_table 1) (leaving (NoNumber counter.Table) h l) rest shows
-      (either logs from (has_no_version l) (leaving (NoNumber counter.Version) h l) made shows (flush_shows logs l s h from (last_number h) waits level deeper are (found s waits) shows))
+      (either logs from (has_no_version l) (leaving (NoNumber counter.Version) h l) made shows
+      (flush_shows logs l s h from (last_number h) waits level deeper are (found s waits) shows))
 
   flush_unless-shows : (halted : Option FileName) → ShowsRuled logs from (flush_unless halted l h)
   flush_unless-shows (Some name) = shows
@@ -158,11 +174,13 @@ module _ (logs : Logs) (meaning : Meaning) (segment : ℕ) (c : Candidate) (ther
   won_is_shown (e ∷ es) wins all = by_test (is_at c.moved.key c.moved.version e) refl (λ later. won_is_shown es later all.1)
     where
       by_test : (b : Bool) → is_at c.moved.key c.moved.version e ≡ b
-          → (wins_exactly es segment c.moved.key c.moved.version c.place ≡ true → (list_any (is_at c.moved.key c.moved.version) es ≡ true) × (meaning c.moved.key c.moved.version ≡ Some c.moved.value))
+          → (wins_exactly es segment c.moved.key c.moved.version c.place ≡ true
+          → (list_any (is_at c.moved.key c.moved.version) es ≡ true) × (meaning c.moved.key c.moved.version ≡ Some c.moved.value))
           → (list_any (is_at c.moved.key c.moved.version) (e ∷ es) ≡ true) × (meaning c.moved.key c.moved.version ≡ Some c.moved.value)
       by_test true at later = (
         ap (λ b. b || list_any (is_at c.moved.key c.moved.version) es) at,
-        won_here e e.body refl at (ap (λ b. leads_to segment c.place (cond b (Some e) (exact es c.moved.key c.moved.version))) (sym at) ∙ wins) all.0,
+        won_here e e.body refl at
+            (ap (λ b. leads_to segment c.place (cond b (Some e) (exact es c.moved.key c.moved.version))) (sym at) ∙ wins) all.0,
       )
       by_test false at later =
           let rest = later (ap (λ b. leads_to segment c.place (cond b (Some e) (exact es c.moved.key c.moved.version))) (sym at) ∙ wins) in
@@ -176,7 +194,8 @@ module _ (logs : Logs) (es : List Entry) (meaning : Meaning) (segment last : ℕ
     where
       by_test : (b : Bool) → is_moved es segment last c ≡ b
           → AreShown es meaning (moved_of es segment last cs)
-          → AreShown es meaning (map (λ (x : Candidate). x.moved) (cond b (c ∷ filter (is_moved es segment last) cs) (filter (is_moved es segment last) cs)))
+          → AreShown es meaning (map (λ (x : Candidate). x.moved)
+          (cond b (c ∷ filter (is_moved es segment last) cs) (filter (is_moved es segment last) cs)))
       by_test false is later = later
       by_test true is later =
           let wins = (and_parts (wins_exactly es segment c.moved.key c.moved.version c.place) (nat_le c.moved.version last) is).0 in
@@ -187,7 +206,8 @@ module _ (logs : Logs) (from : List ℕ → ℕ) (l : Layout) (h : History) (sho
       → ShowsRuled logs from (relocate_of l h moved)
   relocate_of-shows [] all = shows
   relocate_of-shows (m ∷ ms) all =
-      let made : Ruling MoveAnswer = record { answer = Moves (length (m ∷ ms)); history = h; layout = relocated l (m ∷ ms); calls = 2; gone = [] } in
+      let made : Ruling MoveAnswer = record
+      { answer = Moves (length (m ∷ ms)); history = h; layout = relocated l (m ∷ ms); calls = 2; gone = [] } in
       let full : Ruling MoveAnswer = leaving (NoRoom l.active.length (frame_length l.active.format (Relocated (m ∷ ms)))) h l in
       let room : Bool = nat_le (l.active.length + frame_length l.active.format (Relocated (m ∷ ms))) l.room in
       either logs from (has_no_version l) (leaving (NoVersion counter.Version) h l) (if room then made else full) shows

@@ -36,7 +36,8 @@ times-append key version (e ∷ es) fs = let later = times-append key version es
 -- stands more often, the same is shown.
 pub shows_as : (logs logs' : Logs) (es fs : List Entry) (h : History) (from : List ℕ → ℕ) (to : ℕ)
     → Shows logs es h from to
-    → ((key : List ℕ) (number : ℕ) → from key ≤ number → number ≤ to → resolved_at logs' (winner fs key number) ≡ resolved_at logs (winner es key number))
+    → ((key : List ℕ) (number : ℕ) → from key ≤ number → number ≤ to
+    → resolved_at logs' (winner fs key number) ≡ resolved_at logs (winner es key number))
     → ((meaning : Meaning) → AllByRecursion (Means logs meaning) es → AllByRecursion (Means logs' meaning) fs)
     → ((key : List ℕ) (version : ℕ) → times key version fs ≤ times key version es)
     → Shows logs' fs h from to
@@ -81,7 +82,8 @@ module _ (logs logs' : Logs) where
   alike_newest (Some e) None (Some e') (Some f') s t = absurd t
   alike_newest (Some e) (Some f) (Some e') None s t = absurd t
   alike_newest (Some e) (Some f) (Some e') (Some f') s t =
-      alike_either (nat_le f.version e.version) (nat_le f'.version e'.version) e f e' f' (ap (λ n. nat_le n e'.version) t.version ∙ ap (nat_le f.version) s.version) s t
+      alike_either (nat_le f.version e.version) (nat_le f'.version e'.version) e f e' f'
+      (ap (λ n. nat_le n e'.version) t.version ∙ ap (nat_le f.version) s.version) s t
 
   alike_winner : (key : List ℕ) (number : ℕ) (es fs : List Entry)
       → AllZip (StandsFor logs logs') es fs
@@ -92,7 +94,8 @@ module _ (logs logs' : Logs) where
   alike_winner key number (e ∷ es) (f ∷ fs) s =
       alike_newest (only_if (counts key number e) e) (winner es key number) (only_if (counts key number f) f) (winner fs key number)
       (alike_only_if (counts key number e) (counts key number f) e f
-      (ap (λ k. eq_by_cmp key_cmp key k && nat_le f.version number) s.0.key ∙ ap (λ v. eq_by_cmp key_cmp key e.key && nat_le v number) s.0.version) s.0)
+      (ap (λ k. eq_by_cmp key_cmp key k && nat_le f.version number) s.0.key
+      ∙ ap (λ v. eq_by_cmp key_cmp key e.key && nat_le v number) s.0.version) s.0)
       (alike_winner key number es fs s.1)
 
   alike_leads : (a b : Option Entry) → AreAlike logs logs' a b
@@ -107,8 +110,10 @@ module _ (logs logs' : Logs) where
   alike_means [] [] s meaning all = tt
   alike_means [] (f ∷ fs) s meaning all = absurd s
   alike_means (e ∷ es) [] s meaning all = absurd s
-  alike_means (e ∷ es) (f ∷ fs) s meaning all =
-      (s.0.leads ∙ all.0 ∙ ap Some (ap (λ k. meaning k e.version) (sym s.0.key) ∙ ap (meaning f.key) (sym s.0.version)), alike_means es fs s.1 meaning all.1)
+  alike_means (e ∷ es) (f ∷ fs) s meaning all = (
+    s.0.leads ∙ all.0 ∙ ap Some (ap (λ k. meaning k e.version) (sym s.0.key) ∙ ap (meaning f.key) (sym s.0.version)),
+    alike_means es fs s.1 meaning all.1,
+  )
 
   alike_times : (key : List ℕ) (version : ℕ) (es fs : List Entry)
       → AllZip (StandsFor logs logs') es fs → times key version fs ≡ times key version es
@@ -117,7 +122,9 @@ module _ (logs logs' : Logs) where
   alike_times key version (e ∷ es) [] s = absurd s
   alike_times key version (e ∷ es) (f ∷ fs) s =
       ap (λ (n : ℕ). cond (is_at key version f) 1 0 + n) (alike_times key version es fs s.1)
-      ∙ ap (λ (b : Bool). cond b 1 0 + times key version es) (ap (λ k. eq_by_cmp key_cmp key k && (f.version == version)) s.0.key ∙ ap (λ v. eq_by_cmp key_cmp key e.key && (v == version)) s.0.version)
+      ∙ ap (λ (b : Bool). cond b 1 0 + times key version es)
+      (ap (λ k. eq_by_cmp key_cmp key k && (f.version == version)) s.0.key
+      ∙ ap (λ v. eq_by_cmp key_cmp key e.key && (v == version)) s.0.version)
 
   -- Where each entry stands for the one in whose place it is, as after a flush, or where a log goes
   -- that no entry leads into, the same is shown.
@@ -153,15 +160,19 @@ alike_at_one_version logs xs ys zs e f h from to shows keys versions = by_meanin
     back = (all_parts (Means logs shows.meaning) (xs ++ e ∷ ys) (f ∷ zs) shows.resolves).1
 
     front : AllByRecursion (Means logs shows.meaning) (e ∷ ys)
-    front = (all_parts (Means logs shows.meaning) xs (e ∷ ys) (all_parts (Means logs shows.meaning) (xs ++ e ∷ ys) (f ∷ zs) shows.resolves).0).1
+    front = (all_parts (Means logs shows.meaning) xs (e ∷ ys)
+        (all_parts (Means logs shows.meaning) (xs ++ e ∷ ys) (f ∷ zs) shows.resolves).0).1
 
     twice : 2 ≤ times e.key e.version (xs ++ e ∷ ys ++ f ∷ zs)
     twice =
         let a = times-append e.key e.version (xs ++ e ∷ ys) (f ∷ zs) in
         let b = times-append e.key e.version xs (e ∷ ys) in
-        let one : times e.key e.version (e ∷ ys) ≡ 1 + times e.key e.version ys = ap (λ (t : Bool). cond t 1 0 + times e.key e.version ys) (is_at-itself e) in
-        let there : is_at e.key e.version f ≡ true = subst (λ (k : List ℕ). is_at k e.version f ≡ true) keys (subst (λ (v : ℕ). is_at f.key v f ≡ true) versions (is_at-itself f)) in
-        let other : times e.key e.version (f ∷ zs) ≡ 1 + times e.key e.version zs = ap (λ (t : Bool). cond t 1 0 + times e.key e.version zs) there in
+        let one : times e.key e.version (e ∷ ys) ≡ 1 + times e.key e.version ys = ap
+        (λ (t : Bool). cond t 1 0 + times e.key e.version ys) (is_at-itself e) in
+        let there : is_at e.key e.version f ≡ true = subst (λ (k : List ℕ). is_at k e.version f ≡ true) keys
+        (subst (λ (v : ℕ). is_at f.key v f ≡ true) versions (is_at-itself f)) in
+        let other : times e.key e.version (f ∷ zs) ≡ 1 + times e.key e.version zs = ap
+        (λ (t : Bool). cond t 1 0 + times e.key e.version zs) there in
         omega arith
 
     by_meaning : (m : Option Stored) → shows.meaning e.key e.version ≡ m

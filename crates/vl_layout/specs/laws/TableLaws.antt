@@ -72,14 +72,17 @@ plain-tables : (inputs : List ℕ) (ts : List Table)
 plain-tables inputs [] = refl
 plain-tables inputs (t ∷ ts) =
     plain-append (marked_as (is_among inputs t) t.entries) (flat_map (λ (u : Table). marked_as (is_among inputs u) u.entries) ts)
-    ∙ ap (λ xs. xs ++ plain (flat_map (λ (u : Table). marked_as (is_among inputs u) u.entries) ts)) (plain-marked (is_among inputs t) t.entries)
+    ∙ ap (λ xs. xs ++ plain (flat_map (λ (u : Table). marked_as (is_among inputs u) u.entries) ts))
+    (plain-marked (is_among inputs t) t.entries)
     ∙ ap (λ xs. t.entries ++ xs) (plain-tables inputs ts)
 
 -- what a job begins with are the sources
 pub plain-sourced : (l : Layout) (inputs : List ℕ) → plain (sourced l inputs) ≡ sources l
 plain-sourced l inputs =
-    plain-append (marked_as false (flat_map memtable (l.active ∷ l.frozen))) (flat_map (λ (t : Table). marked_as (is_among inputs t) t.entries) (tables l))
-    ∙ ap (λ xs. xs ++ plain (flat_map (λ (t : Table). marked_as (is_among inputs t) t.entries) (tables l))) (plain-marked false (flat_map memtable (l.active ∷ l.frozen)))
+    plain-append (marked_as false (flat_map memtable (l.active ∷ l.frozen)))
+    (flat_map (λ (t : Table). marked_as (is_among inputs t) t.entries) (tables l))
+    ∙ ap (λ xs. xs ++ plain (flat_map (λ (t : Table). marked_as (is_among inputs t) t.entries) (tables l)))
+    (plain-marked false (flat_map memtable (l.active ∷ l.frozen)))
     ∙ ap (λ xs. flat_map memtable (l.active ∷ l.frozen) ++ xs) (plain-tables inputs (tables l))
     ∙ append_assoc (memtable l.active) (flat_map memtable l.frozen) (flat_map table_entries (tables l))
 
@@ -98,8 +101,10 @@ kept_from-marks : (keep : ℕ) (inputs outside : List Entry) (floor : ℕ) (newe
     → kept_inputs (marks_from keep inputs outside floor newer ss) ≡ kept_from keep inputs outside floor newer ss
 kept_from-marks keep inputs outside floor newer [] = refl
 kept_from-marks keep inputs outside floor newer (s ∷ ss) =
-    ap (λ b. if_so b s.1 (kept_inputs (marks_from keep inputs outside floor (s.1 ∷ newer) ss))) (both_ways s.0 (is_dropped keep inputs outside floor newer s.1))
-    ∙ ap (if_so (s.0 && not (is_dropped keep inputs outside floor newer s.1)) s.1) (kept_from-marks keep inputs outside floor (s.1 ∷ newer) ss)
+    ap (λ b. if_so b s.1 (kept_inputs (marks_from keep inputs outside floor (s.1 ∷ newer) ss)))
+    (both_ways s.0 (is_dropped keep inputs outside floor newer s.1))
+    ∙ ap (if_so (s.0 && not (is_dropped keep inputs outside floor newer s.1)) s.1)
+    (kept_from-marks keep inputs outside floor (s.1 ∷ newer) ss)
 
 -- what a job keeps of its inputs is what its marks keep of them
 pub kept-marks : (job : Job)

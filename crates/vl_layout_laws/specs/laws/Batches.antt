@@ -19,7 +19,8 @@ use Rattle.vl_layout_laws.specs.laws.Moves.{at_most_one, taken_parts}
 -- where this is found of the first record, none is taken only if nothing is found behind it either
 abbrev IsLeft : List Entry → ℕ → ℕ → LogRecord → List LogRecord → List Candidate → Type 0
 IsLeft base segment bytes r rs f =
-    (batch_with (has_room 0 bytes (value_lengths f)) f (taken_from base segment 0 bytes rs) (taken_from base segment (0 + 1) (bytes + value_lengths f) rs) ([], r ∷ rs)).0 ≡ []
+    (batch_with (has_room 0 bytes (value_lengths f)) f (taken_from base segment 0 bytes rs)
+    (taken_from base segment (0 + 1) (bytes + value_lengths f) rs) ([], r ∷ rs)).0 ≡ []
     → f ++ found_all base segment rs ≡ []
 
 -- the first record that is found is taken, however long it is
@@ -131,7 +132,8 @@ one_fits count bytes c cs few small (inr fits) = inr (
 module _ (base : List Entry) (segment : ℕ) where
   abbrev IsFitting : ℕ → ℕ → LogRecord → List LogRecord → List Candidate → Type 0
   IsFitting count bytes r rs f =
-      Fits count bytes (batch_with (has_room count bytes (value_lengths f)) f (taken_from base segment count bytes rs) (taken_from base segment (count + 1) (bytes + value_lengths f) rs) ([], r ∷ rs)).0
+      Fits count bytes (batch_with (has_room count bytes (value_lengths f)) f (taken_from base segment count bytes rs)
+      (taken_from base segment (count + 1) (bytes + value_lengths f) rs) ([], r ∷ rs)).0
 
   -- behind a first record all that is taken keeps the limits
   later_fits : (count bytes : ℕ) (rs : List LogRecord) → 1 ≤ count
@@ -143,14 +145,17 @@ module _ (base : List Entry) (segment : ℕ) where
     where
       Behind : Type 0
       Behind =
-          (c : Candidate) → Fits (count + 1) (bytes + value_lengths (c ∷ [])) (taken_from base segment (count + 1) (bytes + value_lengths (c ∷ [])) rs).0
+          (c : Candidate) → Fits (count + 1) (bytes + value_lengths (c ∷ []))
+          (taken_from base segment (count + 1) (bytes + value_lengths (c ∷ [])) rs).0
 
       room : Behind → (c : Candidate) (b : Bool) → has_room count bytes (value_lengths (c ∷ [])) ≡ b
-          → Fits count bytes (batch_with b (c ∷ []) (taken_from base segment count bytes rs) (taken_from base segment (count + 1) (bytes + value_lengths (c ∷ [])) rs) ([], r ∷ rs)).0
+          → Fits count bytes (batch_with b (c ∷ []) (taken_from base segment count bytes rs)
+          (taken_from base segment (count + 1) (bytes + value_lengths (c ∷ [])) rs) ([], r ∷ rs)).0
       room behind c true is =
           let not_first : (count == 0) ≡ false = grind (arith, nat_tests) in
           let both : (nat_lt count max_batch_records && nat_le (bytes + value_lengths (c ∷ [])) max_batch_bytes) ≡ true =
-          sym (ap (λ (b : Bool). b || (nat_lt count max_batch_records && nat_le (bytes + value_lengths (c ∷ [])) max_batch_bytes)) not_first)
+          sym (ap (λ (b : Bool). b ||
+          (nat_lt count max_batch_records && nat_le (bytes + value_lengths (c ∷ [])) max_batch_bytes)) not_first)
           ∙ is in
           let parts = and_parts (nat_lt count max_batch_records) (nat_le (bytes + value_lengths (c ∷ [])) max_batch_bytes) both in
           one_fits count bytes c _ (let test = parts.0 in grind (arith, nat_tests)) (let test = parts.1 in grind (arith, nat_tests))
@@ -173,7 +178,8 @@ module _ (base : List Entry) (segment : ℕ) where
 
   abbrev IsWithin : LogRecord → List LogRecord → List Candidate → Type 0
   IsWithin r rs f =
-      IsWithinLimits (batch_with (has_room 0 0 (value_lengths f)) f (taken_from base segment 0 0 rs) (taken_from base segment (0 + 1) (0 + value_lengths f) rs) ([], r ∷ rs)).0
+      IsWithinLimits (batch_with (has_room 0 0 (value_lengths f)) f (taken_from base segment 0 0 rs)
+      (taken_from base segment (0 + 1) (0 + value_lengths f) rs) ([], r ∷ rs)).0
 
   all_within : (rs : List LogRecord) → IsWithinLimits (taken_from base segment 0 0 rs).0
   all_within [] = inl (omega arith)

@@ -1,5 +1,6 @@
 -- The invariant of an open job: it holds when the job is made, and each ruling beside it keeps it.
-use Rattle.std.proofs.Common.{◌≡◌, inl, inr, ⊎_elim, ℕ, ◌+◌, ◌-◌, min, ◌≤◌, ◌<◌, Bool, true, false, cond, not, ◌&&◌, ◌||◌, List, [], ◌∷◌, ◌++◌, refl, ap, sym, ◌∙◌, subst, arith, length-append}
+use Rattle.std.proofs.Common.{◌≡◌, inl, inr, ⊎_elim, ℕ, ◌+◌, ◌-◌, min, ◌≤◌, ◌<◌, Bool, true, false, cond, not, ◌&&◌}
+use Rattle.std.proofs.Common.{◌||◌, List, [], ◌∷◌, ◌++◌, refl, ap, sym, ◌∙◌, subst, arith, length-append}
 use Rattle.std.proofs.lemmas.Bool.Decides.{nat_tests}
 use Rattle.std.specs.Prelude.{Option, None, if◌then◌else◌, Some, ◌==◌}
 use Rattle.std.specs.List.{AllZip, AllByRecursion, flat_map, list_any, filter}
@@ -39,7 +40,8 @@ use Rattle.vl_layout.specs.declared.table.Table.{Table}
 use Rattle.vl_layout_laws.specs.laws.Gathered.{all_entries, IsShaped, IsClear, IsUntouched}
 use Rattle.vl_layout_laws.specs.laws.Installs.{IsFit, install_ruling-shows}
 use Rattle.vl_layout_laws.specs.laws.Justified.{same_inputs}
-use Rattle.vl_layout_laws.specs.laws.Keeps.{in_memory, marked_tables, all_weaker, kept_committed, kept_relocated, kept_rotated, kept_flushed}
+use Rattle.vl_layout_laws.specs.laws.Keeps.{in_memory, marked_tables, all_weaker, kept_committed, kept_relocated}
+use Rattle.vl_layout_laws.specs.laws.Keeps.{kept_rotated, kept_flushed}
 use Rattle.vl_layout_laws.specs.laws.Lists.{true_false, or_left, or_right}
 use Rattle.vl_layout.specs.Shown.{ShowsRuled, ShowsLow, low_at, AreOf}
 use Rattle.vl_layout.specs.Jobs.{Made, AreOutputs}
@@ -53,7 +55,8 @@ use Rattle.vl_model.specs.laws.VersionLaws.{versions-stay}
 use Rattle.vl_model.specs.laws.HistoryLaws.{with_commit-extends}
 use Rattle.vl_model.specs.declared.change.Change.{Change}
 use Rattle.std.specs.FinMap.{from_sorted}
-use Rattle.vl_layout.specs.OpenJobs.{preceded_if, preceded, IsStillBehind, IsAccounted, IsKeptFor, IsFitted, IsRoomy, IsBesideAll, AreStanding, IsOpenWell}
+use Rattle.vl_layout.specs.OpenJobs.{preceded_if, preceded, IsStillBehind, IsAccounted, IsKeptFor, IsFitted, IsRoomy}
+use Rattle.vl_layout.specs.OpenJobs.{IsBesideAll, AreStanding, IsOpenWell}
 
 -- ---- when it is made
 
@@ -80,15 +83,18 @@ kept_at_first l h inputs target = record {
   inputs = still_itself [] (sourced l (numbers_of inputs));
   outside =
       all_weaker (λ (e : Entry). list_any (is_at e.key e.version) (outside_of (sourced l (numbers_of inputs))) ≡ true)
-      (IsAccounted (outside_of (sourced l (numbers_of inputs))) (floor l h) []) (λ e is. inl is) (outside_of (sourced l (numbers_of inputs))) (all_there (outside_of (sourced l (numbers_of inputs))));
+      (IsAccounted (outside_of (sourced l (numbers_of inputs))) (floor l h) []) (λ e is. inl is)
+      (outside_of (sourced l (numbers_of inputs))) (all_there (outside_of (sourced l (numbers_of inputs))));
 }
 
 least_is_least : (last : ℕ) (xs : List Live)
     → (least_number last xs ≤ last) × AllByRecursion (λ (x : Live). least_number last xs ≤ x.number) xs
 least_is_least last [] = (omega arith, tt)
 least_is_least last (x ∷ xs) =
-    let later = least_is_least last xs in
-    ((let less = later.0 in omega (arith, less)), ((omega arith), all_live_weaker (least_number last xs) (min x.number (least_number last xs)) (omega arith) xs later.1))
+    let later = least_is_least last xs in (
+      (let less = later.0 in omega (arith, less)),
+      ((omega arith), all_live_weaker (least_number last xs) (min x.number (least_number last xs)) (omega arith) xs later.1),
+    )
   where
     all_live_weaker : (a b : ℕ) → b ≤ a → (ys : List Live) → AllByRecursion (λ (y : Live). a ≤ y.number) ys
         → AllByRecursion (λ (y : Live). b ≤ y.number) ys
@@ -110,42 +116,104 @@ pub open_at_first : (l : Layout) (h : History) (inputs : List Table) (target : T
     → IsOpenWell l h (job_of l h inputs target) []
 open_at_first l h inputs target given standing fitted roomy some of =
     let least = least_is_least (last_number h) l.live in
-    record { kept = kept_at_first l h inputs target; last = least.0; live = least.1; given = numbers_given l.next_table inputs given; standing = standing; fitted = fitted; roomy = roomy; some = some; fits = fits-planned l.keep l.since (floor l h); of = of }
+    record {
+      kept = kept_at_first l h inputs target;
+      last = least.0;
+      live = least.1;
+      given = numbers_given l.next_table
+          inputs given;
+      standing = standing;
+      fitted = fitted;
+      roomy = roomy;
+      some = some;
+      fits = fits-planned l.keep l.since
+          (floor l h);
+      of = of;
+    }
 
 -- ---- beside it
 
 filtered_live : (floor_was ticket : ℕ) (xs : List Live) → AllByRecursion (λ (x : Live). floor_was ≤ x.number) xs
     → AllByRecursion (λ (x : Live). floor_was ≤ x.number) (filter (λ (x : Live). not (x.ticket == ticket)) xs)
 filtered_live f ticket [] all = tt
-filtered_live f ticket (x ∷ xs) all = elim (x.ticket == ticket) as (λ b. AllByRecursion (λ (y : Live). f ≤ y.number) (cond (not b) (x ∷ filter (λ (y : Live). not (y.ticket == ticket)) xs) (filter (λ (y : Live). not (y.ticket == ticket)) xs))) [
-  | true ↦ filtered_live f ticket xs all.1
-  | false ↦ (all.0, filtered_live f ticket xs all.1)
-]
+filtered_live f ticket (x ∷ xs) all = elim (x.ticket == ticket) as
+    (λ b. AllByRecursion (λ (y : Live). f ≤ y.number)
+    (cond (not b) (x ∷ filter (λ (y : Live). not (y.ticket == ticket)) xs) (filter (λ (y : Live). not (y.ticket == ticket)) xs))) [
+      | true ↦ filtered_live f ticket xs all.1
+      | false ↦ (all.0, filtered_live f ticket xs all.1)
+    ]
 
 module _ (l : Layout) (h : History) (job : Job) (moved : List Named) (k : IsOpenWell l h job moved) where
   pub open_begun : (ticket : ℕ) → IsOpenWell (begun l ticket (last_number h)) h job moved
-  open_begun ticket = record { kept = k.kept; last = k.last; live = all-put_by (λ (x : Live). x.ticket) (λ (x : Live). job.floor ≤ x.number) (record { ticket = ticket; number = last_number h; pin = pin_of l }) l.live k.last k.live; given = k.given; standing = k.standing; fitted = by job.target k.fitted; roomy = k.roomy; some = k.some; fits = k.fits; of = k.of }
+  open_begun ticket = record {
+    kept = k.kept;
+    last = k.last;
+    live = all-put_by (λ (x : Live). x.ticket) (λ (x : Live). job.floor ≤ x.number)
+        (record { ticket = ticket; number = last_number h; pin = pin_of l }) l.live k.last k.live;
+    given = k.given;
+    standing = k.standing;
+    fitted = by job.target k.fitted;
+    roomy = k.roomy;
+    some = k.some;
+    fits = k.fits;
+    of = k.of;
+  }
     where
       by : (target : Target) → IsFitted l job target → IsFitted (begun l ticket (last_number h)) job target
       by (Level n) fit = fit
       by InPlace fit = fit
 
   pub open_ended : (ticket : ℕ) → IsOpenWell (ended ticket l) h job moved
-  open_ended ticket = record { kept = k.kept; last = k.last; live = filtered_live job.floor ticket l.live k.live; given = k.given; standing = k.standing; fitted = by job.target k.fitted; roomy = k.roomy; some = k.some; fits = k.fits; of = k.of }
+  open_ended ticket = record {
+    kept = k.kept;
+    last = k.last;
+    live = filtered_live job.floor ticket l.live k.live;
+    given = k.given;
+    standing = k.standing;
+    fitted = by job.target k.fitted;
+    roomy = k.roomy;
+    some = k.some;
+    fits = k.fits;
+    of = k.of;
+  }
     where
       by : (target : Target) → IsFitted l job target → IsFitted (ended ticket l) job target
       by (Level n) fit = fit
       by InPlace fit = fit
 
   pub open_picked : (segment : ℕ) → IsOpenWell (with_pass segment l) h job moved
-  open_picked segment = record { kept = k.kept; last = k.last; live = k.live; given = k.given; standing = k.standing; fitted = by job.target k.fitted; roomy = k.roomy; some = k.some; fits = k.fits; of = k.of }
+  open_picked segment = record {
+    kept = k.kept;
+    last = k.last;
+    live = k.live;
+    given = k.given;
+    standing = k.standing;
+    fitted = by job.target
+        k.fitted;
+    roomy = k.roomy;
+    some = k.some;
+    fits = k.fits;
+    of = k.of;
+  }
     where
       by : (target : Target) → IsFitted l job target → IsFitted (with_pass segment l) job target
       by (Level n) fit = fit
       by InPlace fit = fit
 
   pub open_swept : (gone : List FileName) → IsOpenWell (without_files gone l) h job moved
-  open_swept gone = record { kept = k.kept; last = k.last; live = k.live; given = k.given; standing = k.standing; fitted = by job.target k.fitted; roomy = k.roomy; some = k.some; fits = k.fits; of = k.of }
+  open_swept gone = record {
+    kept = k.kept;
+    last = k.last;
+    live = k.live;
+    given = k.given;
+    standing = k.standing;
+    fitted = by job.target
+        k.fitted;
+    roomy = k.roomy;
+    some = k.some;
+    fits = k.fits;
+    of = k.of;
+  }
     where
       by : (target : Target) → IsFitted l job target → IsFitted (without_files gone l) job target
       by (Level n) fit = fit
@@ -167,7 +235,8 @@ module _ (l : Layout) (h : History) (job : Job) (moved : List Named) (k : IsOpen
     some = k.some;
     fits = k.fits;
     of =
-        λ key n there. versions-stay h (with_commit h (from_sorted writes)) (with_commit-extends h (from_sorted writes)) key n (k.of key n there);
+        λ key n there. versions-stay h (with_commit h (from_sorted writes)) (with_commit-extends h (from_sorted writes))
+        key n (k.of key n there);
   }
     where
       by : (target : Target) → IsFitted l job target
@@ -217,7 +286,18 @@ module _ (l : Layout) (h : History) (job : Job) (moved : List Named) (k : IsOpen
       one_later (n ∷ ns) all = ((let less = all.0 in omega (arith, less)), one_later ns all.1)
 
   pub open_rotated : IsOpenWell (rotated l) h job moved
-  open_rotated = record { kept = kept_rotated l job moved k.kept; last = k.last; live = k.live; given = k.given; standing = k.standing; fitted = by job.target k.fitted; roomy = k.roomy; some = k.some; fits = k.fits; of = k.of }
+  open_rotated = record {
+    kept = kept_rotated l job moved k.kept;
+    last = k.last;
+    live = k.live;
+    given = k.given;
+    standing = k.standing;
+    fitted = by job.target k.fitted;
+    roomy = k.roomy;
+    some = k.some;
+    fits = k.fits;
+    of = k.of;
+  }
     where
       by : (target : Target) → IsFitted l job target → IsFitted (rotated l) job target
       by (Level n) fit = fit
@@ -225,7 +305,18 @@ module _ (l : Layout) (h : History) (job : Job) (moved : List Named) (k : IsOpen
 
   pub open_relocated : (records : List Moved)
       → IsOpenWell (relocated l records) h job (moves_at (l.version_number + 1) records ++ moved)
-  open_relocated records = record { kept = kept_relocated l records job moved k.kept; last = k.last; live = k.live; given = k.given; standing = k.standing; fitted = by job.target k.fitted; roomy = k.roomy; some = k.some; fits = k.fits; of = k.of }
+  open_relocated records = record {
+    kept = kept_relocated l records job moved k.kept;
+    last = k.last;
+    live = k.live;
+    given = k.given;
+    standing = k.standing;
+    fitted = by job.target k.fitted;
+    roomy = k.roomy;
+    some = k.some;
+    fits = k.fits;
+    of = k.of;
+  }
     where
       by : (target : Target) → IsFitted l job target → IsFitted (relocated l records) job target
       by (Level n) fit = fit
@@ -245,7 +336,9 @@ module _ (l : Layout) (h : History) (job : Job) (moved : List Named) (k : IsOpen
       record {
         parted = ((λ is. absurd (true_false (sym is ∙ other))), here.1.parted);
         apart = ⊎_elim
-            (λ (u : IsUntouched job.keep (inputs_of job.base) (outside_of job.base) job.floor job.inputs key first × IsUntouched job.keep (inputs_of job.base) (outside_of job.base) job.floor job.inputs key second). inl (((λ is. absurd (true_false (sym is ∙ other))), u.0), u.1))
+            (λ (u : IsUntouched job.keep (inputs_of job.base) (outside_of job.base) job.floor job.inputs key first
+            × IsUntouched job.keep (inputs_of job.base) (outside_of job.base) job.floor job.inputs key second). inl
+            (((λ is. absurd (true_false (sym is ∙ other))), u.0), u.1))
             (λ (c : IsClear job.keep (inputs_of job.base) (outside_of job.base) job.floor job.inputs key second). inr c)
             here.1.apart;
         idle = here.1.idle;
@@ -262,7 +355,8 @@ module _ (l : Layout) (h : History) (job : Job) (moved : List Named) (k : IsOpen
     live = k.live;
     given = later l.next_table job.inputs k.given;
     standing = subst (λ (ts : List Table). AreStanding ts job.inputs) (sym new)
-        (all_numbers_weaker (λ (n : ℕ). list_any (λ (u : Table). n == u.number) (tables l) ≡ true) (λ (n : ℕ). list_any (λ (u : Table). n == u.number) (flushed_table l s ∷ tables l) ≡ true)
+        (all_numbers_weaker (λ (n : ℕ). list_any (λ (u : Table). n == u.number) (tables l) ≡ true)
+        (λ (n : ℕ). list_any (λ (u : Table). n == u.number) (flushed_table l s ∷ tables l) ≡ true)
         (λ n is. or_right (n == l.next_table) (list_any (λ (u : Table). n == u.number) (tables l)) is) job.inputs k.standing);
     fitted = by job.target k.fitted;
     roomy = roomy_behind job.target k.roomy;
@@ -291,8 +385,16 @@ module _ (l : Layout) (h : History) (job : Job) (moved : List Named) (k : IsOpen
       roomy_behind InPlace roomy = tt
       roomy_behind (Level n) roomy =
           subst (λ (levels : List (List Table)). IsRoomy (in_front (flushed_table l s) levels) job (Level n)) (sym are)
-          (let was : IsRoomy (level ∷ deeper) job (Level n) = subst (λ (levels : List (List Table)). IsRoomy levels job (Level n)) are roomy in
-          (was.0, (was.1.0, subst (AllByRecursion (λ (u : Table). is_among job.inputs u ≡ false → IsBesideAll (inputs_of job.base) u)) (sym (roomy_front n (flushed_table l s) was.0)) was.1.1)))
+          (let was : IsRoomy (level ∷ deeper) job (Level n) = subst
+          (λ (levels : List (List Table)). IsRoomy levels job (Level n)) are roomy in (
+            was.0,
+            (
+              was.1.0,
+              subst (AllByRecursion
+                  (λ (u : Table). is_among job.inputs u ≡ false → IsBesideAll (inputs_of job.base) u))
+                  (sym (roomy_front n (flushed_table l s) was.0)) was.1.1,
+            ),
+          ))
 
       later : (next : ℕ) (ns : List ℕ) → AllByRecursion (λ n. n < next) ns → AllByRecursion (λ n. n < next + 1) ns
       later next [] all = tt
@@ -307,7 +409,8 @@ module _ (l : Layout) (h : History) (job : Job) (moved : List Named) (k : IsOpen
 
       by : (target : Target) → IsFitted l job target → IsFitted (flushed l s) job target
       by (Level n) fit = λ key.
-          subst (λ (levels : List (List Table)). IsShaped job.keep (inputs_of job.base) (outside_of job.base) job.floor job.inputs key n (in_front (flushed_table l s) levels)) (sym are)
+          subst (λ (levels : List (List Table)). IsShaped job.keep (inputs_of job.base) (outside_of job.base) job.floor
+          job.inputs key n (in_front (flushed_table l s) levels)) (sym are)
           (shaped_behind (flushed_table l s) (not_one l.next_table job.inputs (flushed_table l s) refl k.given) key n level deeper
           (subst (IsShaped job.keep (inputs_of job.base) (outside_of job.base) job.floor job.inputs key n) are (fit key)))
       by InPlace fit = (
@@ -335,7 +438,8 @@ pub open_installs : (logs : Logs) (l : Layout) (h : History) (o : OpenJob) → l
     → IsOpenWell l h o.job o.moved → ShowsLow logs l h → ShowsRuled logs (low_at l h) (install_ruling l h o.job made)
 open_installs logs l h o are made all k shows =
     install_ruling-shows logs l h (low_at l h) o are made all k.kept (by o.job.target k.fitted)
-    (λ key number from. past_low o.job.keep k.some (inputs_of o.job.base) o.job.floor key (versions h key) (k.of key) (floor l h) l.keep l.since
+    (λ key number from. past_low o.job.keep k.some (inputs_of o.job.base) o.job.floor key (versions h key) (k.of key)
+    (floor l h) l.keep l.since
     (least_above o.job.floor (last_number h) l.live k.last k.live) k.fits number from) shows
   where
     by : (target : Target) → IsFitted l o.job target → IsFit l o.job o.moved k.kept made all target
@@ -416,4 +520,5 @@ outputs_from Q l job moved k all =
     subst (AllByRecursion Q) (sym (cut-whole (merged_entries job)))
     (all-in_order Q (kept job)
     (all_kept_from Q job.keep (inputs_of job.base) (outside_of job.base) job.floor [] job.base
-    (subst (AllByRecursion Q) (same_inputs job moved (sourced l job.inputs) k) (inputs_front Q (in_memory l) (marked_tables job.inputs (tables l)) (inputs_tables Q job.inputs (tables l) all)))))
+    (subst (AllByRecursion Q) (same_inputs job moved (sourced l job.inputs) k)
+    (inputs_front Q (in_memory l) (marked_tables job.inputs (tables l)) (inputs_tables Q job.inputs (tables l) all)))))

@@ -29,7 +29,8 @@ from_again table key closed open_bytes (e ∷ es) =
     let next : List (List Entry) =
     tables_from (table ++ e ∷ []) e.key (closed + around open_bytes) (begun_length table_format e) es in
     let rest : List (List Entry) = tables_from (e ∷ []) e.key 0 (begun_length table_format e) es in
-    by_test (not (eq_by_cmp key_cmp key e.key) && nat_le full_table_bytes (closed + around open_bytes)) (table ∷ rest) (if nat_le (open_bytes + entry_length table_format e) max_block_bytes then grown else next)
+    by_test (not (eq_by_cmp key_cmp key e.key) && nat_le full_table_bytes (closed + around open_bytes)) (table ∷ rest)
+    (if nat_le (open_bytes + entry_length table_format e) max_block_bytes then grown else next)
     (sym (ap cut_into_tables (cut-whole (e ∷ es))))
     (by_test (nat_le (open_bytes + entry_length table_format e) max_block_bytes) grown next
     (from_again (table ++ e ∷ []) e.key closed (open_bytes + entry_length table_format e) es)

@@ -55,7 +55,10 @@ below_pointed : (n to bytes : ℕ) (ps : List Point) → to < n → AllByRecursi
     → AllByRecursion (λ (p : Point). p.segment < n) (Rattle.vl_block.specs.Cutting.pointed to bytes ps)
 below_pointed n to bytes [] less all = (less, tt)
 below_pointed n to bytes (p ∷ ps) less all =
-    elim (nat_cmp to p.segment) as (λ r. AllByRecursion (λ (q : Point). q.segment < n) (by_order r (record { segment = to; bytes = bytes } ∷ p ∷ ps) (record { segment = p.segment; bytes = p.bytes + bytes } ∷ ps) (p ∷ Rattle.vl_block.specs.Cutting.pointed to bytes ps))) [
+    elim (nat_cmp to p.segment) as
+    (λ r. AllByRecursion (λ (q : Point). q.segment < n)
+    (by_order r (record { segment = to; bytes = bytes } ∷ p ∷ ps)
+    (record { segment = p.segment; bytes = p.bytes + bytes } ∷ ps) (p ∷ Rattle.vl_block.specs.Cutting.pointed to bytes ps))) [
       | Less ↦ (less, all)
       | Equal ↦ all
       | Greater ↦ (all.0, below_pointed n to bytes ps less all.1)
@@ -95,7 +98,9 @@ all_placed_below n number less (e ∷ es) own =
 points_later : (a b : ℕ) → a ≤ b → (ts : List Table) → AllByRecursion (PointsDrawn a) ts
     → AllByRecursion (PointsDrawn b) ts
 points_later a b le ts all =
-    all_weaker (PointsDrawn a) (PointsDrawn b) (λ t is. all_weaker (λ (p : Point). p.segment < a) (λ (p : Point). p.segment < b) (λ p less. omega (arith, le, less)) t.points is) ts all
+    all_weaker (PointsDrawn a) (PointsDrawn b)
+    (λ t is. all_weaker (λ (p : Point). p.segment < a) (λ (p : Point). p.segment < b)
+    (λ p less. omega (arith, le, less)) t.points is) ts all
 
 pins_later : (a b c d : ℕ) → a ≤ c → b ≤ d → (ps : List Pin)
     → AllByRecursion (λ (p : Pin). AllByRecursion (IsDrawn a b) p.needs) ps
@@ -132,8 +137,11 @@ module _ (l : Layout) (s : IsStocked l) (d : IsDrawnWhole l) where
   drawn_begun ticket number = record {
     points = d.points;
     pins_drawn = together (map (λ (x : Live). x.pin) (begun l ticket number).live) (job_pin l.job) (pass_pin l.pass)
-        (all_mapped (λ (p : Pin). AllByRecursion (IsDrawn l.next_log l.next_table) p.needs) (λ (x : Live). x.pin) (begun l ticket number).live
-        (all-put_by (λ (x : Live). x.ticket) (λ (x : Live). AllByRecursion (IsDrawn l.next_log l.next_table) x.pin.needs) (record { ticket = ticket; number = number; pin = pin_of l }) l.live mine
+        (all_mapped (λ (p : Pin). AllByRecursion (IsDrawn l.next_log l.next_table) p.needs) (λ (x : Live). x.pin)
+        (begun l ticket number).live
+        (all-put_by (λ (x : Live). x.ticket)
+        (λ (x : Live). AllByRecursion (IsDrawn l.next_log l.next_table) x.pin.needs)
+        (record { ticket = ticket; number = number; pin = pin_of l }) l.live mine
         (all_unmapped (λ (p : Pin). AllByRecursion (IsDrawn l.next_log l.next_table) p.needs) (λ (x : Live). x.pin) l.live split.0.0)))
         split.0.1 split.1;
   }
@@ -143,23 +151,38 @@ module _ (l : Layout) (s : IsStocked l) (d : IsDrawnWhole l) where
     points = d.points;
     pins_drawn =
         together (map (λ (x : Live). x.pin) (filter (λ (x : Live). not (x.ticket == ticket)) l.live)) (job_pin l.job) (pass_pin l.pass)
-        (all_mapped (λ (p : Pin). AllByRecursion (IsDrawn l.next_log l.next_table) p.needs) (λ (x : Live). x.pin) (filter (λ (x : Live). not (x.ticket == ticket)) l.live)
-        (all_filtered (λ (x : Live). AllByRecursion (IsDrawn l.next_log l.next_table) x.pin.needs) (λ (x : Live). not (x.ticket == ticket)) l.live
+        (all_mapped (λ (p : Pin). AllByRecursion (IsDrawn l.next_log l.next_table) p.needs) (λ (x : Live). x.pin)
+        (filter (λ (x : Live). not (x.ticket == ticket)) l.live)
+        (all_filtered (λ (x : Live). AllByRecursion (IsDrawn l.next_log l.next_table) x.pin.needs)
+        (λ (x : Live). not (x.ticket == ticket)) l.live
         (all_unmapped (λ (p : Pin). AllByRecursion (IsDrawn l.next_log l.next_table) p.needs) (λ (x : Live). x.pin) l.live split.0.0)))
         split.0.1 split.1;
   }
 
   pub drawn_planned : (job : Job) → IsDrawnWhole (with_job job l)
-  drawn_planned job = record { points = d.points; pins_drawn = together (map (λ (x : Live). x.pin) l.live) (pin_of l ∷ []) (pass_pin l.pass) split.0.0 (mine, tt) split.1 }
+  drawn_planned job = record {
+    points = d.points;
+    pins_drawn = together (map (λ (x : Live). x.pin) l.live) (pin_of l ∷ []) (pass_pin l.pass)
+        split.0.0 (mine, tt) split.1;
+  }
 
   pub drawn_picked : (segment : ℕ) → IsDrawnWhole (with_pass segment l)
-  drawn_picked segment = record { points = d.points; pins_drawn = together (map (λ (x : Live). x.pin) l.live) (job_pin l.job) (pin_of l ∷ []) split.0.0 split.0.1 (mine, tt) }
+  drawn_picked segment = record {
+    points = d.points;
+    pins_drawn = together (map (λ (x : Live). x.pin) l.live) (job_pin l.job) (pin_of l ∷ [])
+        split.0.0 split.0.1 (mine, tt);
+  }
 
   pub drawn_freed : IsDrawnWhole (record l { job = None })
-  drawn_freed = record { points = d.points; pins_drawn = together (map (λ (x : Live). x.pin) l.live) [] (pass_pin l.pass) split.0.0 tt split.1 }
+  drawn_freed = record {
+    points = d.points;
+    pins_drawn = together (map (λ (x : Live). x.pin) l.live) []
+        (pass_pin l.pass) split.0.0 tt split.1;
+  }
 
   pub drawn_pass_ended : IsDrawnWhole (without_pass l)
-  drawn_pass_ended = record { points = d.points; pins_drawn = together (map (λ (x : Live). x.pin) l.live) (job_pin l.job) [] split.0.0 split.0.1 tt }
+  drawn_pass_ended = record
+      { points = d.points; pins_drawn = together (map (λ (x : Live). x.pin) l.live) (job_pin l.job) [] split.0.0 split.0.1 tt }
 
   pub drawn_logged : (f : LogFrame) → IsDrawnWhole (logged f l)
   drawn_logged f = record { points = d.points; pins_drawn = d.pins_drawn }
@@ -175,7 +198,9 @@ module _ (l : Layout) (s : IsStocked l) (d : IsDrawnWhole l) where
   drawn_relocated records = record {
     points = d.points;
     pins_drawn =
-        subst (λ (ps : List Pin). AllByRecursion (λ (p : Pin). AllByRecursion (IsDrawn l.next_log l.next_table) p.needs) ((map (λ (x : Live). x.pin) l.live ++ ps) ++ pass_pin l.pass)) (sym (noted_same (l.version_number + 1) records l.job)) d.pins_drawn;
+        subst (λ (ps : List Pin). AllByRecursion (λ (p : Pin). AllByRecursion (IsDrawn l.next_log l.next_table) p.needs)
+        ((map (λ (x : Live). x.pin) l.live ++ ps) ++ pass_pin l.pass))
+        (sym (noted_same (l.version_number + 1) records l.job)) d.pins_drawn;
   }
 
   pub drawn_rotated : IsDrawnWhole (rotated l)
@@ -186,7 +211,11 @@ module _ (l : Layout) (s : IsStocked l) (d : IsDrawnWhole l) where
   }
 
   pub drawn_lent : IsDrawnWhole (lending l)
-  drawn_lent = record { points = d.points; pins_drawn = pins_later l.next_log l.next_table l.next_log (l.next_table + 1) (omega arith) (omega arith) (pins l) d.pins_drawn }
+  drawn_lent = record {
+    points = d.points;
+    pins_drawn = pins_later l.next_log l.next_table l.next_log (l.next_table + 1)
+        (omega arith) (omega arith) (pins l) d.pins_drawn;
+  }
 
   pub drawn_flushed : (x : Segment) (level : List Table) (deeper : List (List Table))
       → oldest l.frozen ≡ Some x → l.levels ≡ level ∷ deeper
@@ -197,8 +226,11 @@ module _ (l : Layout) (s : IsStocked l) (d : IsDrawnWhole l) where
         let new : flat_map (λ ts. ts) (in_front t l.levels) ≡ t ∷ tables l =
         ap (λ (levels : List (List Table)). flat_map (λ ts. ts) (in_front t levels)) are
         ∙ ap (λ (levels : List (List Table)). t ∷ flat_map (λ ts. ts) levels) (sym are) in
-        subst (AllByRecursion (PointsDrawn l.next_log)) (sym new)
-        (below_points l.next_log (map placed (memtable x)) (all_placed_below l.next_log x.number (of_oldest l.frozen x waits s.logs_drawn.1) (memtable x) (own_memtable x)), d.points);
+        subst (AllByRecursion (PointsDrawn l.next_log)) (sym new) (
+          below_points l.next_log (map placed (memtable x))
+              (all_placed_below l.next_log x.number (of_oldest l.frozen x waits s.logs_drawn.1) (memtable x) (own_memtable x)),
+          d.points,
+        );
     pins_drawn =
         pins_later l.next_log l.next_table l.next_log (l.next_table + 1) (omega arith) (omega arith) (pins l) d.pins_drawn;
   }
@@ -216,6 +248,7 @@ module _ (l : Layout) (s : IsStocked l) (d : IsDrawnWhole l) where
       → IsDrawnWhole (switched (filter (is_among job.inputs) (tables l)) (putting l job made rest))
   drawn_put job made rest below = record {
     points = all_replaced (PointsDrawn l.next_log) job.inputs made below job.target l.levels
-        (all_weaker (PointsDrawn l.next_log) (λ (t : Table). is_among job.inputs t ≡ false → PointsDrawn l.next_log t) (λ t is out. is) (tables l) d.points);
+        (all_weaker (PointsDrawn l.next_log) (λ (t : Table). is_among job.inputs t ≡ false → PointsDrawn l.next_log t)
+        (λ t is out. is) (tables l) d.points);
     pins_drawn = together (map (λ (x : Live). x.pin) l.live) [] (pass_pin l.pass) split.0.0 tt split.1;
   }

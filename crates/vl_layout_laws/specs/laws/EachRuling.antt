@@ -16,7 +16,8 @@ use Rattle.vl_layout.specs.Levels.{due_from, first_into}
 use Rattle.vl_layout.specs.Relocation.{Pass, Candidate, moved_of}
 use Rattle.vl_layout.specs.Ruling.{Ruling, ended, logged, has_no_number, has_no_version}
 use Rattle.vl_layout.specs.Rulings.Begin.{begun, begin_ruling}
-use Rattle.vl_layout.specs.Rulings.Commit.{Transaction, committed, commit_checked, commit_running, commit_unless, commit_ruling, commit_frame}
+use Rattle.vl_layout.specs.Rulings.Commit.{Transaction, committed, commit_checked, commit_running, commit_unless}
+use Rattle.vl_layout.specs.Rulings.Commit.{commit_ruling, commit_frame}
 use Rattle.vl_layout.specs.Rulings.Drain.{drain_of, drain_unless, drain_ruling}
 use Rattle.vl_layout.specs.Rulings.Flush.{flushed, flush_of, flush_unless, flush_ruling}
 use Rattle.vl_layout.specs.Rulings.Fresh.{drawn, fresh_unless, fresh_ruling}
@@ -59,7 +60,8 @@ module _ (P : Layout → History → Type 0) where
       checked_leaves : (conflict : Option Named) → Leaves (commit_checked l h t conflict)
       checked_leaves (Some named) = end
       checked_leaves None =
-          either (nat_le (l.active.length + frame_length l.active.format (commit_frame h t.writes)) l.room) (committed l h t) _ goes (λ no. w)
+          either (nat_le (l.active.length + frame_length l.active.format (commit_frame h t.writes)) l.room)
+          (committed l h t) _ goes (λ no. w)
 
       running_leaves : (conflict : Option Named) → Leaves (commit_running l h t conflict)
       running_leaves conflict =
@@ -107,7 +109,8 @@ module _ (P : Layout → History → Type 0) where
       relocate_of-leaves [] = w
       relocate_of-leaves (m ∷ ms) =
           either (has_no_version l) _ _ w
-          (λ one. either (nat_le (l.active.length + frame_length l.active.format (Relocated (m ∷ ms))) l.room) _ _ (goes (m ∷ ms)) (λ two. w))
+          (λ one. either (nat_le (l.active.length + frame_length l.active.format (Relocated (m ∷ ms))) l.room) _ _
+          (goes (m ∷ ms)) (λ two. w))
 
       relocate_unless-leaves : (pass : Pass) (batch : List Candidate) (halted : Option FileName)
           → Leaves (relocate_unless halted l h pass batch)

@@ -1,5 +1,6 @@
 -- Lists of files, and which of them entries and tables lead into.
-use Rattle.std.proofs.Common.{◌≡◌, ◌⊎◌, inl, inr, ⊎_elim, ℕ, ◌+◌, ◌<◌, Bool, true, false, cond, ◌||◌, List, [], ◌∷◌, ◌++◌, map, refl, ap, sym, ◌∙◌, subst, arith}
+use Rattle.std.proofs.Common.{◌≡◌, ◌⊎◌, inl, inr, ⊎_elim, ℕ, ◌+◌, ◌<◌, Bool, true, false, cond, ◌||◌, List, [], ◌∷◌}
+use Rattle.std.proofs.Common.{◌++◌, map, refl, ap, sym, ◌∙◌, subst, arith}
 use Rattle.std.proofs.lemmas.Bool.Decides.{nat_tests}
 use Rattle.std.proofs.lemmas.List.Sums.{sum_by-cons}
 use Rattle.std.specs.Prelude.{◌==◌, if◌then◌else◌}
@@ -95,7 +96,8 @@ module _ {X : Type 0} where
       → list_any p xs ≡ true → (x : X) × (p x ≡ true) × P x
   picked P p [] all h = absurd (true_false (sym h))
   picked P p (x ∷ xs) all h =
-      ⊎_elim (λ (here : p x ≡ true). (x, here, all.0)) (λ (later : list_any p xs ≡ true). picked P p xs all.1 later) (or_cases (p x) (list_any p xs) h)
+      ⊎_elim (λ (here : p x ≡ true). (x, here, all.0)) (λ (later : list_any p xs ≡ true). picked P p xs all.1 later)
+      (or_cases (p x) (list_any p xs) h)
 
   pub everything : (xs : List X) → AllByRecursion (λ (x : X). Unit {0}) xs
   everything [] = tt
@@ -115,7 +117,8 @@ pub seen_by : {X Y : Type 0} (p : Y → X → Bool) (xs : List X)
 seen_by p [] = tt
 seen_by {X} {Y} p (x ∷ xs) = (
   (λ y is. or_left (p y x) (list_any (p y) xs) is),
-  all_weaker (λ (z : X). (y : Y) → p y z ≡ true → list_any (p y) xs ≡ true) (λ (z : X). (y : Y) → p y z ≡ true → list_any (p y) (x ∷ xs) ≡ true)
+  all_weaker (λ (z : X). (y : Y) → p y z ≡ true → list_any (p y) xs ≡ true)
+      (λ (z : X). (y : Y) → p y z ≡ true → list_any (p y) (x ∷ xs) ≡ true)
       (λ z is y at. or_right (p y x) (list_any (p y) xs) (is y at)) xs (seen_by p xs),
 )
 
@@ -177,10 +180,14 @@ module _ (segment : ℕ) where
   leads-pointed to bytes [] = refl
   leads-pointed to bytes (p ∷ ps) =
       elim (nat_cmp to p.segment) as (λ r. nat_cmp to p.segment ≡ r
-      → leads segment (by_order r (record { segment = to; bytes = bytes } ∷ p ∷ ps) (record { segment = p.segment; bytes = p.bytes + bytes } ∷ ps) (p ∷ pointed to bytes ps)) ≡ ((segment == to) || ((segment == p.segment) || leads segment ps))) [
+      → leads segment (by_order r (record { segment = to; bytes = bytes } ∷ p ∷ ps)
+      (record { segment = p.segment; bytes = p.bytes + bytes } ∷ ps) (p ∷ pointed to bytes ps)) ≡
+      ((segment == to) || ((segment == p.segment) || leads segment ps))) [
         | Less ↦ λ is. refl
-        | Equal ↦ λ is. or_twice (segment == to) (segment == p.segment) (leads segment ps) (ap (λ (n : ℕ). segment == n) (nat_cmp-IsAntisymmetric to p.segment is))
-        | Greater ↦ λ is. ap (λ b. (segment == p.segment) || b) (leads-pointed to bytes ps) ∙ or_swap (segment == to) (segment == p.segment) (leads segment ps)
+        | Equal ↦ λ is. or_twice (segment == to) (segment == p.segment) (leads segment ps)
+            (ap (λ (n : ℕ). segment == n) (nat_cmp-IsAntisymmetric to p.segment is))
+        | Greater ↦ λ is. ap (λ b. (segment == p.segment) || b) (leads-pointed to bytes ps)
+            ∙ or_swap (segment == to) (segment == p.segment) (leads segment ps)
       ] refl
 
   leads-with : (body : Body) (ps : List Point)
@@ -203,7 +210,10 @@ some_pointed : (to bytes : ℕ) (ps : List Point) → 0 < bytes → AllByRecursi
     → AllByRecursion HasSome (pointed to bytes ps)
 some_pointed to bytes [] some all = (some, tt)
 some_pointed to bytes (p ∷ ps) some all =
-    elim (nat_cmp to p.segment) as (λ r. AllByRecursion HasSome (by_order r (record { segment = to; bytes = bytes } ∷ p ∷ ps) (record { segment = p.segment; bytes = p.bytes + bytes } ∷ ps) (p ∷ pointed to bytes ps))) [
+    elim (nat_cmp to p.segment) as
+    (λ r. AllByRecursion HasSome
+    (by_order r (record { segment = to; bytes = bytes } ∷ p ∷ ps)
+    (record { segment = p.segment; bytes = p.bytes + bytes } ∷ ps) (p ∷ pointed to bytes ps))) [
       | Less ↦ (some, all)
       | Equal ↦ ((let one = all.0 in omega (arith, some, one)), all.1)
       | Greater ↦ (all.0, some_pointed to bytes ps some all.1)

@@ -33,7 +33,8 @@ module _ (l : Layout) (h : History) where
 
   pub floor-with : (ticket : ℕ) → IsFloorUp l h (begun l ticket (last_number h)) h
   floor-with ticket =
-      let same = floor-begun l (begun l ticket (last_number h)) h (record { ticket = ticket; number = last_number h; pin = pin_of l }) refl refl in
+      let same = floor-begun l (begun l ticket (last_number h)) h
+      (record { ticket = ticket; number = last_number h; pin = pin_of l }) refl refl in
       omega (arith, same)
 
   pub floor-ended : (ticket : ℕ) → IsFloorUp l h (ended ticket l) h
@@ -83,17 +84,32 @@ module _ (l : Layout) (h : History) where
         → IsKept (if b then leaving Kept h l else record { answer = Kept; history = h; layout = keeping v h l; calls = 2; gone = [] })
     by_change true is =
         let same : l.keep ≡ v = grind (arith, nat_tests, is) in
-        record { told = λ kept. same; raised = λ kept less. absurd (omega (arith, less, same)); lowered = λ kept le. refl; refused = λ other. refl }
+        record {
+          told = λ kept. same;
+          raised = λ kept less. absurd (omega (arith, less, same));
+          lowered = λ kept le.
+              refl;
+          refused = λ other. refl;
+        }
     by_change false is =
-        record { told = λ kept. refl; raised = λ kept less. since_raised v less; lowered = λ kept le. since_lowered v le; refused = λ other. absurd (other refl) }
+        record {
+          told = λ kept. refl;
+          raised = λ kept less. since_raised v less;
+          lowered = λ kept le. since_lowered v
+              le;
+          refused = λ other. absurd (other refl);
+        }
 
     by_request : (b : Bool) → IsKept (if b then leaving InvalidRequest h l
-        else (if v == l.keep then leaving Kept h l else record { answer = Kept; history = h; layout = keeping v h l; calls = 2; gone = [] }))
-    by_request true = record { told = λ kept. absurd cc; raised = λ kept less. absurd cc; lowered = λ kept le. absurd cc; refused = λ other. refl }
+        else (if v == l.keep then leaving Kept h l else record
+        { answer = Kept; history = h; layout = keeping v h l; calls = 2; gone = [] }))
+    by_request true = record
+        { told = λ kept. absurd cc; raised = λ kept less. absurd cc; lowered = λ kept le. absurd cc; refused = λ other. refl }
     by_request false = by_change (v == l.keep) refl
 
     unless : (halted : Option FileName) → IsKept (keep_unless halted l h v)
-    unless (Some name) = record { told = λ kept. absurd cc; raised = λ kept less. absurd cc; lowered = λ kept le. absurd cc; refused = λ other. refl }
+    unless (Some name) = record
+        { told = λ kept. absurd cc; raised = λ kept less. absurd cc; lowered = λ kept le. absurd cc; refused = λ other. refl }
     unless None = by_request ((v == 0) || nat_lt 16 v)
 
     pub keep_is : IsKept (keep_ruling l h v)

@@ -1,5 +1,6 @@
 -- What an install leaves is gathered: of each key what the job keeps stands in its place.
-use Rattle.std.proofs.Common.{◌≡◌, ◌⊎◌, inl, inr, ⊎_elim, ℕ, ◌-◌, Bool, true, false, cond, not, ◌&&◌, List, [], ◌∷◌, ◌++◌, map, refl, ap, sym, ◌∙◌, subst, arith, append_assoc}
+use Rattle.std.proofs.Common.{◌≡◌, ◌⊎◌, inl, inr, ⊎_elim, ℕ, ◌-◌, Bool, true, false, cond, not, ◌&&◌, List, [], ◌∷◌}
+use Rattle.std.proofs.Common.{◌++◌, map, refl, ap, sym, ◌∙◌, subst, arith, append_assoc}
 use Rattle.std.proofs.lemmas.Bool.Decides.{nat_tests}
 use Rattle.std.specs.Prelude.{◌==◌}
 use Rattle.std.specs.List.{AllByRecursion, flat_map}
@@ -40,10 +41,11 @@ of_none key (e ∷ es) out = ap (λ b. cond b (e ∷ of_key key es) (of_key key 
 
 pub of-append : (key : List ℕ) (es fs : List Entry) → of_key key (es ++ fs) ≡ of_key key es ++ of_key key fs
 of-append key [] fs = refl
-of-append key (e ∷ es) fs = elim (eq_by_cmp key_cmp key e.key) as (λ b. cond b (e ∷ of_key key (es ++ fs)) (of_key key (es ++ fs)) ≡ cond b (e ∷ of_key key es) (of_key key es) ++ of_key key fs) [
-  | true ↦ ap (λ xs. e ∷ xs) (of-append key es fs)
-  | false ↦ of-append key es fs
-]
+of-append key (e ∷ es) fs = elim (eq_by_cmp key_cmp key e.key) as
+    (λ b. cond b (e ∷ of_key key (es ++ fs)) (of_key key (es ++ fs)) ≡ cond b (e ∷ of_key key es) (of_key key es) ++ of_key key fs) [
+      | true ↦ ap (λ xs. e ∷ xs) (of-append key es fs)
+      | false ↦ of-append key es fs
+    ]
 
 without_both : (key : List ℕ) (es fs : List Entry) → IsWithout key es → IsWithout key fs → IsWithout key (es ++ fs)
 without_both key [] fs a b = b
@@ -123,7 +125,8 @@ module _ (keep : ℕ) (I O : List Entry) (floor : ℕ) (inputs : List ℕ) where
 
       by : (k : Bool) → eq_by_cmp key_cmp key (head_mark keep I O floor b ps e).entry.key ≡ false
           → IsWithout key (kept_of (marked_by keep I O floor (rest_preceded b ps) (marked_as b es)))
-          → IsWithout key (if_so k (head_mark keep I O floor b ps e).entry (kept_of (marked_by keep I O floor (rest_preceded b ps) (marked_as b es))))
+          → IsWithout key (if_so k (head_mark keep I O floor b ps e).entry
+          (kept_of (marked_by keep I O floor (rest_preceded b ps) (marked_as b es))))
       by true here later = (here, later)
       by false here later = later
 
@@ -132,12 +135,14 @@ module _ (keep : ℕ) (I O : List Entry) (floor : ℕ) (inputs : List ℕ) where
   abbrev pub left_level : List Preceded → List Table → List Entry
   left_level ps [] = []
   left_level ps (t ∷ ts) =
-      kept_of (marked_by keep I O floor ps (marked_as (is_among inputs t) t.entries)) ++ left_level (rest_of ps (marked_as (is_among inputs t) t.entries)) ts
+      kept_of (marked_by keep I O floor ps (marked_as (is_among inputs t) t.entries)) ++ left_level
+      (rest_of ps (marked_as (is_among inputs t) t.entries)) ts
 
   abbrev pub kept_level : List Preceded → List Table → List Entry
   kept_level ps [] = []
   kept_level ps (t ∷ ts) =
-      kept_inputs (marked_by keep I O floor ps (marked_as (is_among inputs t) t.entries)) ++ kept_level (rest_of ps (marked_as (is_among inputs t) t.entries)) ts
+      kept_inputs (marked_by keep I O floor ps (marked_as (is_among inputs t) t.entries)) ++ kept_level
+      (rest_of ps (marked_as (is_among inputs t) t.entries)) ts
 
   abbrev pub rest_level : List Preceded → List Table → List Preceded
   rest_level ps [] = ps
@@ -167,7 +172,8 @@ module _ (keep : ℕ) (I O : List Entry) (floor : ℕ) (inputs : List ℕ) where
   left-append ps (t ∷ ts) us =
       let ss = marked_as (is_among inputs t) t.entries in
       ap (λ xs. kept_of (marked_by keep I O floor ps ss) ++ xs) (left-append (rest_of ps ss) ts us)
-      ∙ sym (append_assoc (kept_of (marked_by keep I O floor ps ss)) (left_level (rest_of ps ss) ts) (left_level (rest_level (rest_of ps ss) ts) us))
+      ∙ sym (append_assoc (kept_of (marked_by keep I O floor ps ss)) (left_level (rest_of ps ss) ts)
+      (left_level (rest_level (rest_of ps ss) ts) us))
 
   kept-append : (ps : List Preceded) (ts us : List Table)
       → kept_level ps (ts ++ us) ≡ kept_level ps ts ++ kept_level (rest_level ps ts) us
@@ -175,7 +181,8 @@ module _ (keep : ℕ) (I O : List Entry) (floor : ℕ) (inputs : List ℕ) where
   kept-append ps (t ∷ ts) us =
       let ss = marked_as (is_among inputs t) t.entries in
       ap (λ xs. kept_inputs (marked_by keep I O floor ps ss) ++ xs) (kept-append (rest_of ps ss) ts us)
-      ∙ sym (append_assoc (kept_inputs (marked_by keep I O floor ps ss)) (kept_level (rest_of ps ss) ts) (kept_level (rest_level (rest_of ps ss) ts) us))
+      ∙ sym (append_assoc (kept_inputs (marked_by keep I O floor ps ss)) (kept_level (rest_of ps ss) ts)
+      (kept_level (rest_level (rest_of ps ss) ts) us))
 
   -- none of these tables is an input
   abbrev pub IsIdle : List Table → Type 0
@@ -184,7 +191,8 @@ module _ (keep : ℕ) (I O : List Entry) (floor : ℕ) (inputs : List ℕ) where
   idle_left : (ps : List Preceded) (ts : List Table) → IsIdle ts → left_level ps ts ≡ all_entries ts
   idle_left ps [] idle = refl
   idle_left ps (t ∷ ts) idle =
-      ap (λ (b : Bool). kept_of (marked_by keep I O floor ps (marked_as b t.entries)) ++ left_level (rest_of ps (marked_as b t.entries)) ts) idle.0
+      ap (λ (b : Bool). kept_of (marked_by keep I O floor ps (marked_as b t.entries)) ++ left_level
+      (rest_of ps (marked_as b t.entries)) ts) idle.0
       ∙ ap (λ (xs : List Entry). xs ++ left_level (rest_of ps (marked_as false t.entries)) ts) (outside_left ps t.entries)
       ∙ ap (λ (qs : List Preceded). t.entries ++ left_level qs ts) (outside_rest ps t.entries)
       ∙ ap (λ (xs : List Entry). t.entries ++ xs) (idle_left ps ts idle.1)
@@ -192,7 +200,8 @@ module _ (keep : ℕ) (I O : List Entry) (floor : ℕ) (inputs : List ℕ) where
   idle_kept : (ps : List Preceded) (ts : List Table) → IsIdle ts → kept_level ps ts ≡ []
   idle_kept ps [] idle = refl
   idle_kept ps (t ∷ ts) idle =
-      ap (λ (b : Bool). kept_inputs (marked_by keep I O floor ps (marked_as b t.entries)) ++ kept_level (rest_of ps (marked_as b t.entries)) ts) idle.0
+      ap (λ (b : Bool). kept_inputs (marked_by keep I O floor ps (marked_as b t.entries)) ++ kept_level
+      (rest_of ps (marked_as b t.entries)) ts) idle.0
       ∙ ap (λ (xs : List Entry). xs ++ kept_level (rest_of ps (marked_as false t.entries)) ts) (outside_kept ps t.entries)
       ∙ idle_kept (rest_of ps (marked_as false t.entries)) ts idle.1
 
@@ -238,12 +247,15 @@ module _ (keep : ℕ) (I O : List Entry) (floor : ℕ) (inputs : List ℕ) where
       where
         by : (b : Bool) → is_among inputs t ≡ b
             → ((c : Bool) → IsWithout key (kept_level (rest_of ps (marked_as c t.entries)) ts))
-            → IsWithout key (kept_inputs (marked_by keep I O floor ps (marked_as b t.entries)) ++ kept_level (rest_of ps (marked_as b t.entries)) ts)
+            → IsWithout key (kept_inputs (marked_by keep I O floor ps (marked_as b t.entries)) ++ kept_level
+            (rest_of ps (marked_as b t.entries)) ts)
         by true is later =
-            without_both key (kept_inputs (marked_by keep I O floor ps (marked_as true t.entries))) (kept_level (rest_of ps (marked_as true t.entries)) ts)
+            without_both key (kept_inputs (marked_by keep I O floor ps (marked_as true t.entries)))
+            (kept_level (rest_of ps (marked_as true t.entries)) ts)
             (subst (IsWithout key) (sym (input_left ps t.entries)) (left_without key ps true t.entries (out.0 is))) (later true)
         by false is later =
-            subst (λ (xs : List Entry). IsWithout key (xs ++ kept_level (rest_of ps (marked_as false t.entries)) ts)) (sym (outside_kept ps t.entries)) (later false)
+            subst (λ (xs : List Entry). IsWithout key (xs ++ kept_level (rest_of ps (marked_as false t.entries)) ts))
+            (sym (outside_kept ps t.entries)) (later false)
 
     -- where it is parted, what is left of the key are the other tables' entries, and then what is kept
     parted_left : (ps : List Preceded) (ts : List Table) → IsParted ts
@@ -253,17 +265,22 @@ module _ (keep : ℕ) (I O : List Entry) (floor : ℕ) (inputs : List ℕ) where
         by (is_among inputs t) refl (λ (b : Bool). parted_left (rest_of ps (marked_as b t.entries)) ts parted.1)
       where
         by : (b : Bool) → is_among inputs t ≡ b
-            → ((c : Bool) → of_key key (left_level (rest_of ps (marked_as c t.entries)) ts) ≡ of_key key (all_entries (without inputs ts)) ++ of_key key (kept_level (rest_of ps (marked_as c t.entries)) ts))
-            → of_key key (kept_of (marked_by keep I O floor ps (marked_as b t.entries)) ++ left_level (rest_of ps (marked_as b t.entries)) ts)
-            ≡ of_key key (all_entries (cond (not b) (t ∷ without inputs ts) (without inputs ts))) ++ of_key key (kept_inputs (marked_by keep I O floor ps (marked_as b t.entries)) ++ kept_level (rest_of ps (marked_as b t.entries)) ts)
+            → ((c : Bool) → of_key key (left_level (rest_of ps (marked_as c t.entries)) ts) ≡ of_key key
+            (all_entries (without inputs ts)) ++ of_key key (kept_level (rest_of ps (marked_as c t.entries)) ts))
+            → of_key key (kept_of (marked_by keep I O floor ps (marked_as b t.entries)) ++ left_level
+            (rest_of ps (marked_as b t.entries)) ts)
+            ≡ of_key key (all_entries (cond (not b) (t ∷ without inputs ts) (without inputs ts))) ++ of_key key
+            (kept_inputs (marked_by keep I O floor ps (marked_as b t.entries)) ++ kept_level (rest_of ps (marked_as b t.entries)) ts)
         by false is later =
             let rest = rest_of ps (marked_as false t.entries) in
             ap (λ (xs : List Entry). of_key key (xs ++ left_level rest ts)) (outside_left ps t.entries)
             ∙ of-append key t.entries (left_level rest ts)
             ∙ ap (λ (xs : List Entry). of_key key t.entries ++ xs) (later false)
             ∙ sym (append_assoc (of_key key t.entries) (of_key key (all_entries (without inputs ts))) (of_key key (kept_level rest ts)))
-            ∙ ap (λ (xs : List Entry). xs ++ of_key key (kept_level rest ts)) (sym (of-append key t.entries (all_entries (without inputs ts))))
-            ∙ ap (λ (xs : List Entry). of_key key (t.entries ++ all_entries (without inputs ts)) ++ of_key key (xs ++ kept_level rest ts)) (sym (outside_kept ps t.entries))
+            ∙ ap (λ (xs : List Entry). xs ++ of_key key (kept_level rest ts))
+            (sym (of-append key t.entries (all_entries (without inputs ts))))
+            ∙ ap (λ (xs : List Entry). of_key key (t.entries ++ all_entries (without inputs ts)) ++ of_key key
+            (xs ++ kept_level rest ts)) (sym (outside_kept ps t.entries))
         by true is later =
             let rest = rest_of ps (marked_as true t.entries) in
             let L = kept_of (marked_by keep I O floor ps (marked_as true t.entries)) in
@@ -273,8 +290,11 @@ module _ (keep : ℕ) (I O : List Entry) (floor : ℕ) (inputs : List ℕ) where
             of-append key L (left_level rest ts)
             ∙ ap (λ (xs : List Entry). of_key key L ++ xs) (later true) in
             let middle : of_key key L ++ (N ++ K) ≡ N ++ (of_key key L ++ K) = ⊎_elim
-            (λ (out : IsWithout key t.entries). let none = of_none key L (left_without key ps true t.entries out) in ap (λ (xs : List Entry). xs ++ (N ++ K)) none ∙ ap (λ (xs : List Entry). N ++ (xs ++ K)) (sym none))
-            (λ (clear : IsClear ts). let none : N ≡ [] = of_none key (all_entries (without inputs ts)) (clear_without ts clear) in ap (λ (xs : List Entry). of_key key L ++ (xs ++ K)) none ∙ ap (λ (xs : List Entry). xs ++ (of_key key L ++ K)) (sym none))
+            (λ (out : IsWithout key t.entries). let none = of_none key L (left_without key ps true t.entries out) in ap
+            (λ (xs : List Entry). xs ++ (N ++ K)) none ∙ ap (λ (xs : List Entry). N ++ (xs ++ K)) (sym none))
+            (λ (clear : IsClear ts). let none : N ≡ [] = of_none key (all_entries (without inputs ts))
+            (clear_without ts clear) in ap (λ (xs : List Entry). of_key key L ++ (xs ++ K)) none
+            ∙ ap (λ (xs : List Entry). xs ++ (of_key key L ++ K)) (sym none))
             (parted.0 is) in
             start ∙ middle
             ∙ ap (λ (xs : List Entry). N ++ xs) (sym (of-append key L (kept_level rest ts)))
@@ -296,7 +316,9 @@ module _ (keep : ℕ) (I O : List Entry) (floor : ℕ) (inputs : List ℕ) where
           → of_key key (all_entries (in_key_order new ts)) ≡ of_key key out ++ of_key key (all_entries ts)
       of_key_order [] one = ap (of_key key) made ∙ sym (nothing_more (of_key key out))
       of_key_order (t ∷ ts) one =
-          by (is_before t new) (of_key_order ts (⊎_elim (λ (w : IsWithout key (t.entries ++ all_entries ts)). inl (behind t.entries (all_entries ts) w).1) (λ (w : IsWithout key out). inr w) one))
+          by (is_before t new) (of_key_order ts
+          (⊎_elim (λ (w : IsWithout key (t.entries ++ all_entries ts)). inl (behind t.entries (all_entries ts) w).1)
+          (λ (w : IsWithout key out). inr w) one))
         where
           behind : (es fs : List Entry) → IsWithout key (es ++ fs) → IsWithout key es × IsWithout key fs
           behind [] fs w = (tt, w)
@@ -312,10 +334,12 @@ module _ (keep : ℕ) (I O : List Entry) (floor : ℕ) (inputs : List ℕ) where
               ∙ ⊎_elim
               (λ (w : IsWithout key (t.entries ++ all_entries ts)).
               let none = of_none key t.entries (behind t.entries (all_entries ts) w).0 in
-              ap (λ (xs : List Entry). xs ++ (of_key key out ++ of_key key (all_entries ts))) none ∙ ap (λ (xs : List Entry). of_key key out ++ (xs ++ of_key key (all_entries ts))) (sym none))
+              ap (λ (xs : List Entry). xs ++ (of_key key out ++ of_key key (all_entries ts))) none
+              ∙ ap (λ (xs : List Entry). of_key key out ++ (xs ++ of_key key (all_entries ts))) (sym none))
               (λ (w : IsWithout key out).
               let none = of_none key out w in
-              ap (λ (xs : List Entry). of_key key t.entries ++ (xs ++ of_key key (all_entries ts))) none ∙ ap (λ (xs : List Entry). xs ++ (of_key key t.entries ++ of_key key (all_entries ts))) (sym none))
+              ap (λ (xs : List Entry). of_key key t.entries ++ (xs ++ of_key key (all_entries ts))) none
+              ∙ ap (λ (xs : List Entry). xs ++ (of_key key t.entries ++ of_key key (all_entries ts))) (sym none))
               one
               ∙ ap (λ (xs : List Entry). of_key key out ++ xs) (sym (of-append key t.entries (all_entries ts)))
           by false later =
@@ -363,8 +387,10 @@ module _ (keep : ℕ) (I O : List Entry) (floor : ℕ) (inputs : List ℕ) where
       pair_placed : (first second : List Table) (deeper : List (List Table)) (ps : List Preceded)
           → IsPair first second deeper
           → (IsWithout key (kept_level ps (first ++ (second ++ flat_map (λ ts. ts) deeper))) → IsWithout key out)
-          → IsPlaced (left_level ps (first ++ (second ++ flat_map (λ ts. ts) deeper))) (kept_level ps (first ++ (second ++ flat_map (λ ts. ts) deeper)))
-          (all_entries (without inputs first ++ (in_key_order new (without inputs second) ++ flat_map (λ ts. ts) (map (without inputs) deeper))))
+          → IsPlaced (left_level ps (first ++ (second ++ flat_map (λ ts. ts) deeper)))
+          (kept_level ps (first ++ (second ++ flat_map (λ ts. ts) deeper)))
+          (all_entries (without inputs first
+          ++ (in_key_order new (without inputs second) ++ flat_map (λ ts. ts) (map (without inputs) deeper))))
       pair_placed first second deeper ps pair gone =
           let D = flat_map (λ ts. ts) deeper in
           let qs = rest_level ps first in
@@ -376,16 +402,30 @@ module _ (keep : ℕ) (I O : List Entry) (floor : ℕ) (inputs : List ℕ) where
           let j = of_key key (kept_level qs second) in
           let o = of_key key out in
           let lefts : of_key key (left_level ps (first ++ (second ++ D))) ≡ (N ++ k) ++ ((M ++ j) ++ d) =
-          ap (of_key key) (left-append ps first (second ++ D) ∙ ap (λ (xs : List Entry). left_level ps first ++ xs) (left-append qs second D ∙ ap (λ (xs : List Entry). left_level qs second ++ xs) (idle_left rs D pair.idle)))
+          ap (of_key key) (left-append ps first (second ++ D)
+          ∙ ap (λ (xs : List Entry). left_level ps first ++ xs)
+          (left-append qs second D ∙ ap (λ (xs : List Entry). left_level qs second ++ xs) (idle_left rs D pair.idle)))
           ∙ of-append key (left_level ps first) (left_level qs second ++ all_entries D)
           ∙ ap (λ (xs : List Entry). of_key key (left_level ps first) ++ xs) (of-append key (left_level qs second) (all_entries D))
           ∙ ap (λ (xs : List Entry). xs ++ (of_key key (left_level qs second) ++ d)) (parted_left ps first pair.parted)
-          ∙ ap (λ (xs : List Entry). (N ++ k) ++ (xs ++ d)) (parted_left qs second (parted_by second (⊎_elim (λ (u : IsUntouched first × IsUntouched second). inl u.1) (λ (c : IsClear second). inr c) pair.apart))) in
+          ∙ ap (λ (xs : List Entry). (N ++ k) ++ (xs ++ d))
+          (parted_left qs second (parted_by second
+          (⊎_elim (λ (u : IsUntouched first × IsUntouched second). inl u.1) (λ (c : IsClear second). inr c) pair.apart))) in
           let kepts : of_key key (kept_level ps (first ++ (second ++ D))) ≡ k ++ j =
-          ap (of_key key) (kept-append ps first (second ++ D) ∙ ap (λ (xs : List Entry). kept_level ps first ++ xs) (kept-append qs second D ∙ ap (λ (xs : List Entry). kept_level qs second ++ xs) (idle_kept rs D pair.idle) ∙ nothing_more (kept_level qs second)))
+          ap (of_key key) (kept-append ps first (second ++ D)
+          ∙ ap (λ (xs : List Entry). kept_level ps first ++ xs)
+          (kept-append qs second D ∙ ap (λ (xs : List Entry). kept_level qs second ++ xs) (idle_kept rs D pair.idle)
+          ∙ nothing_more (kept_level qs second)))
           ∙ of-append key (kept_level ps first) (kept_level qs second) in
-          let afters : of_key key (all_entries (without inputs first ++ (in_key_order new (without inputs second) ++ flat_map (λ ts. ts) (map (without inputs) deeper)))) ≡ N ++ (of_key key (all_entries (in_key_order new (without inputs second))) ++ d) =
-          ap (of_key key) (flat-append (without inputs first) (in_key_order new (without inputs second) ++ flat_map (λ ts. ts) (map (without inputs) deeper)) ∙ ap (λ (xs : List Entry). all_entries (without inputs first) ++ xs) (flat-append (in_key_order new (without inputs second)) (flat_map (λ ts. ts) (map (without inputs) deeper)) ∙ ap (λ (xs : List Entry). all_entries (in_key_order new (without inputs second)) ++ xs) (deeper_idle deeper pair.idle)))
+          let afters : of_key key (all_entries
+          (without inputs first ++
+          (in_key_order new (without inputs second) ++ flat_map (λ ts. ts) (map (without inputs) deeper)))) ≡ N
+          ++ (of_key key (all_entries (in_key_order new (without inputs second))) ++ d) =
+          ap (of_key key) (flat-append (without inputs first)
+          (in_key_order new (without inputs second) ++ flat_map (λ ts. ts) (map (without inputs) deeper))
+          ∙ ap (λ (xs : List Entry). all_entries (without inputs first) ++ xs)
+          (flat-append (in_key_order new (without inputs second)) (flat_map (λ ts. ts) (map (without inputs) deeper))
+          ∙ ap (λ (xs : List Entry). all_entries (in_key_order new (without inputs second)) ++ xs) (deeper_idle deeper pair.idle)))
           ∙ of-append key (all_entries (without inputs first)) (all_entries (in_key_order new (without inputs second)) ++ all_entries D)
           ∙ ap (λ (xs : List Entry). N ++ xs) (of-append key (all_entries (in_key_order new (without inputs second))) (all_entries D)) in
           ⊎_elim
@@ -422,7 +462,9 @@ module _ (keep : ℕ) (I O : List Entry) (floor : ℕ) (inputs : List ℕ) where
                 ∙ append_assoc N k (j ++ d)
                 ∙ ap (λ (xs : List Entry). N ++ xs) (sym (append_assoc k j d) ∙ ap (λ (xs : List Entry). xs ++ d) (sym kepts));
             together =
-                afters ∙ ap (λ (xs : List Entry). N ++ (xs ++ d)) (of_key_order (without inputs second) (inl (clear_without second c)) ∙ ap (λ (xs : List Entry). o ++ xs) M0 ∙ nothing_more o);
+                afters ∙ ap (λ (xs : List Entry). N ++ (xs ++ d))
+                (of_key_order (without inputs second) (inl (clear_without second c))
+                ∙ ap (λ (xs : List Entry). o ++ xs) M0 ∙ nothing_more o);
           })
           pair.apart
         where
@@ -445,7 +487,10 @@ module _ (keep : ℕ) (I O : List Entry) (floor : ℕ) (inputs : List ℕ) where
       levels_placed n [] ps shaped gone = absurd shaped
       levels_placed n (first ∷ []) ps shaped gone = absurd shaped
       levels_placed n (first ∷ second ∷ deeper) ps (inl here) gone =
-          subst (λ (m : ℕ). IsPlaced (left_level ps (first ++ (second ++ flat_map (λ ts. ts) deeper))) (kept_level ps (first ++ (second ++ flat_map (λ ts. ts) deeper))) (all_entries (flat_map (λ ts. ts) (at_level m (in_key_order new) (map (without inputs) (first ∷ second ∷ deeper)))))) (sym here.0)
+          subst (λ (m : ℕ). IsPlaced (left_level ps (first ++ (second ++ flat_map (λ ts. ts) deeper)))
+          (kept_level ps (first ++ (second ++ flat_map (λ ts. ts) deeper)))
+          (all_entries (flat_map (λ ts. ts)
+          (at_level m (in_key_order new) (map (without inputs) (first ∷ second ∷ deeper)))))) (sym here.0)
           (pair_placed first second deeper ps here.1 gone)
       levels_placed n (first ∷ second ∷ deeper) ps (inr there) gone =
           let rest = flat_map (λ ts. ts) (second ∷ deeper) in
@@ -461,16 +506,25 @@ module _ (keep : ℕ) (I O : List Entry) (floor : ℕ) (inputs : List ℕ) where
             front = X ++ later.front;
             behind = later.behind;
             apart =
-                ap (of_key key) (left-append ps first rest ∙ ap (λ (xs : List Entry). xs ++ left_level (rest_level ps first) rest) (idle_left ps first idle) ∙ ap (λ (qs : List Preceded). all_entries first ++ left_level qs rest) (idle_rest ps first idle))
+                ap (of_key key) (left-append ps first rest
+                ∙ ap (λ (xs : List Entry). xs ++ left_level (rest_level ps first) rest) (idle_left ps first idle)
+                ∙ ap (λ (qs : List Preceded). all_entries first ++ left_level qs rest) (idle_rest ps first idle))
                 ∙ of-append key (all_entries first) (left_level ps rest)
                 ∙ ap (λ (xs : List Entry). X ++ xs) later.apart
                 ∙ sym (append_assoc X later.front (of_key key (kept_level ps rest) ++ later.behind))
                 ∙ ap (λ (xs : List Entry). (X ++ later.front) ++ (of_key key xs ++ later.behind)) (sym same);
             together =
-                ap (λ (b : Bool). of_key key (all_entries (flat_map (λ ts. ts) (cond b (in_key_order new (without inputs first) ∷ map (without inputs) (second ∷ deeper)) (without inputs first ∷ at_level (n - 1) (in_key_order new) (map (without inputs) (second ∷ deeper))))))) not_first
-                ∙ ap (λ (xs : List Table). of_key key (all_entries (xs ++ flat_map (λ ts. ts) (at_level (n - 1) (in_key_order new) (map (without inputs) (second ∷ deeper)))))) (idle_without first idle)
-                ∙ ap (of_key key) (flat-append first (flat_map (λ ts. ts) (at_level (n - 1) (in_key_order new) (map (without inputs) (second ∷ deeper)))))
-                ∙ of-append key (all_entries first) (all_entries (flat_map (λ ts. ts) (at_level (n - 1) (in_key_order new) (map (without inputs) (second ∷ deeper)))))
+                ap (λ (b : Bool). of_key key
+                (all_entries (flat_map (λ ts. ts)
+                (cond b (in_key_order new (without inputs first) ∷ map (without inputs) (second ∷ deeper))
+                (without inputs first ∷ at_level (n - 1) (in_key_order new) (map (without inputs) (second ∷ deeper))))))) not_first
+                ∙ ap (λ (xs : List Table). of_key key
+                (all_entries (xs ++ flat_map (λ ts. ts)
+                (at_level (n - 1) (in_key_order new) (map (without inputs) (second ∷ deeper)))))) (idle_without first idle)
+                ∙ ap (of_key key) (flat-append first
+                (flat_map (λ ts. ts) (at_level (n - 1) (in_key_order new) (map (without inputs) (second ∷ deeper)))))
+                ∙ of-append key (all_entries first)
+                (all_entries (flat_map (λ ts. ts) (at_level (n - 1) (in_key_order new) (map (without inputs) (second ∷ deeper)))))
                 ∙ ap (λ (xs : List Entry). X ++ xs) later.together
                 ∙ sym (append_assoc X later.front (of_key key out ++ later.behind));
           }
@@ -496,12 +550,16 @@ module _ (keep : ℕ) (I O : List Entry) (floor : ℕ) (inputs : List ℕ) where
             front = of_key key (all_entries xs);
             behind = of_key key (all_entries ys);
             apart =
-                ap (of_key key) (left-append ps xs (t ∷ ys) ∙ ap (λ (es : List Entry). es ++ left_level qs (t ∷ ys)) (idle_left ps xs before) ∙ ap (λ (es : List Entry). all_entries xs ++ (L ++ es)) (idle_left rs ys after))
+                ap (of_key key) (left-append ps xs (t ∷ ys)
+                ∙ ap (λ (es : List Entry). es ++ left_level qs (t ∷ ys)) (idle_left ps xs before)
+                ∙ ap (λ (es : List Entry). all_entries xs ++ (L ++ es)) (idle_left rs ys after))
                 ∙ of-append key (all_entries xs) (L ++ all_entries ys)
                 ∙ ap (λ (es : List Entry). of_key key (all_entries xs) ++ es) (of-append key L (all_entries ys))
                 ∙ ap (λ (es : List Entry). of_key key (all_entries xs) ++ (of_key key es ++ of_key key (all_entries ys))) (sym kepts);
             together =
-                ap (of_key key) (flat-append xs (new ++ ys) ∙ ap (λ (es : List Entry). all_entries xs ++ es) (flat-append new ys ∙ ap (λ (es : List Entry). es ++ all_entries ys) made))
+                ap (of_key key) (flat-append xs (new ++ ys)
+                ∙ ap (λ (es : List Entry). all_entries xs ++ es)
+                (flat-append new ys ∙ ap (λ (es : List Entry). es ++ all_entries ys) made))
                 ∙ of-append key (all_entries xs) (out ++ all_entries ys)
                 ∙ ap (λ (es : List Entry). of_key key (all_entries xs) ++ es) (of-append key out (all_entries ys));
           }

@@ -9,7 +9,8 @@ use Rattle.vl_model.specs.declared.entry.Entry.{Entry}
 use Rattle.vl_layout.specs.Jobs.{Made, job_ended}
 use Rattle.vl_layout.specs.Merging.{gone_after, needless}
 use Rattle.vl_layout.specs.Ruling.{Ruling, leaving, has_no_version}
-use Rattle.vl_layout.specs.Rulings.Install.{InstallAnswer, Installed, Exhausted, installed, race, moved_since, install_checked, install_unless, install_ruling}
+use Rattle.vl_layout.specs.Rulings.Install.{InstallAnswer, Installed, Exhausted, installed, race, moved_since}
+use Rattle.vl_layout.specs.Rulings.Install.{install_checked, install_unless, install_ruling}
 use Rattle.vl_layout.specs.declared.file_name.FileName.{FileName}
 use Rattle.vl_layout.specs.declared.job.Job.{Job}
 use Rattle.vl_layout.specs.declared.layout.Layout.{Layout}

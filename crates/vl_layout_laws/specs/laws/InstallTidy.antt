@@ -38,7 +38,8 @@ distinct_tables (t ∷ ts) more distinct = (off ts distinct.0, distinct_tables t
         ((λ same. let at : (u.number == t.number) ≡ true = grind (arith, nat_tests, same) in true_false (sym at ∙ both.0)), off us both.1)
 
 module _ (l : Layout) (h : History) (o : OpenJob) (is : l.job ≡ Some o) (made : Made)
-    (w : IsWellStocked l) (are : AreLevels l.levels) (k : IsOpenWell l h o.job o.moved) (all : AreOutputs o.job made) (lent : AreLent o.lent made) where
+    (w : IsWellStocked l) (are : AreLevels l.levels) (k : IsOpenWell l h o.job o.moved) (all : AreOutputs o.job made)
+    (lent : AreLent o.lent made) where
   pub lent_here : AreLent (lent_numbers l.job) made
   lent_here = subst (λ (job : Option OpenJob). AreLent (lent_numbers job) made) (sym is) lent
 
@@ -66,8 +67,11 @@ module _ (l : Layout) (h : History) (o : OpenJob) (is : l.job ≡ Some o) (made 
               → AllByRecursion (λ (u : Table). u.number ≢ t.number) us
           off [] none = tt
           off (u ∷ us) none =
-              let both = or_false (t.number == u.number) (list_any (λ (v : Table). t.number == v.number) us) none in
-              ((λ same. let at : (t.number == u.number) ≡ true = grind (arith, nat_tests, same) in true_false (sym at ∙ both.0)), off us both.1)
+              let both = or_false (t.number == u.number) (list_any (λ (v : Table). t.number == v.number) us) none in (
+                (λ same. let at : (t.number == u.number) ≡ true = grind (arith, nat_tests, same) in true_false
+                    (sym at ∙ both.0)),
+                off us both.1,
+              )
 
   either : (b : Bool) (x y : Ruling InstallAnswer) → AreLevels x.layout.levels → AreLevels y.layout.levels
       → AreLevels (if b then x else y).layout.levels
@@ -97,7 +101,8 @@ module _ (l : Layout) (h : History) (w : IsWellStocked l) (are : AreLevels l.lev
   flush_of-levels : (o : Option Segment) → AreLevels (flush_of l h o).layout.levels
   flush_of-levels None = are
   flush_of-levels (Some s) =
-      kept_either (has_no_number l.next_table 1) _ _ are (kept_either (has_no_version l) _ _ are (levels_flushed l s are w.stocked.tables_drawn))
+      kept_either (has_no_number l.next_table 1) _ _ are
+      (kept_either (has_no_version l) _ _ are (levels_flushed l s are w.stocked.tables_drawn))
 
   flush_unless-levels : (halted : Option FileName) → AreLevels (flush_unless halted l h).layout.levels
   flush_unless-levels (Some name) = are

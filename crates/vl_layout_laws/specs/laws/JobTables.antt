@@ -46,7 +46,8 @@ pub outputs_of : (Q : Entry → Type 0) (job : Job) → AllByRecursion Q (inputs
     → AllByRecursion Q (joined (outputs job))
 outputs_of Q job all =
     subst (AllByRecursion Q) (sym (cut-whole (merged_entries job)))
-    (all-in_order Q (kept job) (all_kept_from Q job.keep (inputs_of job.base) (Rattle.vl_layout.specs.Merging.outside_of job.base) job.floor [] job.base all))
+    (all-in_order Q (kept job)
+    (all_kept_from Q job.keep (inputs_of job.base) (Rattle.vl_layout.specs.Merging.outside_of job.base) job.floor [] job.base all))
 
 -- ---- where entries and points lead
 
@@ -60,8 +61,11 @@ module _ (W : ℕ → Type 0) where
 
   entries_well : (es : List Entry) → ((n : ℕ) → list_any (is_into n) es ≡ true → W n) → AllByRecursion IsIntoWell es
   entries_well [] well = tt
-  entries_well (e ∷ es) well =
-      ((λ n is. well n (or_left (is_into n e) (list_any (is_into n) es) is)), entries_well es (λ n is. well n (or_right (is_into n e) (list_any (is_into n) es) is)))
+  entries_well (e ∷ es) well = (
+    (λ n is. well n (or_left (is_into n e) (list_any (is_into n) es) is)),
+    entries_well es
+        (λ n is. well n (or_right (is_into n e) (list_any (is_into n) es) is)),
+  )
 
   pub entries_into : (es : List Entry) → LeadWell (points_of es) → AllByRecursion IsIntoWell es
   entries_into es well = entries_well es (λ n is. well n (leads-points n es ∙ is))
@@ -85,7 +89,8 @@ module _ (W : ℕ → Type 0) where
 
 -- ---- the tables of an open job
 
-module _ (l : Layout) (h : History) (job : Job) (moved : List Named) (k : IsOpenWell l h job moved) (made : Made) (all : AreOutputs job made) where
+module _ (l : Layout) (h : History) (job : Job) (moved : List Named) (k : IsOpenWell l h job moved) (made : Made)
+    (all : AreOutputs job made) where
   made_are : (Q : Table → Type 0) → AllByRecursion Q (tables_made all.numbers (outputs job))
       → AllByRecursion Q made.tables
   made_are Q these = subst (AllByRecursion Q) (sym all.tables) these
@@ -96,7 +101,8 @@ module _ (l : Layout) (h : History) (job : Job) (moved : List Named) (k : IsOpen
   made_from Q each = each_of Q (outputs job) (outputs_from Q l job moved k.kept (all_tables Q (tables l) each))
 
   pub made_footed : AllByRecursion IsFooted (tables l) → AllByRecursion IsFooted made.tables
-  made_footed footed = made_are IsFooted (all_made (AllByRecursion HasBytes) IsFooted (λ n es bytes. record { points = refl; bytes = bytes }) all.numbers (outputs job)
+  made_footed footed = made_are IsFooted
+      (all_made (AllByRecursion HasBytes) IsFooted (λ n es bytes. record { points = refl; bytes = bytes }) all.numbers (outputs job)
       (made_from HasBytes (all_weaker IsFooted (λ (t : Table). AllByRecursion HasBytes t.entries) (λ t is. is.bytes) (tables l) footed)))
 
   pub made_lead : (W : ℕ → Type 0) → AllByRecursion IsFooted (tables l)
@@ -104,7 +110,8 @@ module _ (l : Layout) (h : History) (job : Job) (moved : List Named) (k : IsOpen
       → AllByRecursion (λ (t : Table). LeadWell W t.points) made.tables
   made_lead W footed lead =
       made_are (λ (t : Table). LeadWell W t.points)
-      (all_made (AllByRecursion (IsIntoWell W)) (λ (t : Table). LeadWell W t.points) (λ n es into. points_into W es into) all.numbers (outputs job)
+      (all_made (AllByRecursion (IsIntoWell W)) (λ (t : Table). LeadWell W t.points)
+      (λ n es into. points_into W es into) all.numbers (outputs job)
       (made_from (IsIntoWell W) (both (tables l) footed lead)))
     where
       both : (ts : List Table) → AllByRecursion IsFooted ts
@@ -116,7 +123,8 @@ module _ (l : Layout) (h : History) (job : Job) (moved : List Named) (k : IsOpen
 
   -- a log into which they lead is one into which tables lead
   pub made_into : AllByRecursion IsFooted (tables l)
-      → (n : ℕ) → AllByRecursion (λ (t : Table). leads n t.points ≡ true → list_any (λ (u : Table). leads n u.points) (tables l) ≡ true) made.tables
+      → (n : ℕ) → AllByRecursion
+      (λ (t : Table). leads n t.points ≡ true → list_any (λ (u : Table). leads n u.points) (tables l) ≡ true) made.tables
   made_into footed n =
       let W : ℕ → Type 0 = λ m. list_any (λ (u : Table). leads m u.points) (tables l) ≡ true in
       all_weaker (λ (t : Table). LeadWell W t.points) (λ (t : Table). leads n t.points ≡ true → W n) (λ t lead is. lead n is) made.tables
@@ -127,7 +135,8 @@ module _ (l : Layout) (h : History) (job : Job) (moved : List Named) (k : IsOpen
   made_below footed drawn =
       let W : ℕ → Type 0 = λ n. n < l.next_log in
       all_weaker (λ (t : Table). LeadWell W t.points) (PointsDrawn l.next_log) (λ t lead. each_point W t.points lead) made.tables
-      (made_lead W footed (all_weaker (PointsDrawn l.next_log) (λ (t : Table). LeadWell W t.points) (λ t is. of_each_point W t.points is) (tables l) drawn))
+      (made_lead W footed (all_weaker (PointsDrawn l.next_log) (λ (t : Table). LeadWell W t.points)
+      (λ t is. of_each_point W t.points is) (tables l) drawn))
 
 -- ---- in order
 
@@ -159,4 +168,5 @@ pub job_ends : (P : List ℕ → Type 0) (job : Job) (ns : List ℕ)
     → AllByRecursion (λ (e : Entry). P e.key) (inputs_of job.base)
     → AllByRecursion (λ (t : Table). P t.first × P t.last) (tables_made ns (outputs job))
 job_ends P job ns all =
-    made_ends P ns (outputs job) (cut_whole job) (each_of (λ (e : Entry). P e.key) (outputs job) (outputs_of (λ (e : Entry). P e.key) job all))
+    made_ends P ns (outputs job) (cut_whole job)
+    (each_of (λ (e : Entry). P e.key) (outputs job) (outputs_of (λ (e : Entry). P e.key) job all))

@@ -1,5 +1,6 @@
 -- Where nothing raced, what a kept job drops of the sources of a moment is dropped by a rule of that moment.
-use Rattle.std.proofs.Common.{◌≡◌, ◌⊎◌, inl, inr, ⊎_elim, ℕ, ◌≤◌, ◌<◌, Bool, true, false, cond, not, ◌&&◌, ◌||◌, List, [], ◌∷◌, ◌++◌, refl, ap, sym, ◌∙◌, subst, arith}
+use Rattle.std.proofs.Common.{◌≡◌, ◌⊎◌, inl, inr, ⊎_elim, ℕ, ◌≤◌, ◌<◌, Bool, true, false, cond, not, ◌&&◌, ◌||◌, List}
+use Rattle.std.proofs.Common.{[], ◌∷◌, ◌++◌, refl, ap, sym, ◌∙◌, subst, arith}
 use Rattle.std.proofs.lemmas.Bool.{and_parts, and_from}
 use Rattle.std.proofs.lemmas.Bool.Decides.{nat_tests}
 use Rattle.std.specs.Prelude.{Option, Some, None, nat_le, nat_lt, ◌==◌, is_some}
@@ -16,7 +17,8 @@ use Rattle.vl_model.specs.Winners.{Logs}
 use Rattle.vl_model.specs.laws.WinnerLaws.{same_key}
 use Rattle.vl_model.specs.declared.entry.Entry.{Entry}
 use Rattle.vl_layout.specs.laws.MergeShows.{shows_installed}
-use Rattle.vl_layout.specs.Merging.{Sourced, if_so, inputs_of, outside_of, is_shadowed, is_outdated, is_below, is_needless, is_needless_one, is_dropped, drops_by_need, needless_from, needless}
+use Rattle.vl_layout.specs.Merging.{Sourced, if_so, inputs_of, outside_of, is_shadowed, is_outdated, is_below}
+use Rattle.vl_layout.specs.Merging.{is_needless, is_needless_one, is_dropped, drops_by_need, needless_from, needless}
 use Rattle.vl_layout.specs.Rulings.Install.{with_move, moved_among, race}
 use Rattle.vl_layout.specs.Shows.{Shows}
 use Rattle.vl_layout.specs.declared.job.Job.{Job}
@@ -78,7 +80,8 @@ module _ (keep : ℕ) (inputs outside : List Entry) (floor : ℕ) (moved : List 
       → AllByRecursion IsFree (preceded newer ss)
   frees newer [] all = tt
   frees newer (s ∷ ss) all =
-      free_if s.0 s.1 newer (preceded (s.1 ∷ newer) ss) (needless_from keep inputs outside floor (s.1 ∷ newer) ss) all (frees (s.1 ∷ newer) ss)
+      free_if s.0 s.1 newer (preceded (s.1 ∷ newer) ss) (needless_from keep inputs outside floor (s.1 ∷ newer) ss) all
+      (frees (s.1 ∷ newer) ss)
 
 pub race_frees : (job : Job) (moved : List Named) → race job moved ≡ None
     → AllByRecursion (IsFree job.keep (inputs_of job.base) (outside_of job.base) job.floor moved) (preceded [] job.base)
@@ -111,16 +114,20 @@ module _ (keep : ℕ) (inputs outside : List Entry) (floor : ℕ) where
       → marked_inputs (marked_by keep inputs outside floor ps ss) ≡ inputs_of ss
   inputs_of-marked ps [] = refl
   inputs_of-marked ps (s ∷ ss) =
-      ap (λ (b : Bool). if_so b (head_mark keep inputs outside floor s.0 ps s.1).entry (marked_inputs (marked_by keep inputs outside floor (rest_preceded s.0 ps) ss))) (mark_input s.0 ps s.1)
-      ∙ ap (λ (e : Entry). if_so s.0 e (marked_inputs (marked_by keep inputs outside floor (rest_preceded s.0 ps) ss))) (mark_entry s.0 ps s.1)
+      ap (λ (b : Bool). if_so b (head_mark keep inputs outside floor s.0 ps s.1).entry
+      (marked_inputs (marked_by keep inputs outside floor (rest_preceded s.0 ps) ss))) (mark_input s.0 ps s.1)
+      ∙ ap (λ (e : Entry). if_so s.0 e (marked_inputs (marked_by keep inputs outside floor (rest_preceded s.0 ps) ss)))
+      (mark_entry s.0 ps s.1)
       ∙ ap (if_so s.0 s.1) (inputs_of-marked (rest_preceded s.0 ps) ss)
 
   pub outside_of-marked : (ps : List Preceded) (ss : List Sourced)
       → marked_outside (marked_by keep inputs outside floor ps ss) ≡ outside_of ss
   outside_of-marked ps [] = refl
   outside_of-marked ps (s ∷ ss) =
-      ap (λ (b : Bool). if_so (not b) (head_mark keep inputs outside floor s.0 ps s.1).entry (marked_outside (marked_by keep inputs outside floor (rest_preceded s.0 ps) ss))) (mark_input s.0 ps s.1)
-      ∙ ap (λ (e : Entry). if_so (not s.0) e (marked_outside (marked_by keep inputs outside floor (rest_preceded s.0 ps) ss))) (mark_entry s.0 ps s.1)
+      ap (λ (b : Bool). if_so (not b) (head_mark keep inputs outside floor s.0 ps s.1).entry
+      (marked_outside (marked_by keep inputs outside floor (rest_preceded s.0 ps) ss))) (mark_input s.0 ps s.1)
+      ∙ ap (λ (e : Entry). if_so (not s.0) e
+      (marked_outside (marked_by keep inputs outside floor (rest_preceded s.0 ps) ss))) (mark_entry s.0 ps s.1)
       ∙ ap (if_so (not s.0) s.1) (outside_of-marked (rest_preceded s.0 ps) ss)
 
 -- the inputs' entries are the same ones
@@ -165,7 +172,8 @@ any_below : (e f : Entry) (es : List Entry) → is_below e f ≡ true
 any_below e f [] below there = absurd (true_false (sym there))
 any_below e f (g ∷ es) below there = ⊎_elim
     (λ (at : is_at f.key f.version g ≡ true). or_left (is_below e g) (list_any (is_below e) es) (below_same e f g at ∙ below))
-    (λ (later : list_any (is_at f.key f.version) es ≡ true). or_right (is_below e g) (list_any (is_below e) es) (any_below e f es below later))
+    (λ (later : list_any (is_at f.key f.version) es ≡ true). or_right (is_below e g) (list_any (is_below e) es)
+    (any_below e f es below later))
     (or_cases (is_at f.key f.version g) (list_any (is_at f.key f.version) es) there)
 
 -- the three rules, one after the other
@@ -224,13 +232,16 @@ module _ (keep : ℕ) (inputs outside now : List Entry) (floor : ℕ) (moved : L
       subst (λ (e : Entry). is_dropped keep inputs now floor q.newer e ≡ true) (sym still.same)
       (⊎_elim
       (λ (shadowed : is_shadowed p.newer p.entry ≡ true).
-      or_left (is_shadowed q.newer p.entry) (is_outdated keep inputs floor p.entry || is_needless keep now floor p.entry) (still.covers p.entry.key p.entry.version shadowed))
+      or_left (is_shadowed q.newer p.entry)
+      (is_outdated keep inputs floor p.entry || is_needless keep now floor p.entry) (still.covers p.entry.key p.entry.version shadowed))
       (λ (other : (is_outdated keep inputs floor p.entry ≡ true) ⊎ (drops_by_need keep inputs outside floor p.newer p.entry ≡ true)).
       or_right (is_shadowed q.newer p.entry) (is_outdated keep inputs floor p.entry || is_needless keep now floor p.entry)
       (⊎_elim
-      (λ (outdated : is_outdated keep inputs floor p.entry ≡ true). or_left (is_outdated keep inputs floor p.entry) (is_needless keep now floor p.entry) outdated)
+      (λ (outdated : is_outdated keep inputs floor p.entry ≡ true). or_left (is_outdated keep inputs floor p.entry)
+      (is_needless keep now floor p.entry) outdated)
       (λ (needed : drops_by_need keep inputs outside floor p.newer p.entry ≡ true).
-      let one = and_parts (not (is_shadowed p.newer p.entry)) (not (is_outdated keep inputs floor p.entry) && is_needless keep outside floor p.entry) needed in
+      let one = and_parts (not (is_shadowed p.newer p.entry))
+      (not (is_outdated keep inputs floor p.entry) && is_needless keep outside floor p.entry) needed in
       let two = and_parts (not (is_outdated keep inputs floor p.entry)) (is_needless keep outside floor p.entry) one.1 in
       or_right (is_outdated keep inputs floor p.entry) (is_needless keep now floor p.entry)
       (still_needless p.entry two.1 (free needed)))
@@ -263,10 +274,15 @@ module _ (keep : ℕ) (inputs outside now : List Entry) (floor : ℕ) (moved : L
   justified_one true (p ∷ ps) e newer qs zip free = (
     record {
       drops =
-          λ dropped. (refl, dropped_still p (record { entry = e; newer = newer }) zip.0 free.0 (not_false (drops_at keep inputs outside floor p) dropped));
+          λ dropped. (
+            refl,
+            dropped_still p (record { entry = e; newer = newer }) zip.0 free.0
+                (not_false (drops_at keep inputs outside floor p) dropped),
+          );
       keeps =
           λ kept_now input. ap (is_outdated keep inputs floor) zip.0.same
-          ∙ none_outdated (is_shadowed p.newer p.entry) (is_outdated keep inputs floor p.entry) (is_needless keep outside floor p.entry) (not_true (drops_at keep inputs outside floor p) kept_now);
+          ∙ none_outdated (is_shadowed p.newer p.entry) (is_outdated keep inputs floor p.entry)
+          (is_needless keep outside floor p.entry) (not_true (drops_at keep inputs outside floor p) kept_now);
     },
     (zip.1, free.1),
   )
@@ -279,13 +295,15 @@ module _ (keep : ℕ) (inputs outside now : List Entry) (floor : ℕ) (moved : L
   justified_from newer ps (s ∷ ss) zip free =
       let one = justified_one s.0 ps s.1 newer (preceded (s.1 ∷ newer) ss) zip free in (
         one.0,
-        subst (λ (e : Entry). AreJustified keep inputs now floor (e ∷ newer) (marked_by keep inputs outside floor (rest_preceded s.0 ps) ss)) (sym (mark_entry keep inputs outside floor s.0 ps s.1))
+        subst (λ (e : Entry). AreJustified keep inputs now floor (e ∷ newer)
+            (marked_by keep inputs outside floor (rest_preceded s.0 ps) ss)) (sym (mark_entry keep inputs outside floor s.0 ps s.1))
             (justified_from (s.1 ∷ newer) (rest_preceded s.0 ps) ss one.1.0 one.1.1),
       )
 
 -- Where nothing raced, what a kept job leaves of the sources shows what they show.
 pub marks_shown : (logs : Logs) (job : Job) (moved : List Named) (now : List Sourced) (h : History) (from : List ℕ → ℕ) (to : ℕ)
-    → ((key : List ℕ) (number : ℕ) → from key ≤ number → IsPast job.keep (inputs_of job.base) job.floor key number) → IsKeptFor job moved now → race job moved
+    → ((key : List ℕ) (number : ℕ) → from key ≤ number → IsPast job.keep (inputs_of job.base) job.floor key number)
+    → IsKeptFor job moved now → race job moved
     ≡ None
     → Shows logs (plain now) h from to → Shows logs (kept_of (marks_now job now)) h from to
 marks_shown logs job moved now h from to past k none shows =
@@ -297,7 +315,9 @@ marks_shown logs job moved now h from to past k none shows =
     justified_from job.keep I O (outside_of now) job.floor moved k.outside [] ps now k.inputs (race_frees job moved none) in
     let same : I ≡ marked_inputs ms =
     sym (same_inputs job moved now k) ∙ sym (inputs_of-marked job.keep I O job.floor ps now) in
-    shows_installed job.keep logs ms job.floor h from to (λ key number low. subst (λ (es : List Entry). IsPast job.keep es job.floor key number) same (past key number low))
+    shows_installed job.keep logs ms job.floor h from to
+    (λ key number low. subst (λ (es : List Entry). IsPast job.keep es job.floor key number) same (past key number low))
     (subst (λ (es : List Entry). AreJustified job.keep es (marked_outside ms) job.floor [] ms) same
-    (subst (λ (es : List Entry). AreJustified job.keep I es job.floor [] ms) (sym (outside_of-marked job.keep I O job.floor ps now)) justified))
+    (subst (λ (es : List Entry). AreJustified job.keep I es job.floor [] ms)
+    (sym (outside_of-marked job.keep I O job.floor ps now)) justified))
     (subst (λ (es : List Entry). Shows logs es h from to) (sym (all_of-marked job.keep I O job.floor ps now)) shows)

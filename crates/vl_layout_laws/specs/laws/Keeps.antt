@@ -1,5 +1,6 @@
 -- A job is kept by whatever only adds sources in front: a commit, a rotation, a flush, a relocation.
-use Rattle.std.proofs.Common.{◌≡◌, ◌⊎◌, inl, inr, ⊎_elim, ℕ, ◌+◌, ◌≤◌, ◌<◌, Bool, true, false, cond, ◌||◌, List, [], ◌∷◌, ◌++◌, map, refl, ap, sym, ◌∙◌, subst, arith, append_assoc}
+use Rattle.std.proofs.Common.{◌≡◌, ◌⊎◌, inl, inr, ⊎_elim, ℕ, ◌+◌, ◌≤◌, ◌<◌, Bool, true, false, cond, ◌||◌, List, []}
+use Rattle.std.proofs.Common.{◌∷◌, ◌++◌, map, refl, ap, sym, ◌∙◌, subst, arith, append_assoc}
 use Rattle.std.proofs.lemmas.Bool.Decides.{nat_tests}
 use Rattle.std.specs.Prelude.{Some, ◌==◌, is_some}
 use Rattle.std.specs.List.{AllZip, AllByRecursion, flat_map, list_any}
@@ -76,7 +77,8 @@ covers-behind es fs covers key version there =
 covers-more : (e : Entry) (es fs : List Entry) → Covers es fs → Covers (e ∷ es) (e ∷ fs)
 covers-more e es fs covers key version there = ⊎_elim
     (λ (here : is_at key version e ≡ true). or_left (is_at key version e) (list_any (is_at key version) fs) here)
-    (λ (later : list_any (is_at key version) es ≡ true). or_right (is_at key version e) (list_any (is_at key version) fs) (covers key version later))
+    (λ (later : list_any (is_at key version) es ≡ true). or_right (is_at key version e)
+    (list_any (is_at key version) fs) (covers key version later))
     (or_cases (is_at key version e) (list_any (is_at key version) es) there)
 
 still_more : (newer newer' : List Entry) → Covers newer newer' → (ss : List Sourced)
@@ -115,7 +117,8 @@ module _ (job : Job) (moved moved' : List Named) (es fs : List Entry) (ts : List
   -- other entries in front of the tables, of which each key and version that stood there does
   kept_again : IsKeptFor job moved (marked_as false es ++ ts) → Covers es fs
       → ((e : Entry) → IsAccounted (outside_of job.base) job.floor moved e → IsAccounted (outside_of job.base) job.floor moved' e)
-      → (AllByRecursion (IsAccounted (outside_of job.base) job.floor moved) es → AllByRecursion (IsAccounted (outside_of job.base) job.floor moved') fs)
+      → (AllByRecursion (IsAccounted (outside_of job.base) job.floor moved) es
+      → AllByRecursion (IsAccounted (outside_of job.base) job.floor moved') fs)
       → IsKeptFor job moved' (marked_as false fs ++ ts)
   kept_again k covers weaker front =
       let before : AllByRecursion (IsAccounted (outside_of job.base) job.floor moved) (es ++ outside_of ts) =
@@ -129,7 +132,8 @@ module _ (job : Job) (moved moved' : List Named) (es fs : List Entry) (ts : List
         outside =
             subst (AllByRecursion (IsAccounted (outside_of job.base) job.floor moved')) (sym (outside-front fs ts))
             (all_both (IsAccounted (outside_of job.base) job.floor moved') fs (outside_of ts) (front parts.0)
-            (all_weaker (IsAccounted (outside_of job.base) job.floor moved) (IsAccounted (outside_of job.base) job.floor moved') weaker (outside_of ts) parts.1));
+            (all_weaker (IsAccounted (outside_of job.base) job.floor moved)
+            (IsAccounted (outside_of job.base) job.floor moved') weaker (outside_of ts) parts.1));
       }
 
 -- ---- a frame more
@@ -145,7 +149,8 @@ in_memory l = flat_map memtable (l.active ∷ l.frozen)
 pub covers_both : (es fs back : List Entry) → Covers es fs → Covers (es ++ back) (fs ++ back)
 covers_both es fs back covers key version there =
     any-append (is_at key version) fs back ∙
-    by_parts (or_cases (list_any (is_at key version) es) (list_any (is_at key version) back) (sym (any-append (is_at key version) es back) ∙ there))
+    by_parts (or_cases (list_any (is_at key version) es) (list_any (is_at key version) back)
+    (sym (any-append (is_at key version) es back) ∙ there))
   where
     by_parts : (list_any (is_at key version) es ≡ true) ⊎ (list_any (is_at key version) back ≡ true)
         → (list_any (is_at key version) fs || list_any (is_at key version) back) ≡ true
@@ -173,7 +178,8 @@ module _ (l : Layout) (f : LogFrame) (job : Job) (moved moved' : List Named)
   kept_logged k =
       let back = flat_map memtable l.frozen in
       let old = logged_entries l.active.format l.active.number 16 l.active.frames in
-      subst (λ (m : List Entry). IsKeptFor job moved' (marked_as false (m ++ back) ++ marked_tables job.inputs (tables l))) (sym memtable_logged)
+      subst (λ (m : List Entry). IsKeptFor job moved'
+      (marked_as false (m ++ back) ++ marked_tables job.inputs (tables l))) (sym memtable_logged)
       (kept_again job moved moved' (in_order old ++ back) (in_order (added l f ++ old) ++ back) (marked_tables job.inputs (tables l)) k
       (covers_both (in_order old) (in_order (added l f ++ old)) back (covers_in_order (added l f) old))
       weaker
@@ -182,12 +188,15 @@ module _ (l : Layout) (f : LogFrame) (job : Job) (moved moved' : List Named)
       all_both (IsAccounted (outside_of job.base) job.floor moved') (in_order (added l f ++ old)) back
       (all-taken_in (IsAccounted (outside_of job.base) job.floor moved') (added l f) old
       (all_both (IsAccounted (outside_of job.base) job.floor moved') (added l f) (in_order old) new
-      (all_weaker (IsAccounted (outside_of job.base) job.floor moved) (IsAccounted (outside_of job.base) job.floor moved') weaker (in_order old) parts.0)))
-      (all_weaker (IsAccounted (outside_of job.base) job.floor moved) (IsAccounted (outside_of job.base) job.floor moved') weaker back parts.1)))
+      (all_weaker (IsAccounted (outside_of job.base) job.floor moved)
+      (IsAccounted (outside_of job.base) job.floor moved') weaker (in_order old) parts.0)))
+      (all_weaker (IsAccounted (outside_of job.base) job.floor moved)
+      (IsAccounted (outside_of job.base) job.floor moved') weaker back parts.1)))
 
 -- ---- a commit
 
-committed_accounted : (outside : List Entry) (floor : ℕ) (moved : List Named) (format segment place number : ℕ) (writes : List (List ℕ × Change))
+committed_accounted : (outside : List Entry) (floor : ℕ) (moved : List Named) (format segment place number : ℕ)
+    (writes : List (List ℕ × Change))
     → floor < number
     → AllByRecursion (IsAccounted outside floor moved) (map (record_entry format segment) (committed_records format place number writes))
 committed_accounted outside floor moved format segment place number [] above = tt
@@ -199,7 +208,8 @@ pub kept_committed : (l : Layout) (h : History) (ticket : ℕ) (writes : List (L
     → IsKeptFor job moved (sourced (logged (commit_frame h writes) (ended ticket l)) job.inputs)
 kept_committed l h ticket writes job moved low k =
     kept_logged (ended ticket l) (commit_frame h writes) job moved moved (λ e a. a)
-    (committed_accounted (outside_of job.base) job.floor moved l.active.format l.active.number (place_behind l.active.format 16 l.active.frames + 17) (last_number h + 1) writes (omega (arith, low)))
+    (committed_accounted (outside_of job.base) job.floor moved l.active.format l.active.number
+    (place_behind l.active.format 16 l.active.frames + 17) (last_number h + 1) writes (omega (arith, low)))
     k
 
 -- ---- a relocation
@@ -229,7 +239,8 @@ module _ (outside : List Entry) (floor : ℕ) (format segment number : ℕ) (mov
   one_more_noted x xs e a = accounted-more outside floor (x ∷ []) (xs ++ moved) e a
 
   moved_accounted : (place : ℕ) (ms : List Moved)
-      → AllByRecursion (IsAccounted outside floor (moves_at number ms ++ moved)) (map (record_entry format segment) (relocated_records format place ms))
+      → AllByRecursion (IsAccounted outside floor (moves_at number ms ++ moved))
+      (map (record_entry format segment) (relocated_records format place ms))
   moved_accounted place [] = tt
   moved_accounted place (m ∷ ms) = (
     inr (inr (find-first m.key number (moves_at number ms ++ moved))),
@@ -245,7 +256,8 @@ pub kept_relocated : (l : Layout) (records : List Moved) (job : Job) (moved : Li
 kept_relocated l records job moved k =
     kept_logged l (Relocated records) job moved (moves_at (l.version_number + 1) records ++ moved)
     (λ e a. accounted-more (outside_of job.base) job.floor (moves_at (l.version_number + 1) records) moved e a)
-    (moved_accounted (outside_of job.base) job.floor l.active.format l.active.number (l.version_number + 1) moved (place_behind l.active.format 16 l.active.frames + 9) records)
+    (moved_accounted (outside_of job.base) job.floor l.active.format l.active.number (l.version_number + 1) moved
+    (place_behind l.active.format 16 l.active.frames + 9) records)
     k
 
 -- ---- a rotation
@@ -280,7 +292,8 @@ covers_placed : (es : List Entry) → Covers es (map placed es)
 covers_placed [] key version there = there
 covers_placed (e ∷ es) key version there = ⊎_elim
     (λ (here : is_at key version e ≡ true). or_left (is_at key version (placed e)) (list_any (is_at key version) (map placed es)) here)
-    (λ (later : list_any (is_at key version) es ≡ true). or_right (is_at key version (placed e)) (list_any (is_at key version) (map placed es)) (covers_placed es key version later))
+    (λ (later : list_any (is_at key version) es ≡ true). or_right (is_at key version (placed e))
+    (list_any (is_at key version) (map placed es)) (covers_placed es key version later))
     (or_cases (is_at key version e) (list_any (is_at key version) es) there)
 
 all_placed : (outside : List Entry) (floor : ℕ) (moved : List Named) (es : List Entry)
@@ -316,21 +329,29 @@ kept_flushed l s job moved level deeper waits are given k =
     let new = flushed_table l s in
     let before : IsKeptFor job moved (marked_as false (active ++ (front ++ memtable s)) ++ T) =
     subst (λ (es : List Entry). IsKeptFor job moved (marked_as false (active ++ es) ++ T)) (frozen_parts l.frozen s waits)
-    (subst (λ (levels : List (List Table)). IsKeptFor job moved (marked_as false (in_memory l) ++ marked_tables inputs (flat_map (λ ts. ts) levels))) are k) in
+    (subst (λ (levels : List (List Table)). IsKeptFor job moved
+    (marked_as false (in_memory l) ++ marked_tables inputs (flat_map (λ ts. ts) levels))) are k) in
     let after : IsKeptFor job moved (marked_as false (active ++ (front ++ map placed (memtable s))) ++ T) =
     kept_again job moved moved (active ++ (front ++ memtable s)) (active ++ (front ++ map placed (memtable s))) T before
-    (covers_back active (front ++ memtable s) (front ++ map placed (memtable s)) (covers_back front (memtable s) (map placed (memtable s)) (covers_placed (memtable s))))
+    (covers_back active (front ++ memtable s) (front ++ map placed (memtable s))
+    (covers_back front (memtable s) (map placed (memtable s)) (covers_placed (memtable s))))
     (λ e a. a)
     (λ all.
     let P = IsAccounted (outside_of job.base) job.floor moved in
     let one = all_parts P active (front ++ memtable s) all in
     let two = all_parts P front (memtable s) one.1 in
-    all_both P active (front ++ map placed (memtable s)) one.0 (all_both P front (map placed (memtable s)) two.0 (all_placed (outside_of job.base) job.floor moved (memtable s) two.1))) in
-    let parts : marked_as false (active ++ (front ++ map placed (memtable s))) ++ T ≡ marked_as false (active ++ front) ++ (marked_as false (map placed (memtable s)) ++ T) =
+    all_both P active (front ++ map placed (memtable s)) one.0
+    (all_both P front (map placed (memtable s)) two.0 (all_placed (outside_of job.base) job.floor moved (memtable s) two.1))) in
+    let parts : marked_as false (active ++ (front ++ map placed (memtable s))) ++ T ≡ marked_as false (active ++ front)
+    ++ (marked_as false (map placed (memtable s)) ++ T) =
     ap (λ (es : List Entry). marked_as false es ++ T) (sym (append_assoc active front (map placed (memtable s))))
     ∙ ap (λ (ss : List Sourced). ss ++ T) (marked-append (active ++ front) (map placed (memtable s)))
     ∙ sourced_append (marked_as false (active ++ front)) (marked_as false (map placed (memtable s))) T in
-    let there : IsKeptFor job moved (marked_as false (active ++ front) ++ (marked_as (is_among inputs new) (map placed (memtable s)) ++ T)) =
-    subst (λ (b : Bool). IsKeptFor job moved (marked_as false (active ++ front) ++ (marked_as b (map placed (memtable s)) ++ T))) (sym (not_one l.next_table inputs new refl given))
+    let there : IsKeptFor job moved
+    (marked_as false (active ++ front) ++ (marked_as (is_among inputs new) (map placed (memtable s)) ++ T)) =
+    subst (λ (b : Bool). IsKeptFor job moved
+    (marked_as false (active ++ front) ++ (marked_as b (map placed (memtable s)) ++ T)))
+    (sym (not_one l.next_table inputs new refl given))
     (subst (IsKeptFor job moved) parts after) in
-    subst (λ (levels : List (List Table)). IsKeptFor job moved (marked_as false (active ++ front) ++ marked_tables inputs (flat_map (λ ts. ts) (in_front new levels)))) (sym are) there
+    subst (λ (levels : List (List Table)). IsKeptFor job moved
+    (marked_as false (active ++ front) ++ marked_tables inputs (flat_map (λ ts. ts) (in_front new levels)))) (sym are) there

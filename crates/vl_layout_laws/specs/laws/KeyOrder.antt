@@ -41,7 +41,8 @@ before_all : (t : Table) (new : List Table) → IsWide t → AllByRecursion IsWi
 before_all t new wide wides (inl all) is = all
 before_all t [] wide wides (inr all) is = tt
 before_all t (w ∷ ws) wide wides (inr all) is =
-    absurd (never_lt w.last t.first all.0 (le_then t.first t.last w.last wide (le_then t.last w.first w.last (lt_le t.last w.first is) wides.0)))
+    absurd (never_lt w.last t.first all.0
+    (le_then t.first t.last w.last wide (le_then t.last w.first w.last (lt_le t.last w.first is) wides.0)))
 
 behind_all : (t : Table) (new : List Table) → IsAside new t → is_before t new ≡ false
     → AllByRecursion (λ (u : Table). Lt u.last t.first) new
@@ -53,8 +54,11 @@ apart_append : (new : List Table) (t : Table) (ts : List Table) → IsApart new 
     → AllByRecursion (λ (u : Table). Lt u.last t.first) new → IsApart (new ++ t ∷ ts)
 apart_append [] t ts a b wide before = b
 apart_append (w ∷ ws) t ts a b wide before = (
-  all_both (λ (u : Table). Lt w.last u.first) ws (t ∷ ts) a.0
-      (before.0, all_weaker (λ (u : Table). Lt t.last u.first) (λ (u : Table). Lt w.last u.first) (λ u less. lt_le_then w.last t.first u.first before.0 (le_then t.first t.last u.first wide (lt_le t.last u.first less))) ts b.0),
+  all_both (λ (u : Table). Lt w.last u.first) ws (t ∷ ts) a.0 (
+    before.0,
+    all_weaker (λ (u : Table). Lt t.last u.first) (λ (u : Table). Lt w.last u.first)
+        (λ u less. lt_le_then w.last t.first u.first before.0 (le_then t.first t.last u.first wide (lt_le t.last u.first less))) ts b.0,
+  ),
   apart_append ws t ts a.1 b wide before.1,
 )
 

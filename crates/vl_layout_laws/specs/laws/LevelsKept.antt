@@ -1,5 +1,6 @@
 -- A flush and an install leave levels as they should be: seven, no table twice, true ranges, and apart from level 1 on.
-use Rattle.std.proofs.Common.{◌≡◌, ◌≢◌, inl, inr, ⊎_elim, ℕ, ◌-◌, ◌<◌, Bool, true, false, cond, not, List, [], ◌∷◌, ◌++◌, map, refl, ap, sym, ◌∙◌, subst, arith, length, append_assoc}
+use Rattle.std.proofs.Common.{◌≡◌, ◌≢◌, inl, inr, ⊎_elim, ℕ, ◌-◌, ◌<◌, Bool, true, false, cond, not, List, [], ◌∷◌}
+use Rattle.std.proofs.Common.{◌++◌, map, refl, ap, sym, ◌∙◌, subst, arith, length, append_assoc}
 use Rattle.std.proofs.lemmas.Bool.Decides.{nat_tests}
 use Rattle.std.specs.Prelude.{◌==◌}
 use Rattle.std.specs.List.{AllByRecursion, filter, flat_map}
@@ -49,7 +50,11 @@ distinct_among new [] a b other = a
 distinct_among new (t ∷ ts) a b other =
     let turned = others_turned new (t ∷ ts) other in
     elim (Rattle.vl_layout.specs.Levels.is_before t new) as (λ c. IsDistinct (cond c (t ∷ in_key_order new ts) (new ++ t ∷ ts))) [
-      | true ↦ (all_among (λ (u : Table). u.number ≢ t.number) new ts turned.0 b.0, distinct_among new ts a b.1 (others_turned ts new turned.1))
+      | true ↦ (
+        all_among (λ (u : Table). u.number ≢ t.number) new ts turned.0 b.0,
+        distinct_among new ts a b.1
+            (others_turned ts new turned.1),
+      )
       | false ↦ distinct_both new (t ∷ ts) a b other
     ]
 
@@ -59,23 +64,27 @@ distinct_at_level : (new : List Table) → IsDistinct new → (n : ℕ) (levels 
 distinct_at_level new made n [] d other = tt
 distinct_at_level new made n (ts ∷ deeper) d other =
     let parts = distinct_parts ts (flat deeper) d in
-    let turned = all_parts (λ (t : Table). AllByRecursion (λ (x : Table). x.number ≢ t.number) new) ts (flat deeper) (others_turned new (ts ++ flat deeper) other) in
+    let turned = all_parts (λ (t : Table). AllByRecursion (λ (x : Table). x.number ≢ t.number) new) ts (flat deeper)
+    (others_turned new (ts ++ flat deeper) other) in
     let first : AreOther new ts = others_turned ts new turned.0 in
     let behind : AreOther new (flat deeper) = others_turned (flat deeper) new turned.1 in
     elim (n == 0) as (λ b. IsDistinct (flat (cond b (in_key_order new ts ∷ deeper) (ts ∷ at_level (n - 1) (in_key_order new) deeper)))) [
       | true ↦ distinct_both (in_key_order new ts) (flat deeper) (distinct_among new ts made parts.0 first) parts.1.0
           (all_among (λ (x : Table). AllByRecursion (λ (y : Table). y.number ≢ x.number) (flat deeper)) new ts behind parts.1.1)
-      | false ↦ distinct_both ts (flat (at_level (n - 1) (in_key_order new) deeper)) parts.0 (distinct_at_level new made (n - 1) deeper parts.1.0 behind)
+      | false ↦ distinct_both ts (flat (at_level (n - 1) (in_key_order new) deeper)) parts.0
+          (distinct_at_level new made (n - 1) deeper parts.1.0 behind)
           (others_turned (flat (at_level (n - 1) (in_key_order new) deeper)) ts
-          (all_at_level (λ (u : Table). AllByRecursion (λ (t : Table). t.number ≢ u.number) ts) [] new first (n - 1) deeper (others_turned ts (flat deeper) parts.1.1)))
+          (all_at_level (λ (u : Table). AllByRecursion (λ (t : Table). t.number ≢ u.number) ts) [] new first (n - 1)
+          deeper (others_turned ts (flat deeper) parts.1.1)))
     ]
 
 filter-append : (p : Table → Bool) (xs ys : List Table) → filter p (xs ++ ys) ≡ filter p xs ++ filter p ys
 filter-append p [] ys = refl
-filter-append p (x ∷ xs) ys = elim (p x) as (λ b. cond b (x ∷ filter p (xs ++ ys)) (filter p (xs ++ ys)) ≡ cond b (x ∷ filter p xs) (filter p xs) ++ filter p ys) [
-  | true ↦ ap (λ zs. x ∷ zs) (filter-append p xs ys)
-  | false ↦ filter-append p xs ys
-]
+filter-append p (x ∷ xs) ys = elim (p x) as
+    (λ b. cond b (x ∷ filter p (xs ++ ys)) (filter p (xs ++ ys)) ≡ cond b (x ∷ filter p xs) (filter p xs) ++ filter p ys) [
+      | true ↦ ap (λ zs. x ∷ zs) (filter-append p xs ys)
+      | false ↦ filter-append p xs ys
+    ]
 
 flat_without : (inputs : List ℕ) (levels : List (List Table))
     → flat (map (without inputs) levels) ≡ without inputs (flat levels)
@@ -89,10 +98,11 @@ flat_without inputs (ts ∷ deeper) =
 level-map : (f : List Table → List Table) → f [] ≡ [] → (n : ℕ) (levels : List (List Table))
     → level_at n (map f levels) ≡ f (level_at n levels)
 level-map f none n [] = sym none
-level-map f none n (ts ∷ deeper) = elim (n == 0) as (λ b. cond b (f ts) (level_at (n - 1) (map f deeper)) ≡ f (cond b ts (level_at (n - 1) deeper))) [
-  | true ↦ refl
-  | false ↦ level-map f none (n - 1) deeper
-]
+level-map f none n (ts ∷ deeper) = elim (n == 0) as
+    (λ b. cond b (f ts) (level_at (n - 1) (map f deeper)) ≡ f (cond b ts (level_at (n - 1) deeper))) [
+      | true ↦ refl
+      | false ↦ level-map f none (n - 1) deeper
+    ]
 
 -- a level is the changed one, or as it was
 level-at_level : (P : List Table → Type 0) (f : List Table → List Table) (m n : ℕ) (levels : List (List Table))
@@ -103,17 +113,20 @@ level-at_level P f m n (ts ∷ deeper) same changed =
   where
     by : (a b : Bool) → (m == 0) ≡ a → (n == 0) ≡ b → P (cond b ts (level_at (n - 1) deeper))
         → (m ≡ n → P (f (cond b ts (level_at (n - 1) deeper))))
-        → (P (level_at (n - 1) deeper) → (m - 1 ≡ n - 1 → P (f (level_at (n - 1) deeper))) → P (level_at (n - 1) (at_level (m - 1) f deeper)))
+        → (P (level_at (n - 1) deeper) → (m - 1 ≡ n - 1 → P (f (level_at (n - 1) deeper)))
+        → P (level_at (n - 1) (at_level (m - 1) f deeper)))
         → P (level_at n (cond a (f ts ∷ deeper) (ts ∷ at_level (m - 1) f deeper)))
     by true true m_is n_is one other later =
-        subst (λ b. P (cond b (f ts) (level_at (n - 1) deeper))) (sym n_is) (other (let a : m ≡ 0 = grind (arith, nat_tests, m_is) in let b : n ≡ 0 = grind (arith, nat_tests, n_is) in omega (arith, a, b)))
+        subst (λ b. P (cond b (f ts) (level_at (n - 1) deeper))) (sym n_is)
+        (other (let a : m ≡ 0 = grind (arith, nat_tests, m_is) in let b : n ≡ 0 = grind (arith, nat_tests, n_is) in omega (arith, a, b)))
     by true false m_is n_is one other later =
         subst (λ b. P (cond b (f ts) (level_at (n - 1) deeper))) (sym n_is) one
     by false true m_is n_is one other later =
         subst (λ b. P (cond b ts (level_at (n - 1) (at_level (m - 1) f deeper)))) (sym n_is) one
     by false false m_is n_is one other later =
         subst (λ b. P (cond b ts (level_at (n - 1) (at_level (m - 1) f deeper)))) (sym n_is)
-        (later one (λ same. other (let a : 0 < m = grind (arith, nat_tests, m_is) in let b : 0 < n = grind (arith, nat_tests, n_is) in omega (arith, a, b, same))))
+        (later one (λ same. other
+        (let a : 0 < m = grind (arith, nat_tests, m_is) in let b : 0 < n = grind (arith, nat_tests, n_is) in omega (arith, a, b, same))))
 
 apart_filtered : (p : Table → Bool) (ts : List Table) → IsApart ts → IsApart (filter p ts)
 apart_filtered p [] apart = tt
@@ -129,10 +142,11 @@ length-map f (ts ∷ deeper) = let later = length-map f deeper in omega (arith, 
 length-at_level : (n : ℕ) (f : List Table → List Table) (levels : List (List Table))
     → length (at_level n f levels) ≡ length levels
 length-at_level n f [] = refl
-length-at_level n f (ts ∷ deeper) = elim (n == 0) as (λ b. length (cond b (f ts ∷ deeper) (ts ∷ at_level (n - 1) f deeper)) ≡ length (ts ∷ deeper)) [
-  | true ↦ omega arith
-  | false ↦ (let later = length-at_level (n - 1) f deeper in omega (arith, later))
-]
+length-at_level n f (ts ∷ deeper) = elim (n == 0) as
+    (λ b. length (cond b (f ts ∷ deeper) (ts ∷ at_level (n - 1) f deeper)) ≡ length (ts ∷ deeper)) [
+      | true ↦ omega arith
+      | false ↦ (let later = length-at_level (n - 1) f deeper in omega (arith, later))
+    ]
 
 pub at_a_level : (P : Table → Type 0) (n : ℕ) (levels : List (List Table)) → AllByRecursion P (flat levels)
     → AllByRecursion P (level_at n levels)
@@ -181,25 +195,32 @@ levels_flushed l s are drawn = by l.levels are drawn
 
     ranged : IsRanged (flushed_table l s)
     ranged =
-        both_all (λ (e : Entry). Le (first_key (map placed (memtable s))) e.key) (λ (e : Entry). Le e.key (last_key (map placed (memtable s)))) (map placed (memtable s)) (from_first (map placed (memtable s)) sorted) (up_to_last (map placed (memtable s)) sorted)
+        both_all (λ (e : Entry). Le (first_key (map placed (memtable s))) e.key)
+        (λ (e : Entry). Le e.key (last_key (map placed (memtable s)))) (map placed (memtable s))
+        (from_first (map placed (memtable s)) sorted) (up_to_last (map placed (memtable s)) sorted)
 
     by : (levels : List (List Table)) → AreLevels levels
         → AllByRecursion (λ (u : Table). u.number < l.next_table) (flat levels)
         → AreLevels (in_front (flushed_table l s) levels)
     by [] are drawn = absurd (let seven = are.seven in omega (arith, seven))
     by (level ∷ deeper) are drawn = record {
-      distinct =
-          (all_weaker (λ (u : Table). u.number < l.next_table) (λ (u : Table). u.number ≢ l.next_table) (λ u less same. omega (arith, less, same)) (flat (level ∷ deeper)) drawn, are.distinct);
+      distinct = (
+        all_weaker (λ (u : Table). u.number < l.next_table) (λ (u : Table). u.number ≢ l.next_table)
+            (λ u less same. omega (arith, less, same)) (flat (level ∷ deeper)) drawn,
+        are.distinct,
+      );
       ranged = (ranged, are.ranged);
       wide = (first_last (map placed (memtable s)) sorted, are.wide);
       apart = λ n some. let no : (n == 0) ≡ false = grind (arith, nat_tests, some) in
-          subst IsApart (ap (λ b. cond b level (level_at (n - 1) deeper)) no ∙ sym (ap (λ b. cond b (flushed_table l s ∷ level) (level_at (n - 1) deeper)) no)) (are.apart n some);
+          subst IsApart (ap (λ b. cond b level (level_at (n - 1) deeper)) no
+          ∙ sym (ap (λ b. cond b (flushed_table l s ∷ level) (level_at (n - 1) deeper)) no)) (are.apart n some);
       seven = are.seven;
     }
 
 -- ---- an install into a level
 
-module _ (l : Layout) (h : History) (job : Job) (moved : List Named) (k : IsOpenWell l h job moved) (made : Made) (all : AreOutputs job made)
+module _ (l : Layout) (h : History) (job : Job) (moved : List Named) (k : IsOpenWell l h job moved) (made : Made)
+    (all : AreOutputs job made)
     (are : AreLevels l.levels) (distinct_made : IsDistinct made.tables) (other : AreOther made.tables (tables l)) where
   made_all : (Q : Table → Type 0) → AllByRecursion Q (tables_made all.numbers (outputs job))
       → AllByRecursion Q made.tables
@@ -220,14 +241,18 @@ module _ (l : Layout) (h : History) (job : Job) (moved : List Named) (k : IsOpen
 
   aside_made : (u : Table) → IsBesideAll (inputs_of job.base) u → IsAside made.tables u
   aside_made u beside = ⊎_elim
-      (λ (above : AllByRecursion (λ (e : Entry). Lt u.last e.key) (inputs_of job.base)). inl (all_weaker (λ (t : Table). Lt u.last t.first × Lt u.last t.last) (λ (t : Table). Lt u.last t.first) (λ t is. is.0) made.tables
+      (λ (above : AllByRecursion (λ (e : Entry). Lt u.last e.key) (inputs_of job.base)). inl
+      (all_weaker (λ (t : Table). Lt u.last t.first × Lt u.last t.last) (λ (t : Table). Lt u.last t.first) (λ t is. is.0) made.tables
       (made_all (λ (t : Table). Lt u.last t.first × Lt u.last t.last) (job_ends (λ (key : List ℕ). Lt u.last key) job all.numbers above))))
-      (λ (below : AllByRecursion (λ (e : Entry). Lt e.key u.first) (inputs_of job.base)). inr (all_weaker (λ (t : Table). Lt t.first u.first × Lt t.last u.first) (λ (t : Table). Lt t.last u.first) (λ t is. is.1) made.tables
-      (made_all (λ (t : Table). Lt t.first u.first × Lt t.last u.first) (job_ends (λ (key : List ℕ). Lt key u.first) job all.numbers below))))
+      (λ (below : AllByRecursion (λ (e : Entry). Lt e.key u.first) (inputs_of job.base)). inr
+      (all_weaker (λ (t : Table). Lt t.first u.first × Lt t.last u.first) (λ (t : Table). Lt t.last u.first) (λ t is. is.1) made.tables
+      (made_all (λ (t : Table). Lt t.first u.first × Lt t.last u.first)
+      (job_ends (λ (key : List ℕ). Lt key u.first) job all.numbers below))))
       beside
 
   asides : (us : List Table)
-      → AllByRecursion (λ (u : Table). is_among job.inputs u ≡ false → IsBesideAll (inputs_of job.base) u) us → AllByRecursion (IsAside made.tables) (without job.inputs us)
+      → AllByRecursion (λ (u : Table). is_among job.inputs u ≡ false → IsBesideAll (inputs_of job.base) u) us
+      → AllByRecursion (IsAside made.tables) (without job.inputs us)
   asides [] beside = tt
   asides (u ∷ us) beside = by (is_among job.inputs u) beside.0 (asides us beside.1)
     where
@@ -240,15 +265,18 @@ module _ (l : Layout) (h : History) (job : Job) (moved : List Named) (k : IsOpen
   into_level : (m : ℕ) → IsRoomy l.levels job (Level m) → AreLevels (replaced (Level m) job.inputs made.tables l.levels)
   into_level m roomy = record {
     distinct = distinct_at_level made.tables distinct_made m (map (without job.inputs) l.levels)
-        (subst IsDistinct (sym (flat_without job.inputs l.levels)) (distinct_filtered (λ t. not (is_among job.inputs t)) (tables l) are.distinct))
+        (subst IsDistinct (sym (flat_without job.inputs l.levels))
+        (distinct_filtered (λ t. not (is_among job.inputs t)) (tables l) are.distinct))
         (subst (AreOther made.tables) (sym (flat_without job.inputs l.levels))
-        (all_weaker (λ (x : Table). AllByRecursion (λ (y : Table). y.number ≢ x.number) (tables l)) (λ (x : Table). AllByRecursion (λ (y : Table). y.number ≢ x.number) (without job.inputs (tables l)))
+        (all_weaker (λ (x : Table). AllByRecursion (λ (y : Table). y.number ≢ x.number) (tables l))
+        (λ (x : Table). AllByRecursion (λ (y : Table). y.number ≢ x.number) (without job.inputs (tables l)))
         (λ x off. all_filtered (λ (y : Table). y.number ≢ x.number) (λ t. not (is_among job.inputs t)) (tables l) off) made.tables other));
     ranged = all_replaced IsRanged job.inputs made.tables ranged_made (Level m) l.levels (stay IsRanged are.ranged);
     wide = all_replaced IsWide job.inputs made.tables wide_made (Level m) l.levels (stay IsWide are.wide);
     apart = λ n some. level-at_level IsApart (in_key_order made.tables) m n (map (without job.inputs) l.levels)
         (kept_apart n some)
-        (λ same. key_order_apart made.tables (level_at n (map (without job.inputs) l.levels)) apart_made (kept_apart n some) wide_made (kept_wide n) (kept_aside n same));
+        (λ same. key_order_apart made.tables (level_at n (map (without job.inputs) l.levels)) apart_made
+        (kept_apart n some) wide_made (kept_wide n) (kept_aside n same));
     seven =
         length-at_level m (in_key_order made.tables) (map (without job.inputs) l.levels)
         ∙ length-map (without job.inputs) l.levels ∙ are.seven;
@@ -263,12 +291,15 @@ module _ (l : Layout) (h : History) (job : Job) (moved : List Named) (k : IsOpen
 
       kept_wide : (n : ℕ) → AllByRecursion IsWide (level_at n (map (without job.inputs) l.levels))
       kept_wide n =
-          subst (AllByRecursion IsWide) (sym (kept_is n)) (all_filtered IsWide (λ t. not (is_among job.inputs t)) (level_at n l.levels) (at_a_level IsWide n l.levels are.wide))
+          subst (AllByRecursion IsWide) (sym (kept_is n))
+          (all_filtered IsWide (λ t. not (is_among job.inputs t)) (level_at n l.levels) (at_a_level IsWide n l.levels are.wide))
 
       kept_aside : (n : ℕ) → m ≡ n
           → AllByRecursion (IsAside made.tables) (level_at n (map (without job.inputs) l.levels))
       kept_aside n same = subst (AllByRecursion (IsAside made.tables)) (sym (kept_is n))
-          (asides (level_at n l.levels) (subst (λ (i : ℕ). AllByRecursion (λ (u : Table). is_among job.inputs u ≡ false → IsBesideAll (inputs_of job.base) u) (level_at i l.levels)) same roomy.1.1))
+          (asides (level_at n l.levels)
+          (subst (λ (i : ℕ). AllByRecursion
+          (λ (u : Table). is_among job.inputs u ≡ false → IsBesideAll (inputs_of job.base) u) (level_at i l.levels)) same roomy.1.1))
 
   -- ---- in the place of one table
 
@@ -276,11 +307,14 @@ module _ (l : Layout) (h : History) (job : Job) (moved : List Named) (k : IsOpen
   swap ts = flat_map (λ t. cond (is_among job.inputs t) made.tables (t ∷ [])) ts
 
   swap-append : (xs ys : List Table) → flat_map (λ t. cond (is_among job.inputs t) made.tables (t ∷ [])) (xs ++ ys)
-      ≡ flat_map (λ t. cond (is_among job.inputs t) made.tables (t ∷ [])) xs ++ flat_map (λ t. cond (is_among job.inputs t) made.tables (t ∷ [])) ys
+      ≡ flat_map (λ t. cond (is_among job.inputs t) made.tables (t ∷ [])) xs ++ flat_map
+      (λ t. cond (is_among job.inputs t) made.tables (t ∷ [])) ys
   swap-append [] ys = refl
   swap-append (x ∷ xs) ys =
       ap (λ (zs : List Table). cond (is_among job.inputs x) made.tables (x ∷ []) ++ zs) (swap-append xs ys)
-      ∙ sym (append_assoc (cond (is_among job.inputs x) made.tables (x ∷ [])) (flat_map (λ t. cond (is_among job.inputs t) made.tables (t ∷ [])) xs) (flat_map (λ t. cond (is_among job.inputs t) made.tables (t ∷ [])) ys))
+      ∙ sym (append_assoc (cond (is_among job.inputs x) made.tables (x ∷ []))
+      (flat_map (λ t. cond (is_among job.inputs t) made.tables (t ∷ [])) xs)
+      (flat_map (λ t. cond (is_among job.inputs t) made.tables (t ∷ [])) ys))
 
   swap_idle : (xs : List Table) → IsIdle job.inputs xs
       → flat_map (λ t. cond (is_among job.inputs t) made.tables (t ∷ [])) xs ≡ xs
@@ -307,13 +341,15 @@ module _ (l : Layout) (h : History) (job : Job) (moved : List Named) (k : IsOpen
       → AllByRecursion (λ (u : Table). Lt t.last u.first) (flat_map (λ t. cond (is_among job.inputs t) made.tables (t ∷ [])) us)
   behind_swapped number t [] after inside = tt
   behind_swapped number t (u ∷ us) after inside =
-      all_both (λ (v : Table). Lt t.last v.first) (cond (is_among job.inputs u) made.tables (u ∷ [])) (flat_map (λ t. cond (is_among job.inputs t) made.tables (t ∷ [])) us)
+      all_both (λ (v : Table). Lt t.last v.first) (cond (is_among job.inputs u) made.tables (u ∷ []))
+      (flat_map (λ t. cond (is_among job.inputs t) made.tables (t ∷ [])) us)
       (one (is_among job.inputs u) refl) (behind_swapped number t us after.1 inside.1)
     where
       one : (b : Bool) → is_among job.inputs u ≡ b
           → AllByRecursion (λ (v : Table). Lt t.last v.first) (cond b made.tables (u ∷ []))
       one true is =
-          all_weaker (λ (v : Table). Le u.first v.first × Le v.last u.last) (λ (v : Table). Lt t.last v.first) (λ v at. lt_le_then t.last u.first v.first after.0 at.0) made.tables (inside.0 is).1
+          all_weaker (λ (v : Table). Le u.first v.first × Le v.last u.last) (λ (v : Table). Lt t.last v.first)
+          (λ v at. lt_le_then t.last u.first v.first after.0 at.0) made.tables (inside.0 is).1
       one false is = (after.0, tt)
 
   apart_before : (vs us : List Table) → IsApart vs → IsApart us
@@ -338,8 +374,10 @@ module _ (l : Layout) (h : History) (job : Job) (moved : List Named) (k : IsOpen
           let idle : IsIdle job.inputs ts = no_more ts d.0 inside.1 in
           subst (λ (us : List Table). IsApart (made.tables ++ us)) (sym (swap_idle ts idle))
           (apart_before made.tables ts apart_made apart.1
-          (all_weaker (λ (v : Table). Le t.first v.first × Le v.last t.last) (λ (v : Table). AllByRecursion (λ (u : Table). Lt v.last u.first) ts)
-          (λ v at. all_weaker (λ (u : Table). Lt t.last u.first) (λ (u : Table). Lt v.last u.first) (λ u less. le_lt v.last t.last u.first at.1 less) ts apart.0) made.tables within.1))
+          (all_weaker (λ (v : Table). Le t.first v.first × Le v.last t.last)
+          (λ (v : Table). AllByRecursion (λ (u : Table). Lt v.last u.first) ts)
+          (λ v at. all_weaker (λ (u : Table). Lt t.last u.first) (λ (u : Table). Lt v.last u.first)
+          (λ u less. le_lt v.last t.last u.first at.1 less) ts apart.0) made.tables within.1))
         where
           no_more : (us : List Table) → AllByRecursion (λ (u : Table). u.number ≢ t.number) us
               → AllByRecursion (IsInside number) us → IsIdle job.inputs us
@@ -355,18 +393,25 @@ module _ (l : Layout) (h : History) (job : Job) (moved : List Named) (k : IsOpen
   into_place : IsFitted l job InPlace → AreLevels (replaced InPlace job.inputs made.tables l.levels)
   into_place fit = record {
     distinct =
-        subst IsDistinct (sym (flat_swapped l.levels ∙ ap (flat_map (λ t. cond (is_among job.inputs t) made.tables (t ∷ []))) fit.3 ∙ swapped))
+        subst IsDistinct (sym (flat_swapped l.levels
+        ∙ ap (flat_map (λ t. cond (is_among job.inputs t) made.tables (t ∷ []))) fit.3 ∙ swapped))
         (distinct_both fit.0 (made.tables ++ fit.2) front.0 (distinct_both made.tables fit.2 distinct_made back.1.0
-        (all_weaker (λ (x : Table). AllByRecursion (λ (y : Table). y.number ≢ x.number) (tables l)) (λ (x : Table). AllByRecursion (λ (y : Table). y.number ≢ x.number) fit.2)
+        (all_weaker (λ (x : Table). AllByRecursion (λ (y : Table). y.number ≢ x.number) (tables l))
+        (λ (x : Table). AllByRecursion (λ (y : Table). y.number ≢ x.number) fit.2)
         (λ x off. (others x off).1) made.tables other))
-        (both (λ (x : Table). AllByRecursion (λ (y : Table). y.number ≢ x.number) (t ∷ fit.2)) (λ (x : Table). AllByRecursion (λ (y : Table). y.number ≢ x.number) made.tables) (λ (x : Table). AllByRecursion (λ (y : Table). y.number ≢ x.number) (made.tables ++ fit.2))
+        (both (λ (x : Table). AllByRecursion (λ (y : Table). y.number ≢ x.number) (t ∷ fit.2))
+        (λ (x : Table). AllByRecursion (λ (y : Table). y.number ≢ x.number) made.tables)
+        (λ (x : Table). AllByRecursion (λ (y : Table). y.number ≢ x.number) (made.tables ++ fit.2))
         (λ x a b. all_both (λ (y : Table). y.number ≢ x.number) made.tables fit.2 b a.1) fit.0 front.1.1
-        (others_turned made.tables fit.0 (all_weaker (λ (x : Table). AllByRecursion (λ (y : Table). y.number ≢ x.number) (tables l)) (λ (x : Table). AllByRecursion (λ (y : Table). y.number ≢ x.number) fit.0) (λ x off. (others x off).0) made.tables other))));
+        (others_turned made.tables fit.0
+        (all_weaker (λ (x : Table). AllByRecursion (λ (y : Table). y.number ≢ x.number) (tables l))
+        (λ (x : Table). AllByRecursion (λ (y : Table). y.number ≢ x.number) fit.0) (λ x off. (others x off).0) made.tables other))));
     ranged = all_replaced IsRanged job.inputs made.tables ranged_made InPlace l.levels (stay IsRanged are.ranged);
     wide = all_replaced IsWide job.inputs made.tables wide_made InPlace l.levels (stay IsWide are.wide);
     apart =
         λ n some. subst IsApart (sym (level-map (flat_map (λ t. cond (is_among job.inputs t) made.tables (t ∷ []))) refl n l.levels))
-        (apart_swapped t.number (level_at n l.levels) (are.apart n some) (distinct_level n l.levels are.distinct) (at_a_level (IsInside t.number) n l.levels insides));
+        (apart_swapped t.number (level_at n l.levels) (are.apart n some) (distinct_level n l.levels are.distinct)
+        (at_a_level (IsInside t.number) n l.levels insides));
     seven = length-map (flat_map (λ t. cond (is_among job.inputs t) made.tables (t ∷ []))) l.levels ∙ are.seven;
   }
     where
@@ -383,14 +428,17 @@ module _ (l : Layout) (h : History) (job : Job) (moved : List Named) (k : IsOpen
       swapped : flat_map (λ t. cond (is_among job.inputs t) made.tables (t ∷ [])) (fit.0 ++ t ∷ fit.2) ≡ fit.0 ++ (made.tables ++ fit.2)
       swapped =
           swap-append fit.0 (t ∷ fit.2)
-          ∙ ap (λ (us : List Table). us ++ flat_map (λ t. cond (is_among job.inputs t) made.tables (t ∷ [])) (t ∷ fit.2)) (swap_idle fit.0 fit.4.0)
+          ∙ ap (λ (us : List Table). us ++ flat_map (λ t. cond (is_among job.inputs t) made.tables (t ∷ []))
+          (t ∷ fit.2)) (swap_idle fit.0 fit.4.0)
           ∙ ap (λ (us : List Table). fit.0 ++ us)
-          (ap (λ b. cond b made.tables (t ∷ []) ++ flat_map (λ t. cond (is_among job.inputs t) made.tables (t ∷ [])) fit.2) fit.4.1.0 ∙ ap (λ (us : List Table). made.tables ++ us) (swap_idle fit.2 fit.4.1.1))
+          (ap (λ b. cond b made.tables (t ∷ []) ++ flat_map (λ t. cond (is_among job.inputs t) made.tables (t ∷ []))
+          fit.2) fit.4.1.0 ∙ ap (λ (us : List Table). made.tables ++ us) (swap_idle fit.2 fit.4.1.1))
 
       others : (x : Table) → AllByRecursion (λ (y : Table). y.number ≢ x.number) (tables l)
           → AllByRecursion (λ (y : Table). y.number ≢ x.number) fit.0 × AllByRecursion (λ (y : Table). y.number ≢ x.number) fit.2
       others x off =
-          let parts = all_parts (λ (y : Table). y.number ≢ x.number) fit.0 (t ∷ fit.2) (subst (AllByRecursion (λ (y : Table). y.number ≢ x.number)) fit.3 off) in (parts.0, parts.1.1)
+          let parts = all_parts (λ (y : Table). y.number ≢ x.number) fit.0 (t ∷ fit.2)
+          (subst (AllByRecursion (λ (y : Table). y.number ≢ x.number)) fit.3 off) in (parts.0, parts.1.1)
 
       both : (P Q R : Table → Type 0) → ((x : Table) → P x → Q x → R x) → (xs : List Table)
           → AllByRecursion P xs → AllByRecursion Q xs → AllByRecursion R xs
@@ -403,26 +451,32 @@ module _ (l : Layout) (h : History) (job : Job) (moved : List Named) (k : IsOpen
       idle_so : (P : Table → Type 0) (xs : List Table) → IsIdle job.inputs xs
           → AllByRecursion (λ (x : Table). is_among job.inputs x ≡ true → P x) xs
       idle_so P xs idle =
-          all_weaker (λ (x : Table). is_among job.inputs x ≡ false) (λ (x : Table). is_among job.inputs x ≡ true → P x) (λ x out is. absurd (true_false (sym is ∙ out))) xs idle
+          all_weaker (λ (x : Table). is_among job.inputs x ≡ false) (λ (x : Table). is_among job.inputs x ≡ true → P x)
+          (λ x out is. absurd (true_false (sym is ∙ out))) xs idle
 
       only_t : (P : Table → Type 0) → P t
           → AllByRecursion (λ (x : Table). is_among job.inputs x ≡ true → P x) (tables l)
       only_t P here = subst (AllByRecursion (λ (x : Table). is_among job.inputs x ≡ true → P x)) (sym fit.3)
-          (all_both (λ (x : Table). is_among job.inputs x ≡ true → P x) fit.0 (t ∷ fit.2) (idle_so P fit.0 fit.4.0) ((λ is. here), idle_so P fit.2 fit.4.1.1))
+          (all_both (λ (x : Table). is_among job.inputs x ≡ true → P x) fit.0 (t ∷ fit.2) (idle_so P fit.0 fit.4.0)
+          ((λ is. here), idle_so P fit.2 fit.4.1.1))
 
       within : AllByRecursion (λ (e : Entry). Le t.first e.key × Le e.key t.last) (inputs_of job.base)
       within =
           subst (AllByRecursion (λ (e : Entry). Le t.first e.key × Le e.key t.last)) (same_inputs job moved (sourced l job.inputs) k.kept)
-          (sourced_inputs (λ (e : Entry). Le t.first e.key × Le e.key t.last) l job.inputs (only_t (λ (x : Table). AllByRecursion (λ (e : Entry). Le t.first e.key × Le e.key t.last) x.entries) ranged_t))
+          (sourced_inputs (λ (e : Entry). Le t.first e.key × Le e.key t.last) l job.inputs
+          (only_t (λ (x : Table). AllByRecursion (λ (e : Entry). Le t.first e.key × Le e.key t.last) x.entries) ranged_t))
 
       inside_t : AllByRecursion (λ (v : Table). Le t.first v.first × Le v.last t.last) made.tables
       inside_t =
-          all_weaker (λ (v : Table). (Le t.first v.first × Le v.first t.last) × (Le t.first v.last × Le v.last t.last)) (λ (v : Table). Le t.first v.first × Le v.last t.last) (λ v is. (is.0.0, is.1.1)) made.tables
-          (made_all (λ (v : Table). (Le t.first v.first × Le v.first t.last) × (Le t.first v.last × Le v.last t.last)) (job_ends (λ (key : List ℕ). Le t.first key × Le key t.last) job all.numbers within))
+          all_weaker (λ (v : Table). (Le t.first v.first × Le v.first t.last) × (Le t.first v.last × Le v.last t.last))
+          (λ (v : Table). Le t.first v.first × Le v.last t.last) (λ v is. (is.0.0, is.1.1)) made.tables
+          (made_all (λ (v : Table). (Le t.first v.first × Le v.first t.last) × (Le t.first v.last × Le v.last t.last))
+          (job_ends (λ (key : List ℕ). Le t.first key × Le key t.last) job all.numbers within))
 
       insides : AllByRecursion (IsInside t.number) (tables l)
       insides =
-          only_t (λ (u : Table). (u.number ≡ t.number) × AllByRecursion (λ (v : Table). Le u.first v.first × Le v.last u.last) made.tables) (refl, inside_t)
+          only_t (λ (u : Table). (u.number ≡ t.number)
+          × AllByRecursion (λ (v : Table). Le u.first v.first × Le v.last u.last) made.tables) (refl, inside_t)
 
   pub levels_replaced : AreLevels (replaced job.target job.inputs made.tables l.levels)
   levels_replaced = by job.target k.fitted k.roomy

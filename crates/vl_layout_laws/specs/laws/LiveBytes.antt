@@ -1,5 +1,6 @@
 -- Live bytes, kept by what each switch adds and drops, are the sums over the tables of the moment.
-use Rattle.std.proofs.Common.{◌≡◌, ℕ, ◌+◌, ◌-◌, ◌*◌, ◌^◌, ◌≤◌, ◌<◌, Bool, true, false, cond, not, ◌&&◌, ◌||◌, List, [], ◌∷◌, ◌++◌, map, length, refl, ap, sym, ◌∙◌, arith}
+use Rattle.std.proofs.Common.{◌≡◌, ℕ, ◌+◌, ◌-◌, ◌*◌, ◌^◌, ◌≤◌, ◌<◌, Bool, true, false, cond, not, ◌&&◌, ◌||◌, List}
+use Rattle.std.proofs.Common.{[], ◌∷◌, ◌++◌, map, length, refl, ap, sym, ◌∙◌, arith}
 use Rattle.std.proofs.lemmas.Bool.Decides.{nat_tests}
 use Rattle.std.proofs.lemmas.List.Sums.{sum_by-cons}
 use Rattle.std.specs.Prelude.{nat_le, nat_lt, ◌==◌, if◌then◌else◌}
@@ -48,7 +49,8 @@ module _ (segment : ℕ) where
   live-flushed l s level deeper are =
       ap (λ (levels : List (List Table)). live_bytes (flat_map (λ ts. ts) (in_front (flushed_table l s) levels)) segment) are
       ∙ live-cons (flushed_table l s) (flat_map (λ ts. ts) (level ∷ deeper))
-      ∙ ap (λ (levels : List (List Table)). pointed_bytes segment (flushed_table l s).points + live_bytes (flat_map (λ ts. ts) levels) segment) (sym are)
+      ∙ ap (λ (levels : List (List Table)). pointed_bytes segment (flushed_table l s).points + live_bytes
+      (flat_map (λ ts. ts) levels) segment) (sym are)
 
   -- ---- an install
 
@@ -57,8 +59,11 @@ module _ (segment : ℕ) where
         → live_bytes (in_key_order new ts) segment ≡ live_bytes new segment + live_bytes ts segment
     live-key_order [] = omega arith
     live-key_order (t ∷ ts) =
-        elim (is_before t new) as (λ b. live_bytes (cond b (t ∷ in_key_order new ts) (new ++ t ∷ ts)) segment ≡ live_bytes new segment + live_bytes (t ∷ ts) segment) [
-          | true ↦ (let a = live-cons t (in_key_order new ts) in let b = live-key_order ts in let c = live-cons t ts in omega (arith, a, b, c))
+        elim (is_before t new) as
+        (λ b. live_bytes (cond b (t ∷ in_key_order new ts) (new ++ t ∷ ts)) segment ≡ live_bytes new segment
+        + live_bytes (t ∷ ts) segment) [
+          | true ↦ (let a = live-cons t (in_key_order new ts) in let b = live-key_order ts in let c = live-cons t ts
+              in omega (arith, a, b, c))
           | false ↦ live-append new (t ∷ ts)
         ]
 
@@ -69,7 +74,9 @@ module _ (segment : ℕ) where
     live-without (t ∷ ts) =
         let later = live-without ts in
         let whole = live-cons t ts in
-        elim (is_among inputs t) as (λ b. live_bytes (cond (not b) (t ∷ without inputs ts) (without inputs ts)) segment + live_bytes (cond b (t ∷ filter (is_among inputs) ts) (filter (is_among inputs) ts)) segment ≡ live_bytes (t ∷ ts) segment) [
+        elim (is_among inputs t) as
+        (λ b. live_bytes (cond (not b) (t ∷ without inputs ts) (without inputs ts)) segment + live_bytes
+        (cond b (t ∷ filter (is_among inputs) ts) (filter (is_among inputs) ts)) segment ≡ live_bytes (t ∷ ts) segment) [
           | true ↦ (let a = live-cons t (filter (is_among inputs) ts) in omega (arith, later, whole, a))
           | false ↦ (let a = live-cons t (without inputs ts) in omega (arith, later, whole, a))
         ]
@@ -77,13 +84,16 @@ module _ (segment : ℕ) where
     filter-append : (ts us : List Table)
         → filter (is_among inputs) (ts ++ us) ≡ filter (is_among inputs) ts ++ filter (is_among inputs) us
     filter-append [] us = refl
-    filter-append (t ∷ ts) us = elim (is_among inputs t) as (λ b. cond b (t ∷ filter (is_among inputs) (ts ++ us)) (filter (is_among inputs) (ts ++ us)) ≡ cond b (t ∷ filter (is_among inputs) ts) (filter (is_among inputs) ts) ++ filter (is_among inputs) us) [
-      | true ↦ ap (λ xs. t ∷ xs) (filter-append ts us)
-      | false ↦ filter-append ts us
-    ]
+    filter-append (t ∷ ts) us = elim (is_among inputs t) as
+        (λ b. cond b (t ∷ filter (is_among inputs) (ts ++ us)) (filter (is_among inputs) (ts ++ us)) ≡ cond b
+        (t ∷ filter (is_among inputs) ts) (filter (is_among inputs) ts) ++ filter (is_among inputs) us) [
+          | true ↦ ap (λ xs. t ∷ xs) (filter-append ts us)
+          | false ↦ filter-append ts us
+        ]
 
     live-levels_without : (levels : List (List Table))
-        → live_bytes (flat_map (λ ts. ts) (map (without inputs) levels)) segment + live_bytes (filter (is_among inputs) (flat_map (λ ts. ts) levels)) segment
+        → live_bytes (flat_map (λ ts. ts) (map (without inputs) levels)) segment + live_bytes
+        (filter (is_among inputs) (flat_map (λ ts. ts) levels)) segment
         ≡ live_bytes (flat_map (λ ts. ts) levels) segment
     live-levels_without [] = refl
     live-levels_without (ts ∷ deeper) =
@@ -103,8 +113,10 @@ module _ (segment : ℕ) where
         by_test (n == 0) refl (λ less. live-at_level (n - 1) deeper less)
       where
         by_test : (b : Bool) → (n == 0) ≡ b
-            → (n - 1 < length deeper → live_bytes (flat_map (λ xs. xs) (at_level (n - 1) (in_key_order new) deeper)) segment ≡ live_bytes new segment + live_bytes (flat_map (λ xs. xs) deeper) segment)
-            → live_bytes (flat_map (λ xs. xs) (cond b (in_key_order new ts ∷ deeper) (ts ∷ at_level (n - 1) (in_key_order new) deeper))) segment
+            → (n - 1 < length deeper → live_bytes (flat_map (λ xs. xs) (at_level (n - 1) (in_key_order new) deeper))
+            segment ≡ live_bytes new segment + live_bytes (flat_map (λ xs. xs) deeper) segment)
+            → live_bytes (flat_map (λ xs. xs)
+            (cond b (in_key_order new ts ∷ deeper) (ts ∷ at_level (n - 1) (in_key_order new) deeper))) segment
             ≡ live_bytes new segment + live_bytes (flat_map (λ xs. xs) (ts ∷ deeper)) segment
         by_test true is later =
             let a = live-append (in_key_order new ts) (flat_map (λ xs. xs) deeper) in
@@ -128,11 +140,15 @@ module _ (segment : ℕ) where
     live-in_place (t ∷ ts) =
         let later = live-in_place ts in
         let whole = live-cons t ts in
-        elim (is_among inputs t) as (λ b. live_bytes (cond b new (t ∷ []) ++ flat_map (λ u. cond (is_among inputs u) new (u ∷ [])) ts) segment + live_bytes (cond b (t ∷ filter (is_among inputs) ts) (filter (is_among inputs) ts)) segment ≡ length (cond b (t ∷ filter (is_among inputs) ts) (filter (is_among inputs) ts)) * live_bytes new segment + live_bytes (t ∷ ts) segment) [
+        elim (is_among inputs t) as
+        (λ b. live_bytes (cond b new (t ∷ []) ++ flat_map (λ u. cond (is_among inputs u) new (u ∷ [])) ts) segment
+        + live_bytes (cond b (t ∷ filter (is_among inputs) ts) (filter (is_among inputs) ts)) segment ≡ length
+        (cond b (t ∷ filter (is_among inputs) ts) (filter (is_among inputs) ts)) * live_bytes new segment + live_bytes (t ∷ ts) segment) [
           | true ↦ (
               let a = live-append new (flat_map (λ u. cond (is_among inputs u) new (u ∷ [])) ts) in
               let b = live-cons t (filter (is_among inputs) ts) in
-              let c : (length (filter (is_among inputs) ts) + 1) * live_bytes new segment ≡ length (filter (is_among inputs) ts) * live_bytes new segment + live_bytes new segment = omega arith in
+              let c : (length (filter (is_among inputs) ts) + 1) * live_bytes new segment ≡ length
+              (filter (is_among inputs) ts) * live_bytes new segment + live_bytes new segment = omega arith in
               omega (arith, later, whole, a, b, c))
           | false ↦ (
               let a = live-cons t (flat_map (λ u. cond (is_among inputs u) new (u ∷ [])) ts) in
@@ -147,22 +163,26 @@ module _ (segment : ℕ) where
     times_more m n k = omega arith
 
     live-levels_in_place : (levels : List (List Table))
-        → live_bytes (flat_map (λ ts. ts) (map (flat_map (λ t. cond (is_among inputs t) new (t ∷ []))) levels)) segment + live_bytes (filter (is_among inputs) (flat_map (λ ts. ts) levels)) segment
-        ≡ length (filter (is_among inputs) (flat_map (λ ts. ts) levels)) * live_bytes new segment + live_bytes (flat_map (λ ts. ts) levels) segment
+        → live_bytes (flat_map (λ ts. ts) (map (flat_map (λ t. cond (is_among inputs t) new (t ∷ []))) levels)) segment
+        + live_bytes (filter (is_among inputs) (flat_map (λ ts. ts) levels)) segment
+        ≡ length (filter (is_among inputs) (flat_map (λ ts. ts) levels)) * live_bytes new segment + live_bytes
+        (flat_map (λ ts. ts) levels) segment
     live-levels_in_place [] = nothing
     live-levels_in_place (ts ∷ deeper) =
         let F = filter (is_among inputs) ts in
         let G = filter (is_among inputs) (flat_map (λ xs. xs) deeper) in
         let later = live-levels_in_place deeper in
         let here = live-in_place ts in
-        let a = live-append (flat_map (λ t. cond (is_among inputs t) new (t ∷ [])) ts) (flat_map (λ xs. xs) (map (flat_map (λ t. cond (is_among inputs t) new (t ∷ []))) deeper)) in
+        let a = live-append (flat_map (λ t. cond (is_among inputs t) new (t ∷ [])) ts)
+        (flat_map (λ xs. xs) (map (flat_map (λ t. cond (is_among inputs t) new (t ∷ []))) deeper)) in
         let b = live-append ts (flat_map (λ xs. xs) deeper) in
         let c = live-append F G in
         let d = ap (λ (xs : List Table). live_bytes xs segment) (filter-append ts (flat_map (λ xs. xs) deeper)) in
         let e : length (filter (is_among inputs) (ts ++ flat_map (λ xs. xs) deeper)) ≡ length F + length G =
         ap (λ (xs : List Table). length xs) (filter-append ts (flat_map (λ xs. xs) deeper))
         ∙ length-append' F G in
-        let f : length (filter (is_among inputs) (ts ++ flat_map (λ xs. xs) deeper)) * live_bytes new segment ≡ length F * live_bytes new segment + length G * live_bytes new segment =
+        let f : length (filter (is_among inputs) (ts ++ flat_map (λ xs. xs) deeper)) * live_bytes new segment ≡ length F
+        * live_bytes new segment + length G * live_bytes new segment =
         ap (λ (n : ℕ). n * live_bytes new segment) e
         ∙ times_more (length F) (length G) (live_bytes new segment) in
         omega (arith, later, here, a, b, c, d, f)
@@ -231,7 +251,8 @@ module _ (segment : ℕ) where
   pointed_more to bytes [] = point-cons (record { segment = to; bytes = bytes }) []
   pointed_more to bytes (p ∷ ps) =
       elim (nat_cmp to p.segment) as (λ r. nat_cmp to p.segment ≡ r
-      → pointed_bytes segment (by_order r (record { segment = to; bytes = bytes } ∷ p ∷ ps) (record { segment = p.segment; bytes = p.bytes + bytes } ∷ ps) (p ∷ pointed to bytes ps))
+      → pointed_bytes segment (by_order r (record { segment = to; bytes = bytes } ∷ p ∷ ps)
+      (record { segment = p.segment; bytes = p.bytes + bytes } ∷ ps) (p ∷ pointed to bytes ps))
       ≡ (if to == segment then bytes else 0) + pointed_bytes segment (p ∷ ps)) [
         | Less ↦ λ is. point-cons (record { segment = to; bytes = bytes }) (p ∷ ps)
         | Equal ↦ λ is.
@@ -270,5 +291,7 @@ told_worth percent x fits = ap (λ d. nat_lt 0 x.bytes && nat_le (percent * x.by
 pub told_better : (x y : SegmentStat) → x.bytes ≤ 2 ^ 64 - 1 → y.bytes ≤ 2 ^ 64 - 1
     → is_better (told x) (told y) ≡ is_better x y
 told_better x y fits fits' =
-    ap (λ d. nat_lt (discard (told y) * x.bytes) (d * y.bytes) || ((discard (told y) * x.bytes == d * y.bytes) && nat_lt x.segment y.segment)) (told_discard x fits)
-    ∙ ap (λ d. nat_lt (d * x.bytes) (discard x * y.bytes) || ((d * x.bytes == discard x * y.bytes) && nat_lt x.segment y.segment)) (told_discard y fits')
+    ap (λ d. nat_lt (discard (told y) * x.bytes) (d * y.bytes) ||
+    ((discard (told y) * x.bytes == d * y.bytes) && nat_lt x.segment y.segment)) (told_discard x fits)
+    ∙ ap (λ d. nat_lt (d * x.bytes) (discard x * y.bytes) ||
+    ((d * x.bytes == discard x * y.bytes) && nat_lt x.segment y.segment)) (told_discard y fits')

@@ -62,7 +62,8 @@ up_to m n le (x ∷ xs) all = ((let low = all.0 in omega (arith, le, low)), up_t
 
 module _ (l : Layout) (h : History) where
   by_limit : (b : Bool) (ticket number : ℕ) → (if b then leaving TooMany h l
-      else leaving (Begun (free_ticket (tickets_of l.live)) (last_number h)) h (begun l (free_ticket (tickets_of l.live)) (last_number h))).answer ≡ Begun ticket number
+      else leaving (Begun (free_ticket (tickets_of l.live)) (last_number h)) h
+      (begun l (free_ticket (tickets_of l.live)) (last_number h))).answer ≡ Begun ticket number
       → (ticket ≡ free_ticket (tickets_of l.live)) × (number ≡ last_number h)
   by_limit true ticket number is = absurd cc
   by_limit false ticket number is = (cc, cc)
@@ -76,11 +77,13 @@ module _ (l : Layout) (h : History) (w : IsLivedIn l h) where
   pub live-begun : nat_le max_live (length l.live) ≡ false
       → IsLivedIn (begun l (free_ticket (tickets_of l.live)) (last_number h)) h
   live-begun few =
-      let one = length-put_by (λ (x : Live). x.ticket) (record { ticket = free_ticket (tickets_of l.live); number = last_number h; pin = pin_of l }) l.live in
+      let one = length-put_by (λ (x : Live). x.ticket)
+      (record { ticket = free_ticket (tickets_of l.live); number = last_number h; pin = pin_of l }) l.live in
       let room : length l.live < max_live = grind (arith, nat_tests, few) in
       record {
         rising =
-            rising-put_by (λ (x : Live). x.ticket) _ l.live (others (free_ticket (tickets_of l.live)) l.live (free_one l.live w.rising)) w.rising;
+            rising-put_by (λ (x : Live). x.ticket) _ l.live
+            (others (free_ticket (tickets_of l.live)) l.live (free_one l.live w.rising)) w.rising;
         known =
             all-put_by (λ (x : Live). x.ticket) (λ (x : Live). x.number ≤ last_number h) _ l.live (omega arith) w.known;
         few = omega (arith, one, room);
@@ -89,7 +92,8 @@ module _ (l : Layout) (h : History) (w : IsLivedIn l h) where
   pub begun_free : (ticket number : ℕ) → (begin_ruling l h).answer ≡ Begun ticket number
       → has_ticket ticket (tickets_of l.live) ≡ false
   begun_free ticket number is =
-      subst (λ (n : ℕ). has_ticket n (tickets_of l.live) ≡ false) (sym (by_limit l h (nat_le max_live (length l.live)) ticket number is).0) (free_one l.live w.rising)
+      subst (λ (n : ℕ). has_ticket n (tickets_of l.live) ≡ false)
+      (sym (by_limit l h (nat_le max_live (length l.live)) ticket number is).0) (free_one l.live w.rising)
 
   -- ---- an end and a commit
 
@@ -100,7 +104,8 @@ module _ (l : Layout) (h : History) (w : IsLivedIn l h) where
       record {
         rising = rising-filter (λ (x : Live). x.ticket) (λ (x : Live). not (x.ticket == ticket)) l.live w.rising;
         known =
-            all-filter (λ (x : Live). x.ticket) (λ (x : Live). x.number ≤ last_number h) (λ (x : Live). not (x.ticket == ticket)) l.live w.known;
+            all-filter (λ (x : Live). x.ticket) (λ (x : Live). x.number ≤ last_number h)
+            (λ (x : Live). not (x.ticket == ticket)) l.live w.known;
         few = omega (arith, less, few);
       }
 
@@ -110,7 +115,9 @@ pub live-committed : (l x : Layout) (h : History) (writes : Writes) → x.live �
 live-committed l x h writes same w = record {
   rising = subst (λ (xs : List Live). IsRising (λ (y : Live). y.ticket) xs) (sym same) w.rising;
   known =
-      subst (λ (xs : List Live). AllByRecursion (λ (y : Live). y.number ≤ last_number (with_commit h writes)) xs) (sym same) (up_to (last_number h) (last_number (with_commit h writes)) (last_number-extends h (with_commit h writes) (committed-extends l h writes)) l.live w.known);
+      subst (λ (xs : List Live). AllByRecursion (λ (y : Live). y.number ≤ last_number (with_commit h writes)) xs)
+      (sym same) (up_to (last_number h) (last_number (with_commit h writes))
+      (last_number-extends h (with_commit h writes) (committed-extends l h writes)) l.live w.known);
   few = subst (λ (xs : List Live). length xs ≤ max_live) (sym same) w.few;
 }
 

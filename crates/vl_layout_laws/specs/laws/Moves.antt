@@ -1,5 +1,6 @@
 -- Records of a log that win exactly only get fewer, but for merges; and a relocation leaves none of its batch.
-use Rattle.std.proofs.Common.{◌≡◌, ◌≢◌, ◌⊎◌, inl, inr, ℕ, ◌+◌, ◌≤◌, Bool, true, false, cond, ◌&&◌, ◌||◌, List, [], ◌∷◌, ◌++◌, map, refl, ap, sym, ◌∙◌, subst, arith, append_assoc}
+use Rattle.std.proofs.Common.{◌≡◌, ◌≢◌, ◌⊎◌, inl, inr, ℕ, ◌+◌, ◌≤◌, Bool, true, false, cond, ◌&&◌, ◌||◌, List, []}
+use Rattle.std.proofs.Common.{◌∷◌, ◌++◌, map, refl, ap, sym, ◌∙◌, subst, arith, append_assoc}
 use Rattle.std.proofs.lemmas.Bool.{and_from}
 use Rattle.std.proofs.lemmas.Bool.Decides.{nat_tests}
 use Rattle.std.specs.Prelude.{Option, Some, None, nat_le, ◌==◌, if◌then◌else◌}
@@ -25,7 +26,8 @@ use Rattle.vl_run.specs.laws.Exact.{exact-append, exact-in_order}
 use Rattle.vl_run.specs.Lookups.{or_else}
 use Rattle.vl_layout.specs.laws.LayoutShows.{place_behind, logged_entries-more, added}
 use Rattle.vl_layout.specs.Levels.{in_front}
-use Rattle.vl_layout.specs.Logs.{LogRecord, record_entry, logged_body, pointer_to, relocated_records, frame_records, frame_entries, logged_entries, memtable}
+use Rattle.vl_layout.specs.Logs.{LogRecord, record_entry, logged_body, pointer_to, relocated_records, frame_records}
+use Rattle.vl_layout.specs.Logs.{frame_entries, logged_entries, memtable}
 use Rattle.vl_layout.specs.laws.OrderShows.{all-in_order}
 use Rattle.vl_layout.specs.Relocation.{Candidate, valued, found_in, has_room, batch_with, taken_from, value_lengths, is_moved, moved_of}
 use Rattle.vl_layout.specs.Ruling.{logged}
@@ -104,8 +106,11 @@ exact_logged key version l f =
     let old = logged_entries l.active.format l.active.number 16 l.active.frames in
     let B = exact (behind_active l) key version in
     exact-append key version (memtable (logged f l).active) (behind_active l)
-    ∙ ap (λ (es : List Entry). or_else (exact (in_order es) key version) B) (logged_entries-more l.active.format l.active.number 16 l.active.frames f)
-    ∙ ap (λ (o : Option Entry). or_else o B) (exact-in_order key version (added l f ++ old) ∙ exact-append key version (added l f) old ∙ ap (or_else (exact (added l f) key version)) (sym (exact-in_order key version old)))
+    ∙ ap (λ (es : List Entry). or_else (exact (in_order es) key version) B)
+    (logged_entries-more l.active.format l.active.number 16 l.active.frames f)
+    ∙ ap (λ (o : Option Entry). or_else o B)
+    (exact-in_order key version (added l f ++ old) ∙ exact-append key version (added l f) old
+    ∙ ap (or_else (exact (added l f) key version)) (sym (exact-in_order key version old)))
     ∙ assoc (exact (added l f) key version) (exact (in_order old) key version) B
     ∙ ap (or_else (exact (added l f) key version)) (sym (exact-append key version (memtable l.active) (behind_active l)))
   where
@@ -123,7 +128,9 @@ shrinks_logged segment l f key version place wins =
     by_found None is wins =
         sym (ap (λ o. leads_to segment place (or_else o (exact (sources l) key version))) is) ∙ wins
     by_found (Some e) is wins =
-        let out = found_one key version (IsOutside segment) (added l f) (outside_records l.active.format segment l.active.number (frame_records l.active.format (place_behind l.active.format 16 l.active.frames) f)) (Some e) is e refl in
+        let out = found_one key version (IsOutside segment) (added l f)
+        (outside_records l.active.format segment l.active.number
+        (frame_records l.active.format (place_behind l.active.format 16 l.active.frames) f)) (Some e) is e refl in
         absurd (true_false (sym wins ∙ ap (λ o. leads_to segment place (or_else o (exact (sources l) key version))) is ∙ out place))
 
 pub shrinks_rotated : (segment : ℕ) (l : Layout) → Shrinks segment (sources l) (sources (rotated l))
@@ -139,7 +146,8 @@ module _ (segment last : ℕ) (es : List Entry) where
   is_record key version m = eq_by_cmp key_cmp key m.key && (m.version == version)
 
   any_moved : (key : List ℕ) (version : ℕ) (batch : List Candidate)
-      → AllByRecursion (λ (c : Candidate). is_moved es segment last c ≡ true → (eq_by_cmp key_cmp key c.moved.key && (c.moved.version == version)) ≡ true
+      → AllByRecursion (λ (c : Candidate). is_moved es segment last c ≡ true
+      → (eq_by_cmp key_cmp key c.moved.key && (c.moved.version == version)) ≡ true
       → list_any (λ (m : Moved). eq_by_cmp key_cmp key m.key && (m.version == version)) (moved_of es segment last batch) ≡ true) batch
   any_moved key version [] = tt
   any_moved key version (c ∷ cs) = (first, later cs (any_moved key version cs))
@@ -152,25 +160,33 @@ module _ (segment last : ℕ) (es : List Entry) where
           → list_any (λ (m : Moved). eq_by_cmp key_cmp key m.key && (m.version == version)) (moved_of es segment last (c ∷ cs))
           ≡ true
       first moves at =
-          ap (λ b. list_any (λ (m : Moved). eq_by_cmp key_cmp key m.key && (m.version == version)) (map (λ (x : Candidate). x.moved) (cond b (c ∷ filter (is_moved es segment last) cs) (filter (is_moved es segment last) cs)))) moves
+          ap (λ b. list_any (λ (m : Moved). eq_by_cmp key_cmp key m.key && (m.version == version))
+          (map (λ (x : Candidate). x.moved)
+          (cond b (c ∷ filter (is_moved es segment last) cs) (filter (is_moved es segment last) cs)))) moves
           ∙ ap (λ b. b || list_any (λ (m : Moved). eq_by_cmp key_cmp key m.key && (m.version == version)) (moved_of es segment last cs)) at
 
       more : list_any (λ (m : Moved). eq_by_cmp key_cmp key m.key && (m.version == version)) (moved_of es segment last cs) ≡ true
           → list_any (λ (m : Moved). eq_by_cmp key_cmp key m.key && (m.version == version)) (moved_of es segment last (c ∷ cs))
           ≡ true
-      more there = elim (is_moved es segment last c) as (λ b. list_any (λ (m : Moved). eq_by_cmp key_cmp key m.key && (m.version == version)) (map (λ (x : Candidate). x.moved) (cond b (c ∷ filter (is_moved es segment last) cs) (filter (is_moved es segment last) cs))) ≡ true) [
-        | true ↦ or_right (eq_by_cmp key_cmp key c.moved.key && (c.moved.version == version)) (list_any (λ (m : Moved). eq_by_cmp key_cmp key m.key && (m.version == version)) (moved_of es segment last cs)) there
-        | false ↦ there
-      ]
+      more there = elim (is_moved es segment last c) as
+          (λ b. list_any (λ (m : Moved). eq_by_cmp key_cmp key m.key && (m.version == version))
+          (map (λ (x : Candidate). x.moved)
+          (cond b (c ∷ filter (is_moved es segment last) cs) (filter (is_moved es segment last) cs))) ≡ true) [
+            | true ↦ or_right (eq_by_cmp key_cmp key c.moved.key && (c.moved.version == version))
+                (list_any (λ (m : Moved). eq_by_cmp key_cmp key m.key && (m.version == version)) (moved_of es segment last cs)) there
+            | false ↦ there
+          ]
         where
           or_right : (a b : Bool) → b ≡ true → (a || b) ≡ true
           or_right true b h = refl
           or_right false b h = h
 
       later : (xs : List Candidate)
-          → AllByRecursion (λ (x : Candidate). is_moved es segment last x ≡ true → (eq_by_cmp key_cmp key x.moved.key && (x.moved.version == version)) ≡ true
+          → AllByRecursion (λ (x : Candidate). is_moved es segment last x ≡ true
+          → (eq_by_cmp key_cmp key x.moved.key && (x.moved.version == version)) ≡ true
           → list_any (λ (m : Moved). eq_by_cmp key_cmp key m.key && (m.version == version)) (moved_of es segment last cs) ≡ true) xs
-          → AllByRecursion (λ (x : Candidate). is_moved es segment last x ≡ true → (eq_by_cmp key_cmp key x.moved.key && (x.moved.version == version)) ≡ true
+          → AllByRecursion (λ (x : Candidate). is_moved es segment last x ≡ true
+          → (eq_by_cmp key_cmp key x.moved.key && (x.moved.version == version)) ≡ true
           → list_any (λ (m : Moved). eq_by_cmp key_cmp key m.key && (m.version == version)) (moved_of es segment last (c ∷ cs)) ≡ true) xs
       later [] all = tt
       later (x ∷ xs) all = ((λ moves at. more (all.0 moves at)), later xs all.1)
@@ -180,32 +196,41 @@ module _ (segment last : ℕ) (es : List Entry) where
       ≡ list_any (λ (m : Moved). eq_by_cmp key_cmp key m.key && (m.version == version)) ms
   any_recorded format key version number place [] = refl
   any_recorded format key version number place (m ∷ ms) =
-      ap (λ b. (eq_by_cmp key_cmp key m.key && (m.version == version)) || b) (any_recorded format key version number (place + moved_length format m) ms)
+      ap (λ b. (eq_by_cmp key_cmp key m.key && (m.version == version)) || b)
+      (any_recorded format key version number (place + moved_length format m) ms)
 
 tied : (key : List ℕ) (version : ℕ) → (eq_by_cmp key_cmp key key && (version == version)) ≡ true
 tied key version =
     let same : (version == version) ≡ true = grind (arith, nat_tests) in
-    and_from (eq_by_cmp key_cmp key key) (version == version) (ap Rattle.std.specs.Ordering.is_eq (Rattle.vl_model.specs.laws.WinnerLaws.key_tied key)) same
+    and_from (eq_by_cmp key_cmp key key) (version == version)
+    (ap Rattle.std.specs.Ordering.is_eq (Rattle.vl_model.specs.laws.WinnerLaws.key_tied key)) same
 
 module _ (segment last : ℕ) (l : Layout) (batch : List Candidate) where
   ms : List Moved
   ms = moved_of (sources l) segment last batch
 
   one_settled : (c : Candidate)
-      → (is_moved (sources l) segment last c ≡ true → list_any (λ (m : Moved). eq_by_cmp key_cmp c.moved.key m.key && (m.version == c.moved.version)) (moved_of (sources l) segment last batch) ≡ true)
+      → (is_moved (sources l) segment last c ≡ true
+      → list_any (λ (m : Moved). eq_by_cmp key_cmp c.moved.key m.key && (m.version == c.moved.version))
+      (moved_of (sources l) segment last batch) ≡ true)
       → c.moved.version ≤ last
       → IsSettled segment (sources (relocated l (moved_of (sources l) segment last batch))) c
-  one_settled c added_if low = is_not (wins_exactly (sources (relocated l (moved_of (sources l) segment last batch))) segment c.moved.key c.moved.version c.place) (λ wins.
+  one_settled c added_if low = is_not
+      (wins_exactly (sources (relocated l (moved_of (sources l) segment last batch))) segment c.moved.key c.moved.version c.place) (λ wins.
       let f = Relocated (moved_of (sources l) segment last batch) in
       let before : wins_exactly (sources l) segment c.moved.key c.moved.version c.place ≡ true =
       shrinks_logged segment l f c.moved.key c.moved.version c.place wins in
       let le : nat_le c.moved.version last ≡ true = grind (arith, nat_tests) in
       let moves : is_moved (sources l) segment last c ≡ true =
       and_from (wins_exactly (sources l) segment c.moved.key c.moved.version c.place) (nat_le c.moved.version last) before le in
-      let there = any_recorded segment last (sources l) l.active.format c.moved.key c.moved.version l.active.number (place_behind l.active.format 16 l.active.frames + 9) (moved_of (sources l) segment last batch) ∙ added_if moves in
+      let there = any_recorded segment last (sources l) l.active.format c.moved.key c.moved.version l.active.number
+      (place_behind l.active.format 16 l.active.frames + 9) (moved_of (sources l) segment last batch) ∙ added_if moves in
       let found = is_found c.moved.key c.moved.version (added l f) there in
-      let out = found_one c.moved.key c.moved.version (IsOutside segment) (added l f) (outside_records l.active.format segment l.active.number (frame_records l.active.format (place_behind l.active.format 16 l.active.frames) f)) (Some found.0) found.1 found.0 refl in
-      true_false (sym wins ∙ ap (leads_to segment c.place) (exact_logged c.moved.key c.moved.version l f) ∙ ap (λ o. leads_to segment c.place (or_else o (exact (sources l) c.moved.key c.moved.version))) found.1 ∙ out c.place))
+      let out = found_one c.moved.key c.moved.version (IsOutside segment) (added l f)
+      (outside_records l.active.format segment l.active.number
+      (frame_records l.active.format (place_behind l.active.format 16 l.active.frames) f)) (Some found.0) found.1 found.0 refl in
+      true_false (sym wins ∙ ap (leads_to segment c.place) (exact_logged c.moved.key c.moved.version l f)
+      ∙ ap (λ o. leads_to segment c.place (or_else o (exact (sources l) c.moved.key c.moved.version))) found.1 ∙ out c.place))
 
   -- Right behind a relocation no record of its batch wins exactly from inside the log.
   pub batch_settled : AllByRecursion (λ (c : Candidate). c.moved.version ≤ last) batch
@@ -213,8 +238,11 @@ module _ (segment last : ℕ) (l : Layout) (batch : List Candidate) where
   batch_settled low = each batch low (λ key version. any_moved segment last (sources l) key version batch)
     where
       each : (xs : List Candidate) → AllByRecursion (λ (c : Candidate). c.moved.version ≤ last) xs
-          → ((key : List ℕ) (version : ℕ) → AllByRecursion (λ (c : Candidate). is_moved (sources l) segment last c ≡ true → (eq_by_cmp key_cmp key c.moved.key && (c.moved.version == version)) ≡ true
-          → list_any (λ (m : Moved). eq_by_cmp key_cmp key m.key && (m.version == version)) (moved_of (sources l) segment last batch) ≡ true) xs)
+          → ((key : List ℕ) (version : ℕ)
+          → AllByRecursion (λ (c : Candidate). is_moved (sources l) segment last c ≡ true
+          → (eq_by_cmp key_cmp key c.moved.key && (c.moved.version == version)) ≡ true
+          → list_any (λ (m : Moved). eq_by_cmp key_cmp key m.key && (m.version == version))
+          (moved_of (sources l) segment last batch) ≡ true) xs)
           → AllByRecursion (IsSettled segment (sources (relocated l (moved_of (sources l) segment last batch)))) xs
       each [] low any = tt
       each (c ∷ cs) low any = (
@@ -250,20 +278,34 @@ taken_parts base segment count bytes (r ∷ rs) =
         → found_in base segment r ≡ found
         → (taken_from base segment count bytes rs).0 ++ found_all base segment (taken_from base segment count bytes rs).1
         ≡ found_all base segment rs
-        → ((more : ℕ) → (taken_from base segment (count + 1) (bytes + more) rs).0 ++ found_all base segment (taken_from base segment (count + 1) (bytes + more) rs).1 ≡ found_all base segment rs)
+        → ((more : ℕ) → (taken_from base segment (count + 1) (bytes + more) rs).0 ++ found_all base segment
+        (taken_from base segment (count + 1) (bytes + more) rs).1 ≡ found_all base segment rs)
         → (taken_from base segment count bytes (r ∷ rs)).0 ++ found_all base segment (taken_from base segment count bytes (r ∷ rs)).1
         ≡ found_all base segment (r ∷ rs)
     by found (inl none) is passed with_it =
-        subst (λ (f : List Candidate). (batch_with (has_room count bytes (value_lengths f)) f (taken_from base segment count bytes rs) (taken_from base segment (count + 1) (bytes + value_lengths f) rs) ([], r ∷ rs)).0
-        ++ found_all base segment (batch_with (has_room count bytes (value_lengths f)) f (taken_from base segment count bytes rs) (taken_from base segment (count + 1) (bytes + value_lengths f) rs) ([], r ∷ rs)).1 ≡ f ++ found_all base segment rs) (sym none) passed
+        subst (λ (f : List Candidate).
+        (batch_with (has_room count bytes (value_lengths f)) f (taken_from base segment count bytes rs)
+        (taken_from base segment (count + 1) (bytes + value_lengths f) rs) ([], r ∷ rs)).0
+        ++ found_all base segment
+        (batch_with (has_room count bytes (value_lengths f)) f (taken_from base segment count bytes rs)
+        (taken_from base segment (count + 1) (bytes + value_lengths f) rs) ([], r ∷ rs)).1 ≡ f ++ found_all base
+        segment rs) (sym none) passed
     by found (inr one) is passed with_it =
-        subst (λ (f : List Candidate). (batch_with (has_room count bytes (value_lengths f)) f (taken_from base segment count bytes rs) (taken_from base segment (count + 1) (bytes + value_lengths f) rs) ([], r ∷ rs)).0
-        ++ found_all base segment (batch_with (has_room count bytes (value_lengths f)) f (taken_from base segment count bytes rs) (taken_from base segment (count + 1) (bytes + value_lengths f) rs) ([], r ∷ rs)).1 ≡ f ++ found_all base segment rs) (sym one.1)
+        subst (λ (f : List Candidate).
+        (batch_with (has_room count bytes (value_lengths f)) f (taken_from base segment count bytes rs)
+        (taken_from base segment (count + 1) (bytes + value_lengths f) rs) ([], r ∷ rs)).0
+        ++ found_all base segment
+        (batch_with (has_room count bytes (value_lengths f)) f (taken_from base segment count bytes rs)
+        (taken_from base segment (count + 1) (bytes + value_lengths f) rs) ([], r ∷ rs)).1 ≡ f ++ found_all base segment rs) (sym one.1)
         (by_room (has_room count bytes (value_lengths (one.0 ∷ []))))
       where
         by_room : (b : Bool)
-            → (batch_with b (one.0 ∷ []) (taken_from base segment count bytes rs) (taken_from base segment (count + 1) (bytes + value_lengths (one.0 ∷ [])) rs) ([], r ∷ rs)).0
-            ++ found_all base segment (batch_with b (one.0 ∷ []) (taken_from base segment count bytes rs) (taken_from base segment (count + 1) (bytes + value_lengths (one.0 ∷ [])) rs) ([], r ∷ rs)).1 ≡ (one.0 ∷ []) ++ found_all base segment rs
+            → (batch_with b (one.0 ∷ []) (taken_from base segment count bytes rs)
+            (taken_from base segment (count + 1) (bytes + value_lengths (one.0 ∷ [])) rs) ([], r ∷ rs)).0
+            ++ found_all base segment
+            (batch_with b (one.0 ∷ []) (taken_from base segment count bytes rs)
+            (taken_from base segment (count + 1) (bytes + value_lengths (one.0 ∷ [])) rs) ([], r ∷ rs)).1 ≡
+            (one.0 ∷ []) ++ found_all base segment rs
         by_room true = ap (λ (xs : List Candidate). one.0 ∷ xs) (with_it (value_lengths (one.0 ∷ [])))
         by_room false = ap (λ (f : List Candidate). f ++ found_all base segment rs) one.1
 
@@ -272,12 +314,14 @@ taken_parts base segment count bytes (r ∷ rs) =
 pub still_settled : (segment : ℕ) (before now : List Entry) (c : Candidate) → Shrinks segment before now
     → IsSettled segment before c → IsSettled segment now c
 still_settled segment before now c shrinks settled =
-    is_not (wins_exactly now segment c.moved.key c.moved.version c.place) (λ wins. true_false (sym (shrinks c.moved.key c.moved.version c.place wins) ∙ settled))
+    is_not (wins_exactly now segment c.moved.key c.moved.version c.place)
+    (λ wins. true_false (sym (shrinks c.moved.key c.moved.version c.place wins) ∙ settled))
 
 -- Where all that a pass found is settled, and nothing won anew, no record of the log that has a value wins exactly.
 pub pass_settles : (segment : ℕ) (base now : List Entry) → Shrinks segment base now → (rs : List LogRecord)
     → AllByRecursion (IsSettled segment now) (found_all base segment rs)
-    → AllByRecursion (λ (r : LogRecord). (value : Stored) → r.change ≡ Set value → wins_exactly now segment r.key r.version r.place ≡ false) rs
+    → AllByRecursion (λ (r : LogRecord). (value : Stored) → r.change ≡ Set value
+    → wins_exactly now segment r.key r.version r.place ≡ false) rs
 pass_settles segment base now shrinks [] all = tt
 pass_settles segment base now shrinks (r ∷ rs) all =
     (one, pass_settles segment base now shrinks rs (later (found_in base segment r) all))
@@ -294,7 +338,8 @@ pass_settles segment base now shrinks (r ∷ rs) all =
         by : (b : Bool) → wins_exactly base segment r.key r.version r.place ≡ b
             → wins_exactly now segment r.key r.version r.place ≡ false
         by false lost =
-            is_not (wins_exactly now segment r.key r.version r.place) (λ wins. true_false (sym (shrinks r.key r.version r.place wins) ∙ lost))
+            is_not (wins_exactly now segment r.key r.version r.place)
+            (λ wins. true_false (sym (shrinks r.key r.version r.place wins) ∙ lost))
         by true won =
             let c : Candidate = record { moved = record { key = r.key; version = r.version; value = value }; place = r.place } in
             let found : found_in base segment r ≡ c ∷ [] =
@@ -329,7 +374,9 @@ own_logged : (format number place : ℕ) (fs : List LogFrame)
     → AllByRecursion (λ (e : Entry). IsOwnAt number e.body) (logged_entries format number place fs)
 own_logged format number place [] = tt
 own_logged format number place (f ∷ fs) =
-    own_both number (logged_entries format number (place + frame_length format f) fs) (frame_entries format number place f) (own_logged format number (place + frame_length format f) fs) (own_records format number (frame_records format place f))
+    own_both number (logged_entries format number (place + frame_length format f) fs)
+    (frame_entries format number place f) (own_logged format number (place + frame_length format f) fs)
+    (own_records format number (frame_records format place f))
 
 outside_placed : (segment number : ℕ) → number ≢ segment → (b : Body) → IsOwnAt number b → (place : ℕ)
     → is_far_to segment place (placement b) ≡ false
@@ -353,10 +400,11 @@ all_outside segment number apart (e ∷ es) own =
 exact-placed : (key : List ℕ) (version : ℕ) (es : List Entry)
     → exact (map placed es) key version ≡ option_map placed (exact es key version)
 exact-placed key version [] = refl
-exact-placed key version (e ∷ es) = elim (is_at key version e) as (λ b. cond b (Some (placed e)) (exact (map placed es) key version) ≡ option_map placed (cond b (Some e) (exact es key version))) [
-  | true ↦ refl
-  | false ↦ exact-placed key version es
-]
+exact-placed key version (e ∷ es) = elim (is_at key version e) as
+    (λ b. cond b (Some (placed e)) (exact (map placed es) key version) ≡ option_map placed (cond b (Some e) (exact es key version))) [
+      | true ↦ refl
+      | false ↦ exact-placed key version es
+    ]
 
 frozen_parts : (ss : List Segment) (s : Segment) → oldest ss ≡ Some s
     → flat_map memtable ss ≡ flat_map memtable (but_oldest ss) ++ memtable s
@@ -378,8 +426,13 @@ placed_shrinks : (segment number : ℕ) → number ≢ segment → (front es bac
     → AllByRecursion (λ (e : Entry). IsOwnAt number e.body) es
     → Shrinks segment (front ++ (es ++ back)) (front ++ (map placed es ++ back))
 placed_shrinks segment number apart front es back own key version place wins =
-    ap (leads_to segment place) (exact-append key version front (es ++ back) ∙ ap (or_else (exact front key version)) (exact-append key version es back))
-    ∙ by (exact front key version) (exact es key version) refl (sym (ap (leads_to segment place) (exact-append key version front (map placed es ++ back) ∙ ap (or_else (exact front key version)) (exact-append key version (map placed es) back ∙ ap (λ o. or_else o (exact back key version)) (exact-placed key version es)))) ∙ wins)
+    ap (leads_to segment place)
+    (exact-append key version front (es ++ back) ∙ ap (or_else (exact front key version)) (exact-append key version es back))
+    ∙ by (exact front key version) (exact es key version) refl
+    (sym (ap (leads_to segment place)
+    (exact-append key version front (map placed es ++ back)
+    ∙ ap (or_else (exact front key version))
+    (exact-append key version (map placed es) back ∙ ap (λ o. or_else o (exact back key version)) (exact-placed key version es)))) ∙ wins)
   where
     by : (f m : Option Entry) → exact es key version ≡ m
         → leads_to segment place (or_else f (or_else (option_map placed m) (exact back key version))) ≡ true
@@ -387,7 +440,8 @@ placed_shrinks segment number apart front es back own key version place wins =
     by (Some e) m is won = won
     by None None is won = won
     by None (Some e) is won =
-        let out = found_one key version (IsOutside segment) (map placed es) (all_outside segment number apart es own) (Some (placed e)) (exact-placed key version es ∙ ap (option_map placed) is) (placed e) refl in
+        let out = found_one key version (IsOutside segment) (map placed es) (all_outside segment number apart es own)
+        (Some (placed e)) (exact-placed key version es ∙ ap (option_map placed) is) (placed e) refl in
         absurd (true_false (sym won ∙ out place))
 
 -- A flush of another log's memtable makes nothing win anew.
@@ -402,10 +456,14 @@ shrinks_flushed segment l s level deeper apart waits are =
     ∙ ap (λ es. active ++ es) (append_assoc front (memtable s) back)
     ∙ sym (append_assoc active front (memtable s ++ back)) in
     let after : sources (flushed l s) ≡ (active ++ front) ++ (map placed (memtable s) ++ back) =
-    ap (λ (levels : List (List Table)). active ++ (front ++ flat_map table_entries (flat_map (λ ts. ts) (in_front (flushed_table l s) levels)))) are
-    ∙ sym (ap (λ (levels : List (List Table)). active ++ (front ++ (map placed (memtable s) ++ flat_map table_entries (flat_map (λ ts. ts) levels)))) are)
+    ap (λ (levels : List (List Table)). active
+    ++ (front ++ flat_map table_entries (flat_map (λ ts. ts) (in_front (flushed_table l s) levels)))) are
+    ∙ sym (ap (λ (levels : List (List Table)). active
+    ++ (front ++ (map placed (memtable s) ++ flat_map table_entries (flat_map (λ ts. ts) levels)))) are)
     ∙ sym (append_assoc active front (map placed (memtable s) ++ back)) in
     λ key version place wins.
     ap (λ (es : List Entry). wins_exactly es segment key version place) before
-    ∙ placed_shrinks segment s.number apart (active ++ front) (memtable s) back (all-in_order (λ (e : Entry). IsOwnAt s.number e.body) (logged_entries s.format s.number 16 s.frames) (own_logged s.format s.number 16 s.frames)) key version place
+    ∙ placed_shrinks segment s.number apart (active ++ front) (memtable s) back
+    (all-in_order (λ (e : Entry). IsOwnAt s.number e.body) (logged_entries s.format s.number 16 s.frames)
+    (own_logged s.format s.number 16 s.frames)) key version place
     (sym (ap (λ (es : List Entry). wins_exactly es segment key version place) after) ∙ wins)

@@ -12,7 +12,8 @@ use Rattle.vl_layout.specs.Jobs.{Made}
 use Rattle.vl_layout.specs.Relocation.{Pass, Candidate, moved_of}
 use Rattle.vl_layout.specs.Ruling.{Ruling, has_no_number, has_no_version}
 use Rattle.vl_layout.specs.Rulings.Begin.{begin_ruling}
-use Rattle.vl_layout.specs.Rulings.Commit.{Transaction, committed, commit_checked, commit_running, commit_unless, commit_ruling, commit_frame}
+use Rattle.vl_layout.specs.Rulings.Commit.{Transaction, committed, commit_checked, commit_running, commit_unless}
+use Rattle.vl_layout.specs.Rulings.Commit.{commit_ruling, commit_frame}
 use Rattle.vl_layout.specs.Rulings.Flush.{flushed, flush_of, flush_unless, flush_ruling}
 use Rattle.vl_layout.specs.Rulings.Fresh.{drawn, fresh_unless, fresh_ruling}
 use Rattle.vl_layout.specs.Rulings.Keep.{keep_unless, keep_ruling}
@@ -68,7 +69,8 @@ module _ (l : Layout) (h : History) where
   checked_rises : (t : Transaction) (conflict : Option Named) → Rises l (commit_checked l h t conflict)
   checked_rises t (Some named) = record { log = omega arith; table = omega arith }
   checked_rises t None =
-      either l (nat_le (l.active.length + frame_length l.active.format (commit_frame h t.writes)) l.room) (committed l h t) _ (record { log = omega arith; table = omega arith }) w
+      either l (nat_le (l.active.length + frame_length l.active.format (commit_frame h t.writes)) l.room)
+      (committed l h t) _ (record { log = omega arith; table = omega arith }) w
 
   running_rises : (t : Transaction) (conflict : Option Named) → Rises l (commit_running l h t conflict)
   running_rises t conflict =
@@ -120,7 +122,8 @@ module _ (l : Layout) (h : History) where
   relocate_of-rises [] = w
   relocate_of-rises (m ∷ ms) =
       either l (has_no_version l) _ _ w
-      (either l (nat_le (l.active.length + frame_length l.active.format (Relocated (m ∷ ms))) l.room) _ _ (record { log = omega arith; table = omega arith }) w)
+      (either l (nat_le (l.active.length + frame_length l.active.format (Relocated (m ∷ ms))) l.room) _ _
+      (record { log = omega arith; table = omega arith }) w)
 
   relocate_unless-rises : (pass : Pass) (batch : List Candidate) (halted : Option FileName)
       → Rises l (relocate_unless halted l h pass batch)
@@ -169,7 +172,8 @@ module _ (l : Layout) (h : History) where
     install_checked-rises : (o : Option Named) → Rises l (install_checked l h job made o)
     install_checked-rises (Some named) = record { log = omega arith; table = omega arith }
     install_checked-rises None =
-        either l (has_no_version l) _ _ (record { log = omega arith; table = omega arith }) (record { log = omega arith; table = omega arith })
+        either l (has_no_version l) _ _ (record { log = omega arith; table = omega arith })
+        (record { log = omega arith; table = omega arith })
 
     install_unless-rises : (halted : Option FileName) → Rises l (install_unless halted l h job made)
     install_unless-rises (Some name) = record { log = omega arith; table = omega arith }

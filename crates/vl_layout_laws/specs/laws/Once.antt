@@ -1,5 +1,6 @@
 -- No file is retired twice: what a switch retires wasn't retired, and stands once.
-use Rattle.std.proofs.Common.{◌≡◌, ℕ, ◌<◌, Bool, true, false, cond, not, List, [], ◌∷◌, ◌++◌, map, refl, ap, sym, ◌∙◌, subst, arith, append_assoc}
+use Rattle.std.proofs.Common.{◌≡◌, ℕ, ◌<◌, Bool, true, false, cond, not, List, [], ◌∷◌, ◌++◌, map, refl, ap, sym, ◌∙◌}
+use Rattle.std.proofs.Common.{subst, arith, append_assoc}
 use Rattle.std.proofs.lemmas.Bool.Decides.{nat_tests}
 use Rattle.std.proofs.lemmas.Cmp.{ranked}
 use Rattle.std.proofs.lemmas.List.{map-append}
@@ -22,7 +23,8 @@ use Rattle.vl_layout.specs.declared.file_name.Retired.{Retired}
 use Rattle.vl_layout.specs.declared.layout.Layout.{Layout}
 use Rattle.vl_layout.specs.declared.segment.Segment.{Segment}
 use Rattle.vl_layout.specs.declared.table.Table.{Table}
-use Rattle.vl_layout_laws.specs.laws.Files.{true_false, or_false, neither, any-append, all_weaker, all_filtered, all_passed, all_both, is_not}
+use Rattle.vl_layout_laws.specs.laws.Files.{true_false, or_false, neither, any-append, all_weaker, all_filtered}
+use Rattle.vl_layout_laws.specs.laws.Files.{all_passed, all_both, is_not}
 use Rattle.vl_layout_laws.specs.laws.Steps.{all_rising, tables_only}
 
 -- ---- lists of files
@@ -49,8 +51,11 @@ turned (Manifest a) (Manifest b) is = grind (arith, nat_tests, is)
 pub once_both : (fs gs : List FileName) → AreOnce fs → AreOnce gs
     → AllByRecursion (λ g. is_in g fs ≡ false) gs → AreOnce (fs ++ gs)
 once_both [] gs a b off = b
-once_both (f ∷ fs) gs a b off =
-    (off_both f fs gs a.0 (none gs off), once_both fs gs a.1 b (all_weaker (λ g. is_in g (f ∷ fs) ≡ false) (λ g. is_in g fs ≡ false) (λ g is. (or_false (is_same g f) (is_in g fs) is).1) gs off))
+once_both (f ∷ fs) gs a b off = (
+  off_both f fs gs a.0 (none gs off),
+  once_both fs gs a.1 b
+      (all_weaker (λ g. is_in g (f ∷ fs) ≡ false) (λ g. is_in g fs ≡ false) (λ g is. (or_false (is_same g f) (is_in g fs) is).1) gs off),
+)
   where
     none : (hs : List FileName) → AllByRecursion (λ g. is_in g (f ∷ fs) ≡ false) hs → is_in f hs ≡ false
     none [] all = refl
@@ -90,11 +95,12 @@ IsUp (s ∷ ss) = AllByRecursion (λ (t : Segment). s.number < t.number) ss × I
 all_put : (P : Segment → Type 0) (s : Segment) (ss : List Segment) → P s → AllByRecursion P ss
     → AllByRecursion P (put_segment s ss)
 all_put P s [] here all = (here, tt)
-all_put P s (t ∷ ts) here all = elim (nat_cmp s.number t.number) as (λ r. AllByRecursion P (by_order r (s ∷ t ∷ ts) (s ∷ ts) (t ∷ put_segment s ts))) [
-  | Less ↦ (here, all)
-  | Equal ↦ (here, all.1)
-  | Greater ↦ (all.0, all_put P s ts here all.1)
-]
+all_put P s (t ∷ ts) here all = elim (nat_cmp s.number t.number) as
+    (λ r. AllByRecursion P (by_order r (s ∷ t ∷ ts) (s ∷ ts) (t ∷ put_segment s ts))) [
+      | Less ↦ (here, all)
+      | Equal ↦ (here, all.1)
+      | Greater ↦ (all.0, all_put P s ts here all.1)
+    ]
 
 up_put : (s : Segment) (ss : List Segment) → IsUp ss → IsUp (put_segment s ss)
 up_put s [] up = (tt, tt)
@@ -103,8 +109,14 @@ up_put s (t ∷ ts) up = by (nat_cmp s.number t.number) refl (up_put s ts up.1)
     by : (r : Ordering) → nat_cmp s.number t.number ≡ r → IsUp (put_segment s ts)
         → IsUp (by_order r (s ∷ t ∷ ts) (s ∷ ts) (t ∷ put_segment s ts))
     by Less is later =
-        let less : s.number < t.number = ranked s.number t.number Less (sym is) in
-        ((less, all_weaker (λ (u : Segment). t.number < u.number) (λ (u : Segment). s.number < u.number) (λ u more. omega (arith, less, more)) ts up.0), up)
+        let less : s.number < t.number = ranked s.number t.number Less (sym is) in (
+          (
+            less,
+            all_weaker (λ (u : Segment). t.number < u.number) (λ (u : Segment). s.number < u.number)
+                (λ u more. omega (arith, less, more)) ts up.0,
+          ),
+          up,
+        )
     by Equal is later =
         let same : s.number ≡ t.number = ranked s.number t.number Equal (sym is) in
         (subst (λ (n : ℕ). AllByRecursion (λ (u : Segment). n < u.number) ts) (sym same) up.0, up.1)
@@ -170,7 +182,8 @@ module _ (l : Layout) (dropped : List Table)
   idle_off : (R : List FileName) → AllByRecursion (IsLogOff R) l.flushed
       → AllByRecursion (IsLogOff (R ++ map table_of dropped)) l.flushed
   idle_off R all =
-      all_weaker (IsLogOff R) (IsLogOff (R ++ map table_of dropped)) (λ s off. off_both (log_of s) R (map table_of dropped) off (tables_only s.number dropped)) l.flushed all
+      all_weaker (IsLogOff R) (IsLogOff (R ++ map table_of dropped))
+      (λ s off. off_both (log_of s) R (map table_of dropped) off (tables_only s.number dropped)) l.flushed all
 
   gone : List Segment
   gone = rising (filter (is_idle l) l.flushed)
@@ -180,10 +193,12 @@ module _ (l : Layout) (dropped : List Table)
   named P [] all = tt
   named P (s ∷ ss) all = (all.0, named P ss all.1)
 
-  files : files_of (switched dropped l).retired ≡ (files_of l.retired ++ map table_of dropped) ++ map log_of (rising (filter (is_idle l) l.flushed))
+  files : files_of (switched dropped l).retired ≡ (files_of l.retired ++ map table_of dropped) ++ map log_of
+      (rising (filter (is_idle l) l.flushed))
   files =
       files-both l.retired (map (retired_at l.version_number) (map table_of dropped ++ map log_of (rising (filter (is_idle l) l.flushed))))
-      ∙ ap (λ fs. files_of l.retired ++ fs) (files-retired l.version_number (map table_of dropped ++ map log_of (rising (filter (is_idle l) l.flushed))))
+      ∙ ap (λ fs. files_of l.retired ++ fs)
+      (files-retired l.version_number (map table_of dropped ++ map log_of (rising (filter (is_idle l) l.flushed))))
       ∙ sym (append_assoc (files_of l.retired) (map table_of dropped) (map log_of (rising (filter (is_idle l) l.flushed))))
 
   pub switched_once : AreOnce (files_of (switched dropped l).retired)
@@ -207,12 +222,15 @@ module _ (l : Layout) (dropped : List Table)
   pub switched_apart : AllByRecursion (IsLogOff (files_of (switched dropped l).retired)) (switched dropped l).flushed
   switched_apart =
       subst (λ (fs : List FileName). AllByRecursion (IsLogOff fs) (filter (λ (s : Segment). not (is_idle l s)) l.flushed)) (sym files)
-      (all_passed (IsLogOff (files_of l.retired ++ map table_of dropped)) (IsLogOff ((files_of l.retired ++ map table_of dropped) ++ map log_of (rising (filter (is_idle l) l.flushed))))
+      (all_passed (IsLogOff (files_of l.retired ++ map table_of dropped))
+      (IsLogOff ((files_of l.retired ++ map table_of dropped) ++ map log_of (rising (filter (is_idle l) l.flushed))))
       (λ (s : Segment). not (is_idle l s))
-      (λ s off stays. off_both (log_of s) (files_of l.retired ++ map table_of dropped) (map log_of (rising (filter (is_idle l) l.flushed))) off
+      (λ s off stays. off_both (log_of s) (files_of l.retired ++ map table_of dropped)
+      (map log_of (rising (filter (is_idle l) l.flushed))) off
       (not_idle s (not_true (is_idle l s) stays) (rising (filter (is_idle l) l.flushed))
       (all_rising (λ (t : Segment). is_idle l t ≡ true) (filter (is_idle l) l.flushed)
-      (all_passed (λ (t : Segment). Unit {0}) (λ (t : Segment). is_idle l t ≡ true) (is_idle l) (λ t any is. is) l.flushed (Rattle.vl_layout_laws.specs.laws.Files.everything l.flushed)))))
+      (all_passed (λ (t : Segment). Unit {0}) (λ (t : Segment). is_idle l t ≡ true) (is_idle l) (λ t any is. is)
+      l.flushed (Rattle.vl_layout_laws.specs.laws.Files.everything l.flushed)))))
       l.flushed (idle_off (files_of l.retired) apart))
     where
       not_true : (b : Bool) → not b ≡ true → b ≡ false

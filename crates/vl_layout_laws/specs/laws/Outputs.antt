@@ -1,5 +1,6 @@
 -- The tables that a merge makes have true ranges, and each ends before those behind it begin.
-use Rattle.std.proofs.Common.{◌≡◌, ◌⊎◌, inl, inr, ⊎_elim, ℕ, ◌+◌, ◌≤◌, ◌<◌, Bool, true, false, cond, not, ◌&&◌, List, [], ◌∷◌, ◌++◌, map, refl, ap, sym, ◌∙◌, subst, arith, length}
+use Rattle.std.proofs.Common.{◌≡◌, ◌⊎◌, inl, inr, ⊎_elim, ℕ, ◌+◌, ◌≤◌, ◌<◌, Bool, true, false, cond, not, ◌&&◌, List}
+use Rattle.std.proofs.Common.{[], ◌∷◌, ◌++◌, map, refl, ap, sym, ◌∙◌, subst, arith, length}
 use Rattle.std.proofs.lemmas.Bool.{and_parts}
 use Rattle.std.specs.Prelude.{nat_le, if◌then◌else◌}
 use Rattle.std.specs.List.{AllByRecursion}
@@ -52,7 +53,8 @@ lt_le_then a b c ab bc = by (key_cmp b c) refl
     by : (r : Ordering) → key_cmp b c ≡ r → Lt a c
     by Less is = ap is_lt (nat_list_cmp_total.trans a b c (less_is (key_cmp a b) ab) is)
     by Greater is =
-        absurd (let turned : key_cmp c b ≡ Less = nat_list_cmp_total.antisymm c b ∙ ap ordering_reverse is in let no : true ≡ false = sym (ap is_lt turned) ∙ bc in cc)
+        absurd (let turned : key_cmp c b ≡ Less = nat_list_cmp_total.antisymm c b
+        ∙ ap ordering_reverse is in let no : true ≡ false = sym (ap is_lt turned) ∙ bc in cc)
     by Equal is =
         let other : key_cmp b a ≡ Greater =
         nat_list_cmp_total.antisymm b a ∙ ap ordering_reverse (less_is (key_cmp a b) ab) in
@@ -67,7 +69,8 @@ le_apart a b ab apart = by (key_cmp a b) refl
     by Less is = ap is_lt is
     by Equal is = absurd (let no : true ≡ false = sym (ap is_eq is) ∙ apart in cc)
     by Greater is =
-        absurd (let turned : key_cmp b a ≡ Less = nat_list_cmp_total.antisymm b a ∙ ap ordering_reverse is in let no : true ≡ false = sym (ap is_lt turned) ∙ ab in cc)
+        absurd (let turned : key_cmp b a ≡ Less = nat_list_cmp_total.antisymm b a
+        ∙ ap ordering_reverse is in let no : true ≡ false = sym (ap is_lt turned) ∙ ab in cc)
 
 -- ---- entries in order
 
@@ -107,13 +110,25 @@ sorted_put e (f ∷ fs) sorted = by (entry_cmp e f) refl (sorted_put e fs sorted
     by : (r : Ordering) → entry_cmp e f ≡ r → IsSorted (put e fs)
         → IsSorted (by_order r (e ∷ f ∷ fs) (e ∷ fs) (f ∷ put e fs))
     by Less is later =
-        let up = key_up e f (key_cmp e.key f.key) (nat_cmp f.version e.version) refl (inl is) in
-        ((up, all_weaker (λ (g : Entry). Le f.key g.key) (λ (g : Entry). Le e.key g.key) (λ g le. le_then e.key f.key g.key up le) fs sorted.0), sorted)
+        let up = key_up e f (key_cmp e.key f.key) (nat_cmp f.version e.version) refl (inl is) in (
+          (
+            up,
+            all_weaker (λ (g : Entry). Le f.key g.key) (λ (g : Entry). Le e.key g.key)
+                (λ g le. le_then e.key f.key g.key up le) fs sorted.0,
+          ),
+          sorted,
+        )
     by Equal is later =
-        let up = key_up e f (key_cmp e.key f.key) (nat_cmp f.version e.version) refl (inr is) in
-        (all_weaker (λ (g : Entry). Le f.key g.key) (λ (g : Entry). Le e.key g.key) (λ g le. le_then e.key f.key g.key up le) fs sorted.0, sorted.1)
-    by Greater is later =
-        (all_put (λ (g : Entry). Le f.key g.key) e fs (key_down e f (key_cmp e.key f.key) (nat_cmp f.version e.version) refl is) sorted.0, later)
+        let up = key_up e f (key_cmp e.key f.key) (nat_cmp f.version e.version) refl (inr is) in (
+          all_weaker (λ (g : Entry). Le f.key g.key) (λ (g : Entry). Le e.key g.key)
+              (λ g le. le_then e.key f.key g.key up le) fs sorted.0,
+          sorted.1,
+        )
+    by Greater is later = (
+      all_put (λ (g : Entry). Le f.key g.key) e fs
+          (key_down e f (key_cmp e.key f.key) (nat_cmp f.version e.version) refl is) sorted.0,
+      later,
+    )
 
 pub sorted_in_order : (es : List Entry) → IsSorted (in_order es)
 sorted_in_order [] = tt
@@ -154,7 +169,8 @@ from_well : (table : List Entry) (key : List ℕ) (closed open_bytes : ℕ) (es 
     → IsCutWell (tables_from table key closed open_bytes es)
 from_well table key closed open_bytes [] some sorted below above rest = (nothing_behind table, (some, (sorted, tt)))
 from_well table key closed open_bytes (e ∷ es) some sorted below above rest =
-    let begun = from_well (e ∷ []) e.key 0 (begun_length table_format e) es (omega arith) (tt, tt) (ap is_lt (key_tied e.key), tt) rest.0 rest.1 in
+    let begun = from_well (e ∷ []) e.key 0 (begun_length table_format e) es (omega arith) (tt, tt)
+    (ap is_lt (key_tied e.key), tt) rest.0 rest.1 in
     let lower : AllByRecursion (λ (x : Entry). Le x.key e.key) table =
     all_weaker (λ (x : Entry). Le x.key key) (λ (x : Entry). Le x.key e.key) (λ x le. le_then x.key key e.key le above.0) table below in
     let more : 1 ≤ length (table ++ e ∷ []) = omega (arith, some, Rattle.std.proofs.Common.length-append table (e ∷ [])) in
@@ -166,14 +182,22 @@ from_well table key closed open_bytes (e ∷ es) some sorted below above rest =
     let next : List (List Entry) =
     tables_from (table ++ e ∷ []) e.key (closed + around open_bytes) (begun_length table_format e) es in
     let later : List (List Entry) = tables_from (e ∷ []) e.key 0 (begun_length table_format e) es in
-    either (not (eq_by_cmp key_cmp key e.key) && nat_le full_table_bytes (closed + around open_bytes)) (table ∷ later) (if nat_le (open_bytes + entry_length table_format e) max_block_bytes then grown else next)
+    either (not (eq_by_cmp key_cmp key e.key) && nat_le full_table_bytes (closed + around open_bytes)) (table ∷ later)
+    (if nat_le (open_bytes + entry_length table_format e) max_block_bytes then grown else next)
     (λ closes.
     let apart : eq_by_cmp key_cmp key e.key ≡ false =
-    not_true (eq_by_cmp key_cmp key e.key) (and_parts (not (eq_by_cmp key_cmp key e.key)) (nat_le full_table_bytes (closed + around open_bytes)) closes).0 in
+    not_true (eq_by_cmp key_cmp key e.key)
+    (and_parts (not (eq_by_cmp key_cmp key e.key)) (nat_le full_table_bytes (closed + around open_bytes)) closes).0 in
     let step : Lt key e.key = le_apart key e.key above.0 apart in (
-      subst (λ (fs : List Entry). AllByRecursion (λ (x : Entry). AllByRecursion (λ (f : Entry). Lt x.key f.key) fs) table) (sym (cut-whole (e ∷ es)))
+      subst (λ (fs : List Entry). AllByRecursion (λ (x : Entry). AllByRecursion (λ (f : Entry). Lt x.key f.key) fs)
+          table) (sym (cut-whole (e ∷ es)))
           (all_weaker (λ (x : Entry). Le x.key key) (λ (x : Entry). AllByRecursion (λ (f : Entry). Lt x.key f.key) (e ∷ es))
-          (λ x le. (le_lt x.key key e.key le step, all_weaker (λ (f : Entry). Le e.key f.key) (λ (f : Entry). Lt x.key f.key) (λ f up. lt_le_then x.key e.key f.key (le_lt x.key key e.key le step) up) es rest.0)) table below),
+          (λ x le. (
+            le_lt x.key key e.key le step,
+            all_weaker (λ (f : Entry). Le e.key f.key)
+                (λ (f : Entry). Lt x.key f.key) (λ f up. lt_le_then x.key e.key f.key (le_lt x.key key e.key le step) up) es
+                rest.0,
+          )) table below),
       (some, (sorted, begun)),
     ))
     (either' (nat_le (open_bytes + entry_length table_format e) max_block_bytes) grown next
@@ -225,7 +249,8 @@ pub made_ranged : (numbers : List ℕ) (ess : List (List Entry)) → IsCutWell e
 made_ranged [] ess well = tt
 made_ranged (n ∷ ns) [] well = tt
 made_ranged (n ∷ ns) (es ∷ ess) well = (
-  both_all (λ (e : Entry). Le (first_key es) e.key) (λ (e : Entry). Le e.key (last_key es)) es (from_first es well.1.1.0) (up_to_last es well.1.1.0),
+  both_all (λ (e : Entry). Le (first_key es) e.key) (λ (e : Entry). Le e.key (last_key es)) es
+      (from_first es well.1.1.0) (up_to_last es well.1.1.0),
   made_ranged ns ess well.1.1.1,
 )
 
@@ -247,7 +272,8 @@ pub made_apart : (numbers : List ℕ) (ess : List (List Entry)) → IsCutWell es
 made_apart [] ess well = tt
 made_apart (n ∷ ns) [] well = tt
 made_apart (n ∷ ns) (es ∷ ess) well = (
-  all_joined (Lt (last_key es)) ns ess well.1.1.1 (of_last (λ (k : List ℕ). AllByRecursion (λ (f : Entry). Lt k f.key) (joined ess)) es well.1.0 well.0),
+  all_joined (Lt (last_key es)) ns ess well.1.1.1
+      (of_last (λ (k : List ℕ). AllByRecursion (λ (f : Entry). Lt k f.key) (joined ess)) es well.1.0 well.0),
   made_apart ns ess well.1.1.1,
 )
 

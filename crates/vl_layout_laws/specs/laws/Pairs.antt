@@ -1,5 +1,6 @@
 -- Tables by their keys and numbers, and the inputs that a pair of levels gives.
-use Rattle.std.proofs.Common.{◌≡◌, ◌≢◌, ◌⊎◌, inl, inr, ⊎_elim, ℕ, Bool, true, false, cond, not, ◌&&◌, ◌||◌, List, [], ◌∷◌, ◌++◌, refl, ap, sym, ◌∙◌, subst, arith}
+use Rattle.std.proofs.Common.{◌≡◌, ◌≢◌, ◌⊎◌, inl, inr, ⊎_elim, ℕ, Bool, true, false, cond, not, ◌&&◌, ◌||◌, List, []}
+use Rattle.std.proofs.Common.{◌∷◌, ◌++◌, refl, ap, sym, ◌∙◌, subst, arith}
 use Rattle.std.proofs.lemmas.Bool.{and_parts, and_from}
 use Rattle.std.proofs.lemmas.Bool.Decides.{nat_tests}
 use Rattle.std.specs.Prelude.{Some, ◌==◌}
@@ -148,7 +149,9 @@ one_itself P [] = tt
 one_itself P (t ∷ ts) =
     let here : (t.number == t.number) ≡ true = grind (arith, nat_tests) in (
       ap (λ b. b || is_among (numbers_of ts) t) here,
-      all_weaker (λ (u : Table). is_among (numbers_of ts) u ≡ true) (λ (u : Table). is_among (numbers_of (t ∷ ts)) u ≡ true) (λ u is. or_right (t.number == u.number) (is_among (numbers_of ts) u) is) ts (one_itself P ts),
+      all_weaker (λ (u : Table). is_among (numbers_of ts) u ≡ true)
+          (λ (u : Table). is_among (numbers_of (t ∷ ts)) u ≡ true)
+          (λ u is. or_right (t.number == u.number) (is_among (numbers_of ts) u) is) ts (one_itself P ts),
     )
   where
     or_right : (a b : Bool) → b ≡ true → (a || b) ≡ true
@@ -178,7 +181,8 @@ pub held_within : (key first last : List ℕ) (es : List Entry)
     → list_any (λ (e : Entry). eq_by_cmp key_cmp key e.key) es ≡ true → Le first key × Le key last
 held_within key first last [] all there = absurd (true_false (sym there))
 held_within key first last (e ∷ es) all there = ⊎_elim
-    (λ (here : eq_by_cmp key_cmp key e.key ≡ true). let same = same_key key e.key here in subst (λ (k : List ℕ). Le first k × Le k last) (sym same) all.0)
+    (λ (here : eq_by_cmp key_cmp key e.key ≡ true). let same = same_key key e.key here in subst
+    (λ (k : List ℕ). Le first k × Le k last) (sym same) all.0)
     (λ (later : list_any (λ (f : Entry). eq_by_cmp key_cmp key f.key) es ≡ true). held_within key first last es all.1 later)
     (or_cases (eq_by_cmp key_cmp key e.key) (list_any (λ (f : Entry). eq_by_cmp key_cmp key f.key) es) there)
 
@@ -249,7 +253,8 @@ module _ (key : List ℕ) (keep : ℕ) (I O : List Entry) (floor : ℕ) (inputs 
           → list_any (λ (u : Table). is_among inputs u && holds key u) us ≡ true → holds key t ≡ true → ⊥
       never [] before rs there held = true_false (sym there)
       never (u ∷ us) before rs there held = ⊎_elim
-          (λ (here : (is_among inputs u && holds key u) ≡ true). not_both key t u ranged.0 rs.0 before.0 held (and_parts (is_among inputs u) (holds key u) here).1)
+          (λ (here : (is_among inputs u && holds key u) ≡ true). not_both key t u ranged.0 rs.0 before.0 held
+          (and_parts (is_among inputs u) (holds key u) here).1)
           (λ (later : list_any (λ (x : Table). is_among inputs x && holds key x) us ≡ true). never us before.1 rs.1 later held)
           (or_cases (is_among inputs u && holds key u) (list_any (λ (x : Table). is_among inputs x && holds key x) us) there)
 
@@ -280,8 +285,11 @@ module _ (key : List ℕ) (keep : ℕ) (I O : List Entry) (floor : ℕ) (inputs 
           → (is_among inputs t ≡ true → IsWithout key t.entries) × IsUntouched keep I O floor inputs key ts
       by true is later =
           absurd (true_false (sym (ap (λ b. b || list_any (λ (u : Table). is_among inputs u && holds key u) ts) is) ∙ none))
-      by false is later =
-          ((λ input. not_held key t.entries (out (is_among inputs t) (holds key t) is input)), later (sym (ap (λ b. b || list_any (λ (u : Table). is_among inputs u && holds key u) ts) is) ∙ none))
+      by false is later = (
+        (λ input. not_held key t.entries (out (is_among inputs t) (holds key t) is input)),
+        later
+            (sym (ap (λ b. b || list_any (λ (u : Table). is_among inputs u && holds key u) ts) is) ∙ none),
+      )
 
   -- where each input of the first level lies in a range, and each table of the second that meets it is an input
   pub record IsWithin (range : Range) (t : Table) : Type 0 where
@@ -312,6 +320,7 @@ module _ (key : List ℕ) (keep : ℕ) (I O : List Entry) (floor : ℕ) (inputs 
             let keys = held_within key u.first u.last u.entries ru.0 held in
             let one : not (is_lt (key_cmp u.last range.0)) ≡ true = ap not (le_then range.0 key u.last low keys.1) in
             let two : not (is_lt (key_cmp range.1 u.first)) ≡ true = ap not (le_then u.first key range.1 keys.0 high) in
-            true_false (sym (met.0 (and_from (not (is_lt (key_cmp u.last range.0))) (not (is_lt (key_cmp range.1 u.first))) one two)) ∙ out))),
+            true_false (sym (met.0 (and_from (not (is_lt (key_cmp u.last range.0)))
+            (not (is_lt (key_cmp range.1 u.first))) one two)) ∙ out))),
         each vs met.1 ru.1 low high,
       )

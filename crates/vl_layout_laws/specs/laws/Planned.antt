@@ -1,5 +1,6 @@
 -- Where levels don't overlap, and no number stands twice, the inputs of a plan and of a drain stand as an install wants them.
-use Rattle.std.proofs.Common.{◌≡◌, ◌≢◌, ◌⊎◌, inl, inr, ⊎_elim, ℕ, ◌+◌, ◌-◌, ◌≤◌, ◌<◌, Bool, true, false, cond, not, ◌&&◌, ◌||◌, List, [], ◌∷◌, ◌++◌, map, refl, ap, sym, ◌∙◌, subst, arith, length}
+use Rattle.std.proofs.Common.{◌≡◌, ◌≢◌, ◌⊎◌, inl, inr, ⊎_elim, ℕ, ◌+◌, ◌-◌, ◌≤◌, ◌<◌, Bool, true, false, cond, not}
+use Rattle.std.proofs.Common.{◌&&◌, ◌||◌, List, [], ◌∷◌, ◌++◌, map, refl, ap, sym, ◌∙◌, subst, arith, length}
 use Rattle.std.proofs.lemmas.Bool.Decides.{nat_tests}
 use Rattle.std.specs.Prelude.{Option, Some, None, ◌==◌, nat_lt}
 use Rattle.std.specs.List.{AllByRecursion, flat_map, list_any, filter}
@@ -7,7 +8,9 @@ use Rattle.std.specs.Ordering.{is_lt}
 use Rattle.vl_model.specs.History.{History}
 use Rattle.vl_model.specs.laws.WinnerLaws.{key_tied}
 use Rattle.vl_model.specs.declared.entry.Entry.{Entry}
-use Rattle.vl_layout.specs.Levels.{is_among, level_at, lesser_key, greater_key, Range, widened, range_of, meets, lesser_table, least_table, one_or_none, due_inputs, with_next, inputs_at, has_point, first_into}
+use Rattle.vl_layout.specs.Levels.{is_among, level_at, lesser_key, greater_key, Range, widened, range_of, meets}
+use Rattle.vl_layout.specs.Levels.{lesser_table, least_table, one_or_none, due_inputs, with_next, inputs_at}
+use Rattle.vl_layout.specs.Levels.{has_point, first_into}
 use Rattle.vl_layout.specs.Merging.{inputs_of, outside_of}
 use Rattle.vl_layout.specs.Rulings.Plan.{job_of}
 use Rattle.vl_layout.specs.Sources.{tables, numbers_of}
@@ -18,7 +21,10 @@ use Rattle.vl_layout.specs.declared.table.Table.{Table}
 use Rattle.vl_layout_laws.specs.laws.Gathered.{IsIdle, IsShaped, IsPair, IsClear, IsUntouched, IsParted}
 use Rattle.vl_layout_laws.specs.laws.Lists.{true_false}
 use Rattle.vl_layout.specs.OpenJobs.{IsFitted}
-use Rattle.vl_layout_laws.specs.laws.Pairs.{IsWithin, le_then, lesser_left, lesser_right, greater_left, greater_right, distinct_parts, AreOther, others_turned, not_one_of, one_is, one_itself, holds, all_parts, all_both, all_weaker, all_filtered, apart_parted, all_parted, input_clear, untouched_by, range_clear}
+use Rattle.vl_layout_laws.specs.laws.Pairs.{IsWithin, le_then, lesser_left, lesser_right, greater_left, greater_right}
+use Rattle.vl_layout_laws.specs.laws.Pairs.{distinct_parts, AreOther, others_turned, not_one_of, one_is, one_itself}
+use Rattle.vl_layout_laws.specs.laws.Pairs.{holds, all_parts, all_both, all_weaker, all_filtered, apart_parted}
+use Rattle.vl_layout_laws.specs.laws.Pairs.{all_parted, input_clear, untouched_by, range_clear}
 
 -- ---- the inputs of a level
 
@@ -35,7 +41,8 @@ all_given P n ts all = elim (n == 0) as (λ b. AllByRecursion P (cond b ts (one_
 
     lesser : (t : Table) (o : Option Table) → P t → of_one o → of_one (lesser_table t o)
     lesser t None here other = here
-    lesser t (Some u) here other = elim (nat_lt u.number t.number) as (λ b. of_one (cond b (Some u) (Some t))) [ true ↦ other | false ↦ here ]
+    lesser t (Some u) here other = elim (nat_lt u.number t.number) as (λ b. of_one (cond b (Some u) (Some t)))
+        [ true ↦ other | false ↦ here ]
 
     as_list : (o : Option Table) → of_one o → AllByRecursion P (one_or_none o)
     as_list None one = tt
@@ -79,8 +86,13 @@ in_range (t ∷ ts) range is = by (range_of ts) refl is (λ r rest. in_range ts 
         the_one (lesser_key t.first r.0, greater_key t.last r.1) range (sym (ap (widened t) rest) ∙ is) in
         subst (λ (w : Range). (Le w.0 t.first × Le t.last w.1) × AllByRecursion (λ (u : Table). Le w.0 u.first × Le u.last w.1) ts) same (
           (lesser_left t.first r.0, greater_left t.last r.1),
-          all_weaker (λ (u : Table). Le r.0 u.first × Le u.last r.1) (λ (u : Table). Le (lesser_key t.first r.0) u.first × Le u.last (greater_key t.last r.1))
-              (λ u is. (le_then (lesser_key t.first r.0) r.0 u.first (lesser_right t.first r.0) is.0, le_then u.last r.1 (greater_key t.last r.1) is.1 (greater_right t.last r.1))) ts (later r rest),
+          all_weaker (λ (u : Table). Le r.0 u.first × Le u.last r.1)
+              (λ (u : Table). Le (lesser_key t.first r.0) u.first × Le u.last (greater_key t.last r.1))
+              (λ u is. (
+                le_then (lesser_key t.first r.0) r.0 u.first (lesser_right t.first r.0) is.0,
+                le_then u.last r.1
+                    (greater_key t.last r.1) is.1 (greater_right t.last r.1),
+              )) ts (later r rest),
         )
       where
         the_one : (a b : Range) → Some a ≡ Some b → a ≡ b
@@ -90,7 +102,11 @@ pub only_one : (ts : List Table) → IsDistinct ts
     → AllByRecursion (λ (t : Table). AllByRecursion (λ (x : Table). x.number ≡ t.number → x ≡ t) ts) ts
 only_one [] d = tt
 only_one (t ∷ ts) d = (
-  ((λ same. refl), all_weaker (λ (x : Table). x.number ≢ t.number) (λ (x : Table). x.number ≡ t.number → x ≡ t) (λ x apart same. absurd (apart same)) ts d.0),
+  (
+    (λ same. refl),
+    all_weaker (λ (x : Table). x.number ≢ t.number) (λ (x : Table). x.number ≡ t.number → x ≡ t)
+        (λ x apart same. absurd (apart same)) ts d.0,
+  ),
   with_head ts d.0 (only_one ts d.1),
 )
   where
@@ -124,26 +140,32 @@ module _ (n : ℕ) (A B : List Table) (distinct_A : IsDistinct A) (other : AreOt
   pub all_ins : (P : Table → Type 0) → AllByRecursion P A → AllByRecursion P B
       → AllByRecursion P (with_next (due_inputs n A) B)
   all_ins P a b =
-      all_both P (due_inputs n A) (filter (meets (range_of (due_inputs n A))) B) (all_given P n A a) (all_filtered P (meets (range_of (due_inputs n A))) B b)
+      all_both P (due_inputs n A) (filter (meets (range_of (due_inputs n A))) B) (all_given P n A a)
+      (all_filtered P (meets (range_of (due_inputs n A))) B b)
 
-  pub met : AllByRecursion (λ (u : Table). meets (range_of (due_inputs n A)) u ≡ true → is_among (numbers_of (with_next (due_inputs n A) B)) u ≡ true) B
+  pub met : AllByRecursion
+      (λ (u : Table). meets (range_of (due_inputs n A)) u ≡ true → is_among (numbers_of (with_next (due_inputs n A) B)) u ≡ true) B
   met =
       let all = one_itself (λ t. Unit {0}) (with_next (due_inputs n A) B) in
-      let both = all_parts (λ (u : Table). is_among (numbers_of (with_next (due_inputs n A) B)) u ≡ true) (due_inputs n A) (filter (meets (range_of (due_inputs n A))) B) all in
+      let both = all_parts (λ (u : Table). is_among (numbers_of (with_next (due_inputs n A) B)) u ≡ true)
+      (due_inputs n A) (filter (meets (range_of (due_inputs n A))) B) all in
       unfiltered (λ (u : Table). is_among (numbers_of (with_next (due_inputs n A) B)) u ≡ true) (meets (range_of (due_inputs n A))) B both.1
 
   given_one : AllByRecursion (λ (u : Table). is_among (numbers_of (with_next (due_inputs n A) B)) u ≡ true) (due_inputs n A)
   given_one =
-      (all_parts (λ (u : Table). is_among (numbers_of (with_next (due_inputs n A) B)) u ≡ true) (due_inputs n A) (filter (meets (range_of (due_inputs n A))) B) (one_itself (λ t. Unit {0}) (with_next (due_inputs n A) B))).0
+      (all_parts (λ (u : Table). is_among (numbers_of (with_next (due_inputs n A) B)) u ≡ true) (due_inputs n A)
+      (filter (meets (range_of (due_inputs n A))) B) (one_itself (λ t. Unit {0}) (with_next (due_inputs n A) B))).0
 
   pub within : (range : Range) → range_of (due_inputs n A) ≡ Some range
-      → AllByRecursion (λ (t : Table). is_among (numbers_of (with_next (due_inputs n A) B)) t ≡ true → Le range.0 t.first × Le t.last range.1) A
+      → AllByRecursion (λ (t : Table). is_among (numbers_of (with_next (due_inputs n A) B)) t ≡ true
+      → Le range.0 t.first × Le t.last range.1) A
   within range is = each A other (only_one A distinct_A)
     where
       each : (ts : List Table)
           → AllByRecursion (λ (x : Table). AllByRecursion (λ (y : Table). y.number ≢ x.number) B) ts
           → AllByRecursion (λ (t : Table). AllByRecursion (λ (x : Table). x.number ≡ t.number → x ≡ t) A) ts
-          → AllByRecursion (λ (t : Table). is_among (numbers_of (with_next (due_inputs n A) B)) t ≡ true → Le range.0 t.first × Le t.last range.1) ts
+          → AllByRecursion (λ (t : Table). is_among (numbers_of (with_next (due_inputs n A) B)) t ≡ true
+          → Le range.0 t.first × Le t.last range.1) ts
       each [] off one = tt
       each (t ∷ ts) off one = (
         (λ input.
@@ -151,8 +173,11 @@ module _ (n : ℕ) (A B : List Table) (distinct_A : IsDistinct A) (other : AreOt
             let from_given : AllByRecursion W (due_inputs n A) =
             two (due_inputs n A) (in_range (due_inputs n A) range is) (all_given (λ (x : Table). x.number ≡ t.number → x ≡ t) n A one.0) in
             let from_next : AllByRecursion W (filter (meets (range_of (due_inputs n A))) B) =
-            all_weaker (λ (y : Table). y.number ≢ t.number) W (λ y apart same. absurd (apart same)) (filter (meets (range_of (due_inputs n A))) B) (all_filtered (λ (y : Table). y.number ≢ t.number) (meets (range_of (due_inputs n A))) B off.0) in
-            let found = one_is t W (with_next (due_inputs n A) B) (all_both W (due_inputs n A) (filter (meets (range_of (due_inputs n A))) B) from_given from_next) input in
+            all_weaker (λ (y : Table). y.number ≢ t.number) W (λ y apart same. absurd (apart same))
+            (filter (meets (range_of (due_inputs n A))) B)
+            (all_filtered (λ (y : Table). y.number ≢ t.number) (meets (range_of (due_inputs n A))) B off.0) in
+            let found = one_is t W (with_next (due_inputs n A) B)
+            (all_both W (due_inputs n A) (filter (meets (range_of (due_inputs n A))) B) from_given from_next) input in
             found.2 found.1),
         each ts off.1 one.1,
       )
@@ -185,20 +210,26 @@ module _ (n : ℕ) (A B : List Table) (distinct_A : IsDistinct A) (other : AreOt
     none_untouched : (ts : List Table) → with_next (due_inputs n A) B ≡ []
         → IsUntouched keep I O floor (numbers_of (with_next (due_inputs n A) B)) key ts
     none_untouched [] empty = tt
-    none_untouched (t ∷ ts) empty =
-        ((λ input. absurd (true_false (sym (sym (ap (λ (xs : List Table). is_among (numbers_of xs) t) empty) ∙ input)))), none_untouched ts empty)
+    none_untouched (t ∷ ts) empty = (
+      (λ input. absurd (true_false
+          (sym (sym (ap (λ (xs : List Table). is_among (numbers_of xs) t) empty) ∙ input)))),
+      none_untouched ts empty,
+    )
 
     first_parted : IsParted keep I O floor (numbers_of (with_next (due_inputs n A) B)) key A
     first_parted = by (n == 0) refl
       where
         by : (b : Bool) → (n == 0) ≡ b → IsParted keep I O floor (numbers_of (with_next (due_inputs n A) B)) key A
         by true is = (all_parted key keep I O floor (numbers_of (with_next (due_inputs n A) B)) A
-            (subst (AllByRecursion (λ (u : Table). is_among (numbers_of (with_next (due_inputs n A) B)) u ≡ true)) (ap (λ c. cond c A (one_or_none (least_table A))) is) given_one)).0
+            (subst (AllByRecursion (λ (u : Table). is_among (numbers_of (with_next (due_inputs n A) B)) u ≡ true))
+            (ap (λ c. cond c A (one_or_none (least_table A))) is) given_one)).0
         by false is =
-            let some : 0 < n = grind (arith, nat_tests, is) in apart_parted key keep I O floor (numbers_of (with_next (due_inputs n A) B)) A (apart_A some) ranged_A
+            let some : 0 < n = grind (arith, nat_tests, is) in apart_parted key keep I O floor
+            (numbers_of (with_next (due_inputs n A) B)) A (apart_A some) ranged_A
 
     second_apart : (o : Option Range) → range_of (due_inputs n A) ≡ o
-        → (IsUntouched keep I O floor (numbers_of (with_next (due_inputs n A) B)) key A × IsUntouched keep I O floor (numbers_of (with_next (due_inputs n A) B)) key B)
+        → (IsUntouched keep I O floor (numbers_of (with_next (due_inputs n A) B)) key A
+        × IsUntouched keep I O floor (numbers_of (with_next (due_inputs n A) B)) key B)
         ⊎ IsClear keep I O floor (numbers_of (with_next (due_inputs n A) B)) key B
     second_apart None is = let empty = none_given is in inl (none_untouched A empty, none_untouched B empty)
     second_apart (Some range) is =
@@ -207,7 +238,8 @@ module _ (n : ℕ) (A B : List Table) (distinct_A : IsDistinct A) (other : AreOt
         by_second : (b : Bool)
             → list_any (λ (t : Table). is_among (numbers_of (with_next (due_inputs n A) B)) t && holds key t) B ≡ b
             → IsUntouched keep I O floor (numbers_of (with_next (due_inputs n A) B)) key A
-            → (IsUntouched keep I O floor (numbers_of (with_next (due_inputs n A) B)) key A × IsUntouched keep I O floor (numbers_of (with_next (due_inputs n A) B)) key B)
+            → (IsUntouched keep I O floor (numbers_of (with_next (due_inputs n A) B)) key A
+            × IsUntouched keep I O floor (numbers_of (with_next (due_inputs n A) B)) key B)
             ⊎ IsClear keep I O floor (numbers_of (with_next (due_inputs n A) B)) key B
         by_second true is out =
             inr (input_clear key keep I O floor (numbers_of (with_next (due_inputs n A) B)) B apart_B ranged_B is)
@@ -216,17 +248,22 @@ module _ (n : ℕ) (A B : List Table) (distinct_A : IsDistinct A) (other : AreOt
 
         by_first : (b : Bool)
             → list_any (λ (t : Table). is_among (numbers_of (with_next (due_inputs n A) B)) t && holds key t) A ≡ b
-            → (IsUntouched keep I O floor (numbers_of (with_next (due_inputs n A) B)) key A × IsUntouched keep I O floor (numbers_of (with_next (due_inputs n A) B)) key B)
+            → (IsUntouched keep I O floor (numbers_of (with_next (due_inputs n A) B)) key A
+            × IsUntouched keep I O floor (numbers_of (with_next (due_inputs n A) B)) key B)
             ⊎ IsClear keep I O floor (numbers_of (with_next (due_inputs n A) B)) key B
         by_first true there = inr (range_clear key keep I O floor (numbers_of (with_next (due_inputs n A) B)) range A B
-            (all_weaker (λ (t : Table). is_among (numbers_of (with_next (due_inputs n A) B)) t ≡ true → Le range.0 t.first × Le t.last range.1)
-            (λ (t : Table). is_among (numbers_of (with_next (due_inputs n A) B)) t ≡ true → IsWithin key keep I O floor (numbers_of (with_next (due_inputs n A) B)) range t)
+            (all_weaker (λ (t : Table). is_among (numbers_of (with_next (due_inputs n A) B)) t ≡ true
+            → Le range.0 t.first × Le t.last range.1)
+            (λ (t : Table). is_among (numbers_of (with_next (due_inputs n A) B)) t ≡ true
+            → IsWithin key keep I O floor (numbers_of (with_next (due_inputs n A) B)) range t)
             (λ t w input. let both = w input in record { first = both.0; last = both.1 }) A (within range is))
             ranged_A
-            (subst (λ (o : Option Range). AllByRecursion (λ (u : Table). meets o u ≡ true → is_among (numbers_of (with_next (due_inputs n A) B)) u ≡ true) B) is met)
+            (subst (λ (o : Option Range). AllByRecursion
+            (λ (u : Table). meets o u ≡ true → is_among (numbers_of (with_next (due_inputs n A) B)) u ≡ true) B) is met)
             ranged_B there)
         by_first false none =
-            by_second (list_any (λ (t : Table). is_among (numbers_of (with_next (due_inputs n A) B)) t && holds key t) B) refl (untouched_by key keep I O floor (numbers_of (with_next (due_inputs n A) B)) A none)
+            by_second (list_any (λ (t : Table). is_among (numbers_of (with_next (due_inputs n A) B)) t && holds key t)
+            B) refl (untouched_by key keep I O floor (numbers_of (with_next (due_inputs n A) B)) A none)
 
     pub pair_is : (deeper : List (List Table))
         → IsIdle keep I O floor (numbers_of (with_next (due_inputs n A) B)) (flat_map (λ ts. ts) deeper)
@@ -330,14 +367,19 @@ plan_fitted l h n are within key =
     let r1 = all_parts IsRanged A (B ++ D) r0.1 in
     let r2 = all_parts IsRanged B D r1.1 in
     let off : AreOther A B =
-    all_weaker (λ (x : Table). AllByRecursion (λ (y : Table). y.number ≢ x.number) (B ++ D)) (λ (x : Table). AllByRecursion (λ (y : Table). y.number ≢ x.number) B) (λ x all. (all_parts (λ (y : Table). y.number ≢ x.number) B D all).0) A d1.1.1 in
+    all_weaker (λ (x : Table). AllByRecursion (λ (y : Table). y.number ≢ x.number) (B ++ D))
+    (λ (x : Table). AllByRecursion (λ (y : Table). y.number ≢ x.number) B)
+    (λ x all. (all_parts (λ (y : Table). y.number ≢ x.number) B D all).0) A d1.1.1 in
     let off_D : AreOther A D =
-    all_weaker (λ (x : Table). AllByRecursion (λ (y : Table). y.number ≢ x.number) (B ++ D)) (λ (x : Table). AllByRecursion (λ (y : Table). y.number ≢ x.number) D) (λ x all. (all_parts (λ (y : Table). y.number ≢ x.number) B D all).1) A d1.1.1 in
+    all_weaker (λ (x : Table). AllByRecursion (λ (y : Table). y.number ≢ x.number) (B ++ D))
+    (λ (x : Table). AllByRecursion (λ (y : Table). y.number ≢ x.number) D)
+    (λ x all. (all_parts (λ (y : Table). y.number ≢ x.number) B D all).1) A d1.1.1 in
     let apart_A : 0 < n → IsApart A = λ some. subst IsApart c.first_is (are.apart n some) in
     let apart_B : IsApart B = subst IsApart c.second_is (are.apart (n + 1) (omega arith)) in
     let ins = with_next (due_inputs n A) B in
     let inputs = numbers_of ins in
-    let idle_pre : IsIdle job.keep I O job.floor inputs pre = all_weaker (λ (u : Table). AllByRecursion (λ (t : Table). t.number ≢ u.number) (A ++ (B ++ D))) (λ (u : Table). is_among inputs u ≡ false)
+    let idle_pre : IsIdle job.keep I O job.floor inputs pre = all_weaker
+    (λ (u : Table). AllByRecursion (λ (t : Table). t.number ≢ u.number) (A ++ (B ++ D))) (λ (u : Table). is_among inputs u ≡ false)
     (λ u all.
     let x = all_parts (λ (t : Table). t.number ≢ u.number) A (B ++ D) all in
     let y = all_parts (λ (t : Table). t.number ≢ u.number) B D x.1 in
@@ -345,7 +387,8 @@ plan_fitted l h n are within key =
     let turned_A = others_turned A D off_D in
     let turned_B = others_turned B D d2.1.1 in
     let idle_D : IsIdle job.keep I O job.floor inputs D =
-    both (λ (u : Table). is_among inputs u ≡ false) A B D turned_A turned_B (λ u a b. not_one_of u ins (all_ins n A B d1.0 off r1.0 r2.0 apart_A apart_B (λ (t : Table). t.number ≢ u.number) a b)) in
+    both (λ (u : Table). is_among inputs u ≡ false) A B D turned_A turned_B
+    (λ u a b. not_one_of u ins (all_ins n A B d1.0 off r1.0 r2.0 apart_A apart_B (λ (t : Table). t.number ≢ u.number) a b)) in
     let pair = pair_is n A B d1.0 off r1.0 r2.0 apart_A apart_B key job.keep I O job.floor c.deeper idle_D in
     let shaped : IsShaped job.keep I O job.floor inputs key (length c.pre + 1) (c.pre ++ A ∷ B ∷ c.deeper) =
     shaped_at job.keep I O job.floor inputs key c.pre A B c.deeper idle_pre pair in
@@ -359,7 +402,8 @@ plan_fitted l h n are within key =
     both : (P : Table → Type 0) (A B us : List Table)
         → AllByRecursion (λ (u : Table). AllByRecursion (λ (t : Table). t.number ≢ u.number) A) us
         → AllByRecursion (λ (u : Table). AllByRecursion (λ (t : Table). t.number ≢ u.number) B) us
-        → ((u : Table) → AllByRecursion (λ (t : Table). t.number ≢ u.number) A → AllByRecursion (λ (t : Table). t.number ≢ u.number) B → P u)
+        → ((u : Table) → AllByRecursion (λ (t : Table). t.number ≢ u.number) A
+        → AllByRecursion (λ (t : Table). t.number ≢ u.number) B → P u)
         → AllByRecursion P us
     both P A B [] a b f = tt
     both P A B (u ∷ us) a b f = (f u a.0 b.0, both P A B us a.1 b.1 f)
@@ -399,7 +443,8 @@ drain_fitted l h segment t distinct is =
     )
   where
     before : (us : List Table)
-        → AllByRecursion (λ (x : Table). AllByRecursion (λ (y : Table). y.number ≢ x.number) (t ∷ (split_first segment (tables l) t is).1)) us
+        → AllByRecursion (λ (x : Table). AllByRecursion (λ (y : Table). y.number ≢ x.number)
+        (t ∷ (split_first segment (tables l) t is).1)) us
         → AllByRecursion (λ (u : Table). is_among (t.number ∷ []) u ≡ false) us
     before [] all = tt
     before (u ∷ us) all = (not_one_of u (t ∷ []) (all.0.0, tt), before us all.1)

@@ -1,5 +1,6 @@
 -- Of the level into which a merge is planned each table that isn't an input lies on one side of all keys of the inputs.
-use Rattle.std.proofs.Common.{◌≡◌, ◌≢◌, inl, inr, ⊎_elim, ℕ, ◌+◌, ◌<◌, Bool, true, false, List, [], ◌∷◌, ◌++◌, ap, sym, ◌∙◌, refl, subst, arith, length}
+use Rattle.std.proofs.Common.{◌≡◌, ◌≢◌, inl, inr, ⊎_elim, ℕ, ◌+◌, ◌<◌, Bool, true, false, List, [], ◌∷◌, ◌++◌, ap}
+use Rattle.std.proofs.Common.{sym, ◌∙◌, refl, subst, arith, length}
 use Rattle.std.specs.Prelude.{Option, Some, None}
 use Rattle.std.specs.List.{AllByRecursion, flat_map}
 use Rattle.vl_model.specs.History.{History}
@@ -66,7 +67,8 @@ idle_have : (Q : Entry → Type 0) (inputs : List ℕ) (ts : List Table)
     → AllByRecursion (λ (t : Table). is_among inputs t ≡ false) ts
     → AllByRecursion (λ (t : Table). is_among inputs t ≡ true → AllByRecursion Q t.entries) ts
 idle_have Q inputs ts idle =
-    all_weaker (λ (t : Table). is_among inputs t ≡ false) (λ (t : Table). is_among inputs t ≡ true → AllByRecursion Q t.entries) (λ t out is. absurd (true_false (sym is ∙ out))) ts idle
+    all_weaker (λ (t : Table). is_among inputs t ≡ false)
+    (λ (t : Table). is_among inputs t ≡ true → AllByRecursion Q t.entries) (λ t out is. absurd (true_false (sym is ∙ out))) ts idle
 
 -- The level into which a level is merged has room for what the merge makes.
 pub plan_roomy : (l : Layout) (h : History) (n : ℕ) → AreLevels l.levels → n + 1 < length l.levels
@@ -75,8 +77,12 @@ plan_roomy l h n are within = (
   omega arith,
   (
     within,
-    subst (λ (us : List Table). AllByRecursion (λ (u : Table). is_among (numbers_of (inputs_at n l.levels)) u ≡ false → IsBesideAll (inputs_of (sourced l (numbers_of (inputs_at n l.levels)))) u) us) (sym c.second_is)
-        (subst (λ (ns : List ℕ). AllByRecursion (λ (u : Table). is_among ns u ≡ false → IsBesideAll (inputs_of (sourced l ns)) u) B) (sym same) (by (range_of (due_inputs n A)) refl)),
+    subst (λ (us : List Table). AllByRecursion
+        (λ (u : Table). is_among (numbers_of (inputs_at n l.levels)) u ≡ false
+        → IsBesideAll (inputs_of (sourced l (numbers_of (inputs_at n l.levels)))) u) us) (sym c.second_is)
+        (subst (λ (ns : List ℕ). AllByRecursion
+        (λ (u : Table). is_among ns u ≡ false → IsBesideAll (inputs_of (sourced l ns)) u) B) (sym same)
+        (by (range_of (due_inputs n A)) refl)),
   ),
 )
   where
@@ -108,7 +114,8 @@ plan_roomy l h n are within = (
         ap (λ (levels : List (List Table)). flat_map (λ ts. ts) levels) c.whole
         ∙ flat_levels c.pre (A ∷ B ∷ c.deeper)
 
-    d0 : IsDistinct pre × (IsDistinct (A ++ (B ++ D)) × AllByRecursion (λ (x : Table). AllByRecursion (λ (y : Table). y.number ≢ x.number) (A ++ (B ++ D))) pre)
+    d0 : IsDistinct pre × (IsDistinct (A ++ (B ++ D))
+        × AllByRecursion (λ (x : Table). AllByRecursion (λ (y : Table). y.number ≢ x.number) (A ++ (B ++ D))) pre)
     d0 = let d = distinct_parts pre (A ++ (B ++ D)) (subst IsDistinct flat are.distinct) in (d.0, (d.1.0, d.1.1))
 
     d1 : IsDistinct A × (IsDistinct (B ++ D) × AreOther A (B ++ D))
@@ -119,11 +126,15 @@ plan_roomy l h n are within = (
 
     off : AreOther A B
     off =
-        all_weaker (λ (x : Table). AllByRecursion (λ (y : Table). y.number ≢ x.number) (B ++ D)) (λ (x : Table). AllByRecursion (λ (y : Table). y.number ≢ x.number) B) (λ x all. (all_parts (λ (y : Table). y.number ≢ x.number) B D all).0) A d1.1.1
+        all_weaker (λ (x : Table). AllByRecursion (λ (y : Table). y.number ≢ x.number) (B ++ D))
+        (λ (x : Table). AllByRecursion (λ (y : Table). y.number ≢ x.number) B)
+        (λ x all. (all_parts (λ (y : Table). y.number ≢ x.number) B D all).0) A d1.1.1
 
     off_D : AreOther A D
     off_D =
-        all_weaker (λ (x : Table). AllByRecursion (λ (y : Table). y.number ≢ x.number) (B ++ D)) (λ (x : Table). AllByRecursion (λ (y : Table). y.number ≢ x.number) D) (λ x all. (all_parts (λ (y : Table). y.number ≢ x.number) B D all).1) A d1.1.1
+        all_weaker (λ (x : Table). AllByRecursion (λ (y : Table). y.number ≢ x.number) (B ++ D))
+        (λ (x : Table). AllByRecursion (λ (y : Table). y.number ≢ x.number) D)
+        (λ x all. (all_parts (λ (y : Table). y.number ≢ x.number) B D all).1) A d1.1.1
 
     of_two : (P : Table → Type 0) → AllByRecursion P (tables l) → AllByRecursion P A × AllByRecursion P B
     of_two P all =
@@ -140,11 +151,13 @@ plan_roomy l h n are within = (
     not_in : (u : Table) → AllByRecursion (λ (t : Table). t.number ≢ u.number) A
         → AllByRecursion (λ (t : Table). t.number ≢ u.number) B → is_among (numbers_of ins) u ≡ false
     not_in u a b =
-        not_one_of u ins (all_ins n A B d1.0 off (of_two IsRanged are.ranged).0 (of_two IsRanged are.ranged).1 apart_A apart_B (λ (t : Table). t.number ≢ u.number) a b)
+        not_one_of u ins (all_ins n A B d1.0 off (of_two IsRanged are.ranged).0 (of_two IsRanged are.ranged).1 apart_A
+        apart_B (λ (t : Table). t.number ≢ u.number) a b)
 
     idle_pre : AllByRecursion (λ (u : Table). is_among (numbers_of ins) u ≡ false) pre
     idle_pre =
-        all_weaker (λ (u : Table). AllByRecursion (λ (t : Table). t.number ≢ u.number) (A ++ (B ++ D))) (λ (u : Table). is_among (numbers_of ins) u ≡ false)
+        all_weaker (λ (u : Table). AllByRecursion (λ (t : Table). t.number ≢ u.number) (A ++ (B ++ D)))
+        (λ (u : Table). is_among (numbers_of ins) u ≡ false)
         (λ u all.
         let x = all_parts (λ (t : Table). t.number ≢ u.number) A (B ++ D) all in
         let y = all_parts (λ (t : Table). t.number ≢ u.number) B D x.1 in
@@ -155,14 +168,16 @@ plan_roomy l h n are within = (
       where
         both : (us : List Table)
             → AllByRecursion (λ (u : Table). AllByRecursion (λ (t : Table). t.number ≢ u.number) A) us
-            → AllByRecursion (λ (u : Table). AllByRecursion (λ (t : Table). t.number ≢ u.number) B) us → AllByRecursion (λ (u : Table). is_among (numbers_of ins) u ≡ false) us
+            → AllByRecursion (λ (u : Table). AllByRecursion (λ (t : Table). t.number ≢ u.number) B) us
+            → AllByRecursion (λ (u : Table). is_among (numbers_of ins) u ≡ false) us
         both [] a b = tt
         both (u ∷ us) a b = (not_in u a.0 b.0, both us a.1 b.1)
 
     -- what is so of the inputs of both levels is so of all inputs' entries
     of_inputs : (Q : Entry → Type 0)
         → AllByRecursion (λ (t : Table). is_among (numbers_of ins) t ≡ true → AllByRecursion Q t.entries) A
-        → AllByRecursion (λ (t : Table). is_among (numbers_of ins) t ≡ true → AllByRecursion Q t.entries) B → AllByRecursion Q (inputs_of (sourced l (numbers_of ins)))
+        → AllByRecursion (λ (t : Table). is_among (numbers_of ins) t ≡ true → AllByRecursion Q t.entries) B
+        → AllByRecursion Q (inputs_of (sourced l (numbers_of ins)))
     of_inputs Q a b =
         let P : Table → Type 0 = λ t. is_among (numbers_of ins) t ≡ true → AllByRecursion Q t.entries in
         sourced_inputs Q l (numbers_of ins)
@@ -173,9 +188,12 @@ plan_roomy l h n are within = (
         → AllByRecursion (λ (u : Table). is_among (numbers_of ins) u ≡ false → IsBesideAll (inputs_of (sourced l (numbers_of ins))) u) B
     by None is =
         let empty = none_given n A B d1.0 off (of_two IsRanged are.ranged).0 (of_two IsRanged are.ranged).1 apart_A apart_B is in
-        all_weaker (λ (u : Table). Unit {0}) (λ (u : Table). is_among (numbers_of ins) u ≡ false → IsBesideAll (inputs_of (sourced l (numbers_of ins))) u)
+        all_weaker (λ (u : Table). Unit {0})
+        (λ (u : Table). is_among (numbers_of ins) u ≡ false → IsBesideAll (inputs_of (sourced l (numbers_of ins))) u)
         (λ u any out. inl (sourced_inputs (λ (e : Entry). Lt u.last e.key) l (numbers_of ins)
-        (idle_have (λ (e : Entry). Lt u.last e.key) (numbers_of ins) (tables l) (subst (λ (ts : List Table). AllByRecursion (λ (t : Table). is_among (numbers_of ts) t ≡ false) (tables l)) (sym empty) (nowhere (tables l))))))
+        (idle_have (λ (e : Entry). Lt u.last e.key) (numbers_of ins) (tables l)
+        (subst (λ (ts : List Table). AllByRecursion (λ (t : Table). is_among (numbers_of ts) t ≡ false) (tables l))
+        (sym empty) (nowhere (tables l))))))
         B (anything B)
       where
         nowhere : (ts : List Table) → AllByRecursion (λ (t : Table). is_among [] t ≡ false) ts
@@ -186,10 +204,15 @@ plan_roomy l h n are within = (
         anything [] = tt
         anything (t ∷ ts) = (tt, anything ts)
     by (Some range) is =
-        all_weaker (λ (u : Table). is_among (numbers_of ins) u ≡ false → IsBeside n A B d1.0 d2.0 off (of_two IsRanged are.ranged).0 (of_two IsRanged are.ranged).1 apart_A apart_B (of_two IsWide are.wide).1 range is u)
+        all_weaker (λ (u : Table). is_among (numbers_of ins) u ≡ false
+        → IsBeside n A B d1.0 d2.0 off (of_two IsRanged are.ranged).0 (of_two IsRanged are.ranged).1 apart_A apart_B
+        (of_two IsWide are.wide).1 range is u)
         (λ (u : Table). is_among (numbers_of ins) u ≡ false → IsBesideAll (inputs_of (sourced l (numbers_of ins))) u)
         (λ u beside out. ⊎_elim
-        (λ (above : AreAbove (λ t. is_among (numbers_of ins) t) u.last A × AreAbove (λ t. is_among (numbers_of ins) t) u.last B). inl (of_inputs (λ (e : Entry). Lt u.last e.key) above.0 above.1))
-        (λ (below : AreBelow (λ t. is_among (numbers_of ins) t) u.first A × AreBelow (λ t. is_among (numbers_of ins) t) u.first B). inr (of_inputs (λ (e : Entry). Lt e.key u.first) below.0 below.1))
+        (λ (above : AreAbove (λ t. is_among (numbers_of ins) t) u.last A
+        × AreAbove (λ t. is_among (numbers_of ins) t) u.last B). inl (of_inputs (λ (e : Entry). Lt u.last e.key) above.0 above.1))
+        (λ (below : AreBelow (λ t. is_among (numbers_of ins) t) u.first A
+        × AreBelow (λ t. is_among (numbers_of ins) t) u.first B). inr (of_inputs (λ (e : Entry). Lt e.key u.first) below.0 below.1))
         (beside out)) B
-        (all_beside n A B d1.0 d2.0 off (of_two IsRanged are.ranged).0 (of_two IsRanged are.ranged).1 apart_A apart_B (of_two IsWide are.wide).1 range is)
+        (all_beside n A B d1.0 d2.0 off (of_two IsRanged are.ranged).0 (of_two IsRanged are.ranged).1 apart_A apart_B
+        (of_two IsWide are.wide).1 range is)

@@ -13,7 +13,8 @@ use Rattle.vl_layout.specs.Jobs.{Made, loose, lent_numbers, AreLent}
 use Rattle.vl_layout.specs.Relocation.{Pass, Candidate, moved_of}
 use Rattle.vl_layout.specs.Ruling.{Ruling, ended, has_no_number, has_no_version}
 use Rattle.vl_layout.specs.Rulings.Begin.{begin_ruling}
-use Rattle.vl_layout.specs.Rulings.Commit.{Transaction, committed, commit_checked, commit_running, commit_unless, commit_ruling, commit_frame}
+use Rattle.vl_layout.specs.Rulings.Commit.{Transaction, committed, commit_checked, commit_running, commit_unless}
+use Rattle.vl_layout.specs.Rulings.Commit.{commit_ruling, commit_frame}
 use Rattle.vl_layout.specs.Rulings.Flush.{flush_of, flush_unless, flush_ruling}
 use Rattle.vl_layout.specs.Rulings.Fresh.{fresh_unless, fresh_ruling}
 use Rattle.vl_layout.specs.Rulings.Keep.{keep_unless, keep_ruling}
@@ -47,7 +48,9 @@ use Rattle.vl_layout.specs.Rulings.View.{View}
 use Rattle.vl_layout.specs.declared.job.OpenPass.{OpenPass}
 use Rattle.vl_layout.specs.declared.segment.SegmentStat.{SegmentStat}
 use Rattle.vl_layout_laws.specs.laws.WellInstalled.{well_installed}
-use Rattle.vl_layout_laws.specs.laws.WellStocked.{well_begun, well_ended, well_picked, well_pass_ended, well_logged, well_keeping, well_rotated, well_relocated, well_flushed, well_swept, well_planned, well_drawn, well_job_ended}
+use Rattle.vl_layout_laws.specs.laws.WellStocked.{well_begun, well_ended, well_picked, well_pass_ended, well_logged}
+use Rattle.vl_layout_laws.specs.laws.WellStocked.{well_keeping, well_rotated, well_relocated, well_flushed}
+use Rattle.vl_layout_laws.specs.laws.WellStocked.{well_swept, well_planned, well_drawn, well_job_ended}
 
 abbrev pub LeavesWell : {A : Type 0} → Ruling A → Type 0
 LeavesWell r = IsWellStocked r.layout
@@ -65,7 +68,8 @@ module _ (l : Layout) (h : History) (w : IsWellStocked l) where
   checked_well : (t : Transaction) (conflict : Option Named) → LeavesWell (commit_checked l h t conflict)
   checked_well t (Some named) = well_ended l w t.ticket
   checked_well t None =
-      either (nat_le (l.active.length + frame_length l.active.format (commit_frame h t.writes)) l.room) (committed l h t) _ (well_logged (ended t.ticket l) (well_ended l w t.ticket) (commit_frame h t.writes)) w
+      either (nat_le (l.active.length + frame_length l.active.format (commit_frame h t.writes)) l.room)
+      (committed l h t) _ (well_logged (ended t.ticket l) (well_ended l w t.ticket) (commit_frame h t.writes)) w
 
   running_well : (t : Transaction) (conflict : Option Named) → LeavesWell (commit_running l h t conflict)
   running_well t conflict =
@@ -168,7 +172,8 @@ module _ (l : Layout) (h : History) (w : IsWellStocked l) where
   module _ (job : Job) (made : Made) (are : AreLent (lent_numbers l.job) made)
       (standing : AllByRecursion (λ (n : ℕ). list_any (λ (t : Table). n == t.number) (tables l) ≡ true) job.inputs)
       (footed : AllByRecursion IsFooted made.tables)
-      (into : (n : ℕ) → AllByRecursion (λ (t : Table). leads n t.points ≡ true → list_any (λ (u : Table). leads n u.points) (tables l) ≡ true) made.tables)
+      (into : (n : ℕ) → AllByRecursion
+      (λ (t : Table). leads n t.points ≡ true → list_any (λ (u : Table). leads n u.points) (tables l) ≡ true) made.tables)
       (below : AllByRecursion (PointsDrawn l.next_log) made.tables) (distinct : IsDistinct (tables l)) where
     install_checked-well : (o : Option Named) → LeavesWell (install_checked l h job made o)
     install_checked-well (Some named) = well_job_ended l w made are
@@ -221,22 +226,37 @@ module _ (l : Layout) (h : History) (w : IsWellStocked l) where
   -- what a sweep removes is needed by no source and no pin
   pub removed_are_loose : (least : Option ℕ) → AllByRecursion (IsLoose l) (swept least l)
   removed_are_loose least =
-      all_weaker (IsLoose (with_lent l)) (IsLoose l) (λ f is. record { sources = is.sources; pins_off = is.pins_off; drawn = is.drawn }) (swept least l) (more l.retired (swept_are_loose least (with_lent l) w.stocked))
+      all_weaker (IsLoose (with_lent l)) (IsLoose l)
+      (λ f is. record { sources = is.sources; pins_off = is.pins_off; drawn = is.drawn }) (swept least l)
+      (more l.retired (swept_are_loose least (with_lent l) w.stocked))
     where
       more : (rs : List Retired)
-          → AllByRecursion (IsLoose (with_lent l)) (map (λ (r : Retired). r.file) (filter (λ r. not (is_held (pins l) r) && is_retired_up_to least r) (loose (lent_numbers l.job) ++ rs)))
-          → AllByRecursion (IsLoose (with_lent l)) (map (λ (r : Retired). r.file) (filter (λ r. not (is_held (pins l) r) && is_retired_up_to least r) rs))
+          → AllByRecursion (IsLoose (with_lent l))
+          (map (λ (r : Retired). r.file)
+          (filter (λ r. not (is_held (pins l) r) && is_retired_up_to least r) (loose (lent_numbers l.job) ++ rs)))
+          → AllByRecursion (IsLoose (with_lent l))
+          (map (λ (r : Retired). r.file) (filter (λ r. not (is_held (pins l) r) && is_retired_up_to least r) rs))
       more rs all = behind (loose (lent_numbers l.job)) all
         where
           behind : (xs : List Retired)
-              → AllByRecursion (IsLoose (with_lent l)) (map (λ (r : Retired). r.file) (filter (λ r. not (is_held (pins l) r) && is_retired_up_to least r) (xs ++ rs)))
-              → AllByRecursion (IsLoose (with_lent l)) (map (λ (r : Retired). r.file) (filter (λ r. not (is_held (pins l) r) && is_retired_up_to least r) rs))
+              → AllByRecursion (IsLoose (with_lent l))
+              (map (λ (r : Retired). r.file) (filter (λ r. not (is_held (pins l) r) && is_retired_up_to least r) (xs ++ rs)))
+              → AllByRecursion (IsLoose (with_lent l))
+              (map (λ (r : Retired). r.file) (filter (λ r. not (is_held (pins l) r) && is_retired_up_to least r) rs))
           behind [] all = all
           behind (x ∷ xs) all = by_test (not (is_held (pins l) x) && is_retired_up_to least x) all (behind xs)
             where
               by_test : (b : Bool)
-                  → AllByRecursion (IsLoose (with_lent l)) (map (λ (r : Retired). r.file) (cond b (x ∷ filter (λ r. not (is_held (pins l) r) && is_retired_up_to least r) (xs ++ rs)) (filter (λ r. not (is_held (pins l) r) && is_retired_up_to least r) (xs ++ rs))))
-                  → (AllByRecursion (IsLoose (with_lent l)) (map (λ (r : Retired). r.file) (filter (λ r. not (is_held (pins l) r) && is_retired_up_to least r) (xs ++ rs))) → AllByRecursion (IsLoose (with_lent l)) (map (λ (r : Retired). r.file) (filter (λ r. not (is_held (pins l) r) && is_retired_up_to least r) rs)))
-                  → AllByRecursion (IsLoose (with_lent l)) (map (λ (r : Retired). r.file) (filter (λ r. not (is_held (pins l) r) && is_retired_up_to least r) rs))
+                  → AllByRecursion (IsLoose (with_lent l))
+                  (map (λ (r : Retired). r.file)
+                  (cond b (x ∷ filter (λ r. not (is_held (pins l) r) && is_retired_up_to least r) (xs ++ rs))
+                  (filter (λ r. not (is_held (pins l) r) && is_retired_up_to least r) (xs ++ rs))))
+                  → (AllByRecursion (IsLoose (with_lent l))
+                  (map (λ (r : Retired). r.file)
+                  (filter (λ r. not (is_held (pins l) r) && is_retired_up_to least r) (xs ++ rs)))
+                  → AllByRecursion (IsLoose (with_lent l))
+                  (map (λ (r : Retired). r.file) (filter (λ r. not (is_held (pins l) r) && is_retired_up_to least r) rs)))
+                  → AllByRecursion (IsLoose (with_lent l))
+                  (map (λ (r : Retired). r.file) (filter (λ r. not (is_held (pins l) r) && is_retired_up_to least r) rs))
               by_test true all goes = goes all.1
               by_test false all goes = goes all

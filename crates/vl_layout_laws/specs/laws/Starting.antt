@@ -1,5 +1,6 @@
 -- What is kept tidy of a new store, and of its files by an opening.
-use Rattle.std.proofs.Common.{◌≡◌, ℕ, zero, suc, ◌+◌, ◌-◌, ◌<◌, max, min, Bool, true, false, cond, not, List, [], ◌∷◌, ◌++◌, take, refl, ap, sym, ◌∙◌, subst, arith}
+use Rattle.std.proofs.Common.{◌≡◌, ℕ, zero, suc, ◌+◌, ◌-◌, ◌<◌, max, min, Bool, true, false, cond, not, List, [], ◌∷◌}
+use Rattle.std.proofs.Common.{◌++◌, take, refl, ap, sym, ◌∙◌, subst, arith}
 use Rattle.std.specs.Prelude.{Some, None, ◌==◌}
 use Rattle.std.specs.List.{AllByRecursion, filter}
 use Rattle.vl_model.specs.History.{last_change, no_history, past_value, value_at, value_left}
@@ -8,7 +9,8 @@ use Rattle.vl_model.specs.laws.HistoryLaws.{past_value-empty}
 use Rattle.vl_model.specs.Winners.{Logs}
 use Rattle.vl_layout.specs.Levels.{level_at}
 use Rattle.vl_layout.specs.Rising.{IsRising}
-use Rattle.vl_layout.specs.Start.{IsWellRecovered, Recovered, fresh_layout, has_frames, layout_at_start, newest_first, nothing_found, number_of_log}
+use Rattle.vl_layout.specs.Start.{IsWellRecovered, Recovered, fresh_layout, has_frames, layout_at_start, newest_first}
+use Rattle.vl_layout.specs.Start.{nothing_found, number_of_log}
 use Rattle.vl_layout.specs.Stock.{IsFalling, IsLogOff, IsWellStocked}
 use Rattle.vl_layout.specs.Tidy.{IsTidy}
 use Rattle.vl_layout.specs.TidyLevels.{IsApart}
@@ -53,9 +55,11 @@ start_stocked room found is = record {
     logs_drawn =
         (omega arith, all_newest Drawn (filter has_frames found.logs) (all_filtered Drawn has_frames found.logs drawn));
     flushed_drawn =
-        all_both Drawn (filter (λ s. not (has_frames s)) found.logs) found.below (all_filtered Drawn (λ s. not (has_frames s)) found.logs drawn) is.below;
+        all_both Drawn (filter (λ s. not (has_frames s)) found.logs) found.below
+        (all_filtered Drawn (λ s. not (has_frames s)) found.logs drawn) is.below;
     falling = (
-      all_newest (λ (s : Segment). s.number < found.active) (filter has_frames found.logs) (all_filtered (λ (s : Segment). s.number < found.active) has_frames found.logs is.before),
+      all_newest (λ (s : Segment). s.number < found.active) (filter has_frames found.logs)
+          (all_filtered (λ (s : Segment). s.number < found.active) has_frames found.logs is.before),
       falling_newest (filter has_frames found.logs) (rising_filtered has_frames found.logs is.rising),
     );
     footed = is.footed;
@@ -72,7 +76,8 @@ start_stocked room found is = record {
 
     drawn : AllByRecursion (λ (s : Segment). s.number < max found.next_log (found.active + 1)) found.logs
     drawn =
-        all_weaker (λ (s : Segment). s.number < found.active) (λ (s : Segment). s.number < max found.next_log (found.active + 1)) (λ s less. omega (arith, less)) found.logs is.before
+        all_weaker (λ (s : Segment). s.number < found.active)
+        (λ (s : Segment). s.number < max found.next_log (found.active + 1)) (λ s less. omega (arith, less)) found.logs is.before
 
     none_off : (ss : List Segment) → AllByRecursion (IsLogOff []) ss
     none_off [] = tt
@@ -111,6 +116,11 @@ fresh_tidy logs room = record {
   last = omega arith;
   some = omega arith;
   since = omega arith;
-  shows = record { values = λ key n from to. ap Some (sym (nothing_at n key)); meaning = λ key version. None; resolves = tt; gone_once = λ key version none. omega arith };
+  shows = record {
+    values = λ key n from to. ap Some (sym (nothing_at n key));
+    meaning = λ key version. None;
+    resolves = tt;
+    gone_once = λ key version none. omega arith;
+  };
   job = λ o no. absurd cc;
 }

@@ -1,5 +1,6 @@
 -- Each ruling keeps what is so of retired files, pins and numbers.
-use Rattle.std.proofs.Common.{◌≡◌, ◌⊎◌, inl, inr, ⊎_elim, ℕ, ◌+◌, ◌≤◌, ◌<◌, true, false, not, ◌||◌, List, [], ◌∷◌, ◌++◌, map, refl, ap, sym, ◌∙◌, subst, arith}
+use Rattle.std.proofs.Common.{◌≡◌, ◌⊎◌, inl, inr, ⊎_elim, ℕ, ◌+◌, ◌≤◌, ◌<◌, true, false, not, ◌||◌, List, [], ◌∷◌}
+use Rattle.std.proofs.Common.{◌++◌, map, refl, ap, sym, ◌∙◌, subst, arith}
 use Rattle.std.proofs.lemmas.Bool.{and_parts}
 use Rattle.std.proofs.lemmas.Bool.Decides.{nat_tests}
 use Rattle.std.specs.Prelude.{Option, Some, None, nat_lt, ◌==◌}
@@ -31,7 +32,9 @@ use Rattle.vl_layout.specs.declared.live.Live.{Live}
 use Rattle.vl_layout.specs.declared.live.Pin.{Pin}
 use Rattle.vl_layout.specs.declared.segment.Segment.{Segment}
 use Rattle.vl_layout.specs.declared.table.Table.{Table}
-use Rattle.vl_layout_laws.specs.laws.Files.{true_false, or_cases, or_left, or_right, neither, is_not, any-append, any-map, all_weaker, all_both, all_parts, all_filtered, all_passed, all_mapped, all_unmapped, same_file, none_live}
+use Rattle.vl_layout_laws.specs.laws.Files.{true_false, or_cases, or_left, or_right, neither, is_not, any-append}
+use Rattle.vl_layout_laws.specs.laws.Files.{any-map, all_weaker, all_both, all_parts, all_filtered, all_passed}
+use Rattle.vl_layout_laws.specs.laws.Files.{all_mapped, all_unmapped, same_file, none_live}
 use Rattle.vl_layout_laws.specs.laws.Stock.{head_least}
 use Rattle.vl_layout.specs.Stock.{is_in, leads, IsFooted, IsDrawn, IsUnneeded, IsOff, IsPinned, IsFalling, IsStocked}
 
@@ -52,7 +55,8 @@ module _ (l : Layout) (s : IsStocked l) where
       × AllByRecursion (IsPinned l.version_number l.retired) (job_pin l.job))
       × AllByRecursion (IsPinned l.version_number l.retired) (pass_pin l.pass)
   parts =
-      let outer = all_parts (IsPinned l.version_number l.retired) (map (λ (x : Live). x.pin) l.live ++ job_pin l.job) (pass_pin l.pass) s.pinned in
+      let outer = all_parts (IsPinned l.version_number l.retired) (map (λ (x : Live). x.pin) l.live ++ job_pin l.job)
+      (pass_pin l.pass) s.pinned in
       (all_parts (IsPinned l.version_number l.retired) (map (λ (x : Live). x.pin) l.live) (job_pin l.job) outer.0, outer.1)
 
   together : (live job pass : List Pin) → AllByRecursion (IsPinned l.version_number l.retired) live
@@ -68,7 +72,8 @@ module _ (l : Layout) (s : IsStocked l) where
     retired_drawn = s.retired_drawn;
     pinned = together (map (λ (x : Live). x.pin) (begun l ticket number).live) (job_pin l.job) (pass_pin l.pass)
         (all_mapped (IsPinned l.version_number l.retired) (λ (x : Live). x.pin) (begun l ticket number).live
-        (all-put_by (λ (x : Live). x.ticket) (λ (x : Live). IsPinned l.version_number l.retired x.pin) (record { ticket = ticket; number = number; pin = pin_of l }) l.live (own_pin l s)
+        (all-put_by (λ (x : Live). x.ticket) (λ (x : Live). IsPinned l.version_number l.retired x.pin)
+        (record { ticket = ticket; number = number; pin = pin_of l }) l.live (own_pin l s)
         (all_unmapped (IsPinned l.version_number l.retired) (λ (x : Live). x.pin) l.live parts.0.0)))
         parts.0.1 parts.1;
     tables_drawn = s.tables_drawn;
@@ -169,7 +174,8 @@ module _ (l : Layout) (s : IsStocked l) where
       (λ p is. record {
         old = let less = is.old in omega (arith, less);
         off = all_both (IsOff p) l.retired fresh is.off
-            (all_weaker (λ (r : Retired). r.version_number ≡ l.version_number + 1) (IsOff p) (λ r here. let less = is.old in inl (omega (arith, less, here))) fresh at);
+            (all_weaker (λ (r : Retired). r.version_number ≡ l.version_number + 1) (IsOff p)
+            (λ r here. let less = is.old in inl (omega (arith, less, here))) fresh at);
       })
       ps all
 
@@ -186,8 +192,10 @@ stocked_relocated l s records = record {
   unneeded = s.unneeded;
   retired_drawn = s.retired_drawn;
   pinned =
-      subst (λ (ps : List Pin). AllByRecursion (IsPinned (l.version_number + 1) l.retired) ((map (λ (x : Live). x.pin) l.live ++ ps) ++ pass_pin l.pass)) (sym (noted_pin (l.version_number + 1) records l.job))
-      (subst (λ (rs : List Retired). AllByRecursion (IsPinned (l.version_number + 1) rs) (pins l)) (nothing_more l.retired) (later_pins l s [] tt (pins l) s.pinned));
+      subst (λ (ps : List Pin). AllByRecursion (IsPinned (l.version_number + 1) l.retired)
+      ((map (λ (x : Live). x.pin) l.live ++ ps) ++ pass_pin l.pass)) (sym (noted_pin (l.version_number + 1) records l.job))
+      (subst (λ (rs : List Retired). AllByRecursion (IsPinned (l.version_number + 1) rs) (pins l))
+      (nothing_more l.retired) (later_pins l s [] tt (pins l) s.pinned));
   tables_drawn = s.tables_drawn;
   logs_drawn = s.logs_drawn;
   flushed_drawn = s.flushed_drawn;
@@ -208,7 +216,9 @@ pub still_unneeded : (next_log next_table : ℕ) (before now : List FileName) �
     → AllByRecursion (IsUnneeded now) rs
 still_unneeded next_log next_table before now gains [] un drawn = tt
 still_unneeded next_log next_table before now gains (r ∷ rs) un drawn = (
-  is_not (is_in r.file now) (λ there. ⊎_elim (λ (was : is_in r.file before ≡ true). true_false (sym was ∙ un.0)) (λ (new : IsDrawn next_log next_table r.file → ⊥). new drawn.0) (gains r.file there)),
+  is_not (is_in r.file now)
+      (λ there. ⊎_elim (λ (was : is_in r.file before ≡ true). true_false (sym was ∙ un.0))
+      (λ (new : IsDrawn next_log next_table r.file → ⊥). new drawn.0) (gains r.file there)),
   still_unneeded next_log next_table before now gains rs un.1 drawn.1,
 )
 
@@ -221,7 +231,8 @@ drawn_later a b c d al bl (Manifest n) is = is
 pub needed_parts : (f : FileName) (ts : List FileName) (ps ls : List FileName) → is_in f ((ts ++ ps) ++ ls) ≡ true
     → (is_in f ts ≡ true) ⊎ ((is_in f ps ≡ true) ⊎ (is_in f ls ≡ true))
 needed_parts f ts ps ls there = ⊎_elim
-    (λ (front : is_in f (ts ++ ps) ≡ true). ⊎_elim (λ (one : is_in f ts ≡ true). inl one) (λ (two : is_in f ps ≡ true). inr (inl two)) (or_cases (is_in f ts) (is_in f ps) (sym (any-append (is_same f) ts ps) ∙ front)))
+    (λ (front : is_in f (ts ++ ps) ≡ true). ⊎_elim (λ (one : is_in f ts ≡ true). inl one)
+    (λ (two : is_in f ps ≡ true). inr (inl two)) (or_cases (is_in f ts) (is_in f ps) (sym (any-append (is_same f) ts ps) ∙ front)))
     (λ (back : is_in f ls ≡ true). inr (inr back))
     (or_cases (is_in f (ts ++ ps)) (is_in f ls) (sym (any-append (is_same f) (ts ++ ps) ls) ∙ there))
 
@@ -247,7 +258,9 @@ new_log_gains next_log next_table ts ps ls f there = ⊎_elim
     (λ (other : (is_in f ps ≡ true) ⊎ (is_in f (Log next_log ∷ ls) ≡ true)). ⊎_elim
     (λ (two : is_in f ps ≡ true). inl (in_points f ts ps ls two))
     (λ (three : is_in f (Log next_log ∷ ls) ≡ true). ⊎_elim
-    (λ (here : is_same f (Log next_log) ≡ true). inr (λ drawn. let less : next_log < next_log = subst (IsDrawn next_log next_table) (same_file f (Log next_log) here) drawn in omega (arith, less)))
+    (λ (here : is_same f (Log next_log) ≡ true). inr
+    (λ drawn. let less : next_log < next_log = subst (IsDrawn next_log next_table) (same_file f (Log next_log) here)
+    drawn in omega (arith, less)))
     (λ (later : is_in f ls ≡ true). inl (in_logs f ts ps ls later))
     (or_cases (is_same f (Log next_log)) (is_in f ls) three))
     other)
@@ -256,18 +269,25 @@ new_log_gains next_log next_table ts ps ls f there = ⊎_elim
 pub stocked_rotated : (l : Layout) → IsStocked l → IsStocked (rotated l)
 stocked_rotated l s = record {
   unneeded = still_unneeded l.next_log l.next_table (needed l) (needed (rotated l))
-      (new_log_gains l.next_log l.next_table (map table_of (tables l)) (flat_map pointed_logs (tables l)) (map log_of (l.active ∷ l.frozen)))
+      (new_log_gains l.next_log l.next_table (map table_of (tables l)) (flat_map pointed_logs (tables l))
+      (map log_of (l.active ∷ l.frozen)))
       l.retired s.unneeded s.retired_drawn;
   retired_drawn =
       all_weaker (λ (r : Retired). IsDrawn l.next_log l.next_table r.file) (λ (r : Retired). IsDrawn (l.next_log + 1) l.next_table r.file)
-      (λ r is. drawn_later l.next_log l.next_table (l.next_log + 1) l.next_table (omega arith) (omega arith) r.file is) l.retired s.retired_drawn;
+      (λ r is. drawn_later l.next_log l.next_table (l.next_log + 1) l.next_table (omega arith) (omega arith) r.file is)
+      l.retired s.retired_drawn;
   pinned =
-      subst (λ (rs : List Retired). AllByRecursion (IsPinned (l.version_number + 1) rs) (pins l)) (nothing_more l.retired) (later_pins l s [] tt (pins l) s.pinned);
+      subst (λ (rs : List Retired). AllByRecursion (IsPinned (l.version_number + 1) rs) (pins l))
+      (nothing_more l.retired) (later_pins l s [] tt (pins l) s.pinned);
   tables_drawn = s.tables_drawn;
-  logs_drawn =
-      (omega arith, all_weaker (λ (x : Segment). x.number < l.next_log) (λ (x : Segment). x.number < l.next_log + 1) (λ x less. omega (arith, less)) (l.active ∷ l.frozen) s.logs_drawn);
+  logs_drawn = (
+    omega arith,
+    all_weaker (λ (x : Segment). x.number < l.next_log) (λ (x : Segment). x.number < l.next_log + 1)
+        (λ x less. omega (arith, less)) (l.active ∷ l.frozen) s.logs_drawn,
+  );
   flushed_drawn =
-      all_weaker (λ (x : Segment). x.number < l.next_log) (λ (x : Segment). x.number < l.next_log + 1) (λ x less. omega (arith, less)) l.flushed s.flushed_drawn;
+      all_weaker (λ (x : Segment). x.number < l.next_log) (λ (x : Segment). x.number < l.next_log + 1)
+      (λ x less. omega (arith, less)) l.flushed s.flushed_drawn;
   falling = (s.logs_drawn, s.falling);
   footed = s.footed;
 }
@@ -313,11 +333,12 @@ idle_unneeded l footed falling s idle =
 all_put : (P : Segment → Type 0) (s : Segment) (ss : List Segment) → P s → AllByRecursion P ss
     → AllByRecursion P (put_segment s ss)
 all_put P s [] here all = (here, tt)
-all_put P s (t ∷ ts) here all = elim (nat_cmp s.number t.number) as (λ r. AllByRecursion P (by_order r (s ∷ t ∷ ts) (s ∷ ts) (t ∷ put_segment s ts))) [
-  | Less ↦ (here, all)
-  | Equal ↦ (here, all.1)
-  | Greater ↦ (all.0, all_put P s ts here all.1)
-]
+all_put P s (t ∷ ts) here all = elim (nat_cmp s.number t.number) as
+    (λ r. AllByRecursion P (by_order r (s ∷ t ∷ ts) (s ∷ ts) (t ∷ put_segment s ts))) [
+      | Less ↦ (here, all)
+      | Equal ↦ (here, all.1)
+      | Greater ↦ (all.0, all_put P s ts here all.1)
+    ]
 
 pub all_rising : (P : Segment → Type 0) (ss : List Segment) → AllByRecursion P ss → AllByRecursion P (rising ss)
 all_rising P [] all = tt
@@ -338,23 +359,30 @@ module _ (l : Layout) (s : IsStocked l) (dropped : List Table)
   fresh =
       map (retired_at l.version_number) (map table_of dropped ++ map log_of (rising (filter (is_idle l) l.flushed)))
 
-  idle_logs : AllByRecursion (λ (x : Segment). (is_in (log_of x) (needed l) ≡ false) × (x.number < l.next_log)) (rising (filter (is_idle l) l.flushed))
+  idle_logs : AllByRecursion (λ (x : Segment). (is_in (log_of x) (needed l) ≡ false) × (x.number < l.next_log))
+      (rising (filter (is_idle l) l.flushed))
   idle_logs =
       all_rising (λ (x : Segment). (is_in (log_of x) (needed l) ≡ false) × (x.number < l.next_log)) (filter (is_idle l) l.flushed)
-      (all_passed (λ (x : Segment). x.number < l.next_log) (λ (x : Segment). (is_in (log_of x) (needed l) ≡ false) × (x.number < l.next_log)) (is_idle l)
+      (all_passed (λ (x : Segment). x.number < l.next_log)
+      (λ (x : Segment). (is_in (log_of x) (needed l) ≡ false) × (x.number < l.next_log)) (is_idle l)
       (λ x drawn idle. (idle_unneeded l s.footed s.falling x idle, drawn)) l.flushed s.flushed_drawn)
 
-  fresh_are : AllByRecursion (λ (r : Retired). IsUnneeded (needed l) r × (IsDrawn l.next_log l.next_table r.file × (r.version_number ≡ l.version_number)))
+  fresh_are : AllByRecursion
+      (λ (r : Retired). IsUnneeded (needed l) r × (IsDrawn l.next_log l.next_table r.file × (r.version_number ≡ l.version_number)))
       (map (retired_at l.version_number) (map table_of dropped ++ map log_of (rising (filter (is_idle l) l.flushed))))
   fresh_are =
       let Q : Retired → Type 0 =
       λ r. IsUnneeded (needed l) r × (IsDrawn l.next_log l.next_table r.file × (r.version_number ≡ l.version_number)) in
       all_mapped Q (retired_at l.version_number) (map table_of dropped ++ map log_of (rising (filter (is_idle l) l.flushed)))
-      (all_both (λ (f : FileName). Q (retired_at l.version_number f)) (map table_of dropped) (map log_of (rising (filter (is_idle l) l.flushed)))
+      (all_both (λ (f : FileName). Q (retired_at l.version_number f)) (map table_of dropped)
+      (map log_of (rising (filter (is_idle l) l.flushed)))
       (all_mapped (λ (f : FileName). Q (retired_at l.version_number f)) table_of dropped
-      (all_weaker (λ (t : Table). (is_in (table_of t) (needed l) ≡ false) × (t.number < l.next_table)) (λ (t : Table). Q (retired_at l.version_number (table_of t))) (λ t is. (is.0, (is.1, refl))) dropped free))
+      (all_weaker (λ (t : Table). (is_in (table_of t) (needed l) ≡ false) × (t.number < l.next_table))
+      (λ (t : Table). Q (retired_at l.version_number (table_of t))) (λ t is. (is.0, (is.1, refl))) dropped free))
       (all_mapped (λ (f : FileName). Q (retired_at l.version_number f)) log_of (rising (filter (is_idle l) l.flushed))
-      (all_weaker (λ (x : Segment). (is_in (log_of x) (needed l) ≡ false) × (x.number < l.next_log)) (λ (x : Segment). Q (retired_at l.version_number (log_of x))) (λ x is. (is.0, (is.1, refl))) (rising (filter (is_idle l) l.flushed)) idle_logs)))
+      (all_weaker (λ (x : Segment). (is_in (log_of x) (needed l) ≡ false) × (x.number < l.next_log))
+      (λ (x : Segment). Q (retired_at l.version_number (log_of x))) (λ x is. (is.0, (is.1, refl)))
+      (rising (filter (is_idle l) l.flushed)) idle_logs)))
 
   pub stocked_switched : IsStocked (switched dropped l)
   stocked_switched =
@@ -366,15 +394,20 @@ module _ (l : Layout) (s : IsStocked l) (dropped : List Table)
         unneeded =
             all_both (IsUnneeded (needed l)) l.retired new s.unneeded (all_weaker Q (IsUnneeded (needed l)) (λ r is. is.0) new fresh_are);
         retired_drawn =
-            all_both (λ (r : Retired). IsDrawn l.next_log l.next_table r.file) l.retired new s.retired_drawn (all_weaker Q (λ (r : Retired). IsDrawn l.next_log l.next_table r.file) (λ r is. is.1.0) new fresh_are);
+            all_both (λ (r : Retired). IsDrawn l.next_log l.next_table r.file) l.retired new s.retired_drawn
+            (all_weaker Q (λ (r : Retired). IsDrawn l.next_log l.next_table r.file) (λ r is. is.1.0) new fresh_are);
         pinned =
-            all_weaker (λ (p : Pin). IsPinned l.version_number l.retired p × (p.version_number < l.version_number)) (IsPinned l.version_number (l.retired ++ new))
+            all_weaker (λ (p : Pin). IsPinned l.version_number l.retired p × (p.version_number < l.version_number))
+            (IsPinned l.version_number (l.retired ++ new))
             (λ p is. record {
               old = is.0.old;
               off =
-                  all_both (IsOff p) l.retired new is.0.off (all_weaker Q (IsOff p) (λ r at. let less = is.1 in let here = at.1.1 in inl (omega (arith, less, here))) new fresh_are);
+                  all_both (IsOff p) l.retired new is.0.off
+                  (all_weaker Q (IsOff p) (λ r at. let less = is.1 in let here = at.1.1 in inl
+                  (omega (arith, less, here))) new fresh_are);
             })
-            (pins l) (both_all (IsPinned l.version_number l.retired) (λ (p : Pin). p.version_number < l.version_number) (pins l) s.pinned early);
+            (pins l) (both_all (IsPinned l.version_number l.retired) (λ (p : Pin). p.version_number < l.version_number)
+            (pins l) s.pinned early);
         tables_drawn = s.tables_drawn;
         logs_drawn = s.logs_drawn;
         flushed_drawn =

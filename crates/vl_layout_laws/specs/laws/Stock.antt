@@ -37,7 +37,9 @@ not_needed r [] off free = tt
 not_needed r (p ∷ ps) off free =
     let both = or_false (nat_lt p.version_number r.version_number) (is_held ps r) free in (
       ⊎_elim
-          (λ (less : p.version_number < r.version_number). absurd (let h = both.0 in let t : nat_lt p.version_number r.version_number ≡ true = grind (arith, nat_tests) in true_false (sym t ∙ h)))
+          (λ (less : p.version_number < r.version_number). absurd
+          (let h = both.0 in let t : nat_lt p.version_number r.version_number ≡ true = grind (arith, nat_tests)
+          in true_false (sym t ∙ h)))
           (λ (unneeded : is_in r.file p.needs ≡ false). unneeded)
           off.0,
       not_needed r ps off.1 both.1,
@@ -55,15 +57,23 @@ swept_are_loose least l s =
     (λ (r : Retired). IsUnneeded (needed l) r × (IsDrawn l.next_log l.next_table r.file × AllByRecursion (λ (p : Pin). IsOff p r) (pins l)))
     (λ (r : Retired). IsLoose l r.file)
     (λ r. not (is_held (pins l) r) && is_retired_up_to least r)
-    (λ r is free. record { sources = is.0; pins_off = not_needed r (pins l) is.1.1 (not_true (is_held (pins l) r) (and_parts (not (is_held (pins l) r)) (is_retired_up_to least r) free).0); drawn = is.1.0 })
+    (λ r is free. record {
+      sources = is.0;
+      pins_off = not_needed r (pins l) is.1.1
+          (not_true (is_held (pins l) r) (and_parts (not (is_held (pins l) r)) (is_retired_up_to least r) free).0);
+      drawn = is.1.0;
+    })
     l.retired
     (three l.retired s.unneeded s.retired_drawn
-    (transposed IsOff (pins l) l.retired (all_weaker (IsPinned l.version_number l.retired) (λ (p : Pin). AllByRecursion (IsOff p) l.retired) (λ p is. is.off) (pins l) s.pinned))))
+    (transposed IsOff (pins l) l.retired
+    (all_weaker (IsPinned l.version_number l.retired) (λ (p : Pin). AllByRecursion (IsOff p) l.retired)
+    (λ p is. is.off) (pins l) s.pinned))))
   where
     three : (rs : List Retired) → AllByRecursion (IsUnneeded (needed l)) rs
         → AllByRecursion (λ (r : Retired). IsDrawn l.next_log l.next_table r.file) rs
         → AllByRecursion (λ (r : Retired). AllByRecursion (λ (p : Pin). IsOff p r) (pins l)) rs
-        → AllByRecursion (λ (r : Retired). IsUnneeded (needed l) r × (IsDrawn l.next_log l.next_table r.file × AllByRecursion (λ (p : Pin). IsOff p r) (pins l))) rs
+        → AllByRecursion (λ (r : Retired). IsUnneeded (needed l) r
+        × (IsDrawn l.next_log l.next_table r.file × AllByRecursion (λ (p : Pin). IsOff p r) (pins l))) rs
     three [] a b c = tt
     three (r ∷ rs) a b c = ((a.0, (b.0, c.0)), three rs a.1 b.1 c.1)
 

@@ -17,7 +17,8 @@ use Rattle.vl_layout.specs.declared.live.Live.{Live}
 use Rattle.vl_layout.specs.declared.live.Pin.{Pin}
 use Rattle.vl_layout.specs.declared.segment.Segment.{Segment}
 use Rattle.vl_layout.specs.declared.table.Table.{Table}
-use Rattle.vl_layout_laws.specs.laws.Files.{true_false, neither, is_not, any-append, any-map, all_weaker, all_both, all_parts, all_passed, all_mapped, picked, everything}
+use Rattle.vl_layout_laws.specs.laws.Files.{true_false, neither, is_not, any-append, any-map, all_weaker, all_both}
+use Rattle.vl_layout_laws.specs.laws.Files.{all_parts, all_passed, all_mapped, picked, everything}
 use Rattle.vl_layout_laws.specs.laws.Switches.{all_replaced, seen, early_pins}
 use Rattle.vl_layout_laws.specs.laws.Steps.{drawn_later, needed_parts, in_tables, in_points, in_logs, is_pointed, not_in, stocked_switched}
 use Rattle.vl_layout.specs.Stock.{is_in, leads, IsFooted, IsDrawn, IsUnneeded, IsOff, IsPinned, IsStocked, PointsDrawn, IsDrawnWhole}
@@ -27,7 +28,8 @@ use Rattle.vl_layout.specs.Stock.{is_in, leads, IsFooted, IsDrawn, IsUnneeded, I
 pub needed_drawn : (l : Layout) → IsStocked l → AllByRecursion (PointsDrawn l.next_log) (tables l)
     → AllByRecursion (IsDrawn l.next_log l.next_table) (needed l)
 needed_drawn l s points =
-    all_both (IsDrawn l.next_log l.next_table) (map table_of (tables l) ++ flat_map pointed_logs (tables l)) (map log_of (l.active ∷ l.frozen))
+    all_both (IsDrawn l.next_log l.next_table) (map table_of (tables l) ++ flat_map pointed_logs (tables l))
+    (map log_of (l.active ∷ l.frozen))
     (all_both (IsDrawn l.next_log l.next_table) (map table_of (tables l)) (flat_map pointed_logs (tables l))
     (all_mapped (IsDrawn l.next_log l.next_table) table_of (tables l) s.tables_drawn)
     (flat (tables l) points))
@@ -60,14 +62,18 @@ stocked_lent l s d =
     let new : Retired = retired_at 0 (TableFile l.next_table) in
     record {
       unneeded =
-          all_both (IsUnneeded (needed l)) l.retired (new ∷ []) s.unneeded (not_drawn_yet l.next_log l.next_table (needed l) (needed_drawn l s d.points), tt);
+          all_both (IsUnneeded (needed l)) l.retired (new ∷ []) s.unneeded
+          (not_drawn_yet l.next_log l.next_table (needed l) (needed_drawn l s d.points), tt);
       retired_drawn = all_both (λ (r : Retired). IsDrawn l.next_log (l.next_table + 1) r.file) l.retired (new ∷ [])
-          (all_weaker (λ (r : Retired). IsDrawn l.next_log l.next_table r.file) (λ (r : Retired). IsDrawn l.next_log (l.next_table + 1) r.file)
-          (λ r is. drawn_later l.next_log l.next_table l.next_log (l.next_table + 1) (omega arith) (omega arith) r.file is) l.retired s.retired_drawn)
+          (all_weaker (λ (r : Retired). IsDrawn l.next_log l.next_table r.file)
+          (λ (r : Retired). IsDrawn l.next_log (l.next_table + 1) r.file)
+          (λ r is. drawn_later l.next_log l.next_table l.next_log (l.next_table + 1) (omega arith) (omega arith) r.file
+          is) l.retired s.retired_drawn)
           (omega arith, tt);
       pinned = two (pins l) s.pinned d.pins_drawn;
       tables_drawn =
-          all_weaker (λ (t : Table). t.number < l.next_table) (λ (t : Table). t.number < l.next_table + 1) (λ t less. omega (arith, less)) (tables l) s.tables_drawn;
+          all_weaker (λ (t : Table). t.number < l.next_table) (λ (t : Table). t.number < l.next_table + 1)
+          (λ t less. omega (arith, less)) (tables l) s.tables_drawn;
       logs_drawn = s.logs_drawn;
       flushed_drawn = s.flushed_drawn;
       falling = s.falling;
@@ -82,7 +88,8 @@ stocked_lent l s d =
       record {
         old = a.0.old;
         off =
-            all_both (IsOff p) l.retired (retired_at 0 (TableFile l.next_table) ∷ []) a.0.off (inr (not_drawn_yet l.next_log l.next_table p.needs b.0), tt);
+            all_both (IsOff p) l.retired (retired_at 0 (TableFile l.next_table) ∷ []) a.0.off
+            (inr (not_drawn_yet l.next_log l.next_table p.needs b.0), tt);
       },
       two ps a.1 b.1,
     )
@@ -105,7 +112,9 @@ still_off : (made : List Table) (before now : List FileName)
     → AllByRecursion (IsUnneeded now) rs
 still_off made before now gains [] un off = tt
 still_off made before now gains (r ∷ rs) un off = (
-  is_not (is_in r.file now) (λ there. ⊎_elim (λ (was : is_in r.file before ≡ true). true_false (sym was ∙ un.0)) (λ (new : is_in r.file (map table_of made) ≡ true). true_false (sym new ∙ off.0)) (gains r.file there)),
+  is_not (is_in r.file now)
+      (λ there. ⊎_elim (λ (was : is_in r.file before ≡ true). true_false (sym was ∙ un.0))
+      (λ (new : is_in r.file (map table_of made) ≡ true). true_false (sym new ∙ off.0)) (gains r.file there)),
   still_off made before now gains rs un.1 off.1,
 )
 
@@ -119,7 +128,8 @@ module _ (l : Layout) (job : Job) (made : List Table) (rest : List Retired) (k :
     -- and no input is one of them
     (apart : AllByRecursion (λ (t : Table). is_among job.inputs t ≡ false) made)
     (footed : AllByRecursion IsFooted made)
-    (into : (n : ℕ) → AllByRecursion (λ (t : Table). leads n t.points ≡ true → list_any (λ (u : Table). leads n u.points) (tables l) ≡ true) made) where
+    (into : (n : ℕ) → AllByRecursion
+    (λ (t : Table). leads n t.points ≡ true → list_any (λ (u : Table). leads n u.points) (tables l) ≡ true) made) where
   after : List Table
   after = flat_map (λ ts. ts) (replaced job.target job.inputs made l.levels)
 
@@ -133,8 +143,10 @@ module _ (l : Layout) (job : Job) (made : List Table) (rest : List Retired) (k :
       (all_weaker (λ (t : Table). is_same f (table_of t) ≡ true → list_any (λ (u : Table). is_same f (table_of u)) made ≡ true) Q
       (λ t is at. inr (any-map (is_same f) table_of made ∙ is at)) made (seen (λ (u : Table). is_same f (table_of u)) made))
       job.target l.levels
-      (all_weaker (λ (t : Table). is_same f (table_of t) ≡ true → list_any (λ (u : Table). is_same f (table_of u)) (tables l) ≡ true) (λ (t : Table). is_among job.inputs t ≡ false → Q t)
-      (λ t is out at. inl (in_tables f (map table_of (tables l)) (flat_map pointed_logs (tables l)) (map log_of (l.active ∷ l.frozen)) (any-map (is_same f) table_of (tables l) ∙ is at)))
+      (all_weaker (λ (t : Table). is_same f (table_of t) ≡ true
+      → list_any (λ (u : Table). is_same f (table_of u)) (tables l) ≡ true) (λ (t : Table). is_among job.inputs t ≡ false → Q t)
+      (λ t is out at. inl (in_tables f (map table_of (tables l)) (flat_map pointed_logs (tables l))
+      (map log_of (l.active ∷ l.frozen)) (any-map (is_same f) table_of (tables l) ∙ is at)))
       (tables l) (seen (λ (u : Table). is_same f (table_of u)) (tables l))))
       (sym (any-map (is_same f) table_of (tables (putting l job made rest))) ∙ there) in
       found.2 found.1
@@ -146,7 +158,8 @@ module _ (l : Layout) (job : Job) (made : List Table) (rest : List Retired) (k :
       λ t. leads n t.points ≡ true → list_any (λ (u : Table). leads n u.points) (tables l) ≡ true in
       let found = picked Q (λ (t : Table). leads n t.points) (tables (putting l job made rest))
       (all_replaced Q job.inputs made (into n) job.target l.levels
-      (all_weaker Q (λ (t : Table). is_among job.inputs t ≡ false → Q t) (λ t is out. is) (tables l) (seen (λ (t : Table). leads n t.points) (tables l))))
+      (all_weaker Q (λ (t : Table). is_among job.inputs t ≡ false → Q t) (λ t is out. is) (tables l)
+      (seen (λ (t : Table). leads n t.points) (tables l))))
       there in
       found.2 found.1
 
@@ -154,7 +167,8 @@ module _ (l : Layout) (job : Job) (made : List Table) (rest : List Retired) (k :
   no_pointed_table n [] = refl
   no_pointed_table n (t ∷ ts) =
       any-append (is_same (TableFile n)) (pointed_logs t) (flat_map pointed_logs ts)
-      ∙ neither (is_in (TableFile n) (pointed_logs t)) (is_in (TableFile n) (flat_map pointed_logs ts)) (never t.points) (no_pointed_table n ts)
+      ∙ neither (is_in (TableFile n) (pointed_logs t)) (is_in (TableFile n) (flat_map pointed_logs ts)) (never t.points)
+      (no_pointed_table n ts)
     where
       never : (ps : List Point) → is_in (TableFile n) (map (λ (p : Point). Log p.segment) ps) ≡ false
       never [] = refl
@@ -164,7 +178,8 @@ module _ (l : Layout) (job : Job) (made : List Table) (rest : List Retired) (k :
   no_pointed_manifest n [] = refl
   no_pointed_manifest n (t ∷ ts) =
       any-append (is_same (Manifest n)) (pointed_logs t) (flat_map pointed_logs ts)
-      ∙ neither (is_in (Manifest n) (pointed_logs t)) (is_in (Manifest n) (flat_map pointed_logs ts)) (never t.points) (no_pointed_manifest n ts)
+      ∙ neither (is_in (Manifest n) (pointed_logs t)) (is_in (Manifest n) (flat_map pointed_logs ts)) (never t.points)
+      (no_pointed_manifest n ts)
     where
       never : (ps : List Point) → is_in (Manifest n) (map (λ (p : Point). Log p.segment) ps) ≡ false
       never [] = refl
@@ -186,21 +201,26 @@ module _ (l : Layout) (job : Job) (made : List Table) (rest : List Retired) (k :
       ⊎_elim
       (λ (one : is_in f (map table_of (tables (putting l job made rest))) ≡ true). put_names f one)
       (λ (other : (is_in f (flat_map pointed_logs (tables (putting l job made rest))) ≡ true) ⊎ (is_in f L ≡ true)). ⊎_elim
-      (λ (two : is_in f (flat_map pointed_logs (tables (putting l job made rest))) ≡ true). inl (in_points f (map table_of (tables l)) (flat_map pointed_logs (tables l)) L (put_points f two)))
+      (λ (two : is_in f (flat_map pointed_logs (tables (putting l job made rest))) ≡ true). inl
+      (in_points f (map table_of (tables l)) (flat_map pointed_logs (tables l)) L (put_points f two)))
       (λ (three : is_in f L ≡ true). inl (in_logs f (map table_of (tables l)) (flat_map pointed_logs (tables l)) L three))
       other)
       (needed_parts f (map table_of (tables (putting l job made rest))) (flat_map pointed_logs (tables (putting l job made rest))) L there)
 
   put_free_pins : AllByRecursion (IsPinned l.version_number rest) (pins (putting l job made rest))
   put_free_pins =
-      let outer = all_parts (IsPinned l.version_number rest) (map (λ (x : Live). x.pin) l.live ++ job_pin l.job) (pass_pin l.pass) rest_pinned in
+      let outer = all_parts (IsPinned l.version_number rest) (map (λ (x : Live). x.pin) l.live ++ job_pin l.job)
+      (pass_pin l.pass) rest_pinned in
       let inner = all_parts (IsPinned l.version_number rest) (map (λ (x : Live). x.pin) l.live) (job_pin l.job) outer.0 in
       all_both (IsPinned l.version_number rest) (map (λ (x : Live). x.pin) l.live ++ []) (pass_pin l.pass)
       (all_both (IsPinned l.version_number rest) (map (λ (x : Live). x.pin) l.live) [] inner.0 tt) outer.1
 
-  put_inputs_gone : AllByRecursion (λ (t : Table). (is_in (table_of t) (needed (putting l job made rest)) ≡ false) × (t.number < l.next_table)) (filter (is_among job.inputs) (tables l))
+  put_inputs_gone : AllByRecursion
+      (λ (t : Table). (is_in (table_of t) (needed (putting l job made rest)) ≡ false) × (t.number < l.next_table))
+      (filter (is_among job.inputs) (tables l))
   put_inputs_gone =
-      all_passed (λ (t : Table). t.number < l.next_table) (λ (t : Table). (is_in (table_of t) (needed (putting l job made rest)) ≡ false) × (t.number < l.next_table)) (is_among job.inputs)
+      all_passed (λ (t : Table). t.number < l.next_table)
+      (λ (t : Table). (is_in (table_of t) (needed (putting l job made rest)) ≡ false) × (t.number < l.next_table)) (is_among job.inputs)
       (λ t drawn input. (gone t input, drawn))
       (tables l) k.tables_drawn
     where
@@ -213,12 +233,15 @@ module _ (l : Layout) (job : Job) (made : List Table) (rest : List Retired) (k :
 
       gone : (t : Table) → is_among job.inputs t ≡ true → is_in (table_of t) (needed (putting l job made rest)) ≡ false
       gone t input =
-          not_in (table_of t) (map table_of (tables (putting l job made rest))) (flat_map pointed_logs (tables (putting l job made rest))) (map log_of (l.active ∷ l.frozen))
+          not_in (table_of t) (map table_of (tables (putting l job made rest)))
+          (flat_map pointed_logs (tables (putting l job made rest))) (map log_of (l.active ∷ l.frozen))
           (is_not (is_in (table_of t) (map table_of (tables (putting l job made rest)))) (λ there.
           let Q : Table → Type 0 = λ u. (t.number == u.number) ≡ true → ⊥ in
           let found = picked Q (λ (u : Table). is_same (table_of t) (table_of u)) (tables (putting l job made rest))
           (all_replaced Q job.inputs made
-          (all_weaker (λ (u : Table). is_among job.inputs u ≡ false) Q (λ u out at. let e : t.number ≡ u.number = grind (arith, nat_tests, at) in true_false (sym input ∙ same_number t u e ∙ out)) made apart)
+          (all_weaker (λ (u : Table). is_among job.inputs u ≡ false) Q
+          (λ u out at. let e : t.number ≡ u.number = grind (arith, nat_tests, at) in true_false
+          (sym input ∙ same_number t u e ∙ out)) made apart)
           job.target l.levels
           (all_weaker (λ (u : Table). Unit {0}) (λ (u : Table). is_among job.inputs u ≡ false → Q u)
           (λ u any out at. let e : t.number ≡ u.number = grind (arith, nat_tests, at) in true_false (sym input ∙ same_number t u e ∙ out))
@@ -234,10 +257,13 @@ module _ (l : Layout) (job : Job) (made : List Table) (rest : List Retired) (k :
         unneeded = still_off made (needed l) (needed (putting l job made rest)) put_gains rest rest_unneeded off;
         retired_drawn = rest_drawn;
         pinned =
-            all_weaker (IsPinned l.version_number rest) (IsPinned (l.version_number + 1) rest) (λ p is. record { old = (let less = is.old in omega (arith, less)); off = is.off }) (pins (putting l job made rest)) put_free_pins;
+            all_weaker (IsPinned l.version_number rest) (IsPinned (l.version_number + 1) rest)
+            (λ p is. record { old = (let less = is.old in omega (arith, less)); off = is.off })
+            (pins (putting l job made rest)) put_free_pins;
         tables_drawn =
             all_replaced (λ (t : Table). t.number < l.next_table) job.inputs made given job.target l.levels
-            (all_weaker (λ (t : Table). t.number < l.next_table) (λ (t : Table). is_among job.inputs t ≡ false → t.number < l.next_table) (λ t less out. less) (tables l) k.tables_drawn);
+            (all_weaker (λ (t : Table). t.number < l.next_table)
+            (λ (t : Table). is_among job.inputs t ≡ false → t.number < l.next_table) (λ t less out. less) (tables l) k.tables_drawn);
         logs_drawn = k.logs_drawn;
         flushed_drawn = k.flushed_drawn;
         falling = k.falling;

@@ -1,5 +1,6 @@
 -- So do a flush, an install and a sweep.
-use Rattle.std.proofs.Common.{◌≡◌, ◌⊎◌, inl, inr, ⊎_elim, ℕ, ◌+◌, ◌<◌, Bool, true, false, cond, not, List, [], ◌∷◌, ◌++◌, map, refl, ap, sym, ◌∙◌, subst, arith}
+use Rattle.std.proofs.Common.{◌≡◌, ◌⊎◌, inl, inr, ⊎_elim, ℕ, ◌+◌, ◌<◌, Bool, true, false, cond, not, List, [], ◌∷◌}
+use Rattle.std.proofs.Common.{◌++◌, map, refl, ap, sym, ◌∙◌, subst, arith}
 use Rattle.std.proofs.lemmas.Bool.Decides.{nat_tests}
 use Rattle.std.specs.Prelude.{Option, Some, None, nat_le, nat_lt, ◌==◌, length}
 use Rattle.std.specs.List.{AllByRecursion, flat_map, list_any, filter}
@@ -32,9 +33,13 @@ use Rattle.vl_layout.specs.declared.layout.Layout.{Layout}
 use Rattle.vl_layout.specs.declared.live.Pin.{Pin}
 use Rattle.vl_layout.specs.declared.segment.Segment.{Segment}
 use Rattle.vl_layout.specs.declared.table.Table.{Table}
-use Rattle.vl_layout_laws.specs.laws.Files.{true_false, or_cases, or_left, or_right, any-append, any-map, all_weaker, all_both, all_parts, all_filtered, all_passed, same_file, itself, leads-points}
-use Rattle.vl_layout_laws.specs.laws.Steps.{Gains, still_unneeded, drawn_later, needed_parts, in_tables, in_points, in_logs, later_pins, nothing_more, stocked_switched}
-use Rattle.vl_layout.specs.Stock.{is_in, leads, is_body_into, is_into, HasBytesAt, HasBytes, IsFooted, IsDrawn, IsUnneeded, IsOff, IsPinned, IsFalling, IsStocked}
+use Rattle.vl_layout_laws.specs.laws.Files.{true_false, or_cases, or_left, or_right, any-append, any-map, all_weaker}
+use Rattle.vl_layout_laws.specs.laws.Files.{all_both, all_parts, all_filtered, all_passed, same_file, itself}
+use Rattle.vl_layout_laws.specs.laws.Files.{leads-points}
+use Rattle.vl_layout_laws.specs.laws.Steps.{Gains, still_unneeded, drawn_later, needed_parts, in_tables, in_points}
+use Rattle.vl_layout_laws.specs.laws.Steps.{in_logs, later_pins, nothing_more, stocked_switched}
+use Rattle.vl_layout.specs.Stock.{is_in, leads, is_body_into, is_into, HasBytesAt, HasBytes, IsFooted, IsDrawn}
+use Rattle.vl_layout.specs.Stock.{IsUnneeded, IsOff, IsPinned, IsFalling, IsStocked}
 use Rattle.vl_model.specs.Keys.{value_length}
 use Rattle.vl_model.specs.Formats.{record_head}
 
@@ -61,8 +66,11 @@ some_head format = elim (nat_le format 1) as (λ b. 0 < cond b 7 8) [ true ↦ o
 own_records : (format number : ℕ) (rs : List LogRecord)
     → AllByRecursion (IsOwn number) (map (record_entry format number) rs)
 own_records format number [] = tt
-own_records format number (r ∷ rs) =
-    (own_record number r r.change (pointer_to format number r) refl (let some = some_head format in omega (arith, some)), own_records format number rs)
+own_records format number (r ∷ rs) = (
+  own_record number r r.change (pointer_to format number r) refl
+      (let some = some_head format in omega (arith, some)),
+  own_records format number rs,
+)
 
 own_logged : (format number place : ℕ) (fs : List LogFrame)
     → AllByRecursion (IsOwn number) (logged_entries format number place fs)
@@ -81,7 +89,9 @@ placed_body number (Inline value) own = (tt, λ n is. absurd (true_false (sym is
 placed_body number Gone own = (tt, λ n is. absurd (true_false (sym is)))
 placed_body number (Far pointer) own = absurd own
 placed_body number (Logged value pointer) own =
-    elim (nat_le (value_length value) max_inline_bytes) as (λ t. HasBytesAt (cond t (Inline value) (Far pointer)) × ((n : ℕ) → is_body_into n (cond t (Inline value) (Far pointer)) ≡ true → n ≡ number)) [
+    elim (nat_le (value_length value) max_inline_bytes) as
+    (λ t. HasBytesAt (cond t (Inline value) (Far pointer))
+    × ((n : ℕ) → is_body_into n (cond t (Inline value) (Far pointer)) ≡ true → n ≡ number)) [
       | true ↦ (tt, λ n is. absurd (true_false (sym is)))
       | false ↦ (own.1, λ n is. let e : n ≡ pointer.segment = grind (arith, nat_tests, is) in e ∙ own.0)
     ]
@@ -104,8 +114,12 @@ placed_into number n (e ∷ es) own there = ⊎_elim
 -- a file among a table's pointed logs is one that its entries lead into
 pointed_into : (f : FileName) (t : Table) → t.points ≡ points_of t.entries → is_in f (pointed_logs t) ≡ true
     → (n : ℕ) × (f ≡ Log n) × (list_any (is_into n) t.entries ≡ true)
-pointed_into (Log n) t are there =
-    (n, refl, sym (leads-points n t.entries) ∙ ap (leads n) (sym are) ∙ sym (any-map (is_same (Log n)) (λ (p : Point). Log p.segment) t.points) ∙ there)
+pointed_into (Log n) t are there = (
+  n,
+  refl,
+  sym (leads-points n t.entries) ∙ ap (leads n) (sym are)
+      ∙ sym (any-map (is_same (Log n)) (λ (p : Point). Log p.segment) t.points) ∙ there,
+)
 pointed_into (TableFile n) t are there = absurd (never t.points there)
   where
     never : (ps : List Point) → is_in (TableFile n) (map (λ (p : Point). Log p.segment) ps) ≡ true → ⊥
@@ -134,7 +148,8 @@ but_oldest_in f [] there = there
 but_oldest_in f (t ∷ []) there = absurd (true_false (sym there))
 but_oldest_in f (t ∷ u ∷ us) there = ⊎_elim
     (λ (here : is_same f (log_of t) ≡ true). or_left (is_same f (log_of t)) (is_in f (map log_of (u ∷ us))) here)
-    (λ (later : is_in f (map log_of (but_oldest (u ∷ us))) ≡ true). or_right (is_same f (log_of t)) (is_in f (map log_of (u ∷ us))) (but_oldest_in f (u ∷ us) later))
+    (λ (later : is_in f (map log_of (but_oldest (u ∷ us))) ≡ true). or_right (is_same f (log_of t))
+    (is_in f (map log_of (u ∷ us))) (but_oldest_in f (u ∷ us) later))
     (or_cases (is_same f (log_of t)) (is_in f (map log_of (but_oldest (u ∷ us)))) there)
 
 all_but_oldest : (P : Segment → Type 0) (ss : List Segment) → AllByRecursion P ss → AllByRecursion P (but_oldest ss)
@@ -167,7 +182,9 @@ new_table_gains next_log next_table t ts a s ss numbered are into waits f there 
     let L = map log_of (a ∷ ss) in
     ⊎_elim
     (λ (one : is_in f (table_of t ∷ T) ≡ true). ⊎_elim
-    (λ (here : is_same f (table_of t) ≡ true). inr (λ drawn. let less : t.number < next_table = subst (IsDrawn next_log next_table) (same_file f (table_of t) here) drawn in omega (arith, less, numbered)))
+    (λ (here : is_same f (table_of t) ≡ true). inr
+    (λ drawn. let less : t.number < next_table = subst (IsDrawn next_log next_table) (same_file f (table_of t) here)
+    drawn in omega (arith, less, numbered)))
     (λ (later : is_in f T ≡ true). inl (in_tables f T P L later))
     (or_cases (is_same f (table_of t)) (is_in f T) one))
     (λ (other : (is_in f (pointed_logs t ++ P) ≡ true) ⊎ (is_in f (map log_of (a ∷ but_oldest ss)) ≡ true)). ⊎_elim
@@ -175,12 +192,14 @@ new_table_gains next_log next_table t ts a s ss numbered are into waits f there 
     (λ (here : is_in f (pointed_logs t) ≡ true).
     let to = pointed_into f t are here in
     let same : f ≡ log_of s = to.1 ∙ ap Log (into to.0 to.2) in
-    inl (in_logs f T P L (or_right (is_same f (log_of a)) (is_in f (map log_of ss)) (oldest_in f ss s waits (ap (is_same f) (sym same) ∙ itself f)))))
+    inl (in_logs f T P L (or_right (is_same f (log_of a)) (is_in f (map log_of ss))
+    (oldest_in f ss s waits (ap (is_same f) (sym same) ∙ itself f)))))
     (λ (later : is_in f P ≡ true). inl (in_points f T P L later))
     (or_cases (is_in f (pointed_logs t)) (is_in f P) (sym (any-append (is_same f) (pointed_logs t) P) ∙ two)))
     (λ (three : is_in f (map log_of (a ∷ but_oldest ss)) ≡ true). inl (in_logs f T P L (⊎_elim
     (λ (here : is_same f (log_of a) ≡ true). or_left (is_same f (log_of a)) (is_in f (map log_of ss)) here)
-    (λ (later : is_in f (map log_of (but_oldest ss)) ≡ true). or_right (is_same f (log_of a)) (is_in f (map log_of ss)) (but_oldest_in f ss later))
+    (λ (later : is_in f (map log_of (but_oldest ss)) ≡ true). or_right (is_same f (log_of a)) (is_in f (map log_of ss))
+    (but_oldest_in f ss later))
     (or_cases (is_same f (log_of a)) (is_in f (map log_of (but_oldest ss))) three))))
     other)
     (needed_parts f (table_of t ∷ T) (pointed_logs t ++ P) (map log_of (a ∷ but_oldest ss)) there)
@@ -209,18 +228,26 @@ stocked_flushed l s level deeper k waits are =
     ap (λ (levels : List (List Table)). flat_map (λ ts. ts) (in_front t levels)) are
     ∙ ap (λ (levels : List (List Table)). t ∷ flat_map (λ ts. ts) levels) (sym are) in
     let gains : Gains l.next_log l.next_table (needed l) (needed (flushing l s)) =
-    subst (λ (ts : List Table). Gains l.next_log l.next_table (needed l) ((map table_of ts ++ flat_map pointed_logs ts) ++ map log_of (l.active ∷ but_oldest l.frozen))) (sym new)
-    (new_table_gains l.next_log l.next_table t (tables l) l.active s l.frozen refl refl (λ n there. placed_into s.number n (memtable s) (own_memtable s) there) waits) in
+    subst (λ (ts : List Table). Gains l.next_log l.next_table (needed l)
+    ((map table_of ts ++ flat_map pointed_logs ts) ++ map log_of (l.active ∷ but_oldest l.frozen))) (sym new)
+    (new_table_gains l.next_log l.next_table t (tables l) l.active s l.frozen refl refl
+    (λ n there. placed_into s.number n (memtable s) (own_memtable s) there) waits) in
     let stocked : IsStocked (flushing l s) = record {
       unneeded =
           still_unneeded l.next_log l.next_table (needed l) (needed (flushing l s)) gains l.retired k.unneeded k.retired_drawn;
       retired_drawn =
-          all_weaker (λ (r : Retired). IsDrawn l.next_log l.next_table r.file) (λ (r : Retired). IsDrawn l.next_log (l.next_table + 1) r.file)
-          (λ r is. drawn_later l.next_log l.next_table l.next_log (l.next_table + 1) (omega arith) (omega arith) r.file is) l.retired k.retired_drawn;
+          all_weaker (λ (r : Retired). IsDrawn l.next_log l.next_table r.file)
+          (λ (r : Retired). IsDrawn l.next_log (l.next_table + 1) r.file)
+          (λ r is. drawn_later l.next_log l.next_table l.next_log (l.next_table + 1) (omega arith) (omega arith) r.file
+          is) l.retired k.retired_drawn;
       pinned =
-          subst (λ (rs : List Retired). AllByRecursion (IsPinned (l.version_number + 1) rs) (pins l)) (nothing_more l.retired) (later_pins l k [] tt (pins l) k.pinned);
-      tables_drawn = subst (AllByRecursion (λ (u : Table). u.number < l.next_table + 1)) (sym new)
-          (omega arith, all_weaker (λ (u : Table). u.number < l.next_table) (λ (u : Table). u.number < l.next_table + 1) (λ u less. omega (arith, less)) (tables l) k.tables_drawn);
+          subst (λ (rs : List Retired). AllByRecursion (IsPinned (l.version_number + 1) rs) (pins l))
+          (nothing_more l.retired) (later_pins l k [] tt (pins l) k.pinned);
+      tables_drawn = subst (AllByRecursion (λ (u : Table). u.number < l.next_table + 1)) (sym new) (
+        omega arith,
+        all_weaker (λ (u : Table). u.number < l.next_table) (λ (u : Table). u.number < l.next_table + 1)
+            (λ u less. omega (arith, less)) (tables l) k.tables_drawn,
+      );
       logs_drawn =
           (k.logs_drawn.0, all_but_oldest (λ (x : Segment). x.number < l.next_log) l.frozen k.logs_drawn.1);
       flushed_drawn =
@@ -228,7 +255,8 @@ stocked_flushed l s level deeper k waits are =
       falling =
           (all_but_oldest (λ (x : Segment). x.number < l.active.number) l.frozen k.falling.0, falling_but_oldest l.frozen k.falling.1);
       footed =
-          subst (AllByRecursion IsFooted) (sym new) (record { points = refl; bytes = placed_bytes s.number (memtable s) (own_memtable s) }, k.footed);
+          subst (AllByRecursion IsFooted) (sym new)
+          (record { points = refl; bytes = placed_bytes s.number (memtable s) (own_memtable s) }, k.footed);
     } in
     stocked_switched (flushing l s) stocked [] (early_pins l.version_number l.retired (pins l) k.pinned) tt
 
@@ -241,7 +269,8 @@ module _ (P : Table → Type 0) (inputs : List ℕ) (new : List Table) (made : A
   all_without : (ts : List Table) → AllByRecursion (λ (t : Table). is_among inputs t ≡ false → P t) ts
       → AllByRecursion P (without inputs ts)
   all_without ts all =
-      all_passed (λ (t : Table). is_among inputs t ≡ false → P t) P (λ t. not (is_among inputs t)) (λ t stays is. stays (not_true (is_among inputs t) is)) ts all
+      all_passed (λ (t : Table). is_among inputs t ≡ false → P t) P (λ t. not (is_among inputs t))
+      (λ t stays is. stays (not_true (is_among inputs t) is)) ts all
     where
       not_true : (b : Bool) → not b ≡ true → b ≡ false
       not_true true h = absurd (true_false (sym h))
@@ -259,9 +288,13 @@ module _ (P : Table → Type 0) (inputs : List ℕ) (new : List Table) (made : A
   all_at_level n [] all = tt
   all_at_level n (ts ∷ deeper) all =
       let both = all_parts P ts (flat_map (λ xs. xs) deeper) all in
-      elim (n == 0) as (λ b. AllByRecursion P (flat_map (λ xs. xs) (cond b (in_key_order new ts ∷ deeper) (ts ∷ at_level (Rattle.std.specs.Prelude.◌-◌ n 1) (in_key_order new) deeper)))) [
+      elim (n == 0) as (λ b. AllByRecursion P
+      (flat_map (λ xs. xs) (cond b (in_key_order new ts ∷ deeper)
+      (ts ∷ at_level (Rattle.std.specs.Prelude.◌-◌ n 1) (in_key_order new) deeper)))) [
         | true ↦ all_both P (in_key_order new ts) (flat_map (λ xs. xs) deeper) (all_in_key_order ts both.0) both.1
-        | false ↦ all_both P ts (flat_map (λ xs. xs) (at_level (Rattle.std.specs.Prelude.◌-◌ n 1) (in_key_order new) deeper)) both.0 (all_at_level (Rattle.std.specs.Prelude.◌-◌ n 1) deeper both.1)
+        | false ↦ all_both P ts (flat_map (λ xs. xs)
+            (at_level (Rattle.std.specs.Prelude.◌-◌ n 1) (in_key_order new) deeper)) both.0
+            (all_at_level (Rattle.std.specs.Prelude.◌-◌ n 1) deeper both.1)
       ]
 
   all_levels_without : (levels : List (List Table))
@@ -270,7 +303,8 @@ module _ (P : Table → Type 0) (inputs : List ℕ) (new : List Table) (made : A
   all_levels_without [] all = tt
   all_levels_without (ts ∷ deeper) all =
       let both = all_parts (λ (t : Table). is_among inputs t ≡ false → P t) ts (flat_map (λ xs. xs) deeper) all in
-      all_both P (without inputs ts) (flat_map (λ xs. xs) (map (without inputs) deeper)) (all_without ts both.0) (all_levels_without deeper both.1)
+      all_both P (without inputs ts) (flat_map (λ xs. xs) (map (without inputs) deeper)) (all_without ts both.0)
+      (all_levels_without deeper both.1)
 
   pub all_swapped : (ts : List Table) → AllByRecursion (λ (t : Table). is_among inputs t ≡ false → P t) ts
       → AllByRecursion P (flat_map (λ t. cond (is_among inputs t) new (t ∷ [])) ts)
@@ -289,7 +323,9 @@ module _ (P : Table → Type 0) (inputs : List ℕ) (new : List Table) (made : A
   all_in_place [] all = tt
   all_in_place (ts ∷ deeper) all =
       let both = all_parts (λ (t : Table). is_among inputs t ≡ false → P t) ts (flat_map (λ xs. xs) deeper) all in
-      all_both P (flat_map (λ t. cond (is_among inputs t) new (t ∷ [])) ts) (flat_map (λ xs. xs) (map (flat_map (λ t. cond (is_among inputs t) new (t ∷ []))) deeper)) (all_swapped ts both.0) (all_in_place deeper both.1)
+      all_both P (flat_map (λ t. cond (is_among inputs t) new (t ∷ [])) ts)
+      (flat_map (λ xs. xs) (map (flat_map (λ t. cond (is_among inputs t) new (t ∷ []))) deeper))
+      (all_swapped ts both.0) (all_in_place deeper both.1)
 
   -- what is so of the new tables and of all that isn't an input is so of what stands afterwards
   pub all_replaced : (target : Target) (levels : List (List Table))
@@ -301,8 +337,11 @@ module _ (P : Table → Type 0) (inputs : List ℕ) (new : List Table) (made : A
 -- where a test is passed, it is passed by some of all
 pub seen : {X : Type 0} (p : X → Bool) (xs : List X) → AllByRecursion (λ (x : X). p x ≡ true → list_any p xs ≡ true) xs
 seen p [] = tt
-seen p (x ∷ xs) =
-    ((λ is. or_left (p x) (list_any p xs) is), all_weaker (λ y. p y ≡ true → list_any p xs ≡ true) (λ y. p y ≡ true → list_any p (x ∷ xs) ≡ true) (λ y is at. or_right (p x) (list_any p xs) (is at)) xs (seen p xs))
+seen p (x ∷ xs) = (
+  (λ is. or_left (p x) (list_any p xs) is),
+  all_weaker (λ y. p y ≡ true → list_any p xs ≡ true)
+      (λ y. p y ≡ true → list_any p (x ∷ xs) ≡ true) (λ y is at. or_right (p x) (list_any p xs) (is at)) xs (seen p xs),
+)
 
 pub each_of : (Q : Entry → Type 0) (ess : List (List Entry)) → AllByRecursion Q (joined ess)
     → AllByRecursion (AllByRecursion Q) ess
@@ -316,10 +355,16 @@ stocked_swept l gone k = record {
   unneeded =
       all_filtered (IsUnneeded (needed l)) (λ (r : Retired). not (list_any (is_same r.file) gone)) l.retired k.unneeded;
   retired_drawn =
-      all_filtered (λ (r : Retired). IsDrawn l.next_log l.next_table r.file) (λ (r : Retired). not (list_any (is_same r.file) gone)) l.retired k.retired_drawn;
+      all_filtered (λ (r : Retired). IsDrawn l.next_log l.next_table r.file)
+      (λ (r : Retired). not (list_any (is_same r.file) gone)) l.retired k.retired_drawn;
   pinned =
-      all_weaker (IsPinned l.version_number l.retired) (IsPinned l.version_number (filter (λ (r : Retired). not (list_any (is_same r.file) gone)) l.retired))
-      (λ p is. record { old = is.old; off = all_filtered (IsOff p) (λ (r : Retired). not (list_any (is_same r.file) gone)) l.retired is.off }) (pins l) k.pinned;
+      all_weaker (IsPinned l.version_number l.retired)
+      (IsPinned l.version_number (filter (λ (r : Retired). not (list_any (is_same r.file) gone)) l.retired))
+      (λ p is. record {
+        old = is.old;
+        off = all_filtered (IsOff p)
+            (λ (r : Retired). not (list_any (is_same r.file) gone)) l.retired is.off;
+      }) (pins l) k.pinned;
   tables_drawn = k.tables_drawn;
   logs_drawn = k.logs_drawn;
   flushed_drawn = k.flushed_drawn;

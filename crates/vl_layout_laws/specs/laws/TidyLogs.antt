@@ -1,5 +1,6 @@
 -- Logs and what is placed in them: behind a rotation, and behind a switch that retires some.
-use Rattle.std.proofs.Common.{◌≡◌, ℕ, ◌+◌, ◌-◌, ◌<◌, Bool, true, false, cond, not, ◌&&◌, ◌||◌, List, [], ◌∷◌, ◌++◌, map, length, refl, ap, sym, ◌∙◌, subst, arith, append_assoc}
+use Rattle.std.proofs.Common.{◌≡◌, ℕ, ◌+◌, ◌-◌, ◌<◌, Bool, true, false, cond, not, ◌&&◌, ◌||◌, List, [], ◌∷◌, ◌++◌}
+use Rattle.std.proofs.Common.{map, length, refl, ap, sym, ◌∙◌, subst, arith, append_assoc}
 use Rattle.std.proofs.lemmas.Bool.Decides.{nat_tests}
 use Rattle.std.specs.Prelude.{Some, ◌==◌, nat_le, nat_lt}
 use Rattle.std.specs.List.{AllByRecursion, filter, list_any}
@@ -116,17 +117,21 @@ format_stays q [] (y ∷ ys) n f busy is = by (y.number == n) refl is (format_st
   where
     by : (b : Bool) → (y.number == n) ≡ b → cond b (Some y.format) (format_of ys n) ≡ Some f
         → (format_of ys n ≡ Some f → format_of (filter (λ (s : Segment). not (q s.number)) ys) n ≡ Some f)
-        → format_of (cond (not (q y.number)) (y ∷ filter (λ (s : Segment). not (q s.number)) ys) (filter (λ (s : Segment). not (q s.number)) ys)) n
+        → format_of (cond (not (q y.number)) (y ∷ filter (λ (s : Segment). not (q s.number)) ys)
+        (filter (λ (s : Segment). not (q s.number)) ys)) n
         ≡ Some f
     by true at is later =
         let same : n ≡ y.number = grind (arith, nat_tests, at) in
         let stays : q y.number ≡ false = subst (λ (m : ℕ). q m ≡ false) same busy in
-        ap (λ b. format_of (cond (not b) (y ∷ filter (λ (s : Segment). not (q s.number)) ys) (filter (λ (s : Segment). not (q s.number)) ys)) n) stays
+        ap (λ b. format_of (cond (not b) (y ∷ filter (λ (s : Segment). not (q s.number)) ys)
+        (filter (λ (s : Segment). not (q s.number)) ys)) n) stays
         ∙ ap (λ b. cond b (Some y.format) (format_of (filter (λ (s : Segment). not (q s.number)) ys) n)) at ∙ is
-    by false at is later = elim (q y.number) as (λ c. format_of (cond (not c) (y ∷ filter (λ (s : Segment). not (q s.number)) ys) (filter (λ (s : Segment). not (q s.number)) ys)) n ≡ Some f) [
-      | true ↦ later is
-      | false ↦ ap (λ b. cond b (Some y.format) (format_of (filter (λ (s : Segment). not (q s.number)) ys) n)) at ∙ later is
-    ]
+    by false at is later = elim (q y.number) as
+        (λ c. format_of (cond (not c) (y ∷ filter (λ (s : Segment). not (q s.number)) ys)
+        (filter (λ (s : Segment). not (q s.number)) ys)) n ≡ Some f) [
+          | true ↦ later is
+          | false ↦ ap (λ b. cond b (Some y.format) (format_of (filter (λ (s : Segment). not (q s.number)) ys) n)) at ∙ later is
+        ]
 format_stays q (x ∷ xs) ys n f busy is = by (x.number == n) is (format_stays q xs ys n f busy)
   where
     by : (b : Bool) → cond b (Some x.format) (format_of (xs ++ ys) n) ≡ Some f
@@ -138,7 +143,8 @@ format_stays q (x ∷ xs) ys n f busy is = by (x.number == n) is (format_stays q
 -- ---- what is placed
 
 -- a body is placed in other logs, where each far one's log is there with its format
-pub placed_so : (ss ts : List Segment) (key : List ℕ) (b : Body) → ((n f : ℕ) → is_into n (record { key = key; version = 0; body = b }) ≡ true → format_of ss n ≡ Some f → format_of ts n ≡ Some f)
+pub placed_so : (ss ts : List Segment) (key : List ℕ) (b : Body)
+    → ((n f : ℕ) → is_into n (record { key = key; version = 0; body = b }) ≡ true → format_of ss n ≡ Some f → format_of ts n ≡ Some f)
     → IsPlacedAt ss key b → IsPlacedAt ts key b
 placed_so ss ts key (Inline value) so at = at
 placed_so ss ts key Gone so at = tt
@@ -177,7 +183,8 @@ switched_placed l dropped footed placed_all =
   where
     each : (ts : List Table) → AllByRecursion IsFooted ts
         → AllByRecursion (λ (t : Table). AllByRecursion (IsPlacedIn (sealed l)) t.entries) ts
-        → AllByRecursion (λ (t : Table). (n : ℕ) → leads n t.points ≡ true → list_any (λ (u : Table). leads n u.points) (tables l) ≡ true) ts
+        → AllByRecursion (λ (t : Table). (n : ℕ) → leads n t.points ≡ true
+        → list_any (λ (u : Table). leads n u.points) (tables l) ≡ true) ts
         → AllByRecursion (λ (t : Table). AllByRecursion (IsPlacedIn (sealed (switched dropped l))) t.entries) ts
     each [] foot all lead = tt
     each (t ∷ ts) foot all lead = (
@@ -201,7 +208,8 @@ module _ (format number : ℕ) where
   abbrev pub IsInLog : Entry → Type 0
   IsInLog e = IsOfLog format number e.key e.body
 
-  of_record : (r : LogRecord) (c : Change) → IsOfLog format number r.key (logged_body c (record { segment = number; place = r.place; length = record_length format r.key c }))
+  of_record : (r : LogRecord) (c : Change)
+      → IsOfLog format number r.key (logged_body c (record { segment = number; place = r.place; length = record_length format r.key c }))
   of_record r (Set value) = (refl, refl)
   of_record r Delete = tt
 

@@ -27,7 +27,8 @@ use Rattle.vl_layout.specs.Relocation.{Candidate, Pass, moved_of}
 use Rattle.vl_layout.specs.Ruling.{Ruling, has_no_number, has_no_version, is_idle}
 use Rattle.vl_layout.specs.Rulings.Abandon.{abandon_ruling}
 use Rattle.vl_layout.specs.Rulings.Begin.{begin_ruling}
-use Rattle.vl_layout.specs.Rulings.Commit.{Transaction, commit_checked, commit_frame, commit_ruling, commit_running, commit_unless, committed}
+use Rattle.vl_layout.specs.Rulings.Commit.{Transaction, commit_checked, commit_frame, commit_ruling, commit_running}
+use Rattle.vl_layout.specs.Rulings.Commit.{commit_unless, committed}
 use Rattle.vl_layout.specs.Rulings.Drain.{drain_of, drain_ruling, drain_unless}
 use Rattle.vl_layout.specs.Rulings.EndPass.{end_pass_ruling}
 use Rattle.vl_layout.specs.Rulings.Flush.{flush_of, flush_ruling, flush_unless}
@@ -66,7 +67,10 @@ use Rattle.vl_layout_laws.specs.laws.LevelsKept.{levels_replaced}
 use Rattle.vl_layout_laws.specs.laws.PlanOpen.{drain_of-well, plan_of-well}
 use Rattle.vl_layout_laws.specs.laws.Switches.{all_replaced}
 use Rattle.vl_layout_laws.specs.laws.TidyLogs.{distinct_fewer, switched_placed}
-use Rattle.vl_layout_laws.specs.laws.TidySteps.{each_table, moved_known, of_tables, tidy_begun, tidy_committed, tidy_drawn, tidy_ended, tidy_flushed, tidy_job_ended, tidy_keeping, tidy_pass_ended, tidy_picked, tidy_planned, tidy_relocated, tidy_rotated, tidy_swept}
+use Rattle.vl_layout_laws.specs.laws.TidySteps.{each_table, moved_known, of_tables, tidy_begun, tidy_committed}
+use Rattle.vl_layout_laws.specs.laws.TidySteps.{tidy_drawn, tidy_ended, tidy_flushed, tidy_job_ended, tidy_keeping}
+use Rattle.vl_layout_laws.specs.laws.TidySteps.{tidy_pass_ended, tidy_picked, tidy_planned, tidy_relocated}
+use Rattle.vl_layout_laws.specs.laws.TidySteps.{tidy_rotated, tidy_swept}
 use Rattle.vl_layout_laws.specs.laws.WellInstalled.{well_installed}
 
 first_level : (levels : List (List Table)) → AreLevels levels
@@ -102,12 +106,14 @@ module _ (logs : Logs) (l : Layout) (h : History) (t : IsTidy logs l h) where
     checked : last_number h < max_commit_number → (conflict : Option Named) → LeavesTidy (commit_checked l h x conflict)
     checked room (Some named) = λ shows. tidy_ended logs l h t x.ticket
     checked room None =
-        either (nat_le (l.active.length + frame_length l.active.format (commit_frame h x.writes)) l.room) (committed l h x) _ (tidy_committed logs l h t x.ticket x.writes rising room) (λ no shows. t)
+        either (nat_le (l.active.length + frame_length l.active.format (commit_frame h x.writes)) l.room)
+        (committed l h x) _ (tidy_committed logs l h t x.ticket x.writes rising room) (λ no shows. t)
 
     running : (conflict : Option Named) → LeavesTidy (commit_running l h x conflict)
     running conflict =
         either (length x.writes == 0) _ _ (λ shows. tidy_ended logs l h t x.ticket)
-        (λ some. either (nat_le max_commit_number (last_number h)) _ _ (λ shows. t) (λ low. checked (grind (arith, nat_tests, low)) conflict))
+        (λ some. either (nat_le max_commit_number (last_number h)) _ _ (λ shows. t)
+        (λ low. checked (grind (arith, nat_tests, low)) conflict))
 
     unless : (halted : Option FileName) (conflict : Option Named) → LeavesTidy (commit_unless halted l h x conflict)
     unless (Some name) conflict = λ shows. tidy_ended logs l h t x.ticket
@@ -132,7 +138,8 @@ module _ (logs : Logs) (l : Layout) (h : History) (t : IsTidy logs l h) where
   rotate_by : (frames : List LogFrame) → LeavesTidy (rotate_of frames l h)
   rotate_by [] = λ shows. t
   rotate_by (f ∷ fs) =
-      either (has_no_number l.next_log 1) _ _ (λ shows. t) (λ one. either (has_no_version l) _ _ (λ shows. t) (λ two shows. tidy_rotated logs l h t shows))
+      either (has_no_number l.next_log 1) _ _ (λ shows. t)
+      (λ one. either (has_no_version l) _ _ (λ shows. t) (λ two shows. tidy_rotated logs l h t shows))
 
   rotate_unless-tidy : (halted : Option FileName) → LeavesTidy (rotate_unless halted l h)
   rotate_unless-tidy (Some name) = λ shows. t
@@ -145,7 +152,8 @@ module _ (logs : Logs) (l : Layout) (h : History) (t : IsTidy logs l h) where
   flush_by None is = λ shows. t
   flush_by (Some s) is =
       let first = first_level l.levels t.levels in
-      either (has_no_number l.next_table 1) _ _ (λ shows. t) (λ one. either (has_no_version l) _ _ (λ shows. t) (λ two shows. tidy_flushed logs l h t s is shows first.0 first.1 first.2))
+      either (has_no_number l.next_table 1) _ _ (λ shows. t)
+      (λ one. either (has_no_version l) _ _ (λ shows. t) (λ two shows. tidy_flushed logs l h t s is shows first.0 first.1 first.2))
 
   flush_unless-tidy : (halted : Option FileName) → LeavesTidy (flush_unless halted l h)
   flush_unless-tidy (Some name) = λ shows. t
@@ -163,7 +171,8 @@ module _ (logs : Logs) (l : Layout) (h : History) (t : IsTidy logs l h) where
   relocate_by [] known = λ shows. t
   relocate_by (m ∷ ms) known =
       either (has_no_version l) _ _ (λ shows. t)
-      (λ one. either (nat_le (l.active.length + frame_length l.active.format (Relocated (m ∷ ms))) l.room) _ _ (λ shows. tidy_relocated logs l h t (m ∷ ms) known shows) (λ two shows. t))
+      (λ one. either (nat_le (l.active.length + frame_length l.active.format (Relocated (m ∷ ms))) l.room) _ _
+      (λ shows. tidy_relocated logs l h t (m ∷ ms) known shows) (λ two shows. t))
 
   relocate_unless-tidy : (pass : Pass) (batch : List Candidate) (halted : Option FileName)
       → LeavesTidy (relocate_unless halted l h pass batch)
@@ -204,7 +213,8 @@ module _ (logs : Logs) (l : Layout) (h : History) (t : IsTidy logs l h) where
   drain_by segment None is = t
   drain_by segment (Some u) is =
       let job = job_of l h (u ∷ []) InPlace in
-      tidy_planned logs l h t job (drain_of-well l h t.levels t.files.stocked.tables_drawn t.some table_versions segment (Some u) is job refl)
+      tidy_planned logs l h t job
+      (drain_of-well l h t.levels t.files.stocked.tables_drawn t.some table_versions segment (Some u) is job refl)
 
   drain_unless-tidy : (segment : ℕ) (o : Option OpenJob)
       → IsTidy logs (drain_unless o l h segment).layout (drain_unless o l h segment).history
@@ -245,28 +255,36 @@ module _ (logs : Logs) (l : Layout) (h : History) (t : IsTidy logs l h) where
         → AllByRecursion (λ (u : Table). AllByRecursion Q u.entries) (tables (installed o.job made l))
     of_all Q each = all_replaced (λ (u : Table). AllByRecursion Q u.entries) o.job.inputs made.tables
         (subst (AllByRecursion (λ (u : Table). AllByRecursion Q u.entries)) (sym all.tables)
-        (all_made (AllByRecursion Q) (λ (u : Table). AllByRecursion Q u.entries) (λ n es these. these) all.numbers (outputs o.job) (made_from l h o.job o.moved (t.job o is) made all Q each)))
+        (all_made (AllByRecursion Q) (λ (u : Table). AllByRecursion Q u.entries) (λ n es these. these) all.numbers
+        (outputs o.job) (made_from l h o.job o.moved (t.job o is) made all Q each)))
         o.job.target l.levels
-        (all_weaker (λ (u : Table). AllByRecursion Q u.entries) (λ (u : Table). is_among o.job.inputs u ≡ false → AllByRecursion Q u.entries) (λ u these out. these) (tables l) each)
+        (all_weaker (λ (u : Table). AllByRecursion Q u.entries)
+        (λ (u : Table). is_among o.job.inputs u ≡ false → AllByRecursion Q u.entries) (λ u these out. these) (tables l) each)
 
     tidy_installed : ShowsLow logs (installed o.job made l) h → IsTidy logs (installed o.job made l) h
     tidy_installed shows = record {
       files = stocked;
       levels =
-          levels_replaced l h o.job o.moved (t.job o is) made all t.levels (distinct_made l h o is made t.files t.levels (t.job o is) all lent) (other_made l h o is made t.files t.levels (t.job o is) all lent);
+          levels_replaced l h o.job o.moved (t.job o is) made all t.levels
+          (distinct_made l h o is made t.files t.levels (t.job o is) all lent)
+          (other_made l h o is made t.files t.levels (t.job o is) all lent);
       true_tables = all_replaced IsTrueTable o.job.inputs made.tables
-          (subst (AllByRecursion IsTrueTable) (sym all.tables) (all_made (λ es. Unit {0}) IsTrueTable (λ n es any. refl) all.numbers (outputs o.job) (everything (outputs o.job))))
+          (subst (AllByRecursion IsTrueTable) (sym all.tables)
+          (all_made (λ es. Unit {0}) IsTrueTable (λ n es any. refl) all.numbers (outputs o.job) (everything (outputs o.job))))
           o.job.target l.levels
-          (all_weaker IsTrueTable (λ (u : Table). is_among o.job.inputs u ≡ false → IsTrueTable u) (λ u these out. these) (tables l) t.true_tables);
+          (all_weaker IsTrueTable (λ (u : Table). is_among o.job.inputs u ≡ false → IsTrueTable u)
+          (λ u these out. these) (tables l) t.true_tables);
       true_logs = (
         t.true_logs.0,
         (let parts = all_parts IsTrueLog l.frozen l.flushed t.true_logs.1 in
-            all_both IsTrueLog l.frozen (installed o.job made l).flushed parts.0 (all_filtered IsTrueLog (λ (x : Segment). not (is_idle (put_in o.job made l) x)) l.flushed parts.1)),
+            all_both IsTrueLog l.frozen (installed o.job made l).flushed parts.0
+            (all_filtered IsTrueLog (λ (x : Segment). not (is_idle (put_in o.job made l) x)) l.flushed parts.1)),
       );
       distinct =
           distinct_fewer (λ (x : Segment). not (is_idle (put_in o.job made l) x)) (l.active ∷ l.frozen) l.flushed t.distinct;
       placed =
-          switched_placed (put_in o.job made l) (filter (is_among o.job.inputs) (tables l)) stocked.stocked.footed (of_all (IsPlacedIn (sealed l)) t.placed);
+          switched_placed (put_in o.job made l) (filter (is_among o.job.inputs) (tables l)) stocked.stocked.footed
+          (of_all (IsPlacedIn (sealed l)) t.placed);
       versions = (let parts = all_parts (IsOf h) (memtable l.active) (behind_active l) t.versions in
           let behind = all_parts (IsOf h) (flat_map memtable l.frozen) (flat_map table_entries (tables l)) parts.1 in
           all_both (IsOf h) (memtable l.active) (behind_active (installed o.job made l)) parts.0

@@ -1,5 +1,6 @@
 -- What is kept tidy stays so behind each change of a layout, where what is left shows what it should.
-use Rattle.std.proofs.Common.{◌≡◌, ℕ, ◌+◌, ◌≤◌, ◌<◌, Bool, true, false, cond, not, List, [], ◌∷◌, ◌++◌, map, refl, ap, sym, ◌∙◌, subst, arith, length-append}
+use Rattle.std.proofs.Common.{◌≡◌, ℕ, ◌+◌, ◌≤◌, ◌<◌, Bool, true, false, cond, not, List, [], ◌∷◌, ◌++◌, map, refl, ap}
+use Rattle.std.proofs.Common.{sym, ◌∙◌, subst, arith, length-append}
 use Rattle.std.proofs.lemmas.Bool.{and_parts}
 use Rattle.std.proofs.lemmas.Bool.Decides.{nat_tests}
 use Rattle.std.proofs.lemmas.List.Sums.{sum_by-append}
@@ -55,13 +56,17 @@ use Rattle.vl_layout.specs.laws.CommitShows.{all_found}
 use Rattle.vl_layout.specs.laws.LayoutShows.{added, logged_entries-more, place_behind, sources-rotated}
 use Rattle.vl_layout.specs.laws.LowRulings.{begun_shows_low, ended_shows_low, keeping_shows_low}
 use Rattle.vl_layout.specs.laws.OrderShows.{all-taken_in}
-use Rattle.vl_layout_laws.specs.laws.Beside.{open_begun, open_committed, open_drawn, open_ended, open_flushed, open_keeping, open_picked, open_relocated, open_rotated, open_swept}
+use Rattle.vl_layout_laws.specs.laws.Beside.{open_begun, open_committed, open_drawn, open_ended, open_flushed}
+use Rattle.vl_layout_laws.specs.laws.Beside.{open_keeping, open_picked, open_relocated, open_rotated, open_swept}
 use Rattle.vl_layout_laws.specs.laws.Files.{all_both, all_filtered, all_parts, all_weaker, true_false}
 use Rattle.vl_layout_laws.specs.laws.Keeps.{frozen_parts}
 use Rattle.vl_layout_laws.specs.laws.LevelsKept.{levels_flushed}
 use Rattle.vl_layout_laws.specs.laws.Switches.{flushing}
-use Rattle.vl_layout_laws.specs.laws.TidyLogs.{all_placed_so, distinct_fewer, format_behind, format_there, memtable_placed, none_drawn, sealed_same, switched_placed}
-use Rattle.vl_layout_laws.specs.laws.WellStocked.{well_begun, well_drawn, well_ended, well_flushed, well_job_ended, well_keeping, well_logged, well_pass_ended, well_picked, well_planned, well_relocated, well_rotated, well_swept}
+use Rattle.vl_layout_laws.specs.laws.TidyLogs.{all_placed_so, distinct_fewer, format_behind, format_there}
+use Rattle.vl_layout_laws.specs.laws.TidyLogs.{memtable_placed, none_drawn, sealed_same, switched_placed}
+use Rattle.vl_layout_laws.specs.laws.WellStocked.{well_begun, well_drawn, well_ended, well_flushed, well_job_ended}
+use Rattle.vl_layout_laws.specs.laws.WellStocked.{well_keeping, well_logged, well_pass_ended, well_picked}
+use Rattle.vl_layout_laws.specs.laws.WellStocked.{well_planned, well_relocated, well_rotated, well_swept}
 
 -- ---- entries of all sources
 
@@ -83,8 +88,10 @@ all_logged : (P : Entry → Type 0) (l : Layout) (f : LogFrame) → AllByRecursi
 all_logged P l f new all =
     let parts = all_parts P (memtable l.active) (behind_active l) all in
     all_both P (memtable (logged f l).active) (behind_active l)
-    (subst (λ (es : List Entry). AllByRecursion P (in_order es)) (sym (logged_entries-more l.active.format l.active.number 16 l.active.frames f))
-    (all-taken_in P (added l f) (logged_entries l.active.format l.active.number 16 l.active.frames) (all_both P (added l f) (memtable l.active) new parts.0)))
+    (subst (λ (es : List Entry). AllByRecursion P (in_order es))
+    (sym (logged_entries-more l.active.format l.active.number 16 l.active.frames f))
+    (all-taken_in P (added l f) (logged_entries l.active.format l.active.number 16 l.active.frames)
+    (all_both P (added l f) (memtable l.active) new parts.0)))
     parts.1
 
 longer : (l : Layout) (f : LogFrame) → IsTrueLog l.active → IsTrueLog (logged f l).active
@@ -175,7 +182,18 @@ module _ (logs : Logs) (l : Layout) (h : History) (t : IsTidy logs l h) where
   }
     where
       open_still : (o : OpenJob) → IsOpenWell l h o.job o.moved → IsOpenWell (without_pass l) h o.job o.moved
-      open_still o k = record { kept = k.kept; last = k.last; live = k.live; given = k.given; standing = k.standing; fitted = by o.job.target k.fitted; roomy = k.roomy; some = k.some; fits = k.fits; of = k.of }
+      open_still o k = record {
+        kept = k.kept;
+        last = k.last;
+        live = k.live;
+        given = k.given;
+        standing = k.standing;
+        fitted = by o.job.target k.fitted;
+        roomy = k.roomy;
+        some = k.some;
+        fits = k.fits;
+        of = k.of;
+      }
         where
           by : (target : Target) → IsFitted l o.job target → IsFitted (without_pass l) o.job target
           by (Level n) fit = fit
@@ -260,7 +278,8 @@ module _ (logs : Logs) (l : Layout) (h : History) (t : IsTidy logs l h) where
       by (Some j) was o is =
           let job : j.job ≡ o.job = cc in
           let moved : j.moved ≡ o.moved = cc in
-          subst (λ (m : List (List ℕ × ℕ)). IsOpenWell (drawn l) h o.job m) moved (subst (λ (x : Job). IsOpenWell (drawn l) h x j.moved) job (open_drawn l h j.job j.moved (t.job j was)))
+          subst (λ (m : List (List ℕ × ℕ)). IsOpenWell (drawn l) h o.job m) moved
+          (subst (λ (x : Job). IsOpenWell (drawn l) h x j.moved) job (open_drawn l h j.job j.moved (t.job j was)))
 
   pub tidy_job_ended : (made : Made) → AreLent (lent_numbers l.job) made → IsTidy logs (job_ended made l) h
   tidy_job_ended made are = record {
@@ -283,7 +302,8 @@ module _ (logs : Logs) (l : Layout) (h : History) (t : IsTidy logs l h) where
   commit_versions : (writes : List (List ℕ × Change)) → T (is_sorted key_cmp writes)
       → (place : ℕ) (ws : List (List ℕ × Change))
       → AllByRecursion (λ w. find key_cmp w.0 writes ≡ Some w.1) ws
-      → AllByRecursion (IsOf (with_commit h (from_sorted writes))) (map (record_entry l.active.format l.active.number) (committed_records l.active.format place (last_number h + 1) ws))
+      → AllByRecursion (IsOf (with_commit h (from_sorted writes)))
+      (map (record_entry l.active.format l.active.number) (committed_records l.active.format place (last_number h + 1) ws))
   commit_versions writes rising place [] found = tt
   commit_versions writes rising place (w ∷ ws) found = (
     has-commit h (from_sorted writes) w.0 (ap is_some (get-from_sorted key_cmp writes w.0 rising ∙ found.0)),
@@ -303,7 +323,9 @@ module _ (logs : Logs) (l : Layout) (h : History) (t : IsTidy logs l h) where
     placed = t.placed;
     versions = all_logged (IsOf (with_commit h (from_sorted writes))) (ended ticket l) (commit_frame h writes)
         (commit_versions writes rising (place_behind l.active.format 16 l.active.frames + 17) writes (all_found writes rising))
-        (all_weaker (IsOf h) (IsOf (with_commit h (from_sorted writes))) (λ e is. versions-stay h (with_commit h (from_sorted writes)) (with_commit-extends h (from_sorted writes)) e.key e.version is) (sources l) t.versions);
+        (all_weaker (IsOf h) (IsOf (with_commit h (from_sorted writes)))
+        (λ e is. versions-stay h (with_commit h (from_sorted writes)) (with_commit-extends h (from_sorted writes))
+        e.key e.version is) (sources l) t.versions);
     last = omega (arith, one_more, room);
     some = t.some;
     since = (let low = t.since in omega (arith, one_more, low));
@@ -339,13 +361,19 @@ module _ (logs : Logs) (l : Layout) (h : History) (t : IsTidy logs l h) where
           let both = and_parts (eq_by_cmp key_cmp c.moved.key e.key) (e.version == c.moved.version) found.1 in
           let same : e.version ≡ c.moved.version = (let at = both.1 in grind (arith, nat_tests, at)) in
           subst (λ (v : ℕ). has v (versions h c.moved.key) ≡ true) same
-          (subst (λ (k : List ℕ). has e.version (versions h k) ≡ true) (sym (Rattle.vl_model.specs.laws.WinnerLaws.same_key c.moved.key e.key both.0)) found.0)
+          (subst (λ (k : List ℕ). has e.version (versions h k) ≡ true)
+          (sym (Rattle.vl_model.specs.laws.WinnerLaws.same_key c.moved.key e.key both.0)) found.0)
 
       by : (b : Bool) → is_moved (sources l) segment last c ≡ b
           → AllByRecursion (λ (m : Moved). has m.version (versions h m.key) ≡ true) (moved_of (sources l) segment last cs)
-          → AllByRecursion (λ (m : Moved). has m.version (versions h m.key) ≡ true) (map (λ (x : Candidate). x.moved) (cond b (c ∷ filter (is_moved (sources l) segment last) cs) (filter (is_moved (sources l) segment last) cs)))
-      by true is later =
-          (won (exact (sources l) c.moved.key c.moved.version) refl (and_parts (wins_exactly (sources l) segment c.moved.key c.moved.version c.place) (nat_le c.moved.version last) is).0, later)
+          → AllByRecursion (λ (m : Moved). has m.version (versions h m.key) ≡ true)
+          (map (λ (x : Candidate). x.moved)
+          (cond b (c ∷ filter (is_moved (sources l) segment last) cs) (filter (is_moved (sources l) segment last) cs)))
+      by true is later = (
+        won (exact (sources l) c.moved.key c.moved.version) refl
+            (and_parts (wins_exactly (sources l) segment c.moved.key c.moved.version c.place) (nat_le c.moved.version last) is).0,
+        later,
+      )
       by false is later = later
 
   pub tidy_relocated : (moved : List Moved)
@@ -359,7 +387,8 @@ module _ (logs : Logs) (l : Layout) (h : History) (t : IsTidy logs l h) where
     distinct = t.distinct;
     placed = t.placed;
     versions =
-        all_logged (IsOf h) l (Relocated moved) (moved_versions (place_behind l.active.format 16 l.active.frames + 9) moved known) t.versions;
+        all_logged (IsOf h) l (Relocated moved)
+        (moved_versions (place_behind l.active.format 16 l.active.frames + 9) moved known) t.versions;
     last = t.last;
     some = t.some;
     since = t.since;
@@ -375,7 +404,8 @@ module _ (logs : Logs) (l : Layout) (h : History) (t : IsTidy logs l h) where
           let job : j.job ≡ o.job = cc in
           let with_new : moves_at (l.version_number + 1) moved ++ j.moved ≡ o.moved = cc in
           subst (λ (m : List (List ℕ × ℕ)). IsOpenWell (relocated l moved) h o.job m) with_new
-          (subst (λ (x : Job). IsOpenWell (relocated l moved) h x (moves_at (l.version_number + 1) moved ++ j.moved)) job (open_relocated l h j.job j.moved (t.job j was) moved))
+          (subst (λ (x : Job). IsOpenWell (relocated l moved) h x (moves_at (l.version_number + 1) moved ++ j.moved))
+          job (open_relocated l h j.job j.moved (t.job j was) moved))
 
   -- ---- a rotation
 
@@ -387,8 +417,10 @@ module _ (logs : Logs) (l : Layout) (h : History) (t : IsTidy logs l h) where
     true_logs = (refl, t.true_logs);
     distinct = (none_drawn l.next_log (l.active ∷ sealed l) all_drawn, t.distinct);
     placed =
-        all_weaker (λ (u : Table). AllByRecursion (IsPlacedIn (sealed l)) u.entries) (λ (u : Table). AllByRecursion (IsPlacedIn (l.active ∷ sealed l)) u.entries)
-        (λ u all. all_placed_so (sealed l) (l.active ∷ sealed l) u.entries (λ n f into is. format_behind l.active (sealed l) n f t.distinct.0 is) all) (tables l) t.placed;
+        all_weaker (λ (u : Table). AllByRecursion (IsPlacedIn (sealed l)) u.entries)
+        (λ (u : Table). AllByRecursion (IsPlacedIn (l.active ∷ sealed l)) u.entries)
+        (λ u all. all_placed_so (sealed l) (l.active ∷ sealed l) u.entries
+        (λ n f into is. format_behind l.active (sealed l) n f t.distinct.0 is) all) (tables l) t.placed;
     versions = subst (AllByRecursion (IsOf h)) (sym (sources-rotated l)) t.versions;
     last = t.last;
     some = t.some;
@@ -398,8 +430,11 @@ module _ (logs : Logs) (l : Layout) (h : History) (t : IsTidy logs l h) where
   }
     where
       all_drawn : AllByRecursion (λ (s : Segment). s.number < l.next_log) (l.active ∷ sealed l)
-      all_drawn =
-          (t.files.stocked.logs_drawn.0, all_both (λ (s : Segment). s.number < l.next_log) l.frozen l.flushed t.files.stocked.logs_drawn.1 t.files.stocked.flushed_drawn)
+      all_drawn = (
+        t.files.stocked.logs_drawn.0,
+        all_both (λ (s : Segment). s.number < l.next_log) l.frozen l.flushed
+            t.files.stocked.logs_drawn.1 t.files.stocked.flushed_drawn,
+      )
 
   -- ---- a flush
 
@@ -412,19 +447,23 @@ module _ (logs : Logs) (l : Layout) (h : History) (t : IsTidy logs l h) where
     true_tables = subst (AllByRecursion IsTrueTable) (sym new) (refl, t.true_tables);
     true_logs = (
       t.true_logs.0,
-      (let parts = all_parts IsTrueLog (but_oldest l.frozen) (s ∷ l.flushed) (subst (AllByRecursion IsTrueLog) (sym (sealed_same l s waits)) t.true_logs.1) in
-          all_both IsTrueLog (but_oldest l.frozen) (flushed l s).flushed parts.0 (all_filtered IsTrueLog (λ (x : Segment). not (is_idle (flushing l s) x)) (s ∷ l.flushed) parts.1)),
+      (let parts = all_parts IsTrueLog (but_oldest l.frozen) (s ∷ l.flushed)
+          (subst (AllByRecursion IsTrueLog) (sym (sealed_same l s waits)) t.true_logs.1) in
+          all_both IsTrueLog (but_oldest l.frozen) (flushed l s).flushed parts.0
+          (all_filtered IsTrueLog (λ (x : Segment). not (is_idle (flushing l s) x)) (s ∷ l.flushed) parts.1)),
     );
     distinct =
         distinct_fewer (λ (x : Segment). not (is_idle (flushing l s) x)) (l.active ∷ but_oldest l.frozen) (s ∷ l.flushed) there;
     placed = switched_placed (flushing l s) [] (well_flushed l t.files s level deeper waits are).stocked.footed
         (subst (AllByRecursion (λ (u : Table). AllByRecursion (IsPlacedIn (sealed (flushing l s))) u.entries)) (sym new) (
           memtable_placed (sealed (flushing l s)) s (format_there (but_oldest l.frozen) s l.flushed there.1),
-          subst (λ (ss : List Segment). AllByRecursion (λ (u : Table). AllByRecursion (IsPlacedIn ss) u.entries) (tables l)) (sym (sealed_same l s waits)) t.placed,
+          subst (λ (ss : List Segment). AllByRecursion (λ (u : Table). AllByRecursion (IsPlacedIn ss) u.entries)
+              (tables l)) (sym (sealed_same l s waits)) t.placed,
         ));
     versions = (let parts = all_parts (IsOf h) (memtable l.active) (behind_active l) t.versions in
         let behind = all_parts (IsOf h) (flat_map memtable l.frozen) (flat_map table_entries (tables l)) parts.1 in
-        let frozen = all_parts (IsOf h) (flat_map memtable (but_oldest l.frozen)) (memtable s) (subst (AllByRecursion (IsOf h)) (frozen_parts l.frozen s waits) behind.0) in
+        let frozen = all_parts (IsOf h) (flat_map memtable (but_oldest l.frozen)) (memtable s)
+        (subst (AllByRecursion (IsOf h)) (frozen_parts l.frozen s waits) behind.0) in
         all_both (IsOf h) (memtable l.active) (behind_active (flushed l s)) parts.0
         (all_both (IsOf h) (flat_map memtable (but_oldest l.frozen)) (flat_map table_entries (tables (flushed l s))) frozen.0
         (subst (λ (ts : List Table). AllByRecursion (IsOf h) (flat_map table_entries ts)) (sym new)

@@ -14,7 +14,8 @@ use Rattle.vl_layout.specs.Rulings.Install.{installed, put_in}
 use Rattle.vl_layout.specs.Rulings.Sweep.{is_same, pins}
 use Rattle.vl_layout.specs.Sources.{log_of, pointed_logs, needed, numbers_of, table_of, tables}
 use Rattle.vl_layout.specs.TidyLevels.{IsDistinct}
-use Rattle.vl_layout.specs.Stock.{AreOnce, files_of, is_in, leads, IsDrawn, IsUnneeded, IsOff, IsPinned, IsFooted, PointsDrawn, with_lent, IsNotLent, IsWellStocked}
+use Rattle.vl_layout.specs.Stock.{AreOnce, files_of, is_in, leads, IsDrawn, IsUnneeded, IsOff, IsPinned, IsFooted}
+use Rattle.vl_layout.specs.Stock.{PointsDrawn, with_lent, IsNotLent, IsWellStocked}
 use Rattle.vl_layout.specs.declared.file_name.FileName.{FileName}
 use Rattle.vl_layout.specs.declared.file_name.FileName.TheVariants.{Log, Table as TableFile, Manifest}
 use Rattle.vl_layout.specs.declared.file_name.Retired.{Retired}
@@ -26,7 +27,8 @@ use Rattle.vl_layout_laws.specs.laws.Once.{distinct_filtered, files-both, off_bo
 use Rattle.vl_layout_laws.specs.laws.Steps.{in_tables, tables_only}
 use Rattle.vl_layout_laws.specs.laws.Streaming.{stocked_put, putting}
 use Rattle.vl_layout_laws.specs.laws.Drawn.{drawn_put}
-use Rattle.vl_layout_laws.specs.laws.WellStocked.{lent_drawn, logs_off_loose, needed_off, none_lent, of_lent, or_false, unneeded, up, with_gone, with_loose}
+use Rattle.vl_layout_laws.specs.laws.WellStocked.{lent_drawn, logs_off_loose, needed_off, none_lent, of_lent}
+use Rattle.vl_layout_laws.specs.laws.WellStocked.{or_false, unneeded, up, with_gone, with_loose}
 
 module _ (l : Layout) (w : IsWellStocked l) where
   -- a lent number is that of no table
@@ -35,12 +37,14 @@ module _ (l : Layout) (w : IsWellStocked l) where
   not_standing n is =
       sym (any-map (is_same (TableFile n)) table_of (tables l))
       ∙ front (is_in (TableFile n) (map table_of (tables l))) refl
-      (of_lent (λ (r : Retired). IsUnneeded (needed l) r) (lent_numbers l.job) (n ∷ []) (all_parts (IsUnneeded (needed l)) (loose (lent_numbers l.job)) l.retired w.stocked.unneeded).0 (is, tt)).0
+      (of_lent (λ (r : Retired). IsUnneeded (needed l) r) (lent_numbers l.job) (n ∷ [])
+      (all_parts (IsUnneeded (needed l)) (loose (lent_numbers l.job)) l.retired w.stocked.unneeded).0 (is, tt)).0
     where
       front : (b : Bool) → is_in (TableFile n) (map table_of (tables l)) ≡ b
           → is_in (TableFile n) (needed l) ≡ false → is_in (TableFile n) (map table_of (tables l)) ≡ false
       front true at none =
-          absurd (false≢true (sym none ∙ in_tables (TableFile n) (map table_of (tables l)) (flat_map pointed_logs (tables l)) (map log_of (l.active ∷ l.frozen)) at))
+          absurd (false≢true (sym none
+          ∙ in_tables (TableFile n) (map table_of (tables l)) (flat_map pointed_logs (tables l)) (map log_of (l.active ∷ l.frozen)) at))
       front false at none = at
 
   no_input : (inputs : List ℕ) → AreStanding (tables l) inputs → (t : Table)
@@ -52,7 +56,8 @@ module _ (l : Layout) (w : IsWellStocked l) where
       apart : (b : Bool) → (n == t.number) ≡ b → (n == t.number) ≡ false
       apart true is =
           let same : t.number ≡ n = grind (arith, nat_tests) in
-          absurd (false≢true (sym (subst (λ (m : ℕ). list_any (λ (u : Table). m == u.number) (tables l) ≡ false) same (not_standing t.number lent)) ∙ standing.0))
+          absurd (false≢true (sym (subst (λ (m : ℕ). list_any (λ (u : Table). m == u.number) (tables l) ≡ false) same
+          (not_standing t.number lent)) ∙ standing.0))
       apart false is = is
 
   all_no_input : (inputs : List ℕ) → AreStanding (tables l) inputs → (ts : List Table)
@@ -65,8 +70,11 @@ module _ (l : Layout) (w : IsWellStocked l) where
   given_below : (ts : List Table) → AllByRecursion (λ n. has n (lent_numbers l.job) ≡ true) (numbers_of ts)
       → AllByRecursion (λ (t : Table). t.number < l.next_table) ts
   given_below [] lent = tt
-  given_below (t ∷ ts) lent =
-      ((of_lent (λ (r : Retired). IsDrawn l.next_log l.next_table r.file) (lent_numbers l.job) (t.number ∷ []) (lent_drawn l w) (lent.0, tt)).0, given_below ts lent.1)
+  given_below (t ∷ ts) lent = (
+    (of_lent (λ (r : Retired). IsDrawn l.next_log l.next_table r.file) (lent_numbers l.job) (t.number ∷ [])
+        (lent_drawn l w) (lent.0, tt)).0,
+    given_below ts lent.1,
+  )
 
   -- a file that isn't lent is none of tables that were
   not_made : (f : FileName) → IsNotLent (lent_numbers l.job) f → (ts : List Table)
@@ -90,7 +98,8 @@ module _ (l : Layout) (w : IsWellStocked l) where
 
   all_not_made : (rs : List Retired)
       → AllByRecursion (λ (r : Retired). IsNotLent (lent_numbers l.job) r.file) rs → (ts : List Table)
-      → AllByRecursion (λ n. has n (lent_numbers l.job) ≡ true) (numbers_of ts) → AllByRecursion (λ (r : Retired). is_in r.file (map table_of ts) ≡ false) rs
+      → AllByRecursion (λ n. has n (lent_numbers l.job) ≡ true) (numbers_of ts)
+      → AllByRecursion (λ (r : Retired). is_in r.file (map table_of ts) ≡ false) rs
   all_not_made [] off ts lent = tt
   all_not_made (r ∷ rs) off ts lent = (not_made r.file off.0 ts lent, all_not_made rs off.1 ts lent)
 
@@ -149,7 +158,8 @@ module _ (l : Layout) (w : IsWellStocked l) where
               → ((n == u.number) || is_in (TableFile n) (map table_of us)) ≡ false
           by_test true is none later = absurd (false≢true (sym none))
           by_test false is none later =
-              let turned : (n == u.number) ≡ false = grind (arith, nat_tests) in or_false (n == u.number) (is_in (TableFile n) (map table_of us)) turned (later none)
+              let turned : (n == u.number) ≡ false = grind (arith, nat_tests) in or_false (n == u.number)
+              (is_in (TableFile n) (map table_of us)) turned (later none)
 
   distinct_back : (ns ms : List ℕ) → AreDistinct (ns ++ ms) → AreDistinct ms
   distinct_back [] ms distinct = distinct
@@ -160,7 +170,8 @@ module _ (l : Layout) (w : IsWellStocked l) where
   standing_all [] = tt
   standing_all (t ∷ ts) = (
     or_left (t.number == t.number) (list_any (λ (u : Table). t.number == u.number) ts) (grind (arith, nat_tests)),
-    all_weaker (λ (x : Table). list_any (λ (u : Table). x.number == u.number) ts ≡ true) (λ (x : Table). list_any (λ (u : Table). x.number == u.number) (t ∷ ts) ≡ true)
+    all_weaker (λ (x : Table). list_any (λ (u : Table). x.number == u.number) ts ≡ true)
+        (λ (x : Table). list_any (λ (u : Table). x.number == u.number) (t ∷ ts) ≡ true)
         (λ x is. or_right (x.number == t.number) (list_any (λ (u : Table). x.number == u.number) ts) is) ts (standing_all ts),
   )
 
@@ -168,31 +179,36 @@ module _ (l : Layout) (w : IsWellStocked l) where
   pub well_installed : (job : Job) (made : Made) → AreLent (lent_numbers l.job) made
       → AllByRecursion (λ (n : ℕ). list_any (λ (t : Table). n == t.number) (tables l) ≡ true) job.inputs
       → AllByRecursion IsFooted made.tables
-      → ((n : ℕ) → AllByRecursion (λ (t : Table). leads n t.points ≡ true → list_any (λ (u : Table). leads n u.points) (tables l) ≡ true) made.tables)
+      → ((n : ℕ) → AllByRecursion
+      (λ (t : Table). leads n t.points ≡ true → list_any (λ (u : Table). leads n u.points) (tables l) ≡ true) made.tables)
       → AllByRecursion (PointsDrawn l.next_log) made.tables → IsDistinct (tables l)
       → IsWellStocked (installed job made l)
   well_installed job made are standing footed into below distinct = record {
     stocked =
-        with_gone (switched (filter (is_among job.inputs) (tables l)) (putting (with_lent l) job made.tables rest)) (gone_after l.gone (needless job)) l.keep l.since
+        with_gone (switched (filter (is_among job.inputs) (tables l)) (putting (with_lent l) job made.tables rest))
+        (gone_after l.gone (needless job)) l.keep l.since
         (stocked_put (with_lent l) job made.tables rest w.stocked
         (within (IsUnneeded (needed l)) w.stocked.unneeded)
         (within (λ (r : Retired). IsDrawn l.next_log l.next_table r.file) w.stocked.retired_drawn)
         (all_weaker (IsPinned l.version_number (loose (lent_numbers l.job) ++ l.retired)) (IsPinned l.version_number rest)
         (λ p is. record { old = is.old; off = within (IsOff p) is.off }) (pins l) w.stocked.pinned)
         (all_both (λ (r : Retired). is_in r.file (map table_of made.tables) ≡ false) l.retired (loose made.leavings)
-        (all_not_made l.retired w.lent_apart made.tables lent.0) (leavings_off made.tables made.leavings (distinct-later (numbers_of made.tables) made.leavings are.distinct)))
+        (all_not_made l.retired w.lent_apart made.tables lent.0)
+        (leavings_off made.tables made.leavings (distinct-later (numbers_of made.tables) made.leavings are.distinct)))
         (given_below made.tables lent.0)
         (all_no_input job.inputs standing made.tables lent.0)
         footed into);
     drawn =
-        let d = drawn_put (with_lent l) w.stocked (up l w.drawn) job made.tables rest below in record { points = d.points; pins_drawn = d.pins_drawn };
+        let d = drawn_put (with_lent l) w.stocked (up l w.drawn) job made.tables rest below in record
+        { points = d.points; pins_drawn = d.pins_drawn };
     lent_once = tt;
     lent_apart = none_lent (installed job made l).retired;
     once = switched_once (put_in job made l) dropped dropped_once (logs_off_loose l w made.leavings);
     flushed_apart = switched_apart (put_in job made l) dropped dropped_once (logs_off_loose l w made.leavings);
   }
     where
-      lent : AllByRecursion (λ n. has n (lent_numbers l.job) ≡ true) (numbers_of made.tables) × AllByRecursion (λ n. has n (lent_numbers l.job) ≡ true) made.leavings
+      lent : AllByRecursion (λ n. has n (lent_numbers l.job) ≡ true) (numbers_of made.tables)
+          × AllByRecursion (λ n. has n (lent_numbers l.job) ≡ true) made.leavings
       lent = all_parts (λ n. has n (lent_numbers l.job) ≡ true) (numbers_of made.tables) made.leavings are.drawn
 
       dropped : List Table
@@ -206,7 +222,9 @@ module _ (l : Layout) (w : IsWellStocked l) where
       inputs_off (t ∷ ts) stand = (
         subst (λ (fs : List FileName). is_in (table_of t) fs ≡ false) (sym (files-both l.retired (loose made.leavings)))
             (off_both (table_of t) (files_of l.retired) (files_of (loose made.leavings))
-            (needed_off l w (table_of t) (in_tables (table_of t) (map table_of (tables l)) (flat_map pointed_logs (tables l)) (map log_of (l.active ∷ l.frozen)) (any-map (is_same (table_of t)) table_of (tables l) ∙ stand.0)) l.retired (unneeded l w))
+            (needed_off l w (table_of t)
+            (in_tables (table_of t) (map table_of (tables l)) (flat_map pointed_logs (tables l))
+            (map log_of (l.active ∷ l.frozen)) (any-map (is_same (table_of t)) table_of (tables l) ∙ stand.0)) l.retired (unneeded l w))
             (off_leavings made.leavings lent.1)),
         inputs_off ts stand.1,
       )
@@ -217,7 +235,8 @@ module _ (l : Layout) (w : IsWellStocked l) where
           off_leavings (n ∷ ns) are = or_false (t.number == n) (is_in (table_of t) (files_of (loose ns)))
               (is_not (t.number == n) (λ is.
               let same : t.number ≡ n = grind (arith, nat_tests, is) in
-              false≢true (sym (not_standing n are.0) ∙ subst (λ (m : ℕ). list_any (λ (u : Table). m == u.number) (tables l) ≡ true) same stand.0)))
+              false≢true (sym (not_standing n are.0)
+              ∙ subst (λ (m : ℕ). list_any (λ (u : Table). m == u.number) (tables l) ≡ true) same stand.0)))
               (off_leavings ns are.1)
 
       dropped_once : AreOnce (files_of (put_in job made l).retired ++ map table_of (filter (is_among job.inputs) (tables l)))
@@ -225,7 +244,9 @@ module _ (l : Layout) (w : IsWellStocked l) where
           once_both (files_of (l.retired ++ loose made.leavings)) (map table_of (filter (is_among job.inputs) (tables l)))
           (with_loose l w made.leavings lent.1 (distinct_back (numbers_of made.tables) made.leavings are.distinct))
           (tables_once (filter (is_among job.inputs) (tables l)) (distinct_filtered (is_among job.inputs) (tables l) distinct))
-          (inputs_off (filter (is_among job.inputs) (tables l)) (all_filtered (λ (t : Table). list_any (λ (u : Table). t.number == u.number) (tables l) ≡ true) (is_among job.inputs) (tables l) (standing_all (tables l))))
+          (inputs_off (filter (is_among job.inputs) (tables l))
+          (all_filtered (λ (t : Table). list_any (λ (u : Table). t.number == u.number) (tables l) ≡ true)
+          (is_among job.inputs) (tables l) (standing_all (tables l))))
 
       rest : List Retired
       rest = l.retired ++ loose made.leavings
@@ -233,4 +254,6 @@ module _ (l : Layout) (w : IsWellStocked l) where
       within : (P : Retired → Type 0) → AllByRecursion P (loose (lent_numbers l.job) ++ l.retired)
           → AllByRecursion P (l.retired ++ loose made.leavings)
       within P all = let both = all_parts P (loose (lent_numbers l.job)) l.retired all in
-          all_both P l.retired (loose made.leavings) both.1 (of_lent P (lent_numbers l.job) made.leavings both.0 (all_parts (λ n. has n (lent_numbers l.job) ≡ true) (numbers_of made.tables) made.leavings are.drawn).1)
+          all_both P l.retired (loose made.leavings) both.1
+          (of_lent P (lent_numbers l.job) made.leavings both.0
+          (all_parts (λ n. has n (lent_numbers l.job) ≡ true) (numbers_of made.tables) made.leavings are.drawn).1)

@@ -1,5 +1,6 @@
 -- Each call's ruling keeps what is so of an engine's files, those that were lent to a job among them.
-use Rattle.std.proofs.Common.{◌≡◌, ℕ, ◌+◌, Bool, true, false, not, ◌||◌, List, [], ◌∷◌, ◌++◌, map, refl, sym, ◌∙◌, subst, arith, append_assoc}
+use Rattle.std.proofs.Common.{◌≡◌, ℕ, ◌+◌, Bool, true, false, not, ◌||◌, List, [], ◌∷◌, ◌++◌, map, refl, sym, ◌∙◌}
+use Rattle.std.proofs.Common.{subst, arith, append_assoc}
 use Rattle.std.proofs.lemmas.Bool.{false≢true}
 use Rattle.std.proofs.lemmas.Bool.Decides.{nat_tests}
 use Rattle.std.specs.Prelude.{Option, Some, None, ◌==◌}
@@ -21,7 +22,8 @@ use Rattle.vl_layout.specs.Rulings.Relocate.{with_moves, relocated}
 use Rattle.vl_layout.specs.Rulings.Rotate.{rotated}
 use Rattle.vl_layout.specs.Rulings.Sweep.{is_same, job_pin, pass_pin, pins, without_files}
 use Rattle.vl_layout.specs.Sources.{log_of, pointed_logs, needed, numbers_of, oldest, table_of, tables}
-use Rattle.vl_layout.specs.Stock.{AreOnce, IsLogOff, files_of, is_in, IsDrawn, IsUnneeded, IsOff, IsPinned, IsStocked, IsDrawnWhole, with_lent, IsNotLent, IsWellStocked}
+use Rattle.vl_layout.specs.Stock.{AreOnce, IsLogOff, files_of, is_in, IsDrawn, IsUnneeded, IsOff, IsPinned, IsStocked}
+use Rattle.vl_layout.specs.Stock.{IsDrawnWhole, with_lent, IsNotLent, IsWellStocked}
 use Rattle.vl_layout.specs.declared.file_name.FileName.{FileName}
 use Rattle.vl_layout.specs.declared.file_name.FileName.TheVariants.{Log, Table as TableFile, Manifest}
 use Rattle.vl_layout.specs.declared.file_name.Retired.{Retired}
@@ -33,10 +35,15 @@ use Rattle.vl_layout.specs.declared.live.Pin.{Pin}
 use Rattle.vl_layout.specs.declared.segment.Segment.{Segment}
 use Rattle.vl_layout.specs.declared.table.Table.{Table}
 use Rattle.vl_layout_laws.specs.laws.Files.{all_weaker, all_both, all_parts, all_filtered, is_not, itself, or_right, same_file}
-use Rattle.vl_layout_laws.specs.laws.Once.{files-both, log_not_loose, loose_once, off_both, off_filtered, once_both, once_filtered, switched_apart, switched_once}
-use Rattle.vl_layout_laws.specs.laws.Steps.{in_logs, nothing_more, stocked_begun, stocked_ended, stocked_planned, stocked_picked, stocked_freed, stocked_pass_ended, stocked_logged, stocked_relocated, stocked_rotated}
+use Rattle.vl_layout_laws.specs.laws.Once.{files-both, log_not_loose, loose_once, off_both, off_filtered, once_both}
+use Rattle.vl_layout_laws.specs.laws.Once.{once_filtered, switched_apart, switched_once}
+use Rattle.vl_layout_laws.specs.laws.Steps.{in_logs, nothing_more, stocked_begun, stocked_ended, stocked_planned}
+use Rattle.vl_layout_laws.specs.laws.Steps.{stocked_picked, stocked_freed, stocked_pass_ended, stocked_logged}
+use Rattle.vl_layout_laws.specs.laws.Steps.{stocked_relocated, stocked_rotated}
 use Rattle.vl_layout_laws.specs.laws.Streaming.{lending, stocked_lent}
-use Rattle.vl_layout_laws.specs.laws.Drawn.{drawn_begun, drawn_ended, drawn_planned, drawn_picked, drawn_freed, drawn_pass_ended, drawn_logged, drawn_relocated, drawn_rotated, drawn_lent, drawn_flushed}
+use Rattle.vl_layout_laws.specs.laws.Drawn.{drawn_begun, drawn_ended, drawn_planned, drawn_picked, drawn_freed}
+use Rattle.vl_layout_laws.specs.laws.Drawn.{drawn_pass_ended, drawn_logged, drawn_relocated, drawn_rotated}
+use Rattle.vl_layout_laws.specs.laws.Drawn.{drawn_lent, drawn_flushed}
 use Rattle.vl_layout_laws.specs.laws.Switches.{flushing, oldest_in, stocked_flushed}
 
 -- ---- other retired files, another job
@@ -60,7 +67,8 @@ rejobbed l job same s = record {
   unneeded = s.unneeded;
   retired_drawn = s.retired_drawn;
   pinned =
-      subst (λ (ps : List Pin). AllByRecursion (IsPinned l.version_number l.retired) ((map (λ (x : Live). x.pin) l.live ++ ps) ++ pass_pin l.pass)) (sym same) s.pinned;
+      subst (λ (ps : List Pin). AllByRecursion (IsPinned l.version_number l.retired)
+      ((map (λ (x : Live). x.pin) l.live ++ ps) ++ pass_pin l.pass)) (sym same) s.pinned;
   tables_drawn = s.tables_drawn;
   logs_drawn = s.logs_drawn;
   flushed_drawn = s.flushed_drawn;
@@ -216,7 +224,8 @@ module _ (l : Layout) (w : IsWellStocked l) where
       let same = sym (lent_moved (l.version_number + 1) moved l.job) in
       record {
         stocked =
-            subst (λ (ns : List ℕ). IsStocked (record (relocated l moved) { retired = loose ns ++ l.retired })) same (stocked_relocated (with_lent l) w.stocked moved);
+            subst (λ (ns : List ℕ). IsStocked (record (relocated l moved) { retired = loose ns ++ l.retired })) same
+            (stocked_relocated (with_lent l) w.stocked moved);
         drawn =
             let d = drawn_relocated (with_lent l) w.stocked (up l w.drawn) moved in record { points = d.points; pins_drawn = d.pins_drawn };
         lent_once = subst AreDistinct same w.lent_once;
@@ -238,7 +247,8 @@ module _ (l : Layout) (w : IsWellStocked l) where
       → AllByRecursion (IsUnneeded (needed l)) rs → is_in f (files_of rs) ≡ false
   needed_off f there [] un = refl
   needed_off f there (r ∷ rs) un = or_false (is_same f r.file) (is_in f (files_of rs))
-      (is_not (is_same f r.file) (λ is. false≢true (sym un.0 ∙ subst (λ (g : FileName). is_in g (needed l) ≡ true) (same_file f r.file is) there)))
+      (is_not (is_same f r.file)
+      (λ is. false≢true (sym un.0 ∙ subst (λ (g : FileName). is_in g (needed l) ≡ true) (same_file f r.file is) there)))
       (needed_off f there rs un.1)
 
   pub unneeded : AllByRecursion (IsUnneeded (needed l)) l.retired
@@ -247,7 +257,8 @@ module _ (l : Layout) (w : IsWellStocked l) where
   waiting_off : (s : Segment) → oldest l.frozen ≡ Some s → IsLogOff (files_of l.retired) s
   waiting_off s waits = needed_off (log_of s)
       (in_logs (log_of s) (map table_of (tables l)) (flat_map pointed_logs (tables l)) (map log_of (l.active ∷ l.frozen))
-      (or_right (is_same (log_of s) (log_of l.active)) (is_in (log_of s) (map log_of l.frozen)) (oldest_in (log_of s) l.frozen s waits (itself (log_of s)))))
+      (or_right (is_same (log_of s) (log_of l.active)) (is_in (log_of s) (map log_of l.frozen))
+      (oldest_in (log_of s) l.frozen s waits (itself (log_of s)))))
       l.retired unneeded
 
   -- what is lent isn't retired
@@ -256,7 +267,8 @@ module _ (l : Layout) (w : IsWellStocked l) where
       → is_in (TableFile n) (files_of rs) ≡ false
   lent_off n is [] off = refl
   lent_off n is (r ∷ rs) off = or_false (is_same (TableFile n) r.file) (is_in (TableFile n) (files_of rs))
-      (is_not (is_same (TableFile n) r.file) (λ at. false≢true (sym (subst (IsNotLent (lent_numbers l.job)) (sym (same_file (TableFile n) r.file at)) off.0) ∙ is)))
+      (is_not (is_same (TableFile n) r.file)
+      (λ at. false≢true (sym (subst (IsNotLent (lent_numbers l.job)) (sym (same_file (TableFile n) r.file at)) off.0) ∙ is)))
       (lent_off n is rs off.1)
 
   all_lent_off : (ns : List ℕ) → AllByRecursion (λ n. has n (lent_numbers l.job) ≡ true) ns
@@ -267,12 +279,14 @@ module _ (l : Layout) (w : IsWellStocked l) where
   pub with_loose : (ns : List ℕ) → AllByRecursion (λ n. has n (lent_numbers l.job) ≡ true) ns
       → AreDistinct ns → AreOnce (files_of (l.retired ++ loose ns))
   with_loose ns are distinct =
-      subst AreOnce (sym (files-both l.retired (loose ns))) (once_both (files_of l.retired) (files_of (loose ns)) w.once (loose_once ns distinct) (all_lent_off ns are))
+      subst AreOnce (sym (files-both l.retired (loose ns)))
+      (once_both (files_of l.retired) (files_of (loose ns)) w.once (loose_once ns distinct) (all_lent_off ns are))
 
   pub logs_off_loose : (ns : List ℕ) → AllByRecursion (IsLogOff (files_of (l.retired ++ loose ns))) l.flushed
   logs_off_loose ns =
       subst (λ (fs : List FileName). AllByRecursion (IsLogOff fs) l.flushed) (sym (files-both l.retired (loose ns)))
-      (all_weaker (IsLogOff (files_of l.retired)) (IsLogOff (files_of l.retired ++ files_of (loose ns))) (λ s off. off_both (log_of s) (files_of l.retired) (files_of (loose ns)) off (log_not_loose s.number ns)) l.flushed w.flushed_apart)
+      (all_weaker (IsLogOff (files_of l.retired)) (IsLogOff (files_of l.retired ++ files_of (loose ns)))
+      (λ s off. off_both (log_of s) (files_of l.retired) (files_of (loose ns)) off (log_not_loose s.number ns)) l.flushed w.flushed_apart)
 
   pub well_flushed : (s : Segment) (level : List Table) (deeper : List (List Table))
       → oldest l.frozen ≡ Some s → l.levels ≡ level ∷ deeper
@@ -282,14 +296,18 @@ module _ (l : Layout) (w : IsWellStocked l) where
         (stocked_flushed (with_lent l) s level deeper w.stocked waits are)
         (λ P all. subst (AllByRecursion P) (append_assoc (loose (lent_numbers l.job)) l.retired _) all);
     drawn =
-        let d = drawn_flushed (with_lent l) w.stocked (up l w.drawn) s level deeper waits are in record { points = d.points; pins_drawn = d.pins_drawn };
+        let d = drawn_flushed (with_lent l) w.stocked (up l w.drawn) s level deeper waits are in record
+        { points = d.points; pins_drawn = d.pins_drawn };
     lent_once = w.lent_once;
     lent_apart =
-        all_both (λ (r : Retired). IsNotLent (lent_numbers l.job) r.file) l.retired _ w.lent_apart (logs_apart (lent_numbers l.job) (l.version_number + 1) _);
+        all_both (λ (r : Retired). IsNotLent (lent_numbers l.job) r.file) l.retired _ w.lent_apart
+        (logs_apart (lent_numbers l.job) (l.version_number + 1) _);
     once =
-        switched_once (flushing l s) [] (subst AreOnce (sym (nothing_more (files_of l.retired))) w.once) (waiting_off s waits, w.flushed_apart);
+        switched_once (flushing l s) [] (subst AreOnce (sym (nothing_more (files_of l.retired))) w.once)
+        (waiting_off s waits, w.flushed_apart);
     flushed_apart =
-        switched_apart (flushing l s) [] (subst AreOnce (sym (nothing_more (files_of l.retired))) w.once) (waiting_off s waits, w.flushed_apart);
+        switched_apart (flushing l s) [] (subst AreOnce (sym (nothing_more (files_of l.retired))) w.once)
+        (waiting_off s waits, w.flushed_apart);
   }
 
   -- ---- a sweep
@@ -298,11 +316,13 @@ module _ (l : Layout) (w : IsWellStocked l) where
   well_swept gone = record {
     stocked = restocked (with_lent l) (loose (lent_numbers l.job) ++ (without_files gone l).retired) w.stocked
         (λ P all. let both = all_parts P (loose (lent_numbers l.job)) l.retired all in
-        all_both P (loose (lent_numbers l.job)) (without_files gone l).retired both.0 (all_filtered P (λ (r : Retired). not (list_any (is_same r.file) gone)) l.retired both.1));
+        all_both P (loose (lent_numbers l.job)) (without_files gone l).retired both.0
+        (all_filtered P (λ (r : Retired). not (list_any (is_same r.file) gone)) l.retired both.1));
     drawn = record { points = w.drawn.points; pins_drawn = w.drawn.pins_drawn };
     lent_once = w.lent_once;
     lent_apart =
-        all_filtered (λ (r : Retired). IsNotLent (lent_numbers l.job) r.file) (λ (r : Retired). not (list_any (is_same r.file) gone)) l.retired w.lent_apart;
+        all_filtered (λ (r : Retired). IsNotLent (lent_numbers l.job) r.file)
+        (λ (r : Retired). not (list_any (is_same r.file) gone)) l.retired w.lent_apart;
     once = once_filtered (λ (r : Retired). not (list_any (is_same r.file) gone)) l.retired w.once;
     flushed_apart = all_weaker (IsLogOff (files_of l.retired)) (IsLogOff (files_of (without_files gone l).retired))
         (λ s off. off_filtered (log_of s) (λ (r : Retired). not (list_any (is_same r.file) gone)) l.retired off) l.flushed w.flushed_apart;
@@ -327,7 +347,8 @@ module _ (l : Layout) (w : IsWellStocked l) where
   same_pin n (Some job) = refl
 
   one_more : (n : ℕ) (rs : List Retired) (o : Option OpenJob) (P : Retired → Type 0)
-      → AllByRecursion P ((loose (lent_numbers o) ++ rs) ++ retired_at 0 (TableFile n) ∷ []) → AllByRecursion P (loose (lent_numbers (lent_to n o)) ++ rs)
+      → AllByRecursion P ((loose (lent_numbers o) ++ rs) ++ retired_at 0 (TableFile n) ∷ [])
+      → AllByRecursion P (loose (lent_numbers (lent_to n o)) ++ rs)
   one_more n rs None P all = (all_parts P rs (retired_at 0 (TableFile n) ∷ []) all).0
   one_more n rs (Some job) P all =
       let outer = all_parts P (loose job.lent ++ rs) (retired_at 0 (TableFile n) ∷ []) all in
@@ -374,7 +395,8 @@ module _ (l : Layout) (w : IsWellStocked l) where
 
   apart_lent : (next_log n : ℕ) (o : Option OpenJob) (rs : List Retired)
       → AllByRecursion (λ (r : Retired). IsNotLent (lent_numbers o) r.file) rs
-      → AllByRecursion (λ (r : Retired). IsDrawn next_log n r.file) rs → AllByRecursion (λ (r : Retired). IsNotLent (lent_numbers (lent_to n o)) r.file) rs
+      → AllByRecursion (λ (r : Retired). IsDrawn next_log n r.file) rs
+      → AllByRecursion (λ (r : Retired). IsNotLent (lent_numbers (lent_to n o)) r.file) rs
   apart_lent next_log n o [] apart given = tt
   apart_lent next_log n o (r ∷ rs) apart given =
       (by_file r.file o apart.0 given.0, apart_lent next_log n o rs apart.1 given.1)
@@ -392,12 +414,16 @@ module _ (l : Layout) (w : IsWellStocked l) where
       let n = l.next_table in
       record {
         stocked =
-            rejobbed (record (lending (with_lent l)) { retired = loose (lent_numbers (lent_to n l.job)) ++ l.retired }) (lent_to n l.job) (same_pin n l.job)
-            (restocked (lending (with_lent l)) (loose (lent_numbers (lent_to n l.job)) ++ l.retired) (stocked_lent (with_lent l) w.stocked (up l w.drawn)) (one_more n l.retired l.job));
+            rejobbed (record (lending (with_lent l)) { retired = loose (lent_numbers (lent_to n l.job)) ++ l.retired })
+            (lent_to n l.job) (same_pin n l.job)
+            (restocked (lending (with_lent l)) (loose (lent_numbers (lent_to n l.job)) ++ l.retired)
+            (stocked_lent (with_lent l) w.stocked (up l w.drawn)) (one_more n l.retired l.job));
         drawn = let d = drawn_lent (with_lent l) w.stocked (up l w.drawn) in record {
           points = d.points;
           pins_drawn =
-              subst (λ (ps : List Pin). AllByRecursion (λ (p : Pin). AllByRecursion (IsDrawn l.next_log (n + 1)) p.needs) ((map (λ (x : Live). x.pin) l.live ++ ps) ++ pass_pin l.pass)) (sym (same_pin n l.job)) d.pins_drawn;
+              subst (λ (ps : List Pin). AllByRecursion
+              (λ (p : Pin). AllByRecursion (IsDrawn l.next_log (n + 1)) p.needs)
+              ((map (λ (x : Live). x.pin) l.live ++ ps) ++ pass_pin l.pass)) (sym (same_pin n l.job)) d.pins_drawn;
         };
         lent_once = once_lent n l.job w.lent_once (not_drawn l.next_log n (lent_numbers l.job) (lent_drawn l w));
         lent_apart = apart_lent l.next_log n l.job l.retired w.lent_apart (retired_drawn l w);
@@ -410,7 +436,8 @@ module _ (l : Layout) (w : IsWellStocked l) where
     stocked =
         restocked (record (with_lent l) { job = None }) (job_ended made l).retired (stocked_freed (with_lent l) w.stocked)
         (λ P all. let both = all_parts P (loose (lent_numbers l.job)) l.retired all in
-        all_both P l.retired (loose (numbers_of made.tables ++ made.leavings)) both.1 (of_lent P (lent_numbers l.job) (numbers_of made.tables ++ made.leavings) both.0 are.drawn));
+        all_both P l.retired (loose (numbers_of made.tables ++ made.leavings)) both.1
+        (of_lent P (lent_numbers l.job) (numbers_of made.tables ++ made.leavings) both.0 are.drawn));
     drawn =
         let d = drawn_freed (with_lent l) w.stocked (up l w.drawn) in record { points = d.points; pins_drawn = d.pins_drawn };
     lent_once = tt;

@@ -1,5 +1,6 @@
 -- What the frame of a flush makes of a state, and what one frame more makes of what was said before.
-use Rattle.std.specs.Prelude.{◌≡◌, ◌+◌, ℕ, Bool, true, false, ◌&&◌, not, nat_le, if◌then◌else◌, List, [], ◌∷◌, ◌++◌, length, Option, None, Some, Result, Ok, Err}
+use Rattle.std.specs.Prelude.{◌≡◌, ◌+◌, ℕ, Bool, true, false, ◌&&◌, not, nat_le, if◌then◌else◌, List, [], ◌∷◌, ◌++◌}
+use Rattle.std.specs.Prelude.{length, Option, None, Some, Result, Ok, Err}
 use Rattle.std.specs.List.{insert}
 use Rattle.std.specs.Option.{option_map}
 use Rattle.std.proofs.Common.{ap, ◌∙◌, arith}
@@ -12,7 +13,8 @@ use Rattle.vl_manifest.specs.declared.edit.Edit.TheVariants.{Head, Next}
 use Rattle.vl_manifest.specs.declared.state.ManifestState.{ManifestState}
 use Rattle.vl_manifest.specs.Grammar.{edits_grammar}
 use Rattle.vl_manifest.specs.Levels.{all_tables, is_in, put_at, put_in}
-use Rattle.vl_manifest.specs.States.{all_applied, are_next, as_draft, finish, flush_edits, given_if, is_file_number, is_head, next_state, state_behind, state_then, then_applied, with_levels}
+use Rattle.vl_manifest.specs.States.{all_applied, are_next, as_draft, finish, flush_edits, given_if, is_file_number}
+use Rattle.vl_manifest.specs.States.{is_head, next_state, state_behind, state_then, then_applied, with_levels}
 
 -- ---- a flush's frame
 
@@ -42,9 +44,12 @@ flush_says s newest deeper table head covered log next are fits new h n =
     let last : List Edit = Head head covered ∷ Next log next ∷ [] in
     let added : VersionBuilder = with_levels (as_draft s) ((table ∷ newest) ∷ deeper) in
     let headed : VersionBuilder = record added { head = Some (head, covered) } in
-    ap (λ (b : Bool). finish (then_applied (all_applied last) (if b then option_map (with_levels (as_draft s)) (put_at 0 0 table s.levels) else None))) passes
+    ap (λ (b : Bool). finish
+    (then_applied (all_applied last) (if b then option_map (with_levels (as_draft s)) (put_at 0 0 table s.levels) else None))) passes
     ∙ ap (λ (l : List (List ℕ)). finish (then_applied (all_applied last) (option_map (with_levels (as_draft s)) (put_at 0 0 table l)))) are
-    ∙ ap (λ (o : Option (List ℕ)). finish (then_applied (all_applied last) (option_map (with_levels (as_draft s)) (option_map (λ l. l ∷ deeper) o)))) (put_in-front newest table)
+    ∙ ap (λ (o : Option (List ℕ)). finish
+    (then_applied (all_applied last) (option_map (with_levels (as_draft s)) (option_map (λ l. l ∷ deeper) o))))
+    (put_in-front newest table)
     ∙ ap (λ (b : Bool). finish (then_applied (all_applied (Next log next ∷ [])) (given_if b headed))) h
     ∙ ap (λ (b : Bool). finish (then_applied (all_applied []) (given_if b (record headed { next = Some (log, next) })))) n
 

@@ -1,5 +1,6 @@
 -- What is read of a manifest that was being made of a whole state.
-use Rattle.std.specs.Prelude.{◌≡◌, ◌⊎◌, ◌+◌, ◌==◌, ◌&&◌, ◌<◌, ◌≤◌, ◌^◌, ℕ, Bool, true, false, bytes_eq, if◌then◌else◌, zero, suc, List, [], ◌∷◌, ◌++◌, drop, length, take, Option, None, Some, refl}
+use Rattle.std.specs.Prelude.{◌≡◌, ◌⊎◌, ◌+◌, ◌==◌, ◌&&◌, ◌<◌, ◌≤◌, ◌^◌, ℕ, Bool, true, false, bytes_eq, if◌then◌else◌}
+use Rattle.std.specs.Prelude.{zero, suc, List, [], ◌∷◌, ◌++◌, drop, length, take, Option, None, Some, refl}
 use Rattle.std.specs.List.{AllByRecursion}
 use Rattle.std.proofs.Common.{sym, ap, subst, ◌∙◌, inl, inr, ⊎_elim, arith}
 use Rattle.std.proofs.lemmas.Bool.{cases_Bool, cases_lt}
@@ -74,7 +75,8 @@ module _ (s : ManifestState) (bare : s.levels ≡ no_tables) where
       let reads = manifest_reads number (whole_edits s ∷ []) fits (bare_has_frame r, tt) in
       record {
         says = whole_said number s (manifest_bytes number (whole_edits s ∷ [])) r reads;
-        bare = read manifest_format reads.header (whole_edits s ∷ [], reads.reads, ap (λ (b : Bool). if b then Some 16 else None) names_none);
+        bare = read manifest_format reads.header
+            (whole_edits s ∷ [], reads.reads, ap (λ (b : Bool). if b then Some 16 else None) names_none);
       }
 
 -- ---- a manifest that was being made
@@ -139,9 +141,11 @@ said_in number s format bytes r reads = record {
 module _ (number : ℕ) (s : ManifestState) (has : HasFrame (edits_grammar manifest_format) (whole_edits s)) (bytes : List ℕ)
     (fits : number < 2 ^ 32) (r : IsInRange s)
     (torn : (edits : List Edit) (rest : List ℕ) → StandsAt (edits_grammar manifest_format) number 16 (drop 16 bytes) edits rest
-    → (take (length (item_frame (edits_grammar manifest_format) number 16 edits)) (item_frame (edits_grammar manifest_format) number 16 (whole_edits s))
+    → (take (length (item_frame (edits_grammar manifest_format) number 16 edits))
+    (item_frame (edits_grammar manifest_format) number 16 (whole_edits s))
     ≡ item_frame (edits_grammar manifest_format) number 16 edits)
-    × StandsNone (edits_grammar manifest_format) number (16 + length (item_frame (edits_grammar manifest_format) number 16 edits)) rest) where
+    × StandsNone (edits_grammar manifest_format) number
+    (16 + length (item_frame (edits_grammar manifest_format) number 16 edits)) rest) where
   -- the frame is there
   with_frame : (format : ℕ) → format ≤ manifest_format → HasHeader format number bytes
       → ReadsAs (edits_grammar manifest_format) number 16 (drop 16 bytes) (whole_edits s ∷ [])
@@ -168,7 +172,8 @@ module _ (number : ℕ) (s : ManifestState) (has : HasFrame (edits_grammar manif
       → (ReadableIn format number bytes → ⊥) ⊎ SaysAsRead number bytes s
   with_header format le header = ⊎_elim
       (λ (none : ReadsAs (edits_grammar manifest_format) number 16 (drop 16 bytes) []).
-      inl (λ readable. none readable.first readable.rest (stands_later format number 16 (drop 16 bytes) readable.first readable.rest le readable.stands)))
+      inl (λ readable. none readable.first readable.rest
+      (stands_later format number 16 (drop 16 bytes) readable.first readable.rest le readable.stands)))
       (λ (one : ReadsAs (edits_grammar manifest_format) number 16 (drop 16 bytes) (whole_edits s ∷ [])). with_frame format le header one)
       (there_or_not (edits_grammar manifest_format) number 16 (whole_edits s) has (drop 16 bytes) torn)
 

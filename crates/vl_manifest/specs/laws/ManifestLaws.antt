@@ -13,7 +13,9 @@ use Rattle.vl_manifest.specs.declared.edit.Edit.{Edit}
 use Rattle.vl_manifest.specs.declared.state.ManifestState.{ManifestState}
 use Rattle.vl_model.specs.Formats.{manifest_format}
 use Rattle.vl_manifest.specs.Grammar.{edits_grammar}
-use Rattle.vl_manifest.specs.Manifest.{HasHeader, IsDamaged, IsNewer, IsReadable, ManifestSays, ReadsManifest, SaysState, manifest_bytes, manifest_header, no_frame, no_header, not_applied, state_of}
+use Rattle.vl_manifest.specs.Manifest.{HasHeader, IsDamaged, IsNewer, IsReadable, ManifestSays, ReadsManifest}
+use Rattle.vl_manifest.specs.Manifest.{SaysState, manifest_bytes, manifest_header, no_frame, no_header, not_applied}
+use Rattle.vl_manifest.specs.Manifest.{state_of}
 use Rattle.vl_manifest.specs.laws.StateLaws.{IsInRange, read_in_range, read_made, state_in_range}
 use Rattle.vl_manifest.specs.laws.WholeLaws.{whole_says}
 use Rattle.vl_manifest.specs.States.{first_state, manifest_state, next_state, read_in, state_behind, state_then, whole_edits}
@@ -87,7 +89,8 @@ says_or_damaged : (number : ℕ) (bytes : List ℕ) (s : ManifestState) (place :
     → SaysState number bytes s → IsDamaged number bytes place → ⊥
 says_or_damaged number bytes s place says (no_header none at) = none says.format says.reads.header
 says_or_damaged number bytes s place says (no_frame format header none at) =
-    subst (λ (f : ℕ). StandsNone (edits_grammar f) number 16 (drop 16 bytes)) (one_manifest_format number bytes format says.format header says.reads.header) none
+    subst (λ (f : ℕ). StandsNone (edits_grammar f) number 16 (drop 16 bytes))
+    (one_manifest_format number bytes format says.format header says.reads.header) none
     says.first says.reads.reads.0 says.reads.reads.1
 says_or_damaged number bytes s place says (not_applied format header first others begins e) =
     let same = one_manifest_format number bytes says.format format says.reads.header header in
@@ -105,11 +108,13 @@ one_damage number bytes p q (no_header none at) (not_applied format header first
 one_damage number bytes p q (no_frame format header none at) (no_header none' at') = absurd (none' format header)
 one_damage number bytes p q (no_frame format header none at) (no_frame format' header' none' at') = at ∙ sym at'
 one_damage number bytes p q (no_frame format header none at) (not_applied format' header' first others begins e) =
-    absurd (subst (λ (f : ℕ). StandsNone (edits_grammar f) number 16 (drop 16 bytes)) (one_manifest_format number bytes format format' header header') none
+    absurd (subst (λ (f : ℕ). StandsNone (edits_grammar f) number 16 (drop 16 bytes))
+    (one_manifest_format number bytes format format' header header') none
     first begins.0 begins.1)
 one_damage number bytes p q (not_applied format header first others begins e) (no_header none at) = absurd (none format header)
 one_damage number bytes p q (not_applied format header first others begins e) (no_frame format' header' none at) =
-    absurd (subst (λ (f : ℕ). StandsNone (edits_grammar f) number 16 (drop 16 bytes)) (one_manifest_format number bytes format' format header' header) none
+    absurd (subst (λ (f : ℕ). StandsNone (edits_grammar f) number 16 (drop 16 bytes))
+    (one_manifest_format number bytes format' format header' header) none
     first begins.0 begins.1)
 one_damage number bytes p q (not_applied format header first others begins e) (not_applied format' header' first' others' begins' e') =
     let same = one_manifest_format number bytes format' format header' header in
@@ -129,7 +134,8 @@ one_saying number bytes (Ok s) (Ok t) p q =
     let format = one_manifest_format number bytes q.format p.format q.reads.header p.reads.header in
     let reads = subst (λ (f : ℕ). ReadsAs (edits_grammar f) number 16 (drop 16 bytes) (q.first ∷ q.others)) format q.reads.reads in
     let made = subst (λ (f : ℕ). state_of f number q.first q.others ≡ Ok t) format q.made in
-    let same = one_reading (edits_grammar p.format) number 16 (drop 16 bytes) (p.first ∷ p.others) (q.first ∷ q.others) p.reads.reads reads in
+    let same = one_reading (edits_grammar p.format) number 16 (drop 16 bytes) (p.first ∷ p.others) (q.first ∷ q.others)
+    p.reads.reads reads in
     sym p.made ∙ state_cong p.format number p.first q.first p.others q.others same ∙ made
 one_saying number bytes (Ok s) (Err place) p q = absurd (says_or_damaged number bytes s place p q)
 one_saying number bytes (Err place) (Ok s) p q = absurd (says_or_damaged number bytes s place q p)
@@ -140,7 +146,8 @@ one_saying number bytes (Err place) (Err other) p q =
 pub says_in_range : (number : ℕ) (bytes : List ℕ) (s : ManifestState) → SaysState number bytes s
     → IsInRange s
 says_in_range number bytes s says =
-    let places = placed (edits_grammar says.format) number (16 + length (item_frame (edits_grammar says.format) number 16 says.first)) says.others in
+    let places = placed (edits_grammar says.format) number
+    (16 + length (item_frame (edits_grammar says.format) number 16 says.first)) says.others in
     let made = read_made says.format (manifest_state (record { place = 16; item = says.first }) places) s says.made in
     subst IsInRange made.2 (read_in_range says.format made.0
     (state_in_range (record { place = 16; item = says.first }) places made.0 made.1))
@@ -197,7 +204,8 @@ whole_said number s bytes r reads = record {
   first = whole_edits s;
   others = [];
   reads = reads;
-  made = ap (λ (o : Option ManifestState). read_in manifest_format (state_then 16 (λ (t : ManifestState). state_behind t []) o)) (whole_says s r);
+  made = ap (λ (o : Option ManifestState). read_in manifest_format
+      (state_then 16 (λ (t : ManifestState). state_behind t []) o)) (whole_says s r);
 }
 
 -- A manifest that is made of a whole state says it.

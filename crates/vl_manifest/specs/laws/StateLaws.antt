@@ -1,5 +1,6 @@
 -- What edits can make: states whose numbers are in range, and in which each table stands once.
-use Rattle.std.specs.Prelude.{◌≡◌, ◌+◌, ◌≤◌, ℕ, Bool, true, false, ◌&&◌, not, nat_le, if◌then◌else◌, List, [], ◌∷◌, length, Option, None, Some, Result, Ok, Err, IfSome, refl}
+use Rattle.std.specs.Prelude.{◌≡◌, ◌+◌, ◌≤◌, ℕ, Bool, true, false, ◌&&◌, not, nat_le, if◌then◌else◌, List, [], ◌∷◌}
+use Rattle.std.specs.Prelude.{length, Option, None, Some, Result, Ok, Err, IfSome, refl}
 use Rattle.std.specs.List.{AllByRecursion}
 use Rattle.std.specs.Option.{option_map}
 use Rattle.std.proofs.Common.{sym, ap, subst, ◌∙◌, arith}
@@ -12,8 +13,12 @@ use Rattle.vl_manifest.specs.declared.edit.Edit.TheVariants.{Add, Drop, Gone, He
 use Rattle.vl_manifest.specs.declared.state.ManifestState.{ManifestState}
 use Rattle.vl_manifest.specs.Formats.{gone_format}
 use Rattle.vl_manifest.specs.Levels.{all_tables, is_in, is_other, put_at, taken_out}
-use Rattle.vl_manifest.specs.States.{all_applied, applied, are_next, as_draft, as_read, finish, first_draft, first_state, given_if, is_file_number, is_gone, is_head, is_keep, is_next_number, manifest_state, max_keep, next_state, opened_state, read_in, state_behind, state_then, then_applied, with_both, with_levels}
-use Rattle.vl_manifest.specs.laws.TableLists.{AreOnce, all-filter, all-more, once-filter, once_more, put_is, taken_out-count, taken_out-tables}
+use Rattle.vl_manifest.specs.States.{all_applied, applied, are_next, as_draft, as_read, finish, first_draft}
+use Rattle.vl_manifest.specs.States.{first_state, given_if, is_file_number, is_gone, is_head, is_keep, is_next_number}
+use Rattle.vl_manifest.specs.States.{manifest_state, max_keep, next_state, opened_state, read_in, state_behind}
+use Rattle.vl_manifest.specs.States.{state_then, then_applied, with_both, with_levels}
+use Rattle.vl_manifest.specs.laws.TableLists.{AreOnce, all-filter, all-more, once-filter, once_more, put_is}
+use Rattle.vl_manifest.specs.laws.TableLists.{taken_out-count, taken_out-tables}
 
 -- two states that are the same but for the numbers that may still be given
 pub record SameState (a b : ManifestState) : Type 0 where
@@ -279,7 +284,16 @@ both_in d (Some p) (Some q) s inside h n is =
     let table = next_fits q.1 parts.1 in
     let keep = keep_fits d.keep d.since inside.keep in
     let made : ManifestState =
-    record { levels = d.levels; head = p.0; covered = p.1; next_log = q.0; next_table = q.1; keep = d.keep; since = d.since; gone = d.gone } in
+    record {
+      levels = d.levels;
+      head = p.0;
+      covered = p.1;
+      next_log = q.0;
+      next_table = q.1;
+      keep = d.keep;
+      since = d.since;
+      gone = d.gone;
+    } in
     subst IsInRange (some_same made s is) (record {
       tables = inside.tables;
       head_first = head.first;

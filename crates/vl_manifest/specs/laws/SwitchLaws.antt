@@ -47,12 +47,15 @@ Reads number frames edits bytes =
 module _ (number : ℕ) (frames : List (List Edit)) (edits : List Edit) (now : DiskState) (file : File)
     (stands : get now.standing (Manifest number) ≡ Some file) (lasts : file.lasting ≡ true) where
   file_leaves : ((bytes : List ℕ) → Agrees file bytes
-      → (file.wholly_synced ≡ false → HasOnlyHandedOver file (SpellsAt (edits_grammar manifest_format) number bytes)) → Reads number frames edits bytes)
+      → (file.wholly_synced ≡ false → HasOnlyHandedOver file (SpellsAt (edits_grammar manifest_format) number bytes))
+      → Reads number frames edits bytes)
       → LeavesFrames number frames edits now
   file_leaves reads image may chance =
       by (get image (Manifest number)) refl
-      (subst (λ (o : Option File). MayLeaveOne o (get now.removed (Manifest number)) (get image (Manifest number))) stands (may (Manifest number)))
-      (subst (λ (o : Option File). NoChanceOne spells (Manifest number) (last_file o (get now.removed (Manifest number))) (get image (Manifest number))) stands chance)
+      (subst (λ (o : Option File). MayLeaveOne o (get now.removed (Manifest number)) (get image (Manifest number)))
+      stands (may (Manifest number)))
+      (subst (λ (o : Option File). NoChanceOne spells (Manifest number)
+      (last_file o (get now.removed (Manifest number))) (get image (Manifest number))) stands chance)
     where
       spells : Name → List ℕ → ℕ → List ℕ → Type 0
       spells name = SpellsAt (edits_grammar manifest_format) number
@@ -103,7 +106,8 @@ module _ (number : ℕ) (fits : number < 2 ^ 32) (frames : List (List Edit)) (ed
   -- nothing was done yet
   untouched : LeavesFrames number frames edits disk
   untouched = file_leaves number frames edits disk (settled before) durable refl (λ bytes agrees chance.
-      inl (subst (λ (b : List ℕ). ReadsManifest manifest_format number b frames) (sym (agrees.whole refl)) (manifest_reads number frames fits have)))
+      inl (subst (λ (b : List ℕ). ReadsManifest manifest_format number b frames) (sym (agrees.whole refl))
+      (manifest_reads number frames fits have)))
 
   -- some first bytes were taken
   taken_stands : (taken : ℕ) → get (appended (Manifest number) piece taken disk).standing (Manifest number)
@@ -120,12 +124,16 @@ module _ (number : ℕ) (fits : number < 2 ^ 32) (frames : List (List Edit)) (ed
       file_at_end n = lengthened (item_frame (edits_grammar manifest_format) number n edits) taken (settled before)
 
       by : (bytes : List ℕ) → Agrees (file_at_end (16 + length (run_bytes (edits_grammar manifest_format) number 16 frames))) bytes
-          → HasOnlyHandedOver (file_at_end (16 + length (run_bytes (edits_grammar manifest_format) number 16 frames))) (SpellsAt (edits_grammar manifest_format) number bytes)
+          → HasOnlyHandedOver (file_at_end (16 + length (run_bytes (edits_grammar manifest_format) number 16 frames)))
+          (SpellsAt (edits_grammar manifest_format) number bytes)
           → Reads number frames edits bytes
       by bytes agrees only = ⊎_elim
-          (λ (old : SaysItems (edits_grammar manifest_format) number (manifest_header number) bytes frames). inl (items_read number bytes frames fits old))
-          (λ (more : SaysItems (edits_grammar manifest_format) number (manifest_header number) bytes (frames ++ edits ∷ [])). inr (items_read number bytes (frames ++ edits ∷ []) fits more))
-          (torn_says (edits_grammar manifest_format) number (manifest_header number) (length-manifest_header number) frames edits has taken have bytes agrees only)
+          (λ (old : SaysItems (edits_grammar manifest_format) number (manifest_header number) bytes frames). inl
+          (items_read number bytes frames fits old))
+          (λ (more : SaysItems (edits_grammar manifest_format) number (manifest_header number) bytes
+          (frames ++ edits ∷ [])). inr (items_read number bytes (frames ++ edits ∷ []) fits more))
+          (torn_says (edits_grammar manifest_format) number (manifest_header number) (length-manifest_header number)
+          frames edits has taken have bytes agrees only)
 
   -- Behind the switch the manifest has the new frame too, and is durable.
   pub switched_stands : get (switched number piece disk).standing (Manifest number) ≡ Some (settled after)

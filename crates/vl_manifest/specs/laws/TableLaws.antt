@@ -1,6 +1,7 @@
 -- What the definition of the first frame that names a table says: there is one place at most, and a manifest without
 -- such a frame has no tables.
-use Rattle.std.specs.Prelude.{◌≡◌, ◌||◌, ◌+◌, ℕ, Bool, true, false, nat_le, min, if◌then◌else◌, List, [], ◌∷◌, ◌++◌, length, drop, Option, None, Some, Result, Ok, Err, refl}
+use Rattle.std.specs.Prelude.{◌≡◌, ◌||◌, ◌+◌, ℕ, Bool, true, false, nat_le, min, if◌then◌else◌, List, [], ◌∷◌, ◌++◌}
+use Rattle.std.specs.Prelude.{length, drop, Option, None, Some, Result, Ok, Err, refl}
 use Rattle.std.proofs.Common.{sym, ap, subst, ◌∙◌, ⊎_elim}
 use Rattle.vl_frame.specs.Begins.{Placed, placed}
 use Rattle.vl_frame.specs.laws.BeginLaws.{one_begins, reads_past}
@@ -14,8 +15,11 @@ use Rattle.vl_manifest.specs.Formats.{gone_format}
 use Rattle.vl_manifest.specs.Grammar.{edits_grammar}
 use Rattle.vl_manifest.specs.Levels.{no_tables}
 use Rattle.vl_manifest.specs.Manifest.{SaysState, state_of}
-use Rattle.vl_manifest.specs.States.{all_applied, applied, are_next, as_draft, as_read, finish, first_draft, first_state, given_if, is_gone, is_head, is_keep, manifest_state, next_state, state_behind, state_then, then_applied, with_both}
-use Rattle.vl_manifest.specs.Tables.{NamesBehind, NamesFirst, SaysBareState, SaysWithoutTables, first_of_tables, is_of_table, names_tables, read, unread, without_tables}
+use Rattle.vl_manifest.specs.States.{all_applied, applied, are_next, as_draft, as_read, finish, first_draft}
+use Rattle.vl_manifest.specs.States.{first_state, given_if, is_gone, is_head, is_keep, manifest_state, next_state}
+use Rattle.vl_manifest.specs.States.{state_behind, state_then, then_applied, with_both}
+use Rattle.vl_manifest.specs.Tables.{NamesBehind, NamesFirst, SaysBareState, SaysWithoutTables, first_of_tables}
+use Rattle.vl_manifest.specs.Tables.{is_of_table, names_tables, read, unread, without_tables}
 use Rattle.vl_manifest.specs.laws.ManifestLaws.{one_manifest_format, one_saying}
 use Rattle.vl_manifest.specs.laws.StateLaws.{read_made}
 
@@ -64,7 +68,8 @@ module _ (format number : ℕ) where
       → first_of_tables (placed (edits_grammar format) number 16 frames) ≡ Some place
       → first_of_tables (placed (edits_grammar format) number 16 all) ≡ Some place
   found_by bytes frames all more place split is =
-      ap (λ (fs : List (List Edit)). first_of_tables (placed (edits_grammar format) number 16 fs)) split ∙ found_more 16 frames more place is
+      ap (λ (fs : List (List Edit)). first_of_tables (placed (edits_grammar format) number 16 fs)) split
+      ∙ found_more 16 frames more place is
 
   one_behind : (bytes : List ℕ) (a b : Option ℕ) → NamesBehind format number 16 bytes a → NamesBehind format number 16 bytes b → a ≡ b
   one_behind bytes None None p q = refl
@@ -116,9 +121,11 @@ bare_told number bytes s bare = (None, Ok s, bare.bare, bare.says, refl)
 applied_levels : (e : Edit) (d x : VersionBuilder) → is_of_table e ≡ false → applied e d ≡ Some x → x.levels ≡ d.levels
 applied_levels (Add level position table) d x none is = absurd (true_false none)
 applied_levels (Drop table) d x none is = absurd (true_false none)
-applied_levels (Head segment number) d x none is = given_levels (is_head segment number) (record d { head = Some (segment, number) }) x d refl is
+applied_levels (Head segment number) d x none is = given_levels (is_head segment number)
+    (record d { head = Some (segment, number) }) x d refl is
 applied_levels (Next log table) d x none is = given_levels (are_next log table) (record d { next = Some (log, table) }) x d refl is
-applied_levels (Keep versions since) d x none is = given_levels (is_keep versions since) (record d { keep = versions; since = since }) x d refl is
+applied_levels (Keep versions since) d x none is = given_levels (is_keep versions since)
+    (record d { keep = versions; since = since }) x d refl is
 applied_levels (Gone number) d x none is = given_levels (is_gone number) (record d { gone = number }) x d refl is
 
 all_levels : (es : List Edit) (d x : VersionBuilder) → names_tables es ≡ false → all_applied es d ≡ Some x → x.levels ≡ d.levels
@@ -198,7 +205,9 @@ bare_levels number bytes s bare = by bare.says bare.bare
     by says (read format header (frames, reads, none)) =
         let same = one_manifest_format number bytes format says.format header says.reads.header in
         let others = subst (λ (f : ℕ). ReadsAs (edits_grammar f) number 16 (drop 16 bytes) frames) same reads in
-        let frames_are = one_reading (edits_grammar says.format) number 16 (drop 16 bytes) frames (says.first ∷ says.others) others says.reads.reads in
+        let frames_are = one_reading (edits_grammar says.format) number 16 (drop 16 bytes) frames
+        (says.first ∷ says.others) others says.reads.reads in
         let not_named = subst (λ (f : ℕ). first_of_tables (placed (edits_grammar f) number 16 frames) ≡ None) same none in
         frames_levels says.format number says.first says.others s
-        (sym (ap (λ (fs : List (List Edit)). first_of_tables (placed (edits_grammar says.format) number 16 fs)) frames_are) ∙ not_named) says.made
+        (sym (ap (λ (fs : List (List Edit)). first_of_tables (placed (edits_grammar says.format) number 16 fs))
+        frames_are) ∙ not_named) says.made

@@ -135,7 +135,9 @@ module _ {Item : Type 0} (G : Grammar Item) (number : ℕ) (header : List ℕ) w
           sym (take-append-drop (length log) bytes) ∙ ap (λ (b : List ℕ). b ++ tail) durable in
           let cut : bytes ≡ header ++ (run ++ tail) = parts ∙ append_assoc header run tail in
           ⊎_elim
-          (λ (none : ReadsAs G number end tail []). inl (says_by bytes (run ++ tail) frames cut (reads_behind G number 16 frames have tail none)))
-          (λ (one : ReadsAs G number end tail (f ∷ [])). inr (says_by bytes (run ++ tail) (frames ++ f ∷ []) cut (reads_more G number 16 frames have tail (f ∷ []) one)))
+          (λ (none : ReadsAs G number end tail []). inl
+          (says_by bytes (run ++ tail) frames cut (reads_behind G number 16 frames have tail none)))
+          (λ (one : ReadsAs G number end tail (f ∷ [])). inr
+          (says_by bytes (run ++ tail) (frames ++ f ∷ []) cut (reads_more G number 16 frames have tail (f ∷ []) one)))
           (there_or_not G number end f has tail (λ g rest stands.
           (is_front bytes tail parts only g rest stands, none_behind bytes tail parts only g rest stands)))

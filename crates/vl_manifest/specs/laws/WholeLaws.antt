@@ -1,5 +1,6 @@
 -- A state is said by its whole edits.
-use Rattle.std.specs.Prelude.{◌≡◌, ◌+◌, ◌==◌, ◌≤◌, ℕ, Bool, true, false, ◌&&◌, not, if◌then◌else◌, List, [], ◌∷◌, ◌++◌, length, None, Some, refl}
+use Rattle.std.specs.Prelude.{◌≡◌, ◌+◌, ◌==◌, ◌≤◌, ℕ, Bool, true, false, ◌&&◌, not, if◌then◌else◌, List, [], ◌∷◌}
+use Rattle.std.specs.Prelude.{◌++◌, length, None, Some, refl}
 use Rattle.std.specs.List.{AllByRecursion}
 use Rattle.std.specs.Option.{option_map}
 use Rattle.std.proofs.Common.{sym, ap, subst, ◌∙◌, arith, append_assoc, append-nil, length-append}
@@ -10,7 +11,9 @@ use Rattle.vl_manifest.specs.declared.edit.Edit.{Edit}
 use Rattle.vl_manifest.specs.declared.edit.Edit.TheVariants.{Add, Gone, Head, Keep, Next}
 use Rattle.vl_manifest.specs.declared.state.ManifestState.{ManifestState}
 use Rattle.vl_manifest.specs.Levels.{all_tables, is_in, no_tables, put_at}
-use Rattle.vl_manifest.specs.States.{adds_from, all_applied, applied, finish, first_draft, first_state, given_if, gone_edits, is_file_number, keep_edits, last_edits, level_adds, then_applied, whole_edits, with_levels}
+use Rattle.vl_manifest.specs.States.{adds_from, all_applied, applied, finish, first_draft, first_state, given_if}
+use Rattle.vl_manifest.specs.States.{gone_edits, is_file_number, keep_edits, last_edits, level_adds, then_applied}
+use Rattle.vl_manifest.specs.States.{whole_edits, with_levels}
 use Rattle.vl_manifest.specs.laws.StateLaws.{IsInRange, gone_passes, head_passes, keep_passes, nexts_pass}
 use Rattle.vl_manifest.specs.laws.TableLists.{AreOnce, all-parts, all_tables-append, all_tables-blank, blank, once_behind, put_at-end}
 
@@ -38,7 +41,8 @@ module _ (d : VersionBuilder) where
   adds_one front ts back table fits new =
       let passes : (is_file_number table && not (is_in table (all_tables (front ++ ts ∷ back)))) ≡ true =
       and_from (is_file_number table) (not (is_in table (all_tables (front ++ ts ∷ back)))) fits (ap not new) in
-      ap (λ (b : Bool). if b then option_map (with_levels (draft (front ++ ts ∷ back))) (put_at (length front) (length ts) table (front ++ ts ∷ back)) else None) passes
+      ap (λ (b : Bool). if b then option_map (with_levels (draft (front ++ ts ∷ back)))
+      (put_at (length front) (length ts) table (front ++ ts ∷ back)) else None) passes
       ∙ ap (option_map (with_levels (draft (front ++ ts ∷ back)))) (put_at-end front ts back table)
 
   tables_there : (front : List (List ℕ)) (ts : List ℕ) (levels : List (List ℕ))
@@ -85,13 +89,15 @@ module _ (d : VersionBuilder) where
       let seen : AreFresh (all_tables (front ++ ts ∷ [])) (all_tables levels) =
       subst (λ (l : List ℕ). AreFresh l (all_tables levels))
       (sym (all_tables-append front (ts ∷ []) ∙ ap (λ (l : List ℕ). all_tables front ++ l) (append-nil ts))) parts.1 in
-      let none : AreFresh (all_tables front ++ []) ts = subst (λ (l : List ℕ). AreFresh l ts) (sym (append-nil (all_tables front))) parts.0 in
+      let none : AreFresh (all_tables front ++ []) ts = subst (λ (l : List ℕ). AreFresh l ts)
+      (sym (append-nil (all_tables front))) parts.0 in
       let later = adds_from (length front + 1) levels ++ es in
       ap (λ (l : List Edit). all_applied l (draft (front ++ [] ∷ blank levels)))
       (append_assoc (level_adds (length front) 0 ts) (adds_from (length front + 1) levels) es)
       ∙ adds_level front [] ts levels later fits.0 none
       ∙ ap (λ (n : ℕ). all_applied (adds_from n levels ++ es) (draft (front ++ ts ∷ blank levels))) (sym place)
-      ∙ ap (λ (l : List (List ℕ)). all_applied (adds_from (length (front ++ ts ∷ [])) levels ++ es) (draft l)) (sym (append_assoc front (ts ∷ []) (blank levels)))
+      ∙ ap (λ (l : List (List ℕ)). all_applied (adds_from (length (front ++ ts ∷ [])) levels ++ es) (draft l))
+      (sym (append_assoc front (ts ∷ []) (blank levels)))
       ∙ adds_all (front ++ ts ∷ []) levels es fits.1 seen
       ∙ ap (λ (l : List (List ℕ)). all_applied es (draft l)) (append_assoc front (ts ∷ []) levels)
 
@@ -164,7 +170,8 @@ module _ (s : ManifestState) where
     -- The edits that say a whole state make it.
     pub whole_says : first_state (whole_edits s) ≡ Some s
     whole_says =
-        ap (λ (l : List (List ℕ)). finish (all_applied (whole_edits s) (record first_draft { levels = l }))) (seven_blank s.levels r.tables.seven)
+        ap (λ (l : List (List ℕ)). finish (all_applied (whole_edits s) (record first_draft { levels = l })))
+        (seven_blank s.levels r.tables.seven)
         ∙ ap finish (adds_all first_draft [] s.levels (last_edits s) r.tables.numbers (once_fresh [] (all_tables s.levels) r.tables.once))
         ∙ ap finish (head_says (Next s.next_log s.next_table ∷ (keep_edits s.keep s.since ++ gone_edits s.gone)))
         ∙ ap finish (next_says (keep_edits s.keep s.since ++ gone_edits s.gone))

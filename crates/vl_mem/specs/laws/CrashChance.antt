@@ -1,5 +1,6 @@
 -- The image that a crash of a disk in memory leaves has no chance match.
-use Rattle.std.specs.Prelude.{◌≡◌, ◌⊎◌, Bool, true, ℕ, ◌+◌, ◌-◌, ◌/◌, ◌≤◌, ◌<◌, false, List, [], ◌++◌, length, take, drop, Option, None, Some, if◌then◌else◌}
+use Rattle.std.specs.Prelude.{◌≡◌, ◌⊎◌, Bool, true, ℕ, ◌+◌, ◌-◌, ◌/◌, ◌≤◌, ◌<◌, false, List, [], ◌++◌, length, take}
+use Rattle.std.specs.Prelude.{drop, Option, None, Some, if◌then◌else◌}
 use Rattle.std.specs.FinMap.{get}
 use Rattle.std.proofs.Common.{inl, inr, ⊎_elim, refl, sym, ◌∙◌, ap, subst, arith}
 use Rattle.std.proofs.lemmas.List.{take-take, take_all, drop-take, drop_all, drop_at, drop-drop, length-take, length-drop}
@@ -91,7 +92,8 @@ module _ (file : File) where
   -- what stands in the file where it may be torn, stands in the piece that is unsynced there
   torn_in_piece : (piece : Piece) (frame : List ℕ) (offset : ℕ) → StandsIn from (torn_bytes file) piece
       → HasAt (from + offset) frame file.bytes → StandsIn (from + offset) frame piece
-  torn_in_piece piece frame offset unsynced has = record { from = omega (arith, unsynced.from); bytes_are = sym (ap (take (length frame)) there) ∙ in_rest }
+  torn_in_piece piece frame offset unsynced has = record
+      { from = omega (arith, unsynced.from); bytes_are = sym (ap (take (length frame)) there) ∙ in_rest }
     where
       rest : List ℕ
       rest = drop (from - piece.place) piece.bytes

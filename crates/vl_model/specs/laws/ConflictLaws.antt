@@ -30,8 +30,10 @@ find-named_too number (write ∷ others) named q =
     ∙ by_test (eq_by_cmp key_cmp q write.0) (find-named_too number others named q)
   where
     by_test : (b : Bool)
-        → find key_cmp q (named_too number others named) ≡ newer (find key_cmp q named) (option_map (λ change. number) (find key_cmp q others))
-        → cond b (Some number) (find key_cmp q (named_too number others named)) ≡ newer (find key_cmp q named) (option_map (λ change. number) (cond b (Some write.1) (find key_cmp q others)))
+        → find key_cmp q (named_too number others named) ≡ newer (find key_cmp q named)
+        (option_map (λ change. number) (find key_cmp q others))
+        → cond b (Some number) (find key_cmp q (named_too number others named)) ≡ newer (find key_cmp q named)
+        (option_map (λ change. number) (cond b (Some write.1) (find key_cmp q others)))
     by_test true later = refl
     by_test false later = later
 
@@ -41,8 +43,10 @@ find-named_from number [] named q = refl
 find-named_from number (writes ∷ later) named q =
     find-named_from (number + 1) later (named_too number (entries writes) named) q
     ∙ ap (λ o. newer o (last_naming (number + 1) later q)) (find-named_too number (entries writes) named q)
-    ∙ newer-assoc (find key_cmp q named) (option_map (λ change. number) (find key_cmp q (entries writes))) (last_naming (number + 1) later q)
-    ∙ ap (λ o. newer (find key_cmp q named) (newer (option_map (λ change. number) o) (last_naming (number + 1) later q))) (sym (get-entries writes q))
+    ∙ newer-assoc (find key_cmp q named) (option_map (λ change. number) (find key_cmp q (entries writes)))
+    (last_naming (number + 1) later q)
+    ∙ ap (λ o. newer (find key_cmp q named)
+    (newer (option_map (λ change. number) o) (last_naming (number + 1) later q))) (sym (get-entries writes q))
 
 newer-none : (o : Option ℕ) → newer None o ≡ o
 newer-none None = refl
@@ -57,12 +61,14 @@ find-last_named h q = find-named_from (h.first + 1) h.commits [] q ∙ newer-non
 sorted-named_too : (number : ℕ) (writes : List (List ℕ × Change)) (named : List Named)
     → T (is_sorted key_cmp named) → T (is_sorted key_cmp (named_too number writes named))
 sorted-named_too number [] named rising = rising
-sorted-named_too number (write ∷ others) named rising = is_sorted-put key_cmp nat_list_cmp_total write.0 number (named_too number others named) (sorted-named_too number others named rising)
+sorted-named_too number (write ∷ others) named rising = is_sorted-put key_cmp nat_list_cmp_total write.0 number
+    (named_too number others named) (sorted-named_too number others named rising)
 
 sorted-named_from : (number : ℕ) (commits : List (List (List ℕ × Change))) (named : List Named)
     → T (is_sorted key_cmp named) → T (is_sorted key_cmp (named_from number commits named))
 sorted-named_from number [] named rising = rising
-sorted-named_from number (writes ∷ later) named rising = sorted-named_from (number + 1) later (named_too number writes named) (sorted-named_too number writes named rising)
+sorted-named_from number (writes ∷ later) named rising = sorted-named_from (number + 1) later
+    (named_too number writes named) (sorted-named_too number writes named rising)
 
 pub last_named-rises : (h : History) → T (is_sorted key_cmp (last_named h))
 last_named-rises h = sorted-named_from (h.first + 1) (map entries h.commits) [] tt
@@ -91,26 +97,32 @@ none_below : (q : List ℕ) (named : List Named) → T (below_all key_cmp q name
     → find key_cmp q named ≡ None
 none_below q [] below = refl
 none_below q (n ∷ ns) below =
-    ap (λ b. cond b (Some n.1) (find key_cmp q ns)) (less_apart (key_cmp q n.0) (first_part (is_lt (key_cmp q n.0)) (below_all key_cmp q ns) below))
+    ap (λ b. cond b (Some n.1) (find key_cmp q ns))
+    (less_apart (key_cmp q n.0) (first_part (is_lt (key_cmp q n.0)) (below_all key_cmp q ns) below))
     ∙ none_below q ns (second_part (is_lt (key_cmp q n.0)) (below_all key_cmp q ns) below)
 
 module _ (test : Named → Bool) (q : List ℕ) where
   pub find-filter : (named : List Named) → T (is_sorted key_cmp named)
       → find key_cmp q (filter test named) ≡ passing test q (find key_cmp q named)
   find-filter [] rising = refl
-  find-filter (n ∷ ns) rising = by_tests (eq_by_cmp key_cmp q n.0) (test n) refl refl (find-filter ns (second_part (below_all key_cmp n.0 ns) (is_sorted key_cmp ns) rising))
+  find-filter (n ∷ ns) rising = by_tests (eq_by_cmp key_cmp q n.0) (test n) refl refl
+      (find-filter ns (second_part (below_all key_cmp n.0 ns) (is_sorted key_cmp ns) rising))
     where
       first : eq_by_cmp key_cmp q n.0 ≡ true → test (q, n.1) ≡ test n
       first is = ap (λ (k : List ℕ). test (k, n.1)) (same_key q n.0 is)
 
       gone : eq_by_cmp key_cmp q n.0 ≡ true → find key_cmp q ns ≡ None
-      gone is = none_below q ns (subst (λ (k : List ℕ). T (below_all key_cmp k ns)) (sym (same_key q n.0 is)) (first_part (below_all key_cmp n.0 ns) (is_sorted key_cmp ns) rising))
+      gone is = none_below q ns
+          (subst (λ (k : List ℕ). T (below_all key_cmp k ns)) (sym (same_key q n.0 is))
+          (first_part (below_all key_cmp n.0 ns) (is_sorted key_cmp ns) rising))
 
       by_tests : (b c : Bool) → eq_by_cmp key_cmp q n.0 ≡ b → test n ≡ c
           → find key_cmp q (filter test ns) ≡ passing test q (find key_cmp q ns)
           → find key_cmp q (cond c (n ∷ filter test ns) (filter test ns)) ≡ passing test q (cond b (Some n.1) (find key_cmp q ns))
-      by_tests true true is passes later = ap (λ b. cond b (Some n.1) (find key_cmp q (filter test ns))) is ∙ sym (ap (λ b. cond b (Some n.1) None) (first is ∙ passes))
-      by_tests true false is passes later = later ∙ ap (passing test q) (gone is) ∙ sym (ap (λ b. cond b (Some n.1) None) (first is ∙ passes))
+      by_tests true true is passes later = ap (λ b. cond b (Some n.1) (find key_cmp q (filter test ns))) is
+          ∙ sym (ap (λ b. cond b (Some n.1) None) (first is ∙ passes))
+      by_tests true false is passes later = later ∙ ap (passing test q) (gone is)
+          ∙ sym (ap (λ b. cond b (Some n.1) None) (first is ∙ passes))
       by_tests false true is passes later = ap (λ b. cond b (Some n.1) (find key_cmp q (filter test ns))) is ∙ later
       by_tests false false is passes later = later
 
@@ -150,4 +162,5 @@ as_true false t = absurd t
 
 pub overwritten-rises : (h : History) (number : ℕ) (reads : List Read)
     → is_sorted key_cmp (overwritten h number reads) ≡ true
-overwritten-rises h number reads = as_true (is_sorted key_cmp (overwritten h number reads)) (filter-rises (is_overwritten number reads) (last_named h) (last_named-rises h))
+overwritten-rises h number reads = as_true (is_sorted key_cmp (overwritten h number reads))
+    (filter-rises (is_overwritten number reads) (last_named h) (last_named-rises h))

@@ -12,9 +12,12 @@ pub contents_at-extends : (least most : History) → Extends least most → (n :
     → contents_at most n ≡ contents_at least n
 contents_at-extends least most e n le =
     ap (λ (b : ℕ). pairs_after (pairs_after empty (known_up_to (min n b) most.base)) (take (n - b) most.commits)) e.first
-    ∙ ap (λ (base : Past). pairs_after (pairs_after empty (known_up_to (min n least.first) base)) (take (n - least.first) most.commits)) e.base
-    ∙ ap (λ (cs : List Writes). pairs_after (pairs_after empty (known_up_to (min n least.first) least.base)) (take (n - least.first) cs)) e.commits
-    ∙ ap (λ (cs : List Writes). pairs_after (pairs_after empty (known_up_to (min n least.first) least.base)) cs) (take-append-le (n - least.first) least.commits e.later (omega arith))
+    ∙ ap (λ (base : Past). pairs_after (pairs_after empty (known_up_to (min n least.first) base))
+    (take (n - least.first) most.commits)) e.base
+    ∙ ap (λ (cs : List Writes). pairs_after (pairs_after empty (known_up_to (min n least.first) least.base))
+    (take (n - least.first) cs)) e.commits
+    ∙ ap (λ (cs : List Writes). pairs_after (pairs_after empty (known_up_to (min n least.first) least.base)) cs)
+    (take-append-le (n - least.first) least.commits e.later (omega arith))
 
 explained_read : (least most : History) → Extends least most → (n : ℕ) → n ≤ last_number least → (read : Read)
     → IsExplainedRead least n read → IsExplainedRead most n read

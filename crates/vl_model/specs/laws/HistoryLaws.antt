@@ -8,12 +8,16 @@ use Rattle.std.proofs.lemmas.Bool.Decides.{nat_tests}
 use Rattle.std.specs.Prelude.{T, Option, Some, None, min, nat_le, ◌&&◌, map}
 use Rattle.std.specs.Option.{option_map}
 use Rattle.std.specs.List.{filter}
-use Rattle.std.specs.FinMap.{get, entries, entries_sorted, find, empty, from_sorted, entries-from_sorted, get-from_sorted, get-empty, get-insert, get-remove, get-entries, len-entries, len-empty, same_map, nat_cmp-IsAntisymmetric, slice_cmp-IsAntisymmetric}
+use Rattle.std.specs.FinMap.{get, entries, entries_sorted, find, empty, from_sorted, entries-from_sorted}
+use Rattle.std.specs.FinMap.{get-from_sorted, get-empty, get-insert, get-remove, get-entries, len-entries, len-empty}
+use Rattle.std.specs.FinMap.{same_map, nat_cmp-IsAntisymmetric, slice_cmp-IsAntisymmetric}
 use Rattle.std.specs.FinMap.Entries.{is_sorted, below_all}
 use Rattle.std.specs.Cmp.Lexicographic.{nat_list_cmp_total}
 use Rattle.std.specs.Ordering.{eq_by_cmp, is_lt, nat_cmp}
 use Rattle.vl_model.specs.Keys.{Stored, Row, Pairs, Writes, key_cmp}
-use Rattle.vl_model.specs.History.{History, Past, standing_at, past_value, known_up_to, Extends, newer, last_change, value_left, value_at, changed, changed_by, pairs_after, contents_at, commits_up_to, last_number, with_commit}
+use Rattle.vl_model.specs.History.{History, Past, standing_at, past_value, known_up_to, Extends, newer, last_change}
+use Rattle.vl_model.specs.History.{value_left, value_at, changed, changed_by, pairs_after, contents_at, commits_up_to}
+use Rattle.vl_model.specs.History.{last_number, with_commit}
 use Rattle.vl_model.specs.declared.change.Change.{Change}
 use Rattle.vl_model.specs.declared.change.Change.TheVariants.{Set, Delete}
 
@@ -35,7 +39,8 @@ get-changed_by : (pairs : Pairs) (writes : List (List ℕ × Change)) (q : List 
 get-changed_by pairs [] q = refl
 get-changed_by pairs (write ∷ others) q =
     get-changed (changed_by pairs others) write.0 write.1 q
-    ∙ value_left-cond (eq_by_cmp key_cmp q write.0) (get pairs q) (get (changed_by pairs others) q) write.1 (find key_cmp q others) (get-changed_by pairs others q)
+    ∙ value_left-cond (eq_by_cmp key_cmp q write.0) (get pairs q) (get (changed_by pairs others) q) write.1
+    (find key_cmp q others) (get-changed_by pairs others q)
 
 -- what came first counts only where nothing came later
 pub value_left-newer : (old : Option Stored) (first later : Option Change)
@@ -49,7 +54,8 @@ get-pairs_after : (pairs : Pairs) (commits : List Writes) (q : List ℕ)
 get-pairs_after pairs [] q = refl
 get-pairs_after pairs (writes ∷ later) q =
     get-pairs_after (changed_by pairs (entries writes)) later q
-    ∙ ap (λ v. value_left v (last_change later q)) (get-changed_by pairs (entries writes) q ∙ ap (value_left (get pairs q)) (sym (get-entries writes q)))
+    ∙ ap (λ v. value_left v (last_change later q))
+    (get-changed_by pairs (entries writes) q ∙ ap (value_left (get pairs q)) (sym (get-entries writes q)))
     ∙ value_left-newer (get pairs q) (get writes q) (last_change later q)
 
 pub get-contents_at : (h : History) (n : ℕ) (q : List ℕ) → get (contents_at h n) q ≡ value_at h n q
@@ -93,11 +99,13 @@ pub value_at-with_commit : (h : History) (writes : Writes) (q : List ℕ)
     → value_at (with_commit h writes) (last_number h + 1) q ≡ value_left (value_at h (last_number h) q) (get writes q)
 value_at-with_commit h writes q =
     let last = h.first + length h.commits in
-    ap (λ cs. value_left (past_value h.base (min (last + 1) h.first) q) (last_change cs q)) (take_all (h.commits ++ (writes ∷ [])) (last + 1 - h.first) (omega (arith, length-append h.commits (writes ∷ []))))
+    ap (λ cs. value_left (past_value h.base (min (last + 1) h.first) q) (last_change cs q))
+    (take_all (h.commits ++ (writes ∷ [])) (last + 1 - h.first) (omega (arith, length-append h.commits (writes ∷ []))))
     ∙ ap (λ old. value_left old (last_change (h.commits ++ (writes ∷ [])) q)) (past_stays h (last + 1) last q (omega arith) (omega arith))
     ∙ ap (value_left (past_value h.base (min last h.first) q)) (last_change-append h.commits writes q)
     ∙ sym (value_left-newer (past_value h.base (min last h.first) q) (last_change h.commits q) (get writes q))
-    ∙ ap (λ cs. value_left (value_left (past_value h.base (min last h.first) q) (last_change cs q)) (get writes q)) (sym (take_all h.commits (last - h.first) (omega arith)))
+    ∙ ap (λ cs. value_left (value_left (past_value h.base (min last h.first) q) (last_change cs q)) (get writes q))
+    (sym (take_all h.commits (last - h.first) (omega arith)))
 
 -- up to the first number what stands is the base's
 pub value_at-first : (h : History) (n : ℕ) (q : List ℕ) → n ≤ h.first
@@ -113,8 +121,10 @@ pub value_at-extends : (least most : History) → Extends least most → (n : �
 value_at-extends least most e n q le =
     ap (λ (b : ℕ). value_left (past_value most.base (min n b) q) (last_change (take (n - b) most.commits) q)) e.first
     ∙ ap (λ (base : Past). value_left (past_value base (min n least.first) q) (last_change (take (n - least.first) most.commits) q)) e.base
-    ∙ ap (λ (cs : List Writes). value_left (past_value least.base (min n least.first) q) (last_change (take (n - least.first) cs) q)) e.commits
-    ∙ ap (λ (cs : List Writes). value_left (past_value least.base (min n least.first) q) (last_change cs q)) (take-append-le (n - least.first) least.commits e.later (omega arith))
+    ∙ ap (λ (cs : List Writes). value_left (past_value least.base (min n least.first) q)
+    (last_change (take (n - least.first) cs) q)) e.commits
+    ∙ ap (λ (cs : List Writes). value_left (past_value least.base (min n least.first) q) (last_change cs q))
+    (take-append-le (n - least.first) least.commits e.later (omega arith))
 
 pub last_number-extends : (least most : History) → Extends least most
     → last_number least ≤ last_number most
@@ -141,7 +151,8 @@ pub past_value-empty : (n : ℕ) (q : List ℕ) → past_value empty n q ≡ Non
 past_value-empty n q =
     let past : Past = empty in
     let nothing : entries past ≡ [] = none_at_all (entries past) (sym (len-entries past) ∙ len-empty nat_cmp Writes) in
-    ap (λ (cs : List (ℕ × Writes)). value_left None (last_change (map (λ (c : ℕ × Writes). c.1) (filter (λ (c : ℕ × Writes). nat_le c.0 n) cs)) q)) nothing
+    ap (λ (cs : List (ℕ × Writes)). value_left None
+    (last_change (map (λ (c : ℕ × Writes). c.1) (filter (λ (c : ℕ × Writes). nat_le c.0 n) cs)) q)) nothing
 
 -- ---- a base of one version for each key
 
@@ -158,7 +169,8 @@ below_set key (row ∷ rows) below = both (is_lt (key_cmp key row.0)) (λ later.
 sorted_set : (rows : List Row) → T (is_sorted key_cmp rows)
     → T (is_sorted key_cmp (map (λ (row : Row). (row.0, Set row.1)) rows))
 sorted_set [] rising = tt
-sorted_set (row ∷ rows) rising = both (below_all key_cmp row.0 rows) (below_all key_cmp row.0 (map (λ (x : Row). (x.0, Set x.1)) rows)) (below_set row.0 rows) (λ later. sorted_set rows later) rising
+sorted_set (row ∷ rows) rising = both (below_all key_cmp row.0 rows)
+    (below_all key_cmp row.0 (map (λ (x : Row). (x.0, Set x.1)) rows)) (below_set row.0 rows) (λ later. sorted_set rows later) rising
   where
     both : (a b : Bool) → (T a → T b) → (T (is_sorted key_cmp rows) → T (is_sorted key_cmp (map (λ (x : Row). (x.0, Set x.1)) rows)))
         → T (a && is_sorted key_cmp rows) → T (b && is_sorted key_cmp (map (λ (x : Row). (x.0, Set x.1)) rows))
@@ -169,10 +181,12 @@ sorted_set (row ∷ rows) rising = both (below_all key_cmp row.0 rows) (below_al
 find_set : (q : List ℕ) (rows : List Row)
     → find key_cmp q (map (λ (row : Row). (row.0, Set row.1)) rows) ≡ option_map Set (find key_cmp q rows)
 find_set q [] = refl
-find_set q (row ∷ rows) = elim (eq_by_cmp key_cmp q row.0) as (λ b. cond b (Some (Set row.1)) (find key_cmp q (map (λ (x : Row). (x.0, Set x.1)) rows)) ≡ option_map Set (cond b (Some row.1) (find key_cmp q rows))) [
-  | true ↦ refl
-  | false ↦ find_set q rows
-]
+find_set q (row ∷ rows) = elim (eq_by_cmp key_cmp q row.0) as
+    (λ b. cond b (Some (Set row.1)) (find key_cmp q (map (λ (x : Row). (x.0, Set x.1)) rows)) ≡ option_map Set
+    (cond b (Some row.1) (find key_cmp q rows))) [
+      | true ↦ refl
+      | false ↦ find_set q rows
+    ]
 
 left_by_set : (o : Option Stored) → value_left None (option_map Set o) ≡ o
 left_by_set None = refl
@@ -184,9 +198,12 @@ pub past_value-standing_at : (m n : ℕ) (pairs : Pairs) (q : List ℕ) → m �
 past_value-standing_at m n pairs q le =
     let writes : Writes = from_sorted (map (λ (row : Row). (row.0, Set row.1)) (entries pairs)) in
     let counted : nat_le m n ≡ true = grind (arith, nat_tests) in
-    ap (λ (cs : List (ℕ × Writes)). value_left None (last_change (map (λ (c : ℕ × Writes). c.1) (filter (λ (c : ℕ × Writes). nat_le c.0 n) cs)) q)) (entries-from_sorted nat_cmp ((m, writes) ∷ []) tt)
+    ap (λ (cs : List (ℕ × Writes)). value_left None
+    (last_change (map (λ (c : ℕ × Writes). c.1) (filter (λ (c : ℕ × Writes). nat_le c.0 n) cs)) q))
+    (entries-from_sorted nat_cmp ((m, writes) ∷ []) tt)
     ∙ ap (λ b. value_left None (last_change (map (λ (c : ℕ × Writes). c.1) (cond b ((m, writes) ∷ []) [])) q)) counted
-    ∙ ap (value_left None) (get-from_sorted key_cmp (map (λ (row : Row). (row.0, Set row.1)) (entries pairs)) q (sorted_set (entries pairs) (entries_sorted pairs)) ∙ find_set q (entries pairs) ∙ ap (option_map Set) (sym (get-entries pairs q)))
+    ∙ ap (value_left None) (get-from_sorted key_cmp (map (λ (row : Row). (row.0, Set row.1)) (entries pairs)) q
+    (sorted_set (entries pairs) (entries_sorted pairs)) ∙ find_set q (entries pairs) ∙ ap (option_map Set) (sym (get-entries pairs q)))
     ∙ left_by_set (get pairs q)
 
 -- a history that begins with it begins with what stood

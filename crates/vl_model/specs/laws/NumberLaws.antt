@@ -1,5 +1,6 @@
 -- Laws of the greatest numbers below a bound, and of the least number that can be read.
-use Rattle.std.proofs.Common.{◌≡◌, ⊎_elim, ℕ, zero, suc, ◌+◌, ◌≤◌, ◌<◌, Bool, true, false, cond, ◌||◌, List, [], ◌∷◌, refl, ap, sym, ◌∙◌, subst, arith}
+use Rattle.std.proofs.Common.{◌≡◌, ⊎_elim, ℕ, zero, suc, ◌+◌, ◌≤◌, ◌<◌, Bool, true, false, cond, ◌||◌, List, [], ◌∷◌}
+use Rattle.std.proofs.Common.{refl, ap, sym, ◌∙◌, subst, arith}
 use Rattle.std.proofs.lemmas.Bool.{cases_lt}
 use Rattle.std.proofs.lemmas.Bool.Decides.{nat_tests}
 use Rattle.std.specs.Prelude.{min, max, Option, Some, None, nat_le, nat_lt, ◌==◌}
@@ -26,12 +27,14 @@ found_later bound m ns (Some n) found = (found.0, has_later m n ns found.1)
 either_found : (bound : ℕ) (ns : List ℕ) (a b : Option ℕ) → IsFound bound ns a → IsFound bound ns b → IsFound bound ns (greater a b)
 either_found bound ns None b p q = q
 either_found bound ns (Some m) None p q = p
-either_found bound ns (Some m) (Some n) p q = elim (nat_le n m) as (λ t. IsFound bound ns (cond t (Some m) (Some n))) [ true ↦ p | false ↦ q ]
+either_found bound ns (Some m) (Some n) p q = elim (nat_le n m) as (λ t. IsFound bound ns (cond t (Some m) (Some n)))
+    [ true ↦ p | false ↦ q ]
 
 pub greatest-found : (bound : ℕ) (ns : List ℕ) → IsFound bound ns (greatest_below bound ns)
 greatest-found bound [] = tt
 greatest-found bound (n ∷ ns) =
-    either_found bound (n ∷ ns) (cond (nat_lt n bound) (Some n) None) (greatest_below bound ns) (first (nat_lt n bound) refl) (found_later bound n ns (greatest_below bound ns) (greatest-found bound ns))
+    either_found bound (n ∷ ns) (cond (nat_lt n bound) (Some n) None) (greatest_below bound ns)
+    (first (nat_lt n bound) refl) (found_later bound n ns (greatest_below bound ns) (greatest-found bound ns))
   where
     first : (b : Bool) → nat_lt n bound ≡ b → IsFound bound (n ∷ ns) (cond b (Some n) None)
     first true is = ((let less : n < bound = grind (arith, nat_tests) in less), has_first n ns)
@@ -40,18 +43,22 @@ greatest-found bound (n ∷ ns) =
 reaches_left : (m : ℕ) (a b : Option ℕ) → Reaches m a → Reaches m (greater a b)
 reaches_left m None b r = absurd r
 reaches_left m (Some k) None r = r
-reaches_left m (Some k) (Some n) r = elim (nat_le n k) as (λ t. nat_le n k ≡ t → Reaches m (cond t (Some k) (Some n))) [ true ↦ λ is. r | false ↦ λ is. let less : m ≤ n = grind (arith, nat_tests) in less ] refl
+reaches_left m (Some k) (Some n) r = elim (nat_le n k) as (λ t. nat_le n k ≡ t → Reaches m (cond t (Some k) (Some n)))
+    [ true ↦ λ is. r | false ↦ λ is. let less : m ≤ n = grind (arith, nat_tests) in less ] refl
 
 reaches_right : (m : ℕ) (a b : Option ℕ) → Reaches m b → Reaches m (greater a b)
 reaches_right m None b r = r
 reaches_right m (Some k) None r = absurd r
-reaches_right m (Some k) (Some n) r = elim (nat_le n k) as (λ t. nat_le n k ≡ t → Reaches m (cond t (Some k) (Some n))) [ true ↦ λ is. let less : m ≤ k = grind (arith, nat_tests) in less | false ↦ λ is. r ] refl
+reaches_right m (Some k) (Some n) r = elim (nat_le n k) as (λ t. nat_le n k ≡ t → Reaches m (cond t (Some k) (Some n)))
+    [ true ↦ λ is. let less : m ≤ k = grind (arith, nat_tests) in less | false ↦ λ is. r ] refl
 
 pub greatest-reaches : (m bound : ℕ) (ns : List ℕ) → has m ns ≡ true → m < bound → Reaches m (greatest_below bound ns)
 greatest-reaches m bound [] there less = absurd cc
-greatest-reaches m bound (n ∷ ns) there less = by_test (n == m) refl (λ later. reaches_right m (cond (nat_lt n bound) (Some n) None) (greatest_below bound ns) (greatest-reaches m bound ns later less))
+greatest-reaches m bound (n ∷ ns) there less = by_test (n == m) refl
+    (λ later. reaches_right m (cond (nat_lt n bound) (Some n) None) (greatest_below bound ns) (greatest-reaches m bound ns later less))
   where
-    by_test : (b : Bool) → (n == m) ≡ b → (has m ns ≡ true → Reaches m (greatest_below bound (n ∷ ns))) → Reaches m (greatest_below bound (n ∷ ns))
+    by_test : (b : Bool) → (n == m) ≡ b → (has m ns ≡ true → Reaches m (greatest_below bound (n ∷ ns)))
+        → Reaches m (greatest_below bound (n ∷ ns))
     by_test true is later =
         let same : n ≡ m = grind (arith, nat_tests) in
         let below : nat_lt n bound ≡ true = grind (arith, nat_tests) in
@@ -79,7 +86,8 @@ next-risen ns ns' among (Some m) (Some n) r = by_found (greatest_below m ns) (gr
 pub nth-risen : (ns ns' : List ℕ) → AreAmong ns ns' → (bound bound' v : ℕ) → bound ≤ bound'
     → AreRisen (nth_below ns bound v) (nth_below ns' bound' v)
 nth-risen ns ns' among bound bound' zero le = le
-nth-risen ns ns' among bound bound' (suc v) le = next-risen ns ns' among (nth_below ns bound v) (nth_below ns' bound' v) (nth-risen ns ns' among bound bound' v le)
+nth-risen ns ns' among bound bound' (suc v) le = next-risen ns ns' among (nth_below ns bound v) (nth_below ns' bound' v)
+    (nth-risen ns ns' among bound bound' v le)
 
 next-less : (ns : List ℕ) (o : Option ℕ) → AreRisen (next_below ns o) o
 next-less ns None = tt
@@ -122,14 +130,17 @@ at_least-risen since (Some m) (Some n) r = omega (arith, r)
 
 -- it is never above the floor
 pub low-floor : (ns : List ℕ) (floor keep since : ℕ) → low_of ns floor keep since ≤ floor
-low-floor ns floor keep since = elim (keep == 1) as (λ b. cond b floor (min floor (at_least since (nth_below ns (floor + 1) keep))) ≤ floor) [ true ↦ omega arith | false ↦ omega arith ]
+low-floor ns floor keep since = elim (keep == 1) as
+    (λ b. cond b floor (min floor (at_least since (nth_below ns (floor + 1) keep))) ≤ floor) [ true ↦ omega arith | false ↦ omega arith ]
 
 -- it rises with the floor, and with more versions
 pub low-rises : (ns ns' : List ℕ) → AreAmong ns ns' → (floor floor' keep since : ℕ) → floor ≤ floor'
     → low_of ns floor keep since ≤ low_of ns' floor' keep since
 low-rises ns ns' among floor floor' keep since le =
-    let risen = at_least-risen since (nth_below ns (floor + 1) keep) (nth_below ns' (floor' + 1) keep) (nth-risen ns ns' among (floor + 1) (floor' + 1) keep (omega (arith, le))) in
-    elim (keep == 1) as (λ b. cond b floor (min floor (at_least since (nth_below ns (floor + 1) keep))) ≤ cond b floor' (min floor' (at_least since (nth_below ns' (floor' + 1) keep)))) [
+    let risen = at_least-risen since (nth_below ns (floor + 1) keep) (nth_below ns' (floor' + 1) keep)
+    (nth-risen ns ns' among (floor + 1) (floor' + 1) keep (omega (arith, le))) in
+    elim (keep == 1) as (λ b. cond b floor (min floor (at_least since (nth_below ns (floor + 1) keep))) ≤ cond b floor'
+    (min floor' (at_least since (nth_below ns' (floor' + 1) keep)))) [
       | true ↦ le
       | false ↦ omega (arith, le, risen)
     ]
@@ -153,17 +164,24 @@ low-kept ns floor last keep since v le = by_less (nat_lt keep v) refl
     by_less true is =
         let up' = up in
         let all = raised (nth_below ns (floor + 1) v) in
-        elim (v == 1) as (λ b. low_of ns floor keep since ≤ cond b floor (min floor (at_least last (nth_below ns (floor + 1) v)))) [ true ↦ up' | false ↦ omega (arith, up', all) ]
+        elim (v == 1) as (λ b. low_of ns floor keep since ≤ cond b floor
+        (min floor (at_least last (nth_below ns (floor + 1) v)))) [ true ↦ up' | false ↦ omega (arith, up', all) ]
     by_less false is = by_one (v == 1) refl
       where
-        by_one : (b : Bool) → (v == 1) ≡ b → low_of ns floor keep since ≤ cond b floor (min floor (at_least since (nth_below ns (floor + 1) v)))
+        by_one : (b : Bool) → (v == 1) ≡ b
+            → low_of ns floor keep since ≤ cond b floor (min floor (at_least since (nth_below ns (floor + 1) v)))
         by_one true one = up
         by_one false one = by_zero v refl (keep == 1) refl
           where
-            by_zero : (w : ℕ) → v ≡ w → (c : Bool) → (keep == 1) ≡ c → cond c floor (min floor (at_least since (nth_below ns (floor + 1) keep))) ≤ min floor (at_least since (nth_below ns (floor + 1) v))
-            by_zero zero none true both = subst (λ (k : ℕ). floor ≤ min floor (at_least since (nth_below ns (floor + 1) k))) (sym none) (let more : floor ≤ max since (floor + 1) = omega arith in omega (arith, more))
+            by_zero : (w : ℕ) → v ≡ w → (c : Bool) → (keep == 1) ≡ c
+                → cond c floor (min floor (at_least since (nth_below ns (floor + 1) keep))) ≤ min floor
+                (at_least since (nth_below ns (floor + 1) v))
+            by_zero zero none true both = subst
+                (λ (k : ℕ). floor ≤ min floor (at_least since (nth_below ns (floor + 1) k))) (sym none)
+                (let more : floor ≤ max since (floor + 1) = omega arith in omega (arith, more))
             by_zero (suc w) none true both = absurd (grind (arith, nat_tests, is, one, none, both))
             by_zero w none false both =
                 let fewer : v ≤ keep = grind (arith, nat_tests) in
-                let risen = at_least-risen since (nth_below ns (floor + 1) keep) (nth_below ns (floor + 1) v) (nth-fewer_than ns (floor + 1) v keep fewer) in
+                let risen = at_least-risen since (nth_below ns (floor + 1) keep) (nth_below ns (floor + 1) v)
+                (nth-fewer_than ns (floor + 1) v keep fewer) in
                 omega (arith, risen)

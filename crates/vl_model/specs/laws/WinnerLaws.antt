@@ -34,7 +34,8 @@ pub newest_of-assoc : (a b c : Option Entry)
 newest_of-assoc None b c = refl
 newest_of-assoc (Some e) None c = refl
 newest_of-assoc (Some e) (Some f) None = newest_of-none (newest_of (Some e) (Some f))
-newest_of-assoc (Some e) (Some f) (Some g) = three_tests e f g (nat_le f.version e.version) (nat_le g.version f.version) (nat_le g.version e.version) refl refl refl
+newest_of-assoc (Some e) (Some f) (Some g) = three_tests e f g (nat_le f.version e.version) (nat_le g.version f.version)
+    (nat_le g.version e.version) refl refl refl
 
 module _ (key : List ℕ) (number : ℕ) where
   -- of two lists end to end the winner is the newest of their winners
@@ -51,7 +52,8 @@ module _ (key : List ℕ) (number : ℕ) where
       → winner (front ++ old ++ back) key number ≡ winner (front ++ new ++ back) key number
   winner-middle front old new back same =
       winner-append (front ++ old) back
-      ∙ ap (λ w. newest_of w (winner back key number)) (winner-append front old ∙ ap (newest_of (winner front key number)) same ∙ sym (winner-append front new))
+      ∙ ap (λ w. newest_of w (winner back key number))
+      (winner-append front old ∙ ap (newest_of (winner front key number)) same ∙ sym (winner-append front new))
       ∙ sym (winner-append (front ++ new) back)
 
   -- a key's winner hangs on the entries of that key alone
@@ -61,7 +63,9 @@ module _ (key : List ℕ) (number : ℕ) where
   winner-of_key (e ∷ es) =
       let mine : List Entry → List Entry = filter (λ (f : Entry). eq_by_cmp key_cmp key f.key) in
       let newest : Bool → Option Entry → Option Entry = λ b w. newest_of (only_if (b && nat_le e.version number) e) w in
-      elim (eq_by_cmp key_cmp key e.key) as (λ b. eq_by_cmp key_cmp key e.key ≡ b → winner (cond b (e ∷ mine es) (mine es)) key number ≡ newest (eq_by_cmp key_cmp key e.key) (winner es key number)) [
+      elim (eq_by_cmp key_cmp key e.key) as
+      (λ b. eq_by_cmp key_cmp key e.key ≡ b → winner (cond b (e ∷ mine es) (mine es)) key number ≡ newest
+      (eq_by_cmp key_cmp key e.key) (winner es key number)) [
         | true ↦ λ is. ap (newest (eq_by_cmp key_cmp key e.key)) (winner-of_key es)
         | false ↦ λ is. winner-of_key es ∙ ap (λ b. newest b (winner es key number)) (sym is)
       ] refl
@@ -108,7 +112,8 @@ apart key number e f of_e of_f greater same =
     let to_e : key ≡ e.key = same_key key e.key (and_parts _ _ of_e).0 in
     let to_f : key ≡ f.key = same_key key f.key (and_parts _ _ of_f).0 in
     let keys : key_cmp e.key f.key ≡ Equal = ap (key_cmp e.key) (sym to_f ∙ to_e) ∙ key_tied e.key in
-    let tied : entry_cmp e f ≡ Equal = ap (λ r. ordering_then r (nat_cmp f.version e.version)) keys ∙ versions_tied f.version e.version (sym same) in
+    let tied : entry_cmp e f ≡ Equal = ap (λ r. ordering_then r (nat_cmp f.version e.version)) keys
+    ∙ versions_tied f.version e.version (sym same) in
     greater_equal (sym greater ∙ tied)
 
 swapped : (e f : Entry) (p q : Bool) → e.version ≢ f.version → nat_le e.version f.version ≡ p
@@ -151,7 +156,8 @@ module _ (key : List ℕ) (number : ℕ) where
       same = entries_tied e f tied
 
       alike : counts key number f ≡ counts key number e
-      alike = ap (λ k. eq_by_cmp key_cmp key k && nat_le f.version number) (sym same.0) ∙ ap (λ v. eq_by_cmp key_cmp key e.key && nat_le v number) same.1
+      alike = ap (λ k. eq_by_cmp key_cmp key k && nat_le f.version number) (sym same.0)
+          ∙ ap (λ v. eq_by_cmp key_cmp key e.key && nat_le v number) same.1
 
       first : nat_le f.version e.version ≡ true
       first = let versions = same.1 in grind (arith, nat_tests)
@@ -169,7 +175,8 @@ module _ (key : List ℕ) (number : ℕ) where
   counted-put e [] = refl
   counted-put e (f ∷ fs) =
       let w = winner fs key number in
-      elim (entry_cmp e f) as (λ r. entry_cmp e f ≡ r → winner (by_order r (e ∷ f ∷ fs) (e ∷ fs) (f ∷ put e fs)) key number ≡ newest_of (only_if (counts key number e) e) (newest_of (only_if (counts key number f) f) w)) [
+      elim (entry_cmp e f) as (λ r. entry_cmp e f ≡ r → winner (by_order r (e ∷ f ∷ fs) (e ∷ fs) (f ∷ put e fs)) key
+      number ≡ newest_of (only_if (counts key number e) e) (newest_of (only_if (counts key number f) f) w)) [
         | Less ↦ λ is. refl
         | Equal ↦ λ is. instead e f w is
         | Greater ↦ λ is. ap (newest_of (only_if (counts key number f) f)) (counted-put e fs) ∙ behind e f w is

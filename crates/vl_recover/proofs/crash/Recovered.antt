@@ -23,11 +23,13 @@ use Rattle.vl_manifest.specs.declared.fails.IoFail.TheVariants.{Disk}
 use Rattle.vl_manifest.specs.declared.manifest_log.ManifestLog.{ManifestLog}
 use Rattle.vl_manifest.specs.declared.state.ManifestState.{ManifestState}
 use Rattle.vl_recover.specs.crash.Alike.{OpensAsOf}
-use Rattle.vl_recover.specs.opening.Answers.{Recovery, Faulted, NoMemory, Recovered, Refused, UsedUp, AreStrayNames, Finds, HeldLog, Opened, calls_to_open, held_log, logs_then, opened_from}
+use Rattle.vl_recover.specs.opening.Answers.{Recovery, Faulted, NoMemory, Recovered, Refused, UsedUp, AreStrayNames}
+use Rattle.vl_recover.specs.opening.Answers.{Finds, HeldLog, Opened, calls_to_open, held_log, logs_then, opened_from}
 use Rattle.vl_recover.specs.repairing.Deciding.{IsPrepared, opened_by}
 use Rattle.vl_recover.specs.opening.Finding.{IsFaultAt, IsReadName}
 use Rattle.vl_recover.specs.crash.Held.{HoldsStore, view_of}
-use Rattle.vl_recover.specs.crash.Meanwhile.{FaultsAt, IsAsLong, IsFaultName, IsMeanwhile, IsRepaired, Repairing, as_before, at_repaired, at_repairing, at_read}
+use Rattle.vl_recover.specs.crash.Meanwhile.{FaultsAt, IsAsLong, IsFaultName, IsMeanwhile, IsRepaired, Repairing}
+use Rattle.vl_recover.specs.crash.Meanwhile.{as_before, at_repaired, at_repairing, at_read}
 use Rattle.vl_recover.specs.repairing.Repairing.{Plan, WhileRepairing, calls_of_plan, repaired, with_last}
 use Rattle.vl_seglog.specs.declared.sealed.SealedLog.{SealedLog}
 use Rattle.vl_recover.proofs.repairs.RepairingLaws.{plan_calls}

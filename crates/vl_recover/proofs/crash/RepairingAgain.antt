@@ -1,5 +1,6 @@
 -- A disk that an opening left when it failed: a store may be opened on it again.
-use Rattle.std.specs.Prelude.{◌≡◌, ◌≢◌, ◌==◌, ℕ, ◌≤◌, ◌<◌, Bool, if◌then◌else◌, List, [], ◌∷◌, AllPairs, Option, None, Some, suc, true, false, refl}
+use Rattle.std.specs.Prelude.{◌≡◌, ◌≢◌, ◌==◌, ℕ, ◌≤◌, ◌<◌, Bool, if◌then◌else◌, List, [], ◌∷◌, AllPairs, Option, None}
+use Rattle.std.specs.Prelude.{Some, suc, true, false, refl}
 use Rattle.std.specs.FinMap.{get}
 use Rattle.std.proofs.Common.{ap, arith, subst, sym, ◌∙◌, ⊎_elim}
 use Rattle.std.proofs.lemmas.Bool.{cases_eq, cases_lt, true≢false}
@@ -18,7 +19,8 @@ use Rattle.vl_recover.proofs.repairs.LastFiles.{as_repairing}
 use Rattle.vl_recover.specs.laws.repairing.LastLaws.{LastStands, synced_leads}
 use Rattle.vl_recover.specs.laws.opening.LeadsLaws.{Leads, leads_holds, leads_kept, unled_unneeded}
 use Rattle.vl_recover.specs.laws.opening.LogsLaws.{IsTheLast, StandUpTo, last_is, last_stands, the_last}
-use Rattle.vl_recover.specs.repairing.Repairing.{Cut, Headed, Kept, LastLog, Rewritten, WhileLast, WhileLog, WhileStrays, last_of, repairing_of}
+use Rattle.vl_recover.specs.repairing.Repairing.{Cut, Headed, Kept, LastLog, Rewritten, WhileLast, WhileLog}
+use Rattle.vl_recover.specs.repairing.Repairing.{WhileStrays, last_of, repairing_of}
 use Rattle.vl_recover.specs.laws.repairing.RepairingStages.{IsFreeFrom, free_unled}
 use Rattle.vl_recover.specs.laws.repairing.RepairingSteps.{manifest_log}
 use Rattle.vl_recover.specs.laws.crash.OneName.{Making, done, making, torn, waits}

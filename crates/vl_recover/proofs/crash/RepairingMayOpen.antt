@@ -28,15 +28,18 @@ use Rattle.vl_recover.specs.laws.opening.HeldLaws.{settled_may_stand}
 use Rattle.vl_recover.specs.laws.opening.LeadsLaws.{led_levels, led_state, needs_kept, nowhere_kept}
 use Rattle.vl_recover.specs.laws.opening.LogsLaws.{written_held}
 use Rattle.vl_recover.specs.laws.opening.OpeningLaws.{opened, single_opening, some_none, some_same}
-use Rattle.vl_recover.specs.laws.repairing.RepairingOpens.{first, first_leads, first_stand, last, led_stays, log_free, number, piece, plan, s, second, third, third_spare, v}
+use Rattle.vl_recover.specs.laws.repairing.RepairingOpens.{first, first_leads, first_stand, last, led_stays, log_free}
+use Rattle.vl_recover.specs.laws.repairing.RepairingOpens.{number, piece, plan, s, second, third, third_spare, v}
 use Rattle.vl_recover.specs.laws.repairing.RepairingStages.{held_settled}
-use Rattle.vl_recover.specs.laws.repairing.RepairingStart.{Begins, can_write, free_unread, manifest_unneeded, manifests_nowhere, may_as, start_needs}
+use Rattle.vl_recover.specs.laws.repairing.RepairingStart.{Begins, can_write, free_unread, manifest_unneeded}
+use Rattle.vl_recover.specs.laws.repairing.RepairingStart.{manifests_nowhere, may_as, start_needs}
 use Rattle.vl_recover.specs.laws.repairing.RepairingSteps.{table_manifest}
 use Rattle.vl_recover.specs.laws.repairing.StageLaws.{ok_same}
 use Rattle.vl_recover.specs.opening.Answers.{AreStrayNames, Finds, as_segments}
 use Rattle.vl_recover.specs.opening.Opening.{FoundTable, IsAmong, IsNamed, NamedLevels, Opening, Opens, Refusal, led_into}
 use Rattle.vl_recover.specs.opening.Plans.{log_made}
-use Rattle.vl_recover.specs.repairing.Repairing.{IsPlan, Plan, WhileLast, WhileLog, WhileRepairing, at_last, at_log, at_manifest, at_strays, behind_log, last_of}
+use Rattle.vl_recover.specs.repairing.Repairing.{IsPlan, Plan, WhileLast, WhileLog, WhileRepairing, at_last, at_log}
+use Rattle.vl_recover.specs.repairing.Repairing.{at_manifest, at_strays, behind_log, last_of}
 use Rattle.vl_recover.proofs.crash.RepairingAgain.{GoesWell, StandsWell, below_well, last_well, leads_may_open, log_well, strays_well}
 use Rattle.vl_recover.proofs.crash.TornManifest.{part_no_chance}
 use Rattle.vl_recover.proofs.repairs.RepairingLaws.{last_ends, log_ends}

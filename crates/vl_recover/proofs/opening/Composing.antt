@@ -1,6 +1,7 @@
 -- What was found, put together.
 use Rattle.std.proofs.Common.{◌≡◌, ◌⊎◌, ℕ, ◌<◌, Bool, true, false, List, [], ◌∷◌, inl, inr, refl, sym, ap, ◌∙◌, subst, arith, ⊎_elim}
-use Rattle.std.specs.Prelude.{◌≢◌, ◌==◌, ◌||◌, not, nat_lt, AllPairs, Contains, IfSome, IsErr, IsErrAnd, IsSome, filter, if◌then◌else◌, Option, None, Some, Result, Ok, Err}
+use Rattle.std.specs.Prelude.{◌≢◌, ◌==◌, ◌||◌, not, nat_lt, AllPairs, Contains, IfSome, IsErr, IsErrAnd, IsSome}
+use Rattle.std.specs.Prelude.{filter, if◌then◌else◌, Option, None, Some, Result, Ok, Err}
 use Rattle.std.proofs.lemmas.Bool.{and_from, and_parts}
 use Rattle.std.specs.FinMap.{get}
 use Rattle.std.proofs.lemmas.Bool.Decides.{nat_tests}
@@ -17,7 +18,9 @@ use Rattle.vl_recover.specs.opening.Answers.{AnswersBy, AreStrayNames, IsStrayNa
 use Rattle.vl_recover.specs.opening.Finding.{FindsSo, IsFound, IsUpTo, Leads, greatest_of}
 use Rattle.vl_recover.specs.opening.LogsSoFar.{AreLogsFound, walk_of}
 use Rattle.vl_recover.specs.opening.Named.{AreGreatestIn, IsGreatestIn, is_named, is_stray}
-use Rattle.vl_recover.specs.opening.Opening.{Current, Damaged, FoundTable, IsAmong, IsNamed, LogsFrom, NamedLevels, NamedLogs, NewerFormat, NotAStore, Opening, Opens, Refusal, led_into, opening_of}
+use Rattle.vl_recover.specs.opening.Opening.{Current, Damaged, FoundTable, IsAmong, IsNamed, LogsFrom, NamedLevels}
+use Rattle.vl_recover.specs.opening.Opening.{NamedLogs, NewerFormat, NotAStore, Opening, Opens, Refusal, led_into}
+use Rattle.vl_recover.specs.opening.Opening.{opening_of}
 use Rattle.vl_recover.specs.opening.Leading.{AnswersStage}
 use Rattle.vl_recover.specs.opening.Results.{recovery_by}
 use Rattle.vl_recover.specs.declared.fails.OpenError.{OpenError}
@@ -45,7 +48,8 @@ module _ (p : Name → Bool) where
   kept [] name c is = absurd (nothing_in name c)
   kept (first ∷ names) name c is = by (λ in_rest. kept names name in_rest is) (p first) refl
     where
-      by : (Contains names name → Contains (filter p names) name) → (b : Bool) → p first ≡ b → Contains (if b then first ∷ filter p names else filter p names) name
+      by : (Contains names name → Contains (filter p names) name) → (b : Bool) → p first ≡ b
+          → Contains (if b then first ∷ filter p names else filter p names) name
       by rest true it = ⊎_elim
           (λ (e : first ≡ name). subst (λ (n : Name). Contains (n ∷ filter p names) name) (sym e) (Contains-first name (filter p names)))
           (λ (in_rest : Contains names name). Contains-later first name (filter p names) (rest in_rest))
@@ -56,7 +60,8 @@ module _ (p : Name → Bool) where
           (Contains-cases first name names c)
 
   kept_of : (names : List Name) (name : Name) → Contains (filter p names) name → Contains names name
-  kept_of names name c = All-contains (Contains names) (filter p names) name (All-filter p (Contains names) names (All-contains_itself names)) c
+  kept_of names name c = All-contains (Contains names) (filter p names) name
+      (All-filter p (Contains names) names (All-contains_itself names)) c
 
   passes : (names : List Name) (name : Name) → Contains (filter p names) name → p name ≡ true
   passes names name c = All-contains (λ n. p n ≡ true) (filter p names) name (filter_passes p names) c
@@ -140,12 +145,17 @@ module _ (o : Opening) (led : List ℕ) (same : led ≡ led_into o.levels) where
   is_stray_by (Table n) unnamed = true_not (is_named n o.state.levels) (λ yes. unnamed (named_one n o.state.levels yes))
   is_stray_by (Manifest n) u = refl
 
-module _ (image : Image) (names : List Name) (named : (name : Name) → IsSome (get image name) → Contains names name) (given_all : (name : Name) → Contains names name → IsSome (get image name)) where
+module _ (image : Image) (names : List Name) (named : (name : Name) → IsSome (get image name) → Contains names name)
+    (given_all : (name : Name) → Contains names name → IsSome (get image name)) where
   are_strays : AllPairs (λ a b. a ≢ b) names → (o : Opening) (led : List ℕ) → led ≡ led_into o.levels
       → AreStrayNames image o (filter (is_stray o.state led) names)
   are_strays once o led same = record {
     all = λ name. (
-      λ c. (given_all name (kept_of (is_stray o.state led) names name c), stray_is o led same name (passes (is_stray o.state led) names name c)),
+      λ c. (
+        given_all name (kept_of (is_stray o.state led) names name c),
+        stray_is o led same name
+            (passes (is_stray o.state led) names name c),
+      ),
       λ both. kept (is_stray o.state led) names name (named name both.0) (is_stray_by o led same name both.1),
     );
     once = AllPairs-filter (λ a b. a ≢ b) (is_stray o.state led) names once;
@@ -161,7 +171,12 @@ module _ (image : Image) (names : List Name) (named : (name : Name) → IsSome (
       some_not_none e = cc
 
   are_greatest : (g : Greatest) → AreGreatestIn names g → AreGreatest image g
-  are_greatest g are = record { log = is_greatest Log g.log are.log; table = is_greatest Table g.table are.table; manifest = is_greatest Manifest g.manifest are.manifest }
+  are_greatest g are = record {
+    log = is_greatest Log g.log are.log;
+    table = is_greatest Table g.table are.table;
+    manifest = is_greatest Manifest
+        g.manifest are.manifest;
+  }
 
 -- ---- a stage that refuses
 
@@ -188,11 +203,13 @@ pub led_refuse : (image : Image) (state : ManifestState) (levels : List (List Fo
     → NamedLevels false image state.levels (Ok levels) → (e : OpenError)
     → AnswersStage (NamedLogs image (led_into levels)) (Err e) → AnswersBy image (recovery_by e)
 led_refuse image state levels current named e is = refused_by image (Opens image) (λ why o. o) e
-    (of_stage (NamedLogs image (led_into levels)) (Opens image) (λ why refused. inr (state, current, inr (levels, named, inl refused))) e is)
+    (of_stage (NamedLogs image (led_into levels)) (Opens image)
+    (λ why refused. inr (state, current, inr (levels, named, inl refused))) e is)
 
 -- ---- the stages together
 
-module _ {H : Type 0} (image : Image) (state : ManifestState) (levels : List (List FoundTable)) (led : List ℕ) (leads : Leads image state levels led)
+module _ {H : Type 0} (image : Image) (state : ManifestState) (levels : List (List FoundTable)) (led : List ℕ)
+    (leads : Leads image state levels led)
     (logs : LogsFound H) (read : AreLogsFound image state.head state.covered logs) where
   opens_so : (r : Result ℕ LogDamage) → walk_of logs.number ≡ r → (o : Result Opening Refusal) → o ≡ opening_of state levels read.logs r
       → LogsFrom image state levels o
@@ -204,7 +221,12 @@ module _ {H : Type 0} (image : Image) (state : ManifestState) (levels : List (Li
   -- they are damaged
   pub logs_refuse : (damage : LogDamage) → walk_of logs.number ≡ Err damage → Opens image (Err (Damaged (Log damage.log) damage.place))
   logs_refuse damage is =
-      inr (state, leads.current, inr (levels, leads.tables, inr (tt, behind_led, opens_so (Err damage) is (Err (Damaged (Log damage.log) damage.place)) refl)))
+      inr (
+        state,
+        leads.current,
+        inr
+            (levels, leads.tables, inr (tt, behind_led, opens_so (Err damage) is (Err (Damaged (Log damage.log) damage.place)) refl)),
+      )
 
   pub is_found : (disk : DiskState) (names : List Name) (found : Findings) → IsRead image disk → Lists names disk
       → AreGreatestIn names (greatest_of found.greatest) → logs.number ≡ Ok found.number
@@ -218,7 +240,11 @@ module _ {H : Type 0} (image : Image) (state : ManifestState) (levels : List (Li
         record {
           finds = record {
             opening = o;
-            opens = (state, leads.current, (levels, leads.tables, (tt, behind_led, opens_so (Ok found.number) (ap walk_of number) (Ok o) refl)));
+            opens = (
+              state,
+              leads.current,
+              (levels, leads.tables, (tt, behind_led, opens_so (Ok found.number) (ap walk_of number) (Ok o) refl)),
+            );
             greatest = greatest_of found.greatest;
             are_greatest = are_greatest image names named given_all (greatest_of found.greatest) are;
             logs = read.logs;
@@ -240,7 +266,8 @@ numbered_last names greatest are None named = tt
 numbered_last names greatest are (Some q) named = are.log.above q.number named
 
 -- a refusal of a stage is the answer
-pub found_handed : {H : Type 0} (image : Image) (result : Result (Findings × HeldFiles H) OpenError) (e : OpenError) → IsErr result → IsErrAnd result (λ f. f ≡ e)
+pub found_handed : {H : Type 0} (image : Image) (result : Result (Findings × HeldFiles H) OpenError) (e : OpenError)
+    → IsErr result → IsErrAnd result (λ f. f ≡ e)
     → AnswersBy image (recovery_by e) → FindsSo image result
 found_handed image (Ok found) e failed same is = absurd (differ failed)
 found_handed image (Err f) e failed same is = subst (λ (x : OpenError). AnswersBy image (recovery_by x)) (sym same) is

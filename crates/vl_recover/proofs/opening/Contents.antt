@@ -1,5 +1,6 @@
 -- What stands behind a log's header is read frame by frame.
-use Rattle.std.proofs.Common.{◌≡◌, ℕ, ◌+◌, ◌-◌, ◌<◌, ◌^◌, true, List, [], ◌∷◌, ◌++◌, length, map, reverse, refl, sym, ap, ◌∙◌, arith, append_assoc}
+use Rattle.std.proofs.Common.{◌≡◌, ℕ, ◌+◌, ◌-◌, ◌<◌, ◌^◌, true, List, [], ◌∷◌, ◌++◌, length, map, reverse, refl, sym}
+use Rattle.std.proofs.Common.{ap, ◌∙◌, arith, append_assoc}
 use Rattle.std.specs.Prelude.{Result, Ok, Err}
 use Rattle.std.specs.List.{sum_by}
 use Rattle.std.proofs.lemmas.List.{append-nil, map-append, reverse-append}
@@ -59,7 +60,8 @@ counted-more format n place (g ∷ fs) f =
         → ((m : ℕ) → counted format m (place + frame_length format g) (fs ++ f ∷ [])
         ≡ counted_frame_on (counted format m (place + frame_length format g) fs) (place + sum_by (frame_length format) (g ∷ fs)) f)
         → on_ok (λ m. counted format m (place + frame_length format g) (fs ++ f ∷ [])) w
-        ≡ counted_frame_on (on_ok (λ m. counted format m (place + frame_length format g) fs) w) (place + sum_by (frame_length format) (g ∷ fs)) f
+        ≡ counted_frame_on (on_ok (λ m. counted format m (place + frame_length format g) fs) w)
+        (place + sum_by (frame_length format) (g ∷ fs)) f
     by (Ok m) rest = rest m
     by (Err p) rest = refl
 
@@ -105,7 +107,8 @@ module _ (format log before : ℕ) where
             more.entries_are
             ∙ ap (λ (es : List Entry). es ++ reverse (entries_in f.said)) so.entries_are
             ∙ ap (λ (es : List Entry). reverse (logged_entries format log 16 fs) ++ reverse es) said
-            ∙ sym (reverse-append (frame_entries format log (16 + sum_by (frame_length format) fs) (frame_of f)) (logged_entries format log 16 fs))
+            ∙ sym (reverse-append (frame_entries format log (16 + sum_by (frame_length format) fs) (frame_of f))
+            (logged_entries format log 16 fs))
             ∙ ap reverse (sym (logged-more format log 16 fs (frame_of f)));
         some = more.some ∙ sym (some-more fs (frame_of f));
       }
@@ -148,7 +151,17 @@ module _ (format log before : ℕ) (bytes : List ℕ) where
       record {
         frames = so.frames ++ frame_of f ∷ [];
         under_way = goes_on (frames_grammar format) log 16 bytes so.frames rest old.end (frame_of f) after so.under_way so.place stands;
-        place = omega (arith, more.end_is, at.place_is, at.length_is, less.0, length-item_frame format log old.end (frame_of f), within, place);
+        place = omega (
+          arith,
+          more.end_is,
+          at.place_is,
+          at.length_is,
+          less.0,
+          length-item_frame format log old.end
+              (frame_of f),
+          within,
+          place,
+        );
         has = one_held format log before so.frames old new f so.has at more;
       }
 

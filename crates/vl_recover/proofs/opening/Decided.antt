@@ -11,7 +11,8 @@ use Rattle.vl_manifest.specs.States.{opened_state, whole_edits}
 use Rattle.vl_manifest.specs.declared.state.ManifestState.{ManifestState}
 use Rattle.vl_model.specs.declared.log_frame.LogFrame.{LogFrame}
 use Rattle.vl_recover.specs.opening.Answers.{AnswersBy, AreStrayNames, used_up}
-use Rattle.vl_recover.specs.repairing.Deciding.{DecidesSo, IsDecided, IsPrepared, PreparesSo, log_for, next_of, plan_for, state_for, step_for, used_up_for, used_up_of}
+use Rattle.vl_recover.specs.repairing.Deciding.{DecidesSo, IsDecided, IsPrepared, PreparesSo, log_for, next_of}
+use Rattle.vl_recover.specs.repairing.Deciding.{plan_for, state_for, step_for, used_up_for, used_up_of}
 use Rattle.vl_recover.specs.opening.Finding.{IsFaultAt, IsFound, last_log, last_of}
 use Rattle.vl_recover.specs.repairing.Holding.{hold_for}
 use Rattle.vl_recover.specs.repairing.Repairing.{Cut, Headed, IsPlan, Kept, Plan, Rewritten, plan_of}

@@ -27,9 +27,12 @@ module _ (format log : ℕ) where
       → map (record_entry format log) (relocated_records format place (map moved_of rs)) ≡ map entry_of rs
   relocated_entries-read place [] at = refl
   relocated_entries-read place (r ∷ rs) at =
-      let body : logged_body (Set (value_of r.change)) (pointer_at format log (place + 8) r.key (Set (value_of r.change))) ≡ logged_body r.change r.pointer =
-      ap (λ (c : Change). logged_body c (pointer_at format log (place + 8) r.key c)) (sym at.0.sets) ∙ ap (λ (p : Pointer). logged_body r.change p) (sym at.0.pointer_is) in
-      let first : record_entry format log (record { key = r.key; version = r.version; change = Set (value_of r.change); place = place + 8 }) ≡ entry_of r =
+      let body : logged_body (Set (value_of r.change))
+      (pointer_at format log (place + 8) r.key (Set (value_of r.change))) ≡ logged_body r.change r.pointer =
+      ap (λ (c : Change). logged_body c (pointer_at format log (place + 8) r.key c)) (sym at.0.sets)
+      ∙ ap (λ (p : Pointer). logged_body r.change p) (sym at.0.pointer_is) in
+      let first : record_entry format log
+      (record { key = r.key; version = r.version; change = Set (value_of r.change); place = place + 8 }) ≡ entry_of r =
       λ i. record { key = r.key; version = r.version; body = body i } in
       let others = relocated_entries-read (place + moved_size format r) rs at.1 in
       λ i. first i ∷ others i
@@ -37,7 +40,8 @@ module _ (format log : ℕ) where
   said_entries : (at : ℕ) (said : Said) → RecordsLie format log (at + 5) said → entries_in said ≡ frame_entries format log at (said_of said)
   said_entries at (says.Commit c) lie =
       let place : at + 5 + 12 ≡ at + 17 = omega arith in
-      sym (committed_entries-read c.number (at + 17) c.records.items (subst (λ (n : ℕ). AreRecordsFrom format log c.number n c.records.items) place lie))
+      sym (committed_entries-read c.number (at + 17) c.records.items
+      (subst (λ (n : ℕ). AreRecordsFrom format log c.number n c.records.items) place lie))
   said_entries at (says.Moves records) lie =
       let place : at + 5 + 4 ≡ at + 9 = omega arith in
       sym (relocated_entries-read (at + 9) records.items (subst (λ (n : ℕ). AreMovedFrom format log n records.items) place lie))

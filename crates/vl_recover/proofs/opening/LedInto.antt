@@ -1,5 +1,6 @@
 -- Numbers put among rising ones, and the logs with these numbers that are held.
-use Rattle.std.specs.Prelude.{◌≡◌, ◌+◌, ◌<◌, ◌≤◌, ◌==◌, ◌⊎◌, ℕ, Bool, true, false, nat_lt, if◌then◌else◌, List, [], ◌∷◌, ◌++◌, drop, get_or, length, take, refl}
+use Rattle.std.specs.Prelude.{◌≡◌, ◌+◌, ◌<◌, ◌≤◌, ◌==◌, ◌⊎◌, ℕ, Bool, true, false, nat_lt, if◌then◌else◌, List, []}
+use Rattle.std.specs.Prelude.{◌∷◌, ◌++◌, drop, get_or, length, take, refl}
 use Rattle.std.proofs.Common.{sym, ap, subst, ◌∙◌, append_assoc, append-nil, arith, ⊎_elim}
 use Rattle.std.proofs.lemmas.Bool.{cases_lt}
 use Rattle.std.proofs.lemmas.Bool.Decides.{nat_tests}
@@ -93,7 +94,8 @@ module _ {H : Type 0} (bytes_of : H → Option (List ℕ)) (image : Image) (head
   by_test b n = if b then n ∷ [] else []
 
   -- one that isn't below head,
-  pub not_held : (logs : List (SealedLog H)) (i : ℕ) → i < length led → head ≤ get_or led i 0 → AreHeldSoFar logs i → AreHeldSoFar logs (i + 1)
+  pub not_held : (logs : List (SealedLog H)) (i : ℕ) → i < length led → head ≤ get_or led i 0 → AreHeldSoFar logs i
+      → AreHeldSoFar logs (i + 1)
   unfolding by_test
   not_held logs i inside above so =
       let test : nat_lt (get_or led i 0) head ≡ false = grind (arith, nat_tests) in
@@ -103,7 +105,8 @@ module _ {H : Type 0} (bytes_of : H → Option (List ℕ)) (image : Image) (head
       ∙ append-nil (filter (λ (n : ℕ). nat_lt n head) (take i led)))) so
 
   -- and one that is
-  pub one_held : (logs more : List (SealedLog H)) (log : SealedLog H) (i : ℕ) → i < length led → get_or led i 0 < head → more ≡ logs ++ log ∷ []
+  pub one_held : (logs more : List (SealedLog H)) (log : SealedLog H) (i : ℕ) → i < length led → get_or led i 0 < head
+      → more ≡ logs ++ log ∷ []
       → AreHeldSoFar logs i → IsReadLog bytes_of image log (get_or led i 0) → AreHeldSoFar more (i + 1)
   unfolding by_test
   one_held logs more log i inside below is so one =
@@ -116,7 +119,8 @@ module _ {H : Type 0} (bytes_of : H → Option (List ℕ)) (image : Image) (head
 
   pub all_held : (logs : List (SealedLog H)) (i : ℕ) → length led ≤ i → AreHeldSoFar logs i
       → AllZip (IsReadLog bytes_of image) logs (filter (λ (n : ℕ). nat_lt n head) led)
-  all_held logs i past so = subst (λ (ns : List ℕ). AllZip (IsReadLog bytes_of image) logs (filter (λ (n : ℕ). nat_lt n head) ns)) (take_all i led past) so
+  all_held logs i past so = subst
+      (λ (ns : List ℕ). AllZip (IsReadLog bytes_of image) logs (filter (λ (n : ℕ). nat_lt n head) ns)) (take_all i led past) so
 
   -- a log that was held behind its header
   pub held_as_read : (number format : ℕ) (held : H) → BeginsIn image number format → bytes_of held ≡ get image (Log number)

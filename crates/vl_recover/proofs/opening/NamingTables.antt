@@ -1,5 +1,6 @@
 -- Tables are opened one behind the other: what is said of the rest, behind those that were opened, is said of all.
-use Rattle.std.specs.Prelude.{◌≡◌, ◌≤◌, ◌-◌, ℕ, suc, Bool, true, false, length, get_or, List, [], ◌∷◌, ◌++◌, map, Option, None, Some, Result, Ok, Err, IsErr, IsErrAnd, Vec, refl}
+use Rattle.std.specs.Prelude.{◌≡◌, ◌≤◌, ◌-◌, ℕ, suc, Bool, true, false, length, get_or, List, [], ◌∷◌, ◌++◌, map}
+use Rattle.std.specs.Prelude.{Option, None, Some, Result, Ok, Err, IsErr, IsErrAnd, Vec, refl}
 use Rattle.std.specs.FinMap.{get}
 use Rattle.std.proofs.Common.{sym, ap, subst, ◌∙◌, inl, inr, append_assoc, append-nil, arith}
 use Rattle.vl_disk.specs.Crash.{Image}
@@ -17,7 +18,9 @@ use Rattle.vl_recover.specs.opening.HeldFiles.{AreReadTables, tables_of}
 use Rattle.vl_recover.specs.opening.Leading.{AnswersStage}
 use Rattle.vl_recover.specs.opening.OpenedTables.{IsNoTable, IsNotNext, last_before}
 use Rattle.vl_recover.specs.opening.Results.{IsDiskFault, recovery_by}
-use Rattle.vl_recover.specs.opening.Opening.{Damaged, FoundTable, IsAbove, IsBadTable, NamedLevel, NamedLevels, NamedLog, NamedLogs, NamedTable, Refusal, StandsTable, first_key, key_before, last_key, not_above}
+use Rattle.vl_recover.specs.opening.Opening.{Damaged, FoundTable, IsAbove, IsBadTable, NamedLevel, NamedLevels}
+use Rattle.vl_recover.specs.opening.Opening.{NamedLog, NamedLogs, NamedTable, Refusal, StandsTable, first_key}
+use Rattle.vl_recover.specs.opening.Opening.{key_before, last_key, not_above}
 
 -- what a stage gives, behind what was there already
 abbrev pub in_front : {A : Type 0} → List A → Result (List A) Refusal → Result (List A) Refusal
@@ -102,10 +105,12 @@ module _ (image : Image) (deeper : Bool) where
   next_refused all opened n rest t so stands (why.Disk name) is = absurd is
 
   pub all_opened : (all : List ℕ) (opened : List FoundTable) → AreOpened all opened [] → NamedLevel deeper image None all (Ok opened)
-  all_opened all opened so = subst (λ (l : List FoundTable). NamedLevel deeper image None all (Ok l)) (append-nil opened) (so.goes_on (Ok []) refl)
+  all_opened all opened so = subst (λ (l : List FoundTable). NamedLevel deeper image None all (Ok l))
+      (append-nil opened) (so.goes_on (Ok []) refl)
 
 -- memory may have run out behind it, but the disk didn't fail
-no_disk_fault : (before : Option (List ℕ)) (t : FoundTable) (n : ℕ) (e : OpenError) → IsNotNext before t e → IsDiskFault n (recovery_by e) → ⊥
+no_disk_fault : (before : Option (List ℕ)) (t : FoundTable) (n : ℕ) (e : OpenError) → IsNotNext before t e
+    → IsDiskFault n (recovery_by e) → ⊥
 no_disk_fault before t n why.NotAStore is fault = fault
 no_disk_fault before t n (why.NewerFormat format) is fault = fault
 no_disk_fault before t n (why.Damaged name place) is fault = fault
@@ -147,7 +152,8 @@ module _ (image : Image) where
   levels_front front ts (Ok others) = ap (λ (l : List (List FoundTable)). Ok l) (sym (append_assoc front (ts ∷ []) others))
   levels_front front ts (Err e) = refl
 
-  pub one_level : (all : List (List ℕ)) (opened : List (List FoundTable)) (deeper : Bool) (ns : List ℕ) (rest : List (List ℕ)) (ts : List FoundTable)
+  pub one_level : (all : List (List ℕ)) (opened : List (List FoundTable)) (deeper : Bool) (ns : List ℕ)
+      (rest : List (List ℕ)) (ts : List FoundTable)
       → AreLevelsOpened all opened deeper (ns ∷ rest) → NamedLevel deeper image None ns (Ok ts)
       → AreLevelsOpened all (opened ++ ts ∷ []) true rest
   one_level all opened deeper ns rest ts so level = record {
@@ -156,7 +162,8 @@ module _ (image : Image) where
   }
 
   -- the next one isn't opened
-  pub level_refused : (all : List (List ℕ)) (opened : List (List FoundTable)) (deeper : Bool) (ns : List ℕ) (rest : List (List ℕ)) (why : Refusal)
+  pub level_refused : (all : List (List ℕ)) (opened : List (List FoundTable)) (deeper : Bool) (ns : List ℕ)
+      (rest : List (List ℕ)) (why : Refusal)
       → AreLevelsOpened all opened deeper (ns ∷ rest) → NamedLevel deeper image None ns (Err why)
       → NamedLevels false image all (Err why)
   level_refused all opened deeper ns rest why so refused = so.goes_on (Err why) (inl refused)
@@ -191,7 +198,8 @@ module _ (image : Image) where
   all_tested all so = so.goes_on (Ok tt) refl
 
 -- one table more, as it is found
-pub found_more : {H : Type 0} (ts more : List (OpenTable H)) (t : OpenTable H) → more ≡ ts ++ t ∷ [] → found_list ts ++ found_table t ∷ [] ≡ found_list more
+pub found_more : {H : Type 0} (ts more : List (OpenTable H)) (t : OpenTable H) → more ≡ ts ++ t ∷ []
+    → found_list ts ++ found_table t ∷ [] ≡ found_list more
 found_more ts more t is = sym (map-append found_table ts (t ∷ [])) ∙ ap found_list (sym is)
 
 pub levels_more : {H : Type 0} (ls more : List (Vec (OpenTable H) Global)) (l : Vec (OpenTable H) Global) → more ≡ ls ++ l ∷ []

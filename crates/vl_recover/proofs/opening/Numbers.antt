@@ -30,18 +30,21 @@ below : (least number : ℕ) → nat_le (least + 1) number ≡ false → number 
 below least number e = grind (arith, nat_tests)
 
 -- neither number is used up
-none_passes : (passed last : Bool) → (if passed then Some counters.Log else (if last then Some counters.Manifest else None)) ≡ None → passed ≡ false
+none_passes : (passed last : Bool)
+    → (if passed then Some counters.Log else (if last then Some counters.Manifest else None)) ≡ None → passed ≡ false
 none_passes true last e = absurd (some_counter counters.Log e)
 none_passes false last e = refl
 
-none_last : (passed last : Bool) → (if passed then Some counters.Log else (if last then Some counters.Manifest else None)) ≡ None → last ≡ false
+none_last : (passed last : Bool)
+    → (if passed then Some counters.Log else (if last then Some counters.Manifest else None)) ≡ None → last ≡ false
 none_last true last e = absurd (some_counter counters.Log e)
 none_last false true e = absurd (some_counter counters.Manifest e)
 none_last false false e = refl
 
 numbered : (log : Option ℕ) → ((k : ℕ) → log ≡ Some k → 1 ≤ k) → passes log ≡ false → IsNumberedLog log
 numbered None some fine = tt
-numbered (Some k) some fine = let first = some k refl in let last = below max_file_number k fine in (omega (arith, first), omega (arith, last))
+numbered (Some k) some fine = let first = some k refl in let last = below max_file_number k fine
+    in (omega (arith, first), omega (arith, last))
 
 -- a log with another number than the last stands beside it
 other_beside : (q : LastLog) (k : ℕ) → k ≢ q.number → IsBeside (step_for (Some q)) (Log k)
@@ -51,7 +54,8 @@ other_beside q k other = by q.header (q.length == q.end) (q.length == 0)
     apart e = other (same_log k q.number e)
 
     by : (header whole empty : Bool)
-        → IsBeside (if header then (if whole then Kept q.number else Cut q.number q.end) else (if empty then Headed q.number else Rewritten q.number)) (Log k)
+        → IsBeside (if header then (if whole then Kept q.number else Cut q.number q.end) else
+        (if empty then Headed q.number else Rewritten q.number)) (Log k)
     by true true empty = apart
     by true false empty = apart
     by false whole true = apart
@@ -82,16 +86,20 @@ module _ (found : Findings) (numbers : AreFileNumbers found.greatest) (last : Is
   beside None up = tt
   beside (Some q) up = by q.has_frames
     where
-      by : (frames : Bool) → IsLogBeside (step_for (Some q)) (made_of (if frames then next.Made (state_for found).next_log else next.Last q.number))
-      by true = other_beside q (state_for found).next_log (λ (same : (state_for found).next_log ≡ q.number). absurd (omega (arith, same, up, next_above)))
+      by : (frames : Bool) → IsLogBeside (step_for (Some q))
+          (made_of (if frames then next.Made (state_for found).next_log else next.Last q.number))
+      by true = other_beside q (state_for found).next_log
+          (λ (same : (state_for found).next_log ≡ q.number). absurd (omega (arith, same, up, next_above)))
       by false = tt
 
   pub decided_numbers : used_up_for found ≡ None → (plan : Plan) → plan ≡ plan_for found → HasNumbers plan
   decided_numbers unused plan is = subst HasNumbers (sym is) (record {
     manifest =
-        let other = number_other found.greatest.manifest max_file_number (none_last (passes (log_for found)) (found.greatest.manifest == max_file_number) unused) in
+        let other = number_other found.greatest.manifest max_file_number
+        (none_last (passes (log_for found)) (found.greatest.manifest == max_file_number) unused) in
         (omega arith, omega (arith, other, numbers.manifest));
-    log = numbered (log_for found) (log_first found.last) (none_passes (passes (log_for found)) (found.greatest.manifest == max_file_number) unused);
+    log = numbered (log_for found) (log_first found.last)
+        (none_passes (passes (log_for found)) (found.greatest.manifest == max_file_number) unused);
     beside = beside found.last last;
   })
 

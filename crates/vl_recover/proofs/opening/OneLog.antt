@@ -1,5 +1,6 @@
 -- One log that was read.
-use Rattle.std.proofs.Common.{◌≡◌, ℕ, ◌-◌, ◌<◌, ◌≤◌, true, false, List, [], ◌∷◌, ◌++◌, length, map, take, drop, reverse, refl, sym, ap, subst, ◌∙◌, arith, ⊎_elim}
+use Rattle.std.proofs.Common.{◌≡◌, ℕ, ◌-◌, ◌<◌, ◌≤◌, true, false, List, [], ◌∷◌, ◌++◌, length, map, take, drop}
+use Rattle.std.proofs.Common.{reverse, refl, sym, ap, subst, ◌∙◌, arith, ⊎_elim}
 use Rattle.std.specs.Prelude.{min, Option, None, Some, ◌==◌}
 use Rattle.std.specs.FinMap.{get}
 use Rattle.std.proofs.lemmas.Bool.{cases_lt, true≢false}
@@ -49,7 +50,8 @@ module _ (image : Image) (number before size : ℕ) (bytes : List ℕ)
   same = ap (take 16) front_is ∙ ap (λ (n : ℕ). take 16 (take (min n 16) bytes)) size_is ∙ front_same bytes
 
   -- it begins with its header
-  pub header_begins : (header : Option ℕ) (format : ℕ) → header ≡ Some format → SaysFormat header number front → BeginsIn image number format
+  pub header_begins : (header : Option ℕ) (format : ℕ) → header ≡ Some format → SaysFormat header number front
+      → BeginsIn image number format
   header_begins header format some says =
       let right = front_says number bytes front same (Some format) (subst (λ (h : Option ℕ). SaysFormat h number front) some says) in
       record { bytes = bytes; stands = stands; format_is = right.0; header = right.1 }
@@ -63,7 +65,8 @@ module _ (image : Image) (number before size : ℕ) (bytes : List ℕ)
     stands = stands;
     length_is = size_is;
     reading = record { header = None; frames = []; whole = false };
-    reads = reads_no_header number bytes (front_says number bytes front same None (subst (λ (h : Option ℕ). SaysFormat h number front) none says));
+    reads = reads_no_header number bytes
+        (front_says number bytes front same None (subst (λ (h : Option ℕ). SaysFormat h number front) none says));
     read_as = record {
       format_is = refl;
       end_is = is.end_is;
@@ -121,7 +124,8 @@ module _ (before : ℕ) (log : LogFound) (reading : LogReading) (is : IsReadAs b
           → log.content.entries.items ≡ reverse (logged_entries (format_of header) log.number 16 frames)
           → (header ≡ None → frames ≡ []) → has_some frames ≡ true
           → held_content log.number log.content ∷ []
-          ≡ map held_log (filled (record { number = log.number; length = log.length; reading = record { header = header; frames = frames; whole = false } } ∷ []))
+          ≡ map held_log (filled (record
+          { number = log.number; length = log.length; reading = record { header = header; frames = frames; whole = false } } ∷ []))
       by header [] end entries headless none = absurd (true≢false (sym none))
       by None (f ∷ fs) end entries headless any = absurd (no_cons f fs (headless refl))
         where
@@ -139,6 +143,12 @@ module _ (before : ℕ) (log : LogFound) (reading : LogReading) (is : IsReadAs b
   frozen_without none stay = stay ∙ sym (append-nil olds) ∙ ap (λ (hs : List HeldLog). olds ++ hs) (by reading.frames (sym is.some ∙ none))
     where
       by : (frames : List LogFrame) → has_some frames ≡ false
-          → [] ≡ map held_log (filled (record { number = log.number; length = log.length; reading = record { header = reading.header; frames = frames; whole = false } } ∷ []))
+          → [] ≡ map held_log (filled
+          (record {
+            number = log.number;
+            length = log.length;
+            reading = record
+                { header = reading.header; frames = frames; whole = false };
+          } ∷ []))
       by [] e = refl
       by (f ∷ fs) e = absurd (true≢false e)

@@ -16,7 +16,8 @@ use Rattle.vl_table.specs.declared.fault.TableFault.TheVariants as faults
 use Rattle.vl_table.specs.declared.table.Table.{Table}
 
 module _ (image : Image) (number : ℕ) (bytes : List ℕ) (stands : get image (table_file number) ≡ Some bytes) where
-  pub table_reads : {H : Type 0} (t : Table H) → number_of t ≡ number → IsRead number bytes (said_by (shape_of t)) → StandsTable image number (found_table t)
+  pub table_reads : {H : Type 0} (t : Table H) → number_of t ≡ number → IsRead number bytes (said_by (shape_of t))
+      → StandsTable image number (found_table t)
   table_reads t numbered reads = record { numbered = numbered; bytes = bytes; stands = stands; reads = reads }
 
   pub table_fails : (H : Type 0) (fault : TableFault) → IsNamed {T = Table H} number (Err fault)

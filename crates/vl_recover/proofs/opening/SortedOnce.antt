@@ -158,7 +158,8 @@ module _ (key : List ℕ) (version : ℕ) where
 
   ties-at : (e : Entry) → ties (λ x y. is_lt (entry_cmp x y)) (place_of key version) e ≡ is_at key version e
   ties-at e =
-      ap (λ r. not (is_lt (entry_cmp (place_of key version) e)) && not (is_lt r)) (turned (place_of key version) e (entry_cmp (place_of key version) e) refl)
+      ap (λ r. not (is_lt (entry_cmp (place_of key version) e)) && not (is_lt r))
+      (turned (place_of key version) e (entry_cmp (place_of key version) e) refl)
       ∙ by (entry_cmp (place_of key version) e) ∙ sym (is_at-tied key version e)
     where
       by : (r : Ordering) → (not (is_lt r) && not (is_lt (ordering_reverse r))) ≡ is_eq r
@@ -180,9 +181,11 @@ module _ (key : List ℕ) (version : ℕ) where
           (e ∷ filter (ties (λ x y. is_lt (entry_cmp x y)) (place_of key version)) es)
           (filter (ties (λ x y. is_lt (entry_cmp x y)) (place_of key version)) es)) ≡ cond b (Some e) (exact es key version)
       by later true is =
-          ap (λ b. first_of (cond b (e ∷ filter (ties (λ x y. is_lt (entry_cmp x y)) (place_of key version)) es) (filter (ties (λ x y. is_lt (entry_cmp x y)) (place_of key version)) es))) is
+          ap (λ b. first_of (cond b (e ∷ filter (ties (λ x y. is_lt (entry_cmp x y)) (place_of key version)) es)
+          (filter (ties (λ x y. is_lt (entry_cmp x y)) (place_of key version)) es))) is
       by later false is =
-          ap (λ b. first_of (cond b (e ∷ filter (ties (λ x y. is_lt (entry_cmp x y)) (place_of key version)) es) (filter (ties (λ x y. is_lt (entry_cmp x y)) (place_of key version)) es))) is
+          ap (λ b. first_of (cond b (e ∷ filter (ties (λ x y. is_lt (entry_cmp x y)) (place_of key version)) es)
+          (filter (ties (λ x y. is_lt (entry_cmp x y)) (place_of key version)) es))) is
           ∙ later
 
 -- ---- all of it

@@ -18,7 +18,8 @@ use Rattle.vl_recover.specs.opening.Answers.{Finds}
 use Rattle.vl_recover.specs.opening.Opening.{StandingLogs}
 use Rattle.vl_recover.specs.opening.Plans.{active_log, active_of, last_number, log_made, new_state}
 use Rattle.vl_recover.specs.opening.Walk.{StandingLog}
-use Rattle.vl_recover.specs.repairing.Repairing.{IsPlan, Plan, behind_log, behind_strays, plan_of, repaired, with_last, with_log, with_manifest}
+use Rattle.vl_recover.specs.repairing.Repairing.{IsPlan, Plan, behind_log, behind_strays, plan_of, repaired}
+use Rattle.vl_recover.specs.repairing.Repairing.{with_last, with_log, with_manifest}
 use Rattle.vl_seglog.specs.Frames.{log_header}
 
 some_none : {X : Type 0} (x : X) → Some x ≡ None → ⊥

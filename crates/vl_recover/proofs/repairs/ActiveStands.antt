@@ -11,7 +11,8 @@ use Rattle.vl_disk.specs.declared.name.Name.{Name}
 use Rattle.vl_disk.specs.declared.name.Name.TheVariants.{Log, Manifest}
 use Rattle.vl_manifest.specs.declared.state.ManifestState.{ManifestState}
 use Rattle.vl_recover.specs.opening.Answers.{Finds, IsStrayName}
-use Rattle.vl_recover.specs.repairing.Repairing.{IsPlan, Plan, behind_log, behind_strays, repaired, plan_of, with_last, with_log, with_manifest}
+use Rattle.vl_recover.specs.repairing.Repairing.{IsPlan, Plan, behind_log, behind_strays, repaired, plan_of}
+use Rattle.vl_recover.specs.repairing.Repairing.{with_last, with_log, with_manifest}
 use Rattle.vl_recover.specs.opening.Opening.{StandingLogs}
 use Rattle.vl_recover.specs.opening.Plans.{active_log, active_of, last_number, log_made, new_state}
 use Rattle.vl_recover.specs.opening.Walk.{StandingLog}

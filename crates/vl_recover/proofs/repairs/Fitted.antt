@@ -16,7 +16,9 @@ use Rattle.vl_manifest.specs.declared.state.ManifestState.{ManifestState}
 use Rattle.vl_model.specs.declared.log_frame.LogFrame.{LogFrame}
 use Rattle.vl_recover.specs.opening.Answers.{Finds}
 use Rattle.vl_recover.specs.repairing.Fitting.{CanMake, CanRepair, CanRemove, Fits}
-use Rattle.vl_recover.specs.repairing.Repairing.{Cut, Headed, IsPlan, Kept, LastLog, NoLast, Plan, Rewritten, behind_last, behind_log, headed, last_of, repairing_of, plan_of, with_last, with_log, with_manifest}
+use Rattle.vl_recover.specs.repairing.Repairing.{Cut, Headed, IsPlan, Kept, LastLog, NoLast, Plan, Rewritten}
+use Rattle.vl_recover.specs.repairing.Repairing.{behind_last, behind_log, headed, last_of, repairing_of, plan_of}
+use Rattle.vl_recover.specs.repairing.Repairing.{with_last, with_log, with_manifest}
 use Rattle.vl_recover.specs.laws.repairing.RepairingStart.{unread_free}
 use Rattle.vl_recover.specs.opening.Opening.{IsNextLog, StandingLogs}
 use Rattle.vl_recover.specs.opening.Plans.{log_behind, log_made, new_state}

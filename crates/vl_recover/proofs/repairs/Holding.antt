@@ -1,6 +1,7 @@
 -- The last log is held behind its mending.
 use Rattle.std.proofs.Common.{◌≡◌, inr, ℕ, ◌≤◌, refl, sym, ap, subst, ◌∙◌, arith}
-use Rattle.std.specs.Prelude.{◌&&◌, ◌==◌, ◌≢◌, if◌then◌else◌, Bool, true, false, Option, None, Some, Result, Ok, Err, IfErr, IsErr, IsErrAnd, IsTrue}
+use Rattle.std.specs.Prelude.{◌&&◌, ◌==◌, ◌≢◌, if◌then◌else◌, Bool, true, false, Option, None, Some, Result, Ok, Err}
+use Rattle.std.specs.Prelude.{IfErr, IsErr, IsErrAnd, IsTrue}
 use Rattle.std.specs.Option.{ForSome, option_map}
 use Rattle.vl_disk.specs.Calls.{ChangesNothing}
 use Rattle.vl_disk.specs.Crash.{Unchanged}
@@ -23,7 +24,8 @@ use Rattle.vl_recover.specs.repairing.Deciding.{IsDecided, step_for}
 use Rattle.vl_recover.specs.repairing.PlanViews.{plan_view}
 use Rattle.vl_recover.specs.repairing.Fitting.{CanRepair, IsBeside, SameSpareBeside}
 use Rattle.vl_recover.specs.repairing.Holding.{IsHoldOf, IsReadyToHold, SameHold, hold_for}
-use Rattle.vl_recover.specs.repairing.Repairing.{Cut, Headed, Kept, LastLog, NoLast, Plan, Rewritten, WhileLast, behind_last, calls_to_repair}
+use Rattle.vl_recover.specs.repairing.Repairing.{Cut, Headed, Kept, LastLog, NoLast, Plan, Rewritten, WhileLast}
+use Rattle.vl_recover.specs.repairing.Repairing.{behind_last, calls_to_repair}
 use Rattle.vl_recover.specs.repairing.Steps.{RepairsLast, last_files}
 use Rattle.vl_recover.proofs.repairs.Fitted.{last_stands}
 use Rattle.vl_recover.proofs.repairs.Stepping.{named_on}

@@ -1,5 +1,6 @@
 -- While the last log is repaired it stands at each moment as a file may stand on a disk that is opened.
-use Rattle.std.specs.Prelude.{◌≡◌, ℕ, ◌+◌, ◌≤◌, ◌<◌, ◌==◌, min, max, Bool, List, [], ◌∷◌, ◌++◌, length, take, drop, Option, None, Some, if◌then◌else◌, false, true, refl}
+use Rattle.std.specs.Prelude.{◌≡◌, ℕ, ◌+◌, ◌≤◌, ◌<◌, ◌==◌, min, max, Bool, List, [], ◌∷◌, ◌++◌, length, take, drop}
+use Rattle.std.specs.Prelude.{Option, None, Some, if◌then◌else◌, false, true, refl}
 use Rattle.std.specs.FinMap.{get}
 use Rattle.std.specs.Option.{option_map}
 use Rattle.std.proofs.Common.{ap, arith, length-append, subst, sym, ◌∙◌, ⊎_elim}
@@ -16,7 +17,8 @@ use Rattle.vl_frame.specs.Runs.{ReadsAs, StandsAt}
 use Rattle.vl_model.specs.declared.log_frame.LogFrame.{LogFrame}
 use Rattle.vl_recover.specs.crash.Alike.{Spells}
 use Rattle.vl_recover.specs.laws.opening.HeldLaws.{settled_may_stand}
-use Rattle.vl_recover.specs.laws.repairing.LastLaws.{IsWithinHeader, LastStands, goes_past, loose_below, none_some, number_same, unkept_none, wrong_header}
+use Rattle.vl_recover.specs.laws.repairing.LastLaws.{IsWithinHeader, LastStands, goes_past, loose_below, none_some}
+use Rattle.vl_recover.specs.laws.repairing.LastLaws.{number_same, unkept_none, wrong_header}
 use Rattle.vl_recover.specs.repairing.Repairing.{Cut, Headed, Kept, Rewritten, WhileHeading, WhileLast, headed, repairing_of}
 use Rattle.vl_recover.specs.laws.crash.OneName.{elsewhere_then}
 use Rattle.vl_recover.specs.crash.Starts.{MayStand}

@@ -28,7 +28,8 @@ use Rattle.vl_recover.specs.opening.Opening.{IsNextLog, Opening, StandingLogs, l
 use Rattle.vl_recover.specs.opening.Plans.{log_behind, log_made, new_state}
 use Rattle.vl_recover.specs.opening.Walk.{StandingLog, format_of, has_some, keeps_header}
 use Rattle.vl_recover.specs.repairing.Holding.{IsHeld, hold_for, listed}
-use Rattle.vl_recover.specs.repairing.Repairing.{Cut, Headed, IsPlan, Kept, LastLog, Plan, Rewritten, behind_last, plan_of, repairing_of, with_last}
+use Rattle.vl_recover.specs.repairing.Repairing.{Cut, Headed, IsPlan, Kept, LastLog, Plan, Rewritten, behind_last}
+use Rattle.vl_recover.specs.repairing.Repairing.{plan_of, repairing_of, with_last}
 use Rattle.vl_recover.specs.repairing.Repairing as repairing
 use Rattle.vl_seglog.specs.Frames.{log_bytes}
 use Rattle.vl_seglog.specs.LogReading.{end_of}

@@ -1,5 +1,6 @@
 -- Files are removed, one behind the other.
-use Rattle.std.proofs.Common.{◌≡◌, inl, ℕ, ◌+◌, ◌≤◌, ◌<◌, List, [], ◌∷◌, length, drop, slice_index_or, add-one, drop-cons, refl, sym, ap, subst, ◌∙◌, arith}
+use Rattle.std.proofs.Common.{◌≡◌, inl, ℕ, ◌+◌, ◌≤◌, ◌<◌, List, [], ◌∷◌, length, drop, slice_index_or, add-one}
+use Rattle.std.proofs.Common.{drop-cons, refl, sym, ap, subst, ◌∙◌, arith}
 use Rattle.std.proofs.lemmas.List.{drop_all}
 use Rattle.std.specs.Prelude.{Option, Result, Ok, Err, IfErr, IsErr, IsErrAnd, OnOk}
 use Rattle.std.specs.Option.{ForSome}

@@ -16,15 +16,20 @@ use Rattle.vl_manifest.specs.declared.fails.IoFail.{IoFail}
 use Rattle.vl_manifest.specs.declared.fails.IoFail.TheVariants as fails
 use Rattle.vl_manifest.specs.declared.manifest_log.ManifestLog.{ManifestLog}
 use Rattle.vl_recover.specs.repairing.Fitting.{Fits, FitsBehind}
-use Rattle.vl_recover.specs.repairing.Repairing.{Plan, WhileLast, WhileLog, WhileRepairing, WhileStrays, at_last, at_log, at_manifest, at_strays, behind_last, behind_log, behind_strays, calls_of_plan, calls_to_repair, repaired, with_manifest}
+use Rattle.vl_recover.specs.repairing.Repairing.{Plan, WhileLast, WhileLog, WhileRepairing, WhileStrays, at_last}
+use Rattle.vl_recover.specs.repairing.Repairing.{at_log, at_manifest, at_strays, behind_last, behind_log}
+use Rattle.vl_recover.specs.repairing.Repairing.{behind_strays, calls_of_plan, calls_to_repair, repaired}
+use Rattle.vl_recover.specs.repairing.Repairing.{with_manifest}
 use Rattle.vl_recover.specs.repairing.PlanViews.{plan_view}
 use Rattle.vl_recover.specs.opening.Plans.{calls_to_make}
 use Rattle.vl_disk.specs.Faults.{after_calls}
 use Rattle.vl_disk.specs.Performs.{FailedAt, Performs, calls_on}
-use Rattle.vl_recover.specs.repairing.Steps.{MakesLog, Repairs, RepairsBehind, RepairsLast, RemovesAll, WhileBehind, behind_manifest, calls_behind, files_behind, last_files, log_files}
+use Rattle.vl_recover.specs.repairing.Steps.{MakesLog, Repairs, RepairsBehind, RepairsLast, RemovesAll, WhileBehind}
+use Rattle.vl_recover.specs.repairing.Steps.{behind_manifest, calls_behind, files_behind, last_files, log_files}
 use Rattle.vl_recover.proofs.repairs.Stepping.{last_count, log_count, named_on}
 use Rattle.vl_recover.specs.declared.plan.RepairingPlan.{RepairingPlan}
-use Rattle.vl_disk.specs.laws.Performing.{changed_tells, failed_before, failed_behind, failed_on, part_tells, performs_as, performs_stop, performs_then, same_tells}
+use Rattle.vl_disk.specs.laws.Performing.{changed_tells, failed_before, failed_behind, failed_on, part_tells}
+use Rattle.vl_disk.specs.laws.Performing.{performs_as, performs_stop, performs_then, same_tells}
 
 false_true : false ≡ true → ⊥
 false_true e = cc

@@ -6,7 +6,9 @@ use Rattle.vl_disk.specs.DiskState.{DiskState, without}
 use Rattle.vl_disk.specs.MadeFile.{durable}
 use Rattle.vl_disk.specs.declared.name.Name.{Name}
 use Rattle.vl_recover.specs.opening.Answers.{Finds, calls_to_open}
-use Rattle.vl_recover.specs.repairing.Repairing.{Cut, Headed, IsPlan, Kept, LastLog, NoLast, Plan, Rewritten, WhileLast, WhileLog, WhileStrays, behind_last, behind_log, behind_strays, calls_of_plan, calls_to_repair, last_of, repairing_of}
+use Rattle.vl_recover.specs.repairing.Repairing.{Cut, Headed, IsPlan, Kept, LastLog, NoLast, Plan, Rewritten}
+use Rattle.vl_recover.specs.repairing.Repairing.{WhileLast, WhileLog, WhileStrays, behind_last, behind_log}
+use Rattle.vl_recover.specs.repairing.Repairing.{behind_strays, calls_of_plan, calls_to_repair, last_of, repairing_of}
 use Rattle.vl_recover.specs.opening.Plans.{calls_of_last, calls_to_make, log_made, new_state}
 use Rattle.vl_recover.specs.opening.Walk.{StandingLog, content_end, keeps_header}
 

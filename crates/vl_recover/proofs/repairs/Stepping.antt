@@ -10,7 +10,8 @@ use Rattle.vl_disk.specs.declared.name.Name.TheVariants.{Log}
 use Rattle.vl_disk.specs.declared.watched.Watched.{Ghosts}
 use Rattle.vl_disk.specs.laws.Performing.{failed_on, make_performs, nothing_performed}
 use Rattle.vl_recover.specs.opening.Plans.{calls_to_make}
-use Rattle.vl_recover.specs.repairing.Repairing.{Cut, Headed, Kept, LastLog, NoLast, Rewritten, WhileLast, WhileLog, behind_last, calls_to_repair}
+use Rattle.vl_recover.specs.repairing.Repairing.{Cut, Headed, Kept, LastLog, NoLast, Rewritten, WhileLast, WhileLog}
+use Rattle.vl_recover.specs.repairing.Repairing.{behind_last, calls_to_repair}
 use Rattle.vl_recover.specs.repairing.PlanViews.{at_file}
 use Rattle.vl_model.specs.Formats.{log_format}
 use Rattle.vl_recover.specs.repairing.Steps.{MakesLog, RepairsLast, last_files, log_files}

@@ -1,5 +1,6 @@
 -- What an image opens as, stage by stage. docs/FORMATS.md tells it.
-use Rattle.std.specs.Prelude.{◌≡◌, ◌⊎◌, ◌≤◌, ◌<◌, ℕ, ◌+◌, ◌==◌, nat_lt, if◌then◌else◌, Bool, true, false, List, [], ◌∷◌, length, Option, None, Some, Result, Ok, Err, IsSome}
+use Rattle.std.specs.Prelude.{◌≡◌, ◌⊎◌, ◌≤◌, ◌<◌, ℕ, ◌+◌, ◌==◌, nat_lt, if◌then◌else◌, Bool, true, false, List, []}
+use Rattle.std.specs.Prelude.{◌∷◌, length, Option, None, Some, Result, Ok, Err, IsSome}
 use Rattle.std.specs.FinMap.{get}
 use Rattle.std.specs.Ordering.{is_lt}
 use Rattle.vl_block.specs.declared.points.Point.{Point}

@@ -1,5 +1,6 @@
 -- Logs that were read, without where they lie in memory.
-use Rattle.std.specs.Prelude.{◌≡◌, ℕ, ◌+◌, Bool, true, false, ◌&&◌, ◌==◌, if◌then◌else◌, List, [], ◌++◌, map, reverse, Option, None, Result, Ok, Err, is_some}
+use Rattle.std.specs.Prelude.{◌≡◌, ℕ, ◌+◌, Bool, true, false, ◌&&◌, ◌==◌, if◌then◌else◌, List, [], ◌++◌, map, reverse}
+use Rattle.std.specs.Prelude.{Option, None, Result, Ok, Err, is_some}
 use Rattle.vl_frame.specs.Runs.{ReadsAs}
 use Rattle.vl_layout.specs.Logs.{logged_body, logged_entries}
 use Rattle.vl_model.specs.Entries.{in_order}

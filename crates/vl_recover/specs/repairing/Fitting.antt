@@ -6,7 +6,8 @@ use Rattle.vl_disk.specs.Name.{IsNumbered}
 use Rattle.vl_disk.specs.Spare.{CanAppend, IsReady, Spare}
 use Rattle.vl_disk.specs.declared.name.Name.{Name}
 use Rattle.vl_disk.specs.declared.name.Name.TheVariants.{Log, Manifest}
-use Rattle.vl_recover.specs.repairing.Repairing.{Cut, Headed, Kept, LastLog, NoLast, Plan, Rewritten, behind_last, behind_log, with_manifest}
+use Rattle.vl_recover.specs.repairing.Repairing.{Cut, Headed, Kept, LastLog, NoLast, Plan, Rewritten, behind_last}
+use Rattle.vl_recover.specs.repairing.Repairing.{behind_log, with_manifest}
 
 -- ---- what stands
 

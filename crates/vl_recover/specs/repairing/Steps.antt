@@ -13,7 +13,9 @@ use Rattle.vl_manifest.specs.Making.{HasFailed}
 use Rattle.vl_manifest.specs.declared.fails.IoFail.{IoFail}
 use Rattle.vl_manifest.specs.declared.fails.IoFail.TheVariants.{Disk, NoMemory}
 use Rattle.vl_manifest.specs.declared.manifest_log.ManifestLog.{ManifestLog}
-use Rattle.vl_recover.specs.repairing.Repairing.{Cut, Headed, Kept, LastLog, NoLast, Plan, Rewritten, WhileLast, WhileLog, WhileRepairing, WhileStrays, behind_last, behind_log, behind_strays, calls_of_plan, calls_to_repair, repaired}
+use Rattle.vl_recover.specs.repairing.Repairing.{Cut, Headed, Kept, LastLog, NoLast, Plan, Rewritten, WhileLast}
+use Rattle.vl_recover.specs.repairing.Repairing.{WhileLog, WhileRepairing, WhileStrays, behind_last, behind_log}
+use Rattle.vl_recover.specs.repairing.Repairing.{behind_strays, calls_of_plan, calls_to_repair, repaired}
 use Rattle.vl_recover.specs.opening.Plans.{calls_to_make}
 
 -- The last log is repaired and made durable. Where it is held then the hold may fail too, behind all of its calls.

@@ -74,8 +74,10 @@ stored_on s x keeps tidy disk stored = record {
 }
 
 -- what is tidy in memory is tidy
-its_tidy : {H R : Type 0} (bytes : H → Option (List ℕ)) (seen : Option DiskState) (core : Core H) (os : List (Open H R)) (s : State) (x : Step) (result : Result Answer Halt)
-    → MakesStep bytes seen core os s x result → OnOk result (IsTidy (layout_logs x.state.layout) x.state.layout (history_in x.state.commits))
+its_tidy : {H R : Type 0} (bytes : H → Option (List ℕ)) (seen : Option DiskState) (core : Core H) (os : List (Open H R))
+    (s : State) (x : Step) (result : Result Answer Halt)
+    → MakesStep bytes seen core os s x result
+    → OnOk result (IsTidy (layout_logs x.state.layout) x.state.layout (history_in x.state.commits))
 its_tidy bytes seen core os s x (Ok answer) makes = makes.1.engine.tidy
 its_tidy bytes seen core os s x (Err halt) makes = tt
 
@@ -83,14 +85,16 @@ on_ok : (P Q : Type 0) (result : Result Answer Halt) → (P → Q) → OnOk resu
 on_ok P Q (Ok answer) weaker p = weaker p
 on_ok P Q (Err halt) weaker p = tt
 
-module _ {D H R : Type 0} (g : Ghosts D) (watched : IsWatched g) (bytes : H → Option (List ℕ)) (seen : Option DiskState) (core : Core H) (os : List (Open H R)) (s : State) (x : Step)
+module _ {D H R : Type 0} (g : Ghosts D) (watched : IsWatched g) (bytes : H → Option (List ℕ)) (seen : Option DiskState)
+    (core : Core H) (os : List (Open H R)) (s : State) (x : Step)
     (keeps : Keeps s.store x) (result : Result Answer Halt) (makes : MakesStep bytes seen core os s x result)
     (sound : HaltsByDisk result → ⊥) where
   quiet_leads : (disk : D) → HoldsState g IsStored s disk → LeadsTo g IsStored Shown IsStopped disk disk s (state_by s x) result
   quiet_leads disk held =
       let (state, told, stored) = held.there in
       record {
-        answered = on_ok (IsTidy (layout_logs x.state.layout) x.state.layout (history_in x.state.commits)) (HoldsState g IsStored (state_by s x) disk) result
+        answered = on_ok (IsTidy (layout_logs x.state.layout) x.state.layout (history_in x.state.commits))
+            (HoldsState g IsStored (state_by s x) disk) result
             (λ (tidy : IsTidy (layout_logs x.state.layout) x.state.layout (history_in x.state.commits)). record {
               calls = held.calls ∙ sym (ap (λ (n : ℕ). after_calls n s.calls) keeps.calls);
               there = (state, told, stored_on s x keeps tidy state stored);

@@ -27,7 +27,8 @@ use Rattle.vl_layout.specs.AtAnswer.{Beginning}
 use Rattle.vl_layout.specs.Decides.{Answered, Effects, NoMemory as OutOfMemory, Outcome, as_before}
 use Rattle.vl_layout.specs.Ruling.{Ruling}
 use Rattle.vl_layout.specs.Rulings.Commit as commit
-use Rattle.vl_layout.specs.Rulings.Commit.{CommitAnswer, Transaction as ATxn, commit_frame, commit_lost, commit_ruling, commit_unless, committed}
+use Rattle.vl_layout.specs.Rulings.Commit.{CommitAnswer, Transaction as ATxn, commit_frame, commit_lost}
+use Rattle.vl_layout.specs.Rulings.Commit.{commit_ruling, commit_unless, committed}
 use Rattle.vl_layout.specs.Store.Commits.{history_in}
 use Rattle.vl_layout.specs.Store.Lines.{Done, Name}
 use Rattle.vl_layout.specs.Store.Reading.{commit_by, committed_by}
@@ -263,7 +264,8 @@ module _ {D H R : Type 0} (g : Ghosts D) (bytes : H → Option (List ℕ)) (befo
         record {
           calls = carried.called a answered ∙ ap (λ (n : ℕ). after_calls n (g.calls old)) (sym its_calls)
               ∙ ap (after_calls (committing s name t b).calls) held.calls;
-          there = stored_then files held (committing s name t b) r.history r.layout its_layout its_history still_running its_next its_next_table
+          there = stored_then files held (committing s name t b) r.history r.layout its_layout its_history still_running
+              its_next its_next_table
               (carried.decides.answered a answered).1;
         }
 
@@ -276,7 +278,8 @@ module _ {D H R : Type 0} (g : Ghosts D) (bytes : H → Option (List ℕ)) (befo
     pub exhausted_carries : (c : Counter) → outcome ≡ Answered (commit.Exhausted c)
         → CarriesOut {T = Answer} g IsStored Shown IsStopped old new s (state_by s (committing s name t b)) (Err why.NoMemory)
     exhausted_carries c answered held =
-        leads (Err why.NoMemory) held tt (λ out. commits_kept files held (left_by (carried held))) (λ halts. absurd halts) (λ halts. absurd halts)
+        leads (Err why.NoMemory) held tt (λ out. commits_kept files held (left_by (carried held)))
+        (λ halts. absurd halts) (λ halts. absurd halts)
       where
         left_by : Carried → engine.Represents bytes after (g.told new) (history_of s) s.store.layout
         left_by carried =
@@ -287,7 +290,8 @@ module _ {D H R : Type 0} (g : Ghosts D) (bytes : H → Option (List ℕ)) (befo
     pub full_carries : (long frame : ℕ) → outcome ≡ Answered (commit.Full long frame)
         → CarriesOut {T = Answer} g IsStored Shown IsStopped old new s (state_by s (committing s name t b)) (Err why.NoMemory)
     full_carries long frame answered held =
-        leads (Err why.NoMemory) held tt (λ out. commits_kept files held (left_by (carried held))) (λ halts. absurd halts) (λ halts. absurd halts)
+        leads (Err why.NoMemory) held tt (λ out. commits_kept files held (left_by (carried held)))
+        (λ halts. absurd halts) (λ halts. absurd halts)
       where
         left_by : Carried → engine.Represents bytes after (g.told new) (history_of s) s.store.layout
         left_by carried =

@@ -26,16 +26,19 @@ out_readable (Err (why.Read name)) out by = cc
 out_readable (Err (why.Damaged name place)) out by = cc
 
 -- a halt that is handed on is the same
-pub by_disk_still : {T U : Type 0} (carried : Result U Halt) (result : Result T Halt) (halt : Halt) → carried ≡ Err halt → IsErrAnd result (λ other. other ≡ halt) → HaltsByDisk result → HaltsByDisk carried
+pub by_disk_still : {T U : Type 0} (carried : Result U Halt) (result : Result T Halt) (halt : Halt) → carried ≡ Err halt
+    → IsErrAnd result (λ other. other ≡ halt) → HaltsByDisk result → HaltsByDisk carried
 by_disk_still carried (Ok answer) halt was is by = absurd by
 by_disk_still {U = U} carried (Err why.NoMemory) halt was is by = absurd by
 by_disk_still {U = U} carried (Err (why.Read name)) halt was is by = absurd by
 by_disk_still {U = U} carried (Err (why.Damaged name place)) halt was is by = absurd by
 by_disk_still {U = U} carried (Err (why.Disk name)) halt was is by = subst (λ (r : Result U Halt). HaltsByDisk r) (ap Err is ∙ sym was) tt
 
-pub by_read_still : {T U : Type 0} (carried : Result U Halt) (result : Result T Halt) (halt : Halt) → carried ≡ Err halt → IsErrAnd result (λ other. other ≡ halt) → HaltsByRead result → HaltsByRead carried
+pub by_read_still : {T U : Type 0} (carried : Result U Halt) (result : Result T Halt) (halt : Halt) → carried ≡ Err halt
+    → IsErrAnd result (λ other. other ≡ halt) → HaltsByRead result → HaltsByRead carried
 by_read_still carried (Ok answer) halt was is by = absurd by
 by_read_still carried (Err why.NoMemory) halt was is by = absurd by
 by_read_still carried (Err (why.Disk name)) halt was is by = absurd by
 by_read_still {U = U} carried (Err (why.Read name)) halt was is by = subst (λ (r : Result U Halt). HaltsByRead r) (ap Err is ∙ sym was) tt
-by_read_still {U = U} carried (Err (why.Damaged name place)) halt was is by = subst (λ (r : Result U Halt). HaltsByRead r) (ap Err is ∙ sym was) tt
+by_read_still {U = U} carried (Err (why.Damaged name place)) halt was is by = subst
+    (λ (r : Result U Halt). HaltsByRead r) (ap Err is ∙ sym was) tt

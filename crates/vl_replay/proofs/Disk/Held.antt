@@ -48,7 +48,8 @@ stored_by bytes core told t k m layout history openable running represents withi
     let given = its.back_is.next_table in (
       its.state,
       its.told_is,
-      stored_as t its.state its.base k m layout history openable its.is_base its.holds represents.stands.tidy its.back_is.next_table its.begun
+      stored_as t its.state its.base k m layout history openable its.is_base its.holds represents.stands.tidy
+          its.back_is.next_table its.begun
           (numbered its.state its.told_is)
           (record { log = omega (arith, state, within, next, log); table = omega (arith, given, table) }) log table,
     )

@@ -55,14 +55,16 @@ unkept_at (Err unkept.NoMemory) failed = absurd failed
 unkept_at (Err (unkept.Disk name)) failed = (name, refl)
 unkept_at (Err (unkept.Halted name)) failed = absurd failed
 
-pub keep_halted_at : (result : Result ⊤ KeepFail) (file : FileName) → told_keep result ≡ Err (why.Disk file) → result ≡ Err (unkept.Disk file)
+pub keep_halted_at : (result : Result ⊤ KeepFail) (file : FileName) → told_keep result ≡ Err (why.Disk file)
+    → result ≡ Err (unkept.Disk file)
 keep_halted_at (Ok done) file is = absurd cc
 keep_halted_at (Err unkept.InvalidRequest) file is = absurd cc
 keep_halted_at (Err unkept.NoMemory) file is = absurd cc
 keep_halted_at (Err (unkept.Disk name)) file is = let same : name ≡ file = cc in ap (λ (n : FileName). Err (unkept.Disk n)) same
 keep_halted_at (Err (unkept.Halted name)) file is = absurd cc
 
-pub keep_named : (manifest before now : ℕ) (name : FileName) → FailedAt (calls_on 2 (Manifest manifest)) before now name → name ≡ Manifest manifest
+pub keep_named : (manifest before now : ℕ) (name : FileName) → FailedAt (calls_on 2 (Manifest manifest)) before now name
+    → name ≡ Manifest manifest
 keep_named manifest before now name failed =
     at_each (λ (n : FileName). n ≡ Manifest manifest) (calls_on 2 (Manifest manifest)) before now name (refl, (refl, tt)) failed
 

@@ -1,5 +1,6 @@
 -- What a rotation or a flush does to a disk that holds the state before it, by what the engine carried out.
-use Rattle.std.proofs.Common.{◌≡◌, ◌⊎◌, ⊎_elim, inl, inr, ◌≤◌, ◌<◌, ◌+◌, ℕ, List, [], ◌∷◌, ◌++◌, length, refl, ap, sym, ◌∙◌, subst, arith, length-append}
+use Rattle.std.proofs.Common.{◌≡◌, ◌⊎◌, ⊎_elim, inl, inr, ◌≤◌, ◌<◌, ◌+◌, ℕ, List, [], ◌∷◌, ◌++◌, length, refl, ap}
+use Rattle.std.proofs.Common.{sym, ◌∙◌, subst, arith, length-append}
 use Rattle.std.specs.Prelude.{◌≢◌, Option, None, Some, Ok, Err, Result, OnOk}
 use Rattle.std.specs.List.{AllByRecursion}
 use Rattle.vl_back.specs.Writing.{KeepsOthers, flush_files}
@@ -59,7 +60,8 @@ failed_at (Err (undone.Disk name)) failed = (name, refl)
 failed_at (Err (undone.Halted name)) failed = absurd failed
 
 -- where a line was halted at a file, its step was
-pub halted_at : (result : Result (Option ℕ) StepFail) (file : FileName) → told_step result ≡ Err (why.Disk file) → result ≡ Err (undone.Disk file)
+pub halted_at : (result : Result (Option ℕ) StepFail) (file : FileName) → told_step result ≡ Err (why.Disk file)
+    → result ≡ Err (undone.Disk file)
 halted_at (Ok (Some number)) file is = absurd cc
 halted_at (Ok None) file is = absurd cc
 halted_at (Err (undone.Exhausted c)) file is = absurd cc
@@ -179,14 +181,16 @@ module _ {D H R : Type 0} (g : Ghosts D) (watched : IsWatched g) (bytes : H → 
             (λ (same : other ≡ name). let up = did.near held.there.0 held.there.2 in
             let is = ap file_number same in omega (arith, up, is))
             (λ (apart : other ≢ name).
-            let up = held.there.2.numbered.standing other (λ none. there ((did.files held.there.0 now held.there.1 told other apart).0.1 none)) in
+            let up = held.there.2.numbered.standing other
+            (λ none. there ((did.files held.there.0 now held.there.1 told other apart).0.1 none)) in
             omega (arith, up))
             (same_or_other other name);
         removed = λ other there. ⊎_elim
             (λ (same : other ≡ name). let up = did.near held.there.0 held.there.2 in
             let is = ap file_number same in omega (arith, up, is))
             (λ (apart : other ≢ name).
-            let up = held.there.2.numbered.removed other (λ none. there ((did.files held.there.0 now held.there.1 told other apart).1.1 none)) in
+            let up = held.there.2.numbered.removed other
+            (λ none. there ((did.files held.there.0 now held.there.1 told other apart).1.1 none)) in
             omega (arith, up))
             (same_or_other other name);
       }
@@ -209,7 +213,8 @@ module _ {D H R : Type 0} (g : Ghosts D) (watched : IsWatched g) (bytes : H → 
       through = subst (λ (k : History). CrashesShow g Shown old new h k) leaves.history (carried.through stands.running)
 
       shows_it : (now : DiskState) → g.told new ≡ Some now → (image : Image) → IsLeft now image → Shown image h (last_number h)
-      shows_it now told image left = exactly (through.each now (watched.counts_now new now (g.moment old) told through.time.later) image left)
+      shows_it now told image left = exactly
+          (through.each now (watched.counts_now new now (g.moment old) told through.time.later) image left)
         where
           exactly : ShowsBetween Shown h h image → Shown image h (last_number h)
           exactly (m, low, high, shown) = let same : m ≡ last_number h = omega (arith, low, high) in subst (Shown image h) same shown
@@ -248,7 +253,8 @@ module _ {D H R : Type 0} (g : Ghosts D) (watched : IsWatched g) (bytes : H → 
             calls = stops.calls ∙ ap (after_calls stops.made) held.calls;
             now = now;
             told = told;
-            stopped = step_failed (stops_step stops now told) (let up = (stops_step stops now told).few in let one = stops.one in omega (arith, up, one));
+            stopped = step_failed (stops_step stops now told)
+                (let up = (stops_step stops now told).few in let one = stops.one in omega (arith, up, one));
           }
 
     answered_of : (result : Result (Option ℕ) StepFail) → Did all name result → OnOk (told_step result) (HoldsState g IsStored then new)
@@ -267,7 +273,8 @@ module _ {D H R : Type 0} (g : Ghosts D) (watched : IsWatched g) (bytes : H → 
     answered_of (Err (undone.Disk at)) did = tt
     answered_of (Err (undone.Halted at)) did = tt
 
-    short_of : (result : Result (Option ℕ) StepFail) → Did all name result → told_step result ≡ Err why.NoMemory → HoldsCommits g IsStored s new
+    short_of : (result : Result (Option ℕ) StepFail) → Did all name result → told_step result ≡ Err why.NoMemory
+        → HoldsCommits g IsStored s new
     short_of (Ok (Some number)) did out = absurd cc
     short_of (Ok None) did out = absurd cc
     short_of (Err (undone.Exhausted c)) did out = absurd cc
@@ -276,7 +283,8 @@ module _ {D H R : Type 0} (g : Ghosts D) (watched : IsWatched g) (bytes : H → 
     short_of (Err (undone.Disk at)) did out = absurd cc
     short_of (Err (undone.Halted at)) did out = absurd cc
 
-    leads : (result : Result (Option ℕ) StepFail) → Did all name result → LeadsTo g IsStored Shown IsStopped old new s then (told_step result)
+    leads : (result : Result (Option ℕ) StepFail) → Did all name result
+        → LeadsTo g IsStored Shown IsStopped old new s then (told_step result)
     leads result did = record {
       answered = answered_of result did;
       no_commit = short_of result did;

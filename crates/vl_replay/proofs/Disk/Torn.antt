@@ -32,26 +32,33 @@ module _ {D H : Type 0} (g : Ghosts D) (watched : IsWatched g) (bytes : H → Op
   rotate_torn begins now told =
       let told_mid : g.told begins.mid ≡ Some held.state = begins.told ∙ held.told_is in
       ⊎_elim
-      (λ (early : g.states_since begins.mid (g.moment begins.mid) now). unchanged_torn now (watched.only_now begins.mid held.state now told_mid early))
+      (λ (early : g.states_since begins.mid (g.moment begins.mid) now). unchanged_torn now
+      (watched.only_now begins.mid held.state now told_mid early))
       (λ (during : While (g.told begins.mid) (WhileMaking (next_name core) (next_header core)) now).
       making_torn held.state now (next_name core) (next_header core) held.holds.durable (during held.state told_mid))
-      (begins.time.nothing_else (g.moment begins.mid) now (omega arith) (watched.counts_now new now (g.moment begins.mid) told begins.time.later))
+      (begins.time.nothing_else (g.moment begins.mid) now (omega arith)
+      (watched.counts_now new now (g.moment begins.mid) told begins.time.later))
 
-  pub flush_torn : (staged : StagedFlush) → WritesFlush g core staged old new → (now : DiskState) → g.told new ≡ Some now → IsTornByPieces now
+  pub flush_torn : (staged : StagedFlush) → WritesFlush g core staged old new → (now : DiskState)
+      → g.told new ≡ Some now → IsTornByPieces now
   flush_torn staged writes now told =
       let told_mid : g.told writes.mid ≡ Some held.state = writes.before.told ∙ held.told_is in
       ⊎_elim
-      (λ (early : g.states_since writes.mid (g.moment writes.mid) now). unchanged_torn now (watched.only_now writes.mid held.state now told_mid early))
+      (λ (early : g.states_since writes.mid (g.moment writes.mid) now). unchanged_torn now
+      (watched.only_now writes.mid held.state now told_mid early))
       (λ (during : While (g.told writes.mid) (WhileFlushed core staged) now).
       flushing_torn held.state now core.back.state.next_table staged.table.bytes.items core.back.manifest.number staged.edits.frame.items
       held.holds.durable (during held.state told_mid))
-      (writes.time.nothing_else (g.moment writes.mid) now (omega arith) (watched.counts_now new now (g.moment writes.mid) told writes.time.later))
+      (writes.time.nothing_else (g.moment writes.mid) now (omega arith)
+      (watched.counts_now new now (g.moment writes.mid) told writes.time.later))
 
   pub keep_torn : (staged : StagedEdits) → WritesKeep g core staged old new → (now : DiskState) → g.told new ≡ Some now → IsTornByPieces now
   keep_torn staged writes now told =
       let told_mid : g.told writes.mid ≡ Some held.state = writes.before.told ∙ held.told_is in
       ⊎_elim
-      (λ (early : g.states_since writes.mid (g.moment writes.mid) now). unchanged_torn now (watched.only_now writes.mid held.state now told_mid early))
+      (λ (early : g.states_since writes.mid (g.moment writes.mid) now). unchanged_torn now
+      (watched.only_now writes.mid held.state now told_mid early))
       (λ (during : While (g.told writes.mid) (WhileKeeping core staged) now).
       switching_torn held.state held.holds.durable (Manifest core.back.manifest.number) staged.frame.items now (during held.state told_mid))
-      (writes.time.nothing_else (g.moment writes.mid) now (omega arith) (watched.counts_now new now (g.moment writes.mid) told writes.time.later))
+      (writes.time.nothing_else (g.moment writes.mid) now (omega arith)
+      (watched.counts_now new now (g.moment writes.mid) told writes.time.later))

@@ -126,8 +126,10 @@ drawn_none t disk stored = record {
 
 -- ---- the line
 
-module _ {D H R : Type 0} (g : Ghosts D) (watched : IsWatched g) (bytes : H → Option (List ℕ)) (old new : D) (s : State) (name : Name) (j : Job)
-    (plans : Plans s.store.layout (history_of s) j) (os : List (Open H R)) (names : Stand bytes os s.store.things (history_of s) s.store.layout)
+module _ {D H R : Type 0} (g : Ghosts D) (watched : IsWatched g) (bytes : H → Option (List ℕ)) (old new : D) (s : State)
+    (name : Name) (j : Job)
+    (plans : Plans s.store.layout (history_of s) j) (os : List (Open H R))
+    (names : Stand bytes os s.store.things (history_of s) s.store.layout)
     (sound : IsSound s) (running : s.store.layout.halted ≡ None) (bare : thing_of s.store name ≡ None) (free : open_in os name ≡ None)
     (tidy : IsTidy (layout_logs s.store.layout) s.store.layout (history_of s)) where
   abbrev h : History
@@ -146,7 +148,8 @@ module _ {D H R : Type 0} (g : Ghosts D) (watched : IsWatched g) (bytes : H → 
   commits_stay = plan_commits s.store name (plan_ruling l h) (thing_of s.store name)
 
   -- before it is carried out the disk holds the state with the open merge
-  pub planned_held : (core : Core H) → (IsTrue s.openable → engine.Represents bytes core (g.told old) h (with_job j l)) → core.back.state.next_log ≤ core.back.next_log
+  pub planned_held : (core : Core H) → (IsTrue s.openable → engine.Represents bytes core (g.told old) h (with_job j l))
+      → core.back.state.next_log ≤ core.back.next_log
       → HoldsState g IsStored s old → HoldsState g IsStored (planned_state j s) old
   planned_held core represents within held = record {
     calls = held.calls;
@@ -171,13 +174,16 @@ module _ {D H R : Type 0} (g : Ghosts D) (watched : IsWatched g) (bytes : H → 
         let same = ap (λ (x : Step). x.calls) (fills s name j plans running bare) in
         let least = of count few fits in omega (arith, same, least)
       where
-        of : (n : ℕ) → n ≤ length (outputs j) → (n ≡ 0) ⊎ (l.next_table + n ≤ max_file_number + 1) → n ≤ (fill s.store name j (with_job j l) (outputs j) [] 0).calls
+        of : (n : ℕ) → n ≤ length (outputs j) → (n ≡ 0) ⊎ (l.next_table + n ≤ max_file_number + 1)
+            → n ≤ (fill s.store name j (with_job j l) (outputs j) [] 0).calls
         of zero few fits = omega arith
         of (suc n) few (inl none) = omega (arith, none)
-        of (suc n) few (inr le) = let more = fill_more s.store name j (outputs j) (with_job j l) [] 0 n running (omega (arith, few)) (omega (arith, le)) in omega (arith, more)
+        of (suc n) few (inr le) = let more = fill_more s.store name j (outputs j) (with_job j l) [] 0 n running
+            (omega (arith, few)) (omega (arith, le)) in omega (arith, more)
 
     -- a read failed, or a write beside the disk: where the line makes no file nothing was changed
-    unchanged_held : (HaltsByDisk result → ⊥) → (few : count ≤ length (outputs j)) → (count ≡ 0) ⊎ (l.next_table + count ≤ max_file_number + 1)
+    unchanged_held : (HaltsByDisk result → ⊥) → (few : count ≤ length (outputs j)) → (count ≡ 0)
+        ⊎ (l.next_table + count ≤ max_file_number + 1)
         → behind.files ≡ s.files → HoldsState g IsStored s new
     unchanged_held fine few fits same =
         let least = calls_least few fits in
@@ -185,7 +191,12 @@ module _ {D H R : Type 0} (g : Ghosts D) (watched : IsWatched g) (bytes : H → 
         let held = subst (λ (n : ℕ). HoldsState g IsStored (drawn_state n (planned_state j s)) new) none (drew.held fine) in
         record {
           calls = held.calls;
-          there = (held.there.0, held.there.1, unplanned_stored s j held.there.0 tidy (drawn_none (planned_state j s) held.there.0 held.there.2));
+          there = (
+            held.there.0,
+            held.there.1,
+            unplanned_stored s j held.there.0 tidy
+                (drawn_none (planned_state j s) held.there.0 held.there.2),
+          );
         }
 
     -- what a crash meanwhile leaves shows the commits
@@ -228,7 +239,8 @@ module _ {D H R : Type 0} (g : Ghosts D) (watched : IsWatched g) (bytes : H → 
     -- ---- by how it ended
 
     -- it has all of its tables
-    pub whole_leads : (result ≡ Ok None) → count ≡ length (outputs j) → (count ≡ 0) ⊎ (l.next_table + count ≤ max_file_number + 1) → (number : ℕ)
+    pub whole_leads : (result ≡ Ok None) → count ≡ length (outputs j) → (count ≡ 0)
+        ⊎ (l.next_table + count ≤ max_file_number + 1) → (number : ℕ)
         → LeadsTo {T = Answer} g IsStored Shown IsStopped old new s behind (Ok (answers.Number number))
     whole_leads is all fits number = record {
       answered = answered;
@@ -249,24 +261,29 @@ module _ {D H R : Type 0} (g : Ghosts D) (watched : IsWatched g) (bytes : H → 
         answered : HoldsState g IsStored behind new
         answered =
             let held = subst (λ (n : ℕ). HoldsState g IsStored (drawn_state n (planned_state j s)) new) all (drew.held fine) in
-            subst (λ (x : Step). HoldsState g IsStored (state_by_plan s x) new) (sym (whole_is s name j plans running bare total_fits)) (record {
+            subst (λ (x : Step). HoldsState g IsStored (state_by_plan s x) new)
+            (sym (whole_is s name j plans running bare total_fits)) (record {
               calls = held.calls;
               there = (
                 held.there.0,
                 held.there.1,
-                things_stored (drawn_state (length (outputs j)) (planned_state j s)) (whole s name j).state.things held.there.0 held.there.2,
+                things_stored (drawn_state (length (outputs j)) (planned_state j s)) (whole s name j).state.things
+                    held.there.0 held.there.2,
               );
             })
 
     -- it stopped without an answer
-    pub halted_leads : (halt : Halt) → result ≡ Err halt → (few : count ≤ length (outputs j)) → (count ≡ 0) ⊎ (l.next_table + count ≤ max_file_number + 1)
+    pub halted_leads : (halt : Halt) → result ≡ Err halt → (few : count ≤ length (outputs j)) → (count ≡ 0)
+        ⊎ (l.next_table + count ≤ max_file_number + 1)
         → (HaltsByDisk result → (count < length (outputs j)) × (l.next_table + count ≤ max_file_number))
         → LeadsTo {T = Answer} g IsStored Shown IsStopped old new s behind (Err halt)
     halted_leads halt is few fits where_failed = record {
       answered = tt;
-      no_commit = λ out. commits_held (λ failed. not_memory halt (same_halt out) (subst (λ (r : Result (Option Counter) Halt). HaltsByDisk r) is failed));
+      no_commit = λ out. commits_held
+          (λ failed. not_memory halt (same_halt out) (subst (λ (r : Result (Option Counter) Halt). HaltsByDisk r) is failed));
       unread = λ by. commits_held (λ failed. not_both halt by (subst (λ (r : Result (Option Counter) Halt). HaltsByDisk r) is failed));
-      unchanged = λ by same. unchanged_held (λ failed. not_both halt by (subst (λ (r : Result (Option Counter) Halt). HaltsByDisk r) is failed)) few fits same;
+      unchanged = λ by same. unchanged_held
+          (λ failed. not_both halt by (subst (λ (r : Result (Option Counter) Halt). HaltsByDisk r) is failed)) few fits same;
       tells = drew.tells;
       through = goes;
       stopped = λ by clean. (

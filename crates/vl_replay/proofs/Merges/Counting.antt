@@ -1,5 +1,6 @@
 -- A merge keeps no entry twice: as many as it keeps stand in order. And the numbers that are drawn one behind the other differ.
-use Rattle.std.proofs.Common.{◌≡◌, ◌⊎◌, inl, inr, ℕ, zero, suc, ◌+◌, ◌<◌, ◌≤◌, ◌==◌, Bool, true, false, cond, ◌&&◌, ◌||◌, not, List, [], ◌∷◌, ◌++◌, length, map, refl, ap, sym, ◌∙◌, subst, arith}
+use Rattle.std.proofs.Common.{◌≡◌, ◌⊎◌, inl, inr, ℕ, zero, suc, ◌+◌, ◌<◌, ◌≤◌, ◌==◌, Bool, true, false, cond, ◌&&◌}
+use Rattle.std.proofs.Common.{◌||◌, not, List, [], ◌∷◌, ◌++◌, length, map, refl, ap, sym, ◌∙◌, subst, arith}
 use Rattle.std.proofs.lemmas.Bool.Decides.{nat_tests}
 use Rattle.std.proofs.lemmas.List.{append-nil}
 use Rattle.std.specs.List.{AllByRecursion, list_any}
@@ -9,7 +10,8 @@ use Rattle.std.specs.declared.cmp.Ordering.TheVariants.{Less, Equal, Greater}
 use Rattle.std.proofs.lemmas.Slice.Eq.{bytes_eq-Decides}
 use Rattle.std.proofs.lemmas.Map.Text.{is_eq-slice_cmp}
 use Rattle.vl_layout.specs.Jobs.{AreDistinct, AreLent, tables_made}
-use Rattle.vl_layout.specs.Merging.{Sourced, if_so, inputs_of, is_dropped, is_shadowed, kept, kept_from, merged_entries, outside_of, outputs}
+use Rattle.vl_layout.specs.Merging.{Sourced, if_so, inputs_of, is_dropped, is_shadowed, kept, kept_from}
+use Rattle.vl_layout.specs.Merging.{merged_entries, outside_of, outputs}
 use Rattle.vl_layout.specs.Sources.{numbers_of}
 use Rattle.vl_layout.specs.Store.Dispatch.{made_of}
 use Rattle.vl_layout.specs.declared.job.Job.{Job}
@@ -102,10 +104,12 @@ module _ (keep : ℕ) (inputs outside : List Entry) (floor : ℕ) where
       of false at = at
 
   -- what is kept is apart from what came before
-  kept_apart : (e : Entry) (newer : List Entry) (ss : List Sourced) → Shadows e newer → AllByRecursion (IsApart e) (kept_from keep inputs outside floor newer ss)
+  kept_apart : (e : Entry) (newer : List Entry) (ss : List Sourced) → Shadows e newer
+      → AllByRecursion (IsApart e) (kept_from keep inputs outside floor newer ss)
   kept_apart e newer [] shadows = tt
   kept_apart e newer (s ∷ ss) shadows =
-      by (s.0 && not (is_dropped keep inputs outside floor newer s.1)) refl (kept_apart e (s.1 ∷ newer) ss (still_shadows e s.1 newer shadows))
+      by (s.0 && not (is_dropped keep inputs outside floor newer s.1)) refl
+      (kept_apart e (s.1 ∷ newer) ss (still_shadows e s.1 newer shadows))
     where
       by : (b : Bool) → (s.0 && not (is_dropped keep inputs outside floor newer s.1)) ≡ b
           → AllByRecursion (IsApart e) (kept_from keep inputs outside floor (s.1 ∷ newer) ss)
@@ -119,9 +123,11 @@ module _ (keep : ℕ) (inputs outside : List Entry) (floor : ℕ) where
   kept_counted newer [] = refl
   kept_counted newer (s ∷ ss) =
       by (s.0 && not (is_dropped keep inputs outside floor newer s.1)) (kept_counted (s.1 ∷ newer) ss)
-      (in_order_all (IsApart s.1) (kept_from keep inputs outside floor (s.1 ∷ newer) ss) (kept_apart s.1 (s.1 ∷ newer) ss (first_shadows s.1 newer)))
+      (in_order_all (IsApart s.1) (kept_from keep inputs outside floor (s.1 ∷ newer) ss)
+      (kept_apart s.1 (s.1 ∷ newer) ss (first_shadows s.1 newer)))
     where
-      by : (b : Bool) → length (in_order (kept_from keep inputs outside floor (s.1 ∷ newer) ss)) ≡ length (kept_from keep inputs outside floor (s.1 ∷ newer) ss)
+      by : (b : Bool) → length (in_order (kept_from keep inputs outside floor (s.1 ∷ newer) ss)) ≡ length
+          (kept_from keep inputs outside floor (s.1 ∷ newer) ss)
           → AllByRecursion (IsApart s.1) (in_order (kept_from keep inputs outside floor (s.1 ∷ newer) ss))
           → length (in_order (if_so b s.1 (kept_from keep inputs outside floor (s.1 ∷ newer) ss)))
           ≡ length (if_so b s.1 (kept_from keep inputs outside floor (s.1 ∷ newer) ss))
@@ -136,7 +142,8 @@ kept_many job = kept_counted job.keep (inputs_of job.base) (outside_of job.base)
 -- none of these is below the first
 not_in : (number first n : ℕ) → number < first → has number (numbers_from first n) ≡ false
 not_in number first zero less = refl
-not_in number first (suc n) less = or_false (first == number) (has number (numbers_from (first + 1) n)) (other first number less) (not_in number (first + 1) n (omega (arith, less)))
+not_in number first (suc n) less = or_false (first == number) (has number (numbers_from (first + 1) n))
+    (other first number less) (not_in number (first + 1) n (omega (arith, less)))
   where
     or_false : (a b : Bool) → a ≡ false → b ≡ false → (a || b) ≡ false
     or_false true b p q = absurd cc
@@ -151,8 +158,11 @@ distinct_from first (suc n) = (not_in first (first + 1) n (omega arith), distinc
 
 all_within : (first n : ℕ) → AllByRecursion (λ (k : ℕ). has k (numbers_from first n) ≡ true) (numbers_from first n)
 all_within first zero = tt
-all_within first (suc n) =
-    (first_in (first == first) (has first (numbers_from (first + 1) n)) (same_number first first refl), weaker (numbers_from (first + 1) n) (all_within (first + 1) n))
+all_within first (suc n) = (
+  first_in (first == first) (has first (numbers_from (first + 1) n)) (same_number first first refl),
+  weaker
+      (numbers_from (first + 1) n) (all_within (first + 1) n),
+)
   where
     first_in : (a b : Bool) → a ≡ true → (a || b) ≡ true
     first_in true b is = refl
@@ -164,7 +174,8 @@ all_within first (suc n) =
     weaker (k ∷ ks) all = (or_right (first == k) (has k (numbers_from (first + 1) n)) all.0, weaker ks all.1)
 
 -- the tables have the numbers, so far as there are tables
-numbers_made : (n first : ℕ) (output : List (List Entry)) → n ≤ length output → numbers_of (tables_made (numbers_from first n) output) ≡ numbers_from first n
+numbers_made : (n first : ℕ) (output : List (List Entry)) → n ≤ length output
+    → numbers_of (tables_made (numbers_from first n) output) ≡ numbers_from first n
 numbers_made zero first output le = refl
 numbers_made (suc n) first [] le = absurd (omega (arith, le))
 numbers_made (suc n) first (es ∷ output) le = ap (λ (ns : List ℕ). first ∷ ns) (numbers_made n (first + 1) output (omega (arith, le)))

@@ -59,9 +59,11 @@ none_there job made e = cc
 itself_beside : (l : Layout) → IsBeside l l
 itself_beside l = record { live = refl; bare = λ none. none }
 
-module _ {W H R : Type 0} (w : Writers W) (bytes : H → Option (List ℕ)) {k : Writers W} (seen now : Option DiskState) (before after : Core H)
+module _ {W H R : Type 0} (w : Writers W) (bytes : H → Option (List ℕ)) {k : Writers W} (seen now : Option DiskState)
+    (before after : Core H)
     (merging merging' : Option OpenMerge) (os : List (Open H R)) (s : State) (stands : StandsIn bytes seen before os s)
-    (p : Planned (Base H R) H W k) (merges : Merges w bytes merging (Some p) s.store.things s.store.layout) (name : Name) (named : p.name ≡ name)
+    (p : Planned (Base H R) H W k) (merges : Merges w bytes merging (Some p) s.store.things s.store.layout)
+    (name : Name) (named : p.name ≡ name)
     -- what the engine is behind it
     (core : after ≡ before) where
   abbrev h : History
@@ -93,7 +95,8 @@ module _ {W H R : Type 0} (w : Writers W) (bytes : H → Option (List ℕ)) {k :
 
   ended_names : Stand bytes os (without_name name s.store.things) h dropped
   ended_names = stands_without bytes s.store.things h h l dropped os os stands.names name None (taken_none name os stands.names.once free)
-      (λ other apart x y at is. stays_so bytes h l dropped (ended_is_beside made l l (itself_beside l)) os s.store.things stands.names x y is)
+      (λ other apart x y at is. stays_so bytes h l dropped (ended_is_beside made l l (itself_beside l)) os
+      s.store.things stands.names x y is)
 
   module _ (opens : StandsOpen bytes after merging' h dropped) (fits : Fits now after h dropped)
       (represents : IsTrue s.openable → engine.Represents bytes after now h dropped) where
@@ -113,25 +116,30 @@ module _ {W H R : Type 0} (w : Writers W) (bytes : H → Option (List ℕ)) {k :
 
     pub drop_merges : let x = drop_by s.store name (thing_of s.store name) in
         Merges {H = H} {R = R} w bytes {g = k} merging' None x.state.things x.state.layout
-    drop_merges = subst (λ (x : Step). Merges {H = H} {R = R} w bytes {g = k} merging' None x.state.things x.state.layout) (sym ended_is) (record {
-      opens = opens.opens;
-      waits = (
-        refl,
-        λ other job' made' is. ⊎_elim
-            (λ (same : other ≡ name). none_there job' made' (sym (thing_gone name s.store.things)
-            ∙ subst (λ (n : Name). thing_in (without_name name s.store.things) n ≡ Some (AJob job' made')) same is))
-            (λ (apart : other ≡ name → ⊥). apart (merges.waits.only other job' made' (sym (thing_left name other apart s.store.things) ∙ is) ∙ named))
-            (same_or_not other name),
-      );
-    })
+    drop_merges = subst (λ (x : Step). Merges {H = H} {R = R} w bytes {g = k} merging' None x.state.things
+        x.state.layout) (sym ended_is) (record {
+          opens = opens.opens;
+          waits = (
+            refl,
+            λ other job' made' is. ⊎_elim
+                (λ (same : other ≡ name). none_there job' made' (sym (thing_gone name s.store.things)
+                ∙ subst (λ (n : Name). thing_in (without_name name s.store.things) n ≡ Some (AJob job' made')) same is))
+                (λ (apart : other ≡ name → ⊥). apart
+                (merges.waits.only other job' made' (sym (thing_left name other apart s.store.things) ∙ is) ∙ named))
+                (same_or_not other name),
+          );
+        })
 
 -- ---- the disk, which isn't asked
 
-module _ {D W H R : Type 0} (g : Ghosts D) (watched : IsWatched g) (w : Writers W) (bytes : H → Option (List ℕ)) {k : Writers W} (disk : D) (before after : Core H)
+module _ {D W H R : Type 0} (g : Ghosts D) (watched : IsWatched g) (w : Writers W) (bytes : H → Option (List ℕ))
+    {k : Writers W} (disk : D) (before after : Core H)
     (merging : Option OpenMerge) (os : List (Open H R)) (s : State) (stands : StandsIn bytes (g.told disk) before os s)
-    (p : Planned (Base H R) H W k) (merges : Merges w bytes merging (Some p) s.store.things s.store.layout) (name : Name) (named : p.name ≡ name)
+    (p : Planned (Base H R) H W k) (merges : Merges w bytes merging (Some p) s.store.things s.store.layout)
+    (name : Name) (named : p.name ≡ name)
     (core : after ≡ before) where
-  pub drop_carries : (IsTrue s.openable → engine.Represents bytes after (g.told disk) (history_of s) (job_ended (made_of p.job merges.waits.open_job.job) s.store.layout))
+  pub drop_carries : (IsTrue s.openable → engine.Represents bytes after (g.told disk) (history_of s)
+      (job_ended (made_of p.job merges.waits.open_job.job) s.store.layout))
       → CarriesOut g IsStored Shown IsStopped disk disk s (state_by s (drop_by s.store name (thing_of s.store name))) (Ok answers.Done)
   drop_carries represents held =
       let l : Layout = s.store.layout in
@@ -140,8 +148,10 @@ module _ {D W H R : Type 0} (g : Ghosts D) (watched : IsWatched g) (w : Writers 
       let y : Step = record { answer = store_lines.Done; state = without_thing s.store m name; calls = 0 } in
       let after_held : HoldsState g IsStored (state_by s y) disk = record {
         calls = held.calls;
-        there = stored_by bytes after (g.told disk) (state_by s y) (history_of s) m refl refl held.there.2.openable stands.running (represents held.there.2.openable)
-            (subst (λ (c : Core H). c.back.state.next_log ≤ c.back.next_log) (sym core) stands.within) held.there.2.next_log held.there.2.next_drawn
+        there = stored_by bytes after (g.told disk) (state_by s y) (history_of s) m refl refl held.there.2.openable
+            stands.running (represents held.there.2.openable)
+            (subst (λ (c : Core H). c.back.state.next_log ≤ c.back.next_log) (sym core) stands.within)
+            held.there.2.next_log held.there.2.next_drawn
             (λ now told. subst (AreNumberedUpTo s.files) (some_same held.there.0 now (sym held.there.1 ∙ told)) held.there.2.numbered);
       } in
       subst (λ (x : Step). LeadsTo g IsStored Shown IsStopped disk disk s (state_by s x) (Ok answers.Done)) (sym is) (record {
@@ -150,7 +160,8 @@ module _ {D W H R : Type 0} (g : Ghosts D) (watched : IsWatched g) (w : Writers 
         unread = λ halts. absurd halts;
         unchanged = λ halts same. absurd halts;
         tells = opens_again g watched IsStored Shown IsStopped shown_stays stored_exactly s disk held;
-        through = rests_until g watched IsStored Shown IsStopped shown_stays stored_exactly s (history_of (state_by s y)) (extends_same (history_of s) (history_of (state_by s y)) refl) disk held;
+        through = rests_until g watched IsStored Shown IsStopped shown_stays stored_exactly s
+            (history_of (state_by s y)) (extends_same (history_of s) (history_of (state_by s y)) refl) disk held;
         stopped = λ halts. absurd halts;
       })
     where

@@ -1,5 +1,6 @@
 -- What a plan line comes to in the sequential store, by how many numbers were drawn.
-use Rattle.std.proofs.Common.{◌≡◌, ◌⊎◌, ⊎_elim, inl, inr, ℕ, zero, suc, ◌+◌, ◌<◌, ◌≤◌, Bool, true, false, cond, List, [], ◌∷◌, ◌++◌, length, refl, ap, sym, ◌∙◌, subst, arith}
+use Rattle.std.proofs.Common.{◌≡◌, ◌⊎◌, ⊎_elim, inl, inr, ℕ, zero, suc, ◌+◌, ◌<◌, ◌≤◌, Bool, true, false, cond, List}
+use Rattle.std.proofs.Common.{[], ◌∷◌, ◌++◌, length, refl, ap, sym, ◌∙◌, subst, arith}
 use Rattle.std.proofs.lemmas.Bool.Decides.{nat_tests}
 use Rattle.std.proofs.lemmas.List.{append_assoc, append-nil}
 use Rattle.std.specs.Prelude.{Option, None, Some, nat_lt}
@@ -109,34 +110,61 @@ module _ (s : things.State) (name : Name) (job : Job) where
   }
 
   -- a number was drawn
-  fill_drawn : (es : List Entry) (output : List (List Entry)) (l : Layout) (numbers : List ℕ) (calls : ℕ) → l.halted ≡ None → l.next_table ≤ max_file_number
+  fill_drawn : (es : List Entry) (output : List (List Entry)) (l : Layout) (numbers : List ℕ) (calls : ℕ)
+      → l.halted ≡ None → l.next_table ≤ max_file_number
       → fill s name job l (es ∷ output) numbers calls ≡ fill s name job (drawn l) output (numbers ++ l.next_table ∷ []) (calls + 1)
   fill_drawn es output l numbers calls running le =
-      ap (λ (r : Ruling FreshAnswer). filled s l (made_of job numbers) calls (fill s name job r.layout output (numbers ++ l.next_table ∷ []) (calls + 1)) r.answer)
+      ap (λ (r : Ruling FreshAnswer). filled s l (made_of job numbers) calls
+      (fill s name job r.layout output (numbers ++ l.next_table ∷ []) (calls + 1)) r.answer)
       (draw_made l h running le)
 
-  fill_refused : (es : List Entry) (output : List (List Entry)) (l : Layout) (numbers : List ℕ) (calls : ℕ) → l.halted ≡ None → max_file_number < l.next_table
+  fill_refused : (es : List Entry) (output : List (List Entry)) (l : Layout) (numbers : List ℕ) (calls : ℕ)
+      → l.halted ≡ None → max_file_number < l.next_table
       → fill s name job l (es ∷ output) numbers calls
       ≡ record { answer = Exhausted counter.Table; state = record s { layout = job_ended (made_of job numbers) l }; calls = calls }
   fill_refused es output l numbers calls running lt =
-      ap (λ (r : Ruling FreshAnswer). filled s l (made_of job numbers) calls (fill s name job r.layout output (numbers ++ l.next_table ∷ []) (calls + 1)) r.answer)
+      ap (λ (r : Ruling FreshAnswer). filled s l (made_of job numbers) calls
+      (fill s name job r.layout output (numbers ++ l.next_table ∷ []) (calls + 1)) r.answer)
       (draw_refused l h running lt)
 
-  more_numbers : (numbers : List ℕ) (next n : ℕ) → (numbers ++ next ∷ []) ++ numbers_from (next + 1) n ≡ numbers ++ numbers_from next (suc n)
+  more_numbers : (numbers : List ℕ) (next n : ℕ) → (numbers ++ next ∷ []) ++ numbers_from (next + 1) n ≡ numbers
+      ++ numbers_from next (suc n)
   more_numbers numbers next n = append_assoc numbers (next ∷ []) (numbers_from (next + 1) n)
 
-  filled_more : (l : Layout) (numbers : List ℕ) (calls n : ℕ) → Filled (drawn l) (numbers ++ l.next_table ∷ []) (calls + 1) n ≡ Filled l numbers calls (suc n)
+  filled_more : (l : Layout) (numbers : List ℕ) (calls n : ℕ)
+      → Filled (drawn l) (numbers ++ l.next_table ∷ []) (calls + 1) n ≡ Filled l numbers calls (suc n)
   filled_more l numbers calls n =
-      ap (λ (ns : List ℕ). record { answer = Number (length (kept job)); state = with_thing s (drawn_all (suc n) l) name (AJob job (made_of job ns)); calls = (calls + 1) + n })
+      ap (λ (ns : List ℕ). record {
+        answer = Number (length (kept job));
+        state = with_thing s (drawn_all (suc n) l) name
+            (AJob job (made_of job ns));
+        calls = (calls + 1) + n;
+      })
       (more_numbers numbers l.next_table n)
-      ∙ ap (λ (k : ℕ). record { answer = Number (length (kept job)); state = with_thing s (drawn_all (suc n) l) name (AJob job (made_of job (numbers ++ numbers_from l.next_table (suc n)))); calls = k })
+      ∙ ap (λ (k : ℕ). record {
+        answer = Number (length (kept job));
+        state = with_thing s (drawn_all (suc n) l) name
+            (AJob job (made_of job (numbers ++ numbers_from l.next_table (suc n))));
+        calls = k;
+      })
       (let sum : (calls + 1) + n ≡ calls + suc n = omega arith in sum)
 
-  ended_more : (l : Layout) (numbers : List ℕ) (calls n : ℕ) → Ended (drawn l) (numbers ++ l.next_table ∷ []) (calls + 1) n ≡ Ended l numbers calls (suc n)
+  ended_more : (l : Layout) (numbers : List ℕ) (calls n : ℕ)
+      → Ended (drawn l) (numbers ++ l.next_table ∷ []) (calls + 1) n ≡ Ended l numbers calls (suc n)
   ended_more l numbers calls n =
-      ap (λ (ns : List ℕ). record { answer = Exhausted counter.Table; state = record s { layout = job_ended (made_of job ns) (drawn_all (suc n) l) }; calls = (calls + 1) + n })
+      ap (λ (ns : List ℕ). record {
+        answer = Exhausted counter.Table;
+        state = record s
+            { layout = job_ended (made_of job ns) (drawn_all (suc n) l) };
+        calls = (calls + 1) + n;
+      })
       (more_numbers numbers l.next_table n)
-      ∙ ap (λ (k : ℕ). record { answer = Exhausted counter.Table; state = record s { layout = job_ended (made_of job (numbers ++ numbers_from l.next_table (suc n))) (drawn_all (suc n) l) }; calls = k })
+      ∙ ap (λ (k : ℕ). record {
+        answer = Exhausted counter.Table;
+        state = record s
+            { layout = job_ended (made_of job (numbers ++ numbers_from l.next_table (suc n))) (drawn_all (suc n) l) };
+        calls = k;
+      })
       (let sum : (calls + 1) + n ≡ calls + suc n = omega arith in sum)
 
   -- all of them were
@@ -144,8 +172,15 @@ module _ (s : things.State) (name : Name) (job : Job) where
       → (length output ≡ 0) ⊎ (l.next_table + length output ≤ max_file_number + 1)
       → fill s name job l output numbers calls ≡ Filled l numbers calls (length output)
   fill_all [] l numbers calls running fits =
-      ap (λ (ns : List ℕ). record { answer = Number (length (kept job)); state = with_thing s l name (AJob job (made_of job ns)); calls = calls }) (sym (append-nil numbers))
-      ∙ ap (λ (k : ℕ). record { answer = Number (length (kept job)); state = with_thing s l name (AJob job (made_of job (numbers ++ []))); calls = k })
+      ap (λ (ns : List ℕ). record
+      { answer = Number (length (kept job)); state = with_thing s l name (AJob job (made_of job ns)); calls = calls })
+      (sym (append-nil numbers))
+      ∙ ap (λ (k : ℕ). record {
+        answer = Number (length (kept job));
+        state = with_thing s l name
+            (AJob job (made_of job (numbers ++ [])));
+        calls = k;
+      })
       (let sum : calls ≡ calls + 0 = omega arith in sum)
   fill_all (es ∷ output) l numbers calls running fits =
       let le : l.next_table + suc (length output) ≤ max_file_number + 1 = some fits in
@@ -153,7 +188,8 @@ module _ (s : things.State) (name : Name) (job : Job) where
       ∙ fill_all output (drawn l) (numbers ++ l.next_table ∷ []) (calls + 1) running (inr (omega (arith, le)))
       ∙ filled_more l numbers calls (length output)
     where
-      some : (suc (length output) ≡ 0) ⊎ (l.next_table + suc (length output) ≤ max_file_number + 1) → l.next_table + suc (length output) ≤ max_file_number + 1
+      some : (suc (length output) ≡ 0) ⊎ (l.next_table + suc (length output) ≤ max_file_number + 1)
+          → l.next_table + suc (length output) ≤ max_file_number + 1
       some (inl none) = omega (arith, none)
       some (inr le) = le
 
@@ -164,13 +200,21 @@ module _ (s : things.State) (name : Name) (job : Job) where
   fill_some [] l numbers calls n running few fits none = absurd (omega (arith, few))
   fill_some (es ∷ output) l numbers calls zero running few fits none =
       fill_refused es output l numbers calls running (omega (arith, none))
-      ∙ ap (λ (ns : List ℕ). record { answer = Exhausted counter.Table; state = record s { layout = job_ended (made_of job ns) l }; calls = calls }) (sym (append-nil numbers))
-      ∙ ap (λ (k : ℕ). record { answer = Exhausted counter.Table; state = record s { layout = job_ended (made_of job (numbers ++ [])) l }; calls = k })
+      ∙ ap (λ (ns : List ℕ). record
+      { answer = Exhausted counter.Table; state = record s { layout = job_ended (made_of job ns) l }; calls = calls })
+      (sym (append-nil numbers))
+      ∙ ap (λ (k : ℕ). record {
+        answer = Exhausted counter.Table;
+        state = record s
+            { layout = job_ended (made_of job (numbers ++ [])) l };
+        calls = k;
+      })
       (let sum : calls ≡ calls + 0 = omega arith in sum)
   fill_some (es ∷ output) l numbers calls (suc n) running few fits none =
       let le : l.next_table + suc n ≤ max_file_number + 1 = some fits in
       fill_drawn es output l numbers calls running (omega (arith, le))
-      ∙ fill_some output (drawn l) (numbers ++ l.next_table ∷ []) (calls + 1) n running (omega (arith, few)) (inr (omega (arith, le))) (omega (arith, none))
+      ∙ fill_some output (drawn l) (numbers ++ l.next_table ∷ []) (calls + 1) n running (omega (arith, few))
+      (inr (omega (arith, le))) (omega (arith, none))
       ∙ ended_more l numbers calls n
     where
       some : (suc n ≡ 0) ⊎ (l.next_table + suc n ≤ max_file_number + 1) → l.next_table + suc n ≤ max_file_number + 1
@@ -179,12 +223,14 @@ module _ (s : things.State) (name : Name) (job : Job) where
 
   -- ---- how many calls it makes at least, whatever it comes to
 
-  filled_calls : (l : Layout) (made : Made) (calls : ℕ) (more : Step) (a : FreshAnswer) → calls ≤ more.calls → calls ≤ (filled s l made calls more a).calls
+  filled_calls : (l : Layout) (made : Made) (calls : ℕ) (more : Step) (a : FreshAnswer) → calls ≤ more.calls
+      → calls ≤ (filled s l made calls more a).calls
   filled_calls l made calls more (fresh.Drawn n) le = le
   filled_calls l made calls more (fresh.Halted file) le = omega arith
   filled_calls l made calls more (fresh.Exhausted c) le = omega arith
 
-  calls_grow : (output : List (List Entry)) (l : Layout) (numbers : List ℕ) (calls : ℕ) → calls ≤ (fill s name job l output numbers calls).calls
+  calls_grow : (output : List (List Entry)) (l : Layout) (numbers : List ℕ) (calls : ℕ)
+      → calls ≤ (fill s name job l output numbers calls).calls
   calls_grow [] l numbers calls = omega arith
   calls_grow (es ∷ output) l numbers calls =
       filled_calls l (made_of job numbers) calls _ (fresh_ruling l h).answer
@@ -200,5 +246,6 @@ module _ (s : things.State) (name : Name) (job : Job) where
       omega (arith, step, more)
   fill_more (es ∷ output) l numbers calls (suc n) running few fits =
       let step = ap (λ (x : Step). x.calls) (fill_drawn es output l numbers calls running (omega (arith, fits))) in
-      let more = fill_more output (drawn l) (numbers ++ l.next_table ∷ []) (calls + 1) n running (omega (arith, few)) (omega (arith, fits)) in
+      let more = fill_more output (drawn l) (numbers ++ l.next_table ∷ []) (calls + 1) n running (omega (arith, few))
+      (omega (arith, fits)) in
       omega (arith, step, more)

@@ -54,7 +54,8 @@ use Rattle.vl_replay.proofs.Merges.Carrying.{halted_leads}
 use Rattle.vl_replay.proofs.Merges.Filling.{drawn_next}
 use Rattle.vl_replay.proofs.Merges.Planned.{Plans}
 use Rattle.vl_replay.proofs.Merges.PlanLine.{WasMerged}
-use Rattle.vl_replay.proofs.Merges.Planning.{given_up, given_up_is, given_up_makes, given_up_waits, lent_there, made, planned_state, some_lent, total_of, whole, whole_is}
+use Rattle.vl_replay.proofs.Merges.Planning.{given_up, given_up_is, given_up_makes, given_up_waits, lent_there, made}
+use Rattle.vl_replay.proofs.Merges.Planning.{planned_state, some_lent, total_of, whole, whole_is}
 
 -- where none waits there is none
 pub none_of : {T : Type 0} (o : Option T) → is_some o ≡ false → o ≡ None
@@ -72,7 +73,8 @@ by_reader (halts.Read file) by = by
 by_reader (halts.Damaged file place) by = by
 
 -- an engine that stands for a state that isn't halted isn't
-pub not_halted : {H : Type 0} (bytes : H → Option (List ℕ)) (core : Core H) (h : History) (l : Layout) → engine.StandsFor bytes core h l → l.halted ≡ None
+pub not_halted : {H : Type 0} (bytes : H → Option (List ℕ)) (core : Core H) (h : History) (l : Layout)
+    → engine.StandsFor bytes core h l → l.halted ≡ None
     → core.front.halted ≡ None
 not_halted bytes core h l stands running = unmapped core.front.halted engine.file_of (stands.fronts.halted ∙ running)
   where
@@ -101,12 +103,16 @@ unplanned_leads {D} g watched old new same s name held =
 -- ---- the merge is given up
 
 -- the clauses of `Engine::abandon`
-pub record Abandons {H : Type 0} (bytes : H → Option (List ℕ)) (seen now : Option DiskState) (before after : Core H) (merging merging' : Option OpenMerge) : Type 0 where
-  pub stands : (h : History) (l : Layout) (o : OpenJob) (made : Made) → StandsOpen bytes before merging h l → l.job ≡ Some o → AreLent o.lent made
+pub record Abandons {H : Type 0} (bytes : H → Option (List ℕ)) (seen now : Option DiskState) (before after : Core H)
+    (merging merging' : Option OpenMerge) : Type 0 where
+  pub stands : (h : History) (l : Layout) (o : OpenJob) (made : Made) → StandsOpen bytes before merging h l
+      → l.job ≡ Some o → AreLent o.lent made
       → StandsOpen bytes after merging' h (abandon_ruling l h o.job made).layout
-  pub represents : (h : History) (l : Layout) (o : OpenJob) (made : Made) → engine.Represents bytes before seen h l → l.job ≡ Some o → AreLent o.lent made
+  pub represents : (h : History) (l : Layout) (o : OpenJob) (made : Made) → engine.Represents bytes before seen h l
+      → l.job ≡ Some o → AreLent o.lent made
       → engine.Represents bytes after now h (abandon_ruling l h o.job made).layout
-  pub fits : (h : History) (l : Layout) (o : OpenJob) (made : Made) → Fits seen before h l → Fits now after h (abandon_ruling l h o.job made).layout
+  pub fits : (h : History) (l : Layout) (o : OpenJob) (made : Made) → Fits seen before h l
+      → Fits now after h (abandon_ruling l h o.job made).layout
   pub core : after ≡ before
 
 -- the layout that it leaves
@@ -116,7 +122,8 @@ ended_layout s name j count = job_ended (made s name j count) (drawn_all count (
 abbrev ended_state : State → Name → Job → ℕ → State
 ended_state s name j count = record s { store = record s.store { layout = ended_layout s name j count } }
 
-module _ {H : Type 0} (bytes : H → Option (List ℕ)) (seen now : Option DiskState) (before after : Core H) (merging merging' : Option OpenMerge)
+module _ {H : Type 0} (bytes : H → Option (List ℕ)) (seen now : Option DiskState) (before after : Core H)
+    (merging merging' : Option OpenMerge)
     (did : Abandons bytes seen now before after merging merging') (s : State) (name : Name) (j : Job) (count : ℕ) (few : count ≤ total_of j)
     (serves : IsServing bytes seen before merging (drawn_state count (planned_state j s))) where
   abbrev its_open : OpenJob
@@ -131,7 +138,8 @@ module _ {H : Type 0} (bytes : H → Option (List ℕ)) (seen now : Option DiskS
 
   pub ended_serves : IsServing bytes now after merging' (ended_state s name j count)
   ended_serves =
-      let open' = did.stands (history_of s) drawn_on its_open (made s name j count) (record { stands = serves.stands; opens = serves.opens })
+      let open' = did.stands (history_of s) drawn_on its_open (made s name j count)
+      (record { stands = serves.stands; opens = serves.opens })
       (lent_there s name j count) (some_lent s name j count few) in
       record {
         stands = open'.stands;
@@ -145,7 +153,8 @@ module _ {H : Type 0} (bytes : H → Option (List ℕ)) (seen now : Option DiskS
 -- ---- the line
 
 -- where one more number might be drawn, the line draws it
-pub next_above : (s : State) (name : Name) (j : Job) → Plans s.store.layout (history_of s) j → s.store.layout.halted ≡ None → thing_of s.store name ≡ None
+pub next_above : (s : State) (name : Name) (j : Job) → Plans s.store.layout (history_of s) j
+    → s.store.layout.halted ≡ None → thing_of s.store name ≡ None
     → (count : ℕ) → count < total_of j → s.store.layout.next_table + count ≤ max_file_number
     → s.store.layout.next_table + count < (state_after s (lines.Plan name)).store.layout.next_table
 next_above s name j plans running bare count few fits =
@@ -164,7 +173,8 @@ next_above s name j plans running bare count few fits =
 module _ {D W H R : Type 0} (g : Ghosts D) (watched : IsWatched g) (w : Writers W) (bytes : H → Option (List ℕ)) {k : Writers W}
     (old new : D) (before core : Core H) (merging : Option OpenMerge) (os : List (Open H R)) (s : State)
     (stands : StandsIn bytes (g.told old) before os s) (name : Name) (bare : thing_of s.store name ≡ None) (free : open_in os name ≡ None)
-    (job : TheJob (Base H R) H W k) (result : Result (Option Counter) Halt) (was : WasMerged g w bytes old new core merging job s result) where
+    (job : TheJob (Base H R) H W k) (result : Result (Option Counter) Halt)
+    (was : WasMerged g w bytes old new core merging job s result) where
   abbrev h : History
   h = history_of s
 
@@ -188,7 +198,8 @@ module _ {D W H R : Type 0} (g : Ghosts D) (watched : IsWatched g) (w : Writers 
 
   -- ---- no number was left
 
-  module _ (now : Option DiskState) (after : Core H) (merging' : Option OpenMerge) (did : Abandons bytes (g.told new) now core after merging merging')
+  module _ (now : Option DiskState) (after : Core H) (merging' : Option OpenMerge)
+      (did : Abandons bytes (g.told new) now core after merging merging')
       (counter : Counter) (is : result ≡ Ok (Some counter)) where
     ends : EndsMerging w bytes job (planned_state j s) j merged.count (Ok (Some counter))
     ends = subst (EndsMerging w bytes job (planned_state j s) j merged.count) is merged.ends
@@ -200,12 +211,15 @@ module _ {D W H R : Type 0} (g : Ghosts D) (watched : IsWatched g) (w : Writers 
     its_serves = ended_serves bytes (g.told new) now core after merging merging' did s name j merged.count merged.few (merged.serves fine)
 
     pub exhausted_makes : MakesStep bytes now after os s (step_to s (lines.Plan name)) (Ok (answers.Exhausted counter))
-    exhausted_makes = given_up_makes bytes now after os s name j plans stands.names stands.sound stands.running bare free merging' merged.count ends.0 merged.fits ends.2
+    exhausted_makes = given_up_makes bytes now after os s name j plans stands.names stands.sound stands.running bare
+        free merging' merged.count ends.0 merged.fits ends.2
         its_serves counter ends.1
 
-    pub exhausted_merges : {m : Writers W} → ((other : Name) (job' : Job) (made' : Made) → thing_in s.store.things other ≡ Some (AJob job' made') → ⊥)
+    pub exhausted_merges : {m : Writers W}
+        → ((other : Name) (job' : Job) (made' : Made) → thing_in s.store.things other ≡ Some (AJob job' made') → ⊥)
         → let x = step_to s (lines.Plan name) in Merges {H = H} {R = R} w bytes {g = m} merging' None x.state.things x.state.layout
-    exhausted_merges {m} none = given_up_waits bytes now after os s name j plans stands.names stands.sound stands.running bare free merging' merged.count ends.0 merged.fits ends.2
+    exhausted_merges {m} none = given_up_waits bytes now after os s name j plans stands.names stands.sound
+        stands.running bare free merging' merged.count ends.0 merged.fits ends.2
         its_serves w m none
 
     pub exhausted_leads : now ≡ g.told new → HoldsState g IsStored s old
@@ -213,10 +227,12 @@ module _ {D W H R : Type 0} (g : Ghosts D) (watched : IsWatched g) (w : Writers 
     exhausted_leads same held = record {
       answered = subst (λ (x : Step). HoldsState g IsStored (state_by_plan s x) new) (sym step) (record {
         calls = (drawn.held fine).calls;
-        there = stored_by bytes after (g.told new) (state_by_plan s (given_up s name j merged.count)) h (ended_layout s name j merged.count) refl refl
+        there = stored_by bytes after (g.told new) (state_by_plan s (given_up s name j merged.count)) h
+            (ended_layout s name j merged.count) refl refl
             its.openable its_serves.running
             (subst (λ (d : Option DiskState). engine.Represents bytes after d h (ended_layout s name j merged.count)) same
-            (ended_represents bytes (g.told new) now core after merging merging' did s name j merged.count merged.few (merged.serves fine) its.openable))
+            (ended_represents bytes (g.told new) now core after merging merging' did s name j merged.count merged.few
+            (merged.serves fine) its.openable))
             its_serves.within its.next_log its.next_drawn
             (λ state told. subst (AreNumberedUpTo (s.files + merged.count))
             (some_same (drawn.held fine).there.0 state (sym (drawn.held fine).there.1 ∙ told)) its.numbered);
@@ -245,7 +261,8 @@ module _ {D W H R : Type 0} (g : Ghosts D) (watched : IsWatched g) (w : Writers 
     stopped_ends : EndsMerging w bytes job (planned_state j s) j merged.count (Err halt)
     stopped_ends = subst (EndsMerging w bytes job (planned_state j s) j merged.count) is merged.ends
 
-    where_failed : (e : Halt) → EndsMerging w bytes job (planned_state j s) j merged.count (Err e) → HaltsByDisk {T = Option Counter} (Err e)
+    where_failed : (e : Halt) → EndsMerging w bytes job (planned_state j s) j merged.count (Err e)
+        → HaltsByDisk {T = Option Counter} (Err e)
         → (merged.count < length (outputs j)) × (l.next_table + merged.count ≤ max_file_number)
     where_failed halts.NoMemory far by = absurd by
     where_failed (halts.Disk file) far by = (far.0, far.1)
@@ -253,7 +270,8 @@ module _ {D W H R : Type 0} (g : Ghosts D) (watched : IsWatched g) (w : Writers 
     where_failed (halts.Damaged file place) far by = absurd by
 
     pub stopped_leads : HoldsState g IsStored s old → LeadsTo {T = Answer} g IsStored Shown IsStopped old new s behind (Err halt)
-    stopped_leads held = halted_leads g watched bytes old new s name j plans os stands.names stands.sound stands.running bare free stands.engine.tidy
+    stopped_leads held = halted_leads g watched bytes old new s name j plans os stands.names stands.sound stands.running
+        bare free stands.engine.tidy
         merged.count result (drew held) halt is merged.few merged.fits
         (λ by. where_failed halt stopped_ends (subst (λ (r : Result (Option Counter) Halt). HaltsByDisk r) is by))
 
@@ -269,13 +287,15 @@ module _ {D W H R : Type 0} (g : Ghosts D) (watched : IsWatched g) (w : Writers 
         of (halts.Read file) far damaged = damaged
         of (halts.Damaged file place) far damaged = far
 
-    pub stopped_named : (manifest : ℕ) (file : FileName) → ◌≡◌ {A = Result Answer Halt} (Err halt) (Err (halts.Disk file)) → FailsAt manifest (lines.Plan name) s file
+    pub stopped_named : (manifest : ℕ) (file : FileName)
+        → ◌≡◌ {A = Result Answer Halt} (Err halt) (Err (halts.Disk file)) → FailsAt manifest (lines.Plan name) s file
     stopped_named manifest file at = of halt stopped_ends (same_halt at)
       where
         same_halt : ◌≡◌ {A = Result Answer Halt} (Err halt) (Err (halts.Disk file)) → halt ≡ halts.Disk file
         same_halt e = cc
 
-        of : (e : Halt) → EndsMerging w bytes job (planned_state j s) j merged.count (Err e) → e ≡ halts.Disk file → FailsAt manifest (lines.Plan name) s file
+        of : (e : Halt) → EndsMerging w bytes job (planned_state j s) j merged.count (Err e) → e ≡ halts.Disk file
+            → FailsAt manifest (lines.Plan name) s file
         of halts.NoMemory far same = absurd cc
         of (halts.Disk other) far same = (
           l.next_table + merged.count,
@@ -292,5 +312,6 @@ module _ {D W H R : Type 0} (g : Ghosts D) (watched : IsWatched g) (w : Writers 
 -- ---- its fault
 
 -- what failed beside the disk is a fault of what carried out the merge
-pub stopped_fault : (result : Result (Option Counter) Halt) (halt : Halt) → result ≡ Err halt → HaltsByReader {T = Answer} (Err halt) → HaltsByReader result
+pub stopped_fault : (result : Result (Option Counter) Halt) (halt : Halt) → result ≡ Err halt
+    → HaltsByReader {T = Answer} (Err halt) → HaltsByReader result
 stopped_fault result halt is by = subst (λ (r : Result (Option Counter) Halt). HaltsByReader r) (sym is) (by_reader halt by)

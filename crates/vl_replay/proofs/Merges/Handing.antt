@@ -36,7 +36,8 @@ distinct_so (n ∷ ns) is =
     let (other, later) = and_both (not (has n ns)) (are_distinct ns) is in (not_true (has n ns) other, distinct_so ns later)
 
 -- what told nothing tells nothing
-told_before : (old new : Option DiskState) (state : DiskState) → StaysUntold old new → new ≡ Some state → (before : DiskState) × (old ≡ Some before)
+told_before : (old new : Option DiskState) (state : DiskState) → StaysUntold old new → new ≡ Some state
+    → (before : DiskState) × (old ≡ Some before)
 told_before None new state stays is = absurd (none_some state (sym (stays refl) ∙ is))
 told_before (Some before) new state stays is = (before, refl)
 
@@ -54,7 +55,8 @@ module _ {D V H W : Type 0} (g : Ghosts D) (w : Writers W) {s : _} where
         is_open = is;
         drawn = recursion_from_All (λ (n : ℕ). has n merge.lent.items ≡ true) (numbers_in job) (may.drawn merge is);
         distinct = distinct_so (numbers_in job) may.distinct;
-        tells = λ running state told. recursion_from_All (λ (t : Synced W s). IsSome (w.file t.writer)) job.made.items (may.tells state told);
+        tells = λ running state told. recursion_from_All (λ (t : Synced W s). IsSome (w.file t.writer)) job.made.items
+            (may.tells state told);
       }
 
   module _ (old new : D) (merging merging' : Option OpenMerge) (planned : Option (Planned V H W s)) (same : merging' ≡ merging) where
@@ -70,12 +72,14 @@ module _ {D V H W : Type 0} (g : Ghosts D) (w : Writers W) {s : _} where
         })
 
     -- where it was answered
-    pub can_answered : {T : Type 0} (result : Result T Halt) → OnOk result (StaysUntold (g.told old) (g.told new)) → CanHandIn g w old merging planned
+    pub can_answered : {T : Type 0} (result : Result T Halt) → OnOk result (StaysUntold (g.told old) (g.told new))
+        → CanHandIn g w old merging planned
         → OnOk result (CanHandIn g w new merging' planned)
     can_answered (Ok x) stays can = can_still stays can
     can_answered (Err e) stays can = tt
 
     -- the disk is the same
-    pub can_same : {T : Type 0} (result : Result T Halt) → new ≡ old → CanHandIn g w old merging planned → OnOk result (CanHandIn g w new merging' planned)
+    pub can_same : {T : Type 0} (result : Result T Halt) → new ≡ old → CanHandIn g w old merging planned
+        → OnOk result (CanHandIn g w new merging' planned)
     can_same (Ok x) disk can = can_still (λ none. ap (λ (d : D). g.told d) disk ∙ none) can
     can_same (Err e) disk can = tt

@@ -1,5 +1,6 @@
 -- What an install line makes of a state, and does to a disk that holds it, by what the engine carried out.
-use Rattle.std.proofs.Common.{◌≡◌, ◌⊎◌, ⊎_elim, inl, inr, ◌≤◌, ◌<◌, ◌+◌, ℕ, ◌==◌, Bool, true, false, ◌||◌, List, [], ◌∷◌, ◌++◌, map, refl, ap, sym, ◌∙◌, subst, arith}
+use Rattle.std.proofs.Common.{◌≡◌, ◌⊎◌, ⊎_elim, inl, inr, ◌≤◌, ◌<◌, ◌+◌, ℕ, ◌==◌, Bool, true, false, ◌||◌, List, []}
+use Rattle.std.proofs.Common.{◌∷◌, ◌++◌, map, refl, ap, sym, ◌∙◌, subst, arith}
 use Rattle.std.proofs.lemmas.Bool.Decides.{nat_tests}
 use Rattle.std.proofs.lemmas.List.Elements.{recursion_from_All}
 use Rattle.std.specs.List.{AllByRecursion, AllZip}
@@ -24,7 +25,9 @@ use Rattle.vl_disk.specs.declared.writer.Writer.{Ghosts as Writers}
 use Rattle.vl_disk.specs.laws.NameMap.{get_inserted, get_inserted_other, same_or_other}
 use Rattle.std.specs.FinMap.{get}
 use Rattle.vl_engine.specs.Carries.{Carries}
-use Rattle.vl_engine.specs.Installing.{InstallFailed, InstallLeavesDisk, IsHandedIn, KeepsAllBut, MayInstall, StopsInstall, StopsSwitching, WritesInstall, at_manifest, at_table, install_otherwise, numbers_in}
+use Rattle.vl_engine.specs.Installing.{InstallFailed, InstallLeavesDisk, IsHandedIn, KeepsAllBut, MayInstall}
+use Rattle.vl_engine.specs.Installing.{StopsInstall, StopsSwitching, WritesInstall, at_manifest, at_table}
+use Rattle.vl_engine.specs.Installing.{install_otherwise, numbers_in}
 use Rattle.vl_engine.specs.Lent.{Opens}
 use Rattle.vl_engine.specs.Lent as lending
 use Rattle.vl_engine.specs.Merging.{HasAllMerge, StandsOpen, install_effects, install_outcome, made_numbers}
@@ -48,7 +51,8 @@ use Rattle.vl_layout.specs.Sources.{numbers_of}
 use Rattle.vl_layout.specs.Store.Dispatch.{install_by, install_told}
 use Rattle.vl_layout.specs.Store.Lines as store_lines
 use Rattle.vl_layout.specs.Store.Lines.{Name}
-use Rattle.vl_layout.specs.Store.Things.{AJob, APass, ATransaction, AView, Step, Thing, only, thing_in, thing_of, without_name, without_thing}
+use Rattle.vl_layout.specs.Store.Things.{AJob, APass, ATransaction, AView, Step, Thing, only, thing_in, thing_of}
+use Rattle.vl_layout.specs.Store.Things.{without_name, without_thing}
 use Rattle.vl_layout.specs.declared.job.Job.{Job}
 use Rattle.vl_layout.specs.declared.job.OpenJob.{OpenJob}
 use Rattle.vl_layout.specs.declared.layout.Layout.{Layout}

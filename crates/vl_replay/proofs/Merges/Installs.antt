@@ -7,7 +7,8 @@ use Rattle.vl_layout.specs.Levels.{at_level, in_key_order, is_among, is_before, 
 use Rattle.vl_layout.specs.Merging.{needless}
 use Rattle.vl_layout.specs.Ruling.{Ruling, has_no_version, is_idle, leaving, retired_at}
 use Rattle.vl_layout.specs.Rulings.Install as rulings
-use Rattle.vl_layout.specs.Rulings.Install.{InstallAnswer, install_checked, install_ruling, install_unless, installed, moved_among, moved_since, race}
+use Rattle.vl_layout.specs.Rulings.Install.{InstallAnswer, install_checked, install_ruling, install_unless, installed}
+use Rattle.vl_layout.specs.Rulings.Install.{moved_among, moved_since, race}
 use Rattle.vl_layout.specs.Sources.{log_of, rising, table_of, tables}
 use Rattle.vl_layout.specs.declared.file_name.FileName.{FileName}
 use Rattle.vl_layout.specs.declared.file_name.Retired.{Retired}

@@ -1,5 +1,6 @@
 -- Which lines leave the open merge and its name alone: all but those of merges.
-use Rattle.std.proofs.Common.{◌≡◌, ◌⊎◌, ⊎_elim, inl, inr, ℕ, ◌+◌, ◌==◌, ◌||◌, ◌&&◌, Bool, true, false, cond, not, List, [], ◌∷◌, length, refl, ap, sym, ◌∙◌, subst}
+use Rattle.std.proofs.Common.{◌≡◌, ◌⊎◌, ⊎_elim, inl, inr, ℕ, ◌+◌, ◌==◌, ◌||◌, ◌&&◌, Bool, true, false, cond, not}
+use Rattle.std.proofs.Common.{List, [], ◌∷◌, length, refl, ap, sym, ◌∙◌, subst}
 use Rattle.std.specs.Prelude.{Option, None, Some, nat_le, nat_lt}
 use Rattle.std.specs.FinMap.{find, put}
 use Rattle.std.specs.Ordering.{eq_by_cmp}
@@ -19,7 +20,8 @@ use Rattle.vl_layout.specs.Sources.{oldest}
 use Rattle.vl_layout.specs.Store.Commits.{conflict_in, history_in}
 use Rattle.vl_layout.specs.Store.Dispatch.{drop_by, keep_by, step_by}
 use Rattle.vl_layout.specs.Store.Lines.{Answer, Name}
-use Rattle.vl_layout.specs.Store.Reading.{a_transaction, a_view, begin_as, begun_by, commit_by, committed_by, get_at_by, get_by, get_own, is_small_enough, ruled, scan_by, write_by}
+use Rattle.vl_layout.specs.Store.Reading.{a_transaction, a_view, begin_as, begun_by, commit_by, committed_by}
+use Rattle.vl_layout.specs.Store.Reading.{get_at_by, get_by, get_own, is_small_enough, ruled, scan_by, write_by}
 use Rattle.vl_layout.specs.Store.Things as things
 use Rattle.vl_layout.specs.Store.Things.{AJob, APass, ATransaction, AView, Step, Thing, named, thing_in, thing_of, without_name}
 use Rattle.vl_layout.specs.Tickets.{free_ticket, tickets_of}
@@ -89,7 +91,8 @@ module _ (ts : List (Name × Thing)) (name : Name) (none : IsNoJob (thing_in ts 
   pub jobs_without : SameJobs ts (without_name name ts)
   jobs_without = record {
     ours = λ q job made is. ⊎_elim
-        (λ (same : q ≡ name). absurd (none_job job made (sym (thing_gone name ts) ∙ subst (λ (n : Name). IsJobAt (without_name name ts) n job made) same is)))
+        (λ (same : q ≡ name). absurd
+        (none_job job made (sym (thing_gone name ts) ∙ subst (λ (n : Name). IsJobAt (without_name name ts) n job made) same is)))
         (λ (apart : q ≡ name → ⊥). sym (thing_left name q apart ts) ∙ is)
         (same_or_not q name);
     still = λ q job made is. thing_left name q (apart_of q job made is) ts ∙ is;
@@ -98,7 +101,8 @@ module _ (ts : List (Name × Thing)) (name : Name) (none : IsNoJob (thing_in ts 
   pub jobs_with : (x : Thing) → IsReader x → SameJobs ts (named name x ts)
   jobs_with x reads = record {
     ours = λ q job made is. ⊎_elim
-        (λ (same : q ≡ name). absurd (reader_job x reads job made (sym (thing_put name x ts) ∙ subst (λ (n : Name). IsJobAt (named name x ts) n job made) same is)))
+        (λ (same : q ≡ name). absurd
+        (reader_job x reads job made (sym (thing_put name x ts) ∙ subst (λ (n : Name). IsJobAt (named name x ts) n job made) same is)))
         (λ (apart : q ≡ name → ⊥). sym (thing_beside name q apart x ts) ∙ is)
         (same_or_not q name);
     still = λ q job made is. thing_beside name q (apart_of q job made is) x ts ∙ is;
@@ -147,17 +151,21 @@ module _ (s : things.State) where
   txn_no_job t b job made e = cc
 
   -- begins
-  begun_keeps : (name : Name) (thing : ℕ → ℕ → Thing) → ((ticket number : ℕ) → IsReader (thing ticket number)) → IsNoJob (thing_of s name) → (b : Bool) (ticket : ℕ)
-      → let r : Ruling BeginAnswer = cond b (leaving begin.TooMany h l) (leaving (begin.Begun ticket (last_number h)) h (begun l ticket (last_number h))) in
+  begun_keeps : (name : Name) (thing : ℕ → ℕ → Thing) → ((ticket number : ℕ) → IsReader (thing ticket number))
+      → IsNoJob (thing_of s name) → (b : Bool) (ticket : ℕ)
+      → let r : Ruling BeginAnswer = cond b (leaving begin.TooMany h l)
+      (leaving (begin.Begun ticket (last_number h)) h (begun l ticket (last_number h))) in
       KeepsMerges s (begun_by s name thing r r.answer)
   begun_keeps name thing reads none true ticket = quiet _ refl refl
-  begun_keeps name thing reads none false ticket = with_reader _ name (thing ticket (last_number h)) (reads ticket (last_number h)) none refl refl
+  begun_keeps name thing reads none false ticket = with_reader _ name (thing ticket (last_number h))
+      (reads ticket (last_number h)) none refl refl
 
   begin_keeps : (name : Name) (thing : Beginning → ℕ → ℕ → Thing) → ((b : Beginning) (ticket number : ℕ) → IsReader (thing b ticket number))
       → (o : Option Thing) → thing_of s name ≡ o → KeepsMerges s (begin_as s name thing o)
   begin_keeps name thing reads (Some other) is = quiet _ refl refl
   begin_keeps name thing reads None is =
-      begun_keeps name (thing (beginning_of (begin_ruling l h).layout h)) (reads (beginning_of (begin_ruling l h).layout h)) (no_job None name is none_job)
+      begun_keeps name (thing (beginning_of (begin_ruling l h).layout h))
+      (reads (beginning_of (begin_ruling l h).layout h)) (no_job None name is none_job)
       (nat_le max_live (length l.live)) (free_ticket (tickets_of l.live))
 
   pub transaction_keeps_merges : (name : Name) → KeepsMerges s (begin_as s name a_transaction (thing_of s name))
@@ -167,18 +175,21 @@ module _ (s : things.State) where
   view_keeps_merges name = begin_keeps name a_view (λ b ticket number. tt) (thing_of s name) refl
 
   -- reads and writes
-  own_keeps : (name : Name) (tell : Option Stored → Answer) (t : Transaction) (b : Beginning) (key : List ℕ) (o : Option Change) → IsNoJob (thing_of s name)
+  own_keeps : (name : Name) (tell : Option Stored → Answer) (t : Transaction) (b : Beginning) (key : List ℕ)
+      (o : Option Change) → IsNoJob (thing_of s name)
       → KeepsMerges s (get_own s name tell t b key o)
   own_keeps name tell t b key (Some change) none = quiet _ refl refl
   own_keeps name tell t b key None none = with_reader _ name _ tt none refl refl
 
-  pub get_keeps_merges : (name : Name) (tell : Option Stored → Answer) (key : List ℕ) (o : Option Thing) → thing_of s name ≡ o → KeepsMerges s (get_by s name tell key o)
+  pub get_keeps_merges : (name : Name) (tell : Option Stored → Answer) (key : List ℕ) (o : Option Thing)
+      → thing_of s name ≡ o → KeepsMerges s (get_by s name tell key o)
   get_keeps_merges name tell key None is = quiet _ refl refl
   get_keeps_merges name tell key (Some (AJob job made)) is = quiet _ refl refl
   get_keeps_merges name tell key (Some (APass pass batch)) is = quiet _ refl refl
   get_keeps_merges name tell key (Some (AView v b)) is = either (is_key_length (length key)) _ _ (quiet _ refl refl) (quiet _ refl refl)
   get_keeps_merges name tell key (Some (ATransaction t b)) is =
-      either (is_key_length (length key)) _ _ (own_keeps name tell t b key (find key_cmp key t.writes) (no_job _ name is (txn_no_job t b))) (quiet _ refl refl)
+      either (is_key_length (length key)) _ _
+      (own_keeps name tell t b key (find key_cmp key t.writes) (no_job _ name is (txn_no_job t b))) (quiet _ refl refl)
 
   pub get_at_keeps_merges : (name : Name) (key : List ℕ) (number : ℕ) (o : Option Thing) → KeepsMerges s (get_at_by s name key number o)
   get_at_keeps_merges name key number None = quiet _ refl refl
@@ -187,26 +198,31 @@ module _ (s : things.State) where
   get_at_keeps_merges name key number (Some (AView v b)) = quiet _ refl refl
   get_at_keeps_merges name key number (Some (ATransaction t b)) = quiet _ refl refl
 
-  pub scan_keeps_merges : (way : Way) (name : Name) (low high : List ℕ) (limit : ℕ) (o : Option Thing) → thing_of s name ≡ o → KeepsMerges s (scan_by s way name low high limit o)
+  pub scan_keeps_merges : (way : Way) (name : Name) (low high : List ℕ) (limit : ℕ) (o : Option Thing)
+      → thing_of s name ≡ o → KeepsMerges s (scan_by s way name low high limit o)
   scan_keeps_merges way name low high limit None is = quiet _ refl refl
   scan_keeps_merges way name low high limit (Some (AJob job made)) is = quiet _ refl refl
   scan_keeps_merges way name low high limit (Some (APass pass batch)) is = quiet _ refl refl
   scan_keeps_merges way name low high limit (Some (AView v b)) is =
       either (nat_le (length low) max_key_bytes && nat_le (length high) max_key_bytes) _ _ (quiet _ refl refl) (quiet _ refl refl)
   scan_keeps_merges way name low high limit (Some (ATransaction t b)) is =
-      either (nat_le (length low) max_key_bytes && nat_le (length high) max_key_bytes) _ _ (with_reader _ name _ tt (no_job _ name is (txn_no_job t b)) refl refl) (quiet _ refl refl)
+      either (nat_le (length low) max_key_bytes && nat_le (length high) max_key_bytes) _ _
+      (with_reader _ name _ tt (no_job _ name is (txn_no_job t b)) refl refl) (quiet _ refl refl)
 
-  pub write_keeps_merges : (name : Name) (key : List ℕ) (change : Change) (o : Option Thing) → thing_of s name ≡ o → KeepsMerges s (write_by s name key change o)
+  pub write_keeps_merges : (name : Name) (key : List ℕ) (change : Change) (o : Option Thing) → thing_of s name ≡ o
+      → KeepsMerges s (write_by s name key change o)
   write_keeps_merges name key change None is = quiet _ refl refl
   write_keeps_merges name key change (Some (AJob job made)) is = quiet _ refl refl
   write_keeps_merges name key change (Some (APass pass batch)) is = quiet _ refl refl
   write_keeps_merges name key change (Some (AView v b)) is = quiet _ refl refl
   write_keeps_merges name key change (Some (ATransaction t b)) is =
       either (not (is_key_length (length key) && is_value_length log_format (length (value_bytes change)))) _ _ (quiet _ refl refl)
-      (either (is_small_enough (put key_cmp key change t.writes)) _ _ (with_reader _ name _ tt (no_job _ name is (txn_no_job t b)) refl refl) (quiet _ refl refl))
+      (either (is_small_enough (put key_cmp key change t.writes)) _ _
+      (with_reader _ name _ tt (no_job _ name is (txn_no_job t b)) refl refl) (quiet _ refl refl))
 
   -- ends
-  pub drop_keeps_merges : (name : Name) (o : Option Thing) → thing_of s name ≡ o → ((x : Thing) → o ≡ Some x → IsReader x) → KeepsMerges s (drop_by s name o)
+  pub drop_keeps_merges : (name : Name) (o : Option Thing) → thing_of s name ≡ o
+      → ((x : Thing) → o ≡ Some x → IsReader x) → KeepsMerges s (drop_by s name o)
   drop_keeps_merges name None is only = quiet _ refl refl
   drop_keeps_merges name (Some (ATransaction t b)) is only = without_reader _ name (no_job _ name is (txn_no_job t b)) refl refl
   drop_keeps_merges name (Some (AView v b)) is only = without_reader _ name (no_job _ name is (λ job made e. cc)) refl refl
@@ -217,7 +233,8 @@ module _ (s : things.State) where
     abbrev by : Ruling CommitAnswer → Step
     by r = committed_by s name t r r.answer
 
-    fits_keep : (b : Bool) → KeepsMerges s (by (cond b (committed l h t) (leaving (commit.Full l.active.length (frame_length l.active.format (commit_frame h t.writes))) h l)))
+    fits_keep : (b : Bool) → KeepsMerges s
+        (by (cond b (committed l h t) (leaving (commit.Full l.active.length (frame_length l.active.format (commit_frame h t.writes))) h l)))
     fits_keep true = without_reader _ name none refl refl
     fits_keep false = quiet _ refl refl
 
@@ -225,12 +242,14 @@ module _ (s : things.State) where
     checked_keep (Some named) = without_reader _ name none refl refl
     checked_keep None = fits_keep (nat_le (l.active.length + frame_length l.active.format (commit_frame h t.writes)) l.room)
 
-    numbered_keep : (b : Bool) (o : Option Named) → KeepsMerges s (by (cond b (leaving (commit.Exhausted counter.Commit) h l) (commit_checked l h t o)))
+    numbered_keep : (b : Bool) (o : Option Named)
+        → KeepsMerges s (by (cond b (leaving (commit.Exhausted counter.Commit) h l) (commit_checked l h t o)))
     numbered_keep true o = quiet _ refl refl
     numbered_keep false o = checked_keep o
 
     running_keep : (b : Bool) (o : Option Named)
-        → KeepsMerges s (by (cond b (commit_ended commit.Nothing l h t) (cond (nat_le max_commit_number (last_number h)) (leaving (commit.Exhausted counter.Commit) h l) (commit_checked l h t o))))
+        → KeepsMerges s (by (cond b (commit_ended commit.Nothing l h t)
+        (cond (nat_le max_commit_number (last_number h)) (leaving (commit.Exhausted counter.Commit) h l) (commit_checked l h t o))))
     running_keep true o = without_reader _ name none refl refl
     running_keep false o = numbered_keep (nat_le max_commit_number (last_number h)) o
 

@@ -20,14 +20,16 @@ use Rattle.vl_replay.specs.declared.replayer.open.Open.{Open}
 use Rattle.vl_replay.proofs.Merges.Planned.{Plans}
 use Rattle.vl_replay.proofs.Merges.Planning.{planned_state}
 
-module _ {W H R : Type 0} (w k : Writers W) (bytes : H → Option (List ℕ)) (told : Option DiskState) (before after : Core H) (merging : Option OpenMerge)
+module _ {W H R : Type 0} (w k : Writers W) (bytes : H → Option (List ℕ)) (told : Option DiskState)
+    (before after : Core H) (merging : Option OpenMerge)
     (os : List (Open H R)) (s : State) (stands : StandsIn bytes told before os s) (job : TheJob (Base H R) H W k) (j : Job)
     (plans : Plans s.store.layout (history_of s) j) (core : after ≡ before) where
   abbrev ruling : Ruling (Option Job)
   ruling = plan_ruling s.store.layout (history_of s)
 
   pub opened_planned : StandsOpen bytes after merging ruling.history ruling.layout → Fits told after ruling.history ruling.layout
-      → (IsTrue s.openable → engine.Represents bytes after told ruling.history ruling.layout) → HasMerge w bytes job j → FitsReaders bytes job
+      → (IsTrue s.openable → engine.Represents bytes after told ruling.history ruling.layout) → HasMerge w bytes job j
+      → FitsReaders bytes job
       → IsPlanned w bytes told after merging job (planned_state j s) j
   opened_planned opened fits represents has looks =
       let there = subst (λ (r : Ruling (Option Job)). StandsOpen bytes after merging r.history r.layout) plans.ruled opened in
@@ -35,7 +37,8 @@ module _ {W H R : Type 0} (w k : Writers W) (bytes : H → Option (List ℕ)) (t
         serves = record {
           stands = there.stands;
           opens = there.opens;
-          held = λ openable. (subst (λ (r : Ruling (Option Job)). engine.Represents bytes after told r.history r.layout) plans.ruled (represents openable)).held stands.running;
+          held = λ openable. (subst (λ (r : Ruling (Option Job)). engine.Represents bytes after told r.history r.layout)
+              plans.ruled (represents openable)).held stands.running;
           running = stands.running;
           fits = subst (λ (r : Ruling (Option Job)). Fits told after r.history r.layout) plans.ruled fits;
           within = subst (λ (c : Core H). c.back.state.next_log ≤ c.back.next_log) (sym core) stands.within;

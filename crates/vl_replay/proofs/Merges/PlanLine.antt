@@ -99,7 +99,8 @@ module _ {D H R : Type 0} (g : Ghosts D) (watched : IsWatched g) (bytes : H → 
   unplanned_makes = subst (λ (x : Step). MakesStep bytes (g.told new) after os s x (Ok told)) (sym is) still_made
 
   pub unplanned_carries : CarriesOut g IsStored Shown IsStopped old new s (state_after s (lines.Plan name)) (Ok told)
-  unplanned_carries = subst (λ (t : State). CarriesOut {T = Answer} g IsStored Shown IsStopped old new s t (Ok told)) (sym (same_state s name answer is))
+  unplanned_carries = subst (λ (t : State). CarriesOut {T = Answer} g IsStored Shown IsStopped old new s t (Ok told))
+      (sym (same_state s name answer is))
       (quiet_carries g watched bytes (g.told new) after os s (only answer s.store)
       (record { commits = refl; layout = refl; calls = refl }) (Ok told) still_made (λ halts. halts) old new disk)
 
@@ -118,7 +119,8 @@ module _ {W H R : Type 0} (w : Writers W) (bytes : H → Option (List ℕ)) {k :
     (waits : Waits w bytes planned s.store.things s.store.layout) (name : Name) where
   -- a reader has it
   pub opened_taken : is_some (open_in os name) ≡ true → step_to s (lines.Plan name) ≡ only (store_lines.Taken name) s.store
-  opened_taken is = taken_step s name (some_there H R bytes (history_of s) s.store.layout (open_in os name) (thing_of s.store name) is (stands.names.each name))
+  opened_taken is = taken_step s name
+      (some_there H R bytes (history_of s) s.store.layout (open_in os name) (thing_of s.store name) is (stands.names.each name))
 
   -- the merge that waits has it, by the name as the call had it
   module _ (q : Name) (same : q ≡ name) (waiting : Bool) (waiting_is : waiting ≡ is_waiting w bytes {g = k} q planned) where
@@ -134,14 +136,16 @@ module _ {W H R : Type 0} (w : Writers W) (bytes : H → Option (List ℕ)) {k :
         (subst (λ (n : Name). is_waiting w bytes {g = k} n planned ≡ false) same (sym waiting_is ∙ is)))
 
 -- while one waits another isn't planned
-pub waiting_idle : {W H R : Type 0} (w : Writers W) (bytes : H → Option (List ℕ)) {k : Writers W} (planned : Option (Planned (Base H R) H W k))
+pub waiting_idle : {W H R : Type 0} (w : Writers W) (bytes : H → Option (List ℕ)) {k : Writers W}
+    (planned : Option (Planned (Base H R) H W k))
     (s : State) → Waits w bytes planned s.store.things s.store.layout → is_some planned ≡ true
     → plan_ruling s.store.layout (history_of s) ≡ leaving None (history_of s) s.store.layout
 waiting_idle w bytes None s waits is = absurd cc
 waiting_idle w bytes (Some p) s waits is = plan_busy s.store.layout (history_of s) waits.open_job waits.is_open
 
 -- and where none waits no name stands for a merge
-pub none_waits : {W H R : Type 0} (w : Writers W) (bytes : H → Option (List ℕ)) {k : Writers W} (planned : Option (Planned (Base H R) H W k))
+pub none_waits : {W H R : Type 0} (w : Writers W) (bytes : H → Option (List ℕ)) {k : Writers W}
+    (planned : Option (Planned (Base H R) H W k))
     (s : State) → Waits w bytes planned s.store.things s.store.layout → is_some planned ≡ false
     → (other : Name) (job : Job) (made : Made) → things.thing_in s.store.things other ≡ Some (AJob job made) → ⊥
 none_waits w bytes None s waits is = waits.1
@@ -158,7 +162,8 @@ pub record WasMerged {D H R W : Type 0} (g : Ghosts D) (w : Writers W) (bytes : 
   -- a disk that held the state held it with the open merge too
   pub held : HoldsState g IsStored s old → HoldsState g IsStored (planned_state j s) old
 
-module _ {D H R W E : Type 0} (g : Ghosts D) (w : Writers W) (bytes : H → Option (List ℕ)) {k : Writers W} (before after : Core H) (old new : D)
+module _ {D H R W E : Type 0} (g : Ghosts D) (w : Writers W) (bytes : H → Option (List ℕ)) {k : Writers W}
+    (before after : Core H) (old new : D)
     (merging merging' : Option OpenMerge) (os : List (Open H R)) (s : State) (stands : StandsIn bytes (g.told old) before os s)
     (result : Result (Option (TheJob (Base H R) H W k)) E)
     (core : after ≡ before) (disk : new ≡ old) where
@@ -198,10 +203,12 @@ module _ {D H R W E : Type 0} (g : Ghosts D) (w : Writers W) (bytes : H → Opti
 
     job_is : (j : Job) × (ruling.answer ≡ Some j) × HasMerge w bytes job j
     job_is = the_job ruling.answer refl
-        (subst (λ (r : Result (Option (TheJob (Base H R) H W k)) E). IfOk r (λ o. AreBoth (HasMerge {R = R} w bytes {g = k}) o ruling.answer)) is jobs)
+        (subst (λ (r : Result (Option (TheJob (Base H R) H W k)) E). IfOk r
+        (λ o. AreBoth (HasMerge {R = R} w bytes {g = k}) o ruling.answer)) is jobs)
 
     looks_so : FitsReaders bytes job
-    looks_so = subst (λ (r : Result (Option (TheJob (Base H R) H W k)) E). IfOk r (λ o. ForSome o (FitsReaders {R = R} bytes {g = k}))) is looks job refl
+    looks_so = subst (λ (r : Result (Option (TheJob (Base H R) H W k)) E). IfOk r
+        (λ o. ForSome o (FitsReaders {R = R} bytes {g = k}))) is looks job refl
 
     plans_it : Plans l h job_is.0
     plans_it = plan_some l h job_is.0 job_is.1
@@ -218,14 +225,18 @@ module _ {D H R W E : Type 0} (g : Ghosts D) (w : Writers W) (bytes : H → Opti
     module _ (watched : IsWatched g) (name : Name) (bare : thing_of s.store name ≡ None) (free : open_in os name ≡ None) where
       disk_held : HoldsState g IsStored s old → HoldsState g IsStored (planned_state job_is.0 s) old
       disk_held =
-          planned_held g watched bytes old old s name job_is.0 plans_it os stands.names stands.sound stands.running bare free stands.engine.tidy after
+          planned_held g watched bytes old old s name job_is.0 plans_it os stands.names stands.sound stands.running bare
+          free stands.engine.tidy after
           (λ openable. subst (λ (d : D). engine.Represents bytes after (g.told d) h (with_job job_is.0 l)) disk
-          (subst (λ (r : Ruling (Option Job)). engine.Represents bytes after (g.told new) r.history r.layout) plans_it.ruled (represented openable)))
+          (subst (λ (r : Ruling (Option Job)). engine.Represents bytes after (g.told new) r.history r.layout)
+          plans_it.ruled (represented openable)))
           (subst (λ (c : Core H). c.back.state.next_log ≤ c.back.next_log) (sym core) stands.within)
 
       -- it was carried out, or stopped
-      pub was_merged : (core' : Core H) (new' : D) (merging'' : Option OpenMerge) (job' : TheJob (Base H R) H W k) (told : Result (Option Counter) Halt)
-          → ((t : State) (j : Job) → IsPlanned w bytes (g.told new) after merging' job t j → Merged g w bytes new new' core' merging'' job' t j told)
+      pub was_merged : (core' : Core H) (new' : D) (merging'' : Option OpenMerge) (job' : TheJob (Base H R) H W k)
+          (told : Result (Option Counter) Halt)
+          → ((t : State) (j : Job) → IsPlanned w bytes (g.told new) after merging' job t j
+          → Merged g w bytes new new' core' merging'' job' t j told)
           → WasMerged g w bytes old new' core' merging'' job' s told
       was_merged core' new' merging'' job' told merges = record {
         j = job_is.0;
@@ -237,7 +248,8 @@ module _ {D H R W E : Type 0} (g : Ghosts D) (w : Writers W) (bytes : H → Opti
 
 -- ---- it has all of its tables
 
-module _ {D H R W : Type 0} (g : Ghosts D) (watched : IsWatched g) (w : Writers W) (bytes : H → Option (List ℕ)) {k : Writers W} (before core : Core H)
+module _ {D H R W : Type 0} (g : Ghosts D) (watched : IsWatched g) (w : Writers W) (bytes : H → Option (List ℕ))
+    {k : Writers W} (before core : Core H)
     (old new : D) (merging : Option OpenMerge) (job : TheJob (Base H R) H W k) (os : List (Open H R)) (s : State)
     (stands : StandsIn bytes (g.told old) before os s) (name : Name) (bare : thing_of s.store name ≡ None) (free : open_in os name ≡ None)
     (result : Result (Option Counter) Halt) (was : WasMerged g w bytes old new core merging job s result) (is : result ≡ Ok None) where
@@ -257,23 +269,30 @@ module _ {D H R W : Type 0} (g : Ghosts D) (watched : IsWatched g) (w : Writers 
   pub merge_makes : (number : ℕ) → ((i : Job) → HasAllMerge w bytes job i → number ≡ min (length (merged_entries i)) (2 ^ 64 - 1))
       → MakesStep bytes (g.told new) core os s (step_to s (lines.Plan name)) (Ok (answers.Number number))
   merge_makes number counts =
-      whole_makes bytes (g.told new) core os s name j was.plans stands.names stands.sound stands.running bare free merging all serving number
+      whole_makes bytes (g.told new) core os s name j was.plans stands.names stands.sound stands.running bare free
+      merging all serving number
       (counts j ends.1.has)
 
   pub merge_waits : ((other : Name) (job' : Job) (made : Made) → things.thing_in s.store.things other ≡ Some (AJob job' made) → ⊥)
-      → let x = step_to s (lines.Plan name) in Merges w bytes merging (Some (record { name = name; job = job })) x.state.things x.state.layout
+      → let x = step_to s (lines.Plan name) in Merges w bytes merging (Some (record { name = name; job = job }))
+      x.state.things x.state.layout
   merge_waits none =
-      whole_waits bytes (g.told new) core os s name j was.plans stands.names stands.sound stands.running bare free merging all serving w k job ends.1 none
+      whole_waits bytes (g.told new) core os s name j was.plans stands.names stands.sound stands.running bare free
+      merging all serving w k job ends.1 none
 
-  pub merge_carries : (number : ℕ) → CarriesOut g IsStored Shown IsStopped old new s (state_after s (lines.Plan name)) (Ok (answers.Number number))
+  pub merge_carries : (number : ℕ) → CarriesOut g IsStored Shown IsStopped old new s (state_after s (lines.Plan name))
+      (Ok (answers.Number number))
   merge_carries number held =
-      whole_leads g watched bytes old new s name j was.plans os stands.names stands.sound stands.running bare free stands.engine.tidy was.merged.count result
+      whole_leads g watched bytes old new s name j was.plans os stands.names stands.sound stands.running bare free
+      stands.engine.tidy was.merged.count result
       (was.merged.disk (was.held held)) is ends.0 was.merged.fits number
 
 -- and can be handed in
-pub handed_waits : {D V H W : Type 0} (g : Ghosts D) (w : Writers W) (disk : D) (merging : Option OpenMerge) {k : Writers W} (job : TheJob V H W k)
+pub handed_waits : {D V H W : Type 0} (g : Ghosts D) (w : Writers W) (disk : D) (merging : Option OpenMerge)
+    {k : Writers W} (job : TheJob V H W k)
     (name : Name) → MayHandIn g w disk merging job → CanHandIn g w disk merging (Some (record { name = name; job = job }))
-handed_waits {V = V} {H = H} {W = W} g w disk merging {k} job name may p is = subst (λ (q : Planned V H W k). MayHandIn g w disk merging q.job) (one _ p is) may
+handed_waits {V = V} {H = H} {W = W} g w disk merging {k} job name may p is = subst
+    (λ (q : Planned V H W k). MayHandIn g w disk merging q.job) (one _ p is) may
   where
     one : (a b : Planned V H W k) → Some a ≡ Some b → a ≡ b
     one a b e = cc

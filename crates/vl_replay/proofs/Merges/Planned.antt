@@ -1,5 +1,6 @@
 -- What the ruling on a plan leaves, where it plans a merge: a job of tables that stand.
-use Rattle.std.proofs.Common.{◌≡◌, ℕ, zero, suc, ◌+◌, ◌==◌, Bool, true, false, cond, ◌&&◌, List, [], ◌∷◌, ◌++◌, refl, ap, sym, ◌∙◌, subst, arith}
+use Rattle.std.proofs.Common.{◌≡◌, ℕ, zero, suc, ◌+◌, ◌==◌, Bool, true, false, cond, ◌&&◌, List, [], ◌∷◌, ◌++◌, refl}
+use Rattle.std.proofs.Common.{ap, sym, ◌∙◌, subst, arith}
 use Rattle.std.proofs.lemmas.Bool.Decides.{nat_tests}
 use Rattle.std.specs.List.{filter, flat_map}
 use Rattle.std.specs.Prelude.{Option, None, Some, nat_le, nat_lt}
@@ -47,13 +48,15 @@ none_before : (xs ys : List Table) → xs ++ ys ≡ [] → (xs ≡ []) × (ys �
 none_before [] ys is = (refl, is)
 none_before (x ∷ xs) ys is = absurd cc
 
-due_stand : (level : ℕ) (levels : List (List Table)) (n : ℕ) → due_from level levels ≡ Some n → flat_map (λ (ts : List Table). ts) levels ≡ [] → ⊥
+due_stand : (level : ℕ) (levels : List (List Table)) (n : ℕ) → due_from level levels ≡ Some n
+    → flat_map (λ (ts : List Table). ts) levels ≡ [] → ⊥
 due_stand level [] n is none = none_some n is
 due_stand level (ts ∷ deeper) n is none =
     let both = none_before ts (flat_map (λ (us : List Table). us) deeper) none in
     by (is_due level ts) refl is (λ later. due_stand (level + 1) deeper n later both.1) both.0
   where
-    by : (b : Bool) → is_due level ts ≡ b → cond b (Some level) (due_from (level + 1) deeper) ≡ Some n → (due_from (level + 1) deeper ≡ Some n → ⊥) → ts ≡ [] → ⊥
+    by : (b : Bool) → is_due level ts ≡ b → cond b (Some level) (due_from (level + 1) deeper) ≡ Some n
+        → (due_from (level + 1) deeper ≡ Some n → ⊥) → ts ≡ [] → ⊥
     by true due is later none = due_some level ts due none
     by false due is later none = later is
 
@@ -73,7 +76,8 @@ module _ (l : Layout) (h : History) where
           let same : job_of l h (inputs_at level l.levels) (Level (level + 1)) ≡ job = some_same _ _ is in
           record {
             none = none;
-            ruled = ap (λ (o : Option OpenJob). plan_unless o l h) none ∙ ap (λ (o : Option ℕ). plan_of l h o) due_is ∙ ap (planned l h) same;
+            ruled = ap (λ (o : Option OpenJob). plan_unless o l h) none ∙ ap (λ (o : Option ℕ). plan_of l h o) due_is
+                ∙ ap (planned l h) same;
             tables = due_stand 0 l.levels level due_is;
           }
 

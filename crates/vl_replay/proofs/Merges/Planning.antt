@@ -1,5 +1,6 @@
 -- What a plan line makes, by what carrying out the merge came to.
-use Rattle.std.proofs.Common.{◌≡◌, ◌⊎◌, ⊎_elim, inl, inr, ℕ, zero, suc, min, ◌+◌, ◌-◌, ◌^◌, ◌<◌, ◌≤◌, List, [], ◌∷◌, ◌++◌, length, refl, ap, sym, ◌∙◌, subst, arith}
+use Rattle.std.proofs.Common.{◌≡◌, ◌⊎◌, ⊎_elim, inl, inr, ℕ, zero, suc, min, ◌+◌, ◌-◌, ◌^◌, ◌<◌, ◌≤◌, List, [], ◌∷◌}
+use Rattle.std.proofs.Common.{◌++◌, length, refl, ap, sym, ◌∙◌, subst, arith}
 use Rattle.std.specs.Prelude.{Option, None, Some, Result, Ok, Err, IsTrue, OnOk}
 use Rattle.std.specs.List.{filter}
 use Rattle.vl_compact.specs.Progress.{made_of as made_by}
@@ -56,7 +57,8 @@ use Rattle.vl_script.specs.declared.answer.Answer.TheVariants as answers
 use Rattle.vl_script.specs.declared.line.Line.TheVariants as lines
 use Rattle.vl_replay.proofs.Disk.Betweens.{extends_itself}
 use Rattle.vl_replay.proofs.Merges.Counting.{kept_many, made_lent}
-use Rattle.vl_replay.proofs.Merges.Filling.{drawn_halted, drawn_lent, drawn_levels, drawn_live, drawn_next, drawn_retired, fill_all, fill_more, fill_some}
+use Rattle.vl_replay.proofs.Merges.Filling.{drawn_halted, drawn_lent, drawn_levels, drawn_live, drawn_next}
+use Rattle.vl_replay.proofs.Merges.Filling.{drawn_retired, fill_all, fill_more, fill_some}
 use Rattle.vl_replay.proofs.Merges.Planned.{Plans, drawn_beside, planned_beside}
 use Rattle.vl_replay.proofs.Names.Ending.{still_stands}
 use Rattle.vl_replay.proofs.Names.Lookups.{thing_beside, thing_put}
@@ -77,7 +79,8 @@ pub record IsBeside (l m : Layout) : Type 0 where
   pub live : m.live ≡ l.live
   pub bare : IsWithoutTables m → IsWithoutTables l
 
-module _ {H R : Type 0} (bytes : H → Option (List ℕ)) (h : History) (l m : Layout) (beside : IsBeside l m) (os : List (Open H R)) (ts : List (Name × Thing))
+module _ {H R : Type 0} (bytes : H → Option (List ℕ)) (h : History) (l m : Layout) (beside : IsBeside l m)
+    (os : List (Open H R)) (ts : List (Name × Thing))
     (stand : Stand bytes os ts h l) where
   -- what a name stood for stands on
   pub stays_so : (x : Option _) (y : Option Thing) → Corresponds {H = H} {R = R} bytes h l x y → Corresponds bytes h m x y
@@ -96,14 +99,16 @@ module _ {H R : Type 0} (bytes : H → Option (List ℕ)) (h : History) (l m : L
   pub names_with : (name : Name) → open_in os name ≡ None → (job : Job) (made : Made) → Stand bytes os (named name (AJob job made) ts) h m
   names_with name free job made = record {
     each = λ q. ⊎_elim
-        (λ (same : q ≡ name). subst (λ (p : Name). Corresponds bytes h m (open_in os p) (thing_in (named name (AJob job made) ts) p)) (sym same)
+        (λ (same : q ≡ name). subst
+        (λ (p : Name). Corresponds bytes h m (open_in os p) (thing_in (named name (AJob job made) ts) p)) (sym same)
         (subst (λ (x : Option _). Corresponds {H = H} {R = R} bytes h m x (thing_in (named name (AJob job made) ts) name)) (sym free)
         (subst (Corresponds {H = H} {R = R} bytes h m None) (sym (thing_put name (AJob job made) ts)) tt)))
         (λ (apart : q ≡ name → ⊥). subst (Corresponds bytes h m (open_in os q)) (sym (thing_beside name q apart (AJob job made) ts))
         (stays_so (open_in os q) (thing_in ts q) (stand.each q)))
         (same_or_not q name);
     once = stand.once;
-    apart = λ a b x y at_a at_b reads_x reads_y same. stand.apart a b x y (before a x at_a reads_x) (before b y at_b reads_y) reads_x reads_y same;
+    apart = λ a b x y at_a at_b reads_x reads_y same. stand.apart a b x y (before a x at_a reads_x)
+        (before b y at_b reads_y) reads_x reads_y same;
   }
     where
       no_reader_there : (x : Thing) → Some (AJob job made) ≡ Some x → IsReader x → ⊥
@@ -171,24 +176,40 @@ module _ (s : State) (name : Name) (j : Job) where
     calls = count;
   }
 
-  module _ (plans : Plans s.store.layout (history_of s) j) (running : s.store.layout.halted ≡ None) (bare : thing_of s.store name ≡ None) where
+  module _ (plans : Plans s.store.layout (history_of s) j) (running : s.store.layout.halted ≡ None)
+      (bare : thing_of s.store name ≡ None) where
     pub fills : plan_as s.store name (plan_ruling l h) (thing_of s.store name) ≡ fill s.store name j opened (outputs j) [] 0
-    fills = ap (plan_as s.store name (plan_ruling l h)) bare ∙ ap (λ (r : Ruling (Option Job)). planned_by s.store name r r.answer) plans.ruled
+    fills = ap (plan_as s.store name (plan_ruling l h)) bare
+        ∙ ap (λ (r : Ruling (Option Job)). planned_by s.store name r r.answer) plans.ruled
 
     pub whole_is : (total_of j ≡ 0) ⊎ (l.next_table + total_of j ≤ max_file_number + 1) → step_to s (lines.Plan name) ≡ whole
-    whole_is all = ap (λ (x : Step). record x { answer = counted x.answer }) (fills ∙ fill_all s.store name j (outputs j) opened [] 0 running all)
-        ∙ ap (λ (n : ℕ). record { answer = store_lines.Number (min (length (kept j)) (2 ^ 64 - 1)); state = with_thing s.store (drawn_all (total_of j) opened) name (AJob j (made (total_of j))); calls = n })
+    whole_is all = ap (λ (x : Step). record x { answer = counted x.answer })
+        (fills ∙ fill_all s.store name j (outputs j) opened [] 0 running all)
+        ∙ ap (λ (n : ℕ). record {
+          answer = store_lines.Number (min (length (kept j)) (2 ^ 64 - 1));
+          state = with_thing
+              s.store (drawn_all (total_of j) opened) name (AJob j (made (total_of j)));
+          calls = n;
+        })
         (let sum : 0 + total_of j ≡ total_of j = omega arith in sum)
 
-    pub given_up_is : (count : ℕ) → count < total_of j → (count ≡ 0) ⊎ (l.next_table + count ≤ max_file_number + 1) → max_file_number < l.next_table + count
+    pub given_up_is : (count : ℕ) → count < total_of j → (count ≡ 0) ⊎ (l.next_table + count ≤ max_file_number + 1)
+        → max_file_number < l.next_table + count
         → step_to s (lines.Plan name) ≡ given_up count
     given_up_is count few fits none =
-        ap (λ (x : Step). record x { answer = counted x.answer }) (fills ∙ fill_some s.store name j (outputs j) opened [] 0 count running few fits none)
-        ∙ ap (λ (n : ℕ). record { answer = store_lines.Exhausted counters.Table; state = record s.store { layout = job_ended (made count) (drawn_all count opened) }; calls = n })
+        ap (λ (x : Step). record x { answer = counted x.answer })
+        (fills ∙ fill_some s.store name j (outputs j) opened [] 0 count running few fits none)
+        ∙ ap (λ (n : ℕ). record {
+          answer = store_lines.Exhausted counters.Table;
+          state = record s.store
+              { layout = job_ended (made count) (drawn_all count opened) };
+          calls = n;
+        })
         (let sum : 0 + count ≡ count = omega arith in sum)
 
   -- what is lent to it then
-  pub lent_there : (count : ℕ) → (drawn_all count opened).job ≡ Some (record { job = j; pin = pin_of l; moved = []; lent = numbers_from l.next_table count })
+  pub lent_there : (count : ℕ)
+      → (drawn_all count opened).job ≡ Some (record { job = j; pin = pin_of l; moved = []; lent = numbers_from l.next_table count })
   lent_there count = drawn_lent count opened (record { job = j; pin = pin_of l; moved = []; lent = [] }) refl
 
   pub some_lent : (count : ℕ) → count ≤ total_of j → AreLent (numbers_from l.next_table count) (made count)
@@ -196,17 +217,21 @@ module _ (s : State) (name : Name) (j : Job) where
 
 -- ---- and as the replayer stands for it
 
-module _ {H R : Type 0} (bytes : H → Option (List ℕ)) (told : Option DiskState) (core : Core H) (os : List (Open H R)) (s : State) (name : Name) (j : Job)
-    (plans : Plans s.store.layout (history_of s) j) (names : Stand bytes os s.store.things (history_of s) s.store.layout) (sound : IsSound s)
+module _ {H R : Type 0} (bytes : H → Option (List ℕ)) (told : Option DiskState) (core : Core H) (os : List (Open H R))
+    (s : State) (name : Name) (j : Job)
+    (plans : Plans s.store.layout (history_of s) j)
+    (names : Stand bytes os s.store.things (history_of s) s.store.layout) (sound : IsSound s)
     (running : s.store.layout.halted ≡ None) (bare : thing_of s.store name ≡ None) (free : open_in os name ≡ None) where
   module _ (merging : Option OpenMerge) (all : (total_of j ≡ 0) ⊎ (s.store.layout.next_table + total_of j ≤ max_file_number + 1))
       (serves : IsServing bytes told core merging (drawn_state (total_of j) (planned_state j s))) where
     whole_stands : StandsIn bytes told core os (state_by s (whole s name j))
     whole_stands = record {
       engine = serves.stands;
-      names = names_with bytes (history_of s) s.store.layout (drawn_all (total_of j) (with_job j s.store.layout)) (drawn_is_beside (total_of j) j s.store.layout) os s.store.things names
+      names = names_with bytes (history_of s) s.store.layout (drawn_all (total_of j) (with_job j s.store.layout))
+          (drawn_is_beside (total_of j) j s.store.layout) os s.store.things names
           name free j (made s name j (total_of j));
-      sound = subst (λ (x : Step). IsSound (state_by s x)) (whole_is s name j plans running bare all) (state_after-sound s (lines.Plan name) sound);
+      sound = subst (λ (x : Step). IsSound (state_by s x)) (whole_is s name j plans running bare all)
+          (state_after-sound s (lines.Plan name) sound);
       held = serves.held;
       running = serves.running;
       fits = serves.fits;
@@ -216,55 +241,71 @@ module _ {H R : Type 0} (bytes : H → Option (List ℕ)) (told : Option DiskSta
     -- it is told how many entries were kept
     pub whole_makes : (number : ℕ) → number ≡ min (length (merged_entries j)) (2 ^ 64 - 1)
         → MakesStep bytes told core os s (step_to s (lines.Plan name)) (Ok (answers.Number number))
-    whole_makes number is = subst (λ (x : Step). MakesStep bytes told core os s x (Ok (answers.Number number))) (sym (whole_is s name j plans running bare all)) (
-      ap store_lines.Number (is ∙ ap (λ (n : ℕ). min n (2 ^ 64 - 1)) (kept_many j)),
-      whole_stands,
-    )
+    whole_makes number is = subst (λ (x : Step). MakesStep bytes told core os s x (Ok (answers.Number number)))
+        (sym (whole_is s name j plans running bare all)) (
+          ap store_lines.Number (is ∙ ap (λ (n : ℕ). min n (2 ^ 64 - 1)) (kept_many j)),
+          whole_stands,
+        )
 
     -- and waits
     pub whole_waits : {W : Type 0} (w k : Writers W) (job : TheJob (Base H R) H W k) → HasTablesFrom w bytes job j s.store.layout.next_table
         → ((other : Name) (job' : Job) (made' : Made) → thing_in s.store.things other ≡ Some (AJob job' made') → ⊥)
         → let x = step_to s (lines.Plan name) in
         Merges w bytes merging (Some (record { name = name; job = job })) x.state.things x.state.layout
-    whole_waits w k job has none = subst (λ (x : Step). Merges w bytes merging (Some (record { name = name; job = job })) x.state.things x.state.layout) (sym (whole_is s name j plans running bare all)) (record {
-      opens = serves.opens;
-      waits = record {
-        open_job = record { job = j; pin = pin_of s.store.layout; moved = []; lent = numbers_from s.store.layout.next_table (total_of j) };
-        is_open = lent_there s name j (total_of j);
-        has = has.has;
-        there = thing_put name (AJob j (made s name j (total_of j))) s.store.things ∙ ap (λ (m : Made). Some (AJob j m)) (sym has.made);
-        only = λ other job' made' there. ⊎_elim
-            (λ (same : other ≡ name). same)
-            (λ (apart : other ≡ name → ⊥). absurd (none other job' made' (sym (thing_beside name other apart (AJob j (made s name j (total_of j))) s.store.things) ∙ there)))
-            (same_or_not other name);
-        lent = subst (AreLent (numbers_from s.store.layout.next_table (total_of j))) (sym has.made) (some_lent s name j (total_of j) (omega arith));
-        unmoved = refl;
-      };
-    })
+    whole_waits w k job has none = subst
+        (λ (x : Step). Merges w bytes merging (Some (record { name = name; job = job })) x.state.things x.state.layout)
+        (sym (whole_is s name j plans running bare all)) (record {
+          opens = serves.opens;
+          waits = record {
+            open_job = record { job = j; pin = pin_of s.store.layout; moved = []; lent = numbers_from s.store.layout.next_table (total_of j) };
+            is_open = lent_there s name j (total_of j);
+            has = has.has;
+            there = thing_put name (AJob j (made s name j (total_of j))) s.store.things ∙ ap (λ (m : Made). Some (AJob j m)) (sym has.made);
+            only = λ other job' made' there. ⊎_elim
+                (λ (same : other ≡ name). same)
+                (λ (apart : other ≡ name → ⊥). absurd
+                (none other job' made' (sym (thing_beside name other apart (AJob j (made s name j (total_of j))) s.store.things) ∙ there)))
+                (same_or_not other name);
+            lent = subst (AreLent (numbers_from s.store.layout.next_table (total_of j))) (sym has.made)
+                (some_lent s name j (total_of j) (omega arith));
+            unmoved = refl;
+          };
+        })
 
-  module _ (merging : Option OpenMerge) (count : ℕ) (few : count < total_of j) (fits : (count ≡ 0) ⊎ (s.store.layout.next_table + count ≤ max_file_number + 1))
+  module _ (merging : Option OpenMerge) (count : ℕ) (few : count < total_of j)
+      (fits : (count ≡ 0) ⊎ (s.store.layout.next_table + count ≤ max_file_number + 1))
       (none : max_file_number < s.store.layout.next_table + count)
-      (serves : IsServing bytes told core merging (record s { store = record s.store { layout = job_ended (made s name j count) (drawn_all count (with_job j s.store.layout)) } })) where
+      (serves : IsServing bytes told core merging
+      (record s {
+        store = record s.store
+            { layout = job_ended (made s name j count) (drawn_all count (with_job j s.store.layout)) };
+      })) where
     pub given_up_makes : (counter : Counter) → counter ≡ counters.Table
         → MakesStep bytes told core os s (step_to s (lines.Plan name)) (Ok (answers.Exhausted counter))
-    given_up_makes counter is = subst (λ (x : Step). MakesStep bytes told core os s x (Ok (answers.Exhausted counter))) (sym (given_up_is s name j plans running bare count few fits none)) (
-      ap store_lines.Exhausted is,
-      (record {
-        engine = serves.stands;
-        names = names_stay bytes (history_of s) s.store.layout (job_ended (made s name j count) (drawn_all count (with_job j s.store.layout)))
-            (ended_is_beside (made s name j count) s.store.layout (drawn_all count (with_job j s.store.layout)) (drawn_is_beside count j s.store.layout)) os s.store.things names;
-        sound = subst (λ (x : Step). IsSound (state_by s x)) (given_up_is s name j plans running bare count few fits none) (state_after-sound s (lines.Plan name) sound);
-        held = serves.held;
-        running = serves.running;
-        fits = serves.fits;
-        within = serves.within;
-      }),
-    )
+    given_up_makes counter is = subst (λ (x : Step). MakesStep bytes told core os s x (Ok (answers.Exhausted counter)))
+        (sym (given_up_is s name j plans running bare count few fits none)) (
+          ap store_lines.Exhausted is,
+          (record {
+            engine = serves.stands;
+            names = names_stay bytes (history_of s) s.store.layout
+                (job_ended (made s name j count) (drawn_all count (with_job j s.store.layout)))
+                (ended_is_beside (made s name j count) s.store.layout (drawn_all count (with_job j s.store.layout))
+                (drawn_is_beside count j s.store.layout)) os s.store.things names;
+            sound = subst (λ (x : Step). IsSound (state_by s x))
+                (given_up_is s name j plans running bare count few fits none) (state_after-sound s (lines.Plan name) sound);
+            held = serves.held;
+            running = serves.running;
+            fits = serves.fits;
+            within = serves.within;
+          }),
+        )
 
     pub given_up_waits : {W : Type 0} (w k : Writers W)
         → ((other : Name) (job' : Job) (made' : Made) → thing_in s.store.things other ≡ Some (AJob job' made') → ⊥)
         → let x = step_to s (lines.Plan name) in Merges {H = H} {R = R} w bytes {g = k} merging None x.state.things x.state.layout
-    given_up_waits w k free' = subst (λ (x : Step). Merges {H = H} {R = R} w bytes {g = k} merging None x.state.things x.state.layout) (sym (given_up_is s name j plans running bare count few fits none)) (record {
-      opens = serves.opens;
-      waits = (refl, free');
-    })
+    given_up_waits w k free' = subst
+        (λ (x : Step). Merges {H = H} {R = R} w bytes {g = k} merging None x.state.things x.state.layout)
+        (sym (given_up_is s name j plans running bare count few fits none)) (record {
+          opens = serves.opens;
+          waits = (refl, free');
+        })

@@ -49,7 +49,8 @@ module _ {W H R : Type 0} (writers : Writers W) (bytes : H → Option (List ℕ)
     unmoved = waits.unmoved;
   }
 
-  module _ (merging merging' : Option OpenMerge) (planned planned' : Option (Planned (Base H R) H W g)) (same : merging' ≡ merging) (still : planned' ≡ planned) where
+  module _ (merging merging' : Option OpenMerge) (planned planned' : Option (Planned (Base H R) H W g))
+      (same : merging' ≡ merging) (still : planned' ≡ planned) where
     pub merges_on : (ts us : List (Name × Thing)) (l m : Layout) → m.job ≡ l.job → SameJobs ts us
         → Merges writers bytes merging planned ts l → Merges writers bytes merging' planned' us m
     merges_on ts us l m job jobs merges =
@@ -69,7 +70,11 @@ module _ {W H R : Type 0} (writers : Writers W) (bytes : H → Option (List ℕ)
       → Merges {H = H} {R = R} writers bytes {g = g} merging None ts l
   none_merges merging none ts l closed bare = record {
     opens = subst (λ (o : Option OpenMerge). Opens o l.job) (sym none) (subst (Opens None) (sym closed) tt);
-    waits = (closed, λ name job made there. absurd (none_there name job made (subst (λ (us : List (Name × Thing)). thing_in us name ≡ Some (AJob job made)) bare there)));
+    waits = (
+      closed,
+      λ name job made there. absurd
+          (none_there name job made (subst (λ (us : List (Name × Thing)). thing_in us name ≡ Some (AJob job made)) bare there)),
+    );
   }
     where
       none_there : (name : Name) (job : Job) (made : Made) → None ≡ Some (AJob job made) → ⊥
@@ -82,7 +87,8 @@ module _ {W H R : Type 0} (writers : Writers W) (bytes : H → Option (List ℕ)
   is_waiting name planned = option_map_or (λ (waiting : Planned (Base H R) H W g). bytes_eq name waiting.name) planned false
 
   -- it stands for something
-  pub waiting_there : (planned : Option (Planned (Base H R) H W g)) (ts : List (Name × Thing)) (l : Layout) (name : Name) → Waits writers bytes planned ts l
+  pub waiting_there : (planned : Option (Planned (Base H R) H W g)) (ts : List (Name × Thing)) (l : Layout)
+      (name : Name) → Waits writers bytes planned ts l
       → is_waiting name planned ≡ true → is_some (thing_in ts name) ≡ true
   waiting_there None ts l name waits is = absurd cc
   waiting_there (Some planned) ts l name waits is =
@@ -90,7 +96,8 @@ module _ {W H R : Type 0} (writers : Writers W) (bytes : H → Option (List ℕ)
       subst (λ (n : Name). is_some (thing_in ts n) ≡ true) (sym same) (some_job _ _ _ waits.there)
 
   -- another name stands for no merge
-  pub waiting_free : (planned : Option (Planned (Base H R) H W g)) (ts : List (Name × Thing)) (l : Layout) (name : Name) → Waits writers bytes planned ts l
+  pub waiting_free : (planned : Option (Planned (Base H R) H W g)) (ts : List (Name × Thing)) (l : Layout) (name : Name)
+      → Waits writers bytes planned ts l
       → is_waiting name planned ≡ false → (job : Job) (made : Made) → thing_in ts name ≡ Some (AJob job made) → ⊥
   waiting_free None ts l name (none, free) is job made there = free name job made there
   waiting_free (Some planned) ts l name waits is job made there =
@@ -100,8 +107,10 @@ module _ {W H R : Type 0} (writers : Writers W) (bytes : H → Option (List ℕ)
       true_false e = cc
 
   -- whether the name is in use
-  pub used_is : (os : List (Open H R)) (h : History) (l : Layout) (ts : List (Name × Thing)) (planned : Option (Planned (Base H R) H W g)) (name : Name)
-      → Stand bytes os ts h l → Waits writers bytes planned ts l → (taken : Bool) → taken ≡ is_some (open_in os name) → (waiting : Bool) → waiting ≡ is_waiting name planned
+  pub used_is : (os : List (Open H R)) (h : History) (l : Layout) (ts : List (Name × Thing))
+      (planned : Option (Planned (Base H R) H W g)) (name : Name)
+      → Stand bytes os ts h l → Waits writers bytes planned ts l → (taken : Bool) → taken ≡ is_some (open_in os name)
+      → (waiting : Bool) → waiting ≡ is_waiting name planned
       → (taken || waiting) ≡ is_some (thing_in ts name)
   used_is os h l ts planned name stand waits true is waiting waits_is =
       sym (some_there H R bytes h l (open_in os name) (thing_in ts name) (sym is) (stand.each name))
@@ -147,7 +156,8 @@ module _ {V H W : Type 0} {g : _} where
   took_none q name same (Some p) new (Some j) taken is = absurd cc
 
 -- a name that isn't that of the one that waits stands for no merge
-pub no_merge_named : {W H R : Type 0} (writers : Writers W) (bytes : H → Option (List ℕ)) {g : _} (planned : Option (Planned (Base H R) H W g))
+pub no_merge_named : {W H R : Type 0} (writers : Writers W) (bytes : H → Option (List ℕ)) {g : _}
+    (planned : Option (Planned (Base H R) H W g))
     (ts : List (Name × Thing)) (l : Layout) (name : Name) → Waits writers bytes planned ts l
     → ((p : Planned (Base H R) H W g) → planned ≡ Some p → p.name ≡ name → ⊥)
     → (job : Job) (made : Made) → thing_in ts name ≡ Some (AJob job made) → ⊥

@@ -64,7 +64,8 @@ pub none_or_some : {T : Type 0} (x : Option T) → is_some x ≡ false → x ≡
 none_or_some None is = refl
 none_or_some (Some y) is = absurd cc
 
-module _ {H R : Type 0} (bytes : H → Option (List ℕ)) (seen now : Option DiskState) (before after : Core H) (os : List (Open H R)) (s : State)
+module _ {H R : Type 0} (bytes : H → Option (List ℕ)) (seen now : Option DiskState) (before after : Core H)
+    (os : List (Open H R)) (s : State)
     (stands : StandsIn bytes seen before os s) (back : after.back ≡ before.back) where
   abbrev h : History
   h = history_of s
@@ -97,7 +98,8 @@ module _ {H R : Type 0} (bytes : H → Option (List ℕ)) (seen now : Option Dis
       subst (λ (y : Step). MakesStep bytes now after new s y (Ok told)) (sym same)
       (is, stands_as new (only answer s.store) there names stands.sound refl)
 
-  module _ (name : Name) (thing : Beginning → ℕ → ℕ → store.Thing) (sound : IsSound (state_by s (begin_as s.store name thing (thing_of s.store name)))) where
+  module _ (name : Name) (thing : Beginning → ℕ → ℕ → store.Thing)
+      (sound : IsSound (state_by s (begin_as s.store name thing (thing_of s.store name)))) where
     abbrev ticket : ℕ
     ticket = free_ticket (tickets_of l.live)
 
@@ -115,21 +117,26 @@ module _ {H R : Type 0} (bytes : H → Option (List ℕ)) (seen now : Option Dis
 
     pub begin_makes : (free : thing_of s.store name ≡ None) (new : Thing H R) (own number : ℕ)
         → ((b : Beginning) → b ≡ beginning_of l h → own ≡ ticket → number ≡ last_number h
-        → Stand bytes (os ++ record { name = name; thing = new } ∷ []) (named name (thing b ticket (last_number h)) s.store.things) h (begun l ticket (last_number h)))
+        → Stand bytes (os ++ record { name = name; thing = new } ∷ [])
+        (named name (thing b ticket (last_number h)) s.store.things) h (begun l ticket (last_number h)))
         → Decides Serving h l (begin_ruling l h) (as_before l l) (Answered (Begun own number)) no_effects
-        → MakesStep bytes now after (os ++ record { name = name; thing = new } ∷ []) s (begin_as s.store name thing (thing_of s.store name)) (Ok (answers.Number number))
+        → MakesStep bytes now after (os ++ record { name = name; thing = new } ∷ []) s
+        (begin_as s.store name thing (thing_of s.store name)) (Ok (answers.Number number))
     begin_makes free new own number names decides =
         let (is, there) = decides.answered (Begun own number) refl in
-        subst (λ (y : Step). MakesStep bytes now after (os ++ record { name = name; thing = new } ∷ []) s y (Ok (answers.Number number))) (sym (step_is free))
+        subst (λ (y : Step). MakesStep bytes now after (os ++ record { name = name; thing = new } ∷ []) s y
+        (Ok (answers.Number number))) (sym (step_is free))
         (of full is there (subst (λ (y : Step). IsSound (state_by s y)) (step_is free) sound))
       where
-        of : (b : Bool) → Begun own number ≡ (by_room b).answer → Serving (by_room b).history (by_room b).layout → IsSound (state_by s (by_ruling b))
+        of : (b : Bool) → Begun own number ≡ (by_room b).answer → Serving (by_room b).history (by_room b).layout
+            → IsSound (state_by s (by_ruling b))
             → MakesStep bytes now after (os ++ record { name = name; thing = new } ∷ []) s (by_ruling b) (Ok (answers.Number number))
         of true is there sound = absurd cc
         of false is there sound = (
           ap store_lines.Number (begun_number own ticket number (last_number h) is),
           stands_as (os ++ record { name = name; thing = new } ∷ []) (by_ruling false) there
-              (names (beginning_of (by_room false).layout h) (begun_beginning l h) (begun_ticket own ticket number (last_number h) is) (begun_number own ticket number (last_number h) is)) sound
+              (names (beginning_of (by_room false).layout h) (begun_beginning l h)
+              (begun_ticket own ticket number (last_number h) is) (begun_number own ticket number (last_number h) is)) sound
               refl,
         )
 
@@ -147,21 +154,27 @@ module _ {H R : Type 0} (bytes : H → Option (List ℕ)) (seen now : Option Dis
 
   -- ---- begins of either kind
 
-  pub transaction_makes : (name : Name) (bare : thing_of s.store name ≡ None) (free : open_in os name ≡ None) (txn : Txn H R) → IsNew txn → Sees bytes txn h []
+  pub transaction_makes : (name : Name) (bare : thing_of s.store name ≡ None) (free : open_in os name ≡ None)
+      (txn : Txn H R) → IsNew txn → Sees bytes txn h []
       → (tables l ≡ [] → IsInMemory txn.version) → beginning txn.past ≡ beginning_of l h
       → Decides Serving h l (begin_ruling l h) (as_before l l) (Answered (Begun txn.ticket txn.number)) no_effects
-      → MakesStep bytes now after (os ++ record { name = name; thing = Transaction txn } ∷ []) s (begin_as s.store name a_transaction (thing_of s.store name)) (Ok (answers.Number txn.number))
+      → MakesStep bytes now after (os ++ record { name = name; thing = Transaction txn } ∷ []) s
+      (begin_as s.store name a_transaction (thing_of s.store name)) (Ok (answers.Number txn.number))
   transaction_makes name bare free txn new sees near began decides =
       begin_makes name a_transaction (state_after-sound s (lines.Begin name) stands.sound) bare (Transaction txn) txn.ticket txn.number
-      (λ b is own number. begins_transaction bytes h l os s.store.things stands.names name free stands.engine.fronts.front.lived txn b own number new sees near (began ∙ sym is)) decides
+      (λ b is own number. begins_transaction bytes h l os s.store.things stands.names name free
+      stands.engine.fronts.front.lived txn b own number new sees near (began ∙ sym is)) decides
 
-  pub view_makes : (name : Name) (bare : thing_of s.store name ≡ None) (free : open_in os name ≡ None) (view : EngineView H R) → SeesAlone bytes view h
+  pub view_makes : (name : Name) (bare : thing_of s.store name ≡ None) (free : open_in os name ≡ None)
+      (view : EngineView H R) → SeesAlone bytes view h
       → (tables l ≡ [] → IsInMemory view.version) → beginning view.past ≡ beginning_of l h
       → Decides Serving h l (begin_ruling l h) (as_before l l) (Answered (Begun view.ticket view.number)) no_effects
-      → MakesStep bytes now after (os ++ record { name = name; thing = View view } ∷ []) s (begin_as s.store name a_view (thing_of s.store name)) (Ok (answers.Number view.number))
+      → MakesStep bytes now after (os ++ record { name = name; thing = View view } ∷ []) s
+      (begin_as s.store name a_view (thing_of s.store name)) (Ok (answers.Number view.number))
   view_makes name bare free view sees near began decides =
       begin_makes name a_view (state_after-sound s (lines.View name) stands.sound) bare (View view) view.ticket view.number
-      (λ b is own number. begins_view bytes h l os s.store.things stands.names name free stands.engine.fronts.front.lived view b own number sees near (began ∙ sym is)) decides
+      (λ b is own number. begins_view bytes h l os s.store.things stands.names name free
+      stands.engine.fronts.front.lived view b own number sees near (began ∙ sym is)) decides
 
   -- ---- ends
 
@@ -177,7 +190,8 @@ module _ {H R : Type 0} (bytes : H → Option (List ℕ)) (seen now : Option Dis
     ended_stands thing taken x there on answer sound =
         let y : Step = record { answer = answer; state = without_thing s.store (ended (ticket_of x) l) name; calls = 0 } in
         stands_as left y on
-        (ends_so bytes h h l (ended (ticket_of x) l) os left s.store.things stands.names name thing taken x there (extends_itself h) (λ none. none) refl) sound refl
+        (ends_so bytes h h l (ended (ticket_of x) l) os left s.store.things stands.names name thing taken x there
+        (extends_itself h) (λ none. none) refl) sound refl
 
     pub view_ends : (view : EngineView H R) → IsTaken os left name (Some (View view)) → Serving h (ended view.ticket l)
         → MakesStep bytes now after left s dropping (Ok answers.Done)
@@ -221,14 +235,17 @@ pub taken_makes : {H R : Type 0} (bytes : H → Option (List ℕ)) (seen : Optio
     → MakesStep bytes seen core os s (begin_as s.store name thing (thing_of s.store name)) (Ok (answers.Taken name))
 taken_makes {H} {R} bytes seen core os s stands name thing used =
     let (z, there) = there_is (thing_of s.store name) used in
-    only_makes bytes seen core os s stands os (begin_as s.store name thing (thing_of s.store name)) (answers.Taken name) (store_lines.Taken name)
+    only_makes bytes seen core os s stands os (begin_as s.store name thing (thing_of s.store name)) (answers.Taken name)
+    (store_lines.Taken name)
     (ap (begin_as s.store name thing) there) refl stands.names
 
 -- ---- by the test of whether it is in use
 
-module _ {H R : Type 0} (os slice : List (Open H R)) (value : slice ≡ os) (q name : Name) (same : q ≡ name) (test : Bool) (is : test ≡ is_some (open_in slice q)) where
+module _ {H R : Type 0} (os slice : List (Open H R)) (value : slice ≡ os) (q name : Name) (same : q ≡ name)
+    (test : Bool) (is : test ≡ is_some (open_in slice q)) where
   tested : is_some (open_in os name) ≡ test
-  tested = ap (λ (xs : List (Open H R)). is_some (open_in xs name)) (sym value) ∙ ap (λ (n : Name). is_some (open_in slice n)) (sym same) ∙ sym is
+  tested = ap (λ (xs : List (Open H R)). is_some (open_in xs name)) (sym value)
+      ∙ ap (λ (n : Name). is_some (open_in slice n)) (sym same) ∙ sym is
 
   pub taken_of : test ≡ true → is_some (open_in os name) ≡ true
   taken_of it = tested ∙ it
@@ -237,19 +254,23 @@ module _ {H R : Type 0} (os slice : List (Open H R)) (value : slice ≡ os) (q n
   free_of it = none_or_some (open_in os name) (tested ∙ it)
 
 -- a name that no reader has and no merge stands for nothing
-pub bare_of : {H R : Type 0} (bytes : H → Option (List ℕ)) (h : History) (l : Layout) (o : Option (Thing H R)) (y : Option store.Thing) → o ≡ None
+pub bare_of : {H R : Type 0} (bytes : H → Option (List ℕ)) (h : History) (l : Layout) (o : Option (Thing H R))
+    (y : Option store.Thing) → o ≡ None
     → Corresponds bytes h l o y → ((job : Job) (made : Made) → y ≡ Some (AJob job made) → ⊥) → y ≡ None
 bare_of {H} {R} bytes h l o y none is no_merge =
-    no_reader H R bytes h l (λ (z : Option store.Thing). y ≡ z → y ≡ None) y (subst (λ (x : Option (Thing H R)). Corresponds bytes h l x y) none is)
+    no_reader H R bytes h l (λ (z : Option store.Thing). y ≡ z → y ≡ None) y
+    (subst (λ (x : Option (Thing H R)). Corresponds bytes h l x y) none is)
     (λ same. same) (λ job made same. absurd (no_merge job made same)) refl
 
 -- it is told that it stands for nothing
-pub unnamed_makes : {H R : Type 0} (bytes : H → Option (List ℕ)) (seen : Option DiskState) (core : Core H) (os : List (Open H R)) (s : State)
+pub unnamed_makes : {H R : Type 0} (bytes : H → Option (List ℕ)) (seen : Option DiskState) (core : Core H)
+    (os : List (Open H R)) (s : State)
     (stands : StandsIn bytes seen core os s) (left : List (Open H R)) (name : Name) → IsTaken os left name None
     → ((job : Job) (made : Made) → thing_of s.store name ≡ Some (AJob job made) → ⊥)
     → (x : Option store.Thing → Step) → x None ≡ only (store_lines.Unknown name) s.store
     → MakesStep bytes seen core left s (x (thing_of s.store name)) (Ok (answers.Unknown name))
 unnamed_makes bytes seen core os s stands left name taken none x is =
     only_makes bytes seen core os s stands left (x (thing_of s.store name)) (answers.Unknown name) (store_lines.Unknown name)
-    (ap x (bare_of bytes (history_of s) s.store.layout (open_in os name) (thing_of s.store name) taken.found (stands.names.each name) none) ∙ is) refl
+    (ap x (bare_of bytes (history_of s) s.store.layout (open_in os name) (thing_of s.store name) taken.found
+    (stands.names.each name) none) ∙ is) refl
     (none_taken bytes (history_of s) s.store.layout os left s.store.things name stands.names taken)

@@ -15,7 +15,8 @@ use Rattle.vl_layout.specs.AtAnswer.{Beginning}
 use Rattle.vl_layout.specs.Decides.{Answered, Decides, Effects, Otherwise, Outcome, as_before}
 use Rattle.vl_layout.specs.Ruling.{Ruling, ended, leaving, logged}
 use Rattle.vl_layout.specs.Rulings.Commit as commit
-use Rattle.vl_layout.specs.Rulings.Commit.{CommitAnswer, Transaction as ATxn, commit_checked, commit_ended, commit_frame, commit_lost, commit_ruling, commit_unless, committed}
+use Rattle.vl_layout.specs.Rulings.Commit.{CommitAnswer, Transaction as ATxn, commit_checked, commit_ended}
+use Rattle.vl_layout.specs.Rulings.Commit.{commit_frame, commit_lost, commit_ruling, commit_unless, committed}
 use Rattle.vl_layout.specs.Store.Commits.{history_in, with_changes}
 use Rattle.vl_layout.specs.Store.Lines as store_lines
 use Rattle.vl_layout.specs.Store.Lines.{Name}
@@ -60,7 +61,8 @@ module _ (l : Layout) (h : History) (t : ATxn) where
   abbrev IsSo : Ruling CommitAnswer → Type 0
   IsSo r = r ≡ ruling_of r.answer
 
-  fitting : (b : Bool) → IsSo (cond b (committed l h t) (leaving (commit.Full l.active.length (frame_length l.active.format (commit_frame h t.writes))) h l))
+  fitting : (b : Bool) → IsSo
+      (cond b (committed l h t) (leaving (commit.Full l.active.length (frame_length l.active.format (commit_frame h t.writes))) h l))
   fitting true = refl
   fitting false = refl
 
@@ -72,7 +74,9 @@ module _ (l : Layout) (h : History) (t : ATxn) where
   left_or true o = refl
   left_or false o = checked o
 
-  some : (b : Bool) (o : Option Named) → IsSo (cond b (commit_ended commit.Nothing l h t) (cond (nat_le max_commit_number (last_number h)) (leaving (commit.Exhausted CommitNumber) h l) (commit_checked l h t o)))
+  some : (b : Bool) (o : Option Named)
+      → IsSo (cond b (commit_ended commit.Nothing l h t)
+      (cond (nat_le max_commit_number (last_number h)) (leaving (commit.Exhausted CommitNumber) h l) (commit_checked l h t o)))
   some true o = refl
   some false o = left_or (nat_le max_commit_number (last_number h)) o
 
@@ -93,7 +97,9 @@ module _ (l : Layout) (h : History) (t : ATxn) where
   IsNoHalt (commit.Conflict key n) = Unit {0}
   IsNoHalt (commit.Full length frame) = Unit {0}
 
-  goes_fitting : (b : Bool) → IsNoHalt (cond b (committed l h t) (leaving (commit.Full l.active.length (frame_length l.active.format (commit_frame h t.writes))) h l)).answer
+  goes_fitting : (b : Bool)
+      → IsNoHalt (cond b (committed l h t)
+      (leaving (commit.Full l.active.length (frame_length l.active.format (commit_frame h t.writes))) h l)).answer
   goes_fitting true = tt
   goes_fitting false = tt
 
@@ -101,22 +107,28 @@ module _ (l : Layout) (h : History) (t : ATxn) where
   goes_checked (Some named) = tt
   goes_checked None = goes_fitting (nat_le (l.active.length + frame_length l.active.format (commit_frame h t.writes)) l.room)
 
-  goes_left : (b : Bool) (o : Option Named) → IsNoHalt (cond b (leaving (commit.Exhausted CommitNumber) h l) (commit_checked l h t o)).answer
+  goes_left : (b : Bool) (o : Option Named)
+      → IsNoHalt (cond b (leaving (commit.Exhausted CommitNumber) h l) (commit_checked l h t o)).answer
   goes_left true o = tt
   goes_left false o = goes_checked o
 
-  goes_some : (b : Bool) (o : Option Named) → IsNoHalt (cond b (commit_ended commit.Nothing l h t) (cond (nat_le max_commit_number (last_number h)) (leaving (commit.Exhausted CommitNumber) h l) (commit_checked l h t o))).answer
+  goes_some : (b : Bool) (o : Option Named)
+      → IsNoHalt (cond b (commit_ended commit.Nothing l h t)
+      (cond (nat_le max_commit_number (last_number h)) (leaving (commit.Exhausted CommitNumber) h l) (commit_checked l h t o))).answer
   goes_some true o = tt
   goes_some false o = goes_left (nat_le max_commit_number (last_number h)) o
 
   pub goes_on : l.halted ≡ None → IsNoHalt (commit_ruling l h t).answer
-  goes_on running = subst (λ (f : Option FileName). IsNoHalt (commit_unless f l h t (first_conflict h t.number t.reads)).answer) (sym running)
+  goes_on running = subst (λ (f : Option FileName). IsNoHalt
+      (commit_unless f l h t (first_conflict h t.number t.reads)).answer) (sym running)
       (goes_some (length t.writes == 0) (first_conflict h t.number t.reads))
 
 -- ---- steps
 
-module _ {H R : Type 0} (bytes : H → Option (List ℕ)) (seen now : Option DiskState) (before after : Core H) (os : List (Open H R)) (s : State)
-    (stands : StandsIn bytes seen before os s) (back : after.back ≡ before.back) (left : List (Open H R)) (name : Name) (txn : Txn H R) (taken : IsTaken os left name (Some (Transaction txn))) where
+module _ {H R : Type 0} (bytes : H → Option (List ℕ)) (seen now : Option DiskState) (before after : Core H)
+    (os : List (Open H R)) (s : State)
+    (stands : StandsIn bytes seen before os s) (back : after.back ≡ before.back) (left : List (Open H R)) (name : Name)
+    (txn : Txn H R) (taken : IsTaken os left name (Some (Transaction txn))) where
   abbrev h : History
   h = history_of s
 
@@ -134,13 +146,15 @@ module _ {H R : Type 0} (bytes : H → Option (List ℕ)) (seen now : Option Dis
     step_by a same =
         ap (commit_by s.store name) there
         ∙ ap (λ (r : Ruling CommitAnswer). committed_by s.store name t r r.answer)
-        (ap (commit_unless l.halted l h t) (conflict_in-is s.store.commits stands.sound.proper.commits t.number t.reads) ∙ answers_ruling l h t a same)
+        (ap (commit_unless l.halted l h t) (conflict_in-is s.store.commits stands.sound.proper.commits t.number t.reads)
+        ∙ answers_ruling l h t a same)
 
     sound_by : (a : CommitAnswer) → a ≡ (commit_ruling l h t).answer → IsSound (state_by s (by a))
     sound_by a same = subst (λ (y : Step). IsSound (state_by s y)) (step_by a same) (state_after-sound s (lines.Commit name) stands.sound)
 
     makes_by : (a : CommitAnswer) (same : a ≡ (commit_ruling l h t).answer) (new : List (Open H R)) (told : Answer)
-        → IsTold told (by a).answer → StandsIn bytes now after new (state_by s (by a)) → MakesStep bytes now after new s committing (Ok told)
+        → IsTold told (by a).answer → StandsIn bytes now after new (state_by s (by a))
+        → MakesStep bytes now after new s committing (Ok told)
     makes_by a same new told is_told stands_then =
         subst (λ (y : Step). MakesStep bytes now after new s y (Ok told)) (sym (step_by a same)) (is_told, stands_then)
 
@@ -151,9 +165,11 @@ module _ {H R : Type 0} (bytes : H → Option (List ℕ)) (seen now : Option Dis
       same_of : (a : CommitAnswer) → AnsweredBy a → a ≡ (commit_ruling l h t).answer
       same_of a decides = (decides.answered a refl).0
 
-      stands_of : (a : CommitAnswer) → AnsweredBy a → Serves bytes now s.openable after (ruling_of l h t a).history (ruling_of l h t a).layout
+      stands_of : (a : CommitAnswer) → AnsweredBy a → Serves bytes now s.openable after (ruling_of l h t a).history
+          (ruling_of l h t a).layout
       stands_of a decides =
-          subst (λ (r : Ruling CommitAnswer). Serves bytes now s.openable after r.history r.layout) (answers_ruling l h t a (same_of a decides)) (decides.answered a refl).1
+          subst (λ (r : Ruling CommitAnswer). Serves bytes now s.openable after r.history r.layout)
+          (answers_ruling l h t a (same_of a decides)) (decides.answered a refl).1
 
       pub number_makes : (n : ℕ) → AnsweredBy (commit.At n) → MakesStep bytes now after left s committing (Ok (answers.Number n))
       number_makes n decides =
@@ -166,7 +182,8 @@ module _ {H R : Type 0} (bytes : H → Option (List ℕ)) (seen now : Option Dis
           (stands_as bytes seen now before after os s stands back left (by (commit.At n))
           (subst (λ (k : History). Serves bytes now s.openable after k next) (sym more) (stands_of (commit.At n) decides))
           (subst (λ (k : History). Stand bytes left (without_name name s.store.things) k next) (sym more)
-          (ends_so bytes h longer l next os left s.store.things stands.names name (Transaction txn) taken (ATransaction t b) there (extends_one h longer (from_sorted t.writes) refl) (λ none. none) refl))
+          (ends_so bytes h longer l next os left s.store.things stands.names name (Transaction txn) taken
+          (ATransaction t b) there (extends_one h longer (from_sorted t.writes) refl) (λ none. none) refl))
           (sound_by (commit.At n) same) refl)
         where
           number : (n : ℕ) → commit.At n ≡ commit.At (last_number h + 1) → n ≡ last_number h + 1
@@ -176,14 +193,17 @@ module _ {H R : Type 0} (bytes : H → Option (List ℕ)) (seen now : Option Dis
       nothing_makes decides =
           let same = same_of commit.Nothing decides in
           makes_by commit.Nothing same left answers.Nothing refl
-          (ended_stands bytes seen now before after os s stands back left name (Transaction txn) taken (ATransaction t b) there (stands_of commit.Nothing decides) store_lines.Nothing
+          (ended_stands bytes seen now before after os s stands back left name (Transaction txn) taken
+          (ATransaction t b) there (stands_of commit.Nothing decides) store_lines.Nothing
           (sound_by commit.Nothing same))
 
-      pub conflict_makes : (key : List ℕ) (n : ℕ) → AnsweredBy (commit.Conflict key n) → MakesStep bytes now after left s committing (Ok (answers.Conflict key n))
+      pub conflict_makes : (key : List ℕ) (n : ℕ) → AnsweredBy (commit.Conflict key n)
+          → MakesStep bytes now after left s committing (Ok (answers.Conflict key n))
       conflict_makes key n decides =
           let same = same_of (commit.Conflict key n) decides in
           makes_by (commit.Conflict key n) same left (answers.Conflict key n) refl
-          (ended_stands bytes seen now before after os s stands back left name (Transaction txn) taken (ATransaction t b) there (stands_of (commit.Conflict key n) decides) (store_lines.Conflict key n)
+          (ended_stands bytes seen now before after os s stands back left name (Transaction txn) taken
+          (ATransaction t b) there (stands_of (commit.Conflict key n) decides) (store_lines.Conflict key n)
           (sound_by (commit.Conflict key n) same))
 
       abbrev behind : Txn H R → List (Open H R)
@@ -198,7 +218,8 @@ module _ {H R : Type 0} (bytes : H → Option (List ℕ)) (seen now : Option Dis
       exhausted_makes new it c decides =
           let same = same_of (commit.Exhausted c) decides in
           makes_by (commit.Exhausted c) same (behind new) (answers.Exhausted c) refl
-          (stands_as bytes seen now before after os s stands back (behind new) (by (commit.Exhausted c)) (stands_of (commit.Exhausted c) decides) (back_names new it)
+          (stands_as bytes seen now before after os s stands back (behind new) (by (commit.Exhausted c))
+          (stands_of (commit.Exhausted c) decides) (back_names new it)
           (sound_by (commit.Exhausted c) same) refl)
 
       pub full_makes : (new : Txn H R) → new ≡ txn → (long frame : ℕ) → AnsweredBy (commit.Full long frame)
@@ -206,12 +227,14 @@ module _ {H R : Type 0} (bytes : H → Option (List ℕ)) (seen now : Option Dis
       full_makes new it long frame decides =
           let same = same_of (commit.Full long frame) decides in
           makes_by (commit.Full long frame) same (behind new) answers.Full refl
-          (stands_as bytes seen now before after os s stands back (behind new) (by (commit.Full long frame)) (stands_of (commit.Full long frame) decides) (back_names new it)
+          (stands_as bytes seen now before after os s stands back (behind new) (by (commit.Full long frame))
+          (stands_of (commit.Full long frame) decides) (back_names new it)
           (sound_by (commit.Full long frame) same) refl)
 
       -- an engine that stands for what isn't halted isn't halted
       pub never_halted : (file : FileName) → AnsweredBy (commit.Halted file) → ⊥
-      never_halted file decides = subst (λ (a : CommitAnswer). IsNoHalt l h t a) (sym (same_of (commit.Halted file) decides)) (goes_on l h t stands.running)
+      never_halted file decides = subst (λ (a : CommitAnswer). IsNoHalt l h t a)
+          (sym (same_of (commit.Halted file) decides)) (goes_on l h t stands.running)
 
 -- ---- what the engine decided, over the reads that the store has
 
@@ -230,10 +253,12 @@ module _ {H R : Type 0} (txn : Txn H R) where
   pub failed_so : (f : CommitFail H R) (file : FileNamed) → f ≡ fails.Disk file → CommitFailed (Err f)
   failed_so f file is = subst (λ (x : CommitFail H R). CommitFailed (Err x)) (sym is) tt
 
-  module _ (bytes : H → Option (List ℕ)) (stood : History → Layout → Type 0) (h : History) (l : Layout) (t : ATxn) (is : IsTransaction bytes txn t h l)
+  module _ (bytes : H → Option (List ℕ)) (stood : History → Layout → Type 0) (h : History) (l : Layout) (t : ATxn)
+      (is : IsTransaction bytes txn t h l)
       (outcome : Outcome CommitAnswer) (effects : Effects) (a : CommitAnswer) (answered : outcome ≡ Answered a) where
     -- it was decided on the transaction of the store
-    pub decided_so : Decides stood h l (commit_ruling l h (asked txn t.reads)) (as_before l (commit_lost l (asked txn t.reads))) outcome effects
+    pub decided_so : Decides stood h l (commit_ruling l h (asked txn t.reads))
+        (as_before l (commit_lost l (asked txn t.reads))) outcome effects
         → Decides stood h l (commit_ruling l h t) (as_before l (commit_lost l t)) (Answered a) effects
     decided_so decides =
         subst (λ (o : Outcome CommitAnswer). Decides stood h l (commit_ruling l h t) (as_before l (commit_lost l t)) o effects) answered

@@ -44,7 +44,8 @@ use Rattle.vl_replay.proofs.Names.Standings.{stands_with, stands_without}
 
 -- nothing is written at first
 pub no_entries : entries (empty {K = List ℕ} {X = Change} {R = key_cmp}) ≡ []
-no_entries = none (entries (empty {K = List ℕ} {X = Change} {R = key_cmp})) (sym (len-entries (empty {K = List ℕ} {X = Change} {R = key_cmp})) ∙ len-empty key_cmp Change)
+no_entries = none (entries (empty {K = List ℕ} {X = Change} {R = key_cmp}))
+    (sym (len-entries (empty {K = List ℕ} {X = Change} {R = key_cmp})) ∙ len-empty key_cmp Change)
   where
     none : (xs : Changes) → length xs ≡ 0 → xs ≡ []
     none [] e = refl
@@ -107,7 +108,8 @@ module _ {H R : Type 0} (bytes : H → Option (List ℕ)) (h k : History) (l m :
     (bare : IsWithoutTables m → IsWithoutTables l)
     -- what lives on
     (ticket_lives : ℕ → Type 0) (lives : (ticket number : ℕ) → ticket_lives ticket → IsLive l ticket number → IsLive m ticket number) where
-  pub still_stands : (x : Option (Thing H R)) (y : Option store.Thing) → ((z : store.Thing) → y ≡ Some z → IsReader z → ticket_lives (ticket_of z))
+  pub still_stands : (x : Option (Thing H R)) (y : Option store.Thing)
+      → ((z : store.Thing) → y ≡ Some z → IsReader z → ticket_lives (ticket_of z))
       → Corresponds bytes h l x y → Corresponds bytes k m x y
   still_stands None None on is = tt
   still_stands None (Some (ATransaction t b)) on is = absurd is
@@ -119,7 +121,8 @@ module _ {H R : Type 0} (bytes : H → Option (List ℕ)) (h k : History) (l m :
     (record {
       same = is.same;
       sees = sees_later bytes txn h k t.reads more is.sees;
-      live = lives txn.ticket txn.number (subst (λ (u : ATxn). ticket_lives u.ticket) (sym is.same) (on (ATransaction t b) refl tt)) is.live;
+      live = lives txn.ticket txn.number
+          (subst (λ (u : ATxn). ticket_lives u.ticket) (sym is.same) (on (ATransaction t b) refl tt)) is.live;
       near = λ none. is.near (bare none);
     }),
     began,
@@ -141,7 +144,8 @@ module _ {H R : Type 0} (bytes : H → Option (List ℕ)) (h k : History) (l m :
 
 -- ---- ends, also by a commit
 
-module _ {H R : Type 0} (bytes : H → Option (List ℕ)) (h k : History) (l m : Layout) (os left : List (Open H R)) (ts : List (Name × store.Thing))
+module _ {H R : Type 0} (bytes : H → Option (List ℕ)) (h k : History) (l m : Layout) (os left : List (Open H R))
+    (ts : List (Name × store.Thing))
     (stand : Stand bytes os ts h l) (name : Name) (thing : Thing H R) (taken : IsTaken os left name (Some thing))
     (x : store.Thing) (there : thing_in ts name ≡ Some x) (more : Extends h k) (bare : IsWithoutTables m → IsWithoutTables l)
     (live : m.live ≡ (ended (ticket_of x) l).live) where
@@ -149,8 +153,10 @@ module _ {H R : Type 0} (bytes : H → Option (List ℕ)) (h k : History) (l m :
   pub ends_so : Stand bytes left (without_name name ts) k m
   ends_so = stands_without bytes ts h k l m os left stand name (Some thing) taken
       (λ other apart y z at is. still_stands bytes h k l m more bare (λ (ticket : ℕ). ticket ≡ ticket_of x → ⊥)
-      (λ ticket number differs lives. subst (λ (xs : List Live). IsLive (record m { live = xs }) ticket number) (sym live) (lives_ended l (ticket_of x) ticket number differs lives))
-      y z (λ u found reads same. apart (stand.apart other name u x (at ∙ found) there reads (it_reads bytes h l os left ts name thing x stand taken there) same)) is)
+      (λ ticket number differs lives. subst (λ (xs : List Live). IsLive (record m { live = xs }) ticket number)
+      (sym live) (lives_ended l (ticket_of x) ticket number differs lives))
+      y z (λ u found reads same. apart
+      (stand.apart other name u x (at ∙ found) there reads (it_reads bytes h l os left ts name thing x stand taken there) same)) is)
 
 -- ---- begins
 
@@ -170,10 +176,12 @@ module _ {H R : Type 0} (bytes : H → Option (List ℕ)) (h : History) (l : Lay
       (λ t number on lives. lives_begun l h lived t number lives) y z (λ u found reads. tt) is)
       new x there
       (λ other y apart at reads same.
-      let (number, lives) = live_of bytes h l (open_in os other) y (subst (Corresponds bytes h l (open_in os other)) at (stand.each other)) reads in
+      let (number, lives) = live_of bytes h l (open_in os other) y
+      (subst (Corresponds bytes h l (open_in os other)) at (stand.each other)) reads in
       begun_was_free l h lived number (subst (λ (t : ℕ). IsLive l t number) (sym same ∙ own) lives))
 
-  pub begins_transaction : (txn : Txn H R) (b : Beginning) → txn.ticket ≡ ticket → txn.number ≡ last_number h → IsNew txn → Sees bytes txn h []
+  pub begins_transaction : (txn : Txn H R) (b : Beginning) → txn.ticket ≡ ticket → txn.number ≡ last_number h
+      → IsNew txn → Sees bytes txn h []
       → (tables l ≡ [] → IsInMemory txn.version) → beginning txn.past ≡ b
       → Stand bytes (os ++ record { name = name; thing = Transaction txn } ∷ [])
       (named name (ATransaction (record { ticket = ticket; number = last_number h; reads = []; writes = [] }) b) ts) h next
@@ -181,7 +189,8 @@ module _ {H R : Type 0} (bytes : H → Option (List ℕ)) (h : History) (l : Lay
     (record {
       same = ap (λ (n : ℕ). record { ticket = n; number = txn.number; reads = []; writes = entries txn.writes }) own
           ∙ ap (λ (n : ℕ). record { ticket = ticket; number = n; reads = []; writes = entries txn.writes }) number
-          ∙ ap (λ (w : Changes). record { ticket = ticket; number = last_number h; reads = []; writes = w }) (ap (λ (w : Writes). entries w) new.writes ∙ no_entries);
+          ∙ ap (λ (w : Changes). record { ticket = ticket; number = last_number h; reads = []; writes = w })
+          (ap (λ (w : Writes). entries w) new.writes ∙ no_entries);
       sees = sees;
       live = subst (λ (n : ℕ). IsLive next n txn.number) (sym own) (subst (IsLive next ticket) (sym number) (begun_lives l h lived));
       near = λ none. near none.0;

@@ -95,7 +95,8 @@ keep_keeps l h v = of l.halted refl
     }
     of None is = by_number ((v == 0) || nat_lt 16 v)
 
-module _ {H R : Type 0} (bytes : H → Option (List ℕ)) (seen now : Option DiskState) (before after : Core H) (os : List (Open H R)) (s : State)
+module _ {H R : Type 0} (bytes : H → Option (List ℕ)) (seen now : Option DiskState) (before after : Core H)
+    (os : List (Open H R)) (s : State)
     (stands : StandsIn bytes seen before os s) (r : Ruling KeepAnswer) (keeps : KeepsOf s.store.layout (history_of s) r)
     (sound : IsSound (state_by s (keep_by s.store r))) where
   abbrev h : History

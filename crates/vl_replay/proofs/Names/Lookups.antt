@@ -1,5 +1,6 @@
 -- Looking names up, where one is put, or taken out.
-use Rattle.std.proofs.Common.{◌≡◌, ◌+◌, ◌<◌, ℕ, zero, suc, Bool, true, false, true≢false, cond, not, List, [], ◌∷◌, ◌++◌, ◌≤◌, drop, get_or, length, refl, ap, sym, ◌∙◌, subst, arith}
+use Rattle.std.proofs.Common.{◌≡◌, ◌+◌, ◌<◌, ℕ, zero, suc, Bool, true, false, true≢false, cond, not, List, [], ◌∷◌}
+use Rattle.std.proofs.Common.{◌++◌, ◌≤◌, drop, get_or, length, refl, ap, sym, ◌∙◌, subst, arith}
 use Rattle.std.specs.Prelude.{Option, None, Some}
 use Rattle.std.specs.List.{remove, slice_index_or}
 use Rattle.std.specs.Option.{is_some, option_map}
@@ -106,7 +107,8 @@ module _ {H R : Type 0} where
   open_put (p ∷ os) o none = of (eq_by_cmp key_cmp o.name p.name) none (open_put os o)
     where
       of : (b : Bool) → cond b (Some p.thing) (open_in os o.name) ≡ None
-          → (open_in os o.name ≡ None → open_in (os ++ o ∷ []) o.name ≡ Some o.thing) → cond b (Some p.thing) (open_in (os ++ o ∷ []) o.name) ≡ Some o.thing
+          → (open_in os o.name ≡ None → open_in (os ++ o ∷ []) o.name ≡ Some o.thing)
+          → cond b (Some p.thing) (open_in (os ++ o ∷ []) o.name) ≡ Some o.thing
       of true is later = absurd cc
       of false is later = later is
 
@@ -189,7 +191,8 @@ module _ {H R : Type 0} where
   gone name [] once = refl
   gone name (o ∷ os) once = of (eq_by_cmp key_cmp name o.name) refl (gone name os once.1)
     where
-      of : (b : Bool) → eq_by_cmp key_cmp name o.name ≡ b → open_in (without_open name os) name ≡ None → open_in (cond b os (o ∷ without_open name os)) name ≡ None
+      of : (b : Bool) → eq_by_cmp key_cmp name o.name ≡ b → open_in (without_open name os) name ≡ None
+          → open_in (cond b os (o ∷ without_open name os)) name ≡ None
       of true is later = subst (λ (q : Name). open_in os q ≡ None) (sym (named_so name o.name is)) once.0
       of false is later = on_false (eq_by_cmp key_cmp name o.name) (Some o.thing) (open_in (without_open name os) name) is ∙ later
 
@@ -200,7 +203,8 @@ module _ {H R : Type 0} where
       of : (b : Bool) → eq_by_cmp key_cmp name o.name ≡ b → open_in (without_open name os) other ≡ open_in os other
           → open_in (cond b os (o ∷ without_open name os)) other ≡ cond (eq_by_cmp key_cmp other o.name) (Some o.thing) (open_in os other)
       of true is later =
-          let differs : eq_by_cmp key_cmp other o.name ≡ false = other_name other o.name (λ same. apart (same ∙ sym (named_so name o.name is))) in
+          let differs : eq_by_cmp key_cmp other o.name ≡ false = other_name other o.name
+          (λ same. apart (same ∙ sym (named_so name o.name is))) in
           sym (on_false (eq_by_cmp key_cmp other o.name) (Some o.thing) (open_in os other) differs)
       of false is later = ap (λ (x : Option (Thing H R)). cond (eq_by_cmp key_cmp other o.name) (Some o.thing) x) later
 
@@ -210,7 +214,11 @@ module _ {H R : Type 0} where
     where
       of : (b : Bool) → eq_by_cmp key_cmp name o.name ≡ b → AreOnce (without_open name os) → AreOnce (cond b os (o ∷ without_open name os))
       of true is later = once.1
-      of false is later = (left name o.name (λ same. true≢false (sym (own_name name) ∙ ap (eq_by_cmp key_cmp name) (sym same) ∙ is)) os ∙ once.0, later)
+      of false is later = (
+        left name o.name
+            (λ same. true≢false (sym (own_name name) ∙ ap (eq_by_cmp key_cmp name) (sym same) ∙ is)) os ∙ once.0,
+        later,
+      )
 
   -- A name is taken out.
   pub taken : (name : Name) (os : List (Open H R)) → AreOnce os → IsTaken os (without_open name os) name (open_in os name)
@@ -249,10 +257,12 @@ module _ {H R : Type 0} where
   pub place_found : (name : Name) (os : List (Open H R)) (at : ℕ) (o : Open H R) → at < length os → o ≡ get_or os at o
       → bytes_eq name o.name ≡ true → PlaceFrom name os at → Some at ≡ place_of name os
   place_found name os at o within is same from =
-      sym (from ∙ ap (option_map (λ n. n + at)) (here_is name os at o within is true same) ∙ ap (λ (m : ℕ). Some m) (let first : 0 + at ≡ at = omega arith in first))
+      sym (from ∙ ap (option_map (λ n. n + at)) (here_is name os at o within is true same)
+      ∙ ap (λ (m : ℕ). Some m) (let first : 0 + at ≡ at = omega arith in first))
 
   pub place_ends : (name : Name) (os : List (Open H R)) (at : ℕ) → length os ≤ at → PlaceFrom name os at → None ≡ place_of name os
-  place_ends name os at past from = sym (from ∙ ap (λ (xs : List (Open H R)). option_map (λ n. n + at) (place_of name xs)) (drop_all at os past))
+  place_ends name os at past from = sym
+      (from ∙ ap (λ (xs : List (Open H R)). option_map (λ n. n + at) (place_of name xs)) (drop_all at os past))
 
   -- What stands at a name's place is taken out.
   pub taken_at : (name : Name) (os new : List (Open H R)) (at : ℕ) (o : Open H R) → Some at ≡ place_of name os → AreOnce os

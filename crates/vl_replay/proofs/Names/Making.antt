@@ -102,7 +102,8 @@ module _ {H R : Type 0} (bytes : H → Option (List ℕ)) (h : History) (l : Lay
 
 -- ---- steps
 
-module _ {H R : Type 0} (bytes : H → Option (List ℕ)) (seen : Option DiskState) (core : Core H) (os : List (Open H R)) (s : State) (stands : StandsIn bytes seen core os s) where
+module _ {H R : Type 0} (bytes : H → Option (List ℕ)) (seen : Option DiskState) (core : Core H) (os : List (Open H R))
+    (s : State) (stands : StandsIn bytes seen core os s) where
   abbrev h : History
   h = history_of s
 
@@ -113,7 +114,8 @@ module _ {H R : Type 0} (bytes : H → Option (List ℕ)) (seen : Option DiskSta
   ts = s.store.things
 
   -- a line that changes nothing
-  pub only_stands : (new : List (Open H R)) (answer : store_lines.Answer) → Stand bytes new ts h l → StandsIn bytes seen core new (state_by s (only answer s.store))
+  pub only_stands : (new : List (Open H R)) (answer : store_lines.Answer) → Stand bytes new ts h l
+      → StandsIn bytes seen core new (state_by s (only answer s.store))
   only_stands new answer names = record {
     engine = stands.engine;
     names = names;
@@ -131,11 +133,13 @@ module _ {H R : Type 0} (bytes : H → Option (List ℕ)) (seen : Option DiskSta
 
   module _ (left : List (Open H R)) (name : Name) where
     -- the name stands for no reader
-    pub nothing_there : IsTaken os left name None → (P : Option store.Thing → Type 0) → P None → ((job : Job) (made : Made) → P (Some (AJob job made)))
+    pub nothing_there : IsTaken os left name None → (P : Option store.Thing → Type 0) → P None
+        → ((job : Job) (made : Made) → P (Some (AJob job made)))
         → P (thing_of s.store name)
     nothing_there taken P none merge =
         no_reader H R bytes h l P (thing_of s.store name)
-        (subst (λ (o : Option (Thing H R)). Corresponds bytes h l o (thing_of s.store name)) taken.found (stands.names.each name)) none merge
+        (subst (λ (o : Option (Thing H R)). Corresponds bytes h l o (thing_of s.store name)) taken.found
+        (stands.names.each name)) none merge
 
     pub unknown_makes : IsTaken os left name None → (x : Option store.Thing → Step) → x None ≡ only (store_lines.Unknown name) s.store
         → ((job : Job) (made : Made) → x (Some (AJob job made)) ≡ only (store_lines.Unknown name) s.store)
@@ -150,7 +154,8 @@ module _ {H R : Type 0} (bytes : H → Option (List ℕ)) (seen : Option DiskSta
       there_view = subst (λ (o : Option (Thing H R)). Corresponds bytes h l o (thing_of s.store name)) taken.found (stands.names.each name)
 
       -- the view that it stands for
-      pub its : (b : Beginning) × (thing_of s.store name ≡ Some (AView (asked_view view) b)) × SeesAlone bytes view h × IsLive l view.ticket view.number
+      pub its : (b : Beginning) × (thing_of s.store name ≡ Some (AView (asked_view view) b)) × SeesAlone bytes view h
+          × IsLive l view.ticket view.number
           × (IsWithoutTables l → IsInMemory view.version) × (beginning view.past ≡ b)
       its = its_view bytes h l view (thing_of s.store name) there_view
 
@@ -162,11 +167,14 @@ module _ {H R : Type 0} (bytes : H → Option (List ℕ)) (seen : Option DiskSta
           (subst (Corresponds bytes h l (Some (View new))) is (view_only bytes h l view new (thing_of s.store name) keeps still there_view))
 
       -- a view isn't written
-      pub read_only_makes : (x : Option store.Thing → Step) → ((v : LayoutView) (b : Beginning) → x (Some (AView v b)) ≡ only store_lines.ReadOnly s.store)
-          → MakesStep bytes seen core (left ++ record { name = name; thing = View view } ∷ []) s (x (thing_of s.store name)) (Ok answers.ReadOnly)
+      pub read_only_makes : (x : Option store.Thing → Step)
+          → ((v : LayoutView) (b : Beginning) → x (Some (AView v b)) ≡ only store_lines.ReadOnly s.store)
+          → MakesStep bytes seen core (left ++ record { name = name; thing = View view } ∷ []) s
+          (x (thing_of s.store name)) (Ok answers.ReadOnly)
       read_only_makes x is =
           let (b, there, sees, live, near, began) = its in
-          only_makes (left ++ record { name = name; thing = View view } ∷ []) (x (thing_of s.store name)) answers.ReadOnly store_lines.ReadOnly
+          only_makes (left ++ record { name = name; thing = View view } ∷ []) (x (thing_of s.store name))
+          answers.ReadOnly store_lines.ReadOnly
           (ap x there ∙ is (asked_view view) b) refl (view_back view refl (λ sees. sees))
 
     module _ (txn : Txn H R) (taken : IsTaken os left name (Some (Transaction txn))) where
@@ -193,12 +201,16 @@ module _ {H R : Type 0} (bytes : H → Option (List ℕ)) (seen : Option DiskSta
       pub write_makes : (new : Txn H R) (key : List ℕ) (change : Change) → OnlyWrites txn new
           → ((k : History) (reads : List Read) → Sees bytes txn k reads → Sees bytes new k reads)
           → (result : Result ⊤ SetFail) → IsWritten txn.writes key change new.writes result
-          → MakesStep bytes seen core (left ++ record { name = name; thing = Transaction new } ∷ []) s (write_by s.store name key change (thing_of s.store name)) (told_write result)
+          → MakesStep bytes seen core (left ++ record { name = name; thing = Transaction new } ∷ []) s
+          (write_by s.store name key change (thing_of s.store name)) (told_write result)
       write_makes new key change keeps sees result written =
           let (t, b, there, is, began) = itself in
-          let so = writes_so bytes s.store os left stands.names name txn new taken key change keeps t b there is began (sees h t.reads is.sees) result written in
+          let so = writes_so bytes s.store os left stands.names name txn new taken key change keeps t b there is began
+          (sees h t.reads is.sees) result written in
           let behind : List (Open H R) = left ++ record { name = name; thing = Transaction new } ∷ [] in
           let x : Step = write_by s.store name key change (thing_of s.store name) in
-          both (λ (answer : Answer). IsTold answer x.answer) (Stand bytes behind x.state.things h l) (StandsIn bytes seen core behind (state_by s x)) (told_write result)
-          (λ (names : Stand bytes behind x.state.things h l). quiet_stands bytes seen core os behind s x (write_quiet s.store name key change (thing_of s.store name)) stands names (write_sound key change))
+          both (λ (answer : Answer). IsTold answer x.answer) (Stand bytes behind x.state.things h l)
+          (StandsIn bytes seen core behind (state_by s x)) (told_write result)
+          (λ (names : Stand bytes behind x.state.things h l). quiet_stands bytes seen core os behind s x
+          (write_quiet s.store name key change (thing_of s.store name)) stands names (write_sound key change))
           so.told so.names

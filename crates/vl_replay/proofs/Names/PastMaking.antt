@@ -95,7 +95,8 @@ by_disk_past (Err gone.NoMemory) halts = halts
 by_disk_past (Err (gone.Disk name)) halts = halts
 by_disk_past (Err (gone.Damaged name place)) halts = halts
 
-pub past_not_by_disk : (read : Result (Option Stored) AtFail) (result : Result Answer Halt) → result ≡ told_past read → HaltsByDisk result → ⊥
+pub past_not_by_disk : (read : Result (Option Stored) AtFail) (result : Result Answer Halt) → result ≡ told_past read
+    → HaltsByDisk result → ⊥
 past_not_by_disk read result is halts = by_disk_past read (subst (λ (r : Result Answer Halt). HaltsByDisk r) is halts)
 
 -- ---- what is made
@@ -111,8 +112,10 @@ module _ {H R : Type 0} (bytes : H → Option (List ℕ)) (seen : Option DiskSta
   -- as the history has it
   answer_is : (b : Beginning) (own : ℕ) → at_answer_in s.store.commits b own key number ≡ at_answer h b own key number
   answer_is b own =
-      ap (λ (least : ℕ). at_answer_by own least (value_in s.store.commits number key) key number) (low_in-is s.store.commits stands.sound.proper.commits b.floor b.keep b.since key)
-      ∙ ap (λ (value : Option Stored). at_answer_by own (low h b.floor b.keep b.since key) value key number) (value_in-is s.store.commits stands.sound.proper.commits number key)
+      ap (λ (least : ℕ). at_answer_by own least (value_in s.store.commits number key) key number)
+      (low_in-is s.store.commits stands.sound.proper.commits b.floor b.keep b.since key)
+      ∙ ap (λ (value : Option Stored). at_answer_by own (low h b.floor b.keep b.since key) value key number)
+      (value_in-is s.store.commits stands.sound.proper.commits number key)
 
   -- it is told so, and nothing is changed
   past_makes : (behind : List (Open H R)) (answer : AtAnswer) → reading ≡ only (told_at answer) s.store

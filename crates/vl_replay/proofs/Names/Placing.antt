@@ -1,5 +1,6 @@
 -- What a name stands for is changed in its place: the names stand then as if it had been taken out and put back.
-use Rattle.std.proofs.Common.{◌≡◌, ◌+◌, ℕ, zero, suc, Bool, true, false, true≢false, cond, List, [], ◌∷◌, ◌++◌, refl, ap, sym, ◌∙◌, subst, ⊎_elim}
+use Rattle.std.proofs.Common.{◌≡◌, ◌+◌, ℕ, zero, suc, Bool, true, false, true≢false, cond, List, [], ◌∷◌, ◌++◌, refl}
+use Rattle.std.proofs.Common.{ap, sym, ◌∙◌, subst, ⊎_elim}
 use Rattle.std.specs.Prelude.{Option, None, Some, Result, Ok, Err, slice_index_or, slice_set}
 use Rattle.std.specs.Option.{option_map}
 use Rattle.std.specs.Ordering.{eq_by_cmp}
@@ -22,7 +23,9 @@ use Rattle.vl_replay.specs.declared.replayer.open.Open.{Open}
 use Rattle.vl_replay.specs.declared.replayer.open.Thing.{Thing}
 use Rattle.vl_script.specs.declared.answer.Answer.{Answer}
 use Rattle.vl_script.specs.declared.answer.Answer.TheVariants as answers
-use Rattle.vl_replay.proofs.Names.Lookups.{behind_some, named_so, on_false, on_true, open_beside, open_put, other_name, own_name, place_none, place_there, taken, taken_none, without_open}
+use Rattle.vl_replay.proofs.Names.Lookups.{behind_some, named_so, on_false, on_true, open_beside, open_put}
+use Rattle.vl_replay.proofs.Names.Lookups.{other_name, own_name, place_none, place_there, taken, taken_none}
+use Rattle.vl_replay.proofs.Names.Lookups.{without_open}
 use Rattle.vl_replay.proofs.Names.Making.{unknown_makes}
 use Rattle.vl_replay.proofs.Names.Standings.{same_or_not}
 
@@ -41,8 +44,10 @@ module _ {H R : Type 0} where
         found = on_true (eq_by_cmp key_cmp name o.name) (Some o.thing) (open_in os name)
             (subst (λ (n : Name). eq_by_cmp key_cmp name n ≡ true) (sym own) (own_name name));
         others = λ other apart.
-            on_false (eq_by_cmp key_cmp other o.name) (Some o.thing) (open_in os other) (other_name other o.name (λ same. apart (same ∙ own)))
-            ∙ sym (on_false (eq_by_cmp key_cmp other p.name) (Some p.thing) (open_in os other) (other_name other p.name (λ same. apart (same ∙ sym one))));
+            on_false (eq_by_cmp key_cmp other o.name) (Some o.thing) (open_in os other)
+            (other_name other o.name (λ same. apart (same ∙ own)))
+            ∙ sym (on_false (eq_by_cmp key_cmp other p.name) (Some p.thing) (open_in os other)
+            (other_name other p.name (λ same. apart (same ∙ sym one))));
         once = (subst (λ (n : Name). open_in os n ≡ None) (sym (own ∙ one)) once.0, once.1);
       }
 
@@ -50,7 +55,8 @@ module _ {H R : Type 0} where
       → open_in os p.name ≡ None → IsChanged os new name thing → IsChanged (p ∷ os) (p ∷ new) name thing
   changed_behind name p os new thing is none later = record {
     found = on_false (eq_by_cmp key_cmp name p.name) (Some p.thing) (open_in new name) is ∙ later.found;
-    others = λ other apart. ap (λ (x : Option (Thing H R)). cond (eq_by_cmp key_cmp other p.name) (Some p.thing) x) (later.others other apart);
+    others = λ other apart. ap (λ (x : Option (Thing H R)). cond (eq_by_cmp key_cmp other p.name) (Some p.thing) x)
+        (later.others other apart);
     once = (
       later.others p.name (λ same. true≢false (sym (own_name name) ∙ ap (eq_by_cmp key_cmp name) (sym same) ∙ is)) ∙ none,
       later.once,
@@ -61,7 +67,8 @@ module _ {H R : Type 0} where
   pub changed_at : (name : Name) (os : List (Open H R)) (at : ℕ) (o : Open H R) → o.name ≡ name → place_of name os ≡ Some at
       → AreOnce os → IsChanged os (slice_set os at o) name o.thing
   changed_at name [] at o own is once = absurd cc
-  changed_at name (p ∷ os) at o own is once = of (eq_by_cmp key_cmp name p.name) refl at is (λ n there. changed_at name os n o own there once.1)
+  changed_at name (p ∷ os) at o own is once = of (eq_by_cmp key_cmp name p.name) refl at is
+      (λ n there. changed_at name os n o own there once.1)
     where
       of : (b : Bool) → eq_by_cmp key_cmp name p.name ≡ b → (at : ℕ)
           → cond b (Some 0) (option_map (λ n. n + 1) (place_of name os)) ≡ Some at
@@ -75,7 +82,8 @@ module _ {H R : Type 0} where
           (changed_behind name p os (slice_set os n o) o.thing test once.0 (later n there))
 
   -- what stands at a name's place has that name
-  pub place_named : (name : Name) (os : List (Open H R)) (at : ℕ) → place_of name os ≡ Some at → (d : Open H R) → (slice_index_or os at d).name ≡ name
+  pub place_named : (name : Name) (os : List (Open H R)) (at : ℕ) → place_of name os ≡ Some at → (d : Open H R)
+      → (slice_index_or os at d).name ≡ name
   place_named name [] at is d = absurd cc
   place_named name (o ∷ os) at is d = of (eq_by_cmp key_cmp name o.name) refl at is (λ n there. place_named name os n there d)
     where
@@ -97,12 +105,14 @@ module _ {H R : Type 0} where
       ⊎_elim
       (λ (same : other ≡ name). subst (λ (q : Name). open_in (without_open name os ++ o ∷ []) q ≡ open_in new q) (sym same)
       (open_put (without_open name os) o out.none ∙ sym changed.found))
-      (λ (apart : other ≡ name → ⊥). open_beside (without_open name os) o other apart ∙ out.others other apart ∙ sym (changed.others other apart))
+      (λ (apart : other ≡ name → ⊥). open_beside (without_open name os) o other apart ∙ out.others other apart
+      ∙ sym (changed.others other apart))
       (same_or_not other name)
 
   -- ---- what stands so
 
-  module _ (bytes : H → Option (List ℕ)) (os new : List (Open H R)) (alike : (q : Name) → open_in os q ≡ open_in new q) (once : AreOnce new) where
+  module _ (bytes : H → Option (List ℕ)) (os new : List (Open H R)) (alike : (q : Name) → open_in os q ≡ open_in new q)
+      (once : AreOnce new) where
     pub stand_as : (ts : List (Name × store.Thing)) (h : History) (l : Layout) → Stand bytes os ts h l → Stand bytes new ts h l
     stand_as ts h l stand = record {
       each = λ q. subst (λ (x : Option (Thing H R)). Corresponds bytes h l x (store.thing_in ts q)) (alike q) (stand.each q);
@@ -110,7 +120,8 @@ module _ {H R : Type 0} where
       apart = stand.apart;
     }
 
-    pub makes_as : (seen : Option DiskState) (core : Core H) (s : State) (x : Step) (result : Result Answer Halt) → MakesStep bytes seen core os s x result → MakesStep bytes seen core new s x result
+    pub makes_as : (seen : Option DiskState) (core : Core H) (s : State) (x : Step) (result : Result Answer Halt)
+        → MakesStep bytes seen core os s x result → MakesStep bytes seen core new s x result
     makes_as seen core s x (Ok answer) (is, stands) = (
       is,
       record {
@@ -127,7 +138,8 @@ module _ {H R : Type 0} where
 
 -- ---- in the words of the functions that look a name up, and change what stands there
 
-module _ {H R : Type 0} (bytes : H → Option (List ℕ)) (seen : Option DiskState) (core : Core H) (os : List (Open H R)) (s : State) (stands : StandsIn bytes seen core os s)
+module _ {H R : Type 0} (bytes : H → Option (List ℕ)) (seen : Option DiskState) (core : Core H) (os : List (Open H R))
+    (s : State) (stands : StandsIn bytes seen core os s)
     -- the names as the call had them, and the name as it had it
     (slice : List (Open H R)) (value : slice ≡ os) (q name : Name) (same : q ≡ name) where
   place_is : (found : Option ℕ) → place_of q slice ≡ found → place_of name os ≡ found
@@ -138,7 +150,8 @@ module _ {H R : Type 0} (bytes : H → Option (List ℕ)) (seen : Option DiskSta
       → ((job : Job) (made : Made) → x (Some (AJob job made)) ≡ only (store_lines.Unknown name) s.store)
       → MakesStep bytes seen core os s (x (thing_of s.store name)) (Ok (answers.Unknown name))
   free_returns is x unknown merge =
-      unknown_makes bytes seen core os s stands os name (taken_none name os stands.names.once (place_none name os (place_is None is))) x unknown merge
+      unknown_makes bytes seen core os s stands os name
+      (taken_none name os stands.names.once (place_none name os (place_is None is))) x unknown merge
 
   module _ (at : ℕ) (is : place_of q slice ≡ Some at) (o : Open H R) (there : o ≡ slice_index_or os at o) where
     -- what stands there, as if it had been taken out
@@ -167,5 +180,6 @@ module _ {H R : Type 0} (bytes : H → Option (List ℕ)) (seen : Option DiskSta
         → MakesStep bytes seen core (without_open name os ++ record { name = name; thing = thing } ∷ []) s x result
         → MakesStep bytes seen core (slice_set os at (record { name = o.name; thing = o.thing })) s x result
     still_in_place thing thing_is x result makes =
-        subst (λ (t : Thing H R). MakesStep bytes seen core (slice_set os at (record { name = o.name; thing = t })) s x result) (sym thing_is)
+        subst (λ (t : Thing H R). MakesStep bytes seen core (slice_set os at (record { name = o.name; thing = t })) s x
+        result) (sym thing_is)
         (in_place thing x x result result refl refl makes)

@@ -31,7 +31,8 @@ pub record IsQuiet (s : store.State) (x : Step) : Type 0 where
   pub layout : x.state.layout ≡ s.layout
 
 -- Then the engine stands for what it did.
-pub quiet_stands : {H R : Type 0} (bytes : H → Option (List ℕ)) (seen : Option DiskState) (core : Core H) (os new : List (Open H R)) (s : State) (x : Step)
+pub quiet_stands : {H R : Type 0} (bytes : H → Option (List ℕ)) (seen : Option DiskState) (core : Core H)
+    (os new : List (Open H R)) (s : State) (x : Step)
     → IsQuiet s.store x → StandsIn bytes seen core os s → Stand bytes new x.state.things (history_of s) s.store.layout
     → IsSound (state_by s x) → StandsIn bytes seen core new (state_by s x)
 quiet_stands bytes seen core os new s x quiet stands names sound = record {
@@ -58,11 +59,13 @@ module _ (s : store.State) where
   either true x y p q = p
   either false x y p q = q
 
-  own_quiet : (name : Name) (tell : Option Stored → Answer) (t : ATxn) (b : Beginning) (key : List ℕ) (o : Option Change) → IsQuiet s (get_own s name tell t b key o)
+  own_quiet : (name : Name) (tell : Option Stored → Answer) (t : ATxn) (b : Beginning) (key : List ℕ)
+      (o : Option Change) → IsQuiet s (get_own s name tell t b key o)
   own_quiet name tell t b key (Some change) = quiet _ refl refl
   own_quiet name tell t b key None = quiet _ refl refl
 
-  pub get_quiet : (name : Name) (tell : Option Stored → Answer) (key : List ℕ) (o : Option store.Thing) → IsQuiet s (get_by s name tell key o)
+  pub get_quiet : (name : Name) (tell : Option Stored → Answer) (key : List ℕ) (o : Option store.Thing)
+      → IsQuiet s (get_by s name tell key o)
   get_quiet name tell key None = quiet _ refl refl
   get_quiet name tell key (Some (AJob job made)) = quiet _ refl refl
   get_quiet name tell key (Some (APass pass batch)) = quiet _ refl refl
@@ -77,7 +80,8 @@ module _ (s : store.State) where
   get_at_quiet name key number (Some (AView v b)) = quiet _ refl refl
   get_at_quiet name key number (Some (ATransaction t b)) = quiet _ refl refl
 
-  pub scan_quiet : (way : Way) (name : Name) (low high : List ℕ) (limit : ℕ) (o : Option store.Thing) → IsQuiet s (scan_by s way name low high limit o)
+  pub scan_quiet : (way : Way) (name : Name) (low high : List ℕ) (limit : ℕ) (o : Option store.Thing)
+      → IsQuiet s (scan_by s way name low high limit o)
   scan_quiet way name low high limit None = quiet _ refl refl
   scan_quiet way name low high limit (Some (AJob job made)) = quiet _ refl refl
   scan_quiet way name low high limit (Some (APass pass batch)) = quiet _ refl refl

@@ -1,9 +1,11 @@
 -- What reads and scans through a name make.
-use Rattle.std.proofs.Common.{◌≡◌, ℕ, ◌==◌, Bool, true, false, cond, ◌&&◌, not, List, [], ◌∷◌, ◌++◌, length, refl, ap, sym, ◌∙◌, subst, arith}
+use Rattle.std.proofs.Common.{◌≡◌, ℕ, ◌==◌, Bool, true, false, cond, ◌&&◌, not, List, [], ◌∷◌, ◌++◌, length, refl, ap}
+use Rattle.std.proofs.Common.{sym, ◌∙◌, subst, arith}
 use Rattle.std.specs.Prelude.{Option, None, Some, Ok, Err, Result, IfOk, OnOk, OnErr, nat_le}
 use Rattle.vl_disk.specs.DiskState.{DiskState}
 use Rattle.vl_disk.specs.Faults.{HasCause}
-use Rattle.vl_engine.specs.Reading.{IsRefusedBy, IsSound as IsSoundRead, NotesNothing, OnlyNotes, OnlyReads, ReadFailed, either, value_under}
+use Rattle.vl_engine.specs.Reading.{IsRefusedBy, IsSound as IsSoundRead, NotesNothing, OnlyNotes, OnlyReads}
+use Rattle.vl_engine.specs.Reading.{ReadFailed, either, value_under}
 use Rattle.vl_engine.specs.Sees.{Sees, SeesAlone}
 use Rattle.vl_engine.specs.declared.fails.ReadFail.{ReadFail}
 use Rattle.vl_engine.specs.declared.fails.ReadFail.TheVariants as unread
@@ -49,16 +51,19 @@ key_tests true short is = absurd cc
 key_tests false true is = refl
 key_tests false false is = absurd cc
 
-key_refused : (empty short : Bool) (why : KeyFail) → cond empty (Some EmptyKey) (cond short None (Some KeyTooLong)) ≡ Some why → (not empty && short) ≡ false
+key_refused : (empty short : Bool) (why : KeyFail)
+    → cond empty (Some EmptyKey) (cond short None (Some KeyTooLong)) ≡ Some why → (not empty && short) ≡ false
 key_refused true short why is = refl
 key_refused false true why is = absurd cc
 key_refused false false why is = refl
 
 pub key_fits : (key : List ℕ) → refused_key key ≡ None → is_key_length (length key) ≡ true
-key_fits key is = ap (λ (e : Bool). e && nat_le (length key) max_key_bytes) (some_byte (length key)) ∙ key_tests (length key == 0) (nat_le (length key) max_key_bytes) is
+key_fits key is = ap (λ (e : Bool). e && nat_le (length key) max_key_bytes) (some_byte (length key))
+    ∙ key_tests (length key == 0) (nat_le (length key) max_key_bytes) is
 
 pub key_unfit : (key : List ℕ) (why : KeyFail) → refused_key key ≡ Some why → is_key_length (length key) ≡ false
-key_unfit key why is = ap (λ (e : Bool). e && nat_le (length key) max_key_bytes) (some_byte (length key)) ∙ key_refused (length key == 0) (nat_le (length key) max_key_bytes) why is
+key_unfit key why is = ap (λ (e : Bool). e && nat_le (length key) max_key_bytes) (some_byte (length key))
+    ∙ key_refused (length key == 0) (nat_le (length key) max_key_bytes) why is
 
 abbrev pub by_bounds : Bool → Bool → Option KeyFail
 by_bounds low high = either (cond low None (Some KeyTooLong)) (cond high None (Some KeyTooLong))
@@ -99,15 +104,18 @@ not_by_disk tell (Err (unread.Disk name)) halts = halts
 not_by_disk tell (Err (unread.Damaged name place)) halts = halts
 
 -- so it is with what a call answers that tells it
-pub call_sound : {V : Type 0} (tell : V → Answer) (read : Result V ReadFail) (result : Result Answer Halt) → result ≡ told_by tell read → IsSoundRead read
+pub call_sound : {V : Type 0} (tell : V → Answer) (read : Result V ReadFail) (result : Result Answer Halt)
+    → result ≡ told_by tell read → IsSoundRead read
     → (ReadFailed read → ⊥) → OnlyNoMemory result
 call_sound tell read result is sound near = subst (λ (r : Result Answer Halt). OnlyNoMemory r) (sym is) (sound_told tell read sound near)
 
-pub call_not_by_disk : {V : Type 0} (tell : V → Answer) (read : Result V ReadFail) (result : Result Answer Halt) → result ≡ told_by tell read → HaltsByDisk result → ⊥
+pub call_not_by_disk : {V : Type 0} (tell : V → Answer) (read : Result V ReadFail) (result : Result Answer Halt)
+    → result ≡ told_by tell read → HaltsByDisk result → ⊥
 call_not_by_disk tell read result is halts = not_by_disk tell read (subst (λ (r : Result Answer Halt). HaltsByDisk r) is halts)
 
 -- no damage is told where none was met,
-undamaged_told : {V : Type 0} (tell : V → Answer) (result : Result V ReadFail) → IsSoundRead result → HaltsByDamage (told_by tell result) → ⊥
+undamaged_told : {V : Type 0} (tell : V → Answer) (result : Result V ReadFail) → IsSoundRead result
+    → HaltsByDamage (told_by tell result) → ⊥
 undamaged_told tell (Ok value) sound halts = halts
 undamaged_told tell (Err unread.EmptyKey) sound halts = halts
 undamaged_told tell (Err unread.KeyTooLong) sound halts = halts
@@ -115,9 +123,11 @@ undamaged_told tell (Err unread.NoMemory) sound halts = halts
 undamaged_told tell (Err (unread.Disk name)) sound halts = halts
 undamaged_told tell (Err (unread.Damaged name place)) sound halts = sound tt
 
-pub call_undamaged : {V : Type 0} (tell : V → Answer) (read : Result V ReadFail) (result : Result Answer Halt) → result ≡ told_by tell read → IsSoundRead read
+pub call_undamaged : {V : Type 0} (tell : V → Answer) (read : Result V ReadFail) (result : Result Answer Halt)
+    → result ≡ told_by tell read → IsSoundRead read
     → HaltsByDamage result → ⊥
-call_undamaged tell read result is sound halts = undamaged_told tell read sound (subst (λ (r : Result Answer Halt). HaltsByDamage r) is halts)
+call_undamaged tell read result is sound halts = undamaged_told tell read sound
+    (subst (λ (r : Result Answer Halt). HaltsByDamage r) is halts)
 
 -- and a reader's fault where its reader failed
 failed_told : {V : Type 0} (tell : V → Answer) (result : Result V ReadFail) → HaltsByReader (told_by tell result) → ReadFailed result
@@ -135,7 +145,8 @@ call_counted tell read result is faults old new cause halts =
     let rose = cause.rose (failed_told tell read (subst (λ (r : Result Answer Halt). HaltsByReader r) is halts)) in
     record { reader = new; some = omega (arith, rose) }
 
-module _ {H R : Type 0} (bytes : H → Option (List ℕ)) (seen : Option DiskState) (core : Core H) (os : List (Open H R)) (s : State) (stands : StandsIn bytes seen core os s)
+module _ {H R : Type 0} (bytes : H → Option (List ℕ)) (seen : Option DiskState) (core : Core H) (os : List (Open H R))
+    (s : State) (stands : StandsIn bytes seen core os s)
     (left : List (Open H R)) (name : Name) where
   abbrev h : History
   h = history_of s
@@ -162,23 +173,30 @@ module _ {H R : Type 0} (bytes : H → Option (List ℕ)) (seen : Option DiskSta
     pub view_read_makes : (key : List ℕ) (with_tag : Bool) (result : Result (Option Stored) ReadFail) → IsRefusedBy (refused_key key) result
         → ((k : History) → SeesAlone bytes view k → IfOk result (λ value. value ≡ value_at k view.number key))
         → MakesStep bytes seen core behind s (reading with_tag key) (told_by (told_value with_tag) result)
-    view_read_makes key with_tag result refused value = of result refused (let (b, there, sees, live, near, began) = its bytes seen core os s stands left name view taken in value h sees)
+    view_read_makes key with_tag result refused value = of result refused
+        (let (b, there, sees, live, near, began) = its bytes seen core os s stands left name view taken in value h sees)
       where
         step_is : reading with_tag key ≡ view_step key with_tag view.number (is_key_length (length key))
-        step_is = let (b, there, sees, live, near, began) = its bytes seen core os s stands left name view taken in ap (get_by s.store name (tell_of with_tag) key) there
+        step_is = let (b, there, sees, live, near, began) = its bytes seen core os s stands left name view taken in ap
+            (get_by s.store name (tell_of with_tag) key) there
 
-        of : (result : Result (Option Stored) ReadFail) → IsRefusedBy (refused_key key) result → IfOk result (λ value. value ≡ value_at h view.number key)
+        of : (result : Result (Option Stored) ReadFail) → IsRefusedBy (refused_key key) result
+            → IfOk result (λ value. value ≡ value_at h view.number key)
             → MakesStep bytes seen core behind s (reading with_tag key) (told_by (told_value with_tag) result)
         of (Ok value) refused is =
-            only_makes bytes seen core os s stands behind (reading with_tag key) (told_value with_tag value) (tell_of with_tag (value_in s.store.commits view.number key))
+            only_makes bytes seen core os s stands behind (reading with_tag key) (told_value with_tag value)
+            (tell_of with_tag (value_in s.store.commits view.number key))
             (step_is ∙ ap (view_step key with_tag view.number) (key_fits key refused))
-            (told_is with_tag value ∙ ap (λ (v : Option Stored). without_lengths (tell_of with_tag v)) (is ∙ sym (value_in-is s.store.commits stands.sound.proper.commits view.number key)))
+            (told_is with_tag value ∙ ap (λ (v : Option Stored). without_lengths (tell_of with_tag v))
+            (is ∙ sym (value_in-is s.store.commits stands.sound.proper.commits view.number key)))
             (view_back bytes seen core os s stands left name view taken new keeps (still h))
         of (Err unread.EmptyKey) refused is =
-            only_makes bytes seen core os s stands behind (reading with_tag key) answers.Invalid store_lines.Invalid (step_is ∙ ap (view_step key with_tag view.number) (key_unfit key EmptyKey refused)) refl
+            only_makes bytes seen core os s stands behind (reading with_tag key) answers.Invalid store_lines.Invalid
+            (step_is ∙ ap (view_step key with_tag view.number) (key_unfit key EmptyKey refused)) refl
             (view_back bytes seen core os s stands left name view taken new keeps (still h))
         of (Err unread.KeyTooLong) refused is =
-            only_makes bytes seen core os s stands behind (reading with_tag key) answers.Invalid store_lines.Invalid (step_is ∙ ap (view_step key with_tag view.number) (key_unfit key KeyTooLong refused)) refl
+            only_makes bytes seen core os s stands behind (reading with_tag key) answers.Invalid store_lines.Invalid
+            (step_is ∙ ap (view_step key with_tag view.number) (key_unfit key KeyTooLong refused)) refl
             (view_back bytes seen core os s stands left name view taken new keeps (still h))
         of (Err unread.NoMemory) refused is = tt
         of (Err (unread.Disk file)) refused is = tt
@@ -191,8 +209,10 @@ module _ {H R : Type 0} (bytes : H → Option (List ℕ)) (seen : Option DiskSta
     pub txn_read_makes : (key : List ℕ) (with_tag : Bool) (result : Result (Option Stored) ReadFail) → IsRefusedBy (refused_key key) result
         → OnErr result (NotesNothing txn new)
         → ((k : History) (reads : List Read) → Sees bytes txn k reads → OnErr result (Sees bytes new k reads))
-        → ((k : History) (reads : List Read) → Sees bytes txn k reads → IfOk result (λ value. value ≡ value_under txn.writes k txn.number key))
-        → ((k : History) (reads : List Read) → Sees bytes txn k reads → OnOk result (Sees bytes new k (noting.with_get txn.writes reads key (value_at k txn.number key))))
+        → ((k : History) (reads : List Read) → Sees bytes txn k reads
+        → IfOk result (λ value. value ≡ value_under txn.writes k txn.number key))
+        → ((k : History) (reads : List Read) → Sees bytes txn k reads
+        → OnOk result (Sees bytes new k (noting.with_get txn.writes reads key (value_at k txn.number key))))
         → MakesStep bytes seen core behind_it s (reading with_tag key) (told_by (told_value with_tag) result)
     txn_read_makes key with_tag result refused kept still value sees = of result refused kept still value sees
       where
@@ -202,19 +222,24 @@ module _ {H R : Type 0} (bytes : H → Option (List ℕ)) (seen : Option DiskSta
         invalid why refused same still =
             let (t, b, there, is, began) = itself bytes seen core os s stands left name txn taken in
             only_makes bytes seen core os s stands behind_it (reading with_tag key) answers.Invalid store_lines.Invalid
-            (ap (get_by s.store name (tell_of with_tag) key) there ∙ on_false (is_key_length (length key)) _ (only store_lines.Invalid s.store) (key_unfit key why refused)) refl
+            (ap (get_by s.store name (tell_of with_tag) key) there
+            ∙ on_false (is_key_length (length key)) _ (only store_lines.Invalid s.store) (key_unfit key why refused)) refl
             (txn_back bytes seen core os s stands left name txn taken new same (still h))
 
         of : (result : Result (Option Stored) ReadFail) → IsRefusedBy (refused_key key) result → OnErr result (NotesNothing txn new)
             → ((k : History) (reads : List Read) → Sees bytes txn k reads → OnErr result (Sees bytes new k reads))
-            → ((k : History) (reads : List Read) → Sees bytes txn k reads → IfOk result (λ value. value ≡ value_under txn.writes k txn.number key))
-            → ((k : History) (reads : List Read) → Sees bytes txn k reads → OnOk result (Sees bytes new k (noting.with_get txn.writes reads key (value_at k txn.number key))))
+            → ((k : History) (reads : List Read) → Sees bytes txn k reads
+            → IfOk result (λ value. value ≡ value_under txn.writes k txn.number key))
+            → ((k : History) (reads : List Read) → Sees bytes txn k reads
+            → OnOk result (Sees bytes new k (noting.with_get txn.writes reads key (value_at k txn.number key))))
             → MakesStep bytes seen core behind_it s (reading with_tag key) (told_by (told_value with_tag) result)
         of (Ok found) refused kept still value sees =
             let (t, b, there, is, began) = itself bytes seen core os s stands left name txn taken in
-            let so = reads_so bytes s.store stands.sound.proper.commits os left stands.names name txn new taken key (key_fits key refused) keeps (tell_of with_tag) t b there is began (sees h t.reads is.sees) in (
+            let so = reads_so bytes s.store stands.sound.proper.commits os left stands.names name txn new taken key
+            (key_fits key refused) keeps (tell_of with_tag) t b there is began (sees h t.reads is.sees) in (
               told_is with_tag found ∙ ap without_lengths (ap (tell_of with_tag) (value h t.reads is.sees) ∙ sym so.answer),
-              quiet_stands bytes seen core os behind_it s (reading with_tag key) (get_quiet s.store name (tell_of with_tag) key (thing_of s.store name)) stands so.names (read_sound with_tag key),
+              quiet_stands bytes seen core os behind_it s (reading with_tag key)
+                  (get_quiet s.store name (tell_of with_tag) key (thing_of s.store name)) stands so.names (read_sound with_tag key),
             )
         of (Err unread.EmptyKey) refused kept still value sees = invalid EmptyKey refused kept still
         of (Err unread.KeyTooLong) refused kept still value sees = invalid KeyTooLong refused kept still

@@ -59,7 +59,8 @@ module _ {H R : Type 0} (bytes : H → Option (List ℕ)) (h : History) (l : Lay
       → (b : Beginning) × (y ≡ Some (AView (asked_view view) b)) × SeesAlone bytes view h × IsLive l view.ticket view.number
       × (IsWithoutTables l → IsInMemory view.version) × (beginning view.past ≡ b)
   its_view view None is = absurd is
-  its_view view (Some (AView v b)) (same, sees, live, near, began) = (b, ap (λ (w : _). Some (AView w b)) (sym same), sees, live, near, began)
+  its_view view (Some (AView v b))
+      (same, sees, live, near, began) = (b, ap (λ (w : _). Some (AView w b)) (sym same), sees, live, near, began)
   its_view view (Some (ATransaction t b)) is = absurd is
   its_view view (Some (AJob job made)) is = absurd is
   its_view view (Some (APass pass batch)) is = absurd is
@@ -97,10 +98,12 @@ module _ {H R : Type 0} (bytes : H → Option (List ℕ)) (h : History) (l : Lay
       → Stand bytes (left ++ record { name = name; thing = new } ∷ []) (named name y ts) h l
   put_back os left ts name old new x y stand taken is ticket there =
       stands_with bytes ts h h l l os left stand name (Some old) taken (λ other apart a b at same. same) new y there
-      (λ other z apart at reads same. apart (stand.apart other name z x at is reads (it_reads os left ts name old x stand taken is) (sym same ∙ sym ticket)))
+      (λ other z apart at reads same. apart
+      (stand.apart other name z x at is reads (it_reads os left ts name old x stand taken is) (sym same ∙ sym ticket)))
 
 -- nothing that reads, on both sides: what holds of nothing and of each merge holds of it
-pub no_reader : (H R : Type 0) (bytes : H → Option (List ℕ)) (h : History) (l : Layout) (P : Option store.Thing → Type 0) (y : Option store.Thing)
+pub no_reader : (H R : Type 0) (bytes : H → Option (List ℕ)) (h : History) (l : Layout)
+    (P : Option store.Thing → Type 0) (y : Option store.Thing)
     → Corresponds {H = H} {R = R} bytes h l None y → P None → ((job : Job) (made : Made) → P (Some (AJob job made))) → P y
 no_reader H R bytes h l P None is none merge = none
 no_reader H R bytes h l P (Some (ATransaction t b)) is none merge = absurd is
@@ -138,12 +141,16 @@ module _ {H R : Type 0} (bytes : H → Option (List ℕ)) (s : store.State) (pro
         × Stand bytes (left ++ record { name = name; thing = Transaction new } ∷ []) x.state.things h s.layout
     by_own (Some change) own = (
       refl,
-      stand_alike bytes h s.layout (left ++ record { name = name; thing = Transaction new } ∷ []) (named name (ATransaction t b) s.things) s.things
+      stand_alike bytes h s.layout (left ++ record { name = name; thing = Transaction new } ∷ [])
+          (named name (ATransaction t b) s.things) s.things
           (named_again s.things name (ATransaction t b) there)
-          (put_back bytes h s.layout os left s.things name (Transaction txn) (Transaction new) (ATransaction t b) (ATransaction t b) stand taken there refl (
+          (put_back bytes h s.layout os left s.things name (Transaction txn) (Transaction new) (ATransaction t b)
+          (ATransaction t b) stand taken there refl (
             (record {
               same = only_notes_asked txn new t.reads keeps ∙ is.same;
-              sees = subst (Sees bytes new h) (on_true (is_some (get txn.writes key)) t.reads (t.reads ++ KeyRead key (value_at h txn.number key) ∷ []) (ap is_some own)) sees;
+              sees = subst (Sees bytes new h)
+                  (on_true (is_some (get txn.writes key)) t.reads
+                  (t.reads ++ KeyRead key (value_at h txn.number key) ∷ []) (ap is_some own)) sees;
               live = subst (λ (x : Txn H R). IsLive s.layout x.ticket x.number) (sym keeps) is.live;
               near = λ none. subst (λ (x : Txn H R). IsInMemory x.version) (sym keeps) (is.near none);
             }),
@@ -152,16 +159,18 @@ module _ {H R : Type 0} (bytes : H → Option (List ℕ)) (s : store.State) (pro
     )
     by_own None own = (
       ap tell value,
-      put_back bytes h s.layout os left s.things name (Transaction txn) (Transaction new) (ATransaction t b) (ATransaction noted b) stand taken there refl (
-        (record {
-          same = only_notes_asked txn new noted.reads keeps ∙ ap (λ (u : ATxn). record u { reads = noted.reads }) is.same;
-          sees = subst (Sees bytes new h) (on_false (is_some (get txn.writes key)) t.reads (t.reads ++ KeyRead key (value_at h txn.number key) ∷ []) (ap is_some own)
-              ∙ ap (λ (v : Option Stored). t.reads ++ KeyRead key v ∷ []) (sym value)) sees;
-          live = subst (λ (x : Txn H R). IsLive s.layout x.ticket x.number) (sym keeps) is.live;
-          near = λ none. subst (λ (x : Txn H R). IsInMemory x.version) (sym keeps) (is.near none);
-        }),
-        ap (λ (x : Txn H R). beginning x.past) keeps ∙ began,
-      ),
+      put_back bytes h s.layout os left s.things name (Transaction txn) (Transaction new) (ATransaction t b)
+          (ATransaction noted b) stand taken there refl (
+            (record {
+              same = only_notes_asked txn new noted.reads keeps ∙ ap (λ (u : ATxn). record u { reads = noted.reads }) is.same;
+              sees = subst (Sees bytes new h)
+                  (on_false (is_some (get txn.writes key)) t.reads (t.reads ++ KeyRead key (value_at h txn.number key) ∷ []) (ap is_some own)
+                  ∙ ap (λ (v : Option Stored). t.reads ++ KeyRead key v ∷ []) (sym value)) sees;
+              live = subst (λ (x : Txn H R). IsLive s.layout x.ticket x.number) (sym keeps) is.live;
+              near = λ none. subst (λ (x : Txn H R). IsInMemory x.version) (sym keeps) (is.near none);
+            }),
+            ap (λ (x : Txn H R). beginning x.past) keeps ∙ began,
+          ),
     )
       where
         -- the number is the transaction's
@@ -184,5 +193,6 @@ module _ {H R : Type 0} (bytes : H → Option (List ℕ)) (s : store.State) (pro
         let (answer, names) = by_own (get txn.writes key) refl in
         record {
           answer = ap (λ (x : Step). x.answer) step ∙ answer;
-          names = subst (λ (x : Step). Stand bytes (left ++ record { name = name; thing = Transaction new } ∷ []) x.state.things h s.layout) (sym step) names;
+          names = subst (λ (x : Step). Stand bytes (left ++ record { name = name; thing = Transaction new } ∷ [])
+              x.state.things h s.layout) (sym step) names;
         }

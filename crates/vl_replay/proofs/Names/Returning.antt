@@ -24,7 +24,8 @@ use Rattle.vl_script.specs.declared.line.Line.{Line}
 use Rattle.vl_script.specs.declared.answer.Answer.TheVariants as answers
 use Rattle.vl_replay.proofs.Names.Making.{read_only_makes, unknown_makes}
 
-module _ {H R : Type 0} (bytes : H → Option (List ℕ)) (seen : Option DiskState) (core : Core H) (os left : List (Open H R)) (s : State) (stands : StandsIn bytes seen core os s)
+module _ {H R : Type 0} (bytes : H → Option (List ℕ)) (seen : Option DiskState) (core : Core H)
+    (os left : List (Open H R)) (s : State) (stands : StandsIn bytes seen core os s)
     -- the name as the call had it, and as the line has it
     (q name : Name) (same : q ≡ name) where
   -- it was taken out
@@ -32,15 +33,18 @@ module _ {H R : Type 0} (bytes : H → Option (List ℕ)) (seen : Option DiskSta
   taken_as thing taken = subst (λ (n : Name). IsTaken os left n thing) same (taken stands.names.once)
 
   -- with this thing, which was found there
-  pub taken_out : (found thing : Thing H R) → found ≡ thing → (AreOnce os → IsTaken os left q (Some found)) → IsTaken os left name (Some thing)
+  pub taken_out : (found thing : Thing H R) → found ≡ thing → (AreOnce os → IsTaken os left q (Some found))
+      → IsTaken os left name (Some thing)
   taken_out found thing is taken = subst (λ (x : Thing H R). IsTaken os left name (Some x)) is (taken_as (Some found) taken)
 
-  pub unknown_returns : (AreOnce os → IsTaken os left q None) → (x : Option store.Thing → Step) → x None ≡ only (store_lines.Unknown name) s.store
+  pub unknown_returns : (AreOnce os → IsTaken os left q None) → (x : Option store.Thing → Step)
+      → x None ≡ only (store_lines.Unknown name) s.store
       → ((job : Job) (made : Made) → x (Some (AJob job made)) ≡ only (store_lines.Unknown name) s.store)
       → MakesStep bytes seen core left s (x (thing_of s.store name)) (Ok (answers.Unknown name))
   unknown_returns taken x is merge = unknown_makes bytes seen core os s stands left name (taken_as None taken) x is merge
 
-  pub read_only_returns : (view : EngineView H R) (new : List (Open H R)) (found : Thing H R) → found ≡ View view → (AreOnce os → IsTaken os left q (Some found))
+  pub read_only_returns : (view : EngineView H R) (new : List (Open H R)) (found : Thing H R) → found ≡ View view
+      → (AreOnce os → IsTaken os left q (Some found))
       → new ≡ left ++ record { name = name; thing = View view } ∷ []
       → (x : Option store.Thing → Step) → ((v : LayoutView) (b : Beginning) → x (Some (AView v b)) ≡ only store_lines.ReadOnly s.store)
       → MakesStep bytes seen core new s (x (thing_of s.store name)) (Ok answers.ReadOnly)
@@ -49,7 +53,8 @@ module _ {H R : Type 0} (bytes : H → Option (List ℕ)) (seen : Option DiskSta
       (read_only_makes bytes seen core os s stands left name view (taken_out found (View view) found_is taken) x is)
 
 -- over the names that there are then, for the same step, and as the call answers
-pub returns_so : {H R : Type 0} (bytes : H → Option (List ℕ)) (seen : Option DiskState) (core : Core H) (put new : List (Open H R)) (s : State) (x y : Step) (told result : Result Answer Halt)
+pub returns_so : {H R : Type 0} (bytes : H → Option (List ℕ)) (seen : Option DiskState) (core : Core H)
+    (put new : List (Open H R)) (s : State) (x y : Step) (told result : Result Answer Halt)
     → new ≡ put → x ≡ y → result ≡ told → MakesStep bytes seen core put s x told → MakesStep bytes seen core new s y result
 returns_so {H} {R} bytes seen core put new s x y told result names same is makes =
     subst (λ (r : Result Answer Halt). MakesStep bytes seen core new s y r) (sym is)

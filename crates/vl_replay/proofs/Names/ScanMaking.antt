@@ -44,7 +44,8 @@ use Rattle.vl_replay.proofs.Names.Scanning.{same_writes, scan_answer, scan_names
 pub no_writes : from_sorted [] ≡ empty {K = List ℕ} {X = Change} {R = key_cmp}
 no_writes = ap (from_sorted {R = key_cmp}) (sym no_entries) ∙ same_writes empty
 
-module _ {H R : Type 0} (bytes : H → Option (List ℕ)) (seen : Option DiskState) (core : Core H) (os : List (Open H R)) (s : State) (stands : StandsIn bytes seen core os s)
+module _ {H R : Type 0} (bytes : H → Option (List ℕ)) (seen : Option DiskState) (core : Core H) (os : List (Open H R))
+    (s : State) (stands : StandsIn bytes seen core os s)
     (left : List (Open H R)) (name : Name) (way : Way) (low high : List ℕ) (limit : ℕ) where
   abbrev h : History
   h = history_of s
@@ -58,7 +59,8 @@ module _ {H R : Type 0} (bytes : H → Option (List ℕ)) (seen : Option DiskSta
   -- a view's step, by whether the bounds fit
   abbrev view_step : ℕ → Bool → Step
   view_step number fits =
-      cond fits (only (store_lines.Rows (rows_told (scanned_rows s.store way low high limit [] number))) s.store) (only store_lines.Invalid s.store)
+      cond fits (only (store_lines.Rows (rows_told (scanned_rows s.store way low high limit [] number))) s.store)
+      (only store_lines.Invalid s.store)
 
   fit : refused_bounds low high ≡ None → within ≡ true
   fit is = bound_tests (nat_le (length low) max_key_bytes) (nat_le (length high) max_key_bytes) is
@@ -66,29 +68,36 @@ module _ {H R : Type 0} (bytes : H → Option (List ℕ)) (seen : Option DiskSta
   unfit : (why : KeyFail) → refused_bounds low high ≡ Some why → within ≡ false
   unfit why is = bounds_refused (nat_le (length low) max_key_bytes) (nat_le (length high) max_key_bytes) why is
 
-  module _ {V : Type 0} (items : V → List Row) (tell : V → Answer) (as_rows : (rows : V) → IsTold (tell rows) (store_lines.Rows (rows_told (items rows)))) where
+  module _ {V : Type 0} (items : V → List Row) (tell : V → Answer)
+      (as_rows : (rows : V) → IsTold (tell rows) (store_lines.Rows (rows_told (items rows)))) where
     pub view_scan_makes : (view new : EngineView H R) → IsTaken os left name (Some (View view)) → OnlyReads view new
         → ((k : History) → SeesAlone bytes view k → SeesAlone bytes new k)
         → (result : Result V ReadFail) → IsRefusedBy (refused_bounds low high) result
         → ((k : History) → SeesAlone bytes view k → IfOk result (λ rows. items rows ≡ rows_under empty k view.number low high limit way))
         → MakesStep bytes seen core (left ++ record { name = name; thing = View new } ∷ []) s scanning (told_by tell result)
-    view_scan_makes view new taken keeps still result refused rows_are_so = of result refused (let (b, there, sees, live, near, began) = its bytes seen core os s stands left name view taken in rows_are_so h sees)
+    view_scan_makes view new taken keeps still result refused rows_are_so = of result refused
+        (let (b, there, sees, live, near, began) = its bytes seen core os s stands left name view taken in rows_are_so h sees)
       where
         step_is : scanning ≡ view_step view.number within
-        step_is = let (b, there, sees, live, near, began) = its bytes seen core os s stands left name view taken in ap (scan_by s.store way name low high limit) there
+        step_is = let (b, there, sees, live, near, began) = its bytes seen core os s stands left name view taken in ap
+            (scan_by s.store way name low high limit) there
 
         store_rows : scanned_rows s.store way low high limit [] view.number ≡ rows_under empty h view.number low high limit way
         store_rows = rows_are s.store stands.sound.proper.commits way low high limit [] view.number tt
             ∙ ap (λ (w : Writes). rows_of (contents_at h view.number) (noting.scan_of low high limit way [] w)) no_writes
 
-        invalid : (why : KeyFail) → refused_bounds low high ≡ Some why → MakesStep bytes seen core (left ++ record { name = name; thing = View new } ∷ []) s scanning (Ok answers.Invalid)
-        invalid why is = only_makes bytes seen core os s stands (left ++ record { name = name; thing = View new } ∷ []) scanning answers.Invalid store_lines.Invalid (step_is ∙ ap (view_step view.number) (unfit why is)) refl
+        invalid : (why : KeyFail) → refused_bounds low high ≡ Some why
+            → MakesStep bytes seen core (left ++ record { name = name; thing = View new } ∷ []) s scanning (Ok answers.Invalid)
+        invalid why is = only_makes bytes seen core os s stands (left ++ record { name = name; thing = View new } ∷ [])
+            scanning answers.Invalid store_lines.Invalid (step_is ∙ ap (view_step view.number) (unfit why is)) refl
             (view_back bytes seen core os s stands left name view taken new keeps (still h))
 
-        of : (result : Result V ReadFail) → IsRefusedBy (refused_bounds low high) result → IfOk result (λ rows. items rows ≡ rows_under empty h view.number low high limit way)
+        of : (result : Result V ReadFail) → IsRefusedBy (refused_bounds low high) result
+            → IfOk result (λ rows. items rows ≡ rows_under empty h view.number low high limit way)
             → MakesStep bytes seen core (left ++ record { name = name; thing = View new } ∷ []) s scanning (told_by tell result)
         of (Ok rows) refused is =
-            only_makes bytes seen core os s stands (left ++ record { name = name; thing = View new } ∷ []) scanning (tell rows) (store_lines.Rows (rows_told (scanned_rows s.store way low high limit [] view.number)))
+            only_makes bytes seen core os s stands (left ++ record { name = name; thing = View new } ∷ []) scanning
+            (tell rows) (store_lines.Rows (rows_told (scanned_rows s.store way low high limit [] view.number)))
             (step_is ∙ ap (view_step view.number) (fit refused))
             (as_rows rows ∙ ap (λ (rs : List Row). store_lines.Rows (rows_told rs)) (is ∙ sym store_rows))
             (view_back bytes seen core os s stands left name view taken new keeps (still h))
@@ -101,7 +110,8 @@ module _ {H R : Type 0} (bytes : H → Option (List ℕ)) (seen : Option DiskSta
     pub txn_scan_makes : (txn new : Txn H R) → IsTaken os left name (Some (Transaction txn)) → OnlyNotes txn new
         → (result : Result V ReadFail) → IsRefusedBy (refused_bounds low high) result → OnErr result (NotesNothing txn new)
         → ((k : History) (reads : List Read) → Sees bytes txn k reads → OnErr result (Sees bytes new k reads))
-        → ((k : History) (reads : List Read) → Sees bytes txn k reads → IfOk result (λ rows. items rows ≡ rows_under txn.writes k txn.number low high limit way))
+        → ((k : History) (reads : List Read) → Sees bytes txn k reads
+        → IfOk result (λ rows. items rows ≡ rows_under txn.writes k txn.number low high limit way))
         → ((k : History) (reads : List Read) → Sees bytes txn k reads
         → IfOk result (λ rows. Sees bytes new k (noting.with_scan reads (noting.scan_of low high limit way (items rows) txn.writes))))
         → MakesStep bytes seen core (left ++ record { name = name; thing = Transaction new } ∷ []) s scanning (told_by tell result)
@@ -112,24 +122,30 @@ module _ {H R : Type 0} (bytes : H → Option (List ℕ)) (seen : Option DiskSta
             → MakesStep bytes seen core (left ++ record { name = name; thing = Transaction new } ∷ []) s scanning (Ok answers.Invalid)
         invalid why refused same still =
             let (t, b, there, is, began) = itself bytes seen core os s stands left name txn taken in
-            only_makes bytes seen core os s stands (left ++ record { name = name; thing = Transaction new } ∷ []) scanning answers.Invalid store_lines.Invalid
-            (ap (scan_by s.store way name low high limit) there ∙ on_false within _ (only store_lines.Invalid s.store) (unfit why refused)) refl
+            only_makes bytes seen core os s stands (left ++ record { name = name; thing = Transaction new } ∷ [])
+            scanning answers.Invalid store_lines.Invalid
+            (ap (scan_by s.store way name low high limit) there
+            ∙ on_false within _ (only store_lines.Invalid s.store) (unfit why refused)) refl
             (txn_back bytes seen core os s stands left name txn taken new same (still h))
 
         of : (result : Result V ReadFail) → IsRefusedBy (refused_bounds low high) result → OnErr result (NotesNothing txn new)
             → ((k : History) (reads : List Read) → Sees bytes txn k reads → OnErr result (Sees bytes new k reads))
-            → ((k : History) (reads : List Read) → Sees bytes txn k reads → IfOk result (λ rows. items rows ≡ rows_under txn.writes k txn.number low high limit way))
+            → ((k : History) (reads : List Read) → Sees bytes txn k reads
+            → IfOk result (λ rows. items rows ≡ rows_under txn.writes k txn.number low high limit way))
             → ((k : History) (reads : List Read) → Sees bytes txn k reads
             → IfOk result (λ rows. Sees bytes new k (noting.with_scan reads (noting.scan_of low high limit way (items rows) txn.writes))))
             → MakesStep bytes seen core (left ++ record { name = name; thing = Transaction new } ∷ []) s scanning (told_by tell result)
         of (Ok rows) refused kept still rows_are_so sees =
             let (t, b, there, is, began) = itself bytes seen core os s stands left name txn taken in
-            let answer = scan_answer bytes s.store stands.sound.proper.commits os left stands.names name txn new taken way low high limit (fit refused) keeps t b there is began (items rows)
+            let answer = scan_answer bytes s.store stands.sound.proper.commits os left stands.names name txn new taken
+            way low high limit (fit refused) keeps t b there is began (items rows)
             (rows_are_so h t.reads is.sees) (sees h t.reads is.sees) in
-            let names = scan_names bytes s.store stands.sound.proper.commits os left stands.names name txn new taken way low high limit (fit refused) keeps t b there is began (items rows)
+            let names = scan_names bytes s.store stands.sound.proper.commits os left stands.names name txn new taken way
+            low high limit (fit refused) keeps t b there is began (items rows)
             (rows_are_so h t.reads is.sees) (sees h t.reads is.sees) in (
               as_rows rows ∙ sym (ap without_lengths answer),
-              quiet_stands bytes seen core os (left ++ record { name = name; thing = Transaction new } ∷ []) s scanning (scan_quiet s.store way name low high limit (thing_of s.store name)) stands names
+              quiet_stands bytes seen core os (left ++ record { name = name; thing = Transaction new } ∷ []) s scanning
+                  (scan_quiet s.store way name low high limit (thing_of s.store name)) stands names
                   (state_after-sound s (lines.Scan name low high limit way) stands.sound),
             )
         of (Err unread.EmptyKey) refused kept still rows_are_so sees = invalid EmptyKey refused kept still

@@ -28,7 +28,8 @@ use Rattle.vl_replay.proofs.Names.Lookups.{on_true}
 use Rattle.vl_replay.proofs.Names.Reading.{put_back}
 
 pub same_writes : (writes : Writes) → from_sorted (entries writes) ≡ writes
-same_writes writes = same_entries_map (from_sorted (entries writes)) writes (entries-from_sorted key_cmp (entries writes) (entries_sorted writes))
+same_writes writes = same_entries_map (from_sorted (entries writes)) writes
+    (entries-from_sorted key_cmp (entries writes) (entries_sorted writes))
 
 module _ {H R : Type 0} (bytes : H → Option (List ℕ)) (s : store.State) (proper : AreProper s.commits) (os left : List (Open H R))
     (stand : Stand bytes os s.things (history_in s.commits) s.layout) (name : Name) (txn new : Txn H R)
@@ -55,11 +56,13 @@ module _ {H R : Type 0} (bytes : H → Option (List ℕ)) (s : store.State) (pro
   store_rows =
       ap (λ (u : ATxn). scanned_rows s way low high limit u.writes u.number) (sym is.same)
       ∙ rows_are s proper way low high limit (entries txn.writes) txn.number (entries_sorted txn.writes)
-      ∙ ap (λ (w : Writes). rows_of (contents_at (history_in s.commits) txn.number) (noting.scan_of low high limit way [] w)) (same_writes txn.writes)
+      ∙ ap (λ (w : Writes). rows_of (contents_at (history_in s.commits) txn.number)
+      (noting.scan_of low high limit way [] w)) (same_writes txn.writes)
       ∙ sym rows_is
 
   abbrev noted : List Read
-  noted = t.reads ++ RangeRead (record (scan_of way low high limit t.writes) { rows = scanned_rows s way low high limit t.writes t.number }) ∷ []
+  noted = t.reads ++ RangeRead
+      (record (scan_of way low high limit t.writes) { rows = scanned_rows s way low high limit t.writes t.number }) ∷ []
 
   noted_is : noted ≡ noting.with_scan t.reads (noting.scan_of low high limit way rows txn.writes)
   noted_is = ap (λ (r : Read). t.reads ++ r ∷ [])
@@ -69,7 +72,8 @@ module _ {H R : Type 0} (bytes : H → Option (List ℕ)) (s : store.State) (pro
   step_is : scanning ≡ noted_scan s name t b (scan_of way low high limit t.writes) (scanned_rows s way low high limit t.writes t.number)
   step_is = ap (scan_by s way name low high limit) there
       ∙ on_true (nat_le (length low) max_key_bytes && nat_le (length high) max_key_bytes)
-      (noted_scan s name t b (scan_of way low high limit t.writes) (scanned_rows s way low high limit t.writes t.number)) (only Invalid s) fits
+      (noted_scan s name t b (scan_of way low high limit t.writes)
+      (scanned_rows s way low high limit t.writes t.number)) (only Invalid s) fits
 
   pub scan_answer : scanning.answer ≡ Rows (rows_told rows)
   scan_answer = ap (λ (x : Step). x.answer) step_is ∙ ap (λ (rs : List Row). Rows (rows_told rs)) store_rows

@@ -12,7 +12,8 @@ use Rattle.vl_replay.specs.Readers.{IsReader}
 use Rattle.vl_replay.specs.Standing.{Corresponds, IsTaken, Stand, open_in, ticket_of}
 use Rattle.vl_replay.specs.declared.replayer.open.Open.{Open}
 use Rattle.vl_replay.specs.declared.replayer.open.Thing.{Thing}
-use Rattle.vl_replay.proofs.Names.Lookups.{named_so, once_put, own_name, open_beside, open_put, thing_beside, thing_gone, thing_left, thing_put}
+use Rattle.vl_replay.proofs.Names.Lookups.{named_so, once_put, own_name, open_beside, open_put, thing_beside}
+use Rattle.vl_replay.proofs.Names.Lookups.{thing_gone, thing_left, thing_put}
 
 -- two names, by whether they are one
 abbrev pub Same : Name → Name → Type 0
@@ -26,7 +27,8 @@ same_or_not a b = of (eq_by_cmp key_cmp a b) refl
     of false is = inr (λ same. true≢false (sym (subst (λ (c : Name). eq_by_cmp key_cmp a c ≡ true) same (own_name a)) ∙ is))
 
 module _ {H R : Type 0} (bytes : H → Option (List ℕ)) (ts : List (Name × store.Thing)) (h k : History) (l m : Layout)
-    (os left : List (Open H R)) (stand : Stand bytes os ts h l) (name : Name) (thing : Option (Thing H R)) (taken : IsTaken os left name thing)
+    (os left : List (Open H R)) (stand : Stand bytes os ts h l) (name : Name) (thing : Option (Thing H R))
+    (taken : IsTaken os left name thing)
     -- what another name stands for stands there over the new history and layout
     (still : (other : Name) → (other ≡ name → ⊥) → (x : Option (Thing H R)) (y : Option store.Thing)
     → thing_in ts other ≡ y → Corresponds bytes h l x y → Corresponds bytes k m x y) where
@@ -40,10 +42,12 @@ module _ {H R : Type 0} (bytes : H → Option (List ℕ)) (ts : List (Name × st
   pub stands_without : Stand bytes left (without_name name ts) k m
   stands_without = record {
     each = λ other. ⊎_elim
-        (λ (same : other ≡ name). subst (λ (q : Name). Corresponds bytes k m (open_in left q) (thing_in (without_name name ts) q)) (sym same)
+        (λ (same : other ≡ name). subst
+        (λ (q : Name). Corresponds bytes k m (open_in left q) (thing_in (without_name name ts) q)) (sym same)
         (subst (λ (x : Option (Thing H R)). Corresponds bytes k m x (thing_in (without_name name ts) name)) (sym taken.none)
         (subst (Corresponds {R = R} bytes k m None) (sym (thing_gone name ts)) tt)))
-        (λ (apart : other ≡ name → ⊥). subst (Corresponds bytes k m (open_in left other)) (sym (thing_left name other apart ts)) (others other apart))
+        (λ (apart : other ≡ name → ⊥). subst (Corresponds bytes k m (open_in left other))
+        (sym (thing_left name other apart ts)) (others other apart))
         (same_or_not other name);
     once = taken.once;
     apart = λ a b x y at_a at_b reads_x reads_y same. stand.apart a b x y (was a x at_a) (was b y at_b) reads_x reads_y same;
@@ -55,7 +59,8 @@ module _ {H R : Type 0} (bytes : H → Option (List ℕ)) (ts : List (Name × st
       -- it stood there before
       was : (a : Name) (x : store.Thing) → thing_in (without_name name ts) a ≡ Some x → thing_in ts a ≡ Some x
       was a x is = ⊎_elim
-          (λ (same : a ≡ name). absurd (none_some x (sym (thing_gone name ts) ∙ subst (λ (q : Name). thing_in (without_name name ts) q ≡ Some x) same is)))
+          (λ (same : a ≡ name). absurd
+          (none_some x (sym (thing_gone name ts) ∙ subst (λ (q : Name). thing_in (without_name name ts) q ≡ Some x) same is)))
           (λ (apart : a ≡ name → ⊥). sym (thing_left name a apart ts) ∙ is)
           (same_or_not a name)
 
@@ -65,10 +70,12 @@ module _ {H R : Type 0} (bytes : H → Option (List ℕ)) (ts : List (Name × st
       → Stand bytes (left ++ record { name = name; thing = new } ∷ []) (named name x ts) k m
   stands_with new x same_there free = record {
     each = λ other. ⊎_elim
-        (λ (same : other ≡ name). subst (λ (q : Name). Corresponds bytes k m (open_in (left ++ o ∷ []) q) (thing_in (named name x ts) q)) (sym same)
+        (λ (same : other ≡ name). subst
+        (λ (q : Name). Corresponds bytes k m (open_in (left ++ o ∷ []) q) (thing_in (named name x ts) q)) (sym same)
         (subst (λ (z : Option (Thing H R)). Corresponds bytes k m z (thing_in (named name x ts) name)) (sym (open_put left o taken.none))
         (subst (Corresponds bytes k m (Some new)) (sym (thing_put name x ts)) same_there)))
-        (λ (apart : other ≡ name → ⊥). subst (λ (z : Option (Thing H R)). Corresponds bytes k m z (thing_in (named name x ts) other)) (sym (open_beside left o other apart))
+        (λ (apart : other ≡ name → ⊥). subst
+        (λ (z : Option (Thing H R)). Corresponds bytes k m z (thing_in (named name x ts) other)) (sym (open_beside left o other apart))
         (subst (Corresponds bytes k m (open_in left other)) (sym (thing_beside name other apart x ts)) (others other apart)))
         (same_or_not other name);
     once = once_put left o taken.once taken.none;

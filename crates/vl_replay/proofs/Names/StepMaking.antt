@@ -139,7 +139,8 @@ pub none_before : (p : Retired → Bool) (front back : List Retired) → filter 
 none_before p [] back none = refl
 none_before p (r ∷ front) back none = by (p r) none (none_before p front back)
   where
-    by : (b : Bool) → cond b (r ∷ filter p (front ++ back)) (filter p (front ++ back)) ≡ [] → (filter p (front ++ back) ≡ [] → filter p front ≡ [])
+    by : (b : Bool) → cond b (r ∷ filter p (front ++ back)) (filter p (front ++ back)) ≡ []
+        → (filter p (front ++ back) ≡ [] → filter p front ≡ [])
         → cond b (r ∷ filter p front) (filter p front) ≡ []
     by true none later = absurd cc
     by false none later = later none
@@ -187,7 +188,8 @@ flush_leaves l h = of l.halted refl
 
 -- ---- what a step makes
 
-module _ {H R : Type 0} (bytes : H → Option (List ℕ)) (seen now : Option DiskState) (before after : Core H) (os : List (Open H R)) (s : State)
+module _ {H R : Type 0} (bytes : H → Option (List ℕ)) (seen now : Option DiskState) (before after : Core H)
+    (os : List (Open H R)) (s : State)
     (stands : StandsIn bytes seen before os s) (r : Ruling StepAnswer) (leaves : LeavesOf s.store.layout (history_of s) r)
     (sound : IsSound (state_by s (step_by s.store r))) where
   abbrev h : History
@@ -295,5 +297,6 @@ module _ (stepped : Result (Option ℕ) StepFail) (result : Result Answer Halt) 
   step_cause before now cause = record {
     later = cause.later;
     rose = λ halts. cause.rose (failed_as halts);
-    steady = λ none. cause.steady (λ failed. none (subst (λ (r : Result Answer Halt). HaltsByDisk r) (sym is) (failed_step stepped failed)));
+    steady = λ none. cause.steady
+        (λ failed. none (subst (λ (r : Result Answer Halt). HaltsByDisk r) (sym is) (failed_step stepped failed)));
   }

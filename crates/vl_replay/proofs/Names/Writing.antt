@@ -1,5 +1,6 @@
 -- What is written through a name.
-use Rattle.std.proofs.Common.{◌≡◌, ℕ, ◌==◌, Bool, true, false, cond, ◌&&◌, not, List, [], ◌∷◌, ◌++◌, length, refl, ap, sym, ◌∙◌, subst, sum_by, ◌+◌, arith}
+use Rattle.std.proofs.Common.{◌≡◌, ℕ, ◌==◌, Bool, true, false, cond, ◌&&◌, not, List, [], ◌∷◌, ◌++◌, length, refl, ap}
+use Rattle.std.proofs.Common.{sym, ◌∙◌, subst, sum_by, ◌+◌, arith}
 use Rattle.std.specs.Prelude.{Option, None, Some, Ok, Err, Result, IfOk, OnOk, nat_le}
 use Rattle.std.specs.Bool.{⊤}
 use Rattle.std.specs.FinMap.{entries, entries-insert, insert, len-entries, put}
@@ -34,7 +35,8 @@ use Rattle.vl_replay.proofs.Names.Reading.{named_again, put_back, stand_alike}
 -- the first limit that a write passes, by the tests of it
 abbrev tested : (empty short_key short_value fits : Bool) → Option SetFail
 tested empty short_key short_value fits =
-    cond empty (Some EmptyKey) (cond (not short_key) (Some KeyTooLong) (cond (not short_value) (Some ValueTooLong) (cond fits None (Some TooBig))))
+    cond empty (Some EmptyKey)
+    (cond (not short_key) (Some KeyTooLong) (cond (not short_value) (Some ValueTooLong) (cond fits None (Some TooBig))))
 
 pub some_byte : (n : ℕ) → nat_le 1 n ≡ not (n == 0)
 some_byte n = grind (arith, nat_tests)
@@ -44,7 +46,9 @@ same_fit : (writes : Writes) (key : List ℕ) (change : Change)
     → is_small_enough (put key_cmp key change (entries writes)) ≡ fits_transaction (insert writes key change)
 same_fit writes key change =
     ap is_small_enough (sym (entries-insert nat_list_cmp_total writes key change))
-    ∙ ap (λ (n : ℕ). nat_le n max_transaction_keys && nat_le (sum_by (λ (write : List ℕ × Change). length write.0 + length (value_bytes write.1)) (entries (insert writes key change))) max_transaction_bytes)
+    ∙ ap (λ (n : ℕ). nat_le n max_transaction_keys && nat_le
+    (sum_by (λ (write : List ℕ × Change). length write.0 + length (value_bytes write.1))
+    (entries (insert writes key change))) max_transaction_bytes)
     (sym (len-entries (insert writes key change)))
 
 module _ (s : store.State) (name : Name) (key : List ℕ) (change : Change) (t : ATxn) (b : Beginning) where
@@ -79,8 +83,10 @@ module _ (s : store.State) (name : Name) (key : List ℕ) (change : Change) (t :
       let n = length key in
       let short = nat_le n max_key_bytes in
       let value = is_value_length log_format (length (value_bytes change)) in
-      ap (λ (e : Bool). cond (not ((e && short) && value)) (only store_lines.Invalid s) (cond (is_small_enough (put key_cmp key change t.writes)) made (only store_lines.TooBig s))) (some_byte n)
-      ∙ ap (λ (f : Bool). cond (not ((not (n == 0) && short) && value)) (only store_lines.Invalid s) (cond f made (only store_lines.TooBig s)))
+      ap (λ (e : Bool). cond (not ((e && short) && value)) (only store_lines.Invalid s)
+      (cond (is_small_enough (put key_cmp key change t.writes)) made (only store_lines.TooBig s))) (some_byte n)
+      ∙ ap (λ (f : Bool). cond (not ((not (n == 0) && short) && value)) (only store_lines.Invalid s)
+      (cond f made (only store_lines.TooBig s)))
       (ap (λ (own : Changes). is_small_enough (put key_cmp key change own)) (sym same) ∙ same_fit writes key change)
       ∙ by_tests (n == 0) short value (fits_transaction (insert writes key change))
 
@@ -88,7 +94,8 @@ module _ {H R : Type 0} (bytes : H → Option (List ℕ)) (s : store.State) (os 
     (stand : Stand bytes os s.things (history_in s.commits) s.layout) (name : Name) (txn new : Txn H R)
     (taken : IsTaken os left name (Some (Transaction txn))) (key : List ℕ) (change : Change) (keeps : OnlyWrites txn new)
     (t : ATxn) (b : Beginning) (there : thing_in s.things name ≡ Some (ATransaction t b))
-    (is : IsTransaction bytes txn t (history_in s.commits) s.layout) (began : beginning txn.past ≡ b) (sees : Sees bytes new (history_in s.commits) t.reads) where
+    (is : IsTransaction bytes txn t (history_in s.commits) s.layout) (began : beginning txn.past ≡ b)
+    (sees : Sees bytes new (history_in s.commits) t.reads) where
   abbrev writing : Step
   writing = write_by s name key change (thing_in s.things name)
 
@@ -108,7 +115,8 @@ module _ {H R : Type 0} (bytes : H → Option (List ℕ)) (s : store.State) (os 
       ap (λ (x : Txn H R). record (asked x t.reads) { writes = entries new.writes }) keeps
       ∙ ap (λ (u : ATxn). record u { writes = entries new.writes }) is.same ∙ ap (λ (w : Changes). record t { writes = w }) same
 
-  corresponds : (writes : Changes) → entries new.writes ≡ writes → IsTransaction bytes new (record t { writes = writes }) (history_in s.commits) s.layout
+  corresponds : (writes : Changes) → entries new.writes ≡ writes
+      → IsTransaction bytes new (record t { writes = writes }) (history_in s.commits) s.layout
   corresponds writes same = record {
     same = asked_then writes same;
     sees = sees;
@@ -119,7 +127,8 @@ module _ {H R : Type 0} (bytes : H → Option (List ℕ)) (s : store.State) (os 
   began_then : beginning new.past ≡ b
   began_then = ap (λ (x : Txn H R). beginning x.past) keeps ∙ began
 
-  made_names : new.writes ≡ insert txn.writes key change → Stand bytes behind (made s name key change t b).state.things (history_in s.commits) s.layout
+  made_names : new.writes ≡ insert txn.writes key change → Stand bytes behind (made s name key change t b).state.things
+      (history_in s.commits) s.layout
   made_names made_is =
       let more : entries new.writes ≡ put key_cmp key change t.writes =
       ap (λ (w : Writes). entries w) made_is ∙ entries-insert nat_list_cmp_total txn.writes key change
@@ -130,8 +139,10 @@ module _ {H R : Type 0} (bytes : H → Option (List ℕ)) (s : store.State) (os 
   refused_names : new.writes ≡ txn.writes → Stand bytes behind s.things (history_in s.commits) s.layout
   refused_names same =
       let own : entries new.writes ≡ t.writes = ap (λ (w : Writes). entries w) same ∙ ap (λ (u : ATxn). u.writes) is.same in
-      stand_alike bytes (history_in s.commits) s.layout behind (named name (ATransaction t b) s.things) s.things (named_again s.things name (ATransaction t b) there)
-      (put_back bytes (history_in s.commits) s.layout os left s.things name (Transaction txn) (Transaction new) (ATransaction t b) (ATransaction t b) stand taken there refl (corresponds _ own, began_then))
+      stand_alike bytes (history_in s.commits) s.layout behind (named name (ATransaction t b) s.things) s.things
+      (named_again s.things name (ATransaction t b) there)
+      (put_back bytes (history_in s.commits) s.layout os left s.things name (Transaction txn) (Transaction new)
+      (ATransaction t b) (ATransaction t b) stand taken there refl (corresponds _ own, began_then))
 
   pub writes_so : (result : Result ⊤ SetFail) → IsWritten txn.writes key change new.writes result → WritesSo result
   writes_so result written = of result written
@@ -144,9 +155,29 @@ module _ {H R : Type 0} (bytes : H → Option (List ℕ)) (s : store.State) (os 
       names_by x same names = subst (λ (y : Step). Stand bytes behind y.state.things (history_in s.commits) s.layout) (sym same) names
 
       of : (result : Result ⊤ SetFail) → IsWritten txn.writes key change new.writes result → WritesSo result
-      of (Ok done) (fine, so) = record { told = sym (ap (λ (x : Step). without_lengths x.answer) (by None fine)); names = names_by (made s name key change t b) (by None fine) (made_names so) }
-      of (Err EmptyKey) (why, so) = record { told = sym (ap (λ (x : Step). without_lengths x.answer) (by (Some EmptyKey) why)); names = names_by (only store_lines.Invalid s) (by (Some EmptyKey) why) (refused_names so) }
-      of (Err KeyTooLong) (why, so) = record { told = sym (ap (λ (x : Step). without_lengths x.answer) (by (Some KeyTooLong) why)); names = names_by (only store_lines.Invalid s) (by (Some KeyTooLong) why) (refused_names so) }
-      of (Err ValueTooLong) (why, so) = record { told = sym (ap (λ (x : Step). without_lengths x.answer) (by (Some ValueTooLong) why)); names = names_by (only store_lines.Invalid s) (by (Some ValueTooLong) why) (refused_names so) }
-      of (Err TooBig) (why, so) = record { told = sym (ap (λ (x : Step). without_lengths x.answer) (by (Some TooBig) why)); names = names_by (only store_lines.TooBig s) (by (Some TooBig) why) (refused_names so) }
+      of (Ok done) (fine, so) = record {
+        told = sym (ap (λ (x : Step). without_lengths x.answer) (by None fine));
+        names = names_by
+            (made s name key change t b) (by None fine) (made_names so);
+      }
+      of (Err EmptyKey) (why, so) = record {
+        told = sym (ap (λ (x : Step). without_lengths x.answer) (by (Some EmptyKey) why));
+        names = names_by
+            (only store_lines.Invalid s) (by (Some EmptyKey) why) (refused_names so);
+      }
+      of (Err KeyTooLong) (why, so) = record {
+        told = sym (ap (λ (x : Step). without_lengths x.answer) (by (Some KeyTooLong) why));
+        names = names_by
+            (only store_lines.Invalid s) (by (Some KeyTooLong) why) (refused_names so);
+      }
+      of (Err ValueTooLong) (why, so) = record {
+        told = sym (ap (λ (x : Step). without_lengths x.answer) (by (Some ValueTooLong) why));
+        names = names_by
+            (only store_lines.Invalid s) (by (Some ValueTooLong) why) (refused_names so);
+      }
+      of (Err TooBig) (why, so) = record {
+        told = sym (ap (λ (x : Step). without_lengths x.answer) (by (Some TooBig) why));
+        names = names_by
+            (only store_lines.TooBig s) (by (Some TooBig) why) (refused_names so);
+      }
       of (Err NoMemory) (fine, so) = record { told = tt; names = tt }

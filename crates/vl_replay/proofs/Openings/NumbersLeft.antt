@@ -1,5 +1,6 @@
 -- An image whose files have small numbers opens with numbers left, if it opens: what is found there, and how a run over it begins.
-use Rattle.std.proofs.Common.{◌≡◌, ◌⊎◌, ⊎_elim, inl, inr, ℕ, ◌+◌, ◌*◌, ◌<◌, ◌≤◌, List, [], ◌∷◌, ◌++◌, length, get_or, Option, Some, None, Ok, true, false, refl, sym, ◌∙◌, ap, subst, arith}
+use Rattle.std.proofs.Common.{◌≡◌, ◌⊎◌, ⊎_elim, inl, inr, ℕ, ◌+◌, ◌*◌, ◌<◌, ◌≤◌, List, [], ◌∷◌, ◌++◌, length, get_or}
+use Rattle.std.proofs.Common.{Option, Some, None, Ok, true, false, refl, sym, ◌∙◌, ap, subst, arith}
 use Rattle.std.specs.Prelude.{◌≢◌, ◌==◌, zero, suc, Bool, if◌then◌else◌, AllPairs, Contains, IsSome, IsTrue}
 use Rattle.std.specs.FinMap.{get}
 use Rattle.std.specs.Option.{option_map}
@@ -315,8 +316,10 @@ module _ {D : Type 0} (g : Ghosts D) (disk : D) (image : Image) (state : DiskSta
     (told : g.told disk ≡ Some state) (started : Started image state) (again : Reopens image h m) where
   -- A run over the disk that is started from it begins with what the history has at its number,
   pub reopens_starts : (files : ℕ) → OpensUpTo files state again.found → (openable : Bool) → (IsTrue openable → MayOpen state)
-      → StartsIn g disk (reopened_store again.found h m again.shown (after_calls (calls_to_open again.found (length again.strays)) (g.calls disk)) files openable)
-  reopens_starts files up_to openable may_open = starts_shown g disk state image again.found again.strays h m files told (started_read image state started)
+      → StartsIn g disk (reopened_store again.found h m again.shown
+      (after_calls (calls_to_open again.found (length again.strays)) (g.calls disk)) files openable)
+  reopens_starts files up_to openable may_open = starts_shown g disk state image again.found again.strays h m files told
+      (started_read image state started)
       again.unused again.are_strays again.shown up_to openable may_open
 
   -- and isn't refused.

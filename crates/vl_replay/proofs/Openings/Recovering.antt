@@ -41,12 +41,14 @@ module _ {D : Type 0} (g : Ghosts D) (disk : D) (s : State) (starts : StartsIn g
   pub opened_numbered : (now : DiskState) → IsRepaired starts.read starts.state (Some now) → AreNumberedUpTo s.files now
   opened_numbered now is_repaired =
       let repairing = is_repaired.repairing in
-      let plan_is : repairing.plan ≡ plan_of found repairing.plan.strays = repairing.is.is ∙ same_plan starts.read repairing.found found repairing.plan.strays in
+      let plan_is : repairing.plan ≡ plan_of found repairing.plan.strays = repairing.is.is
+      ∙ same_plan starts.read repairing.found found repairing.plan.strays in
       let now_is : now ≡ repaired repairing.plan starts.state = same_state now (repaired repairing.plan starts.state) is_repaired.told in
       subst (AreNumberedUpTo s.files) (sym now_is)
       (repaired_numbered s.files repairing.plan starts.state
       (subst (λ (p : Plan). p.manifest ≤ s.files) (sym plan_is) starts.files.manifest)
-      (subst (λ (p : Plan). IsLogUpTo s.files p.log) (sym plan_is) (log_up_to (log_made (new_state found.greatest found.opening.state) found.logs) starts.files.log))
+      (subst (λ (p : Plan). IsLogUpTo s.files p.log) (sym plan_is)
+      (log_up_to (log_made (new_state found.greatest found.opening.state) found.logs) starts.files.log))
       starts.files.numbered)
     where
       same_state : (a b : DiskState) → Some a ≡ Some b → a ≡ b

@@ -7,10 +7,13 @@ use Rattle.std.specs.Str.{bytes_eq}
 use Rattle.vl_model.specs.declared.way.Way.{Way}
 use Rattle.vl_model.specs.declared.way.Way.TheVariants.{Up, Down}
 use Rattle.vl_replay.specs.Asking.{AsksForRow}
-use Rattle.vl_script.specs.Script.{◌>>=◌, alone, get_at_of, ident_alone, ident_and_key, ident_and_two, keep_of, line_of, line_of_words, longest_line, named_key, scan_of, set_of, with_number, words_of}
+use Rattle.vl_script.specs.Script.{◌>>=◌, alone, get_at_of, ident_alone, ident_and_key, ident_and_two, keep_of}
+use Rattle.vl_script.specs.Script.{line_of, line_of_words, longest_line, named_key, scan_of, set_of, with_number}
+use Rattle.vl_script.specs.Script.{words_of}
 use Rattle.vl_script.specs.Numbers.{number_of}
 use Rattle.vl_script.specs.declared.line.Line.{Line}
-use Rattle.vl_script.specs.declared.line.Line.TheVariants.{Begin, View, Get, Set, SetTagged, GetTagged, GetAt, Scan, Delete, Commit, Drop, Rotate, Flush, Keep, Plan, Install}
+use Rattle.vl_script.specs.declared.line.Line.TheVariants.{Begin, View, Get, Set, SetTagged, GetTagged, GetAt, Scan}
+use Rattle.vl_script.specs.declared.line.Line.TheVariants.{Delete, Commit, Drop, Rotate, Flush, Keep, Plan, Install}
 
 -- the line asks for one, where there is a line
 record Asks (o : Option Line) : Type 0 where
@@ -45,7 +48,8 @@ some_row name low high way n true is = none
 some_row name low high way n false is = one (Scan name low high n way) (let some : 1 ≤ n = grind (arith, nat_tests, is) in some)
 
 scans : (way : Way) (words : List (List ℕ)) → Asks (scan_of way words)
-scans way words = bound (with_number 65535 words) (λ w. if w.3 == 0 then None else Some (Scan w.0 w.1 w.2 w.3 way)) (λ w. some_row w.0 w.1 w.2 way w.3 (w.3 == 0) refl)
+scans way words = bound (with_number 65535 words) (λ w. if w.3 == 0 then None else Some (Scan w.0 w.1 w.2 w.3 way))
+    (λ w. some_row w.0 w.1 w.2 way w.3 (w.3 == 0) refl)
 
 sets : (words : List (List ℕ)) → Asks (set_of words)
 sets [] = none
@@ -58,7 +62,8 @@ olds : (words : List (List ℕ)) → Asks (get_at_of words)
 olds [] = none
 olds (name ∷ []) = none
 olds (name ∷ key ∷ []) = none
-olds (name ∷ key ∷ number ∷ []) = bound (number_of 18446744073709551615 number) (λ n. option_map (λ w. GetAt w.0 w.1 n) (named_key name key))
+olds (name ∷ key ∷ number ∷ []) = bound (number_of 18446744073709551615 number)
+    (λ n. option_map (λ w. GetAt w.0 w.1 n) (named_key name key))
     (λ n. mapped (named_key name key) (λ w. GetAt w.0 w.1 n) (λ w. tt))
 olds (name ∷ key ∷ number ∷ other ∷ words) = none
 

@@ -1,5 +1,7 @@
 -- Whole runs: how a run ends at its next line, and how one goes on behind an answered line.
-use Rattle.std.proofs.Common.{append_assoc, append-nil, ◌≡◌, ◌≢◌, ◌⊎◌, inl, inr, ⊎_elim, ◌+◌, ◌-◌, ◌^◌, ◌<◌, ℕ, suc, min, List, [], ◌∷◌, ◌++◌, length, take, drop, refl, ap, sym, ◌∙◌, Bool, true, false, arith, subst, zero-le, one-add, cond}
+use Rattle.std.proofs.Common.{append_assoc, append-nil, ◌≡◌, ◌≢◌, ◌⊎◌, inl, inr, ⊎_elim, ◌+◌, ◌-◌, ◌^◌, ◌<◌, ℕ, suc}
+use Rattle.std.proofs.Common.{min, List, [], ◌∷◌, ◌++◌, length, take, drop, refl, ap, sym, ◌∙◌, Bool, true, false}
+use Rattle.std.proofs.Common.{arith, subst, zero-le, one-add, cond}
 use Rattle.std.proofs.lemmas.List.{take-append-drop}
 use Rattle.std.proofs.lemmas.Bool.{ne_eqb}
 use Rattle.std.specs.Prelude.{Option, Some, None, codes, unwrap_or, ◌==◌, nat_le}
@@ -17,12 +19,16 @@ use Rattle.vl_script.specs.Script.{lines_of, line_of}
 use Rattle.vl_replay.specs.Sequential.{State, answer_text}
 use Rattle.vl_replay.specs.Input.{HasNoLineEnd}
 use Rattle.vl_replay.specs.Exchanges.{Exchange, exchange_at, exchanged, exchanges_from, and_later, answers_text, ended_lines, KeepsUp}
-use Rattle.vl_replay.specs.Endings.{Culprit, NoOne, TheLine, TheWords, TheDisk, TheReader, TheFiles, TheBytes, Memory, TheSource, TheSink, LastPiece, NoPiece, BadLinePiece, Line, LineFront, AnswerFront, CountsFaultsOf, EndsAs, Evidence, CutsAnswer, culprit_of, end_of, ending_at, last_line, line_at, line_of_piece, line_number, bad_line}
+use Rattle.vl_replay.specs.Endings.{Culprit, NoOne, TheLine, TheWords, TheDisk, TheReader, TheFiles, TheBytes, Memory}
+use Rattle.vl_replay.specs.Endings.{TheSource, TheSink, LastPiece, NoPiece, BadLinePiece, Line, LineFront}
+use Rattle.vl_replay.specs.Endings.{AnswerFront, CountsFaultsOf, EndsAs, Evidence, CutsAnswer, culprit_of, end_of}
+use Rattle.vl_replay.specs.Endings.{ending_at, last_line, line_at, line_of_piece, line_number, bad_line}
 use Rattle.vl_replay.specs.Failing.{IsTableRead}
 use Rattle.vl_replay.specs.Runs.{Script, exchanges, next_number, IsFront, Stops, Puts, EndsSo}
 use Rattle.vl_replay.specs.Steps.{EndsAtDamage, Finishes, FinishesBy, IsNext, EndsBefore}
 use Rattle.vl_replay.specs.declared.ending.Ending.{Ending}
-use Rattle.vl_replay.specs.declared.ending.Ending.TheVariants.{Complete, Damaged, DiskFault, NoMemory, ReaderFault, WriteFault, AnswerCut, Stopped}
+use Rattle.vl_replay.specs.declared.ending.Ending.TheVariants.{Complete, Damaged, DiskFault, NoMemory, ReaderFault}
+use Rattle.vl_replay.specs.declared.ending.Ending.TheVariants.{WriteFault, AnswerCut, Stopped}
 use Rattle.vl_replay.specs.declared.ending.OnFault.{OnFault}
 use Rattle.vl_replay.specs.declared.ending.OnFault.TheVariants.{Report, Stop}
 use Rattle.vl_replay.specs.laws.Laws.{ended_lines-cons}
@@ -39,17 +45,22 @@ gone_on : (o : Option Exchange) (f : Exchange → List Exchange) (x : Exchange) 
 gone_on None f x e = absurd (cc)
 gone_on (Some y) f x e = ap (λ z. z ∷ f z) (cc)
 
-pub exchanges_from-bad : (s : State) (text : List ℕ) (texts : List (List ℕ)) → exchange_at s text ≡ None → exchanges_from s (text ∷ texts) ≡ []
+pub exchanges_from-bad : (s : State) (text : List ℕ) (texts : List (List ℕ)) → exchange_at s text ≡ None
+    → exchanges_from s (text ∷ texts) ≡ []
 exchanges_from-bad s text texts e = stopped (exchange_at s text) (λ x. exchanges_from x.after texts) e
 
-pub exchanges_from-answered : (s : State) (text : List ℕ) (texts : List (List ℕ)) (x : Exchange) → exchange_at s text ≡ Some x → exchanges_from s (text ∷ texts) ≡ x ∷ exchanges_from x.after texts
+pub exchanges_from-answered : (s : State) (text : List ℕ) (texts : List (List ℕ)) (x : Exchange)
+    → exchange_at s text ≡ Some x → exchanges_from s (text ∷ texts) ≡ x ∷ exchanges_from x.after texts
 exchanges_from-answered s text texts x e = gone_on (exchange_at s text) (λ y. exchanges_from y.after texts) x e
 
-pub next_bad : (script : Script) (text : List ℕ) → (next : IsNext script text) → exchange_at script.start text ≡ None → exchanges script ≡ []
+pub next_bad : (script : Script) (text : List ℕ) → (next : IsNext script text) → exchange_at script.start text ≡ None
+    → exchanges script ≡ []
 next_bad script text (texts, lines) bad = ap (exchanges_from script.start) lines ∙ exchanges_from-bad script.start text texts bad
 
-pub next_answered : (script : Script) (text : List ℕ) → (next : IsNext script text) → (e : Exchange) → exchange_at script.start text ≡ Some e → exchanges script ≡ e ∷ exchanges_from e.after next.0
-next_answered script text (texts, lines) e is = ap (exchanges_from script.start) lines ∙ exchanges_from-answered script.start text texts e is
+pub next_answered : (script : Script) (text : List ℕ) → (next : IsNext script text) → (e : Exchange)
+    → exchange_at script.start text ≡ Some e → exchanges script ≡ e ∷ exchanges_from e.after next.0
+next_answered script text (texts, lines) e is = ap (exchanges_from script.start) lines
+    ∙ exchanges_from-answered script.start text texts e is
 
 -- the exchange that an answered line is
 pub exchange_at-answered : (s : State) (text : List ℕ) (line : ScriptLine) → line_of text ≡ Some line
@@ -62,7 +73,8 @@ chosen_false false x y e = refl
 
 -- a line that is too long is a bad one
 pub too_long_is_bad : (s : State) (text : List ℕ) → longest_line < length text → exchange_at s text ≡ None
-too_long_is_bad s text long = ap (option_map (exchanged s)) (chosen_false (nat_le (length text) longest_line) _ None (grind (arith, nat_tests)))
+too_long_is_bad s text long = ap (option_map (exchanged s))
+    (chosen_false (nat_le (length text) longest_line) _ None (grind (arith, nat_tests)))
 
 -- ---- what a sink takes
 
@@ -89,7 +101,8 @@ some_same : {X : Type 0} (x y : X) → Some x ≡ Some y → x ≡ y
 some_same x y e = cc
 
 -- a line of its own is put where its ending stops the run
-own_line : (cause : Culprit → Type 0) (script : Script) (left : Option (List ℕ)) (m : ℕ) (culprit : Culprit) (last : LastPiece) (line : List ℕ) → line_of_piece (next_number script m) last ≡ Some line
+own_line : (cause : Culprit → Type 0) (script : Script) (left : Option (List ℕ)) (m : ℕ) (culprit : Culprit)
+    (last : LastPiece) (line : List ℕ) → line_of_piece (next_number script m) last ≡ Some line
     → Stops cause script left m culprit → Puts cause script left m culprit last line
 own_line cause script left m culprit NoPiece line is stops = absurd (none_some line is)
 own_line cause script left m culprit BadLinePiece line is stops = (stops, sym (some_same (bad_line (next_number script m)) line is))
@@ -98,8 +111,10 @@ own_line cause script left m culprit LineFront line is stops = absurd (none_some
 own_line cause script left m culprit AnswerFront line is stops = absurd (none_some line is)
 
 -- the run ends by its last line, or at it
-pub finished : {K : Type 0} (g : sink.Ghosts K) (old new : K) (cause : Culprit → Type 0) (script : Script) (left : Option (List ℕ)) (ending result : Ending) (line : List ℕ) → last_line (next_number script 0) ending ≡ Some line
-    → Stops cause script left 0 (culprit_of ending) → Finishes g old new line ending result → EndsBefore cause script left result (g.held old) (g.held new)
+pub finished : {K : Type 0} (g : sink.Ghosts K) (old new : K) (cause : Culprit → Type 0) (script : Script)
+    (left : Option (List ℕ)) (ending result : Ending) (line : List ℕ) → last_line (next_number script 0) ending ≡ Some line
+    → Stops cause script left 0 (culprit_of ending) → Finishes g old new line ending result
+    → EndsBefore cause script left result (g.held old) (g.held new)
 finished g old new cause script left ending result line is stops f = record {
   printed = f.printed;
   taken = f.taken;
@@ -107,7 +122,13 @@ finished g old new cause script left ending result line is stops f = record {
       (λ (whole : (result ≡ ending) × (f.printed ≡ line) × (g.faults new ≡ g.faults old)).
       subst (λ (e : Ending). EndsSo cause script left 0 e f.printed) (sym whole.0)
       (subst (λ (p : List ℕ). EndsSo cause script left 0 ending p) (sym whole.1)
-      (record { within = zero-le; piece = line; puts = own_line cause script left 0 (culprit_of ending) (end_of ending).last line is stops; printed_is = refl })))
+      (record {
+        within = zero-le;
+        piece = line;
+        puts = own_line cause script left 0 (culprit_of ending)
+            (end_of ending).last line is stops;
+        printed_is = refl;
+      })))
       (λ (cut : (result ≡ WriteFault) × IsFront f.printed line × Rose (g.faults old) (g.faults new)).
       subst (λ (e : Ending). EndsSo cause script left 0 e f.printed) (sym cut.0)
       (record { within = zero-le; piece = f.printed; puts = (ending, line, is, stops, cut.1); printed_is = refl }))
@@ -115,7 +136,8 @@ finished g old new cause script left ending result line is stops f = record {
 }
 
 -- it is a bad line
-pub bad_line_stops : (cause : Culprit → Type 0) (script : Script) (text : List ℕ) (left : Option (List ℕ)) → IsNext script text → exchange_at script.start text ≡ None → Stops cause script left 0 TheLine
+pub bad_line_stops : (cause : Culprit → Type 0) (script : Script) (text : List ℕ) (left : Option (List ℕ))
+    → IsNext script text → exchange_at script.start text ≡ None → Stops cause script left 0 TheLine
 bad_line_stops cause script text left next bad =
     (sym (ap length (next_bad script text next bad)), let count = ap length next.1 in omega arith)
 
@@ -126,14 +148,17 @@ unread_stops cause script text left next (e, is, reads) =
     (e, ap (λ (es : List Exchange). slice_get es 0) (next_answered script text next e is), reads)
 
 -- what is printed as the bad line, with so many lines answered before it
-pub bad_line_text : (answered before number : ℕ) (line : List ℕ) → answered ≡ line_number before → number ≡ min (answered + 1) (2 ^ 64 - 1) → line ≡ codes "bad line " ++ decimal number ++ (10 ∷ []) → line ≡ bad_line (before + 0 + 1)
+pub bad_line_text : (answered before number : ℕ) (line : List ℕ) → answered ≡ line_number before
+    → number ≡ min (answered + 1) (2 ^ 64 - 1) → line ≡ codes "bad line " ++ decimal number ++ (10 ∷ []) → line ≡ bad_line (before + 0 + 1)
 bad_line_text answered before number line e n text =
     let same : number ≡ line_number (before + 0 + 1) = omega arith in
     text ∙ ap (λ (k : ℕ). codes "bad line " ++ decimal k ++ (10 ∷ [])) same
 
 -- the sink failed within an answer
-pub answer_cut : (cause : Culprit → Type 0) (script : Script) (text : List ℕ) (left : Option (List ℕ)) (e : Exchange) (held held' : Option (List ℕ)) →
-    IsNext script text → exchange_at script.start text ≡ Some e → TakesPrefix held held' (answer_text e.answer) → EndsBefore cause script left AnswerCut held held'
+pub answer_cut : (cause : Culprit → Type 0) (script : Script) (text : List ℕ) (left : Option (List ℕ)) (e : Exchange)
+    (held held' : Option (List ℕ)) →
+    IsNext script text → exchange_at script.start text ≡ Some e → TakesPrefix held held' (answer_text e.answer)
+    → EndsBefore cause script left AnswerCut held held'
 answer_cut cause script text left e held held' next is part =
     let piece = answer_text e.answer in
     record {
@@ -142,7 +167,11 @@ answer_cut cause script text left e held held' next is part =
       ends = record {
         within = zero-le;
         piece = take part.0 piece;
-        puts = (e, ap (λ (es : List Exchange). slice_get es 0) (next_answered script text next e is), (drop part.0 piece, sym (take-append-drop part.0 piece)));
+        puts = (
+          e,
+          ap (λ (es : List Exchange). slice_get es 0) (next_answered script text next e is),
+          (drop part.0 piece, sym (take-append-drop part.0 piece)),
+        );
         printed_is = refl;
       };
     }
@@ -159,31 +188,37 @@ counted false n e = omega arith
 -- bytes without a line's end have no whole line
 pub ended_lines-none : (bytes : List ℕ) → HasNoLineEnd bytes → ended_lines bytes ≡ 0
 ended_lines-none [] h = refl
-ended_lines-none (b ∷ bytes) h = ended_lines-cons b bytes ∙ counted (b == 10) (ended_lines bytes) (tested_no b h.0) ∙ ended_lines-none bytes h.1
+ended_lines-none (b ∷ bytes) h = ended_lines-cons b bytes ∙ counted (b == 10) (ended_lines bytes) (tested_no b h.0)
+    ∙ ended_lines-none bytes h.1
 
 -- a line with its end is one more
 pub ended_lines-line : (line rest : List ℕ) → HasNoLineEnd line → ended_lines (line ++ 10 ∷ rest) ≡ suc (ended_lines rest)
 ended_lines-line [] rest h = ended_lines-cons 10 rest ∙ one-add (ended_lines rest)
-ended_lines-line (b ∷ line) rest h = ended_lines-cons b (line ++ 10 ∷ rest) ∙ counted (b == 10) (ended_lines (line ++ 10 ∷ rest)) (tested_no b h.0) ∙ ended_lines-line line rest h.1
+ended_lines-line (b ∷ line) rest h = ended_lines-cons b (line ++ 10 ∷ rest)
+    ∙ counted (b == 10) (ended_lines (line ++ 10 ∷ rest)) (tested_no b h.0) ∙ ended_lines-line line rest h.1
 
 ended_lines-unended : (line rest : List ℕ) → HasNoLineEnd line → ended_lines (line ++ rest) ≡ ended_lines rest
 ended_lines-unended [] rest h = refl
-ended_lines-unended (b ∷ line) rest h = ended_lines-cons b (line ++ rest) ∙ counted (b == 10) (ended_lines (line ++ rest)) (tested_no b h.0) ∙ ended_lines-unended line rest h.1
+ended_lines-unended (b ∷ line) rest h = ended_lines-cons b (line ++ rest)
+    ∙ counted (b == 10) (ended_lines (line ++ rest)) (tested_no b h.0) ∙ ended_lines-unended line rest h.1
 
 -- a line with its answer comes in front
-pub keeps_up_behind : (bytes line rest : List ℕ) (asked : Option (List ℕ)) (m : ℕ) → bytes ≡ line ++ 10 ∷ rest → HasNoLineEnd line → KeepsUp rest asked m → KeepsUp bytes asked (suc m)
+pub keeps_up_behind : (bytes line rest : List ℕ) (asked : Option (List ℕ)) (m : ℕ) → bytes ≡ line ++ 10 ∷ rest
+    → HasNoLineEnd line → KeepsUp rest asked m → KeepsUp bytes asked (suc m)
 keeps_up_behind bytes line rest asked m parts unended (earlier, was, le) =
     let n : ended_lines bytes ≡ suc (ended_lines rest) = ap ended_lines parts ∙ ended_lines-line line rest unended in
     (earlier, was, omega arith)
 
 -- no answer is owed behind a line where none was before it
-pub keeps_up_after : (bytes line rest : List ℕ) (asked : Option (List ℕ)) → bytes ≡ line ++ 10 ∷ rest → HasNoLineEnd line → KeepsUp bytes asked 0 → KeepsUp rest asked 0
+pub keeps_up_after : (bytes line rest : List ℕ) (asked : Option (List ℕ)) → bytes ≡ line ++ 10 ∷ rest
+    → HasNoLineEnd line → KeepsUp bytes asked 0 → KeepsUp rest asked 0
 keeps_up_after bytes line rest asked parts unended (earlier, was, le) =
     let n : ended_lines bytes ≡ suc (ended_lines rest) = ap ended_lines parts ∙ ended_lines-line line rest unended in
     (earlier, was, omega arith)
 
 -- none is owed where the source is asked within a line
-pub keeps_up_within : (bytes line rest : List ℕ) (asked : Option (List ℕ)) → bytes ≡ line ++ rest → HasNoLineEnd line → asked ≡ Some rest → KeepsUp bytes asked 0
+pub keeps_up_within : (bytes line rest : List ℕ) (asked : Option (List ℕ)) → bytes ≡ line ++ rest → HasNoLineEnd line
+    → asked ≡ Some rest → KeepsUp bytes asked 0
 keeps_up_within bytes line rest asked parts unended was =
     let n : ended_lines bytes ≡ ended_lines rest = ap ended_lines parts ∙ ended_lines-unended line rest unended in
     (rest, was, omega arith)
@@ -194,7 +229,8 @@ keeps_up_more bytes asked m (earlier, was, le) = (earlier, was, omega arith)
 
 -- ---- a cause that follows from another
 
-module _ (cause cause' : Culprit → Type 0) (weaker : (culprit : Culprit) → cause culprit → cause' culprit) (script : Script) (left : Option (List ℕ)) (m : ℕ) where
+module _ (cause cause' : Culprit → Type 0) (weaker : (culprit : Culprit) → cause culprit → cause' culprit)
+    (script : Script) (left : Option (List ℕ)) (m : ℕ) where
   stops_weaker : (culprit : Culprit) → Stops cause script left m culprit → Stops cause' script left m culprit
   stops_weaker NoOne h = h
   stops_weaker TheLine h = h
@@ -207,14 +243,16 @@ module _ (cause cause' : Culprit → Type 0) (weaker : (culprit : Culprit) → c
   stops_weaker TheSource h = (weaker TheSource h.0, h.1)
   stops_weaker TheSink h = h
 
-  puts_weaker : (culprit : Culprit) (last : LastPiece) (piece : List ℕ) → Puts cause script left m culprit last piece → Puts cause' script left m culprit last piece
+  puts_weaker : (culprit : Culprit) (last : LastPiece) (piece : List ℕ) → Puts cause script left m culprit last piece
+      → Puts cause' script left m culprit last piece
   puts_weaker culprit NoPiece piece h = (stops_weaker culprit h.0, h.1)
   puts_weaker culprit BadLinePiece piece h = (stops_weaker culprit h.0, h.1)
   puts_weaker culprit (Line line) piece h = (stops_weaker culprit h.0, h.1)
   puts_weaker culprit LineFront piece (other, line, is, stops, front) = (other, line, is, stops_weaker (culprit_of other) stops, front)
   puts_weaker culprit AnswerFront piece h = h
 
-  pub ends_weaker : (ending : Ending) (printed : List ℕ) → EndsSo cause script left m ending printed → EndsSo cause' script left m ending printed
+  pub ends_weaker : (ending : Ending) (printed : List ℕ) → EndsSo cause script left m ending printed
+      → EndsSo cause' script left m ending printed
   ends_weaker ending printed ends = record {
     within = ends.within;
     piece = ends.piece;
@@ -235,16 +273,20 @@ evidence_weaker A B A' B' f g TheSource c = f c
 evidence_weaker A B A' B' f g TheSink c = c
 
 -- a run that ended without a cause being asked for
-pub before_weaker : (by_disk : Type 0) (script : Script) (left : Option (List ℕ)) (ending : Ending) (held held' : Option (List ℕ)) → EndsBefore (Evidence ⊥ ⊥) script left ending held held' → EndsBefore (Evidence ⊥ by_disk) script left ending held held'
+pub before_weaker : (by_disk : Type 0) (script : Script) (left : Option (List ℕ)) (ending : Ending)
+    (held held' : Option (List ℕ)) → EndsBefore (Evidence ⊥ ⊥) script left ending held held'
+    → EndsBefore (Evidence ⊥ by_disk) script left ending held held'
 before_weaker by_disk script left ending held held' before = record {
   printed = before.printed;
   taken = before.taken;
-  ends = ends_weaker (Evidence ⊥ ⊥) (Evidence ⊥ by_disk) (evidence_weaker ⊥ ⊥ ⊥ by_disk (λ never. never) (λ never. absurd never)) script left 0 ending before.printed before.ends;
+  ends = ends_weaker (Evidence ⊥ ⊥) (Evidence ⊥ by_disk)
+      (evidence_weaker ⊥ ⊥ ⊥ by_disk (λ never. never) (λ never. absurd never)) script left 0 ending before.printed before.ends;
 }
 
 -- ---- one more answer in front
 
-module _ (whole rest : Script) (line : List ℕ) (e : Exchange) (parts : whole.bytes ≡ line ++ 10 ∷ rest.bytes) (unended : HasNoLineEnd line) (is : exchange_at whole.start line ≡ Some e)
+module _ (whole rest : Script) (line : List ℕ) (e : Exchange) (parts : whole.bytes ≡ line ++ 10 ∷ rest.bytes)
+    (unended : HasNoLineEnd line) (is : exchange_at whole.start line ≡ Some e)
     (start_is : rest.start ≡ e.after) (before_is : rest.before ≡ whole.before + 1) where
   lines : lines_of whole.bytes ≡ line ∷ lines_of rest.bytes
   lines = ap lines_of parts ∙ lines_of-ended line rest.bytes unended
@@ -279,7 +321,8 @@ module _ (whole rest : Script) (line : List ℕ) (e : Exchange) (parts : whole.b
     )
     stops_later TheSink h = h
 
-    puts_later : (culprit : Culprit) (last : LastPiece) (piece : List ℕ) → Puts cause rest left m culprit last piece → Puts cause whole left (suc m) culprit last piece
+    puts_later : (culprit : Culprit) (last : LastPiece) (piece : List ℕ) → Puts cause rest left m culprit last piece
+        → Puts cause whole left (suc m) culprit last piece
     puts_later culprit NoPiece piece h = (stops_later culprit h.0, h.1)
     puts_later culprit BadLinePiece piece h = (stops_later culprit h.0, h.1 ∙ ap bad_line next_is)
     puts_later culprit (Line text) piece h = (stops_later culprit h.0, h.1)
@@ -288,7 +331,8 @@ module _ (whole rest : Script) (line : List ℕ) (e : Exchange) (parts : whole.b
     puts_later culprit AnswerFront piece (x, there, front) = (x, ap (λ (es : List Exchange). slice_get es (suc m)) longer ∙ there, front)
 
     -- a run goes on behind an answered line
-    pub goes_on : (ending : Ending) (printed : List ℕ) → EndsSo cause rest left m ending printed → EndsSo cause whole left (suc m) ending (answer_text e.answer ++ printed)
+    pub goes_on : (ending : Ending) (printed : List ℕ) → EndsSo cause rest left m ending printed
+        → EndsSo cause whole left (suc m) ending (answer_text e.answer ++ printed)
     goes_on ending printed ends = record {
       within = let count = ap length longer in let le = ends.within in omega arith;
       piece = ends.piece;
@@ -300,29 +344,41 @@ module _ (whole rest : Script) (line : List ℕ) (e : Exchange) (parts : whole.b
 
 -- the input's last line was answered
 pub last_answered : (cause : Culprit → Type 0) (script : Script) (text : List ℕ) (left : Option (List ℕ)) (e : Exchange) →
-    lines_of script.bytes ≡ text ∷ [] → exchange_at script.start text ≡ Some e → left ≡ Some [] → EndsSo cause script left 1 Complete (answer_text e.answer)
+    lines_of script.bytes ≡ text ∷ [] → exchange_at script.start text ≡ Some e → left ≡ Some []
+    → EndsSo cause script left 1 Complete (answer_text e.answer)
 last_answered cause script text left e lines is told =
     let all : exchanges script ≡ e ∷ [] = next_answered script text ([], lines) e is in
     record {
       within = let count = ap length all in omega arith;
       piece = [];
       puts = ((sym (ap length all), sym (ap length lines), told), refl);
-      printed_is = sym (append-nil (answer_text e.answer)) ∙ sym (append-nil (answer_text e.answer ++ [])) ∙ ap (λ (es : List Exchange). answers_text (take 1 es) ++ []) (sym all);
+      printed_is = sym (append-nil (answer_text e.answer)) ∙ sym (append-nil (answer_text e.answer ++ []))
+          ∙ ap (λ (es : List Exchange). answers_text (take 1 es) ++ []) (sym all);
     }
 
 -- there is no further line
-pub none_left : (cause : Culprit → Type 0) (script : Script) (left : Option (List ℕ)) → script.bytes ≡ [] → left ≡ Some [] → EndsSo cause script left 0 Complete []
+pub none_left : (cause : Culprit → Type 0) (script : Script) (left : Option (List ℕ)) → script.bytes ≡ []
+    → left ≡ Some [] → EndsSo cause script left 0 Complete []
 none_left cause script left none told = record {
   within = zero-le;
   piece = [];
-  puts = ((sym (ap (λ (bs : List ℕ). length (exchanges_from script.start (lines_of bs))) none), sym (ap (λ (bs : List ℕ). length (lines_of bs)) none), told), refl);
+  puts = (
+    (
+      sym (ap (λ (bs : List ℕ). length (exchanges_from script.start (lines_of bs))) none),
+      sym
+          (ap (λ (bs : List ℕ). length (lines_of bs)) none),
+      told,
+    ),
+    refl,
+  );
   printed_is = refl;
 }
 
 -- ---- what is counted
 
 -- what holds of an ending, and of a line that couldn't be put, holds of the result
-pub or_cut : {K : Type 0} (g : sink.Ghosts K) (old new : K) (line : List ℕ) (ending result : Ending) (P : Ending → Type 0) → Finishes g old new line ending result → P ending → P WriteFault → P result
+pub or_cut : {K : Type 0} (g : sink.Ghosts K) (old new : K) (line : List ℕ) (ending result : Ending)
+    (P : Ending → Type 0) → Finishes g old new line ending result → P ending → P WriteFault → P result
 or_cut g old new line ending result P f whole cut = ⊎_elim
     (λ (same : (result ≡ ending) × (f.printed ≡ line) × (g.faults new ≡ g.faults old)). subst P (sym same.0) whole)
     (λ (failed : (result ≡ WriteFault) × IsFront f.printed line × Rose (g.faults old) (g.faults new)). subst P (sym failed.0) cut)
@@ -346,7 +402,8 @@ fault_stops cause script left m by Report = by
 fault_stops cause script left m by Stop = by
 
 -- where a run ended at a read that failed, its last line wasn't answered
-pub last_unread : (ended : Option Ending) (result : Ending) → result ≡ unwrap_or ended Complete → Some result ≡ Some ReaderFault → ended ≡ Some ReaderFault
+pub last_unread : (ended : Option Ending) (result : Ending) → result ≡ unwrap_or ended Complete
+    → Some result ≡ Some ReaderFault → ended ≡ Some ReaderFault
 last_unread None result is by = absurd cc
 last_unread (Some ending) result is by = ap Some (sym is) ∙ by
 
@@ -357,21 +414,26 @@ ends_as f ending either by = ⊎_elim
     (λ (same : ending ≡ ending_at f). ap Some same)
     either
 
-pub otherwise_as : {K : Type 0} (g : sink.Ghosts K) (old new : K) (line : List ℕ) (ending result : Ending) (f : OnFault) → culprit_of ending ≢ TheDisk
+pub otherwise_as : {K : Type 0} (g : sink.Ghosts K) (old new : K) (line : List ℕ) (ending result : Ending) (f : OnFault)
+    → culprit_of ending ≢ TheDisk
     → Finishes g old new line ending result → EndsAs f (Some result)
-otherwise_as g old new line ending result f other finishes = ends_as f result (inl (or_cut g old new line ending result (λ (e : Ending). culprit_of e ≢ TheDisk) finishes other (λ e. cc)))
+otherwise_as g old new line ending result f other finishes = ends_as f result
+    (inl (or_cut g old new line ending result (λ (e : Ending). culprit_of e ≢ TheDisk) finishes other (λ e. cc)))
 
-pub fault_as : {K : Type 0} (g : sink.Ghosts K) (old new : K) (line : List ℕ) (result : Ending) (f : OnFault) → Finishes g old new line (ending_at f) result → EndsAs f (Some result)
+pub fault_as : {K : Type 0} (g : sink.Ghosts K) (old new : K) (line : List ℕ) (result : Ending) (f : OnFault)
+    → Finishes g old new line (ending_at f) result → EndsAs f (Some result)
 fault_as g old new line result f finishes = ⊎_elim
     (λ (same : (result ≡ ending_at f) × (finishes.printed ≡ line) × (g.faults new ≡ g.faults old)). ends_as f result (inr same.0))
-    (λ (cut : (result ≡ WriteFault) × IsFront finishes.printed line × Rose (g.faults old) (g.faults new)). ends_as f result (inl (λ by. cut_is_the_sinks (sym (ap culprit_of cut.0) ∙ by))))
+    (λ (cut : (result ≡ WriteFault) × IsFront finishes.printed line × Rose (g.faults old) (g.faults new)). ends_as f
+    result (inl (λ by. cut_is_the_sinks (sym (ap culprit_of cut.0) ∙ by))))
     finishes.how
   where
     cut_is_the_sinks : TheSink ≡ TheDisk → ⊥
     cut_is_the_sinks e = cc
 
 -- the disk counted a fault where it ended the run, or the last line failed
-pub fault_counts : {K : Type 0} (g : sink.Ghosts K) (old new : K) (line : List ℕ) (result : Ending) (f : OnFault) (before now : ℕ) (failed : Type 0) → failed → HasCause before now failed
+pub fault_counts : {K : Type 0} (g : sink.Ghosts K) (old new : K) (line : List ℕ) (result : Ending) (f : OnFault)
+    (before now : ℕ) (failed : Type 0) → failed → HasCause before now failed
     → Finishes g old new line (ending_at f) result → CountsFaultsOf TheDisk (Some result) before now
 fault_counts g old new line result f before now failed by cause finishes = record {
   later = cause.later;
@@ -384,7 +446,8 @@ fault_counts g old new line result f before now failed by cause finishes = recor
 }
 
 -- what holds of the endings where a read met damage holds of the result
-pub at_damage : {K : Type 0} (g : sink.Ghosts K) (old new : K) (name : Name) (place : ℕ) (result : Ending) (P : Ending → Type 0) → EndsAtDamage g old new name place result
+pub at_damage : {K : Type 0} (g : sink.Ghosts K) (old new : K) (name : Name) (place : ℕ) (result : Ending)
+    (P : Ending → Type 0) → EndsAtDamage g old new name place result
     → P (Damaged name place) → P NoMemory → P WriteFault → P result
 at_damage g old new name place result P ends damage out cut = ⊎_elim
     (λ (met : FinishesBy g old new (Damaged name place) result). or_cut g old new met.0 (Damaged name place) result P met.2 damage cut)
@@ -396,28 +459,37 @@ abbrev pub LeavesDisk : Ending → Type 0
 LeavesDisk ending = (CutsAnswer ending → ⊥) × (culprit_of ending ≡ TheDisk → ⊥)
 
 -- an ending with a line of its own leaves the disk alone, and so does that line where it can't be put
-pub line_leaves_disk : {K : Type 0} (g : sink.Ghosts K) (old new : K) (line : List ℕ) (ending result : Ending) → LeavesDisk ending → Finishes g old new line ending result → LeavesDisk result
+pub line_leaves_disk : {K : Type 0} (g : sink.Ghosts K) (old new : K) (line : List ℕ) (ending result : Ending)
+    → LeavesDisk ending → Finishes g old new line ending result → LeavesDisk result
 line_leaves_disk g old new line ending result whole f = or_cut g old new line ending result LeavesDisk f whole (λ e. cc, λ e. cc)
 
 -- an ending by another object counts nothing of this one
 pub counts_none : (who : Culprit) (ending : Ending) (n : ℕ) → culprit_of ending ≢ who → CountsFaultsOf who (Some ending) n n
-counts_none who ending n other = record { later = omega arith; rose = λ by. absurd (other (some_culprit (culprit_of ending) who by)); steady = λ _ _. refl }
+counts_none who ending n other = record
+    { later = omega arith; rose = λ by. absurd (other (some_culprit (culprit_of ending) who by)); steady = λ _ _. refl }
 
 cut_is : (result : Ending) → result ≡ WriteFault → culprit_of result ≡ TheSink
 cut_is result same = ap culprit_of same
 
 -- the sink counts its own faults
-pub finish_counts : {K : Type 0} (g : sink.Ghosts K) (old new : K) (line : List ℕ) (ending result : Ending) → culprit_of ending ≢ TheSink → Finishes g old new line ending result → CountsFaultsOf TheSink (Some result) (g.faults old) (g.faults new)
+pub finish_counts : {K : Type 0} (g : sink.Ghosts K) (old new : K) (line : List ℕ) (ending result : Ending)
+    → culprit_of ending ≢ TheSink → Finishes g old new line ending result → CountsFaultsOf TheSink (Some result) (g.faults old) (g.faults new)
 finish_counts g old new line ending result other f = ⊎_elim
     (λ (same : (result ≡ ending) × (f.printed ≡ line) × (g.faults new ≡ g.faults old)).
     subst (λ (n : ℕ). CountsFaultsOf TheSink (Some result) (g.faults old) n) (sym same.2)
     (counts_none TheSink result (g.faults old) (λ by. other (sym (ap culprit_of same.0) ∙ by))))
     (λ (failed : (result ≡ WriteFault) × IsFront f.printed line × Rose (g.faults old) (g.faults new)).
-    record { later = f.later; rose = λ _. failed.2; steady = λ other _. absurd (other (ap (λ (e : Ending). Some (culprit_of e)) failed.0)) })
+    record {
+      later = f.later;
+      rose = λ _. failed.2;
+      steady = λ other _. absurd
+          (other (ap (λ (e : Ending). Some (culprit_of e)) failed.0));
+    })
     f.how
 
 -- where a read met damage, the sink counts its own faults, and the disk none
-pub damage_counts_sink : {K : Type 0} (g : sink.Ghosts K) (old new : K) (name : Name) (place : ℕ) (result : Ending) → EndsAtDamage g old new name place result
+pub damage_counts_sink : {K : Type 0} (g : sink.Ghosts K) (old new : K) (name : Name) (place : ℕ) (result : Ending)
+    → EndsAtDamage g old new name place result
     → CountsFaultsOf TheSink (Some result) (g.faults old) (g.faults new)
 damage_counts_sink g old new name place result ends = ⊎_elim
     (λ (met : FinishesBy g old new (Damaged name place) result). finish_counts g old new met.0 (Damaged name place) result (λ e. cc) met.2)
@@ -429,10 +501,13 @@ pub otherwise_counts : {K : Type 0} (g : sink.Ghosts K) (old new : K) (line : Li
     → Finishes g old new line ending result → (before now : ℕ) → now ≡ before → CountsFaultsOf TheDisk (Some result) before now
 otherwise_counts g old new line ending result apart finishes before now same =
     subst (λ (n : ℕ). CountsFaultsOf TheDisk (Some result) before n) (sym same)
-    (counts_none TheDisk result before (or_cut g old new line ending result (λ (e : Ending). culprit_of e ≢ TheDisk) finishes apart (λ e. cc)))
+    (counts_none TheDisk result before
+    (or_cut g old new line ending result (λ (e : Ending). culprit_of e ≢ TheDisk) finishes apart (λ e. cc)))
 
-pub damage_counts : {K : Type 0} (g : sink.Ghosts K) (old new : K) (name : Name) (place : ℕ) (result : Ending) → EndsAtDamage g old new name place result
+pub damage_counts : {K : Type 0} (g : sink.Ghosts K) (old new : K) (name : Name) (place : ℕ) (result : Ending)
+    → EndsAtDamage g old new name place result
     → (before now : ℕ) → now ≡ before → CountsFaultsOf TheDisk (Some result) before now
 damage_counts g old new name place result ends before now same =
     subst (λ (n : ℕ). CountsFaultsOf TheDisk (Some result) before n) (sym same)
-    (counts_none TheDisk result before (at_damage g old new name place result (λ (e : Ending). culprit_of e ≢ TheDisk) ends (λ e. cc) (λ e. cc) (λ e. cc)))
+    (counts_none TheDisk result before
+    (at_damage g old new name place result (λ (e : Ending). culprit_of e ≢ TheDisk) ends (λ e. cc) (λ e. cc) (λ e. cc)))

@@ -14,14 +14,17 @@ use Rattle.vl_layout.specs.Store.Things.{AJob, APass, ATransaction, AView, Thing
 use Rattle.vl_model.specs.History.{Extends, History, with_commit}
 use Rattle.vl_model.specs.Keys.{Row, tagged, untagged}
 use Rattle.vl_model.specs.declared.change.Change.TheVariants.{Set as Put, Delete as Deleted}
-use Rattle.vl_replay.specs.Sequential.{IsTold, State, answer_text, answer_to, as_told, history_of, state_after, step_to, told_row, without_lengths}
-use Rattle.vl_replay.specs.laws.Growing.{begin_keeps, commit_or, get_at_keeps, get_keeps, history_more, install_commits, plan_commits, scan_keeps, write_keeps}
+use Rattle.vl_replay.specs.Sequential.{IsTold, State, answer_text, answer_to, as_told, history_of, state_after}
+use Rattle.vl_replay.specs.Sequential.{step_to, told_row, without_lengths}
+use Rattle.vl_replay.specs.laws.Growing.{begin_keeps, commit_or, get_at_keeps, get_keeps, history_more}
+use Rattle.vl_replay.specs.laws.Growing.{install_commits, plan_commits, scan_keeps, write_keeps}
 use Rattle.vl_script.specs.Script.{as_line, row_text, rows_text, text_of}
 use Rattle.std.specs.Fmt.{decimal}
 use Rattle.vl_script.specs.declared.answer.Answer.{Answer}
 use Rattle.vl_script.specs.declared.answer.Answer.TheVariants as answers
 use Rattle.vl_script.specs.declared.line.Line.{Line}
-use Rattle.vl_script.specs.declared.line.Line.TheVariants.{Begin, View, Get, Set, SetTagged, GetTagged, GetAt, Scan, Delete, Commit, Drop, Rotate, Flush, Keep, Plan, Install}
+use Rattle.vl_script.specs.declared.line.Line.TheVariants.{Begin, View, Get, Set, SetTagged, GetTagged, GetAt, Scan}
+use Rattle.vl_script.specs.declared.line.Line.TheVariants.{Delete, Commit, Drop, Rotate, Flush, Keep, Plan, Install}
 use Rattle.vl_replay.proofs.Disk.Betweens.{extends_itself}
 
 -- ---- commits
@@ -29,7 +32,8 @@ use Rattle.vl_replay.proofs.Disk.Betweens.{extends_itself}
 -- it keeps the commits, or adds one and is answered by a number
 abbrev KeepsOrAdds : State → Line → Type 0
 KeepsOrAdds s line = ((step_to s line).state.commits ≡ s.store.commits)
-    ⊎ ((changes : Changes) × (n : ℕ) × ((step_to s line).state.commits ≡ with_changes s.store.commits changes) × (answer_to s line ≡ store.Number n))
+    ⊎ ((changes : Changes) × (n : ℕ) × ((step_to s line).state.commits ≡ with_changes s.store.commits changes)
+    × (answer_to s line ≡ store.Number n))
 
 drop_commits : (s : things.State) (name : Name) (o : Option Thing) → (drop_by s name o).state.commits ≡ s.commits
 drop_commits s name None = refl

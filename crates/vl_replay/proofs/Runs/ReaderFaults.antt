@@ -93,7 +93,8 @@ module _ {D R : Type 0} (g : Ghosts D) (faults : R → ℕ) (old new : D) (reade
       by (suc m) some = inr (at_tables (suc_some m (counted faults reader) some))
 
   -- Where the disk counted none it was left alone.
-  pub left_as_before : ((IsFault (Some reason) → ⊥) → IsAsBefore g old new) → (Rose (g.faults old) (g.faults new) → ⊥) → IsAsBefore g old new
+  pub left_as_before : ((IsFault (Some reason) → ⊥) → IsAsBefore g old new) → (Rose (g.faults old) (g.faults new) → ⊥)
+      → IsAsBefore g old new
   left_as_before left_alone sound = by reason refl
     where
       of_fault : IsFault (Some reason) → IsAsBefore g old new

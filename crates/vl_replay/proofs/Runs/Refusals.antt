@@ -71,7 +71,8 @@ module _ (read : Image) where
   one_refusal (Exhausted c) (Exhausted d) (found, used) (other, used_too) = ap Exhausted (one_used c d found other used used_too)
 
   -- where reads give a refusal, an opening answers it, unless memory ran out or the disk failed before
-  pub refused_or_first : (refusal : Refusal) → IsRefused read refusal → (reason : OpenError) → AnswersOpening read (Some reason) → (reason ≡ why_refused refusal) ⊎ CameFirst reason
+  pub refused_or_first : (refusal : Refusal) → IsRefused read refusal → (reason : OpenError)
+      → AnswersOpening read (Some reason) → (reason ≡ why_refused refusal) ⊎ CameFirst reason
   refused_or_first refusal is why.NotAStore by = inl (ap why_refused (one_refusal NotAStore refusal by is))
   refused_or_first refusal is (why.NewerFormat format) by = inl (ap why_refused (one_refusal (NewerFormat format) refusal by is))
   refused_or_first refusal is (why.Damaged name place) by = inl (ap why_refused (one_refusal (Damaged name place) refusal by is))
@@ -82,7 +83,8 @@ module _ (read : Image) where
 -- ---- what ends a run whose store wasn't opened
 
 -- a refusal is that of the opening
-pub refused_for : (reason how : OpenError) (refusal : Refusal) → EndsFor reason how → how ≡ why_refused refusal → reason ≡ why_refused refusal
+pub refused_for : (reason how : OpenError) (refusal : Refusal) → EndsFor reason how → how ≡ why_refused refusal
+    → reason ≡ why_refused refusal
 refused_for reason how refusal for is = ⊎_elim
     (λ (same : how ≡ reason). sym same ∙ is)
     (λ (out : (how ≡ why.NoMemory) × ((other : Refusal) × (reason ≡ why_refused other))). absurd (not_memory refusal (sym out.0 ∙ is)))
@@ -105,17 +107,20 @@ no_fault (Exhausted counter) fault = fault
 pub fault_for : (reason how : OpenError) → EndsFor reason how → IsFault (Some how) → IsFault (Some reason)
 fault_for reason how for fault = ⊎_elim
     (λ (same : how ≡ reason). subst (λ (w : OpenError). IsFault (Some w)) same fault)
-    (λ (out : (how ≡ why.NoMemory) × ((other : Refusal) × (reason ≡ why_refused other))). absurd (subst (λ (w : OpenError). IsFault (Some w)) out.0 fault))
+    (λ (out : (how ≡ why.NoMemory) × ((other : Refusal) × (reason ≡ why_refused other))). absurd
+    (subst (λ (w : OpenError). IsFault (Some w)) out.0 fault))
     for
 
 pub fault_of : (reason how : OpenError) → EndsFor reason how → IsFault (Some reason) → IsFault (Some how)
 fault_of reason how for fault = ⊎_elim
     (λ (same : how ≡ reason). subst (λ (w : OpenError). IsFault (Some w)) (sym same) fault)
-    (λ (out : (how ≡ why.NoMemory) × ((other : Refusal) × (reason ≡ why_refused other))). absurd (no_fault out.1.0 (subst (λ (w : OpenError). IsFault (Some w)) out.1.1 fault)))
+    (λ (out : (how ≡ why.NoMemory) × ((other : Refusal) × (reason ≡ why_refused other))). absurd
+    (no_fault out.1.0 (subst (λ (w : OpenError). IsFault (Some w)) out.1.1 fault)))
     for
 
 -- where the opening was refused, that or want of memory ends the run
-pub first_for : (reason how : OpenError) (refusal : Refusal) → EndsFor reason how → (reason ≡ why_refused refusal) ⊎ CameFirst reason → (how ≡ why_refused refusal) ⊎ CameFirst how
+pub first_for : (reason how : OpenError) (refusal : Refusal) → EndsFor reason how → (reason ≡ why_refused refusal)
+    ⊎ CameFirst reason → (how ≡ why_refused refusal) ⊎ CameFirst how
 first_for reason how refusal for is = ⊎_elim
     (λ (same : how ≡ reason). subst (λ (w : OpenError). (w ≡ why_refused refusal) ⊎ CameFirst w) (sym same) is)
     (λ (out : (how ≡ why.NoMemory) × ((other : Refusal) × (reason ≡ why_refused other))). inr (subst CameFirst (sym out.0) tt))
@@ -124,8 +129,12 @@ first_for reason how refusal for is = ⊎_elim
 -- ---- what a refusal puts
 
 module _ {K : Type 0} (k : sink.Ghosts K) (old new : K) where
-  pub refused_so : (refusal : Refusal) (result : Ending) → Finishes k old new (refusal_line refusal) (Refused refusal) result → EndsUnopened k old new (why_refused refusal) result
+  pub refused_so : (refusal : Refusal) (result : Ending) → Finishes k old new (refusal_line refusal) (Refused refusal)
+      result → EndsUnopened k old new (why_refused refusal) result
   refused_so NotAStore result finishes = (why_refused NotAStore, inl refl, (refusal_line NotAStore, refl, finishes))
-  refused_so (NewerFormat format) result finishes = (why_refused (NewerFormat format), inl refl, (refusal_line (NewerFormat format), refl, finishes))
-  refused_so (Damaged name place) result finishes = (why_refused (Damaged name place), inl refl, (refusal_line (Damaged name place), refl, finishes))
-  refused_so (Exhausted counter) result finishes = (why_refused (Exhausted counter), inl refl, (refusal_line (Exhausted counter), refl, finishes))
+  refused_so (NewerFormat format) result
+      finishes = (why_refused (NewerFormat format), inl refl, (refusal_line (NewerFormat format), refl, finishes))
+  refused_so (Damaged name place) result
+      finishes = (why_refused (Damaged name place), inl refl, (refusal_line (Damaged name place), refl, finishes))
+  refused_so (Exhausted counter) result
+      finishes = (why_refused (Exhausted counter), inl refl, (refusal_line (Exhausted counter), refl, finishes))

@@ -37,7 +37,8 @@ use Rattle.vl_replay.specs.Durable.{was_needed, without_merges}
 use Rattle.vl_replay.specs.Sequential.{State, answer_to, counted, history_of, state_after}
 use Rattle.vl_replay.specs.laws.Laws.{IsSound, Stepping, keeps_or}
 use Rattle.vl_script.specs.declared.line.Line.{Line}
-use Rattle.vl_script.specs.declared.line.Line.TheVariants.{Begin, View, Get, Set, SetTagged, GetTagged, GetAt, Scan, Delete, Commit, Drop, Rotate, Flush, Keep, Plan, Install}
+use Rattle.vl_script.specs.declared.line.Line.TheVariants.{Begin, View, Get, Set, SetTagged, GetTagged, GetAt, Scan}
+use Rattle.vl_script.specs.declared.line.Line.TheVariants.{Delete, Commit, Drop, Rotate, Flush, Keep, Plan, Install}
 
 -- the ruling on a step leaves the layout unless it is answered by a number
 record Stays (l : Layout) (r : Ruling StepAnswer) : Type 0 where
@@ -172,7 +173,13 @@ module _ (s : things.State) where
   ended_install job made = of s.layout.halted
     where
       by : (b : Bool) → Ends (cond b (leaving (install.Exhausted counter.Version) (history_in s.commits) (job_ended made s.layout))
-          (record { answer = install.Installed; history = history_in s.commits; layout = installed job made s.layout; calls = 2; gone = [] }))
+          (record {
+            answer = install.Installed;
+            history = history_in s.commits;
+            layout = installed job made s.layout;
+            calls = 2;
+            gone = [];
+          }))
       by true undone = ended_stays made s.layout
       by false undone = absurd (undone refl)
 

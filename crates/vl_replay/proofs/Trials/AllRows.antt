@@ -1,5 +1,7 @@
 -- A scan of all rows, read piece by piece: each piece from the last row of the one before on.
-use Rattle.std.proofs.Common.{◌≡◌, ⊎_elim, ℕ, zero, suc, min, ◌+◌, ◌-◌, ◌^◌, ◌<◌, ◌≤◌, Bool, true, false, cond, ◌&&◌, not, List, [], ◌∷◌, ◌++◌, drop, length, take, None, Some, refl, ap, sym, ◌∙◌, subst, arith}
+use Rattle.std.proofs.Common.{◌≡◌, ⊎_elim, ℕ, zero, suc, min, ◌+◌, ◌-◌, ◌^◌, ◌<◌, ◌≤◌, Bool, true, false, cond, ◌&&◌}
+use Rattle.std.proofs.Common.{not, List, [], ◌∷◌, ◌++◌, drop, length, take, None, Some, refl, ap, sym, ◌∙◌, subst}
+use Rattle.std.proofs.Common.{arith}
 use Rattle.std.proofs.Math.Seq.{take-add}
 use Rattle.std.proofs.lemmas.Bool.{cases_lt}
 use Rattle.std.proofs.lemmas.Bool.Decides.{nat_tests}
@@ -167,7 +169,8 @@ read_left read long = cond (nat_lt read rows_at_once) 0 (2 ^ 64 + 1 - long)
 pub left_smaller : (read next long longer : ℕ) → rows_at_once ≤ read → long < 2 ^ 64 → longer < 2 ^ 64 → longer + 1 ≡ long + next
     → read_left next longer < read_left read long
 left_smaller read next long longer asked fits fits_longer more =
-    subst (λ (b : Bool). read_left next longer < cond b 0 (2 ^ 64 + 1 - long)) (sym (not_few read asked)) (by (nat_lt next rows_at_once) refl)
+    subst (λ (b : Bool). read_left next longer < cond b 0 (2 ^ 64 + 1 - long)) (sym (not_few read asked))
+    (by (nat_lt next rows_at_once) refl)
   where
     not_few : (n : ℕ) → rows_at_once ≤ n → nat_lt n rows_at_once ≡ false
     not_few n le = grind (arith, nat_tests, le)

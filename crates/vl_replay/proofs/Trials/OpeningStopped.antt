@@ -1,5 +1,6 @@
 -- What a stop leaves inside the first opening of an empty disk: the image of its crash opens without commits.
-use Rattle.std.proofs.Common.{◌≡◌, ⊎_elim, ℕ, ◌≤◌, List, [], ◌∷◌, length, take, drop, Option, Some, None, Ok, Err, refl, sym, ◌∙◌, ap, subst, arith}
+use Rattle.std.proofs.Common.{◌≡◌, ⊎_elim, ℕ, ◌≤◌, List, [], ◌∷◌, length, take, drop, Option, Some, None, Ok, Err}
+use Rattle.std.proofs.Common.{refl, sym, ◌∙◌, ap, subst, arith}
 use Rattle.std.specs.Prelude.{◌≢◌, Bool, true, false, nat_le, if◌then◌else◌, Result}
 use Rattle.std.specs.FinMap.{empty, get, get-empty, insert}
 use Rattle.std.proofs.lemmas.Bool.{true≢false}
@@ -26,7 +27,8 @@ use Rattle.vl_manifest.specs.laws.ManifestLaws.{manifest_reads, one_saying, whol
 use Rattle.vl_manifest.specs.laws.StateLaws.{IsInRange}
 use Rattle.vl_manifest.specs.States.{as_read, fresh_state, whole_edits}
 use Rattle.vl_manifest.specs.declared.state.ManifestState.{ManifestState}
-use Rattle.vl_mem.specs.laws.CrashChance.{IsTornByPieces, IsTornInOnePiece, SpellsWhatStands, crash_without_chance, lengthened_torn, untorn_file}
+use Rattle.vl_mem.specs.laws.CrashChance.{IsTornByPieces, IsTornInOnePiece, SpellsWhatStands, crash_without_chance}
+use Rattle.vl_mem.specs.laws.CrashChance.{lengthened_torn, untorn_file}
 use Rattle.vl_mem.specs.CrashImage.{crash_image}
 use Rattle.vl_mem.specs.laws.CrashLaws.{crash_left}
 use Rattle.vl_mem.specs.declared.outcome.Outcome.{Outcome}
@@ -239,7 +241,8 @@ module _ (now : DiskState) (small : IsSmall now) (manifest : IsFirstManifest now
   manifest_one : (n : ℕ) (bytes : List ℕ) → get image (Manifest n) ≡ Some bytes → 1 ≡ n
   manifest_one n bytes is =
       let up = names (Manifest n) (λ none. some_none bytes (sym is ∙ none)) in
-      let low = of (get now.standing (Manifest n)) (get now.removed (Manifest n)) (get image (Manifest n)) refl refl is (left.left (Manifest n)) in
+      let low = of (get now.standing (Manifest n)) (get now.removed (Manifest n)) (get image (Manifest n)) refl refl is
+      (left.left (Manifest n)) in
       omega (arith, up, low)
     where
       of : (standing removed : Option File) (found : Option (List ℕ)) → get now.standing (Manifest n) ≡ standing
@@ -266,7 +269,8 @@ module _ (now : DiskState) (small : IsSmall now) (manifest : IsFirstManifest now
       by (is_made stands) =
           let same : piece ≡ bytes = some_same piece bytes (sym (left_settled now image (Manifest 1) piece stands left.left) ∙ is) in
           subst (λ (b : List ℕ). SaysState 1 b fresh_state) same
-          (whole_said 1 fresh_state piece fresh_range (manifest_reads 1 (whole_edits fresh_state ∷ []) (omega arith) (bare_has_frame fresh_state refl fresh_range, tt)))
+          (whole_said 1 fresh_state piece fresh_range
+          (manifest_reads 1 (whole_edits fresh_state ∷ []) (omega arith) (bare_has_frame fresh_state refl fresh_range, tt)))
 
   -- so each opening of it begins with the fresh state
   opens_fresh : (o : Opening) → Opens image (Ok o) → fresh_state ≡ o.state
@@ -281,7 +285,8 @@ module _ (now : DiskState) (small : IsSmall now) (manifest : IsFirstManifest now
       by Bare headed says = sym (ok_same {E = Refusal} o.state fresh_state says)
       by (Led n bytes) headed (said, says, is) =
           let one : 1 ≡ n = manifest_one n bytes headed.here.stands in
-          let here : get image (Manifest 1) ≡ Some bytes = subst (λ (k : ℕ). get image (Manifest k) ≡ Some bytes) (sym one) headed.here.stands in
+          let here : get image (Manifest 1) ≡ Some bytes = subst (λ (k : ℕ). get image (Manifest k) ≡ Some bytes)
+          (sym one) headed.here.stands in
           let readable : IsReadable 1 bytes = subst (λ (k : ℕ). IsReadable k bytes) (sym one) headed.here.readable in
           let says_o : ManifestSays 1 bytes (Ok o.state) = subst (ManifestSays 1 bytes) (said_so n said is)
           (subst (λ (k : ℕ). ManifestSays k bytes said) (sym one) says) in
@@ -294,7 +299,8 @@ module _ (now : DiskState) (small : IsSmall now) (manifest : IsFirstManifest now
   small_reopens : Reopens image no_history 0
   small_reopens = reopens_by 1 image names no_history 0
       (opening_shown empty_disk now empty no_history 0
-      (λ image left. (started_durable empty empty_disk started_empty empty_stay).as_read empty image is_read left) shown_nothing as_of image left)
+      (λ image left. (started_durable empty empty_disk started_empty empty_stay).as_read empty image is_read left)
+      shown_nothing as_of image left)
       (λ found. let fresh = opens_fresh found.opening found.opens in
       numbers_left 1 (omega arith) image names found
       (subst (λ (s : ManifestState). s.head ≤ 2) fresh (omega arith)) (subst (λ (s : ManifestState). s.next_log ≤ 2) fresh (omega arith)))

@@ -4,7 +4,8 @@ use Rattle.std.specs.Prelude.{IfSome}
 use Rattle.vl_io.specs.Source.{HandsOver}
 
 -- what is told stays told
-pub hands_on : (old new : Option (List ℕ)) (given rest : List ℕ) → HandsOver old new given → old ≡ Some rest → (after : List ℕ) × (new ≡ Some after) × (rest ≡ given ++ after)
+pub hands_on : (old new : Option (List ℕ)) (given rest : List ℕ) → HandsOver old new given → old ≡ Some rest
+    → (after : List ℕ) × (new ≡ Some after) × (rest ≡ given ++ after)
 hands_on None new given rest hands is = absurd cc
 hands_on (Some had) None given rest hands is = absurd hands
 hands_on (Some had) (Some after) given rest hands is = (after, refl, some_same rest had (sym is) ∙ hands)
@@ -13,7 +14,8 @@ hands_on (Some had) (Some after) given rest hands is = (after, refl, some_same r
     some_same a b e = cc
 
 -- at the end nothing is left
-pub hands_all : (old new : Option (List ℕ)) (given rest : List ℕ) → HandsOver old new given → IfSome old (λ left. left ≡ []) → old ≡ Some rest → new ≡ Some []
+pub hands_all : (old new : Option (List ℕ)) (given rest : List ℕ) → HandsOver old new given
+    → IfSome old (λ left. left ≡ []) → old ≡ Some rest → new ≡ Some []
 hands_all old new given rest hands none is =
     let (after, new_is, parts) = hands_on old new given rest hands is in
     let empty : rest ≡ [] = subst (λ (o : Option (List ℕ)). IfSome o (λ left. left ≡ [])) is none in

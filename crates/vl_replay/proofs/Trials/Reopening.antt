@@ -91,7 +91,8 @@ module _ (stop : ℕ) (disk : StoppingDisk) (is : state_on disk ≡ empty_disk) 
       (r : Result (Replayer StoppingDisk Held Reader Writer watched held cloned read write) (OpenFail StoppingDisk R))
       → reader_faults faults r ≡ 0 → HasCause (faults_on disk) (faults_on (disk_behind r)) (IsDiskFault (reader_faults faults r) (why_of r))
       → HoldsThroughout memory.ghosts disk (disk_behind r) (IsMeanwhile empty empty_disk)
-      → (writers : Writers Writer) (bytes : Held → Maybe (List ℕ)) → IfOk r (λ replayer. StandsFor memory.ghosts writers bytes replayer begun)
+      → (writers : Writers Writer) (bytes : Held → Maybe (List ℕ))
+      → IfOk r (λ replayer. StandsFor memory.ghosts writers bytes replayer begun)
       → IfOk r (λ replayer. HoldsState memory.ghosts IsStored begun (disk_of replayer))
       → IfOk r (λ replayer. IsOnTrial stop (StandsFor memory.ghosts writers bytes replayer) (disk_of replayer))
   opened faults (Ok replayer) unread cause meanwhile writers bytes stands holds =
@@ -130,24 +131,30 @@ module _ (stop : ℕ) (disk : StoppingDisk) (is : state_on disk ≡ empty_disk) 
       of (why.Exhausted counter) by answer = not_refused (refusals.Exhausted counter) answer
       of why.NoMemory by answer = tt
       of (why.Disk name) by answer =
-          let exactly = (counted_past fail.disk.disk (Some stop) (meanwhile.time.as_planned (Some stop) past)).exactly (omega (arith, few)) in
+          let exactly = (counted_past fail.disk.disk (Some stop) (meanwhile.time.as_planned (Some stop) past)).exactly
+          (omega (arith, few)) in
           let rose = by.rose unread in (
             omega (arith, exactly, few, rose, sound),
             λ o. subst (λ (h : History). Reopens (crash_image o (state_on fail.disk)) h (last_number h)) (sym no_commits)
                 (opening_reopens empty bare_read (state_on fail.disk)
-                (meanwhile.each (state_on fail.disk) (counts_present fail.disk.disk.events.items (state_on fail.disk) (length disk.disk.events.items) refl meanwhile.time.later)) o),
+                (meanwhile.each (state_on fail.disk)
+                (counts_present fail.disk.disk.events.items (state_on fail.disk) (length disk.disk.events.items) refl
+                meanwhile.time.later)) o),
           )
 
 -- ---- the opening of what a crash leaves
 
-module _ (image : Image) (h : History) (m : ℕ) (disk : StoppingDisk) (started : Started image (state_on disk)) (again : Reopens image h m) where
+module _ (image : Image) (h : History) (m : ℕ) (disk : StoppingDisk) (started : Started image (state_on disk))
+    (again : Reopens image h m) where
   -- where it isn't opened, memory ran out
-  pub only_memory : (reason : OpenError) → ((state : DiskState) (read : Image) → memory.ghosts.told disk ≡ Some state → IsRead read state → AnswersBy read (recovery_by reason))
+  pub only_memory : (reason : OpenError)
+      → ((state : DiskState) (read : Image) → memory.ghosts.told disk ≡ Some state → IsRead read state → AnswersBy read (recovery_by reason))
       → (IsFault (Some reason) → ⊥) → reason ≡ why.NoMemory
   only_memory reason answers sound = of reason (answers (state_on disk) image refl (started_read image (state_on disk) started)) sound
     where
       not_refused : (refusal : Refusal) → IsRefused image refusal → ⊥
-      not_refused = reopens_not_refused memory.ghosts disk image (state_on disk) h m refl started again image (started_read image (state_on disk) started)
+      not_refused = reopens_not_refused memory.ghosts disk image (state_on disk) h m refl started again image
+          (started_read image (state_on disk) started)
 
       of : (reason : OpenError) → AnswersBy image (recovery_by reason) → (IsFault (Some reason) → ⊥) → reason ≡ why.NoMemory
       of why.NotAStore answer fine = absurd (not_refused refusals.NotAStore answer)
@@ -158,7 +165,8 @@ module _ (image : Image) (h : History) (m : ℕ) (disk : StoppingDisk) (started 
       of (why.Disk name) answer fine = absurd (fine tt)
 
 -- the line of want of memory is put then
-module _ {K : Type 0} (k : sink.Ghosts K) (old new : K) (reason : OpenError) (result : Ending) (ends : EndsUnopened k old new reason result) where
+module _ {K : Type 0} (k : sink.Ghosts K) (old new : K) (reason : OpenError) (result : Ending)
+    (ends : EndsUnopened k old new reason result) where
   pub memory_line : reason ≡ why.NoMemory → Finishes k old new no_memory_line NoMemory result
   memory_line is =
       let (how, for, by) = ends in

@@ -1,5 +1,6 @@
 -- What a stop leaves of a disk: which history the image of its crash shows.
-use Rattle.std.proofs.Common.{◌≡◌, ⊎_elim, ℕ, ◌+◌, ◌<◌, ◌≤◌, List, [], ◌∷◌, ◌++◌, length, map, take, Option, Some, None, Ok, true, false, refl, sym, ◌∙◌, ap, subst, arith, length-append}
+use Rattle.std.proofs.Common.{◌≡◌, ⊎_elim, ℕ, ◌+◌, ◌<◌, ◌≤◌, List, [], ◌∷◌, ◌++◌, length, map, take, Option, Some}
+use Rattle.std.proofs.Common.{None, Ok, true, false, refl, sym, ◌∙◌, ap, subst, arith, length-append}
 use Rattle.std.specs.Prelude.{◌≢◌, ◌-◌, ◌/◌, Bool, nat_le, suc}
 use Rattle.std.specs.FinMap.{get}
 use Rattle.std.specs.List.{AllByRecursion}
@@ -124,7 +125,8 @@ module _ (state : ManifestState) (view : View) (before : List Segment) (last : S
       (record { header = Some last.format; frames = last.frames; whole = says.0 }) in
       let logs = map log_as_held before ++ found ∷ [] in
       let standing : StandingLogs image state.head logs =
-      standing_with last disk (torn taken) image elsewhere may (log ++ take k frame) found.reading is says.1 state.head before holds.logs_are in
+      standing_with last disk (torn taken) image elsewhere may (log ++ take k frame) found.reading is says.1 state.head
+      before holds.logs_are in
       let split = map-append log_as_held before (last ∷ []) in
       let walk : walked state.covered logs ≡ Ok number =
       walked_with (log_as_held last) found number number (λ m e. e) state.covered (map log_as_held before)
@@ -190,7 +192,8 @@ module _ (state : ManifestState) (view : View) (before : List Segment) (last : S
   half_less : half < length frame
   half_less =
       let size : length (log ++ take (length frame) frame) ≡ length log + length frame =
-      length-append log (take (length frame) frame) ∙ ap (λ (n : ℕ). length log + n) (ap length (take_all (length frame) frame (omega arith))) in
+      length-append log (take (length frame) frame)
+      ∙ ap (λ (n : ℕ). length log + n) (ap length (take_all (length frame) frame (omega arith))) in
       omega (arith, size, frame_some)
 
   module _ (lawful : IsLawful disk) (number : ℕ) (goes : GoOn state.covered (before ++ last ∷ []) number) where
@@ -203,22 +206,28 @@ module _ (state : ManifestState) (view : View) (before : List Segment) (last : S
     none_opens outcome = part_opens number goes 0 (crash_image outcome (torn 0)) (left outcome 0) 0 frame_some (none_left outcome)
 
     lost_opens : Opens (crash_image Lost (torn (length frame))) (Ok (opening_held state view (before ++ last ∷ []) number))
-    lost_opens = part_opens number goes (length frame) (crash_image Lost (torn (length frame))) (left Lost (length frame)) 0 frame_some (lost_left (length frame))
+    lost_opens = part_opens number goes (length frame) (crash_image Lost (torn (length frame)))
+        (left Lost (length frame)) 0 frame_some (lost_left (length frame))
 
     half_opens : Opens (crash_image Halved (torn (length frame))) (Ok (opening_held state view (before ++ last ∷ []) number))
-    half_opens = part_opens number goes (length frame) (crash_image Halved (torn (length frame))) (left Halved (length frame)) half half_less half_left
+    half_opens = part_opens number goes (length frame) (crash_image Halved (torn (length frame)))
+        (left Halved (length frame)) half half_less half_left
 
 -- What is kept of a disk whose last sync failed is what it would have had behind it.
 kept_left : (name : Name) (disk : DiskState) → MayLeave (synced name disk) (crash_image Kept disk)
 kept_left name disk = read_left (crash_image Kept disk) (synced name disk) (record {
   each = λ q. image_left Kept disk q ∙ ⊎_elim
-      (λ (same : q ≡ name). subst (λ (n : Name). option_map (λ (file : File). file.bytes) (get disk.standing n) ≡ option_map (λ (file : File). file.bytes) (get (synced name disk).standing n))
+      (λ (same : q ≡ name). subst
+      (λ (n : Name). option_map (λ (file : File). file.bytes) (get disk.standing n) ≡ option_map
+      (λ (file : File). file.bytes) (get (synced name disk).standing n))
       (sym same) (of (get disk.standing name) ∙ sym (ap (option_map (λ (file : File). file.bytes)) (changed_there name disk synced_file))))
-      (λ (other : q ≢ name). ap (option_map (λ (file : File). file.bytes)) (sym ((changed_elsewhere name disk synced_file).standing q other)))
+      (λ (other : q ≢ name). ap (option_map (λ (file : File). file.bytes))
+      (sym ((changed_elsewhere name disk synced_file).standing q other)))
       (same_or_other q name);
 })
   where
-    of : (o : Option File) → option_map (λ (file : File). file.bytes) o ≡ option_map (λ (file : File). file.bytes) (option_map synced_file o)
+    of : (o : Option File) → option_map (λ (file : File). file.bytes) o ≡ option_map (λ (file : File). file.bytes)
+        (option_map synced_file o)
     of None = refl
     of (Some file) = refl
 
@@ -241,7 +250,8 @@ module _ (s : State) (disk : DiskState) (stored : IsStored s disk) where
   -- the image opens as the store that the disk holds of the state
   abbrev pub OpensAsHeld : Image → Type 0
   OpensAsHeld image =
-      Opens image (Ok (opening_held stored.base.state (view_in s image) (logs_from stored.base s.store.layout) (last_number (history_of s))))
+      Opens image (Ok (opening_held stored.base.state (view_in s image) (logs_from stored.base s.store.layout)
+      (last_number (history_of s))))
 
   -- no table leads into the log that takes commits
   pub unled : IsAmong (led_into (found_levels s.store.layout.levels)) s.store.layout.active.number → ⊥
@@ -330,11 +340,13 @@ module _ (s : State) (disk : DiskState) (stored : IsStored s disk) (fits : s.fil
   pub held_reopens : (now : DiskState) → SameElsewhere (Log s.store.layout.active.number) disk now → (image : Image) → MayLeave now image
       → OpensAsHeld s disk stored image → NamesUpTo s.files image → Reopens image (history_of s) (last_number (history_of s))
   held_reopens now elsewhere image may opens names =
-      reopens_by s.files image names (history_of s) (last_number (history_of s)) (held_shows s disk stored now elsewhere image may opens) (λ found.
+      reopens_by s.files image names (history_of s) (last_number (history_of s))
+      (held_shows s disk stored now elsewhere image may opens) (λ found.
       let last = last_held stored.base.state.head stored.base.before (s.store.layout.active) disk stored.holds.files.logs in
       let within : s.store.layout.active.number ≤ s.files =
       stored.numbered.standing (Log s.store.layout.active.number) (λ none. some_none _ (sym last.stands ∙ none)) in
-      let same : found.opening ≡ opening_held stored.base.state (view_in s image) (logs_from stored.base s.store.layout) (last_number (history_of s)) =
+      let same : found.opening ≡ opening_held stored.base.state (view_in s image) (logs_from stored.base s.store.layout)
+      (last_number (history_of s)) =
       ok_same {E = Refusal} found.opening _ (single_opening image (Ok found.opening) _ found.opens opens) in
       let state : found.opening.state ≡ stored.base.state = ap (λ (o : Opening). o.state) same in
       numbers_left s.files fits image names found
@@ -425,7 +437,8 @@ pub stopped_reopens : (before after : State) (passed made : ℕ) (now : DiskStat
     Reopens (crash_image outcome now) (history_of s) (last_number (history_of s))
 stopped_reopens before after passed made now (append_failed commits none one is) lawful few outcome first passes =
     let first_is : first ≡ false = passes (one ∙ ap suc (sym none)) ∙ ap (nat_le 1) none in
-    subst (λ (b : Bool). let s = state_left outcome b before after in Reopens (crash_image outcome now) (history_of s) (last_number (history_of s)))
+    subst (λ (b : Bool). let s = state_left outcome b before after in Reopens (crash_image outcome now) (history_of s)
+    (last_number (history_of s)))
     (sym first_is)
     (subst (λ (s : State). Reopens (crash_image outcome now) (history_of s) (last_number (history_of s))) (of outcome)
     (subst (λ (d : DiskState). Reopens (crash_image outcome d) (history_of before) (last_number (history_of before))) (sym is)
@@ -437,9 +450,11 @@ stopped_reopens before after passed made now (append_failed commits none one is)
     of Halved = refl
 stopped_reopens before after passed made now (sync_failed commits one two is) lawful few outcome first passes =
     let first_is : first ≡ true = passes (two ∙ ap suc (sym one)) ∙ ap (nat_le 1) one in
-    subst (λ (b : Bool). let s = state_left outcome b before after in Reopens (crash_image outcome now) (history_of s) (last_number (history_of s)))
+    subst (λ (b : Bool). let s = state_left outcome b before after in Reopens (crash_image outcome now) (history_of s)
+    (last_number (history_of s)))
     (sym first_is)
-    (subst (λ (d : DiskState). let s = state_left outcome true before after in Reopens (crash_image outcome d) (history_of s) (last_number (history_of s)))
+    (subst (λ (d : DiskState). let s = state_left outcome true before after in Reopens (crash_image outcome d)
+    (history_of s) (last_number (history_of s)))
     (sym is) (sync_failed_reopens before after commits (omega (arith, few)) (let same = commits.files in omega (arith, few, same)) outcome))
 stopped_reopens before after passed made now (step_failed stops within) lawful few outcome first passes =
     subst (λ (k : History). Reopens (crash_image outcome now) k (last_number k)) (same_left before after stops.same outcome first)

@@ -17,7 +17,8 @@ begun_last h l ticket number is = by (nat_le max_live (length l.live)) is
     last = last_number h
 
     by : (b : Bool) → Begun ticket number
-        ≡ (cond b (leaving TooMany h l) (leaving (Begun (free_ticket (tickets_of l.live)) last) h (begun l (free_ticket (tickets_of l.live)) last))).answer
+        ≡ (cond b (leaving TooMany h l)
+        (leaving (Begun (free_ticket (tickets_of l.live)) last) h (begun l (free_ticket (tickets_of l.live)) last))).answer
         → number ≡ last_number h
     by true e = absurd cc
     by false e = cc

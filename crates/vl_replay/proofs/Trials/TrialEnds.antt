@@ -1,5 +1,6 @@
 -- How a trial ends, by the stages that it went through.
-use Rattle.std.proofs.Common.{◌≡◌, ◌≢◌, ⊎_elim, inl, inr, ℕ, ◌<◌, false, List, [], ◌++◌, length, take, Option, Some, None, refl, sym, ◌∙◌, ap, subst, arith, zero-le}
+use Rattle.std.proofs.Common.{◌≡◌, ◌≢◌, ⊎_elim, inl, inr, ℕ, ◌<◌, false, List, [], ◌++◌, length, take, Option, Some}
+use Rattle.std.proofs.Common.{None, refl, sym, ◌∙◌, ap, subst, arith, zero-le}
 use Rattle.std.specs.Prelude.{nat_le}
 use Rattle.std.proofs.lemmas.List.{take_all}
 use Rattle.vl_disk.specs.Faults.{Rose}
@@ -20,10 +21,14 @@ use Rattle.vl_replay.specs.Opening.{ending_unopened}
 use Rattle.vl_engine.specs.Opening.{IsFault}
 use Rattle.vl_replay.specs.Runs.{IsFront}
 use Rattle.vl_replay.specs.Steps.{EndsUnopened, Finishes}
-use Rattle.vl_replay.specs.Trial.{EndsTrial, IsLastFront, ReachesEnd, TakesFirst, Trial, exchanges_unstopped, answered_lines, answered_state, at_stop, before_stop, begun, reopened_state, state_behind_stop, trial_text}
+use Rattle.vl_replay.specs.Trial.{EndsTrial, IsLastFront, ReachesEnd, TakesFirst, Trial, exchanges_unstopped}
+use Rattle.vl_replay.specs.Trial.{answered_lines, answered_state, at_stop, before_stop, begun, reopened_state}
+use Rattle.vl_replay.specs.Trial.{state_behind_stop, trial_text}
 use Rattle.vl_replay.specs.Trying.{ComesTo, LeavesToOpen, ReopensAs, StopsOpening, trial_of}
 use Rattle.vl_replay.specs.declared.ending.Ending.{Ending}
-use Rattle.vl_replay.specs.declared.ending.Ending.TheVariants.{Complete, BadLine, BadWords, DiskFault, ReaderFault, Refused, Damaged, NoMemory, ReadFault, WriteFault, AnswerCut, Stopped}
+use Rattle.vl_replay.specs.declared.ending.Ending.TheVariants.{Complete, BadLine, BadWords, DiskFault, ReaderFault}
+use Rattle.vl_replay.specs.declared.ending.Ending.TheVariants.{Refused, Damaged, NoMemory, ReadFault, WriteFault}
+use Rattle.vl_replay.specs.declared.ending.Ending.TheVariants.{AnswerCut, Stopped}
 use Rattle.vl_replay.proofs.Runs.Ends.{or_cut, takes_both, takes_nothing}
 use Rattle.vl_replay.proofs.Trials.TrialLines.{chosen_false, is_past}
 use Rattle.vl_replay.proofs.Runs.Refusals.{fault_for}
@@ -40,7 +45,8 @@ module _ (t : Trial) (held mid : Option (List ℕ)) (taken : Takes held mid (ans
   takes_piece : (held' : Option (List ℕ)) (piece : List ℕ) → Takes mid held' piece → TakesFirst t held held' count piece
   takes_piece held' piece more = (
     omega arith,
-    subst (Takes held held') (ap (λ xs. answers_text xs ++ piece) (sym every)) (takes_both held mid held' (answers_text (answered_lines t)) piece taken more),
+    subst (Takes held held') (ap (λ xs. answers_text xs ++ piece) (sym every))
+        (takes_both held mid held' (answers_text (answered_lines t)) piece taken more),
   )
 
   module _ {K : Type 0} (k : sink.Ghosts K) (old new : K) (from : k.held old ≡ mid) (left : Option (List ℕ)) where
@@ -48,7 +54,8 @@ module _ (t : Trial) (held mid : Option (List ℕ)) (taken : Takes held mid (ans
     takes_printed printed more = takes_piece (k.held new) printed (subst (λ (m : Option (List ℕ)). Takes m (k.held new) printed) from more)
 
     -- the last line couldn't be put
-    cut_at : (line : List ℕ) (ending result : Ending) (printed : List ℕ) → IsLastFront t count printed → Takes (k.held old) (k.held new) printed → result ≡ WriteFault
+    cut_at : (line : List ℕ) (ending result : Ending) (printed : List ℕ) → IsLastFront t count printed
+        → Takes (k.held old) (k.held new) printed → result ≡ WriteFault
         → EndsTrial t held (k.held new) left result
     cut_at line ending result printed front more is =
         subst (λ (e : Ending). EndsTrial t held (k.held new) left e) (sym is) (count, printed, front, takes_printed printed more)
@@ -75,7 +82,8 @@ module _ (t : Trial) (held mid : Option (List ℕ)) (taken : Takes held mid (ans
 
     -- the contents were printed
     pub ends_reopened : (result : Ending) → ReachesEnd t → left ≡ Some []
-        → ReopensAs k (history_of (reopened_state t)) (last_number (history_of (reopened_state t))) old new result → EndsTrial t held (k.held new) left result
+        → ReopensAs k (history_of (reopened_state t)) (last_number (history_of (reopened_state t))) old new result
+        → EndsTrial t held (k.held new) left result
     ends_reopened result reaches all reopens = ⊎_elim printed (ends_memory result) reopens
       where
         printed : Finishes k old new (trial_text t) Complete result → EndsTrial t held (k.held new) left result
@@ -85,7 +93,8 @@ module _ (t : Trial) (held mid : Option (List ℕ)) (taken : Takes held mid (ans
               reaches,
               all,
               takes_both held mid (k.held new) (answers_text (answered_lines t)) (trial_text t) taken
-                  (subst (λ (m : Option (List ℕ)). Takes m (k.held new) (trial_text t)) from (subst (Takes (k.held old) (k.held new)) whole.1 f.taken)),
+                  (subst (λ (m : Option (List ℕ)). Takes m (k.held new) (trial_text t)) from
+                  (subst (Takes (k.held old) (k.held new)) whole.1 f.taken)),
             ))
             (λ (cut : (result ≡ WriteFault) × IsFront f.printed (trial_text t) × Rose (k.faults old) (k.faults new)).
             cut_at (trial_text t) Complete result f.printed (inl (reaches, refl, cut.1)) f.taken cut.0)
@@ -94,7 +103,8 @@ module _ (t : Trial) (held mid : Option (List ℕ)) (taken : Takes held mid (ans
 -- ---- a store that wasn't opened
 
 -- its status is that of a fault only where the disk failed
-pub not_by_disk : {K : Type 0} (k : sink.Ghosts K) (old new : K) (reason : OpenError) (result : Ending) → EndsUnopened k old new reason result
+pub not_by_disk : {K : Type 0} (k : sink.Ghosts K) (old new : K) (reason : OpenError) (result : Ending)
+    → EndsUnopened k old new reason result
     → (IsFault (Some reason) → ⊥) → status_of result ≢ 3
 not_by_disk k old new reason result (how, for, (line, line_is, finishes)) sound =
     or_cut k old new line (ending_unopened how) result (λ (e : Ending). status_of e ≢ 3) finishes
@@ -109,7 +119,8 @@ not_by_disk k old new reason result (how, for, (line, line_is, finishes)) sound 
     of (why.Disk name) e = tt
 
 -- what holds of all endings of an opening, and of a line that couldn't be put, holds of the result
-pub of_ended : {K : Type 0} (k : sink.Ghosts K) (old new : K) (reason : OpenError) (result : Ending) (P : Ending → Type 0) → EndsUnopened k old new reason result
+pub of_ended : {K : Type 0} (k : sink.Ghosts K) (old new : K) (reason : OpenError) (result : Ending)
+    (P : Ending → Type 0) → EndsUnopened k old new reason result
     → ((how : OpenError) → P (ending_unopened how)) → P WriteFault → P result
 of_ended k old new reason result P (how, for, (line, line_is, finishes)) each cut =
     or_cut k old new line (ending_unopened how) result P finishes (each how) cut
@@ -117,14 +128,16 @@ of_ended k old new reason result P (how, for, (line, line_is, finishes)) each cu
 -- ---- what the run came to
 
 -- the opening met the stop
-pub stopped_opening : (stop : ℕ) (input : List ℕ) (disk : StoppingDisk) (held left : Option (List ℕ)) → stop < begun.calls → LeavesToOpen disk (λ _. begun)
+pub stopped_opening : (stop : ℕ) (input : List ℕ) (disk : StoppingDisk) (held left : Option (List ℕ))
+    → stop < begun.calls → LeavesToOpen disk (λ _. begun)
     → (rest : List ℕ) → left ≡ Some rest → ComesTo (trial_of stop input) held held left disk Stopped
 stopped_opening stop input disk held left below leaves rest told = (
   (λ o. inl below),
   (rest, told),
   record {
     taken = λ o. subst (λ (es : List Exchange). Takes held held (answers_text es)) (sym (none_answered o)) (takes_nothing held);
-    leaves = λ o. subst (λ (s : State). Reopens (crash_image o (state_on disk)) (history_of s) (last_number (history_of s))) (sym (nothing_left o)) (leaves o);
+    leaves = λ o. subst (λ (s : State). Reopens (crash_image o (state_on disk)) (history_of s)
+        (last_number (history_of s))) (sym (nothing_left o)) (leaves o);
   },
 )
   where
@@ -141,7 +154,8 @@ stopped_opening stop input disk held left below leaves rest told = (
         ∙ ap (last_state begun) (none_answered o)
 
 module _ (stop : ℕ) (disk : StoppingDisk) where
-  pub stops_by_fault : (reason : OpenError) → IsFault (Some reason) → StopsOpening stop reason disk → (stop < begun.calls) × LeavesToOpen disk (λ _. begun)
+  pub stops_by_fault : (reason : OpenError) → IsFault (Some reason) → StopsOpening stop reason disk
+      → (stop < begun.calls) × LeavesToOpen disk (λ _. begun)
   stops_by_fault why.NotAStore by stops = absurd by
   stops_by_fault (why.NewerFormat format) by stops = absurd by
   stops_by_fault (why.Damaged name place) by stops = absurd by
@@ -158,8 +172,10 @@ module _ (stop : ℕ) (disk : StoppingDisk) where
   stops_by_memory (why.Disk name) fine stops = absurd (fine tt)
 
 -- memory ran out before a line was read
-module _ {K : Type 0} (k : sink.Ghosts K) (old new : K) (result : Ending) (finishes : Finishes k old new no_memory_line NoMemory result) where
-  pub comes_nowhere : (t : Outcome → Trial) (left : Option (List ℕ)) (disk : StoppingDisk) → ComesTo t (k.held old) (k.held new) left disk result
+module _ {K : Type 0} (k : sink.Ghosts K) (old new : K) (result : Ending)
+    (finishes : Finishes k old new no_memory_line NoMemory result) where
+  pub comes_nowhere : (t : Outcome → Trial) (left : Option (List ℕ)) (disk : StoppingDisk)
+      → ComesTo t (k.held old) (k.held new) left disk result
   comes_nowhere t left disk = ⊎_elim
       (λ (whole : (result ≡ NoMemory) × (finishes.printed ≡ no_memory_line) × (k.faults new ≡ k.faults old)).
       subst (λ (e : Ending). ComesTo t (k.held old) (k.held new) left disk e) (sym whole.0)
@@ -170,7 +186,8 @@ module _ {K : Type 0} (k : sink.Ghosts K) (old new : K) (result : Ending) (finis
       finishes.how
 
 -- the trial ended with the run
-pub ends_so : (t : Outcome → Trial) (held held' left : Option (List ℕ)) (disk : StoppingDisk) (ending : Ending) → ComesTo t held held' left disk ending
+pub ends_so : (t : Outcome → Trial) (held held' left : Option (List ℕ)) (disk : StoppingDisk) (ending : Ending)
+    → ComesTo t held held' left disk ending
     → ending ≢ Complete → ending ≢ Stopped → (o : Outcome) → EndsTrial (t o) held held' left ending
 ends_so t held held' left disk Complete comes whole silent o = absurd (whole refl)
 ends_so t held held' left disk BadLine comes whole silent o = comes o
@@ -203,10 +220,12 @@ no_fault Stopped fault unread silent e = silent refl
 -- ---- what is counted, over two stages
 
 -- the first one ended without a fault of its own
-pub counts_on : (who : Culprit) (first last : Ending) (a b c : ℕ) → culprit_of first ≢ who → first ≢ WriteFault → CountsFaultsOf who (Some first) a b
+pub counts_on : (who : Culprit) (first last : Ending) (a b c : ℕ) → culprit_of first ≢ who → first ≢ WriteFault
+    → CountsFaultsOf who (Some first) a b
     → CountsFaultsOf who (Some last) b c → CountsFaultsOf who (Some last) a c
 counts_on who first last a b c other whole before after =
-    let same : b ≡ a = before.steady (λ by. other (culprit_same (culprit_of first) who by)) (λ cut. whole (ending_same first WriteFault cut)) in
+    let same : b ≡ a = before.steady (λ by. other (culprit_same (culprit_of first) who by))
+    (λ cut. whole (ending_same first WriteFault cut)) in
     subst (λ (n : ℕ). CountsFaultsOf who (Some last) n c) same after
   where
     culprit_same : (a b : Culprit) → Some a ≡ Some b → a ≡ b

@@ -1,5 +1,6 @@
 -- Which lines are answered up to a stop, by the calls that are counted behind them.
-use Rattle.std.proofs.Common.{◌≡◌, ℕ, zero, suc, min, ◌+◌, ◌-◌, ◌^◌, ◌<◌, ◌≤◌, Bool, true, false, cond, List, [], ◌∷◌, length, take, Some, None, refl, sym, ◌∙◌, ap, subst, arith, zero-le}
+use Rattle.std.proofs.Common.{◌≡◌, ℕ, zero, suc, min, ◌+◌, ◌-◌, ◌^◌, ◌<◌, ◌≤◌, Bool, true, false, cond, List, [], ◌∷◌}
+use Rattle.std.proofs.Common.{length, take, Some, None, refl, sym, ◌∙◌, ap, subst, arith, zero-le}
 use Rattle.std.specs.Prelude.{Option, nat_le}
 use Rattle.std.specs.List.{AllByRecursion, slice_get}
 use Rattle.std.proofs.lemmas.Bool.Decides.{nat_tests}
@@ -82,7 +83,8 @@ module _ (stop : ℕ) where
   before_met [] m e all is past = absurd (none_some e is)
   before_met (x ∷ es) zero e all is past =
       let same : x ≡ e = some_same x e is in
-      let fails : nat_le x.after.calls stop ≡ false = is_past x.after.calls stop (subst (λ (y : Exchange). stop < y.after.calls) (sym same) past) in (
+      let fails : nat_le x.after.calls stop ≡ false = is_past x.after.calls stop
+      (subst (λ (y : Exchange). stop < y.after.calls) (sym same) past) in (
         chosen_false (nat_le x.after.calls stop) (x ∷ before_stop stop es) [] fails,
         chosen_false (nat_le x.after.calls stop) (at_stop stop es) (Some x) fails ∙ is,
       )
@@ -180,9 +182,11 @@ HasFewFiles s = s.files + 5 ≤ s.calls
 
 module _ (stop : ℕ) (small : stop < 2 ^ 64 - 1) where
   few_kept : (files calls n : ℕ) → files + 5 ≤ calls → calls ≤ stop → files + 5 ≤ after_calls n calls
-  few_kept files calls n few within = let counted = calls_counted n calls (omega (arith, within, small)) in omega (arith, counted, few, within, small)
+  few_kept files calls n few within = let counted = calls_counted n calls (omega (arith, within, small)) in omega
+      (arith, counted, few, within, small)
 
-  few_more : (files calls n made : ℕ) → made ≤ n → files + 5 ≤ calls → calls ≤ stop → after_calls n calls ≤ stop → (files + made) + 5 ≤ after_calls n calls
+  few_more : (files calls n made : ℕ) → made ≤ n → files + 5 ≤ calls → calls ≤ stop → after_calls n calls ≤ stop
+      → (files + made) + 5 ≤ after_calls n calls
   few_more files calls n made enough few within passes =
       let counted = calls_counted n calls (omega (arith, within, small)) in omega (arith, counted, enough, few, within, passes, small)
 
@@ -193,12 +197,15 @@ module _ (stop : ℕ) (small : stop < 2 ^ 64 - 1) where
   few_by files calls n (Halted file) one few within passes = few_kept files calls n few within
   few_by files calls n (Exhausted c) one few within passes = few_kept files calls n few within
 
-  few_after : (s : State) (line : Line) → HasFewFiles s → s.calls ≤ stop → (state_after s line).calls ≤ stop → HasFewFiles (state_after s line)
+  few_after : (s : State) (line : Line) → HasFewFiles s → s.calls ≤ stop → (state_after s line).calls ≤ stop
+      → HasFewFiles (state_after s line)
   few_after s (lines.Begin name) few within passes = few_kept s.files s.calls (step_to s (lines.Begin name)).calls few within
   few_after s (lines.View name) few within passes = few_kept s.files s.calls (step_to s (lines.View name)).calls few within
   few_after s (lines.Get name key) few within passes = few_kept s.files s.calls (step_to s (lines.Get name key)).calls few within
-  few_after s (lines.GetTagged name key) few within passes = few_kept s.files s.calls (step_to s (lines.GetTagged name key)).calls few within
-  few_after s (lines.Set name key value) few within passes = few_kept s.files s.calls (step_to s (lines.Set name key value)).calls few within
+  few_after s (lines.GetTagged name key) few within passes = few_kept s.files s.calls
+      (step_to s (lines.GetTagged name key)).calls few within
+  few_after s (lines.Set name key value) few within passes = few_kept s.files s.calls
+      (step_to s (lines.Set name key value)).calls few within
   few_after s (lines.SetTagged name key value tag) few within passes =
       few_kept s.files s.calls (step_to s (lines.SetTagged name key value tag)).calls few within
   few_after s (lines.Scan name low high limit way) few within passes =

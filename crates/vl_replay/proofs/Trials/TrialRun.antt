@@ -1,5 +1,6 @@
 -- What the run of a trial came to, by what it did to its disk.
-use Rattle.std.proofs.Common.{◌≡◌, ⊎_elim, inr, ℕ, suc, min, ◌+◌, ◌-◌, ◌^◌, ◌<◌, ◌≤◌, List, [], ◌∷◌, ◌++◌, length, take, Some, None, refl, sym, ◌∙◌, ap, subst, arith, append-nil}
+use Rattle.std.proofs.Common.{◌≡◌, ⊎_elim, inr, ℕ, suc, min, ◌+◌, ◌-◌, ◌^◌, ◌<◌, ◌≤◌, List, [], ◌∷◌, ◌++◌, length}
+use Rattle.std.proofs.Common.{take, Some, None, refl, sym, ◌∙◌, ap, subst, arith, append-nil}
 use Rattle.std.specs.Prelude.{Option, nat_le}
 use Rattle.std.specs.List.{AllByRecursion, slice_get}
 use Rattle.std.proofs.lemmas.Bool.{cases_lt}
@@ -26,13 +27,18 @@ use Rattle.vl_replay.specs.Runs.{EndsRun, Outside, Script, course, exchanges, sc
 use Rattle.vl_replay.specs.Sequential.{State, history_of}
 use Rattle.vl_replay.specs.Stored.{IsStopped, IsStored}
 use Rattle.vl_engine.specs.Shown.{Shown}
-use Rattle.vl_replay.specs.Trial.{MeetsStop, TakesFirst, Trial, answered_lines, at_stop, before_stop, begun, reopened_state, state_behind_stop, stopped_line}
+use Rattle.vl_replay.specs.Trial.{MeetsStop, TakesFirst, Trial, answered_lines, at_stop, before_stop, begun}
+use Rattle.vl_replay.specs.Trial.{reopened_state, state_behind_stop, stopped_line}
 use Rattle.vl_replay.specs.Trying.{ComesTo, IsOnTrial, trial_of}
 use Rattle.vl_replay.specs.declared.ending.Ending.{Ending}
-use Rattle.vl_replay.specs.declared.ending.Ending.TheVariants.{Complete, BadLine, BadWords, DiskFault, ReaderFault, Refused, Damaged, NoMemory, ReadFault, WriteFault, AnswerCut, Stopped}
+use Rattle.vl_replay.specs.declared.ending.Ending.TheVariants.{Complete, BadLine, BadWords, DiskFault, ReaderFault}
+use Rattle.vl_replay.specs.declared.ending.Ending.TheVariants.{Refused, Damaged, NoMemory, ReadFault, WriteFault}
+use Rattle.vl_replay.specs.declared.ending.Ending.TheVariants.{AnswerCut, Stopped}
 use Rattle.vl_replay.specs.declared.ending.OnFault.TheVariants.{Stop}
 use Rattle.vl_replay.proofs.Trials.StoppedLaws.{stopped_reopens, stored_reopens}
-use Rattle.vl_replay.proofs.Trials.TrialLines.{HasFewFiles, Passes, all_next, before_all, before_front, before_get, before_met, calls_counted, chosen_true, is_within, last_few, last_next, last_within, none_next}
+use Rattle.vl_replay.proofs.Trials.TrialLines.{HasFewFiles, Passes, all_next, before_all, before_front, before_get}
+use Rattle.vl_replay.proofs.Trials.TrialLines.{before_met, calls_counted, chosen_true, is_within, last_few, last_next}
+use Rattle.vl_replay.proofs.Trials.TrialLines.{last_within, none_next}
 
 some_state : (a b : DiskState) → Some a ≡ Some b → a ≡ b
 some_state a b e = cc
@@ -72,7 +78,8 @@ module _ (stop : ℕ) where
 
 -- ---- the run
 
-module _ (stop : ℕ) (small : stop < 2 ^ 32) (input : List ℕ) (stands : State → Type 0) (old new : Outside StoppingDisk) (trial : IsOnTrial stop stands old.disk) where
+module _ (stop : ℕ) (small : stop < 2 ^ 32) (input : List ℕ) (stands : State → Type 0) (old new : Outside StoppingDisk)
+    (trial : IsOnTrial stop stands old.disk) where
   abbrev script : Script
   script = script_of begun 0 input
 
@@ -132,9 +139,11 @@ module _ (stop : ℕ) (small : stop < 2 ^ 32) (input : List ℕ) (stands : State
         )
 
     -- all of them, where the run comes to its end or to the stop
-    takes_all : (o : Outcome) → take m es ≡ answered_lines (t o) → run.ends.piece ≡ [] → Takes old.held new.held (answers_text (answered_lines (t o)))
+    takes_all : (o : Outcome) → take m es ≡ answered_lines (t o) → run.ends.piece ≡ []
+        → Takes old.held new.held (answers_text (answered_lines (t o)))
     takes_all o same is = subst (λ (text : List ℕ). Takes old.held new.held text)
-        (run.ends.printed_is ∙ ap (λ (p : List ℕ). answers_text (take m es) ++ p) is ∙ append-nil (answers_text (take m es)) ∙ ap answers_text same)
+        (run.ends.printed_is ∙ ap (λ (p : List ℕ). answers_text (take m es) ++ p) is
+        ∙ append-nil (answers_text (take m es)) ∙ ap answers_text same)
         run.taken
 
     -- where it answered all
@@ -163,7 +172,8 @@ module _ (stop : ℕ) (small : stop < 2 ^ 32) (input : List ℕ) (stands : State
           ∙ ap (last_state begun) (all_answered o ∙ sym every)
 
     -- where a line met the stop
-    module _ (stops : StopsWithin memory.ghosts IsStopped last most old.disk new.disk) (rose : Rose (faults_on old.disk) (faults_on new.disk)) where
+    module _ (stops : StopsWithin memory.ghosts IsStopped last most old.disk new.disk)
+        (rose : Rose (faults_on old.disk) (faults_on new.disk)) where
       failed : 1 ≤ faults_on new.disk
       failed = omega (arith, rose, trial.sound)
 
@@ -227,19 +237,22 @@ module _ (stop : ℕ) (small : stop < 2 ^ 32) (input : List ℕ) (stands : State
           ∙ ap (λ (xs : List Exchange). state_behind_stop o stop (last_state begun xs) (Some line.0)) (sym (stop_answered o))
           ∙ ap (λ (s : State). state_left o (nat_le (last.calls + 1) stop) last s) (sym line.2)
 
-      stop_reopens : (o : Outcome) → Reopens (crash_image o (state_on new.disk)) (history_of (reopened_state (t o))) (last_number (history_of (reopened_state (t o))))
+      stop_reopens : (o : Outcome) → Reopens (crash_image o (state_on new.disk)) (history_of (reopened_state (t o)))
+          (last_number (history_of (reopened_state (t o))))
       stop_reopens o =
           let here : state_on new.disk ≡ stops.now = some_state (state_on new.disk) stops.now stops.told in
           let lawful = told_lawful new.disk.disk.events.items new.disk.disk.kept.sound stops.now stops.told in
           let again = stopped_reopens last most stops.passed stops.made stops.now stops.stopped lawful passed_fits o
           (nat_le (last.calls + 1) stop) passed_is in
-          subst (λ (s : State). Reopens (crash_image o (state_on new.disk)) (history_of s) (last_number (history_of s))) (sym (stop_state o))
+          subst (λ (s : State). Reopens (crash_image o (state_on new.disk)) (history_of s) (last_number (history_of s)))
+          (sym (stop_state o))
           (subst (λ (d : DiskState). Reopens (crash_image o d) (history_of (state_left o (nat_le (last.calls + 1) stop) last most))
           (last_number (history_of (state_left o (nat_le (last.calls + 1) stop) last most)))) (sym here) again)
 
   -- ---- by its ending
 
-  pub comes : (ending : Ending) → Run ending → EndsAs Stop (Some ending) → CountsFaultsOf TheDisk (Some ending) (faults_on old.disk) (faults_on new.disk)
+  pub comes : (ending : Ending) → Run ending → EndsAs Stop (Some ending)
+      → CountsFaultsOf TheDisk (Some ending) (faults_on old.disk) (faults_on new.disk)
       → (ending ≡ ReaderFault → ⊥) → (rest : List ℕ) → new.left ≡ Some rest → ComesTo t old.held new.held new.left new.disk ending
   comes Complete run as_meant counts unread rest told =
       let ((whole, lines, left), none) = run.ends.puts in (
@@ -281,7 +294,16 @@ module _ (stop : ℕ) (small : stop < 2 ^ 32) (input : List ℕ) (stands : State
       let (u, history, layout, calls, files, held) = (ends AnswerCut run).answer_cut refl in
       let sound : faults_on new.disk ≡ faults_on old.disk = counts.steady (λ by. cc) (λ whole. cc) in
       let counted = counted_past new.disk.disk (Some stop) (past AnswerCut run) in
-      let passes : Passes stop e = omega (arith, counted.at_least, sound, trial.sound, held.calls, calls, ap (λ (s : State). s.calls) (last_next es begun run.answered e is)) in
+      let passes : Passes stop e = omega (
+        arith,
+        counted.at_least,
+        sound,
+        trial.sound,
+        held.calls,
+        calls,
+        ap (λ (s : State). s.calls)
+            (last_next es begun run.answered e is),
+      ) in
       λ o. (
         run.answered,
         run.ends.piece,

@@ -1,5 +1,6 @@
 -- What a script reads is explained by the history at the reader's own number.
-use Rattle.std.proofs.Common.{◌≡◌, ◌⊎◌, ⊎_elim, inl, inr, ℕ, ◌+◌, ◌-◌, ◌≤◌, ◌==◌, Bool, true, false, cond, ◌&&◌, not, List, [], ◌∷◌, ◌++◌, length, refl, ap, sym, ◌∙◌, subst, arith, length-append}
+use Rattle.std.proofs.Common.{◌≡◌, ◌⊎◌, ⊎_elim, inl, inr, ℕ, ◌+◌, ◌-◌, ◌≤◌, ◌==◌, Bool, true, false, cond, ◌&&◌, not}
+use Rattle.std.proofs.Common.{List, [], ◌∷◌, ◌++◌, length, refl, ap, sym, ◌∙◌, subst, arith, length-append}
 use Rattle.std.specs.Prelude.{Option, Some, None, T, nat_le, nat_lt, if◌then◌else◌}
 use Rattle.std.specs.FinMap.{entries, entries-from_sorted, find, from_sorted, is_sorted, put}
 use Rattle.std.specs.List.{AllByRecursion, filter}
@@ -29,8 +30,11 @@ use Rattle.vl_layout.specs.Store.Commits.{AreProper, Changes, at_answer_in, hist
 use Rattle.vl_layout.specs.Store.Dispatch.{drop_by, fill, filled, install_by, made_of, plan_as, planned_by}
 use Rattle.vl_layout.specs.Store.Lines.{Answer, Dropped, Invalid, Name, Number, Rows}
 use Rattle.vl_layout.specs.Store.Proper.{HasRisingWrites, IsProper}
-use Rattle.vl_layout.specs.Store.Reading.{a_transaction, a_view, answer_of, begin_as, begun_by, commit_by, committed_by, get_at_by, get_by, get_own, is_small_enough, noted_scan, rows_told, ruled, scan_by, scan_of, scanned_rows, told_at, write_by}
-use Rattle.vl_layout.specs.Store.Things.{Thing, ATransaction, AView, AJob, APass, State, Step, named, only, thing_in, thing_of, without_name}
+use Rattle.vl_layout.specs.Store.Reading.{a_transaction, a_view, answer_of, begin_as, begun_by, commit_by}
+use Rattle.vl_layout.specs.Store.Reading.{committed_by, get_at_by, get_by, get_own, is_small_enough, noted_scan}
+use Rattle.vl_layout.specs.Store.Reading.{rows_told, ruled, scan_by, scan_of, scanned_rows, told_at, write_by}
+use Rattle.vl_layout.specs.Store.Things.{Thing, ATransaction, AView, AJob, APass, State, Step, named, only, thing_in}
+use Rattle.vl_layout.specs.Store.Things.{thing_of, without_name}
 use Rattle.vl_layout.specs.Tickets.{free_ticket, tickets_of}
 use Rattle.vl_layout.specs.declared.job.Job.{Job}
 use Rattle.vl_layout.specs.declared.layout.Layout.{Layout}
@@ -46,7 +50,8 @@ module _ (s : State) (proper : AreProper s.commits) where
   abbrev h : History
   h = history_in s.commits
 
-  pub value_is : (tell : Option Stored → Answer) (number : ℕ) (key : List ℕ) → tell (value_in s.commits number key) ≡ tell (value_at (history_in s.commits) number key)
+  pub value_is : (tell : Option Stored → Answer) (number : ℕ) (key : List ℕ)
+      → tell (value_in s.commits number key) ≡ tell (value_at (history_in s.commits) number key)
   value_is tell number key = ap tell (value_in-is s.commits proper number key)
 
   -- the rows of a scan under some writes
@@ -54,7 +59,8 @@ module _ (s : State) (proper : AreProper s.commits) where
       → scanned_rows s way low high limit own number ≡ rows_of (contents_at (history_in s.commits) number) (scan_of way low high limit own)
   rows_are way low high limit own number rising =
       ap (scanned (scan_of way low high limit own) own) (rows_in-are s.commits proper number)
-      ∙ ap (λ (ws : Changes). scanned (scan_of way low high limit own) ws (entries (contents_at h number))) (sym (entries-from_sorted key_cmp own rising))
+      ∙ ap (λ (ws : Changes). scanned (scan_of way low high limit own) ws (entries (contents_at h number)))
+      (sym (entries-from_sorted key_cmp own rising))
 
 -- ---- what is noted stays explained
 
@@ -75,7 +81,8 @@ none_sound s proper none = record {
   things = subst (AllByRecursion (λ (x : Name × Thing). IsSoundThing (history_in s.commits) x.1)) (sym none) tt;
 }
 
-explained-more : (h : History) (n : ℕ) (reads : List Read) (x : Read) → IsExplained h n reads → IsExplainedRead h n x → IsExplained h n (reads ++ x ∷ [])
+explained-more : (h : History) (n : ℕ) (reads : List Read) (x : Read) → IsExplained h n reads → IsExplainedRead h n x
+    → IsExplained h n (reads ++ x ∷ [])
 explained-more h n [] x all is = (is, tt)
 explained-more h n (r ∷ reads) x all is = (all.0, explained-more h n reads x all.1 is)
 
@@ -99,12 +106,14 @@ module _ (P : Name × Thing → Type 0) where
     | false ↦ all_filtered q ts all.1
   ]
 
-all_weaker : (P Q : Name × Thing → Type 0) → ((x : Name × Thing) → P x → Q x) → (ts : List (Name × Thing)) → AllByRecursion P ts → AllByRecursion Q ts
+all_weaker : (P Q : Name × Thing → Type 0) → ((x : Name × Thing) → P x → Q x) → (ts : List (Name × Thing))
+    → AllByRecursion P ts → AllByRecursion Q ts
 all_weaker P Q weaker [] all = tt
 all_weaker P Q weaker (t ∷ ts) all = (weaker t all.0, all_weaker P Q weaker ts all.1)
 
 -- what a name stands for
-pub found_sound : (h : History) (ts : List (Name × Thing)) (name : Name) (x : Thing) → AllByRecursion (λ (t : Name × Thing). IsSoundThing h t.1) ts → thing_in ts name ≡ Some x → IsSoundThing h x
+pub found_sound : (h : History) (ts : List (Name × Thing)) (name : Name) (x : Thing)
+    → AllByRecursion (λ (t : Name × Thing). IsSoundThing h t.1) ts → thing_in ts name ≡ Some x → IsSoundThing h x
 found_sound h [] name x all is = absurd cc
 found_sound h (t ∷ ts) name x all is = by (eq_by_cmp key_cmp name t.0) is (found_sound h ts name x all.1)
   where
@@ -112,7 +121,8 @@ found_sound h (t ∷ ts) name x all is = by (eq_by_cmp key_cmp name t.0) is (fou
     by true is later = let same : t.1 ≡ x = cc in subst (IsSoundThing h) same all.0
     by false is later = later is
 
-pub found_rising : (ts : List (Name × Thing)) (name : Name) (x : Thing) → AllByRecursion (λ (t : Name × Thing). HasRisingWrites t.1) ts → thing_in ts name ≡ Some x → HasRisingWrites x
+pub found_rising : (ts : List (Name × Thing)) (name : Name) (x : Thing)
+    → AllByRecursion (λ (t : Name × Thing). HasRisingWrites t.1) ts → thing_in ts name ≡ Some x → HasRisingWrites x
 found_rising [] name x all is = absurd cc
 found_rising (t ∷ ts) name x all is = by (eq_by_cmp key_cmp name t.0) is (found_rising ts name x all.1)
   where
@@ -127,7 +137,8 @@ reads_or h (AView v b) sound none = tt
 reads_or h (AJob job made) sound none = none job made refl
 reads_or h (APass pass batch) sound none = sound
 
-pub only_reader : (h : History) (s : State) → IsSound s → (name : Name) → ((job : Job) (made : Made) → thing_of s name ≡ Some (AJob job made) → ⊥)
+pub only_reader : (h : History) (s : State) → IsSound s → (name : Name)
+    → ((job : Job) (made : Made) → thing_of s name ≡ Some (AJob job made) → ⊥)
     → (x : Thing) → thing_of s name ≡ Some x → IsReader x
 only_reader h s sound name none x is =
     reads_or (history_in s.commits) x (found_sound (history_in s.commits) s.things name x sound.things is)
@@ -142,17 +153,25 @@ module _ (s : State) (sound : IsSound s) where
     pub commits : x.state.commits ≡ s.commits
     pub things : AllByRecursion (λ (t : Name × Thing). IsSoundThing (history_in s.commits) t.1) x.state.things
 
-  stays : (x : Step) → x.state.commits ≡ s.commits → AllByRecursion (λ (t : Name × Thing). IsSoundThing (history_in s.commits) t.1) x.state.things → Stays x
+  stays : (x : Step) → x.state.commits ≡ s.commits
+      → AllByRecursion (λ (t : Name × Thing). IsSoundThing (history_in s.commits) t.1) x.state.things → Stays x
   stays x commits things = record { commits = commits; things = things }
 
   same_things : (x : Step) → x.state.commits ≡ s.commits → x.state.things ≡ s.things → Stays x
-  same_things x commits things = stays x commits (subst (AllByRecursion (λ (t : Name × Thing). IsSoundThing (history_in s.commits) t.1)) (sym things) sound.things)
+  same_things x commits things = stays x commits
+      (subst (AllByRecursion (λ (t : Name × Thing). IsSoundThing (history_in s.commits) t.1)) (sym things) sound.things)
 
-  with_named : (name : Name) (x : Thing) → IsSoundThing (history_in s.commits) x → AllByRecursion (λ (t : Name × Thing). IsSoundThing (history_in s.commits) t.1) (named name x s.things)
-  with_named name x is = (is, all_filtered (λ (t : Name × Thing). IsSoundThing (history_in s.commits) t.1) (λ (t : Name × Thing). not (eq_by_cmp key_cmp name t.0)) s.things sound.things)
+  with_named : (name : Name) (x : Thing) → IsSoundThing (history_in s.commits) x
+      → AllByRecursion (λ (t : Name × Thing). IsSoundThing (history_in s.commits) t.1) (named name x s.things)
+  with_named name x is = (
+    is,
+    all_filtered (λ (t : Name × Thing). IsSoundThing (history_in s.commits) t.1)
+        (λ (t : Name × Thing). not (eq_by_cmp key_cmp name t.0)) s.things sound.things,
+  )
 
   freed : (name : Name) → AllByRecursion (λ (t : Name × Thing). IsSoundThing (history_in s.commits) t.1) (without_name name s.things)
-  freed name = all_filtered (λ (t : Name × Thing). IsSoundThing (history_in s.commits) t.1) (λ (t : Name × Thing). not (eq_by_cmp key_cmp name t.0)) s.things sound.things
+  freed name = all_filtered (λ (t : Name × Thing). IsSoundThing (history_in s.commits) t.1)
+      (λ (t : Name × Thing). not (eq_by_cmp key_cmp name t.0)) s.things sound.things
 
   either : (b : Bool) (x y : Step) → Stays x → Stays y → Stays (if b then x else y)
   either true x y p q = p
@@ -161,11 +180,13 @@ module _ (s : State) (sound : IsSound s) where
   -- ---- by each line
 
   begun_stays : (name : Name) (thing : ℕ → ℕ → Thing) (b : Bool) (ticket : ℕ) → IsSoundThing h' (thing ticket (last_number h'))
-      → let r : Ruling BeginAnswer = if b then leaving begin.TooMany h' s.layout else leaving (begin.Begun ticket (last_number h')) h' (begun s.layout ticket (last_number h')) in Stays (begun_by s name thing r r.answer)
+      → let r : Ruling BeginAnswer = if b then leaving begin.TooMany h' s.layout else leaving
+      (begin.Begun ticket (last_number h')) h' (begun s.layout ticket (last_number h')) in Stays (begun_by s name thing r r.answer)
   begun_stays name thing true ticket is = same_things _ refl refl
   begun_stays name thing false ticket is = stays _ refl (with_named name (thing ticket (last_number h')) is)
 
-  begin_stays : (name : Name) (thing : Beginning → ℕ → ℕ → Thing) (o : Option Thing) → ((b : Beginning) (ticket : ℕ) → IsSoundThing h' (thing b ticket (last_number h'))) → Stays (begin_as s name thing o)
+  begin_stays : (name : Name) (thing : Beginning → ℕ → ℕ → Thing) (o : Option Thing)
+      → ((b : Beginning) (ticket : ℕ) → IsSoundThing h' (thing b ticket (last_number h'))) → Stays (begin_as s name thing o)
   begin_stays name thing (Some other) is = same_things _ refl refl
   begin_stays name thing None is =
       let b = beginning_of (begin_ruling s.layout h').layout h' in
@@ -178,20 +199,31 @@ module _ (s : State) (sound : IsSound s) where
   pub view_stays : (name : Name) → Stays (begin_as s name a_view (thing_of s name))
   view_stays name = begin_stays name a_view (thing_of s name) (λ b ticket. tt)
 
-  own_stays : (name : Name) (tell : Option Stored → Answer) (t : Transaction) (b : Beginning) (key : List ℕ) (o : Option Change) → IsSoundThing h' (ATransaction t b) → Stays (get_own s name tell t b key o)
+  own_stays : (name : Name) (tell : Option Stored → Answer) (t : Transaction) (b : Beginning) (key : List ℕ)
+      (o : Option Change) → IsSoundThing h' (ATransaction t b) → Stays (get_own s name tell t b key o)
   own_stays name tell t b key (Some change) is = same_things _ refl refl
   own_stays name tell t b key None (explained, from, known) =
       let x : Thing = ATransaction (record t { reads = t.reads ++ KeyRead key (value_in s.commits t.number key) ∷ [] }) b in
-      let is_sound : IsSoundThing h' x = (explained-more h' t.number t.reads (KeyRead key (value_in s.commits t.number key)) explained (value_in-is s.commits sound.proper.commits t.number key), from, known) in
+      let is_sound : IsSoundThing h'
+      x = (
+        explained-more h' t.number t.reads (KeyRead key (value_in s.commits t.number key)) explained
+            (value_in-is s.commits sound.proper.commits t.number key),
+        from,
+        known,
+      ) in
       stays _ refl (with_named name x is_sound)
 
-  pub get_stays : (name : Name) (tell : Option Stored → Answer) (key : List ℕ) (o : Option Thing) → thing_in s.things name ≡ o → Stays (get_by s name tell key o)
+  pub get_stays : (name : Name) (tell : Option Stored → Answer) (key : List ℕ) (o : Option Thing)
+      → thing_in s.things name ≡ o → Stays (get_by s name tell key o)
   get_stays name tell key None is = same_things _ refl refl
   get_stays name tell key (Some (AJob job made)) is = same_things _ refl refl
   get_stays name tell key (Some (APass pass batch)) is = same_things _ refl refl
-  get_stays name tell key (Some (AView v b)) is = either (is_key_length (length key)) _ _ (same_things _ refl refl) (same_things _ refl refl)
+  get_stays name tell key (Some (AView v b)) is = either (is_key_length (length key)) _ _ (same_things _ refl refl)
+      (same_things _ refl refl)
   get_stays name tell key (Some (ATransaction t b)) is =
-      either (is_key_length (length key)) _ _ (own_stays name tell t b key (find key_cmp key t.writes) (found_sound h' s.things name (ATransaction t b) sound.things is)) (same_things _ refl refl)
+      either (is_key_length (length key)) _ _
+      (own_stays name tell t b key (find key_cmp key t.writes)
+      (found_sound h' s.things name (ATransaction t b) sound.things is)) (same_things _ refl refl)
 
   pub get_at_stays : (name : Name) (key : List ℕ) (number : ℕ) (o : Option Thing) → Stays (get_at_by s name key number o)
   get_at_stays name key number None = same_things _ refl refl
@@ -200,12 +232,14 @@ module _ (s : State) (sound : IsSound s) where
   get_at_stays name key number (Some (AView v b)) = same_things _ refl refl
   get_at_stays name key number (Some (ATransaction t b)) = same_things _ refl refl
 
-  pub scan_stays : (way : Way) (name : Name) (low high : List ℕ) (limit : ℕ) (o : Option Thing) → thing_in s.things name ≡ o → Stays (scan_by s way name low high limit o)
+  pub scan_stays : (way : Way) (name : Name) (low high : List ℕ) (limit : ℕ) (o : Option Thing)
+      → thing_in s.things name ≡ o → Stays (scan_by s way name low high limit o)
   scan_stays way name low high limit None is = same_things _ refl refl
   scan_stays way name low high limit (Some (AJob job made)) is = same_things _ refl refl
   scan_stays way name low high limit (Some (APass pass batch)) is = same_things _ refl refl
   scan_stays way name low high limit (Some (AView v b)) is =
-      either (nat_le (length low) max_key_bytes && nat_le (length high) max_key_bytes) _ _ (same_things _ refl refl) (same_things _ refl refl)
+      either (nat_le (length low) max_key_bytes && nat_le (length high) max_key_bytes) _ _ (same_things _ refl refl)
+      (same_things _ refl refl)
   scan_stays way name low high limit (Some (ATransaction t b)) is =
       let (explained, from, known) = found_sound h' s.things name (ATransaction t b) sound.things is in
       let rising = found_rising s.things name (ATransaction t b) sound.proper.writes is in
@@ -222,7 +256,8 @@ module _ (s : State) (sound : IsSound s) where
       (stays _ refl (with_named name x is_sound))
       (same_things _ refl refl)
 
-  pub write_stays : (name : Name) (key : List ℕ) (change : Change) (o : Option Thing) → thing_in s.things name ≡ o → Stays (write_by s name key change o)
+  pub write_stays : (name : Name) (key : List ℕ) (change : Change) (o : Option Thing) → thing_in s.things name ≡ o
+      → Stays (write_by s name key change o)
   write_stays name key change None is = same_things _ refl refl
   write_stays name key change (Some (AJob job made)) is = same_things _ refl refl
   write_stays name key change (Some (APass pass batch)) is = same_things _ refl refl
@@ -230,7 +265,8 @@ module _ (s : State) (sound : IsSound s) where
   write_stays name key change (Some (ATransaction t b)) is =
       either (not (is_key_length (length key) && is_value_length log_format (length (value_bytes change)))) _ _ (same_things _ refl refl)
       (either (is_small_enough (put key_cmp key change t.writes)) _ _
-      (stays _ refl (with_named name (ATransaction (record t { writes = put key_cmp key change t.writes }) b) (found_sound h' s.things name (ATransaction t b) sound.things is))) (same_things _ refl refl))
+      (stays _ refl (with_named name (ATransaction (record t { writes = put key_cmp key change t.writes }) b)
+      (found_sound h' s.things name (ATransaction t b) sound.things is))) (same_things _ refl refl))
 
   pub drop_stays : (name : Name) (o : Option Thing) → thing_in s.things name ≡ o → Stays (drop_by s name o)
   drop_stays name None is = same_things _ refl refl
@@ -245,7 +281,8 @@ module _ (s : State) (sound : IsSound s) where
 
   -- ---- merges
 
-  filled_stays : (l' : Layout) (made : Made) (calls : ℕ) (more : Step) (a : FreshAnswer) → Stays more → Stays (filled s l' made calls more a)
+  filled_stays : (l' : Layout) (made : Made) (calls : ℕ) (more : Step) (a : FreshAnswer) → Stays more
+      → Stays (filled s l' made calls more a)
   filled_stays l' made calls more (fresh.Drawn n) stay = stay
   filled_stays l' made calls more (fresh.Halted file) stay = same_things _ refl refl
   filled_stays l' made calls more (fresh.Exhausted c) stay = same_things _ refl refl
@@ -283,7 +320,8 @@ module _ (s : State) (sound : IsSound s) where
   committed_things name t r (commit.Conflict key n) = inr refl
   committed_things name t r (commit.Full length frame) = inl refl
 
-  commit_things : (name : Name) (o : Option Thing) → let x = commit_by s name o in (x.state.things ≡ s.things) ⊎ (x.state.things ≡ without_name name s.things)
+  commit_things : (name : Name) (o : Option Thing) → let x = commit_by s name o in (x.state.things ≡ s.things)
+      ⊎ (x.state.things ≡ without_name name s.things)
   commit_things name None = inl refl
   commit_things name (Some (AJob job made)) = inl refl
   commit_things name (Some (APass pass batch)) = inl refl
@@ -294,8 +332,10 @@ module _ (s : State) (sound : IsSound s) where
   pub commit_stays : (name : Name) (o : Option Thing) → let x = commit_by s name o in
       AllByRecursion (λ (t : Name × Thing). IsSoundThing (history_in s.commits) t.1) x.state.things
   commit_stays name o = ⊎_elim
-      (λ (same : (commit_by s name o).state.things ≡ s.things). subst (AllByRecursion (λ (t : Name × Thing). IsSoundThing h' t.1)) (sym same) sound.things)
-      (λ (less : (commit_by s name o).state.things ≡ without_name name s.things). subst (AllByRecursion (λ (t : Name × Thing). IsSoundThing h' t.1)) (sym less) (freed name))
+      (λ (same : (commit_by s name o).state.things ≡ s.things). subst
+      (AllByRecursion (λ (t : Name × Thing). IsSoundThing h' t.1)) (sym same) sound.things)
+      (λ (less : (commit_by s name o).state.things ≡ without_name name s.things). subst
+      (AllByRecursion (λ (t : Name × Thing). IsSoundThing h' t.1)) (sym less) (freed name))
       (commit_things name o)
 
   more_extends : (t : Transaction) → Extends h' (with_commit h' (from_sorted t.writes))
@@ -303,49 +343,59 @@ module _ (s : State) (sound : IsSound s) where
 
   pub later_things : (t : Transaction) (ts : List (Name × Thing)) → AllByRecursion (λ (x : Name × Thing). IsSoundThing h' x.1) ts
       → AllByRecursion (λ (x : Name × Thing). IsSoundThing (history_in (with_changes s.commits t.writes)) x.1) ts
-  later_things t ts all = subst (λ (k : History). AllByRecursion (λ (x : Name × Thing). IsSoundThing k x.1) ts) (sym (history_more s.commits t.writes))
-      (all_weaker (λ (x : Name × Thing). IsSoundThing h' x.1) (λ (x : Name × Thing). IsSoundThing (with_commit h' (from_sorted t.writes)) x.1)
+  later_things t ts all = subst (λ (k : History). AllByRecursion (λ (x : Name × Thing). IsSoundThing k x.1) ts)
+      (sym (history_more s.commits t.writes))
+      (all_weaker (λ (x : Name × Thing). IsSoundThing h' x.1)
+      (λ (x : Name × Thing). IsSoundThing (with_commit h' (from_sorted t.writes)) x.1)
       (λ x is. later_sound h' (with_commit h' (from_sorted t.writes)) (more_extends t) x.1 is) ts all)
 
   -- ---- what is answered
 
   -- a read of a key
-  get_answer : (tell : Option Stored → Answer) (name : Name) (key : List ℕ) (t : Transaction) (b : Beginning) (o : Option Change) → o ≡ None → (test : Bool)
-      → (if test then get_own s name tell t b key o else only Invalid s).answer ≡ (if test then tell (value_at h' t.number key) else Invalid)
+  get_answer : (tell : Option Stored → Answer) (name : Name) (key : List ℕ) (t : Transaction) (b : Beginning)
+      (o : Option Change) → o ≡ None → (test : Bool)
+      → (if test then get_own s name tell t b key o else only Invalid s).answer ≡
+      (if test then tell (value_at h' t.number key) else Invalid)
   get_answer tell name key t b (Some change) none test = absurd (cc)
   get_answer tell name key t b None none true = value_is s sound.proper.commits tell t.number key
   get_answer tell name key t b None none false = refl
 
   view_answer : (tell : Option Stored → Answer) (number : ℕ) (key : List ℕ) (test : Bool)
-      → (if test then only (tell (value_in s.commits number key)) s else only Invalid s).answer ≡ (if test then tell (value_at h' number key) else Invalid)
+      → (if test then only (tell (value_in s.commits number key)) s else only Invalid s).answer ≡
+      (if test then tell (value_at h' number key) else Invalid)
   view_answer tell number key true = value_is s sound.proper.commits tell number key
   view_answer tell number key false = refl
 
   pub get_explained : (name : Name) (tell : Option Stored → Answer) (key : List ℕ) (number : ℕ) (o : Option Thing) → ReadsAt o key number
-      → (get_by s name tell key o).answer ≡ (if is_key_length (length key) then tell (value_at (history_in s.commits) number key) else Invalid)
+      → (get_by s name tell key o).answer ≡
+      (if is_key_length (length key) then tell (value_at (history_in s.commits) number key) else Invalid)
   get_explained name tell key number None by = absurd by
   get_explained name tell key number (Some (AJob job made)) by = absurd by
   get_explained name tell key number (Some (APass pass batch)) by = absurd by
   get_explained name tell key number (Some (AView v b)) by =
-      view_answer tell v.number key (is_key_length (length key)) ∙ ap (λ (n : ℕ). if is_key_length (length key) then tell (value_at h' n key) else Invalid) (sym by)
+      view_answer tell v.number key (is_key_length (length key))
+      ∙ ap (λ (n : ℕ). if is_key_length (length key) then tell (value_at h' n key) else Invalid) (sym by)
   get_explained name tell key number (Some (ATransaction t b)) (by, none) =
       get_answer tell name key t b (find key_cmp key t.writes) none (is_key_length (length key))
       ∙ ap (λ (n : ℕ). if is_key_length (length key) then tell (value_at h' n key) else Invalid) (sym by)
 
   -- a read at an older number: a value is told only where it is that of the history there
-  no_value : (answer : Answer) (value : Option Stored) → answer ≡ Invalid ⊎ ((least : ℕ) × (answer ≡ Dropped least)) → answer ≡ answer_of value → ⊥
+  no_value : (answer : Answer) (value : Option Stored) → answer ≡ Invalid ⊎ ((least : ℕ) × (answer ≡ Dropped least))
+      → answer ≡ answer_of value → ⊥
   no_value answer None (inl is) told = absurd (let both = sym is ∙ told in cc)
   no_value answer (Some v) (inl is) told = absurd (let both = sym is ∙ told in cc)
   no_value answer None (inr (least, is)) told = absurd (let both = sym is ∙ told in cc)
   no_value answer (Some v) (inr (least, is)) told = absurd (let both = sym is ∙ told in cc)
 
-  told_value_at : (answer : AtAnswer) (found : Option Stored) → (answer ≡ at.Found found) ⊎ ((told_at answer ≡ Invalid) ⊎ ((least : ℕ) × (told_at answer ≡ Dropped least)))
+  told_value_at : (answer : AtAnswer) (found : Option Stored) → (answer ≡ at.Found found)
+      ⊎ ((told_at answer ≡ Invalid) ⊎ ((least : ℕ) × (told_at answer ≡ Dropped least)))
       → TellsValue (told_at answer) → told_at answer ≡ answer_of found
   told_value_at answer found (inl is) told = ap told_at is
   told_value_at answer found (inr other) (value, told) = absurd (no_value (told_at answer) value other told)
 
   past_cases : (number least : ℕ) (found : Option Stored) (empty long ahead gone : Bool)
-      → let a : AtAnswer = if empty then at.EmptyKey else (if long then at.KeyTooLong else (if ahead then at.Ahead number else (if gone then at.Dropped least else at.Found found))) in
+      → let a : AtAnswer = if empty then at.EmptyKey else
+      (if long then at.KeyTooLong else (if ahead then at.Ahead number else (if gone then at.Dropped least else at.Found found))) in
       (a ≡ at.Found found) ⊎ ((told_at a ≡ Invalid) ⊎ ((m : ℕ) × (told_at a ≡ Dropped m)))
   past_cases number least found true long ahead gone = inr (inl refl)
   past_cases number least found false true ahead gone = inr (inl refl)
@@ -357,7 +407,8 @@ module _ (s : State) (sound : IsSound s) where
       → told_at (at_answer_in s.commits b number key n) ≡ answer_of (value_at (history_in s.commits) n key)
   old_explained number key n b told =
       told_value_at (at_answer_in s.commits b number key n) (value_in s.commits n key)
-      (past_cases number (low_in s.commits b.floor b.keep b.since key) (value_in s.commits n key) (length key == 0) (nat_lt max_key_bytes (length key)) (nat_lt number n)
+      (past_cases number (low_in s.commits b.floor b.keep b.since key) (value_in s.commits n key) (length key == 0)
+      (nat_lt max_key_bytes (length key)) (nat_lt number n)
       (nat_lt n (low_in s.commits b.floor b.keep b.since key))) told
       ∙ ap answer_of (value_in-is s.commits sound.proper.commits n key)
 
@@ -376,46 +427,56 @@ module _ (s : State) (sound : IsSound s) where
   abbrev rows_at : Way → List ℕ → List ℕ → ℕ → ℕ → Changes → Answer
   rows_at way low high limit number own = Rows (rows_told (rows_of (contents_at h' number) (scan_of way low high limit own)))
 
-  scan_answer : (b : Bool) (x y : Step) (way : Way) (low high : List ℕ) (limit number : ℕ) (own : Changes) → x.answer ≡ rows_at way low high limit number own → y.answer ≡ Invalid
+  scan_answer : (b : Bool) (x y : Step) (way : Way) (low high : List ℕ) (limit number : ℕ) (own : Changes)
+      → x.answer ≡ rows_at way low high limit number own → y.answer ≡ Invalid
       → (if b then x else y).answer ≡ (if b then rows_at way low high limit number own else Invalid)
   scan_answer true x y way low high limit number own p q = p
   scan_answer false x y way low high limit number own p q = q
 
-  pub scan_explained : (way : Way) (name : Name) (low high : List ℕ) (limit number : ℕ) (own : Changes) (o : Option Thing) → thing_in s.things name ≡ o → ScansAt o own number
+  pub scan_explained : (way : Way) (name : Name) (low high : List ℕ) (limit number : ℕ) (own : Changes)
+      (o : Option Thing) → thing_in s.things name ≡ o → ScansAt o own number
       → (scan_by s way name low high limit o).answer
-      ≡ (if nat_le (length low) max_key_bytes && nat_le (length high) max_key_bytes then Rows (rows_told (rows_of (contents_at (history_in s.commits) number) (scan_of way low high limit own))) else Invalid)
+      ≡ (if nat_le (length low) max_key_bytes && nat_le (length high) max_key_bytes then Rows
+      (rows_told (rows_of (contents_at (history_in s.commits) number) (scan_of way low high limit own))) else Invalid)
   scan_explained way name low high limit number own None is by = absurd by
   scan_explained way name low high limit number own (Some (AJob job made)) is by = absurd by
   scan_explained way name low high limit number own (Some (APass pass batch)) is by = absurd by
   scan_explained way name low high limit number own (Some (AView v b)) is (by, none) =
       let within = nat_le (length low) max_key_bytes && nat_le (length high) max_key_bytes in
-      scan_answer within (only (Rows (rows_told (scanned_rows s way low high limit [] v.number))) s) (only Invalid s) way low high limit v.number []
+      scan_answer within (only (Rows (rows_told (scanned_rows s way low high limit [] v.number))) s) (only Invalid s)
+      way low high limit v.number []
       (ap (λ (rows : List Row). Rows (rows_told rows)) (rows_are s sound.proper.commits way low high limit [] v.number tt)) refl
       ∙ ap (λ (n : ℕ). if within then rows_at way low high limit n [] else Invalid) (sym by)
       ∙ ap (λ (ws : Changes). if within then rows_at way low high limit number ws else Invalid) (sym none)
   scan_explained way name low high limit number own (Some (ATransaction t b)) is (by, writes) =
       let within = nat_le (length low) max_key_bytes && nat_le (length high) max_key_bytes in
       let rising = found_rising s.things name (ATransaction t b) sound.proper.writes is in
-      scan_answer within (noted_scan s name t b (scan_of way low high limit t.writes) (scanned_rows s way low high limit t.writes t.number)) (only Invalid s) way low high limit t.number t.writes
+      scan_answer within (noted_scan s name t b (scan_of way low high limit t.writes)
+      (scanned_rows s way low high limit t.writes t.number)) (only Invalid s) way low high limit t.number t.writes
       (ap (λ (rows : List Row). Rows (rows_told rows)) (rows_are s sound.proper.commits way low high limit t.writes t.number rising)) refl
       ∙ ap (λ (n : ℕ). if within then rows_at way low high limit n t.writes else Invalid) (sym by)
       ∙ ap (λ (ws : Changes). if within then rows_at way low high limit number ws else Invalid) (sym writes)
 
   -- an accepted commit: its reads are explained at its transaction's number, and at its own less one
-  pub commit_explained : ((h : History) (n : ℕ) (reads : List Read) → h.first ≤ n → first_conflict h n reads ≡ None → IsExplained h n reads → IsExplained h (last_number h) reads)
-      → (name : Name) (t : Transaction) (b : Beginning) (n : ℕ) (o : Option Thing) → thing_in s.things name ≡ Some (ATransaction t b) → o ≡ Some (ATransaction t b)
+  pub commit_explained : ((h : History) (n : ℕ) (reads : List Read) → h.first ≤ n → first_conflict h n reads ≡ None
+      → IsExplained h n reads → IsExplained h (last_number h) reads)
+      → (name : Name) (t : Transaction) (b : Beginning) (n : ℕ) (o : Option Thing)
+      → thing_in s.things name ≡ Some (ATransaction t b) → o ≡ Some (ATransaction t b)
       → Adds s (commit_by s name o) t → (commit_by s name o).answer ≡ Number n
       → let k = history_in (commit_by s name o).state.commits in IsExplained k t.number t.reads × IsExplained k (n - 1) t.reads
   commit_explained stay name t b n o is same adds answered =
       let (explained, from, known) = found_sound h' s.things name (ATransaction t b) sound.things is in
       let longer : history_in (commit_by s name o).state.commits ≡ with_commit h' (from_sorted t.writes) =
       ap history_in adds.commits ∙ history_more s.commits t.writes in
-      let none : first_conflict h' t.number t.reads ≡ None = sym (conflict_in-is s.commits sound.proper.commits t.number t.reads) ∙ adds.none in
-      let at : n - 1 ≡ last_number h' = let m : n ≡ last_number h' + 1 = same_number n (last_number h' + 1) (sym answered ∙ adds.answer) in omega arith in
+      let none : first_conflict h' t.number t.reads ≡ None = sym
+      (conflict_in-is s.commits sound.proper.commits t.number t.reads) ∙ adds.none in
+      let at : n - 1 ≡ last_number h' = let m : n ≡ last_number h' + 1 = same_number n (last_number h' + 1)
+      (sym answered ∙ adds.answer) in omega arith in
       subst (λ (k : History). IsExplained k t.number t.reads × IsExplained k (n - 1) t.reads) (sym longer) (
         explained-extends h' (with_commit h' (from_sorted t.writes)) (more_extends t) t.number known t.reads explained,
         subst (λ (m : ℕ). IsExplained (with_commit h' (from_sorted t.writes)) m t.reads) (sym at)
-            (explained-extends h' (with_commit h' (from_sorted t.writes)) (more_extends t) (last_number h') (omega arith) t.reads (stay h' t.number t.reads from none explained)),
+            (explained-extends h' (with_commit h' (from_sorted t.writes)) (more_extends t) (last_number h')
+            (omega arith) t.reads (stay h' t.number t.reads from none explained)),
       )
     where
       same_number : (m k : ℕ) → Number m ≡ Number k → m ≡ k

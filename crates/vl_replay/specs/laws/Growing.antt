@@ -18,13 +18,15 @@ use Rattle.vl_layout.specs.Ruling.{Ruling, ended, leaving, logged}
 use Rattle.vl_layout.specs.Rulings.Begin as begin
 use Rattle.vl_layout.specs.Rulings.Begin.{BeginAnswer, begin_ruling, begun}
 use Rattle.vl_layout.specs.Rulings.Commit as commit
-use Rattle.vl_layout.specs.Rulings.Commit.{CommitAnswer, Transaction, commit_checked, commit_ended, commit_frame, commit_running, commit_unless, committed}
+use Rattle.vl_layout.specs.Rulings.Commit.{CommitAnswer, Transaction, commit_checked, commit_ended, commit_frame}
+use Rattle.vl_layout.specs.Rulings.Commit.{commit_running, commit_unless, committed}
 use Rattle.vl_layout.specs.Rulings.Fresh as fresh
 use Rattle.vl_layout.specs.Rulings.Fresh.{FreshAnswer, fresh_ruling}
 use Rattle.vl_layout.specs.Store.Commits.{Changes, Commits, conflict_in, history_in, with_changes}
 use Rattle.vl_layout.specs.Store.Dispatch.{drop_by, fill, filled, install_by, made_of, plan_as, planned_by}
 use Rattle.vl_layout.specs.Store.Lines.{Answer, Done, Name, Number}
-use Rattle.vl_layout.specs.Store.Reading.{begin_as, begun_by, commit_by, committed_by, get_at_by, get_by, get_own, is_small_enough, scan_by, write_by}
+use Rattle.vl_layout.specs.Store.Reading.{begin_as, begun_by, commit_by, committed_by, get_at_by, get_by, get_own}
+use Rattle.vl_layout.specs.Store.Reading.{is_small_enough, scan_by, write_by}
 use Rattle.vl_layout.specs.Store.Things.{Thing, ATransaction, AView, AJob, APass, State, Step}
 use Rattle.vl_layout.specs.Tickets.{free_ticket, tickets_of}
 use Rattle.vl_layout.specs.declared.file_name.FileName.{FileName}
@@ -63,7 +65,8 @@ module _ (s : State) where
     -- nothing that it read was overwritten
     pub none : conflict_in s.commits t.number t.reads ≡ None
 
-  kept_alike : (x : Step) → x.state.commits ≡ s.commits → x.state.layout ≡ record s.layout { live = x.state.layout.live } → x.calls ≡ 0 → Keeps x
+  kept_alike : (x : Step) → x.state.commits ≡ s.commits
+      → x.state.layout ≡ record s.layout { live = x.state.layout.live } → x.calls ≡ 0 → Keeps x
   kept_alike x commits layout calls = record { commits = commits; layout = layout; calls = calls }
 
   either : (b : Bool) (x y : Step) → Keeps x → Keeps y → Keeps (if b then x else y)
@@ -73,18 +76,21 @@ module _ (s : State) where
   -- ---- begins
 
   begun_keeps : (name : Name) (thing : ℕ → ℕ → Thing) (b : Bool) (ticket : ℕ)
-      → let r : Ruling BeginAnswer = if b then leaving begin.TooMany h l else leaving (begin.Begun ticket (last_number h)) h (begun l ticket (last_number h)) in Keeps (begun_by s name thing r r.answer)
+      → let r : Ruling BeginAnswer = if b then leaving begin.TooMany h l else leaving
+      (begin.Begun ticket (last_number h)) h (begun l ticket (last_number h)) in Keeps (begun_by s name thing r r.answer)
   begun_keeps name thing true ticket = kept_alike _ refl refl refl
   begun_keeps name thing false ticket = kept_alike _ refl refl refl
 
   pub begin_keeps : (name : Name) (thing : Beginning → ℕ → ℕ → Thing) (o : Option Thing) → Keeps (begin_as s name thing o)
   begin_keeps name thing (Some other) = kept_alike _ refl refl refl
   begin_keeps name thing None =
-      begun_keeps name (thing (beginning_of (begin_ruling l h).layout h)) (nat_le max_live (length l.live)) (free_ticket (tickets_of l.live))
+      begun_keeps name (thing (beginning_of (begin_ruling l h).layout h)) (nat_le max_live (length l.live))
+      (free_ticket (tickets_of l.live))
 
   -- ---- reads and writes
 
-  own_keeps : (name : Name) (tell : Option Stored → Answer) (t : Transaction) (b : Beginning) (key : List ℕ) (o : Option Change) → Keeps (get_own s name tell t b key o)
+  own_keeps : (name : Name) (tell : Option Stored → Answer) (t : Transaction) (b : Beginning) (key : List ℕ)
+      (o : Option Change) → Keeps (get_own s name tell t b key o)
   own_keeps name tell t b key (Some change) = kept_alike _ refl refl refl
   own_keeps name tell t b key None = kept_alike _ refl refl refl
 
@@ -92,7 +98,8 @@ module _ (s : State) where
   get_keeps name tell key None = kept_alike _ refl refl refl
   get_keeps name tell key (Some (AJob job made)) = kept_alike _ refl refl refl
   get_keeps name tell key (Some (APass pass batch)) = kept_alike _ refl refl refl
-  get_keeps name tell key (Some (AView v b)) = either (is_key_length (length key)) _ _ (kept_alike _ refl refl refl) (kept_alike _ refl refl refl)
+  get_keeps name tell key (Some (AView v b)) = either (is_key_length (length key)) _ _ (kept_alike _ refl refl refl)
+      (kept_alike _ refl refl refl)
   get_keeps name tell key (Some (ATransaction t b)) =
       either (is_key_length (length key)) _ _ (own_keeps name tell t b key (find key_cmp key t.writes)) (kept_alike _ refl refl refl)
 
@@ -103,14 +110,17 @@ module _ (s : State) where
   get_at_keeps name key number (Some (AView v b)) = kept_alike _ refl refl refl
   get_at_keeps name key number (Some (ATransaction t b)) = kept_alike _ refl refl refl
 
-  pub scan_keeps : (way : Way) (name : Name) (low high : List ℕ) (limit : ℕ) (o : Option Thing) → Keeps (scan_by s way name low high limit o)
+  pub scan_keeps : (way : Way) (name : Name) (low high : List ℕ) (limit : ℕ) (o : Option Thing)
+      → Keeps (scan_by s way name low high limit o)
   scan_keeps way name low high limit None = kept_alike _ refl refl refl
   scan_keeps way name low high limit (Some (AJob job made)) = kept_alike _ refl refl refl
   scan_keeps way name low high limit (Some (APass pass batch)) = kept_alike _ refl refl refl
   scan_keeps way name low high limit (Some (AView v b)) =
-      either (nat_le (length low) max_key_bytes && nat_le (length high) max_key_bytes) _ _ (kept_alike _ refl refl refl) (kept_alike _ refl refl refl)
+      either (nat_le (length low) max_key_bytes && nat_le (length high) max_key_bytes) _ _ (kept_alike _ refl refl refl)
+      (kept_alike _ refl refl refl)
   scan_keeps way name low high limit (Some (ATransaction t b)) =
-      either (nat_le (length low) max_key_bytes && nat_le (length high) max_key_bytes) _ _ (kept_alike _ refl refl refl) (kept_alike _ refl refl refl)
+      either (nat_le (length low) max_key_bytes && nat_le (length high) max_key_bytes) _ _ (kept_alike _ refl refl refl)
+      (kept_alike _ refl refl refl)
 
   pub write_keeps : (name : Name) (key : List ℕ) (change : Change) (o : Option Thing) → Keeps (write_by s name key change o)
   write_keeps name key change None = kept_alike _ refl refl refl
@@ -118,7 +128,8 @@ module _ (s : State) where
   write_keeps name key change (Some (APass pass batch)) = kept_alike _ refl refl refl
   write_keeps name key change (Some (AView v b)) = kept_alike _ refl refl refl
   write_keeps name key change (Some (ATransaction t b)) =
-      either (not (is_key_length (length key) && is_value_length log_format (length (value_bytes change)))) _ _ (kept_alike _ refl refl refl)
+      either (not (is_key_length (length key) && is_value_length log_format (length (value_bytes change)))) _ _
+      (kept_alike _ refl refl refl)
       (either (is_small_enough (put key_cmp key change t.writes)) _ _ (kept_alike _ refl refl refl) (kept_alike _ refl refl refl))
 
   -- ---- ends
@@ -181,7 +192,9 @@ module _ (s : State) where
     abbrev by : Ruling CommitAnswer → Step
     by r = committed_by s name t r r.answer
 
-    fits_or : (b : Bool) → conflict_in s.commits t.number t.reads ≡ None → KeepsOr t (by (if b then committed l h t else leaving (commit.Full l.active.length (frame_length l.active.format (commit_frame h t.writes))) h l))
+    fits_or : (b : Bool) → conflict_in s.commits t.number t.reads ≡ None
+        → KeepsOr t (by (if b then committed l h t else leaving
+        (commit.Full l.active.length (frame_length l.active.format (commit_frame h t.writes))) h l))
     fits_or true none = inr (record { answer = refl; commits = refl; layout = refl; calls = refl; none = none })
     fits_or false none = inl (kept_alike _ refl refl refl, λ n e. cc)
 
@@ -189,22 +202,26 @@ module _ (s : State) where
     checked_or (Some named) is = inl (kept_alike _ refl refl refl, λ n e. cc)
     checked_or None is = fits_or (nat_le (l.active.length + frame_length l.active.format (commit_frame h t.writes)) l.room) is
 
-    numbered_or : (b : Bool) (o : Option Named) → conflict_in s.commits t.number t.reads ≡ o → KeepsOr t (by (if b then leaving (commit.Exhausted CommitNumber) h l else commit_checked l h t o))
+    numbered_or : (b : Bool) (o : Option Named) → conflict_in s.commits t.number t.reads ≡ o
+        → KeepsOr t (by (if b then leaving (commit.Exhausted CommitNumber) h l else commit_checked l h t o))
     numbered_or true o is = inl (kept_alike _ refl refl refl, λ n e. cc)
     numbered_or false o is = checked_or o is
 
     running_or : (b : Bool) (o : Option Named) → conflict_in s.commits t.number t.reads ≡ o
-        → KeepsOr t (by (if b then commit_ended commit.Nothing l h t else (if nat_le max_commit_number (last_number h) then leaving (commit.Exhausted CommitNumber) h l else commit_checked l h t o)))
+        → KeepsOr t (by (if b then commit_ended commit.Nothing l h t else
+        (if nat_le max_commit_number (last_number h) then leaving (commit.Exhausted CommitNumber) h l else commit_checked l h t o)))
     running_or true o is = inl (kept_alike _ refl refl refl, λ n e. cc)
     running_or false o is = numbered_or (nat_le max_commit_number (last_number h)) o is
 
-    unless_or : (halted : Option FileName) (o : Option Named) → conflict_in s.commits t.number t.reads ≡ o → KeepsOr t (by (commit_unless halted l h t o))
+    unless_or : (halted : Option FileName) (o : Option Named) → conflict_in s.commits t.number t.reads ≡ o
+        → KeepsOr t (by (commit_unless halted l h t o))
     unless_or (Some file) o is = inl (kept_alike _ refl refl refl, λ n e. cc)
     unless_or None o is = running_or (length t.writes == 0) o is
 
   -- a commit keeps them, or adds the writes of what its name stands for
   pub commit_or : (name : Name) (o : Option Thing)
-      → (Keeps (commit_by s name o) × IsNoNumber (commit_by s name o)) ⊎ ((t : Transaction) × (b : Beginning) × (o ≡ Some (ATransaction t b)) × Adds (commit_by s name o) t)
+      → (Keeps (commit_by s name o) × IsNoNumber (commit_by s name o))
+      ⊎ ((t : Transaction) × (b : Beginning) × (o ≡ Some (ATransaction t b)) × Adds (commit_by s name o) t)
   commit_or name None = inl (kept_alike _ refl refl refl, λ n e. cc)
   commit_or name (Some (AJob job made)) = inl (kept_alike _ refl refl refl, λ n e. cc)
   commit_or name (Some (APass pass batch)) = inl (kept_alike _ refl refl refl, λ n e. cc)

@@ -20,11 +20,16 @@ use Rattle.vl_model.specs.Reads.{IsExplained, Read}
 use Rattle.vl_model.specs.declared.change.Change.TheVariants.{Set as Put, Delete as Deleted}
 use Rattle.vl_replay.specs.Exchanges.{exchanged, exchanges_from, and_later, IsExplainedExchange, AreExplained, ended_lines, KeepsUp}
 use Rattle.vl_replay.specs.Sequential.{State, answer_to, asked, history_of, state_after, step_to}
-use Rattle.vl_replay.specs.laws.Explained.{IsSound as IsSoundStore, IsSoundThing, Stays, commit_explained, commit_stays, drop_stays, get_at_explained, get_at_stays, get_explained, get_stays, install_stays, later_things, plan_stays, scan_explained, scan_stays, transaction_stays, view_stays, write_stays}
-use Rattle.vl_replay.specs.laws.Growing.{Adds, Keeps, begin_keeps, commit_or, drop_or, get_at_keeps, get_keeps, install_commits, plan_commits, scan_keeps, write_keeps}
+use Rattle.vl_replay.specs.laws.Explained.{IsSound as IsSoundStore, IsSoundThing, Stays, commit_explained}
+use Rattle.vl_replay.specs.laws.Explained.{commit_stays, drop_stays, get_at_explained, get_at_stays, get_explained}
+use Rattle.vl_replay.specs.laws.Explained.{get_stays, install_stays, later_things, plan_stays, scan_explained}
+use Rattle.vl_replay.specs.laws.Explained.{scan_stays, transaction_stays, view_stays, write_stays}
+use Rattle.vl_replay.specs.laws.Growing.{Adds, Keeps, begin_keeps, commit_or, drop_or, get_at_keeps, get_keeps}
+use Rattle.vl_replay.specs.laws.Growing.{install_commits, plan_commits, scan_keeps, write_keeps}
 use Rattle.vl_script.specs.Script.{line_of}
 use Rattle.vl_script.specs.declared.line.Line.{Line}
-use Rattle.vl_script.specs.declared.line.Line.TheVariants.{Begin, View, Get, Set, SetTagged, GetTagged, Scan, Delete, Commit, Drop, Rotate, Flush, Keep, GetAt, Plan, Install}
+use Rattle.vl_script.specs.declared.line.Line.TheVariants.{Begin, View, Get, Set, SetTagged, GetTagged, Scan, Delete}
+use Rattle.vl_script.specs.declared.line.Line.TheVariants.{Commit, Drop, Rotate, Flush, Keep, GetAt, Plan, Install}
 
 -- ---- what a line leaves
 
@@ -119,7 +124,8 @@ stays_sound s line sound stays = kept_sound s line sound stays.commits stays.thi
 commit_sound : (s : State) (name : Name) → IsSound s
     → Keeps s.store (step_to s (Commit name)) ⊎ (Committing s (Commit name) ⊎ Stepping s (Commit name))
     → IsSound (state_after s (Commit name))
-commit_sound s name sound (inl keeps) = kept_sound s (Commit name) sound keeps.commits (commit_stays s.store sound name (thing_of s.store name))
+commit_sound s name sound (inl keeps) = kept_sound s (Commit name) sound keeps.commits
+    (commit_stays s.store sound name (thing_of s.store name))
 commit_sound s name sound (inr (inr steps)) = absurd steps.is
 commit_sound s name sound (inr (inl (t, b, other, same, is, adds))) = record {
   proper = step_proper s.store sound.proper (asked (Commit name));
@@ -130,7 +136,8 @@ commit_sound s name sound (inr (inl (t, b, other, same, is, adds))) = record {
 pub state_after-sound : (s : State) (line : Line) → IsSound s → IsSound (state_after s line)
 state_after-sound s (Begin name) sound = stays_sound s (Begin name) sound (transaction_stays s.store sound name)
 state_after-sound s (View name) sound = stays_sound s (View name) sound (view_stays s.store sound name)
-state_after-sound s (Get name key) sound = stays_sound s (Get name key) sound (get_stays s.store sound name answer_of key (thing_of s.store name) refl)
+state_after-sound s (Get name key) sound = stays_sound s (Get name key) sound
+    (get_stays s.store sound name answer_of key (thing_of s.store name) refl)
 state_after-sound s (GetTagged name key) sound =
     stays_sound s (GetTagged name key) sound (get_stays s.store sound name answer_with_tag key (thing_of s.store name) refl)
 state_after-sound s (Scan name low high limit way) sound =
@@ -138,7 +145,8 @@ state_after-sound s (Scan name low high limit way) sound =
 state_after-sound s (Set name key value) sound =
     stays_sound s (Set name key value) sound (write_stays s.store sound name key (Put (untagged value)) (thing_of s.store name) refl)
 state_after-sound s (SetTagged name key value tag) sound =
-    stays_sound s (SetTagged name key value tag) sound (write_stays s.store sound name key (Put (tagged value tag)) (thing_of s.store name) refl)
+    stays_sound s (SetTagged name key value tag) sound
+    (write_stays s.store sound name key (Put (tagged value tag)) (thing_of s.store name) refl)
 state_after-sound s (Delete name key) sound =
     stays_sound s (Delete name key) sound (write_stays s.store sound name key Deleted (thing_of s.store name) refl)
 state_after-sound s (Drop name) sound = stays_sound s (Drop name) sound (drop_stays s.store sound name (thing_of s.store name) refl)
@@ -147,7 +155,8 @@ state_after-sound s Rotate sound = kept_sound s Rotate sound refl sound.things
 state_after-sound s Flush sound = kept_sound s Flush sound refl sound.things
 state_after-sound s (Keep versions) sound = kept_sound s (Keep versions) sound refl sound.things
 state_after-sound s (Plan name) sound =
-    stays_sound s (Plan name) sound (let stay = plan_stays s.store sound name (plan_ruling s.store.layout (history_of s)) (thing_of s.store name) in
+    stays_sound s (Plan name) sound
+    (let stay = plan_stays s.store sound name (plan_ruling s.store.layout (history_of s)) (thing_of s.store name) in
     record { commits = stay.commits; things = stay.things })
 state_after-sound s (Install name) sound = stays_sound s (Install name) sound (install_stays s.store sound name (thing_of s.store name))
 state_after-sound s (GetAt name key number) sound =
@@ -167,8 +176,10 @@ adds_of s name t b n is answered = elim (commit_or s.store name (thing_of s.stor
 exchange_explained : StaysExplained → (s : State) (line : Line) → IsSound s → IsExplainedExchange line (exchanged s line)
 exchange_explained stay s (Begin name) sound = tt
 exchange_explained stay s (View name) sound = tt
-exchange_explained stay s (Get name key) sound = λ number by. get_explained s.store sound name answer_of key number (thing_of s.store name) by
-exchange_explained stay s (GetTagged name key) sound = λ number by. get_explained s.store sound name answer_with_tag key number (thing_of s.store name) by
+exchange_explained stay s (Get name key) sound = λ number by. get_explained s.store sound name answer_of key number
+    (thing_of s.store name) by
+exchange_explained stay s (GetTagged name key) sound = λ number by. get_explained s.store sound name answer_with_tag key
+    number (thing_of s.store name) by
 exchange_explained stay s (Scan name low high limit way) sound =
     λ number own by. scan_explained s.store sound way name low high limit number own (thing_of s.store name) refl by
 exchange_explained stay s (SetTagged name key value tag) sound = tt
@@ -180,18 +191,22 @@ exchange_explained stay s Flush sound = tt
 exchange_explained stay s (Keep versions) sound = tt
 exchange_explained stay s (Plan name) sound = tt
 exchange_explained stay s (Install name) sound = tt
-exchange_explained stay s (GetAt name key number) sound = λ told. get_at_explained s.store sound name key number (thing_of s.store name) told
-exchange_explained stay s (Commit name) sound = λ t b n is e. commit_explained s.store sound stay name t b n (thing_of s.store name) is is (adds_of s name t b n is e) e
+exchange_explained stay s (GetAt name key number) sound = λ told. get_at_explained s.store sound name key number
+    (thing_of s.store name) told
+exchange_explained stay s (Commit name) sound = λ t b n is e. commit_explained s.store sound stay name t b n
+    (thing_of s.store name) is is (adds_of s name t b n is e) e
 
 exchanges_behind : StaysExplained → (s : State) (texts : List (List ℕ)) (o : Option Line) → IsSound s
     → ((s' : State) → IsSound s' → AreExplained (exchanges_from s' texts))
     → AreExplained (and_later (λ e. exchanges_from e.after texts) (option_map (exchanged s) o))
 exchanges_behind stay s texts None sound ih = tt
-exchanges_behind stay s texts (Some line) sound ih = (exchange_explained stay s line sound, ih (state_after s line) (state_after-sound s line sound))
+exchanges_behind stay s texts (Some line) sound
+    ih = (exchange_explained stay s line sound, ih (state_after s line) (state_after-sound s line sound))
 
 pub exchanges_from-explained : StaysExplained → (texts : List (List ℕ)) (s : State) → IsSound s → AreExplained (exchanges_from s texts)
 exchanges_from-explained stay [] s sound = tt
-exchanges_from-explained stay (text ∷ texts) s sound = exchanges_behind stay s texts (line_of text) sound (exchanges_from-explained stay texts)
+exchanges_from-explained stay (text ∷ texts) s sound = exchanges_behind stay s texts (line_of text) sound
+    (exchanges_from-explained stay texts)
 
 -- ---- no answer is owed at first
 

@@ -1,6 +1,8 @@
 -- In which states runs begin: over an empty disk, and behind another run. And of which disks all of the store is durable.
-use Rattle.std.specs.Prelude.{◌≡◌, ◌≢◌, ◌<◌, ◌≤◌, ◌+◌, ◌^◌, ℕ, Bool, List, [], ◌∷◌, ◌++◌, length, map, Option, None, Some, Ok, Contains, IsSome, IsTrue, T, refl, true, false}
-use Rattle.std.specs.FinMap.{empty, empty_of_len, entries, len-entries, entries-from_sorted, entries_sorted, from_sorted, get, get-empty, is_sorted, same_entries_map}
+use Rattle.std.specs.Prelude.{◌≡◌, ◌≢◌, ◌<◌, ◌≤◌, ◌+◌, ◌^◌, ℕ, Bool, List, [], ◌∷◌, ◌++◌, length, map, Option, None}
+use Rattle.std.specs.Prelude.{Some, Ok, Contains, IsSome, IsTrue, T, refl, true, false}
+use Rattle.std.specs.FinMap.{empty, empty_of_len, entries, len-entries, entries-from_sorted, entries_sorted}
+use Rattle.std.specs.FinMap.{from_sorted, get, get-empty, is_sorted, same_entries_map}
 use Rattle.std.specs.List.{AllByRecursion}
 use Rattle.std.specs.Option.{option_map}
 use Rattle.std.specs.Ordering.{nat_cmp}
@@ -187,7 +189,13 @@ starts_bare g disk state files told bare some numbered openable may_open = recor
   strays = [];
   are_strays = no_strays finds_nothing.opening;
   calls = refl;
-  files = record { numbered = numbered; manifest = some; log = some; next = record { log = omega (arith, some); table = omega (arith, some) } };
+  files = record {
+    numbered = numbered;
+    manifest = some;
+    log = some;
+    next = record
+        { log = omega (arith, some); table = omega (arith, some) };
+  };
   openable = may_open;
 }
 
@@ -212,35 +220,46 @@ plain h = record {
 }
 
 same_writes : (writes : Writes) → from_sorted (entries writes) ≡ writes
-same_writes writes = same_entries_map (from_sorted (entries writes)) writes (entries-from_sorted key_cmp (entries writes) (entries_sorted writes))
+same_writes writes = same_entries_map (from_sorted (entries writes)) writes
+    (entries-from_sorted key_cmp (entries writes) (entries_sorted writes))
 
 same_commits : (cs : List Writes) → map from_sorted (map (λ (writes : Writes). entries writes) cs) ≡ cs
 same_commits [] = refl
-same_commits (c ∷ cs) = ap (λ (x : Writes). x ∷ map from_sorted (map (λ (writes : Writes). entries writes) cs)) (same_writes c) ∙ ap (λ (xs : List Writes). c ∷ xs) (same_commits cs)
+same_commits (c ∷ cs) = ap (λ (x : Writes). x ∷ map from_sorted (map (λ (writes : Writes). entries writes) cs))
+    (same_writes c) ∙ ap (λ (xs : List Writes). c ∷ xs) (same_commits cs)
 
 same_base : (cs : List (ℕ × Writes))
     → map (λ (c : ℕ × Changes). (c.0, from_sorted {R = key_cmp} c.1)) (map (λ (c : ℕ × Writes). (c.0, entries c.1)) cs) ≡ cs
 same_base [] = refl
 same_base (c ∷ cs) =
-    ap (λ (x : Writes). (c.0, x) ∷ map (λ (c : ℕ × Changes). (c.0, from_sorted {R = key_cmp} c.1)) (map (λ (c : ℕ × Writes). (c.0, entries c.1)) cs)) (same_writes c.1)
+    ap (λ (x : Writes). (c.0, x) ∷ map (λ (c : ℕ × Changes). (c.0, from_sorted {R = key_cmp} c.1))
+    (map (λ (c : ℕ × Writes). (c.0, entries c.1)) cs)) (same_writes c.1)
     ∙ ap (λ (xs : List (ℕ × Writes)). c ∷ xs) (same_base cs)
 
 -- they are that history, and rise
 pub plain_is : (h : History) → history_in (plain h) ≡ h
 plain_is h =
-    ap (λ (base : List (ℕ × Writes)). record { first = h.first; base = from_sorted base; commits = map from_sorted (map (λ (writes : Writes). entries writes) h.commits) }) (same_base (entries h.base))
-    ∙ ap (λ (base : _). record { first = h.first; base = base; commits = map from_sorted (map (λ (writes : Writes). entries writes) h.commits) })
+    ap (λ (base : List (ℕ × Writes)). record {
+      first = h.first;
+      base = from_sorted base;
+      commits = map from_sorted
+          (map (λ (writes : Writes). entries writes) h.commits);
+    }) (same_base (entries h.base))
+    ∙ ap (λ (base : _). record
+    { first = h.first; base = base; commits = map from_sorted (map (λ (writes : Writes). entries writes) h.commits) })
     (same_entries_map (from_sorted (entries h.base)) h.base (entries-from_sorted _ (entries h.base) (entries_sorted h.base)))
     ∙ ap (λ (cs : List Writes). record { first = h.first; base = h.base; commits = cs }) (same_commits h.commits)
 
 pub reopened_last : (h : History) (m : ℕ) → last_number (reopened h m) ≡ m
 reopened_last h m = omega arith
 
-rising_base : (cs : List (ℕ × Writes)) → AllByRecursion (λ (c : ℕ × Changes). T (is_sorted key_cmp c.1)) (map (λ (c : ℕ × Writes). (c.0, entries c.1)) cs)
+rising_base : (cs : List (ℕ × Writes)) → AllByRecursion (λ (c : ℕ × Changes). T (is_sorted key_cmp c.1))
+    (map (λ (c : ℕ × Writes). (c.0, entries c.1)) cs)
 rising_base [] = tt
 rising_base (c ∷ cs) = (entries_sorted c.1, rising_base cs)
 
-rising_commits : (cs : List Writes) → AllByRecursion (λ (c : Changes). T (is_sorted key_cmp c)) (map (λ (writes : Writes). entries writes) cs)
+rising_commits : (cs : List Writes)
+    → AllByRecursion (λ (c : Changes). T (is_sorted key_cmp c)) (map (λ (writes : Writes). entries writes) cs)
 rising_commits [] = tt
 rising_commits (c ∷ cs) = (entries_sorted c, rising_commits cs)
 
@@ -306,7 +325,8 @@ opens_up_to disk found lawful =
     )
   where
     of : (name : Name) (o : Option File) → o ≢ None → ((file : File) → o ≡ Some file → IsNumbered name)
-        → file_number name ≤ 2 ^ 32 + (found.greatest.manifest + 1) + active_log found.greatest found.opening.state found.logs + (new_state found.greatest found.opening.state).next_log
+        → file_number name ≤ 2 ^ 32 + (found.greatest.manifest + 1) + active_log found.greatest found.opening.state
+        found.logs + (new_state found.greatest found.opening.state).next_log
         + (new_state found.greatest found.opening.state).next_table
     of name None some is = absurd (some refl)
     of name (Some file) some is = omega (arith, (is file refl).1)
@@ -346,7 +366,8 @@ pub shown_stay : (image : Image) (h : History) (m : ℕ) → Shown image h m →
 shown_stay image h m shown o opens n bytes reading among stands reads =
     let same : o ≡ shown.opening =
     ok_same {E = Refusal} o shown.opening (single_opening image (Ok o) (Ok shown.opening) opens shown.opens) in
-    has_stays image shown.sealed n (shown.led n (subst (λ (x : Opening). IsAmong (led_into x.levels) n) same among)) bytes reading stands reads
+    has_stays image shown.sealed n (shown.led n (subst (λ (x : Opening). IsAmong (led_into x.levels) n) same among))
+    bytes reading stands reads
 
 pub untabled_stay : (image : Image) → ((o : Opening) → Opens image (Ok o) → in_levels o.levels ≡ []) → LedStay image
 untabled_stay image bare o opens n bytes reading among = absurd (led_nowhere o.levels (bare o opens) n among)

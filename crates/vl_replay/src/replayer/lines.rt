@@ -109,9 +109,12 @@ fn carry_out<D: Disk>(
         → OnOk result (MergesIn D.Writer.Writer D.Held.bytes served.new.engine.merging planned.new (step_to s line).state) }
     ensures carries { (s : State) → StandsWith D.Watched D.Writer.Writer D.Held.bytes served.old planned.old s
         → CarriesOut D.Watched IsStored Shown IsStopped served.old.engine.disk served.new.engine.disk s (state_after s line) result }
-    ensures sound { (s : State) → StandsWith D.Watched D.Writer.Writer D.Held.bytes served.old planned.old s → HaltsByRead result → ReadsTables line s }
-    ensures undamaged { (s : State) → StandsWith D.Watched D.Writer.Writer D.Held.bytes served.old planned.old s → HaltsByDamage result → ⊥ }
-    ensures fault { (s : State) → StandsWith D.Watched D.Writer.Writer D.Held.bytes served.old planned.old s → HaltsByReader result → ReaderFailed (beside D.Reader.faults D.Writer.faults) }
+    ensures sound { (s : State) → StandsWith D.Watched D.Writer.Writer D.Held.bytes served.old planned.old s
+        → HaltsByRead result → ReadsTables line s }
+    ensures undamaged { (s : State) → StandsWith D.Watched D.Writer.Writer D.Held.bytes served.old planned.old s
+        → HaltsByDamage result → ⊥ }
+    ensures fault { (s : State) → StandsWith D.Watched D.Writer.Writer D.Held.bytes served.old planned.old s
+        → HaltsByReader result → ReaderFailed (beside D.Reader.faults D.Writer.faults) }
     ensures cause { HasCause (D.faults served.old.engine.disk) (D.faults served.new.engine.disk) (HaltsByDisk result) }
     ensures named { (s : State) (name : Name) → StandsWith D.Watched D.Writer.Writer D.Held.bytes served.old planned.old s
         → result ≡ Err (halts.Disk name) → FailsAt served.old.engine.core.back.manifest.number line s name }

@@ -137,8 +137,10 @@ pub(super) fn plan<D: Disk>(
         → CarriesOut D.Watched IsStored Shown IsStopped served.old.engine.disk served.new.engine.disk s
         (state_after s (lines.Plan name)) result }
     // A read, or a write beside the disk, fails only where tables are merged. What it reads isn't damaged.
-    ensures sound { (s : State) → StandsWith D.Watched D.Writer.Writer D.Held.bytes served.old planned.old s → HaltsByRead result → HasTables s }
-    ensures undamaged { (s : State) → StandsWith D.Watched D.Writer.Writer D.Held.bytes served.old planned.old s → HaltsByDamage result → ⊥ }
+    ensures sound { (s : State) → StandsWith D.Watched D.Writer.Writer D.Held.bytes served.old planned.old s
+        → HaltsByRead result → HasTables s }
+    ensures undamaged { (s : State) → StandsWith D.Watched D.Writer.Writer D.Held.bytes served.old planned.old s
+        → HaltsByDamage result → ⊥ }
     ensures fault { (s : State) → StandsWith D.Watched D.Writer.Writer D.Held.bytes served.old planned.old s
         → HaltsByReader result → ReaderFailed (beside D.Reader.faults D.Writer.faults) }
     ensures cause { HasCause (D.faults served.old.engine.disk) (D.faults served.new.engine.disk) (HaltsByDisk result) }

@@ -55,7 +55,8 @@ module _ (key : List ℕ) (version : ℕ) where
       dropped false true is = absurd cc
       dropped false false is = refl
 
-      by : exact (put e fs) key version ≡ exact (e ∷ fs) key version → (r : Ordering) → entry_cmp e f ≡ r → exact (put e (f ∷ fs)) key version ≡ exact (e ∷ f ∷ fs) key version
+      by : exact (put e fs) key version ≡ exact (e ∷ fs) key version → (r : Ordering) → entry_cmp e f ≡ r
+          → exact (put e (f ∷ fs)) key version ≡ exact (e ∷ f ∷ fs) key version
       by later Less is = ap (λ l. exact l key version) (put-less e f fs is)
       by later Equal is =
           ap (λ l. exact l key version) (put-equal e f fs is)

@@ -62,15 +62,19 @@ module _ (key : List ℕ) (version : ℕ) where
       at : (r : Ordering) → entry_cmp (place_of key version) e ≡ r → is_at key version e ≡ is_eq r
       at r is = is_at-tied e ∙ ap is_eq is
 
-      by : exact es key version ≡ if_exact key version (first_failing (is_ahead key version) es) → (r : Ordering) → entry_cmp (place_of key version) e ≡ r
-          → cond (is_at key version e) (Some e) (exact es key version) ≡ if_exact key version (cond (is_ahead key version e) (first_failing (is_ahead key version) es) (Some e))
+      by : exact es key version ≡ if_exact key version (first_failing (is_ahead key version) es) → (r : Ordering)
+          → entry_cmp (place_of key version) e ≡ r
+          → cond (is_at key version e) (Some e) (exact es key version) ≡ if_exact key version
+          (cond (is_ahead key version e) (first_failing (is_ahead key version) es) (Some e))
       by later Less is =
           ap (λ b. cond b (Some e) (exact es key version)) (at Less is)
           ∙ exact-behind es (before-all (place_of key version) e es is rising.0)
-          ∙ sym (ap (λ b. if_exact key version (cond b (first_failing (is_ahead key version) es) (Some e))) (ap is_gt is) ∙ ap (λ b. only_if b e) (at Less is))
+          ∙ sym (ap (λ b. if_exact key version (cond b (first_failing (is_ahead key version) es) (Some e)))
+          (ap is_gt is) ∙ ap (λ b. only_if b e) (at Less is))
       by later Equal is =
           ap (λ b. cond b (Some e) (exact es key version)) (at Equal is)
-          ∙ sym (ap (λ b. if_exact key version (cond b (first_failing (is_ahead key version) es) (Some e))) (ap is_gt is) ∙ ap (λ b. only_if b e) (at Equal is))
+          ∙ sym (ap (λ b. if_exact key version (cond b (first_failing (is_ahead key version) es) (Some e)))
+          (ap is_gt is) ∙ ap (λ b. only_if b e) (at Equal is))
       by later Greater is =
           ap (λ b. cond b (Some e) (exact es key version)) (at Greater is) ∙ later
           ∙ sym (ap (λ b. if_exact key version (cond b (first_failing (is_ahead key version) es) (Some e))) (ap is_gt is))
@@ -120,7 +124,8 @@ module _ (key : List ℕ) (version : ℕ) where
       none_counts e (winner es key version) (ap (λ b. b && nat_le e.version version) (uncounted (key_cmp key e.key) e.version before.0))
       ∙ winner-behind es before.1
 
-  other_key : (r : Ordering) (m n : ℕ) → is_gt (ordering_then r (nat_cmp m n)) ≡ false → is_eq r ≡ false → ordering_then r (nat_cmp m 0) ≡ Less
+  other_key : (r : Ordering) (m n : ℕ) → is_gt (ordering_then r (nat_cmp m n)) ≡ false → is_eq r ≡ false
+      → ordering_then r (nat_cmp m 0) ≡ Less
   other_key Less m n behind other = refl
   other_key Equal m n behind other = absurd cc
   other_key Greater m n behind other = absurd cc
@@ -152,7 +157,8 @@ module _ (key : List ℕ) (version : ℕ) where
       by : winner es key version ≡ if_of_key key (first_failing (is_ahead key version) es) → (b : Bool) → is_ahead key version e ≡ b
           → winner (e ∷ es) key version ≡ if_of_key key (cond (is_ahead key version e) (first_failing (is_ahead key version) es) (Some e))
       by later true is =
-          none_counts e (winner es key version) (counted_test (key_cmp key e.key) e.version version (is_gt-greater (entry_cmp (place_of key version) e) is))
+          none_counts e (winner es key version)
+          (counted_test (key_cmp key e.key) e.version version (is_gt-greater (entry_cmp (place_of key version) e) is))
           ∙ later
           ∙ sym (ap (λ b. if_of_key key (cond b (first_failing (is_ahead key version) es) (Some e))) is)
       by later false is =
@@ -179,10 +185,12 @@ module _ (key : List ℕ) (version : ℕ) where
   not_same m n apart = grind (arith, nat_tests, apart)
 
   pub of_version : (e : Entry) → bytes_eq key e.key ≡ true → e.version ≡ version → if_exact key version (Some e) ≡ Some e
-  of_version e is same = ap (λ b. only_if (b && (e.version == version)) e) (is_eq-slice_cmp key e.key ∙ is) ∙ ap (λ b. only_if b e) (both_same e.version version same)
+  of_version e is same = ap (λ b. only_if (b && (e.version == version)) e) (is_eq-slice_cmp key e.key ∙ is)
+      ∙ ap (λ b. only_if b e) (both_same e.version version same)
 
   pub of_other_version : (e : Entry) → bytes_eq key e.key ≡ true → e.version ≢ version → if_exact key version (Some e) ≡ None
-  of_other_version e is apart = ap (λ b. only_if (b && (e.version == version)) e) (is_eq-slice_cmp key e.key ∙ is) ∙ ap (λ b. only_if b e) (not_same e.version version apart)
+  of_other_version e is apart = ap (λ b. only_if (b && (e.version == version)) e) (is_eq-slice_cmp key e.key ∙ is)
+      ∙ ap (λ b. only_if b e) (not_same e.version version apart)
 
   pub of_other_key : (e : Entry) → bytes_eq key e.key ≡ false → if_exact key version (Some e) ≡ None
   of_other_key e is = ap (λ b. only_if (b && (e.version == version)) e) (is_eq-slice_cmp key e.key ∙ is)

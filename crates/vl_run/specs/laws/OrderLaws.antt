@@ -38,7 +38,8 @@ module _ {K : Type 0} {R S : K → K → Ordering} (o : IsTotalOrder R) (q : IsT
 
   pub then_total : IsTotalOrder (λ (x y : K). ordering_then (R x y) (S x y))
   then_total = record {
-    antisymm = λ x y. ap (λ r. ordering_then r (S x y)) (o.antisymm x y) ∙ ap (ordering_then (ordering_reverse (R y x))) (q.antisymm x y) ∙ then-reverse (R y x) (S y x);
+    antisymm = λ x y. ap (λ r. ordering_then r (S x y)) (o.antisymm x y)
+        ∙ ap (ordering_then (ordering_reverse (R y x))) (q.antisymm x y) ∙ then-reverse (R y x) (S y x);
     trans = λ x y z p t. chained x y z (R x y) (R y z) refl refl p t;
     congr = λ x y z is.
         let both = then_tied (R x y) (S x y) is in
@@ -46,7 +47,8 @@ module _ {K : Type 0} {R S : K → K → Ordering} (o : IsTotalOrder R) (q : IsT
   }
 
 pub entry_total : IsTotalOrder entry_cmp
-entry_total = then_total (on_total (λ (e : Entry). e.key) nat_list_cmp_total) (back_total (on_total (λ (e : Entry). e.version) nat_cmp_total))
+entry_total = then_total (on_total (λ (e : Entry). e.key) nat_list_cmp_total)
+    (back_total (on_total (λ (e : Entry). e.version) nat_cmp_total))
 
 pub turned : (e f : Entry) (r : Ordering) → entry_cmp e f ≡ r → entry_cmp f e ≡ ordering_reverse r
 turned e f r is = entry_total.antisymm f e ∙ ap ordering_reverse is
@@ -70,7 +72,8 @@ put-apart e f (g ∷ gs) less = by (put-apart e f gs less) (entry_cmp f g) (entr
     greater : entry_cmp f e ≡ Greater
     greater = turned e f Less less
 
-    by : put e (put f gs) ≡ put f (put e gs) → (r s : Ordering) → entry_cmp f g ≡ r → entry_cmp e g ≡ s → put e (put f (g ∷ gs)) ≡ put f (put e (g ∷ gs))
+    by : put e (put f gs) ≡ put f (put e gs) → (r s : Ordering) → entry_cmp f g ≡ r → entry_cmp e g ≡ s
+        → put e (put f (g ∷ gs)) ≡ put f (put e (g ∷ gs))
     by later Less s fg eg =
         let lower = entry_total.trans e f g less fg in
         ap (put e) (put-less f g gs fg) ∙ put-less e f (g ∷ gs) less
@@ -112,7 +115,8 @@ in_order-put : (e : Entry) (xs ys : List Entry) → in_order (put e xs ++ ys) �
 in_order-put e [] ys = refl
 in_order-put e (x ∷ xs) ys = by (in_order-put e xs ys) (entry_cmp e x) refl
   where
-    by : in_order (put e xs ++ ys) ≡ put e (in_order (xs ++ ys)) → (r : Ordering) → entry_cmp e x ≡ r → in_order (put e (x ∷ xs) ++ ys) ≡ put e (put x (in_order (xs ++ ys)))
+    by : in_order (put e xs ++ ys) ≡ put e (in_order (xs ++ ys)) → (r : Ordering) → entry_cmp e x ≡ r
+        → in_order (put e (x ∷ xs) ++ ys) ≡ put e (put x (in_order (xs ++ ys)))
     by later Less is = ap (λ l. in_order (l ++ ys)) (put-less e x xs is)
     by later Equal is = ap (λ l. in_order (l ++ ys)) (put-equal e x xs is) ∙ sym (put-over e x (in_order (xs ++ ys)) is)
     by later Greater is =

@@ -9,11 +9,13 @@ use Rattle.vl_run.specs.laws.LookupLaws.{first_failing-append, none_failing}
 
 -- ---- in one part
 
-pub all_passed : (key : List ℕ) (version : ℕ) (es taken : List Entry) → es ≡ taken → AllByRecursion (λ e. is_ahead key version e ≡ true) taken
+pub all_passed : (key : List ℕ) (version : ℕ) (es taken : List Entry) → es ≡ taken
+    → AllByRecursion (λ e. is_ahead key version e ≡ true) taken
     → first_failing (is_ahead key version) es ≡ None
 all_passed key version es taken is ahead = ap (first_failing (is_ahead key version)) is ∙ none_failing (is_ahead key version) taken ahead
 
-pub stops_at : (key : List ℕ) (version : ℕ) (es taken : List Entry) (e : Entry) (later : List Entry) → es ≡ taken ++ e ∷ later → AllByRecursion (λ e. is_ahead key version e ≡ true) taken
+pub stops_at : (key : List ℕ) (version : ℕ) (es taken : List Entry) (e : Entry) (later : List Entry)
+    → es ≡ taken ++ e ∷ later → AllByRecursion (λ e. is_ahead key version e ≡ true) taken
     → is_ahead key version e ≡ false → first_failing (is_ahead key version) es ≡ Some e
 stops_at key version es taken e later is ahead stop =
     ap (first_failing (is_ahead key version)) is ∙ first_failing-append (is_ahead key version) taken (e ∷ later)
@@ -26,7 +28,8 @@ module _ (key : List ℕ) (version : ℕ) where
   module _ (i : ℕ) (parts front : List (List Entry)) (part : List Entry) (back : List (List Entry))
       (split : parts ≡ front ++ part ∷ back) (counted : length front ≡ i) where
     -- from a part on
-    from_part : first_over key version (drop i parts) ≡ or_else (first_failing (is_ahead key version) part) (first_over key version (drop (i + 1) parts))
+    from_part : first_over key version (drop i parts) ≡ or_else (first_failing (is_ahead key version) part)
+        (first_over key version (drop (i + 1) parts))
     from_part =
         ap (λ l. first_over key version (drop i l)) split ∙ ap (first_over key version) (drop_at front (part ∷ back) i counted)
         ∙ ap (λ l. or_else (first_failing (is_ahead key version) part) (first_over key version l))

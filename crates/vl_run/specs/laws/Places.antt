@@ -1,5 +1,6 @@
 -- The place in a list before the first element that fails a test.
-use Rattle.std.proofs.Common.{◌≡◌, ℕ, zero, suc, ◌+◌, ◌<◌, ◌≤◌, Bool, true, false, cond, List, [], ◌∷◌, length, get_or, refl, ap, sym, ◌∙◌, arith, Option, Some, None, slice_get, Bor}
+use Rattle.std.proofs.Common.{◌≡◌, ℕ, zero, suc, ◌+◌, ◌<◌, ◌≤◌, Bool, true, false, cond, List, [], ◌∷◌, length}
+use Rattle.std.proofs.Common.{get_or, refl, ap, sym, ◌∙◌, arith, Option, Some, None, slice_get, Bor}
 use Rattle.std.specs.List.{AllByRecursion, prefix_len}
 use Rattle.vl_run.specs.Lookups.{IsParted, first_failing}
 use Rattle.std.specs.List.Sorted.{IsPartitionedBy, IsPartitionPoint}
@@ -21,9 +22,11 @@ module _ {X : Type 0} (p : X → Bool) where
   parted_at (x ∷ xs) parted (suc i) zero d le within = absurd (omega arith)
   parted_at (x ∷ xs) parted (suc i) (suc j) d le within = parted_at xs parted.1 i j d (omega arith) (omega arith)
 
-  pub point-prefix : (xs : List X) (i : ℕ) → i ≤ length xs → IsPartitionPoint (λ x. p x ≡ true) (λ x. p x ≡ false) xs i → i ≡ prefix_len p xs
+  pub point-prefix : (xs : List X) (i : ℕ) → i ≤ length xs → IsPartitionPoint (λ x. p x ≡ true) (λ x. p x ≡ false) xs i
+      → i ≡ prefix_len p xs
   point-prefix [] i le point = omega arith
-  point-prefix (x ∷ xs) i le point = sym (prefix_len_is p (x ∷ xs) i x le (λ k lt. point.0 k x (omega arith) lt) (λ lt. point.1 i x (omega arith) lt))
+  point-prefix (x ∷ xs) i le point = sym
+      (prefix_len_is p (x ∷ xs) i x le (λ k lt. point.0 k x (omega arith) lt) (λ lt. point.1 i x (omega arith) lt))
 
   one_more : (n : ℕ) → 1 + n ≡ suc n
   one_more n = omega arith

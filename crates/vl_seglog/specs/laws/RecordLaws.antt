@@ -1,5 +1,6 @@
 -- What the definitions of records and pointers say: how long they are, and that one of each at most stands at the front of some bytes.
-use Rattle.std.proofs.Common.{◌≡◌, ◌<◌, ◌≤◌, ◌^◌, ℕ, ◌+◌, cond, Bool, List, [], ◌∷◌, ◌++◌, true, false, length, drop, get_or, refl, ap, sym, ◌∙◌, arith, append_assoc, length-append}
+use Rattle.std.proofs.Common.{◌≡◌, ◌<◌, ◌≤◌, ◌^◌, ℕ, ◌+◌, cond, Bool, List, [], ◌∷◌, ◌++◌, true, false, length, drop}
+use Rattle.std.proofs.Common.{get_or, refl, ap, sym, ◌∙◌, arith, append_assoc, length-append}
 use Rattle.std.proofs.lemmas.Bool.Decides.{nat_tests}
 use Rattle.std.specs.Prelude.{nat_le}
 use Rattle.byteorder.specs.Endian.{big_bytes}
@@ -36,16 +37,24 @@ length-tag_bytes format tag = by (nat_le format 1)
     by true = refl
     by false = refl
 
-pub length-head_bytes : (format flag tag key_length value_length : ℕ) → length (head_bytes format flag tag key_length value_length) ≡ record_head format
+pub length-head_bytes : (format flag tag key_length value_length : ℕ)
+    → length (head_bytes format flag tag key_length value_length) ≡ record_head format
 length-head_bytes format flag tag key_length value_length =
     omega (arith, length-append (tag_bytes format tag) (big_bytes 2 key_length ++ big_bytes 4 value_length), length-tag_bytes format tag)
 
 -- A record has as many bytes as its length says.
-pub length-record_bytes : (format : ℕ) (key : List ℕ) (change : Change) → length (record_bytes format key change) ≡ record_length format key change
+pub length-record_bytes : (format : ℕ) (key : List ℕ) (change : Change)
+    → length (record_bytes format key change) ≡ record_length format key change
 unfolding record_bytes
 length-record_bytes format key change =
     let head = head_bytes format (flag_of change) (value_tag change) (length key) (length (value_bytes change)) in
-    omega (arith, length-append (head ++ key) (value_bytes change), length-append head key, length-head_bytes format (flag_of change) (value_tag change) (length key) (length (value_bytes change)))
+    omega (
+      arith,
+      length-append (head ++ key) (value_bytes change),
+      length-append head key,
+      length-head_bytes format
+          (flag_of change) (value_tag change) (length key) (length (value_bytes change)),
+    )
 
 -- It has a flag, at least.
 pub least_record : (format : ℕ) (key : List ℕ) (change : Change) → 7 ≤ record_length format key change
@@ -63,16 +72,19 @@ value_length-fits format n lawful = by (nat_le format 1) lawful
 
 -- Lawful lengths have room.
 pub lawful-widths : (format : ℕ) (key : List ℕ) (change : Change) → IsRecord format key change → HasWidths key change
-lawful-widths format key change lawful = record { key_fits = key_length-fits _ lawful.key_length; value_fits = value_length-fits format _ lawful.value_length }
+lawful-widths format key change lawful = record
+    { key_fits = key_length-fits _ lawful.key_length; value_fits = value_length-fits format _ lawful.value_length }
 
-same_change : (one other : Change) → flag_of one ≡ flag_of other → value_tag one ≡ value_tag other → value_bytes one ≡ value_bytes other → one ≡ other
+same_change : (one other : Change) → flag_of one ≡ flag_of other → value_tag one ≡ value_tag other
+    → value_bytes one ≡ value_bytes other → one ≡ other
 same_change (Set a) (Set b) flags tags values = ap Set (λ i. record { bytes = values i; tag = tags i })
 same_change (Set a) Delete flags tags values = absurd (omega arith)
 same_change Delete (Set b) flags tags values = absurd (omega arith)
 same_change Delete Delete flags tags values = refl
 
 -- What stands at the front of the same bytes is one tag that the format keeps.
-one_tag : (format a b : ℕ) (x y : List ℕ) → IsTag format a → IsTag format b → tag_bytes format a ++ x ≡ tag_bytes format b ++ y → (a ≡ b) × (x ≡ y)
+one_tag : (format a b : ℕ) (x y : List ℕ) → IsTag format a → IsTag format b
+    → tag_bytes format a ++ x ≡ tag_bytes format b ++ y → (a ≡ b) × (x ≡ y)
 one_tag format a b x y kept other_kept e = by (nat_le format 1) kept other_kept e
   where
     by : (is : Bool) → cond is 0 a ≡ a → cond is 0 b ≡ b → cond is [] (a ∷ []) ++ x ≡ cond is [] (b ∷ []) ++ y → (a ≡ b) × (x ≡ y)
@@ -80,8 +92,10 @@ one_tag format a b x y kept other_kept e = by (nat_le format 1) kept other_kept 
     by false zero other e = (ap (λ (l : List ℕ). get_or l 0 0) e, ap (drop 1) e)
 
 -- a head and what follows it, part by part
-pub head_grouped : (format flag tag k v : ℕ) (rest : List ℕ) → head_bytes format flag tag k v ++ rest ≡ flag ∷ (tag_bytes format tag ++ (big_bytes 2 k ++ (big_bytes 4 v ++ rest)))
-head_grouped format flag tag k v rest = ap (λ (l : List ℕ). flag ∷ l) (append_assoc (tag_bytes format tag) (big_bytes 2 k ++ big_bytes 4 v) rest)
+pub head_grouped : (format flag tag k v : ℕ) (rest : List ℕ)
+    → head_bytes format flag tag k v ++ rest ≡ flag ∷ (tag_bytes format tag ++ (big_bytes 2 k ++ (big_bytes 4 v ++ rest)))
+head_grouped format flag tag k v rest = ap (λ (l : List ℕ). flag ∷ l)
+    (append_assoc (tag_bytes format tag) (big_bytes 2 k ++ big_bytes 4 v) rest)
 
 -- two heads at the front of the same bytes are the same
 pub record SameHead (flag other_flag tag other_tag k other_k v other_v : ℕ) (rest other_rest : List ℕ) : Type 0 where
@@ -91,9 +105,12 @@ pub record SameHead (flag other_flag tag other_tag k other_k v other_v : ℕ) (r
   pub value_length_is : v ≡ other_v
   pub rest_is : rest ≡ other_rest
 
-pub one_head : (format flag other_flag tag other_tag k other_k v other_v : ℕ) (rest other_rest : List ℕ) → IsTag format tag → IsTag format other_tag → k < 2 ^ 16 → other_k < 2 ^ 16 → v < 2 ^ 32 → other_v < 2 ^ 32
-    → head_bytes format flag tag k v ++ rest ≡ head_bytes format other_flag other_tag other_k other_v ++ other_rest → SameHead flag other_flag tag other_tag k other_k v other_v rest other_rest
-one_head format flag other_flag tag other_tag k other_k v other_v rest other_rest kept other_kept k_fits other_k_fits v_fits other_v_fits e =
+pub one_head : (format flag other_flag tag other_tag k other_k v other_v : ℕ) (rest other_rest : List ℕ)
+    → IsTag format tag → IsTag format other_tag → k < 2 ^ 16 → other_k < 2 ^ 16 → v < 2 ^ 32 → other_v < 2 ^ 32
+    → head_bytes format flag tag k v ++ rest ≡ head_bytes format other_flag other_tag other_k other_v ++ other_rest
+    → SameHead flag other_flag tag other_tag k other_k v other_v rest other_rest
+one_head format flag other_flag tag other_tag k other_k v other_v rest other_rest kept other_kept k_fits other_k_fits
+    v_fits other_v_fits e =
     let both = sym (head_grouped format flag tag k v rest) ∙ e ∙ head_grouped format other_flag other_tag other_k other_v other_rest in
     let tags = one_tag format tag other_tag _ _ kept other_kept (ap (drop 1) both) in
     let a = one_number 2 k other_k _ _ k_fits other_k_fits tags.1 in
@@ -109,7 +126,9 @@ pub record SameParts (flag other_flag tag other_tag : ℕ) (key other_key value 
   pub rest_is : rest ≡ other_rest
 
 -- what comes apart: a head, a key, a value and the rest
-pub grouped : (format flag tag : ℕ) (key value rest : List ℕ) → (head_bytes format flag tag (length key) (length value) ++ key ++ value) ++ rest ≡ head_bytes format flag tag (length key) (length value) ++ (key ++ (value ++ rest))
+pub grouped : (format flag tag : ℕ) (key value rest : List ℕ)
+    → (head_bytes format flag tag (length key) (length value) ++ key ++ value) ++ rest ≡ head_bytes format flag tag
+    (length key) (length value) ++ (key ++ (value ++ rest))
 grouped format flag tag key value rest =
     let head = head_bytes format flag tag (length key) (length value) in
     append_assoc (head ++ key) value rest ∙ append_assoc head key (value ++ rest)
@@ -119,25 +138,30 @@ pub one_apart : (format : ℕ) (bytes : List ℕ) (flag other_flag tag other_tag
     → (one : IsApart format bytes flag tag key value) → (other : IsApart format bytes other_flag other_tag other_key other_value)
     → SameParts flag other_flag tag other_tag key other_key value other_value one.rest other.rest
 one_apart format bytes flag other_flag tag other_tag key other_key value other_value one other =
-    let both = sym (grouped format flag tag key value one.rest) ∙ sym one.spelled ∙ other.spelled ∙ grouped format other_flag other_tag other_key other_value other.rest in
-    let heads = one_head format flag other_flag tag other_tag _ _ _ _ _ _ one.tag_kept other.tag_kept one.key_fits other.key_fits one.value_fits other.value_fits both in
+    let both = sym (grouped format flag tag key value one.rest) ∙ sym one.spelled ∙ other.spelled
+    ∙ grouped format other_flag other_tag other_key other_value other.rest in
+    let heads = one_head format flag other_flag tag other_tag _ _ _ _ _ _ one.tag_kept other.tag_kept one.key_fits
+    other.key_fits one.value_fits other.value_fits both in
     let keys = same_front key other_key (value ++ one.rest) (other_value ++ other.rest) heads.key_length_is heads.rest_is in
     let values = same_front value other_value one.rest other.rest heads.value_length_is keys.1 in
     record { flag_is = heads.flag_is; tag_is = heads.tag_is; key_is = keys.0; value_is = values.0; rest_is = values.1 }
 
 -- A record that stands comes apart into its flag, its tag, its key and its value.
-pub spelled_apart : (format : ℕ) (bytes key : List ℕ) (change : Change) → IsSpelled format bytes key change → IsApart format bytes (flag_of change) (value_tag change) key (value_bytes change)
+pub spelled_apart : (format : ℕ) (bytes key : List ℕ) (change : Change) → IsSpelled format bytes key change
+    → IsApart format bytes (flag_of change) (value_tag change) key (value_bytes change)
 unfolding record_bytes
 spelled_apart format bytes key change s =
     let widths = lawful-widths format key change s.lawful in
     record { tag_kept = s.lawful.tag; key_fits = widths.key_fits; value_fits = widths.value_fits; rest = s.rest; spelled = s.parts }
 
 -- No two records stand at the front of the same bytes, and what stands behind the record is the same.
-pub one_record : (format : ℕ) (bytes key other_key : List ℕ) (change other_change : Change) → (one : IsSpelled format bytes key change) → (other : IsSpelled format bytes other_key other_change)
+pub one_record : (format : ℕ) (bytes key other_key : List ℕ) (change other_change : Change)
+    → (one : IsSpelled format bytes key change) → (other : IsSpelled format bytes other_key other_change)
     → (key ≡ other_key) × (change ≡ other_change) × (one.rest ≡ other.rest)
 unfolding spelled_apart
 one_record format bytes key other_key change other_change one other =
-    let same = one_apart format bytes (flag_of change) (flag_of other_change) (value_tag change) (value_tag other_change) key other_key (value_bytes change) (value_bytes other_change)
+    let same = one_apart format bytes (flag_of change) (flag_of other_change) (value_tag change)
+    (value_tag other_change) key other_key (value_bytes change) (value_bytes other_change)
     (spelled_apart format bytes key change one) (spelled_apart format bytes other_key other_change other) in
     (same.key_is, same_change change other_change same.flag_is same.tag_is same.value_is, same.rest_is)
 
@@ -154,7 +178,8 @@ one_write format a b rest other p q e =
 -- ---- pointers
 
 -- The pointer to the ten bytes from place 33 of log 1.
-pub worked_pointer : pointer_bytes (record { segment = 1; place = 33; length = 10 }) ≡ 0 ∷ 0 ∷ 0 ∷ 1 ∷ 0 ∷ 0 ∷ 0 ∷ 0 ∷ 0 ∷ 0 ∷ 0 ∷ 33 ∷ 0 ∷ 0 ∷ 0 ∷ 10 ∷ []
+pub worked_pointer : pointer_bytes (record { segment = 1; place = 33; length = 10 }) ≡ 0 ∷ 0 ∷ 0 ∷ 1 ∷ 0 ∷ 0 ∷ 0 ∷ 0 ∷ 0
+    ∷ 0 ∷ 0 ∷ 33 ∷ 0 ∷ 0 ∷ 0 ∷ 10 ∷ []
 unfolding pointer_bytes
 worked_pointer = refl
 
@@ -162,7 +187,8 @@ worked_pointer = refl
 pub one_pointer : (bytes : List ℕ) (p q : Pointer) → IsPointerSpelled bytes p → IsPointerSpelled bytes q → p ≡ q
 unfolding pointer_bytes
 one_pointer bytes p q one other =
-    let both : big_bytes 4 p.segment ++ (big_bytes 8 p.place ++ (big_bytes 4 p.length ++ one.rest)) ≡ big_bytes 4 q.segment ++ (big_bytes 8 q.place ++ (big_bytes 4 q.length ++ other.rest)) =
+    let both : big_bytes 4 p.segment ++ (big_bytes 8 p.place ++ (big_bytes 4 p.length ++ one.rest)) ≡ big_bytes 4
+    q.segment ++ (big_bytes 8 q.place ++ (big_bytes 4 q.length ++ other.rest)) =
     sym one.parts ∙ other.parts in
     let a = one_number 4 p.segment q.segment _ _ one.fits.segment other.fits.segment both in
     let b = one_number 8 p.place q.place _ _ one.fits.place other.fits.place a.1 in

@@ -1,7 +1,9 @@
 ghost use Rattle.std.specs.Prelude.{◌≡◌, ◌+◌, ◌<◌, ◌≤◌, ◌^◌, ◌∷◌, ℕ, IfOk, IfSome, None, Ok};
 ghost use Rattle.byteorder.specs.Endian.{big_bytes};
 ghost use Rattle.vl_seglog.specs.Answers.{Answers};
+ghost use Rattle.vl_seglog.specs.Bodies.{IsFrame};
 ghost use Rattle.vl_seglog.specs.Placed.{IsFrameAt};
+ghost use Rattle.vl_seglog.specs.Reading.{frame_of};
 ghost use Rattle.vl_seglog.specs.Sealed.{HasLength, IsFound, IsTorn};
 
 use crate::fault::{LogFault, damaged};
@@ -29,6 +31,7 @@ impl<H: HeldFile> SealedLog<H> {
             (λ bytes at. IsTorn self.now.format self.now.number place bytes × (at ≡ place)) result }
         ensures past { H.size self.now.held ≤ place → (reader.new ≡ reader.old) × (result ≡ Ok None) }
         ensures place { IfOk result (λ found. IfSome found (IsFrameAt self.now.format self.now.number place)) }
+        ensures lawful { IfOk result (λ found. IfSome found (λ frame. IsFrame self.now.format (frame_of frame))) }
     {
         if place >= self.held.len() {
             return Ok(None);

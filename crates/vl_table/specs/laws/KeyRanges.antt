@@ -64,10 +64,15 @@ module _ (key : List ℕ) where
   -- a key below the first is below all
   pub all_above : (es : List Entry) → IsRising es → key_cmp key (first_key es) ≡ Less → AllByRecursion (λ e. key_cmp key e.key ≡ Less) es
   all_above [] up below = tt
-  all_above (e ∷ es) up below = (below, all_map (λ f. entry_cmp e f ≡ Less) (λ f. key_cmp key f.key ≡ Less) (λ f less. below_up_to key e.key f.key below (keys_up e f less)) es up.0)
+  all_above (e ∷ es) up below = (
+    below,
+    all_map (λ f. entry_cmp e f ≡ Less) (λ f. key_cmp key f.key ≡ Less)
+        (λ f less. below_up_to key e.key f.key below (keys_up e f less)) es up.0,
+  )
 
   -- a key above the last is above all
-  pub all_below : (es : List Entry) → IsRising es → key_cmp key (last_key es) ≡ Greater → AllByRecursion (λ e. key_cmp key e.key ≡ Greater) es
+  pub all_below : (es : List Entry) → IsRising es → key_cmp key (last_key es) ≡ Greater
+      → AllByRecursion (λ e. key_cmp key e.key ≡ Greater) es
   all_below [] up above = tt
   all_below (e ∷ []) up above = (above, tt)
   all_below (e ∷ f ∷ fs) up above =

@@ -65,7 +65,8 @@ all_pass format es = by (has_filter format)
     by false = all_without es
 
 -- a key that it doesn't let pass is no entry's
-none_passes : (bits key : List ℕ) (es : List Entry) → passes bits key ≡ false → AllByRecursion (λ e. passes bits e.key ≡ true) es → HasNone key es
+none_passes : (bits key : List ℕ) (es : List Entry) → passes bits key ≡ false
+    → AllByRecursion (λ e. passes bits e.key ≡ true) es → HasNone key es
 none_passes bits key [] refused all = tt
 none_passes bits key (e ∷ es) refused all = (by (eq_by_cmp key_cmp key e.key) refl, none_passes bits key es refused all.1)
   where
@@ -86,7 +87,8 @@ module _ (number : ℕ) where
   last_is t es is = ap (λ (f : Foot). f.head.last) is.foot
 
   -- a key above the last one
-  pub none_behind : (key : List ℕ) (t : TableShape) (es : List Entry) → IsShapeOf number es t → key_cmp key t.footer.last ≡ Greater → HasNone key es
+  pub none_behind : (key : List ℕ) (t : TableShape) (es : List Entry) → IsShapeOf number es t
+      → key_cmp key t.footer.last ≡ Greater → HasNone key es
   none_behind key t es is above =
       none_below key es (all_below key es (in_order t es is) (ap (key_cmp key) (sym (last_is t es is)) ∙ above))
 
@@ -96,7 +98,8 @@ module _ (number : ℕ) where
       below : key_cmp key t.footer.first ≡ Less → HasNone key es
       below less = none_above key es (all_above key es (in_order t es is) (ap (key_cmp key) (sym (first_is t es is)) ∙ less))
 
-      by : (r s : Ordering) → key_cmp key t.footer.first ≡ r → key_cmp key t.footer.last ≡ s → (not (is_lt r) && not (is_gt s)) ≡ false → HasNone key es
+      by : (r s : Ordering) → key_cmp key t.footer.first ≡ r → key_cmp key t.footer.last ≡ s
+          → (not (is_lt r) && not (is_gt s)) ≡ false → HasNone key es
       by Less s first last test = below first
       by Equal Greater first last test = none_behind key t es is last
       by Greater Greater first last test = none_behind key t es is last

@@ -12,7 +12,8 @@ use Rattle.vl_model.specs.declared.entry.Entry.{Entry}
 use Rattle.vl_block.specs.Cutting.{block_frame_length, filter_frame_length, index_frame_length, last_key}
 use Rattle.vl_block.specs.Blocks.{block_body}
 use Rattle.vl_block.specs.declared.index.BlockPlace.{BlockPlace}
-use Rattle.vl_block.specs.Bytes.{block_places, blocks_bytes, file_bytes, filter_bytes, filter_place, footer_bytes, footer_place, index_bytes, index_place, table_header}
+use Rattle.vl_block.specs.Bytes.{block_places, blocks_bytes, file_bytes, filter_bytes, filter_place, footer_bytes}
+use Rattle.vl_block.specs.Bytes.{footer_place, index_bytes, index_place, table_header}
 use Rattle.vl_block.specs.laws.Places.{blocks-split}
 use Rattle.vl_block.specs.laws.Lengths.{length-block, length-blocks, length-filter_frame, length-index}
 
@@ -45,45 +46,56 @@ module _ (format number : ℕ) (es : List Entry) (bs : List (List Entry)) where
   to_index : length (table_header format number ++ blocks_bytes format number 16 bs) ≡ index_place format bs
   to_index = omega (arith, length-blocks format number 16 bs)
 
-  to_filter : length ((table_header format number ++ blocks_bytes format number 16 bs) ++ index_bytes format number bs) ≡ filter_place format bs
+  to_filter : length ((table_header format number ++ blocks_bytes format number 16 bs) ++ index_bytes format number bs)
+      ≡ filter_place format bs
   to_filter =
       length-two (table_header format number ++ blocks_bytes format number 16 bs) (index_bytes format number bs) (index_place format bs)
       (index_frame_length bs) to_index (length-index format number bs)
 
-  to_footer : length (((table_header format number ++ blocks_bytes format number 16 bs) ++ index_bytes format number bs) ++ filter_bytes format number es bs)
+  to_footer : length (((table_header format number ++ blocks_bytes format number 16 bs) ++ index_bytes format number bs)
+      ++ filter_bytes format number es bs)
       ≡ footer_place format es bs
   to_footer =
-      length-two ((table_header format number ++ blocks_bytes format number 16 bs) ++ index_bytes format number bs) (filter_bytes format number es bs)
+      length-two ((table_header format number ++ blocks_bytes format number 16 bs) ++ index_bytes format number bs)
+      (filter_bytes format number es bs)
       (filter_place format bs) (filter_frame_length format es) to_filter (length-filter_frame format number es bs)
 
   pub drop-index : drop (index_place format bs) (file_bytes format number es bs) ≡ tail_bytes format number es bs
   drop-index =
-      ap (drop (index_place format bs)) (cut_two (table_header format number) (blocks_bytes format number 16 bs) (tail_bytes format number es bs))
-      ∙ drop_at (table_header format number ++ blocks_bytes format number 16 bs) (tail_bytes format number es bs) (index_place format bs) to_index
+      ap (drop (index_place format bs))
+      (cut_two (table_header format number) (blocks_bytes format number 16 bs) (tail_bytes format number es bs))
+      ∙ drop_at (table_header format number ++ blocks_bytes format number 16 bs) (tail_bytes format number es bs)
+      (index_place format bs) to_index
 
   pub drop-filter : drop (filter_place format bs) (file_bytes format number es bs) ≡ behind_index format number es bs
   drop-filter =
       ap (drop (filter_place format bs))
-      (cut_three (table_header format number) (blocks_bytes format number 16 bs) (index_bytes format number bs) (behind_index format number es bs))
-      ∙ drop_at ((table_header format number ++ blocks_bytes format number 16 bs) ++ index_bytes format number bs) (behind_index format number es bs)
+      (cut_three (table_header format number) (blocks_bytes format number 16 bs) (index_bytes format number bs)
+      (behind_index format number es bs))
+      ∙ drop_at ((table_header format number ++ blocks_bytes format number 16 bs) ++ index_bytes format number bs)
+      (behind_index format number es bs)
       (filter_place format bs) to_filter
 
   pub drop-footer : drop (footer_place format es bs) (file_bytes format number es bs)
       ≡ footer_bytes format number es bs ++ big_bytes 8 (footer_place format es bs)
   drop-footer =
       ap (drop (footer_place format es bs))
-      (cut_four (table_header format number) (blocks_bytes format number 16 bs) (index_bytes format number bs) (filter_bytes format number es bs)
+      (cut_four (table_header format number) (blocks_bytes format number 16 bs) (index_bytes format number bs)
+      (filter_bytes format number es bs)
       (footer_bytes format number es bs ++ big_bytes 8 (footer_place format es bs)))
-      ∙ drop_at (((table_header format number ++ blocks_bytes format number 16 bs) ++ index_bytes format number bs) ++ filter_bytes format number es bs)
+      ∙ drop_at (((table_header format number ++ blocks_bytes format number 16 bs) ++ index_bytes format number bs)
+      ++ filter_bytes format number es bs)
       (footer_bytes format number es bs ++ big_bytes 8 (footer_place format es bs)) (footer_place format es bs) to_footer
 
   pub drop-end : (n : ℕ) → n ≡ footer_place format es bs + length (footer_bytes format number es bs)
       → drop n (file_bytes format number es bs) ≡ big_bytes 8 (footer_place format es bs)
   drop-end n is =
-      let front = ((table_header format number ++ blocks_bytes format number 16 bs) ++ index_bytes format number bs) ++ filter_bytes format number es bs in
+      let front = ((table_header format number ++ blocks_bytes format number 16 bs) ++ index_bytes format number bs)
+      ++ filter_bytes format number es bs in
       let foot = footer_bytes format number es bs in
       ap (drop n)
-      (cut_five (table_header format number) (blocks_bytes format number 16 bs) (index_bytes format number bs) (filter_bytes format number es bs) foot
+      (cut_five (table_header format number) (blocks_bytes format number 16 bs) (index_bytes format number bs)
+      (filter_bytes format number es bs) foot
       (big_bytes 8 (footer_place format es bs)))
       ∙ drop_at (front ++ foot) (big_bytes 8 (footer_place format es bs)) n
       (length-two front foot (footer_place format es bs) (length foot) to_footer refl ∙ sym is)
@@ -101,7 +113,8 @@ pub record BlockAt (format at : ℕ) (bs : List (List Entry)) (i : ℕ) (p : Blo
   pub length : p.length ≡ block_frame_length format block
   pub last : p.last ≡ last_key block
 
-pub block_at : (format at : ℕ) (bs : List (List Entry)) (i : ℕ) (p : BlockPlace) → i < length bs → p ≡ get_or (block_places format at bs) i p → BlockAt format at bs i p
+pub block_at : (format at : ℕ) (bs : List (List Entry)) (i : ℕ) (p : BlockPlace) → i < length bs
+    → p ≡ get_or (block_places format at bs) i p → BlockAt format at bs i p
 block_at format at [] i p within is = absurd (omega arith)
 block_at format at (b ∷ bs) zero p within is = record {
   front = [];
@@ -140,11 +153,15 @@ block_bytes format number es bs i p b =
     let tail = tail_bytes format number es bs in
     let split : blocks_bytes format number 16 bs ≡ before ++ (frame ++ back) =
     ap (blocks_bytes format number 16) b.split ∙ blocks-split format number 16 b.front b.block b.back
-    ∙ ap (λ (n : ℕ). before ++ (frame_bytes number n kinds.Block (block_body format b.block) ++ blocks_bytes format number (n + block_frame_length format b.block) b.back)) place in
+    ∙ ap (λ (n : ℕ). before ++
+    (frame_bytes number n kinds.Block (block_body format b.block) ++ blocks_bytes format number
+    (n + block_frame_length format b.block) b.back)) place in
     let whole : file_bytes format number es bs ≡ (table_header format number ++ before) ++ (frame ++ (back ++ tail)) =
     ap (λ (l : List ℕ). table_header format number ++ (l ++ tail)) split
-    ∙ ap (λ (l : List ℕ). table_header format number ++ l) (append_assoc before (frame ++ back) tail ∙ ap (λ (l : List ℕ). before ++ l) (append_assoc frame back tail))
+    ∙ ap (λ (l : List ℕ). table_header format number ++ l)
+    (append_assoc before (frame ++ back) tail ∙ ap (λ (l : List ℕ). before ++ l) (append_assoc frame back tail))
     ∙ sym (append_assoc (table_header format number) before (frame ++ (back ++ tail))) in
     ap (λ (l : List ℕ). take p.length (drop p.place l)) whole
-    ∙ ap (take p.length) (drop_at (table_header format number ++ before) (frame ++ (back ++ tail)) p.place (omega (arith, length-blocks format number 16 b.front, b.place)))
+    ∙ ap (take p.length) (drop_at (table_header format number ++ before) (frame ++ (back ++ tail)) p.place
+    (omega (arith, length-blocks format number 16 b.front, b.place)))
     ∙ take_at frame (back ++ tail) p.length (omega (arith, length-block format number p.place b.block, b.length))

@@ -29,7 +29,8 @@ all_at P [] x back all = all.0
 all_at P (y ∷ front) x back all = all_at P front x back all.1
 
 -- a block of a true table stands where the index says
-pub block_stands : (format number : ℕ) (es : List Entry) (i : ℕ) (p : BlockPlace) → IsTable format number es → (b : BlockAt format 16 (blocks format es) i p)
+pub block_stands : (format number : ℕ) (es : List Entry) (i : ℕ) (p : BlockPlace) → IsTable format number es
+    → (b : BlockAt format 16 (blocks format es) i p)
     → StandsBlock format number (table_bytes format number es) p.place p.length b.block
 block_stands format number es i p is b =
     let bytes = table_bytes format number es in
@@ -39,9 +40,11 @@ block_stands format number es i p is b =
       frame = record {
         frame = record {
           in_file = refl;
-          short = all_at (λ c. length (block_body format c) < 2 ^ 32) b.front b.block b.back (subst (AllByRecursion (λ c. length (block_body format c) < 2 ^ 32)) b.split is.short);
+          short = all_at (λ c. length (block_body format c) < 2 ^ 32) b.front b.block b.back
+              (subst (AllByRecursion (λ c. length (block_body format c) < 2 ^ 32)) b.split is.short);
           rest = drop p.length (drop p.place bytes);
-          spelled = sym (take-append-drop p.length (drop p.place bytes)) ∙ ap (λ (l : List ℕ). l ++ drop p.length (drop p.place bytes)) (block_bytes format number es (blocks format es) i p b);
+          spelled = sym (take-append-drop p.length (drop p.place bytes))
+              ∙ ap (λ (l : List ℕ). l ++ drop p.length (drop p.place bytes)) (block_bytes format number es (blocks format es) i p b);
         };
         sized = b.length ∙ sym (length-block format number p.place b.block) ∙ length-frame_bytes number p.place kinds.Block body;
       };
@@ -57,13 +60,17 @@ block_stands format number es i p is b =
 pub block_is : (slot : Slot) (id : BlockId) (bytes : List ℕ) (es others : List Entry) → HasBlock slot id bytes es
     → StandsBlock id.format id.number bytes id.place id.length others → es ≡ others
 block_is slot id bytes es others has stands =
-    let one = one_frame files.Table id.number id.place (drop id.place bytes) kinds.Block kinds.Block has.has.stands.body stands.body has.has.stands.frame.frame stands.frame.frame in
+    let one = one_frame files.Table id.number id.place (drop id.place bytes) kinds.Block kinds.Block has.has.stands.body
+    stands.body has.has.stands.frame.frame stands.frame.frame in
     one_block id.format stands.body es others (subst (λ (l : List ℕ). SpellsBlock id.format l es) one.1 has.has.stands.says) stands.says
 
-pub named_block : (number : ℕ) (s : TableShape) (es : List Entry) (i : ℕ) (p : BlockPlace) → IsShapeOf number es s → i < length s.blocks.items
+pub named_block : (number : ℕ) (s : TableShape) (es : List Entry) (i : ℕ) (p : BlockPlace) → IsShapeOf number es s
+    → i < length s.blocks.items
     → p ≡ get_or s.blocks.items i p → BlockAt s.format 16 (blocks s.format es) i p
 named_block number s es i p is within found =
-    block_at s.format 16 (blocks s.format es) i p (omega (arith, within, ap length is.blocks, length-block_places s.format 16 (blocks s.format es))) (found ∙ ap (λ l. get_or l i p) is.blocks)
+    block_at s.format 16 (blocks s.format es) i p
+    (omega (arith, within, ap length is.blocks, length-block_places s.format 16 (blocks s.format es)))
+    (found ∙ ap (λ l. get_or l i p) is.blocks)
 
 -- a true table has no bad block
 pub no_bad_block : {H : Type 0} (bytes_of : H → Option (List ℕ)) (t : Table H) (es : List Entry) (damage : ℕ) → IsOf bytes_of t es

@@ -30,9 +30,11 @@ module _ {H : Type 0} (bytes_of : H → Option (List ℕ)) where
   next_above : (t u : Table H) (es : List Entry) → IsOf bytes_of u es → key_cmp (footer_of t).last (footer_of u).first ≡ Less
       → AllByRecursion (λ e. key_cmp (footer_of t).last e.key ≡ Less) es × (key_cmp (footer_of t).last (footer_of u).last ≡ Less)
   next_above t u es is less =
-      let all = all_above (footer_of t).last es (in_order (number_of u) (shape_of u) es is.shape) (ap (key_cmp (footer_of t).last) (sym (first_is (number_of u) (shape_of u) es is.shape)) ∙ less) in (
+      let all = all_above (footer_of t).last es (in_order (number_of u) (shape_of u) es is.shape)
+      (ap (key_cmp (footer_of t).last) (sym (first_is (number_of u) (shape_of u) es is.shape)) ∙ less) in (
         all,
-        ap (key_cmp (footer_of t).last) (last_is (number_of u) (shape_of u) es is.shape) ∙ of_last (λ k. key_cmp (footer_of t).last k ≡ Less) es is.shape.table.tabled.some all,
+        ap (key_cmp (footer_of t).last) (last_is (number_of u) (shape_of u) es is.shape)
+            ∙ of_last (λ k. key_cmp (footer_of t).last k ≡ Less) es is.shape.table.tabled.some all,
       )
 
   -- so are those of all later ones
@@ -45,7 +47,8 @@ module _ {H : Type 0} (bytes_of : H → Option (List ℕ)) where
       let next = next_above t u es are.0 apart.0 in
       let later = later_above u us ess apart.1 are.1 in
       all-append (λ e. key_cmp (footer_of t).last e.key ≡ Less) es (joined ess) next.0
-      (all_map (λ e. key_cmp (footer_of u).last e.key ≡ Less) (λ e. key_cmp (footer_of t).last e.key ≡ Less) (λ e less. nat_list_cmp_total.trans (footer_of t).last (footer_of u).last e.key next.1 less) (joined ess) later)
+      (all_map (λ e. key_cmp (footer_of u).last e.key ≡ Less) (λ e. key_cmp (footer_of t).last e.key ≡ Less)
+      (λ e less. nat_list_cmp_total.trans (footer_of t).last (footer_of u).last e.key next.1 less) (joined ess) later)
 
   later_ends : (t : Table H) (ts : List (Table H)) (ess : List (List Entry)) → AreApart (t ∷ ts) → AreOf bytes_of ts ess
       → AllByRecursion (λ (u : Table H). key_cmp (footer_of t).last (footer_of u).last ≡ Less) ts
@@ -55,8 +58,10 @@ module _ {H : Type 0} (bytes_of : H → Option (List ℕ)) where
   later_ends t (u ∷ us) (es ∷ ess) apart are =
       let next = next_above t u es are.0 apart.0 in (
         next.1,
-        all_map (λ (v : Table H). key_cmp (footer_of u).last (footer_of v).last ≡ Less) (λ (v : Table H). key_cmp (footer_of t).last (footer_of v).last ≡ Less)
-            (λ v less. nat_list_cmp_total.trans (footer_of t).last (footer_of u).last (footer_of v).last next.1 less) us (later_ends u us ess apart.1 are.1),
+        all_map (λ (v : Table H). key_cmp (footer_of u).last (footer_of v).last ≡ Less)
+            (λ (v : Table H). key_cmp (footer_of t).last (footer_of v).last ≡ Less)
+            (λ v less. nat_list_cmp_total.trans (footer_of t).last (footer_of u).last (footer_of v).last next.1 less) us
+            (later_ends u us ess apart.1 are.1),
       )
 
   pub apart_rest : (t : Table H) (ts : List (Table H)) → AreApart (t ∷ ts) → AreApart ts
@@ -70,8 +75,12 @@ module _ {H : Type 0} (bytes_of : H → Option (List ℕ)) where
     level-parted [] (es ∷ ess) apart are = absurd are
     level-parted (t ∷ ts) [] apart are = absurd are
     level-parted (t ∷ ts) (es ∷ ess) apart are = (
-      all_map (λ (u : Table H). key_cmp (footer_of t).last (footer_of u).last ≡ Less) (λ (u : Table H). ends_before key u ≡ true → ends_before key t ≡ true)
-          (λ u less ends. ap is_gt (above_turned (footer_of t).last key (nat_list_cmp_total.trans (footer_of t).last (footer_of u).last key less (below_turned key (footer_of u).last (greater (key_cmp key (footer_of u).last) ends)))))
+      all_map (λ (u : Table H). key_cmp (footer_of t).last (footer_of u).last ≡ Less)
+          (λ (u : Table H). ends_before key u ≡ true → ends_before key t ≡ true)
+          (λ u less ends. ap is_gt
+          (above_turned (footer_of t).last key
+          (nat_list_cmp_total.trans (footer_of t).last (footer_of u).last key less
+          (below_turned key (footer_of u).last (greater (key_cmp key (footer_of u).last) ends)))))
           ts (later_ends t ts ess apart are.1),
       level-parted ts ess (apart_rest t ts apart) are.1,
     )
@@ -94,7 +103,8 @@ module _ {H : Type 0} (bytes_of : H → Option (List ℕ)) where
     one_more : (n : ℕ) → suc n ≡ 1 + n
     one_more n = omega arith
 
-    pub level_cut : (ts : List (Table H)) (ess : List (List Entry)) → AreApart ts → AreOf bytes_of ts ess → IsCut ts ess (prefix_len (ends_before key) ts)
+    pub level_cut : (ts : List (Table H)) (ess : List (List Entry)) → AreApart ts → AreOf bytes_of ts ess
+        → IsCut ts ess (prefix_len (ends_before key) ts)
     level_cut [] [] apart are = record { past = λ past. tt; here = λ t within is. absurd (omega (arith, within)) }
     level_cut [] (es ∷ ess) apart are = absurd are
     level_cut (t ∷ ts) [] apart are = absurd are

@@ -49,14 +49,17 @@ sought-middle look key front es back none none_behind =
 -- ---- versions
 
 -- no entry is above the greatest version
-pub winner-bounded : (es : List Entry) (key : List ℕ) (number : ℕ) (f : Entry) → winner es key number ≡ Some f → f.version ≤ greatest_version es
+pub winner-bounded : (es : List Entry) (key : List ℕ) (number : ℕ) (f : Entry) → winner es key number ≡ Some f
+    → f.version ≤ greatest_version es
 winner-bounded [] key number f is = absurd cc
-winner-bounded (e ∷ es) key number f is = by (λ g some. winner-bounded es key number g some) (counts key number e) (winner es key number) refl is
+winner-bounded (e ∷ es) key number f is = by (λ g some. winner-bounded es key number g some) (counts key number e)
+    (winner es key number) refl is
   where
     same : (a b : Entry) → Some a ≡ Some b → a ≡ b
     same a b e = cc
 
-    of_two : (g : Entry) (t : Bool) → g.version ≤ greatest_version es → cond t (Some e) (Some g) ≡ Some f → f.version ≤ max e.version (greatest_version es)
+    of_two : (g : Entry) (t : Bool) → g.version ≤ greatest_version es → cond t (Some e) (Some g) ≡ Some f
+        → f.version ≤ max e.version (greatest_version es)
     of_two g true le is = omega (arith, ap (λ (x : Entry). x.version) (same e f is))
     of_two g false le is = omega (arith, le, ap (λ (x : Entry). x.version) (same g f is))
 

@@ -1,5 +1,6 @@
 -- A look-up in tables, one more table at a time.
-use Rattle.std.specs.Prelude.{◌≡◌, ◌<◌, ◌≤◌, ℕ, suc, Bool, true, false, List, [], ◌∷◌, ◌++◌, length, get_or, take, drop, Option, None, Result, Ok, Err}
+use Rattle.std.specs.Prelude.{◌≡◌, ◌<◌, ◌≤◌, ℕ, suc, Bool, true, false, List, [], ◌∷◌, ◌++◌, length, get_or, take}
+use Rattle.std.specs.Prelude.{drop, Option, None, Result, Ok, Err}
 use Rattle.std.specs.List.{prefix_len}
 use Rattle.std.specs.Option.{option_map}
 use Rattle.std.proofs.Common.{refl, ap, sym, subst, ◌∙◌, append_assoc, append-nil, arith}
@@ -33,14 +34,16 @@ no_failure : (now : ℕ) → HasCause now now ⊥
 no_failure now = record { later = omega arith; rose = λ failed. absurd failed; steady = λ steady. refl }
 
 module _ {H : Type 0} (bytes_of : H → Option (List ℕ)) where
-  moved : (good other : Option Found → Type 0) (bad : ℕ → Type 0) (r : Result (Option Found) TableFault) → ((x : Option Found) → good x → other x)
+  moved : (good other : Option Found → Type 0) (bad : ℕ → Type 0) (r : Result (Option Found) TableFault)
+      → ((x : Option Found) → good x → other x)
       → ((place : ℕ) → bad place → ⊥) → IsAnswer good bad r → IsAnswer other (λ place. ⊥) r
   moved good other bad (Ok x) f g is = f x is
   moved good other bad (Err NoMemory) f g is = tt
   moved good other bad (Err (Disk name)) f g is = tt
   moved good other bad (Err (Damaged name place)) f g is = g place is
 
-  fault_moved : (good other : Option Found → Type 0) (e : TableFault) → IsAnswer good (λ place. ⊥) (Err e) → IsAnswer other (λ place. ⊥) (Err e)
+  fault_moved : (good other : Option Found → Type 0) (e : TableFault) → IsAnswer good (λ place. ⊥) (Err e)
+      → IsAnswer other (λ place. ⊥) (Err e)
   fault_moved good other NoMemory is = tt
   fault_moved good other (Disk name) is = tt
   fault_moved good other (Damaged name place) is = absurd is
@@ -68,7 +71,8 @@ module _ {H : Type 0} (bytes_of : H → Option (List ℕ)) where
         are_behind = rest.are_behind;
       }
 
-  fault-front : (ts us : List (Table H)) (key : List ℕ) (name : Name) (P : Table H → Type 0) → IsFaultOf bytes_of ts key name P → IsFaultOf bytes_of (ts ++ us) key name P
+  fault-front : (ts us : List (Table H)) (key : List ℕ) (name : Name) (P : Table H → Type 0)
+      → IsFaultOf bytes_of ts key name P → IsFaultOf bytes_of (ts ++ us) key name P
   fault-front ts us key name P f = record {
     table = f.table;
     asked = record {
@@ -81,7 +85,8 @@ module _ {H : Type 0} (bytes_of : H → Option (List ℕ)) where
     why = f.why;
   }
 
-  fault-back : (ts us : List (Table H)) (key : List ℕ) (name : Name) (P : Table H → Type 0) → IsFaultOf bytes_of us key name P → IsFaultOf bytes_of (ts ++ us) key name P
+  fault-back : (ts us : List (Table H)) (key : List ℕ) (name : Name) (P : Table H → Type 0)
+      → IsFaultOf bytes_of us key name P → IsFaultOf bytes_of (ts ++ us) key name P
   fault-back ts us key name P f = record {
     table = f.table;
     asked = record {
@@ -94,13 +99,15 @@ module _ {H : Type 0} (bytes_of : H → Option (List ℕ)) where
     why = f.why;
   }
 
-  names-front : (ts us : List (Table H)) (key : List ℕ) (r : Result (Option Found) TableFault) → NamesAsked bytes_of ts key r → NamesAsked bytes_of (ts ++ us) key r
+  names-front : (ts us : List (Table H)) (key : List ℕ) (r : Result (Option Found) TableFault)
+      → NamesAsked bytes_of ts key r → NamesAsked bytes_of (ts ++ us) key r
   names-front ts us key (Ok found) f = tt
   names-front ts us key (Err NoMemory) f = tt
   names-front ts us key (Err (Disk name)) f = fault-front ts us key name (λ t. Unit {0}) f
   names-front ts us key (Err (Damaged name place)) f = fault-front ts us key name (IsDamagedAt bytes_of place) f
 
-  names-back : (ts us : List (Table H)) (key : List ℕ) (r : Result (Option Found) TableFault) → NamesAsked bytes_of us key r → NamesAsked bytes_of (ts ++ us) key r
+  names-back : (ts us : List (Table H)) (key : List ℕ) (r : Result (Option Found) TableFault)
+      → NamesAsked bytes_of us key r → NamesAsked bytes_of (ts ++ us) key r
   names-back ts us key (Ok found) f = tt
   names-back ts us key (Err NoMemory) f = tt
   names-back ts us key (Err (Disk name)) f = fault-back ts us key name (λ t. Unit {0}) f
@@ -112,12 +119,14 @@ module _ {H : Type 0} (bytes_of : H → Option (List ℕ)) where
         → LooksOn bytes_of [] Lawful look key best now now (Ok x)
     starts Lawful best x now is = record { cause = no_failure now; fault = tt; answer = λ lawful ess are. by ess are }
       where
-        by : (ess : List (List Entry)) → AreOf bytes_of [] ess → option_map (found_of key) x ≡ better look best (sought look key (joined ess))
+        by : (ess : List (List Entry)) → AreOf bytes_of [] ess
+            → option_map (found_of key) x ≡ better look best (sought look key (joined ess))
         by [] are = is ∙ sym (none-better look best) ∙ sym (ap (better look best) (sought-none look key [] tt))
         by (es ∷ ess) are = absurd are
 
     -- behind what these tables gave others are asked
-    pub goes_on : (ts us : List (Table H)) (A B C : Type 0) (best : Option Entry) (before mid now : ℕ) (x : Option Found) (r : Result (Option Found) TableFault)
+    pub goes_on : (ts us : List (Table H)) (A B C : Type 0) (best : Option Entry) (before mid now : ℕ)
+        (x : Option Found) (r : Result (Option Found) TableFault)
         → (C → A) → (C → B) → LooksOn bytes_of ts A look key best before mid (Ok x)
         → LooksOn bytes_of us B look key (option_map (found_of key) x) mid now r → LooksOn bytes_of (ts ++ us) C look key best before now r
     goes_on ts us A B C best before mid now x r f g first second = record {
@@ -143,7 +152,8 @@ module _ {H : Type 0} (bytes_of : H → Option (List ℕ)) where
       answer = λ lawful ess are.
           let both = both_of ts more ess are in
           fault_moved (λ y. option_map (found_of key) y ≡ better look best (sought look key (joined both.front)))
-          (λ y. option_map (found_of key) y ≡ better look best (sought look key (joined ess))) e (one.answer (f lawful) both.front both.are);
+          (λ y. option_map (found_of key) y ≡ better look best (sought look key (joined ess))) e
+          (one.answer (f lawful) both.front both.are);
     }
 
     -- where nothing was found before
@@ -165,11 +175,13 @@ module _ {H : Type 0} (bytes_of : H → Option (List ℕ)) where
       greatest_is es is = ap (λ (f : Foot). f.head.greatest) is.shape.foot
 
       -- it isn't wanted
-      pub skips : (Lawful : Type 0) (x : Option Found) (now : ℕ) → option_map (found_of key) x ≡ best → is_wanted look best (shape_of t).footer.greatest ≡ false
+      pub skips : (Lawful : Type 0) (x : Option Found) (now : ℕ) → option_map (found_of key) x ≡ best
+          → is_wanted look best (shape_of t).footer.greatest ≡ false
           → LooksOn bytes_of (t ∷ []) Lawful look key best now now (Ok x)
       skips Lawful x now is refused = record { cause = no_failure now; fault = tt; answer = λ lawful ess are. by ess are }
         where
-          by : (ess : List (List Entry)) → AreOf bytes_of (t ∷ []) ess → option_map (found_of key) x ≡ better look best (sought look key (joined ess))
+          by : (ess : List (List Entry)) → AreOf bytes_of (t ∷ []) ess
+              → option_map (found_of key) x ≡ better look best (sought look key (joined ess))
           by [] are = absurd are
           by (es ∷ []) are =
               is ∙ sym (unwanted look key best es (shape_of t).footer.greatest (greatest_is es are.0) refused)
@@ -188,13 +200,16 @@ module _ {H : Type 0} (bytes_of : H → Option (List ℕ)) where
           by false is = let none = unread is in absurd cc
 
       -- and answers
-      pub asks : (Lawful : Type 0) (before now : ℕ) (older x : Option Found) → option_map (found_of key) x ≡ better look best (option_map (found_of key) older)
+      pub asks : (Lawful : Type 0) (before now : ℕ) (older x : Option Found)
+          → option_map (found_of key) x ≡ better look best (option_map (found_of key) older)
           → Answers {T = Option Found} before now (number_of t) (bytes_of t.held)
-          (λ bytes found. (es : List Entry) → IsOf bytes_of t es → option_map (found_of key) found ≡ sought look key es) (IsBadBlock (shape_of t)) (Ok older)
+          (λ bytes found. (es : List Entry) → IsOf bytes_of t es → option_map (found_of key) found ≡ sought look key es)
+          (IsBadBlock (shape_of t)) (Ok older)
           → LooksOn bytes_of (t ∷ []) Lawful look key best before now (Ok x)
       asks Lawful before now older x is a = record { cause = a.cause; fault = tt; answer = λ lawful ess are. by ess are }
         where
-          by : (ess : List (List Entry)) → AreOf bytes_of (t ∷ []) ess → option_map (found_of key) x ≡ better look best (sought look key (joined ess))
+          by : (ess : List (List Entry)) → AreOf bytes_of (t ∷ []) ess
+              → option_map (found_of key) x ≡ better look best (sought look key (joined ess))
           by [] are = absurd are
           by (es ∷ []) are =
               is ∙ ap (better look best)
@@ -204,18 +219,27 @@ module _ {H : Type 0} (bytes_of : H → Option (List ℕ)) where
       -- or fails
       pub asks_in_vain : (Lawful : Type 0) (before now : ℕ) (e : TableFault) → IsUnread (Err e)
           → Answers {T = Option Found} before now (number_of t) (bytes_of t.held)
-          (λ bytes found. (es : List Entry) → IsOf bytes_of t es → option_map (found_of key) found ≡ sought look key es) (IsBadBlock (shape_of t)) (Err e)
+          (λ bytes found. (es : List Entry) → IsOf bytes_of t es → option_map (found_of key) found ≡ sought look key es)
+          (IsBadBlock (shape_of t)) (Err e)
           → LooksOn bytes_of (t ∷ []) Lawful look key best before now (Err e)
-      asks_in_vain Lawful before now e unread a = record { cause = a.cause; fault = named e unread a; answer = λ lawful ess are. by ess are }
+      asks_in_vain Lawful before now e unread a = record
+          { cause = a.cause; fault = named e unread a; answer = λ lawful ess are. by ess are }
         where
           named : (e : TableFault) → IsUnread (Err e)
               → Answers {T = Option Found} before now (number_of t) (bytes_of t.held)
-              (λ bytes found. (es : List Entry) → IsOf bytes_of t es → option_map (found_of key) found ≡ sought look key es) (IsBadBlock (shape_of t)) (Err e)
+              (λ bytes found. (es : List Entry) → IsOf bytes_of t es
+              → option_map (found_of key) found ≡ sought look key es) (IsBadBlock (shape_of t)) (Err e)
               → NamesAsked bytes_of (t ∷ []) key (Err e)
           named NoMemory unread a = tt
-          named (Disk name) unread a = record { table = t; asked = asked (Err (Disk name)) (Disk name) refl unread; named = a.named; why = tt }
+          named (Disk name) unread a = record
+              { table = t; asked = asked (Err (Disk name)) (Disk name) refl unread; named = a.named; why = tt }
           named (Damaged name place) unread a =
-              record { table = t; asked = asked (Err (Damaged name place)) (Damaged name place) refl unread; named = a.named; why = a.answer }
+              record {
+                table = t;
+                asked = asked (Err (Damaged name place)) (Damaged name place) refl unread;
+                named = a.named;
+                why = a.answer;
+              }
 
           fault : (e : TableFault) (bytes : List ℕ) (P Q : Option Found → Type 0) → ((place : ℕ) → IsBadBlock (shape_of t) bytes place → ⊥)
               → IsAnswer P (IsBadBlock (shape_of t) bytes) (Err e) → IsAnswer Q (λ place. ⊥) (Err e)
@@ -229,7 +253,8 @@ module _ {H : Type 0} (bytes_of : H → Option (List ℕ)) where
           by (es ∷ []) are =
               let bytes = table_bytes (shape_of t).format (number_of t) es in
               fault e bytes (λ found. (fs : List Entry) → IsOf bytes_of t fs → option_map (found_of key) found ≡ sought look key fs)
-              (λ y. option_map (found_of key) y ≡ better look best (sought look key (joined (es ∷ [])))) (λ place bad. no_bad_block bytes_of t es place are.0 bad)
+              (λ y. option_map (found_of key) y ≡ better look best (sought look key (joined (es ∷ []))))
+              (λ place bad. no_bad_block bytes_of t es place are.0 bad)
               (a.answer bytes are.0.told)
           by (es ∷ fs ∷ ess) are = absurd are.1
 
@@ -245,11 +270,13 @@ module _ {H : Type 0} (bytes_of : H → Option (List ℕ)) where
       answer = λ apart ess are.
           let cut = level_cut bytes_of key ts ess apart are in
           let here = first (level-parted bytes_of key ts ess apart are) in
-          is ∙ sym (none-better look best) ∙ sym (ap (better look best) (sought-none look key (joined ess) (cut.past (omega (arith, past, here)))));
+          is ∙ sym (none-better look best)
+          ∙ sym (ap (better look best) (sought-none look key (joined ess) (cut.past (omega (arith, past, here)))));
     }
 
     -- the first that doesn't is asked
-    pub level_asks : (ts : List (Table H)) (t : Table H) (B : Type 0) (best : Option Entry) (before now at : ℕ) (r : Result (Option Found) TableFault)
+    pub level_asks : (ts : List (Table H)) (t : Table H) (B : Type 0) (best : Option Entry) (before now at : ℕ)
+        (r : Result (Option Found) TableFault)
         → (IsParted (ends_before key) ts → at ≡ prefix_len (ends_before key) ts) → at < length ts → t ≡ get_or ts at t → (AreApart ts → B)
         → LooksOn bytes_of (t ∷ []) B look key best before now r → LooksOn bytes_of ts (AreApart ts) look key best before now r
     level_asks ts t B best before now at r first within is f one = record {

@@ -12,7 +12,8 @@ module _ {X : Type 0} where
   -- an element with those before and behind it
   pub split_at : (xs : List X) (i : ℕ) (x : X) → i < length xs → x ≡ get_or xs i x → xs ≡ (take i xs ++ x ∷ []) ++ drop (suc i) xs
   split_at xs i x within is =
-      sym (take-append-drop i xs) ∙ ap (λ (l : List X). take i xs ++ l) (drop-cons xs i x within ∙ ap (λ (y : X). y ∷ drop (suc i) xs) (sym is))
+      sym (take-append-drop i xs)
+      ∙ ap (λ (l : List X). take i xs ++ l) (drop-cons xs i x within ∙ ap (λ (y : X). y ∷ drop (suc i) xs) (sym is))
       ∙ sym (append_assoc (take i xs) (x ∷ []) (drop (suc i) xs))
 
   pub take_next : (xs : List X) (i : ℕ) (x : X) → i < length xs → x ≡ get_or xs i x → take (i + 1) xs ≡ take i xs ++ x ∷ []
@@ -39,7 +40,8 @@ module _ {X : Type 0} where
 module _ {H : Type 0} where
   tables-append : (ls ms : List (List (Table H))) → all_tables (ls ++ ms) ≡ all_tables ls ++ all_tables ms
   tables-append [] ms = refl
-  tables-append (l ∷ ls) ms = ap (λ (ts : List (Table H)). l ++ ts) (tables-append ls ms) ∙ sym (append_assoc l (all_tables ls) (all_tables ms))
+  tables-append (l ∷ ls) ms = ap (λ (ts : List (Table H)). l ++ ts) (tables-append ls ms)
+      ∙ sym (append_assoc l (all_tables ls) (all_tables ms))
 
   pub tables-next : (levels : List (List (Table H))) (i : ℕ) (level : List (Table H)) → i < length levels → level ≡ get_or levels i level
       → all_tables (take (i + 1) levels) ≡ all_tables (take i levels) ++ level
@@ -51,7 +53,8 @@ module _ {H : Type 0} where
       → all_tables levels ≡ (all_tables (take i levels) ++ level) ++ all_tables (drop (suc i) levels)
   tables-split levels i level within is =
       ap all_tables (split_at levels i level within is) ∙ tables-append (take i levels ++ level ∷ []) (drop (suc i) levels)
-      ∙ ap (λ (ts : List (Table H)). ts ++ all_tables (drop (suc i) levels)) (tables-append (take i levels) (level ∷ []) ∙ ap (λ (ts : List (Table H)). all_tables (take i levels) ++ ts) (append-nil level))
+      ∙ ap (λ (ts : List (Table H)). ts ++ all_tables (drop (suc i) levels))
+      (tables-append (take i levels) (level ∷ []) ∙ ap (λ (ts : List (Table H)). all_tables (take i levels) ++ ts) (append-nil level))
 
   pub tables-rest : (levels : List (List (Table H))) (i : ℕ) → all_tables levels ≡ all_tables (take i levels) ++ all_tables (drop i levels)
   tables-rest levels i = ap all_tables (sym (take-append-drop i levels)) ∙ tables-append (take i levels) (drop i levels)

@@ -14,8 +14,10 @@ module _ {H R : Type 0} (bytes_of : H → Option (List ℕ)) (files : Files) (b 
   IsFile t = files (number_of t) ≡ bytes_of t.held
 
   -- one of them
-  pub read_at : (ts : List (Table H)) (i : ℕ) (t : Table H) → i < length ts → t ≡ get_or ts i t → ReadsOf bytes_of files b ts → ReadsOf bytes_of files b (t ∷ [])
-  read_at ts i t within is reads = record { kept = reads.kept; told = (subst IsFile (sym is) (all_get IsFile ts i t reads.told within), tt) }
+  pub read_at : (ts : List (Table H)) (i : ℕ) (t : Table H) → i < length ts → t ≡ get_or ts i t
+      → ReadsOf bytes_of files b ts → ReadsOf bytes_of files b (t ∷ [])
+  read_at ts i t within is reads = record
+      { kept = reads.kept; told = (subst IsFile (sym is) (all_get IsFile ts i t reads.told within), tt) }
 
   -- those in front, and those behind
   pub read_front : (ts us : List (Table H)) → ReadsOf bytes_of files b (ts ++ us) → ReadsOf bytes_of files b ts

@@ -1,5 +1,6 @@
 -- What a look-up looks at in tables that need not be true, one more table at a time.
-use Rattle.std.specs.Prelude.{◌≡◌, ◌<◌, ◌≤◌, ◌+◌, ◌&&◌, ℕ, suc, not, Bool, true, false, List, [], ◌∷◌, ◌++◌, length, get_or, take, drop, Option, None, Result, Ok, Err}
+use Rattle.std.specs.Prelude.{◌≡◌, ◌<◌, ◌≤◌, ◌+◌, ◌&&◌, ℕ, suc, not, Bool, true, false, List, [], ◌∷◌, ◌++◌, length}
+use Rattle.std.specs.Prelude.{get_or, take, drop, Option, None, Result, Ok, Err}
 use Rattle.std.specs.List.{AllByRecursion, prefix_len}
 use Rattle.std.specs.Cmp.Lexicographic.{nat_list_cmp_total}
 use Rattle.std.specs.Option.{option_map}
@@ -58,7 +59,8 @@ module _ {H : Type 0} (bytes_of : H → Option (List ℕ)) (look : Look) (key : 
   second_test false b is = absurd cc
 
   -- one that is wanted and isn't asked may not have the key
-  pub unheld : (best : Option Entry) (t : Table H) → is_wanted look best (footer_of t).greatest ≡ true → is_asked look key best (shape_of t) ≡ false
+  pub unheld : (best : Option Entry) (t : Table H) → is_wanted look best (footer_of t).greatest ≡ true
+      → is_asked look key best (shape_of t) ≡ false
       → may_hold key (shape_of t) ≡ false
   unheld best t wanted refused = both_tests (is_wanted look best (footer_of t).greatest) (may_hold key (shape_of t)) wanted refused
 
@@ -117,7 +119,8 @@ module _ {H : Type 0} (bytes_of : H → Option (List ℕ)) (look : Look) (key : 
   through-append (t ∷ ts) us best mid found first second = (first.0, first.1, through-append ts us first.0 mid found first.2 second)
 
   -- it fails behind tables that were looked in
-  stops-back : (ts us : List (Table H)) (best mid : Option Entry) (name : Name) (P : Table H → Type 0) → LooksThrough bytes_of look key best ts mid
+  stops-back : (ts us : List (Table H)) (best mid : Option Entry) (name : Name) (P : Table H → Type 0)
+      → LooksThrough bytes_of look key best ts mid
       → StopsAt bytes_of look key mid us name P → StopsAt bytes_of look key best (ts ++ us) name P
   stops-back ts us best mid name P first s = record {
     front = ts ++ s.front;
@@ -132,7 +135,8 @@ module _ {H : Type 0} (bytes_of : H → Option (List ℕ)) (look : Look) (key : 
   }
 
   -- or before others
-  stops-front : (ts us : List (Table H)) (best : Option Entry) (name : Name) (P : Table H → Type 0) → StopsAt bytes_of look key best ts name P
+  stops-front : (ts us : List (Table H)) (best : Option Entry) (name : Name) (P : Table H → Type 0)
+      → StopsAt bytes_of look key best ts name P
       → StopsAt bytes_of look key best (ts ++ us) name P
   stops-front ts us best name P s = record {
     front = s.front;
@@ -151,7 +155,8 @@ module _ {H : Type 0} (bytes_of : H → Option (List ℕ)) (look : Look) (key : 
   in_all-append ts us best mid (Ok y) first second = through-append ts us best mid (option_map (found_of key) y) first second
   in_all-append ts us best mid (Err NoMemory) first second = tt
   in_all-append ts us best mid (Err (Disk name)) first second = stops-back ts us best mid name (λ t. Unit {0}) first second
-  in_all-append ts us best mid (Err (Damaged name place)) first second = stops-back ts us best mid name (IsDamagedAt bytes_of place) first second
+  in_all-append ts us best mid (Err (Damaged name place)) first second = stops-back ts us best mid name
+      (IsDamagedAt bytes_of place) first second
 
   pub in_all-front : (ts us : List (Table H)) (best : Option Entry) (e : TableFault) → LooksInAll bytes_of look key best ts (Err e)
       → LooksInAll bytes_of look key best (ts ++ us) (Err e)
@@ -182,12 +187,14 @@ module _ {H : Type 0} (bytes_of : H → Option (List ℕ)) (look : Look) (key : 
   -- a table that ends before the key, or begins behind it, isn't asked
   past_end : (best : Option Entry) (t : Table H) → ends_before key t ≡ true → is_asked look key best (shape_of t) ≡ false
   past_end best t ends =
-      none_of (is_wanted look best (footer_of t).greatest) (not (is_lt (key_cmp key (footer_of t).first))) (not (is_gt (key_cmp key (footer_of t).last)))
+      none_of (is_wanted look best (footer_of t).greatest) (not (is_lt (key_cmp key (footer_of t).first)))
+      (not (is_gt (key_cmp key (footer_of t).last)))
       _ (ap not ends)
 
   past_start : (best : Option Entry) (t : Table H) → key_cmp key (footer_of t).first ≡ Less → is_asked look key best (shape_of t) ≡ false
   past_start best t less =
-      none_of_first (is_wanted look best (footer_of t).greatest) (not (is_lt (key_cmp key (footer_of t).first))) (not (is_gt (key_cmp key (footer_of t).last)))
+      none_of_first (is_wanted look best (footer_of t).greatest) (not (is_lt (key_cmp key (footer_of t).first)))
+      (not (is_gt (key_cmp key (footer_of t).last)))
       _ (ap (λ (r : Ordering). not (is_lt r)) less)
 
   -- tables behind a key begin behind it, and end there too
@@ -213,15 +220,18 @@ module _ {H : Type 0} (bytes_of : H → Option (List ℕ)) (look : Look) (key : 
   pub laid-parted : (ts : List (Table H)) → AreApart ts → AreRanged ts → IsParted (ends_before key) ts
   laid-parted [] apart ranged = tt
   laid-parted (t ∷ ts) apart ranged = (
-    all_map (λ (u : Table H). key_cmp (footer_of t).last (footer_of u).last ≡ Less) (λ (u : Table H). ends_before key u ≡ true → ends_before key t ≡ true)
+    all_map (λ (u : Table H). key_cmp (footer_of t).last (footer_of u).last ≡ Less)
+        (λ (u : Table H). ends_before key u ≡ true → ends_before key t ≡ true)
         (λ u less ends. ap is_gt (above_turned (footer_of t).last key
-        (nat_list_cmp_total.trans (footer_of t).last (footer_of u).last key less (below_turned key (footer_of u).last (greater (key_cmp key (footer_of u).last) ends)))))
+        (nat_list_cmp_total.trans (footer_of t).last (footer_of u).last key less
+        (below_turned key (footer_of u).last (greater (key_cmp key (footer_of u).last) ends)))))
         ts (all_behind t ts apart ranged).1,
     laid-parted ts (apart_rest t ts apart) ranged.1,
   )
 
   -- none of these is asked
-  passes_all : (ts : List (Table H)) (found : Option Entry) → AllByRecursion (λ (u : Table H). is_asked look key found (shape_of u) ≡ false) ts
+  passes_all : (ts : List (Table H)) (found : Option Entry)
+      → AllByRecursion (λ (u : Table H). is_asked look key found (shape_of u) ≡ false) ts
       → LooksThrough bytes_of look key found ts found
   passes_all [] found all = refl
   passes_all (t ∷ ts) found all = (found, looks_past found t all.0, passes_all ts found all.1)
@@ -235,7 +245,8 @@ module _ {H : Type 0} (bytes_of : H → Option (List ℕ)) (look : Look) (key : 
   one_more : (n : ℕ) → suc n ≡ 1 + n
   one_more n = omega arith
 
-  pub level_reached : (ts : List (Table H)) (best : Option Entry) → AreApart ts → AreRanged ts → IsReached ts best (prefix_len (ends_before key) ts)
+  pub level_reached : (ts : List (Table H)) (best : Option Entry) → AreApart ts → AreRanged ts
+      → IsReached ts best (prefix_len (ends_before key) ts)
   level_reached [] best apart ranged = record { past = λ past. refl; here = λ t found within is at. absurd (omega (arith, within)) }
   level_reached (t ∷ ts) best apart ranged = by (level_reached ts best (apart_rest t ts apart) ranged.1) (ends_before key t) refl
     where
@@ -246,7 +257,8 @@ module _ {H : Type 0} (bytes_of : H → Option (List ℕ)) (look : Look) (key : 
         here = λ u found within is at. (
           best,
           looks_past best t (past_end best t ends),
-          later.here u found (omega (arith, within)) (is ∙ ap (λ (n : ℕ). get_or (t ∷ ts) n u) (sym (one_more (prefix_len (ends_before key) ts)))) at,
+          later.here u found (omega (arith, within))
+              (is ∙ ap (λ (n : ℕ). get_or (t ∷ ts) n u) (sym (one_more (prefix_len (ends_before key) ts)))) at,
         );
       }
       by later false ends = record {
@@ -256,12 +268,14 @@ module _ {H : Type 0} (bytes_of : H → Option (List ℕ)) (look : Look) (key : 
           subst (λ (v : Table H). LooksAt bytes_of look key best v found) is at,
           passes_all ts found (all_map (λ (v : Table H). key_cmp (footer_of t).last (footer_of v).first ≡ Less)
               (λ (v : Table H). is_asked look key found (shape_of v) ≡ false)
-              (λ v less. past_start found v (up_to_below key (footer_of t).last (footer_of v).first ends less)) ts (all_behind t ts apart ranged).0),
+              (λ v less. past_start found v (up_to_below key (footer_of t).last (footer_of v).first ends less)) ts
+              (all_behind t ts apart ranged).0),
         );
       }
 
   -- of those in front none is asked
-  front_passed : (ts : List (Table H)) (best : Option Entry) → LooksThrough bytes_of look key best (take (prefix_len (ends_before key) ts) ts) best
+  front_passed : (ts : List (Table H)) (best : Option Entry)
+      → LooksThrough bytes_of look key best (take (prefix_len (ends_before key) ts) ts) best
   front_passed [] best = refl
   front_passed (t ∷ ts) best = by (front_passed ts best) (ends_before key t) refl
     where

@@ -70,7 +70,8 @@ module _ {H : Type 0} (asked : Asked) where
   -- one that hasn't got the key
   pub mark-none : (t : Table H) (es : List Entry) → HasNone asked.key.now es → mark_of asked t es ≡ None
   mark-none t es none =
-      unmarked (is_passed asked t) (is_input asked.inputs.now t) (sought asked.look asked.key.now es) (sought-none asked.look asked.key.now es none)
+      unmarked (is_passed asked t) (is_input asked.inputs.now t) (sought asked.look asked.key.now es)
+      (sought-none asked.look asked.key.now es none)
 
   marks-none : (bytes_of : H → Option (List ℕ)) (ts : List (Table H)) (ess : List (List Entry)) → AreOf bytes_of ts ess
       → HasNone asked.key.now (joined ess) → first_mark asked ts ess ≡ None
@@ -114,7 +115,8 @@ module _ {H : Type 0} (asked : Asked) where
 
         by : IsMarkedAt ts ess count → (b : Bool) → ends_before key t ≡ b → IsMarkedAt (t ∷ ts) (es ∷ ess) (cond b (1 + count) 0)
         by later true ends =
-            let none = mark-none t es (none_behind (number_of t) key (shape_of t) es are.0.shape (greater (key_cmp key (footer_of t).last) ends)) in
+            let none = mark-none t es
+            (none_behind (number_of t) key (shape_of t) es are.0.shape (greater (key_cmp key (footer_of t).last) ends)) in
             let first = ap (λ (m : Option Bool). or_mark m (first_mark asked ts ess)) none in
             record {
               past = λ past. first ∙ later.past (omega (arith, past));

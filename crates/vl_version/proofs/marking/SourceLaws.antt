@@ -1,5 +1,6 @@
 -- What the first mark among tables says of the entries of all sources.
-use Rattle.std.specs.Prelude.{◌≡◌, ℕ, ◌-◌, ◌≤◌, Bool, true, false, ◌&&◌, ◌||◌, not, nat_le, nat_lt, List, [], ◌∷◌, ◌++◌, Option, Some, None, Result, Ok, Err}
+use Rattle.std.specs.Prelude.{◌≡◌, ℕ, ◌-◌, ◌≤◌, Bool, true, false, ◌&&◌, ◌||◌, not, nat_le, nat_lt, List, [], ◌∷◌}
+use Rattle.std.specs.Prelude.{◌++◌, Option, Some, None, Result, Ok, Err}
 use Rattle.std.specs.List.{list_any}
 use Rattle.std.specs.Option.{is_some}
 use Rattle.std.specs.Ordering.{eq_by_cmp}
@@ -133,11 +134,16 @@ module _ {H : Type 0} (asked : Asked) where
     first-counts number look [] ess = refl
     first-counts number look (t ∷ ts) [] = refl
     first-counts number look (t ∷ ts) (es ∷ ess) =
-        ap (λ (b : Bool). is_some (or_mark (cond (b && is_input asked.inputs.now t) None (mark_if (is_input asked.inputs.now t) (sought asked.look asked.key.now es))) later)) outside
-        ∙ ap (λ (l : Look). is_some (or_mark (cond (is_input asked.inputs.now t) None (mark_if (is_input asked.inputs.now t) (sought l asked.key.now es))) later)) look
+        ap (λ (b : Bool). is_some
+        (or_mark (cond (b && is_input asked.inputs.now t) None
+        (mark_if (is_input asked.inputs.now t) (sought asked.look asked.key.now es))) later)) outside
+        ∙ ap (λ (l : Look). is_some
+        (or_mark (cond (is_input asked.inputs.now t) None
+        (mark_if (is_input asked.inputs.now t) (sought l asked.key.now es))) later)) look
         ∙ by (is_input asked.inputs.now t) (winner es asked.key.now number) (some-winner es asked.key.now number)
         (first-counts number look ts ess)
-        ∙ sym (ap (list_any (counts asked.key.now number)) (outside-next (is_input asked.inputs.now t) es (marked_tables asked.inputs.now ts ess)))
+        ∙ sym (ap (list_any (counts asked.key.now number))
+        (outside-next (is_input asked.inputs.now t) es (marked_tables asked.inputs.now ts ess)))
       where
         later : Option Bool
         later = first_mark asked ts ess
@@ -160,13 +166,16 @@ module _ {H : Type 0} (asked : Asked) where
     First ts ess = is_first_outside (marked_tables asked.inputs.now ts ess) asked.key.now version
 
     -- all are asked for a key and version
-    pub first-says : asked.outside ≡ false → (ts : List (Table H)) (ess : List (List Entry)) → First ts ess ≡ mark_says (first_mark asked ts ess)
+    pub first-says : asked.outside ≡ false → (ts : List (Table H)) (ess : List (List Entry))
+        → First ts ess ≡ mark_says (first_mark asked ts ess)
     first-says all [] ess = refl
     first-says all (t ∷ ts) [] = refl
     first-says all (t ∷ ts) (es ∷ ess) =
         first-marked (is_input asked.inputs.now t) es (marked_tables asked.inputs.now ts ess) asked.key.now version
         ∙ by (is_input asked.inputs.now t) (exact es asked.key.now version) (first-says all ts ess)
-        ∙ sym (ap (λ (b : Bool). mark_says (or_mark (cond (b && is_input asked.inputs.now t) None (mark_if (is_input asked.inputs.now t) (sought asked.look asked.key.now es))) later)) all
+        ∙ sym (ap (λ (b : Bool). mark_says
+        (or_mark (cond (b && is_input asked.inputs.now t) None
+        (mark_if (is_input asked.inputs.now t) (sought asked.look asked.key.now es))) later)) all
         ∙ ap (λ (l : Look). mark_says (or_mark (mark_if (is_input asked.inputs.now t) (sought l asked.key.now es)) later)) look)
       where
         later : Option Bool
@@ -178,14 +187,18 @@ module _ {H : Type 0} (asked : Asked) where
         by input (Some e) rest = refl
 
     -- where no other table than the inputs has it, the first that has it is an input
-    pub none-outside : asked.outside ≡ true → (ts : List (Table H)) (ess : List (List Entry)) → first_mark asked ts ess ≡ None → First ts ess ≡ false
+    pub none-outside : asked.outside ≡ true → (ts : List (Table H)) (ess : List (List Entry))
+        → first_mark asked ts ess ≡ None → First ts ess ≡ false
     none-outside outside [] ess none = refl
     none-outside outside (t ∷ ts) [] none = refl
     none-outside outside (t ∷ ts) (es ∷ ess) none =
         first-marked (is_input asked.inputs.now t) es (marked_tables asked.inputs.now ts ess) asked.key.now version
         ∙ by (is_input asked.inputs.now t) (exact es asked.key.now version)
-        (sym (ap (λ (b : Bool). or_mark (cond (b && is_input asked.inputs.now t) None (mark_if (is_input asked.inputs.now t) (sought asked.look asked.key.now es))) later) outside
-        ∙ ap (λ (l : Look). or_mark (cond (is_input asked.inputs.now t) None (mark_if (is_input asked.inputs.now t) (sought l asked.key.now es))) later) look)
+        (sym (ap (λ (b : Bool). or_mark
+        (cond (b && is_input asked.inputs.now t) None
+        (mark_if (is_input asked.inputs.now t) (sought asked.look asked.key.now es))) later) outside
+        ∙ ap (λ (l : Look). or_mark
+        (cond (is_input asked.inputs.now t) None (mark_if (is_input asked.inputs.now t) (sought l asked.key.now es))) later) look)
         ∙ none)
         (none-outside outside ts ess)
       where
@@ -244,7 +257,8 @@ module _ {H : Type 0} (bytes_of : H → Option (List ℕ)) (inputs : List ℕ) w
         (sym (some-winner (in_memory version) key (number - 1)))
 
     pub first-sources : (key : List ℕ) (number : ℕ) → is_first_outside (marked_sources inputs version ess) key number
-        ≡ cond (is_some (exact (in_memory version) key number)) true (is_first_outside (marked_tables inputs (tables_in version) ess) key number)
+        ≡ cond (is_some (exact (in_memory version) key number)) true
+        (is_first_outside (marked_tables inputs (tables_in version) ess) key number)
     first-sources key number =
         first-marked false (in_memory version) (marked_tables inputs (tables_in version) ess) key number
 
@@ -286,11 +300,13 @@ module _ {H R : Type 0} (bytes_of : H → Option (List ℕ)) (faults : R → ℕ
         fails_so bytes_of faults ts L (Marks asked) (Says asked.inputs.now asked.key.now version) old new e r is told
 
     -- all were asked behind these
-    module _ (before : Asked) (first : BlockReader R) (x : Option Bool) (so_far : TellsFirst bytes_of faults before ts L first old (Ok x)) where
+    module _ (before : Asked) (first : BlockReader R) (x : Option Bool)
+        (so_far : TellsFirst bytes_of faults before ts L first old (Ok x)) where
       abbrev Both : List (List Entry) → Option Bool → Type 0
       Both ess found = Marks before ess x × Marks asked ess found
 
-      pub all_told : asked.outside ≡ false → (m : Option Bool) (b : Bool) → b ≡ mark_says m → TellsFirst bytes_of faults asked ts L old new (Ok m)
+      pub all_told : asked.outside ≡ false → (m : Option Bool) (b : Bool) → b ≡ mark_says m
+          → TellsFirst bytes_of faults asked ts L old new (Ok m)
           → Tells bytes_of faults ts L (Says asked.inputs.now asked.key.now version) first new (Ok b)
       all_told all m b is told =
           says_too bytes_of faults ts L Both (Says asked.inputs.now asked.key.now version) first new m b

@@ -1,5 +1,6 @@
 -- What tables tell where they are asked one behind the other.
-use Rattle.std.specs.Prelude.{◌≡◌, ℕ, zero, suc, ◌+◌, ◌<◌, ◌≤◌, Bool, true, false, ◌&&◌, List, [], ◌∷◌, ◌++◌, length, get_or, take, drop, IfErr, IfOk, Option, Some, None, Result, Ok, Err}
+use Rattle.std.specs.Prelude.{◌≡◌, ℕ, zero, suc, ◌+◌, ◌<◌, ◌≤◌, Bool, true, false, ◌&&◌, List, [], ◌∷◌, ◌++◌, length}
+use Rattle.std.specs.Prelude.{get_or, take, drop, IfErr, IfOk, Option, Some, None, Result, Ok, Err}
 use Rattle.std.specs.List.{prefix_len, slice_get}
 use Rattle.std.specs.Option.{option_map}
 use Rattle.std.proofs.Common.{refl, ap, sym, subst, ◌∙◌, arith, append-nil, cond}
@@ -76,13 +77,15 @@ module _ {H : Type 0} (bytes_of : H → Option (List ℕ)) where
   names_fail ts key (Disk name) names = (
     length names.asked.front,
     names.table,
-    ap (λ (l : List (Table H)). slice_get l (length names.asked.front)) names.asked.among ∙ get-middle names.asked.front names.asked.back names.table,
+    ap (λ (l : List (Table H)). slice_get l (length names.asked.front)) names.asked.among
+        ∙ get-middle names.asked.front names.asked.back names.table,
     names.named,
   )
   names_fail ts key (Damaged name place) names = (
     length names.asked.front,
     names.table,
-    ap (λ (l : List (Table H)). slice_get l (length names.asked.front)) names.asked.among ∙ get-middle names.asked.front names.asked.back names.table,
+    ap (λ (l : List (Table H)). slice_get l (length names.asked.front)) names.asked.among
+        ∙ get-middle names.asked.front names.asked.back names.table,
     names.named,
     names.why,
   )
@@ -93,8 +96,10 @@ module _ {H : Type 0} (bytes_of : H → Option (List ℕ)) where
     module _ {S U : Type 0} (ts : List (Table H)) (L : Type 0) (good : List (List Entry) → S → Type 0)
         (other : List (List Entry) → U → Type 0) (old new : BlockReader R) where
       -- what was asked failed
-      pub fails_alike : (e : TableFault) → Tells bytes_of faults ts L good old new (Err e) → Tells bytes_of faults ts L other old new (Err e)
-      fails_alike e told = record { cause = by e told.cause; kept = told.kept; fault = told.fault; answer = λ files reads lawful ess are. tt }
+      pub fails_alike : (e : TableFault) → Tells bytes_of faults ts L good old new (Err e)
+          → Tells bytes_of faults ts L other old new (Err e)
+      fails_alike e told = record
+          { cause = by e told.cause; kept = told.kept; fault = told.fault; answer = λ files reads lawful ess are. tt }
         where
           by : (e : TableFault) → HasCause (faults old.reader) (faults new.reader) (Failed {T = S} (Err e))
               → HasCause (faults old.reader) (faults new.reader) (Failed {T = U} (Err e))
@@ -195,7 +200,8 @@ module _ {H : Type 0} (bytes_of : H → Option (List ℕ)) where
             fault (Ok m) fails = tt
             fault (Err e) fails = fails-front ts us e fails
 
-            answer : (m : Option Bool) (ess : List (List Entry)) (later : Option Bool) (r : Result (Option Bool) TableFault) → ((r ≡ Ok None) → ⊥)
+            answer : (m : Option Bool) (ess : List (List Entry)) (later : Option Bool)
+                (r : Result (Option Bool) TableFault) → ((r ≡ Ok None) → ⊥)
                 → first_mark asked (ts ++ us) ess ≡ or_mark m later
                 → IfOk r (λ found. found ≡ m) → IfOk r (λ found. found ≡ first_mark asked (ts ++ us) ess)
             answer m ess later (Ok None) some is told = absurd (some refl)
@@ -209,7 +215,8 @@ module _ {H : Type 0} (bytes_of : H → Option (List ℕ)) where
             stops ts us A A C old new new (Ok (Some input)) f (λ is. cc)
             (subst (λ (x : Option Bool). TellsFirst bytes_of faults asked ts A old new (Ok x)) some told)
 
-        pub fails_before : (e : TableFault) (r : Result (Option Bool) TableFault) → r ≡ Err e → TellsFirst bytes_of faults asked ts A old new (Err e)
+        pub fails_before : (e : TableFault) (r : Result (Option Bool) TableFault) → r ≡ Err e
+            → TellsFirst bytes_of faults asked ts A old new (Err e)
             → TellsFirst bytes_of faults asked (ts ++ us) C old new r
         fails_before e r is told =
             subst (λ (s : Result (Option Bool) TableFault). TellsFirst bytes_of faults asked (ts ++ us) C old new s) (sym is)
@@ -237,7 +244,8 @@ module _ {H : Type 0} (bytes_of : H → Option (List ℕ)) where
             (subst (λ (x : Option Bool). TellsFirst bytes_of faults asked us B mid new (Ok x)) some told)))
 
         -- or fail
-        pub failed_there : (back : List (Table H)) (e : TableFault) (r : Result (Option Bool) TableFault) → all ≡ (front ++ us) ++ back → r ≡ Err e
+        pub failed_there : (back : List (Table H)) (e : TableFault) (r : Result (Option Bool) TableFault)
+            → all ≡ (front ++ us) ++ back → r ≡ Err e
             → TellsFirst bytes_of faults asked us B mid new (Err e) → TellsFirst bytes_of faults asked all C old new r
         failed_there back e r parts is told =
             subst (λ (l : List (Table H)). TellsFirst bytes_of faults asked l C old new r) (sym parts)
@@ -266,7 +274,8 @@ module _ {H : Type 0} (bytes_of : H → Option (List ℕ)) where
             by (es ∷ ess) = sym (ap (λ (b : Bool).
                 or_mark (cond b None (mark_if (is_input asked.inputs.now t) (sought asked.look asked.key.now es))) None) skips)
 
-        module _ (old new : BlockReader R) (input p : Bool) (as_input : input ≡ is_input asked.inputs.now t) (is : p ≡ (asked.outside && input))
+        module _ (old new : BlockReader R) (input p : Bool) (as_input : input ≡ is_input asked.inputs.now t)
+            (is : p ≡ (asked.outside && input))
             (goes : p ≡ false) (kept : (files : Files) → ReadsOf bytes_of files old (t ∷ []) → AreKept files new) where
           goes_by : is_passed asked t ≡ false
           goes_by = ap (λ (b : Bool). asked.outside && b) (sym as_input) ∙ sym is ∙ goes
@@ -290,10 +299,12 @@ module _ {H : Type 0} (bytes_of : H → Option (List ℕ)) where
               by [] are so = absurd are
               by (es ∷ ess) are so =
                   marks ∙ ap (λ (b : Bool). mark_if b (option_map (found_of asked.key.now) found)) as_input
-                  ∙ ap (mark_if (is_input asked.inputs.now t)) (so ∙ better-none asked.look (sought asked.look asked.key.now (joined (es ∷ ess)))
+                  ∙ ap (mark_if (is_input asked.inputs.now t))
+                  (so ∙ better-none asked.look (sought asked.look asked.key.now (joined (es ∷ ess)))
                   ∙ ap (sought asked.look asked.key.now) (whole es ess are.1))
                   ∙ sym (or-none (mark_if (is_input asked.inputs.now t) (sought asked.look asked.key.now es)))
-                  ∙ sym (ap (λ (b : Bool). or_mark (cond b None (mark_if (is_input asked.inputs.now t) (sought asked.look asked.key.now es))) None) goes_by)
+                  ∙ sym (ap (λ (b : Bool). or_mark
+                  (cond b None (mark_if (is_input asked.inputs.now t) (sought asked.look asked.key.now es))) None) goes_by)
                 where
                   whole : (es : List Entry) (ess : List (List Entry)) → AreOf bytes_of [] ess → joined (es ∷ ess) ≡ es
                   whole es [] are = append-nil es
@@ -306,7 +317,8 @@ module _ {H : Type 0} (bytes_of : H → Option (List ℕ)) where
               → LooksOn bytes_of (t ∷ []) (Unit {0}) asked.look asked.key.now None (faults old.reader) (faults new.reader) (Err e))
               → TellsFirst bytes_of faults asked (t ∷ []) (Unit {0}) old new r
           failed_in e r is cause looks =
-              subst (λ (s : Result (Option Bool) TableFault). TellsFirst bytes_of faults asked (t ∷ []) (Unit {0}) old new s) (sym is) (record {
+              subst (λ (s : Result (Option Bool) TableFault). TellsFirst bytes_of faults asked (t ∷ []) (Unit {0}) old
+              new s) (sym is) (record {
                 cause = by e cause;
                 kept = kept;
                 fault = λ files reads. names_fail (t ∷ []) asked.key.now e (looks files reads).fault;
@@ -322,7 +334,8 @@ module _ {H : Type 0} (bytes_of : H → Option (List ℕ)) where
       -- ---- a level
 
       -- all its tables end before the key
-      pub level_past : (ts : List (Table H)) (b : BlockReader R) (at : ℕ) → (IsParted (ends_before asked.key.now) ts → at ≡ prefix_len (ends_before asked.key.now) ts)
+      pub level_past : (ts : List (Table H)) (b : BlockReader R) (at : ℕ)
+          → (IsParted (ends_before asked.key.now) ts → at ≡ prefix_len (ends_before asked.key.now) ts)
           → length ts ≤ at → TellsFirst bytes_of faults asked ts (AreApart ts) b b (Ok None)
       level_past ts b at is past = record {
         cause = no_failure (faults b.reader);

@@ -1,5 +1,6 @@
 -- What memory and the tables of a version tell of all its sources.
-use Rattle.std.specs.Prelude.{◌≡◌, ℕ, ◌-◌, ◌≤◌, Bool, true, false, ◌||◌, ◌++◌, IfErr, IfOk, MatchResult, List, Option, Some, None, Result, Ok, Err}
+use Rattle.std.specs.Prelude.{◌≡◌, ℕ, ◌-◌, ◌≤◌, Bool, true, false, ◌||◌, ◌++◌, IfErr, IfOk, MatchResult, List, Option}
+use Rattle.std.specs.Prelude.{Some, None, Result, Ok, Err}
 use Rattle.std.specs.List.{list_any}
 use Rattle.std.specs.Option.{is_some, option_copied, option_map}
 use Rattle.std.proofs.Common.{refl, ap, sym, subst, ◌∙◌, arith, cond, Bor}
@@ -48,7 +49,8 @@ module _ {H R : Type 0} (bytes_of : H → Option (List ℕ)) (faults : R → ℕ
   no_failure : (now : ℕ) → HasCause now now ⊥
   no_failure now = record { later = omega arith; rose = λ failed. absurd failed; steady = λ steady. refl }
 
-  pub held_told : {T : Type 0} (good : List (List Entry) → T → Type 0) (b : BlockReader R) (x : T) → ((ess : List (List Entry)) → good ess x)
+  pub held_told : {T : Type 0} (good : List (List Entry) → T → Type 0) (b : BlockReader R) (x : T)
+      → ((ess : List (List Entry)) → good ess x)
       → Told good b b (Ok x)
   held_told good b x so = record {
     cause = no_failure (faults b.reader);
@@ -67,7 +69,8 @@ module _ {H R : Type 0} (bytes_of : H → Option (List ℕ)) (faults : R → ℕ
   })
 
   -- want of memory behind what was answered
-  pub memory_wanted : {S T : Type 0} (good : List (List Entry) → S → Type 0) (other : List (List Entry) → T → Type 0) (old new : BlockReader R) (x : S)
+  pub memory_wanted : {S T : Type 0} (good : List (List Entry) → S → Type 0) (other : List (List Entry) → T → Type 0)
+      (old new : BlockReader R) (x : S)
       (r : Result T TableFault) → r ≡ Err NoMemory → Told good old new (Ok x) → Told other old new r
   memory_wanted {S} {T} good other old new x r is told = subst (λ (s : Result T TableFault). Told other old new s) (sym is) (record {
     cause = told.cause;
@@ -85,11 +88,13 @@ module _ {H R : Type 0} (bytes_of : H → Option (List ℕ)) (faults : R → ℕ
   SourcesHave key number ess x = x ≡ exact (in_memory version ++ joined ess) key number
 
   module _ (key : List ℕ) (number : ℕ) where
-    pub tables_told : (levels : Levels H) → levels ≡ version.behind.levels → (old new : BlockReader R) (r : Result (Option Found) TableFault)
+    pub tables_told : (levels : Levels H) → levels ≡ version.behind.levels
+        → (old new : BlockReader R) (r : Result (Option Found) TableFault)
         → HasCause (faults old.reader) (faults new.reader) (Failed r)
         → ((files : Files) → ReadsOf bytes_of files old (tables_of levels) → AreKept files new)
         → ((files : Files) → ReadsOf bytes_of files old (tables_of levels)
-        → LookedUp bytes_of (tables_of levels) (AreInOrder levels) (λ es. exact es key number) key (faults old.reader) (faults new.reader) r)
+        → LookedUp bytes_of (tables_of levels) (AreInOrder levels) (λ es. exact es key number) key (faults old.reader)
+        (faults new.reader) r)
         → Told (TablesHave key number) old new r
     tables_told levels same old new r cause kept looks =
         subst (λ (l : Levels H). Tells bytes_of faults (tables_of l) (AreInOrder l) (TablesHave key number) old new r) same (record {
@@ -99,17 +104,20 @@ module _ {H R : Type 0} (bytes_of : H → Option (List ℕ)) (faults : R → ℕ
           answer = λ files reads lawful ess are. answer r ess ((looks files reads).answer lawful ess are);
         })
       where
-        fault : (r : Result (Option Found) TableFault) → NamesAsked bytes_of (tables_of levels) key r → IfErr r (MayFailOn bytes_of (tables_of levels))
+        fault : (r : Result (Option Found) TableFault) → NamesAsked bytes_of (tables_of levels) key r
+            → IfErr r (MayFailOn bytes_of (tables_of levels))
         fault (Ok x) names = tt
         fault (Err e) names = names_fail bytes_of (tables_of levels) key e names
 
         answer : (r : Result (Option Found) TableFault) (ess : List (List Entry))
-            → IsAnswer (λ x. option_map (found_of key) x ≡ exact (joined ess) key number) (λ place. ⊥) r → IfOk r (TablesHave key number ess)
+            → IsAnswer (λ x. option_map (found_of key) x ≡ exact (joined ess) key number) (λ place. ⊥) r
+            → IfOk r (TablesHave key number ess)
         answer (Ok x) ess is = is
         answer (Err e) ess is = tt
 
     -- memory has it
-    pub held_first : (held : Option (Bor Entry)) → option_copied held ≡ exact (in_memory version) key number → (e : Entry) → option_copied held ≡ Some e
+    pub held_first : (held : Option (Bor Entry)) → option_copied held ≡ exact (in_memory version) key number
+        → (e : Entry) → option_copied held ≡ Some e
         → (ess : List (List Entry)) → SourcesHave key number ess (Some e)
     held_first held is e some ess =
         sym (exact-append key number (in_memory version) (joined ess)
@@ -120,14 +128,16 @@ module _ {H R : Type 0} (bytes_of : H → Option (List ℕ)) (faults : R → ℕ
         → (old new : BlockReader R) (x : Option Found) (y : Option Entry) → y ≡ option_map (found_of key) x
         → Told (TablesHave key number) old new (Ok x) → Told (SourcesHave key number) old new (Ok y)
     tables_first held is none old new x y same told =
-        says_too bytes_of faults (tables_in version) (AreInOrder version.behind.levels) (TablesHave key number) (SourcesHave key number) old new x y
+        says_too bytes_of faults (tables_in version) (AreInOrder version.behind.levels) (TablesHave key number)
+        (SourcesHave key number) old new x y
         (λ ess has. same ∙ has ∙ sym (exact-append key number (in_memory version) (joined ess)
         ∙ ap (λ (o : Option Entry). or_else o (exact (joined ess) key number)) (sym is ∙ ap option_copied none))) told
 
     pub tables_failed : (old new : BlockReader R) (e : TableFault) (r : Result (Option Entry) TableFault) → r ≡ Err e
         → Told (TablesHave key number) old new (Err e) → Told (SourcesHave key number) old new r
     tables_failed old new e r is told =
-        fails_so bytes_of faults (tables_in version) (AreInOrder version.behind.levels) (TablesHave key number) (SourcesHave key number) old new e r is told
+        fails_so bytes_of faults (tables_in version) (AreInOrder version.behind.levels) (TablesHave key number)
+        (SourcesHave key number) old new e r is told
 
   -- ---- all sources are asked, but the inputs or behind these
 
@@ -153,26 +163,31 @@ module _ {H R : Type 0} (bytes_of : H → Option (List ℕ)) (faults : R → ℕ
         sym (ap (λ (n : ℕ). has_older (outside_of (marked_sources inputs version ess)) key n) zero
         ∙ older-none (outside_of (marked_sources inputs version ess)) key)
 
-    pub held_older : (held : Option (Bor Entry)) (b : Bool) → option_copied held ≡ winner (in_memory version) key (number - 1) → b ≡ is_some held
+    pub held_older : (held : Option (Bor Entry)) (b : Bool)
+        → option_copied held ≡ winner (in_memory version) key (number - 1) → b ≡ is_some held
         → b ≡ true → 1 ≤ number → (ess : List (List Entry)) → HasOlder ess true
     held_older held b is test some positive ess =
         or_either (list_any (counts key (number - 1)) (outside_of (marked_tables inputs (tables_in version) ess)))
         (ap is_some (sym is) ∙ sym (some-copied held) ∙ sym test ∙ some)
         ∙ sym (older-sources bytes_of inputs version ess key number positive)
 
-    pub tables_older : (held : Option (Bor Entry)) (b : Bool) → option_copied held ≡ winner (in_memory version) key (number - 1) → b ≡ is_some held
-        → b ≡ false → 1 ≤ number → (levels : Levels H) → levels ≡ version.behind.levels → (old new : BlockReader R) (r : Result Bool TableFault)
+    pub tables_older : (held : Option (Bor Entry)) (b : Bool)
+        → option_copied held ≡ winner (in_memory version) key (number - 1) → b ≡ is_some held
+        → b ≡ false → 1 ≤ number → (levels : Levels H) → levels ≡ version.behind.levels
+        → (old new : BlockReader R) (r : Result Bool TableFault)
         → Tells bytes_of faults (tables_of levels) (AreInOrder levels)
         (λ ess found. found ≡ list_any (counts key (number - 1)) (outside_of (marked_tables inputs (tables_of levels) ess))) old new r
         → Told HasOlder old new r
     tables_older held b is test none positive levels same old new r told =
-        says_by (λ ess found. found ≡ list_any (counts key (number - 1)) (outside_of (marked_tables inputs (tables_in version) ess))) HasOlder old new r
+        says_by (λ ess found. found ≡ list_any (counts key (number - 1))
+        (outside_of (marked_tables inputs (tables_in version) ess))) HasOlder old new r
         (λ ess found has.
         has ∙ ap (λ (x : Bool). x || list_any (counts key (number - 1)) (outside_of (marked_tables inputs (tables_in version) ess)))
         (sym (ap is_some (sym is) ∙ sym (some-copied held) ∙ sym test ∙ none))
         ∙ sym (older-sources bytes_of inputs version ess key number positive))
         (subst (λ (l : Levels H). Tells bytes_of faults (tables_of l) (AreInOrder l)
-        (λ ess found. found ≡ list_any (counts key (number - 1)) (outside_of (marked_tables inputs (tables_of l) ess))) old new r) same told)
+        (λ ess found. found ≡ list_any (counts key (number - 1)) (outside_of (marked_tables inputs (tables_of l) ess)))
+        old new r) same told)
 
     abbrev pub IsFirst : List (List Entry) → Bool → Type 0
     IsFirst ess found = found ≡ is_first_outside (marked_sources inputs version ess) key number
@@ -184,7 +199,8 @@ module _ {H R : Type 0} (bytes_of : H → Option (List ℕ)) (faults : R → ℕ
         ∙ ap (λ (x : Bool). cond x true (is_first_outside (marked_tables inputs (tables_in version) ess) key number))
         (ap is_some (sym is) ∙ sym (some-copied held) ∙ sym test ∙ some))
 
-    pub tables_outside : (held : Option (Bor Entry)) (b : Bool) → option_copied held ≡ exact (in_memory version) key number → b ≡ is_some held
+    pub tables_outside : (held : Option (Bor Entry)) (b : Bool)
+        → option_copied held ≡ exact (in_memory version) key number → b ≡ is_some held
         → b ≡ false → (levels : Levels H) → levels ≡ version.behind.levels → (old new : BlockReader R) (r : Result Bool TableFault)
         → Tells bytes_of faults (tables_of levels) (AreInOrder levels)
         (λ ess found. found ≡ is_first_outside (marked_tables inputs (tables_of levels) ess) key number) old new r
@@ -200,7 +216,8 @@ module _ {H R : Type 0} (bytes_of : H → Option (List ℕ)) (faults : R → ℕ
 
   -- ---- what a merge is told
 
-  module _ {T : Type 0} (good : List (List Entry) → T → Type 0) (old new : BlockReader R) (r : Result T TableFault) (told : Told good old new r) where
+  module _ {T : Type 0} (good : List (List Entry) → T → Type 0) (old new : BlockReader R) (r : Result T TableFault)
+      (told : Told good old new r) where
     pub fits_on : Fits bytes_of version old → Fits bytes_of version new
     fits_on fits = (fits.0, record { kept = told.kept fits.0 fits.1; told = fits.1.told })
 
@@ -222,7 +239,8 @@ module _ {H R : Type 0} (bytes_of : H → Option (List ℕ)) (faults : R → ℕ
     -- where these are the entries of all sources
     pub told_of : (inputs : List ℕ) (ms : List Marked) (other : List Marked → T → Type 0) → Fits bytes_of version old
         → HasSources bytes_of version inputs ms
-        → ((ess : List (List Entry)) (x : T) → AreOf bytes_of (tables_in version) ess → good ess x → other (marked_sources inputs version ess) x)
+        → ((ess : List (List Entry)) (x : T) → AreOf bytes_of (tables_in version) ess → good ess x
+        → other (marked_sources inputs version ess) x)
         → IfOk r (other ms)
     told_of inputs ms other fits has says =
         by r (told.answer fits.0 fits.1 has.in_order has.tabled has.tables)
@@ -232,7 +250,8 @@ module _ {H R : Type 0} (bytes_of : H → Option (List ℕ)) (faults : R → ℕ
         by (Err e) is = tt
 
   module _ (key : List ℕ) (number : ℕ) (old new : BlockReader R) where
-    pub exact_found : (r : Result (Option Entry) TableFault) → Told (SourcesHave key number) old new r → (inputs : List ℕ) (ms : List Marked)
+    pub exact_found : (r : Result (Option Entry) TableFault) → Told (SourcesHave key number) old new r
+        → (inputs : List ℕ) (ms : List Marked)
         → Fits bytes_of version old → HasSources bytes_of version inputs ms → IfOk r (λ found. found ≡ exact (all_of ms) key number)
     exact_found r told inputs ms fits has =
         told_of (SourcesHave key number) old new r told inputs ms (λ ms found. found ≡ exact (all_of ms) key number) fits has

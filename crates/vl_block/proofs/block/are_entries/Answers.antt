@@ -9,12 +9,14 @@ loop-i-init c = none_found c.args.format c.args.bytes.now c.args.count c.args.st
 
 pub returns-in-None-clause-whole : goal.returns-in-None-clause-whole
 returns-in-None-clause-whole c = λ es run.
-    absurd (cut_short c.args.format c.args.bytes.now c.args.count c.loop-i.i c.loop-i.last c.loop-i.rest.now c.loop-i.invariant.under_way c.loop-i-test.true
+    absurd (cut_short c.args.format c.args.bytes.now c.args.count c.loop-i.i c.loop-i.last c.loop-i.rest.now
+    c.loop-i.invariant.under_way c.loop-i-test.true
     (rw c.in-None.is at c.take_entry.ensures.none) es run)
 
 pub returns-then-not-is_next-clause-whole : goal.returns-then-not-is_next-clause-whole
 returns-then-not-is_next-clause-whole c = λ es run.
-    absurd (out_of_order c.args.format c.args.bytes.now c.args.count c.loop-i.i c.loop-i.last c.loop-i.rest.now c.in-Some.entry c.in-Some.after.now
+    absurd (out_of_order c.args.format c.args.bytes.now c.args.count c.loop-i.i c.loop-i.last c.loop-i.rest.now
+    c.in-Some.entry c.in-Some.after.now
     c.loop-i.invariant.under_way c.in-Some.ensures.lawful c.in-Some.ensures.found
     (λ follows. let yes = c.is_next.ensures.1 follows in let no = c.if-not-is_next.true in cc) es run)
 
@@ -31,7 +33,8 @@ bounds-starts-i c =
 
 pub loop-i-preserved : goal.loop-i-preserved
 loop-i-preserved c =
-    finds_one c.args.format c.args.bytes.now c.args.count c.loop-i.i c.loop-i.starts _ c.loop-i.last c.loop-i.rest.now c.in-Some.entry c.in-Some.after.now
+    finds_one c.args.format c.args.bytes.now c.args.count c.loop-i.i c.loop-i.starts _ c.loop-i.last c.loop-i.rest.now
+    c.in-Some.entry c.in-Some.after.now
     c.loop-i.invariant c.in-Some.ensures.lawful c.in-Some.ensures.found (c.is_next.ensures.0 c.if-not-is_next.false)
     (take_put c.loop-i.starts c.loop-i.i _
     (omega (

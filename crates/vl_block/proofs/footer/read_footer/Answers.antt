@@ -11,5 +11,6 @@ returns-in_default-clause-none c = λ foot spelled.
 pub returns-in-None-clause-none : goal.returns-in-None-clause-none
 returns-in-None-clause-none c = λ foot spelled.
     let none = rw c.in-None.is at c.in_ok-read_points.ensures.none in
-    let one = one_head c.args.format (head_of c.in-Some.head) foot.head c.in-Some.rest.now (counted_bytes points foot.points) c.in-Some.ensures.lawful spelled.head (sym c.in-Some.ensures.found ∙ spelled.spelled) in
+    let one = one_head c.args.format (head_of c.in-Some.head) foot.head c.in-Some.rest.now
+    (counted_bytes points foot.points) c.in-Some.ensures.lawful spelled.head (sym c.in-Some.ensures.found ∙ spelled.spelled) in
     none foot.points spelled.points one.1

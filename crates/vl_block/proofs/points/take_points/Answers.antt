@@ -14,12 +14,19 @@ returns-in-None-clause-none c = λ list run.
 
 pub returns-then-not-is_next-clause-none : goal.returns-then-not-is_next-clause-none
 returns-then-not-is_next-clause-none c = λ list run.
-    not_next points c.args.bytes.now c.args.count c.loop.counter c.loop.list.items c.loop.rest.now c.in-Some.point c.in-Some.after.now c.loop.invariant
+    not_next points c.args.bytes.now c.args.count c.loop.counter c.loop.list.items c.loop.rest.now c.in-Some.point
+    c.in-Some.after.now c.loop.invariant
     (point_is_some c.in-Some.point) c.in-Some.ensures.lawful c.in-Some.ensures.found
-    (λ follows. let yes = c.is_next.ensures.1 (subst (λ (l : List Point). IsNext points (last_item l) c.in-Some.point) (sym c.deref.ensures.value) follows) in let no = c.if-not-is_next.true in cc) list run
+    (λ follows. let yes = c.is_next.ensures.1
+    (subst (λ (l : List Point). IsNext points (last_item l) c.in-Some.point) (sym c.deref.ensures.value) follows)
+    in let no = c.if-not-is_next.true in cc) list run
 
 pub loop-preserved : goal.loop-preserved
 loop-preserved c =
-    subst (λ (l : List Point). SoFar points c.args.bytes.now c.args.count (c.loop.counter + 1) l c.in-Some.after.now) (sym c.in_ok-push-in-Some.ensures.items)
-    (goes_on points c.args.bytes.now c.args.count c.loop.counter c.loop.list.items c.loop.rest.now c.in-Some.point c.in-Some.after.now c.loop.invariant
-    (point_is_some c.in-Some.point) c.in-Some.ensures.lawful c.in-Some.ensures.found (subst (λ (l : List Point). IsNext points (last_item l) c.in-Some.point) c.deref.ensures.value (c.is_next.ensures.0 c.if-not-is_next.false)))
+    subst (λ (l : List Point). SoFar points c.args.bytes.now c.args.count (c.loop.counter + 1) l c.in-Some.after.now)
+    (sym c.in_ok-push-in-Some.ensures.items)
+    (goes_on points c.args.bytes.now c.args.count c.loop.counter c.loop.list.items c.loop.rest.now c.in-Some.point
+    c.in-Some.after.now c.loop.invariant
+    (point_is_some c.in-Some.point) c.in-Some.ensures.lawful c.in-Some.ensures.found
+    (subst (λ (l : List Point). IsNext points (last_item l) c.in-Some.point) c.deref.ensures.value
+    (c.is_next.ensures.0 c.if-not-is_next.false)))

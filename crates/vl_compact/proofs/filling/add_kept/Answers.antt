@@ -12,11 +12,13 @@ returns-then-closes-clause-adds g c = λ j left are has fits told written.
     let found = c.next.new.found.items in
     let so = c.adding.invariant.adding j left are has fits told written in
     let rules = subst (λ (r : Rules). AreRulesOf r j) (sym c.adding.invariant.rules) are in
-    let n = subst (λ (o : Option Entry). GivesNext j (stage c.adding.keeping.last so.rest c.adding.found.items) last now found o) c.in-Some.is
+    let n = subst (λ (o : Option Entry). GivesNext j (stage c.adding.keeping.last so.rest c.adding.found.items) last now
+    found o) c.in-Some.is
     (c.in_ok-entry.ensures.next j so.rest rules has (c.adding.invariant.fits fits) so.left_is) in
     let is = c.closes.ensures c.adding.lent.number so.all so.written.given so.written.writing (so.last_is ∙ sym so.ends) in
     adding_closes g.W.Writer j c.args.first (stage c.args.keeping.now.last left c.args.found.now.items) c.adding.lent c.adding.table
-    c.adding.last c.adding.keeping.last (g.C.Cursor.left c.adding.keeping.cursor) c.adding.found.items so last now found c.in-Some.entry n (sym is ∙ c.if-closes.true)
+    c.adding.last c.adding.keeping.last (g.C.Cursor.left c.adding.keeping.cursor) c.adding.found.items so last now found
+    c.in-Some.entry n (sym is ∙ c.if-closes.true)
 
 pub adding-preserved-in_ok-add : goal.adding-preserved-in_ok-add
 adding-preserved-in_ok-add g c = record {
@@ -26,11 +28,13 @@ adding-preserved-in_ok-add g c = record {
       let found = c.next.new.found.items in
       let so = c.adding.invariant.adding j left are has fits told written in
       let rules = subst (λ (r : Rules). AreRulesOf r j) (sym c.adding.invariant.rules) are in
-      let n = subst (λ (o : Option Entry). GivesNext j (stage c.adding.keeping.last so.rest c.adding.found.items) last now found o) c.in-Some.is
+      let n = subst (λ (o : Option Entry). GivesNext j (stage c.adding.keeping.last so.rest c.adding.found.items) last
+      now found o) c.in-Some.is
       (c.in_ok-entry.ensures.next j so.rest rules has (c.adding.invariant.fits fits) so.left_is) in
       let is = c.closes.ensures c.adding.lent.number so.all so.written.given so.written.writing (so.last_is ∙ sym so.ends) in
       adding_goes g.W.Writer j c.args.first (stage c.args.keeping.now.last left c.args.found.now.items) c.adding.lent c.adding.table
-      c.adding.last c.adding.keeping.last (g.C.Cursor.left c.adding.keeping.cursor) c.adding.found.items so last now found c.in-Some.entry n c.add.new.lent c.add.new.table
+      c.adding.last c.adding.keeping.last (g.C.Cursor.left c.adding.keeping.cursor) c.adding.found.items so last now
+      found c.in-Some.entry n c.add.new.lent c.add.new.table
       (sym is ∙ c.if-closes.false) (c.in_ok-add.ensures.added so.all so.written);
   rules = c.next.ensures.rules ∙ c.adding.invariant.rules;
   number = c.add.ensures.number ∙ c.adding.invariant.number;
@@ -52,11 +56,13 @@ adding-preserved-in_ok-add-2 g c = record {
       let found = c.next.new.found.items in
       let so = c.adding.invariant.adding j left are has fits told written in
       let rules = subst (λ (r : Rules). AreRulesOf r j) (sym c.adding.invariant.rules) are in
-      let n = subst (λ (o : Option Entry). GivesNext j (stage c.adding.keeping.last so.rest c.adding.found.items) last now found o) c.in-Some.is
+      let n = subst (λ (o : Option Entry). GivesNext j (stage c.adding.keeping.last so.rest c.adding.found.items) last
+      now found o) c.in-Some.is
       (c.in_ok-entry.ensures.next j so.rest rules has (c.adding.invariant.fits fits) so.left_is) in
       let is = c.closes.ensures c.adding.lent.number so.all so.written.given so.written.writing (so.last_is ∙ sym so.ends) in
       adding_goes g.W.Writer j c.args.first (stage c.args.keeping.now.last left c.args.found.now.items) c.adding.lent c.adding.table
-      c.adding.last c.adding.keeping.last (g.C.Cursor.left c.adding.keeping.cursor) c.adding.found.items so last now found c.in-Some.entry n c.add.new.lent c.add.new.table
+      c.adding.last c.adding.keeping.last (g.C.Cursor.left c.adding.keeping.cursor) c.adding.found.items so last now
+      found c.in-Some.entry n c.add.new.lent c.add.new.table
       (sym is ∙ c.if-closes.false) (c.in_ok-add.ensures.added so.all so.written);
   rules = c.next.ensures.rules ∙ c.adding.invariant.rules;
   number = c.add.ensures.number ∙ c.adding.invariant.number;
@@ -78,11 +84,13 @@ adding-preserved g c = record {
       let found = c.next.new.found.items in
       let so = c.adding.invariant.adding j left are has fits told written in
       let rules = subst (λ (r : Rules). AreRulesOf r j) (sym c.adding.invariant.rules) are in
-      let n = subst (λ (o : Option Entry). GivesNext j (stage c.adding.keeping.last so.rest c.adding.found.items) last now found o) c.in-Some.is
+      let n = subst (λ (o : Option Entry). GivesNext j (stage c.adding.keeping.last so.rest c.adding.found.items) last
+      now found o) c.in-Some.is
       (c.in_ok-entry.ensures.next j so.rest rules has (c.adding.invariant.fits fits) so.left_is) in
       let is = c.closes.ensures c.adding.lent.number so.all so.written.given so.written.writing (so.last_is ∙ sym so.ends) in
       adding_goes g.W.Writer j c.args.first (stage c.args.keeping.now.last left c.args.found.now.items) c.adding.lent c.adding.table
-      c.adding.last c.adding.keeping.last (g.C.Cursor.left c.adding.keeping.cursor) c.adding.found.items so last now found c.in-Some.entry n c.add.new.lent c.add.new.table
+      c.adding.last c.adding.keeping.last (g.C.Cursor.left c.adding.keeping.cursor) c.adding.found.items so last now
+      found c.in-Some.entry n c.add.new.lent c.add.new.table
       (sym is ∙ c.if-closes.false) (c.in_ok-add.ensures.added so.all so.written);
   rules = c.next.ensures.rules ∙ c.adding.invariant.rules;
   number = c.add.ensures.number ∙ c.adding.invariant.number;
@@ -103,7 +111,8 @@ returns-clause-adds g c = λ j left are has fits told written.
     let found = c.next.new.found.items in
     let so = c.adding.invariant.adding j left are has fits told written in
     let rules = subst (λ (r : Rules). AreRulesOf r j) (sym c.adding.invariant.rules) are in
-    let n = subst (λ (o : Option Entry). GivesNext j (stage c.adding.keeping.last so.rest c.adding.found.items) last now found o) c.in_default.is
+    let n = subst (λ (o : Option Entry). GivesNext j (stage c.adding.keeping.last so.rest c.adding.found.items) last now
+    found o) c.in_default.is
     (c.in_ok-entry.ensures.next j so.rest rules has (c.adding.invariant.fits fits) so.left_is) in
     adding_ends g.W.Writer j c.args.first (stage c.args.keeping.now.last left c.args.found.now.items) c.adding.lent c.adding.table
     c.adding.last c.adding.keeping.last (g.C.Cursor.left c.adding.keeping.cursor) c.adding.found.items so last now found n

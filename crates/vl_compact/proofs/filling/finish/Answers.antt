@@ -13,4 +13,5 @@ returns-in-Ok-clause-whole g c = λ es written.
 pub returns-in-Ok-clause-last : goal.returns-in-Ok-clause-last
 returns-in-Ok-clause-last g c = λ es written.
     let number = c.args.lent.now.number in
-    c.in_ok-last.ensures ∙ last_said number es c.in_ok-tail.tail.shape (c.in_ok-tail.ensures.tail number es written.given written.writing).shape
+    c.in_ok-last.ensures ∙ last_said number es c.in_ok-tail.tail.shape
+    (c.in_ok-tail.ensures.tail number es written.given written.writing).shape

@@ -14,4 +14,5 @@ returns-then-not-meets g c = λ ts t are is.
 pub returns : goal.returns
 returns g c = λ ts t are is.
     subst (AreTablesOf g.H.HeldFile.bytes c.add.new.all.items)
-    (kept_one (meets (option_map range_in c.args.range)) ts t (sym (c.meets.ensures t is) ∙ c.if-not-meets.false)) (c.in_ok-add.ensures ts t are is)
+    (kept_one (meets (option_map range_in c.args.range)) ts t (sym (c.meets.ensures t is) ∙ c.if-not-meets.false))
+    (c.in_ok-add.ensures ts t are is)

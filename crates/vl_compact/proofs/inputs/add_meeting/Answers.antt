@@ -19,6 +19,7 @@ loop-table-preserved g c = λ ts us old are.
 
 pub returns : goal.returns
 returns g c = λ ts us old are.
-    subst (λ (l : List laid.Table). AreTablesOf g.H.HeldFile.bytes c.loop-table.all.items (ts ++ filter (meets (option_map range_in c.args.range)) l))
+    subst (λ (l : List laid.Table). AreTablesOf g.H.HeldFile.bytes c.loop-table.all.items
+    (ts ++ filter (meets (option_map range_in c.args.range)) l))
     (zip_all (IsTableOf g.H.HeldFile.bytes) c.args.tables.now us c.loop-table.table-index are c.loop-table-test.false)
     (c.loop-table.invariant ts us old are)

@@ -14,7 +14,8 @@ use Rattle.vl_compact.proofs.planning.drained.Goals as goal
 pub returns-in-None : goal.returns-in-None
 returns-in-None g c = λ ls are.
     subst (λ (o : Option laid.Table). IsMerge g.H.HeldFile.bytes None (option_map (λ t. record { tables = t ∷ []; target = InPlace }) o))
-    (sym (none_both (IsTableOf g.H.HeldFile.bytes) (first_into c.args.segment (flat_map (λ level. level) ls)) (c.in-None.ensures ls are))) tt
+    (sym (none_both (IsTableOf g.H.HeldFile.bytes) (first_into c.args.segment (flat_map (λ level. level) ls))
+    (c.in-None.ensures ls are))) tt
 
 pub returns-in_ok-alone-in-Some : goal.returns-in_ok-alone-in-Some
 returns-in_ok-alone-in-Some g c = λ ls are.

@@ -25,8 +25,10 @@ returns-in-Some g c =
     (λ all so ls are.
     let ts = level_at c.args.level ls in
     let us = level_at (c.args.level + 1) ls in
-    subst (λ (l : List laid.Table). AreTablesOf g.H.HeldFile.bytes all.items (with_next l us)) (due_one c.args.level ts c.if-level-eq0.false)
-    (of_some (IsTableOf g.H.HeldFile.bytes) (λ (o : Option laid.Table). AreTablesOf g.H.HeldFile.bytes all.items (with_next (one_or_none o) us))
+    subst (λ (l : List laid.Table). AreTablesOf g.H.HeldFile.bytes all.items (with_next l us))
+    (due_one c.args.level ts c.if-level-eq0.false)
+    (of_some (IsTableOf g.H.HeldFile.bytes)
+    (λ (o : Option laid.Table). AreTablesOf g.H.HeldFile.bytes all.items (with_next (one_or_none o) us))
     c.in-Some.table.now (least_table ts) (c.in-Some.ensures ts (c.level_at-tables.ensures ls are))
     (λ t is. so t us is (c.level_at-next.ensures ls are))))
     c.one_with_next.ensures

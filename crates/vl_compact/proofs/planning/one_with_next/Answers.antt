@@ -7,5 +7,6 @@ use Rattle.vl_compact.proofs.planning.one_with_next.Goals as goal
 
 pub returns : goal.returns
 returns g c = λ t us is are.
-    subst (λ (r : Option Range). AreTablesOf g.H.HeldFile.bytes c.add_meeting.new.all.items ((t ∷ []) ++ filter (meets r) us)) (c.widened.ensures t is)
+    subst (λ (r : Option Range). AreTablesOf g.H.HeldFile.bytes c.add_meeting.new.all.items
+    ((t ∷ []) ++ filter (meets r) us)) (c.widened.ensures t is)
     (c.in_ok-add_meeting.ensures (t ∷ []) us (c.in_ok-all.ensures t is) are)

@@ -22,4 +22,5 @@ loop-entry-preserved c =
 
 pub returns : goal.returns
 returns c =
-    sym (c.loop-entry.invariant ∙ ap (find key_cmp c.args.key.now) (drop_end c.args.moved.now c.loop-entry.entry-index c.loop-entry-test.false))
+    sym (c.loop-entry.invariant
+    ∙ ap (find key_cmp c.args.key.now) (drop_end c.args.moved.now c.loop-entry.entry-index c.loop-entry-test.false))

@@ -20,7 +20,8 @@ loop-at-preserved g c = record {
   range = λ ts are.
       let i = c.loop-at.at - 1 in
       let more : i + 1 ≡ c.loop-at.at = omega arith in
-      let at = zip_at (IsTableOf g.H.HeldFile.bytes) c.args.tables.now ts i c.index-tables-at.result are (omega arith) c.index-tables-at.is in
+      let at = zip_at (IsTableOf g.H.HeldFile.bytes) c.args.tables.now ts i c.index-tables-at.result are (omega arith)
+      c.index-tables-at.is in
       c.widened.ensures at.item at.is ∙ ap (widened at.item) (c.loop-at.invariant.range ts are)
       ∙ sym (range_next at.item (drop i ts) (drop c.loop-at.at ts) (at.rest ∙ ap (λ (n : ℕ). at.item ∷ drop n ts) more));
 }

@@ -20,4 +20,5 @@ returns-in-Some g c = λ t is.
     let first = c.as_slice-first.ensures ∙ ap (λ (s : TableShape). s.footer.first) c.shape.ensures ∙ first_is bytes c.args.table.now t is in
     let last = c.as_slice-last.ensures ∙ ap (λ (s : TableShape). s.footer.last) c.shape.ensures ∙ last_is bytes c.args.table.now t is in
     range_more t (option_map range_in c.args.range) (range_in c.in-Some.range) c.as_slice-first.result.now c.as_slice-last.result.now
-    c.lesser_key.result.now c.greater_key.result.now first last (ap (option_map range_in) c.in-Some.is) c.lesser_key.ensures c.greater_key.ensures
+    c.lesser_key.result.now c.greater_key.result.now first last (ap (option_map range_in) c.in-Some.is)
+    c.lesser_key.ensures c.greater_key.ensures

@@ -31,6 +31,7 @@ loop-level-preserved g c = λ ls are.
 
 pub returns : goal.returns
 returns g c = λ ls are.
-    subst (λ (l : List (List laid.Table)). AllZip (AreTablesOf g.H.HeldFile.bytes) c.loop-level.all.items (map (without c.args.inputs.now) l))
+    subst (λ (l : List (List laid.Table)). AllZip (AreTablesOf g.H.HeldFile.bytes) c.loop-level.all.items
+    (map (without c.args.inputs.now) l))
     (zip_all (AreTablesOf g.H.HeldFile.bytes) c.args.levels.now ls c.loop-level.level-index are c.loop-level-test.false)
     (c.loop-level.invariant ls are)

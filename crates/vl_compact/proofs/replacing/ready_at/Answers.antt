@@ -20,7 +20,8 @@ returns-clause-ready g c = λ target first ls are place.
       place = place;
       others = all_left (IsTableOf bytes) inputs levels.newest.items c.in_ok-others.field-0.items levels.deeper.items
           c.in_ok-others_of_each.field-0.items ls are
-          (λ us is. c.in_ok-others.ensures us (subst (λ (l : List (Table g.row.H.Denot)). AreTablesOf bytes l us) (sym c.newest.ensures) is))
+          (λ us is. c.in_ok-others.ensures us
+          (subst (λ (l : List (Table g.row.H.Denot)). AreTablesOf bytes l us) (sym c.newest.ensures) is))
           (λ ds is. c.in_ok-others_of_each.ensures ds
           (subst (λ (l : List (List (Table g.row.H.Denot))). AllZip (AreTablesOf bytes) l ds) (sym c.deeper.ensures) is));
       tables = subst (AreTablesOf bytes c.reserve.new.self.items) (sym (none_put c.args.position ts)) tables;

@@ -6,7 +6,8 @@ returns-in_err-create g c = ends_at_create g.D.Watched _ _ _ _ _ c.from_residual
 
 pub returns-in_err-append : goal.returns-in_err-append
 returns-in_err-append g c =
-    ends_at_append g.D.Watched _ _ _ _ _ c.in_ok-create.ensures _ _ c.from_residual-in_err-append.result c.from_residual-in_err-append.ensures.0 c.in_err-append.ensures
+    ends_at_append g.D.Watched _ _ _ _ _ c.in_ok-create.ensures _ _ c.from_residual-in_err-append.result
+    c.from_residual-in_err-append.ensures.0 c.in_err-append.ensures
 
 pub returns : goal.returns
 returns g c = ends_at_sync g.D.Watched _ _ _ _ _ c.in_ok-create.ensures _ _ c.in_ok-append.ensures _ c.sync.result c.sync.ensures

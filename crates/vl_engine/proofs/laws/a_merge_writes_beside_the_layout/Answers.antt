@@ -1,4 +1,6 @@
-use Rattle.vl_engine.specs.laws.InstallBeside.{adopted_holds, adopting_leaves, adopting_opens_again, creating_leaves, creating_opens_again, drawn_holds, lending_leaves, lending_opens_again, lent_holds, tables_below}
+use Rattle.vl_engine.specs.laws.InstallBeside.{adopted_holds, adopting_leaves, adopting_opens_again, creating_leaves}
+use Rattle.vl_engine.specs.laws.InstallBeside.{creating_opens_again, drawn_holds, lending_leaves, lending_opens_again}
+use Rattle.vl_engine.specs.laws.InstallBeside.{lent_holds, tables_below}
 use Rattle.vl_engine.proofs.laws.a_merge_writes_beside_the_layout.Goals as goal
 use Rattle.vl_disk.specs.DiskState.{created, without}
 use Rattle.vl_disk.specs.declared.name.Name.TheVariants.{Table}

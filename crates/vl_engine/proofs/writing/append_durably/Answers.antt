@@ -14,7 +14,8 @@ returns-clause-tells g c state is =
 
 pub returns-clause-stopped : goal.returns-clause-stopped
 returns-clause-stopped g c clean =
-    sync_stops g.D.Watched (names.Log c.args.log.now.number) (names.Log c.append.new.self.number) c.args.staged.now.frame.items _ c.append.new.disk _ _
+    sync_stops g.D.Watched (names.Log c.args.log.now.number) (names.Log c.append.new.self.number)
+    c.args.staged.now.frame.items _ c.append.new.disk _ _
     c.in_ok-append.ensures.appended c.sync.result c.sync.ensures.synced
 
 pub returns-in_err-append-clause-lent : goal.returns-in_err-append-clause-lent

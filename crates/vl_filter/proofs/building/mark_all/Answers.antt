@@ -11,6 +11,8 @@ loop-hashes-preserved c = record {
       more_key_at (8 * length c.args.bytes.now) c.args.keys.now c.loop-hashes.hashes-index (record { first = 0; second = 0 }) p
       (is_set c.mark.new.bytes p) (is_set c.loop-hashes.bytes p) (is_set c.args.bytes.now p)
       (let within = c.loop-hashes-test.true in omega arith)
-      (subst (λ (n : ℕ). is_set c.mark.new.bytes p ≡ (has_place (8 * n) (get_or c.args.keys.now c.loop-hashes.hashes-index (record { first = 0; second = 0 })) p || is_set c.loop-hashes.bytes p)) c.loop-hashes.auto.bytes (c.mark.ensures p))
+      (subst (λ (n : ℕ). is_set c.mark.new.bytes
+      p ≡ (has_place (8 * n) (get_or c.args.keys.now c.loop-hashes.hashes-index (record { first = 0; second = 0 })) p
+      || is_set c.loop-hashes.bytes p)) c.loop-hashes.auto.bytes (c.mark.ensures p))
       (c.loop-hashes.invariant.marked p);
 }

@@ -9,7 +9,8 @@ use Rattle.vl_disk.specs.declared.name.Name.TheVariants.{Log}
 use Rattle.vl_folder.proofs.file_name.number_in.Goals as goal
 
 pub returns-clause-spelled : goal.returns-clause-spelled
-returns-clause-spelled c = number_text c.args.digits.now c.in_ok-ok.field-0.now c.parse.result c.in_ok-number.number c.parse.ensures.value.0 (search rules) (search rules) (search rules) c.requires (search rules) (search rules)
+returns-clause-spelled c = number_text c.args.digits.now c.in_ok-ok.field-0.now c.parse.result c.in_ok-number.number
+    c.parse.ensures.value.0 (search rules) (search rules) (search rules) c.requires (search rules) (search rules)
 
 pub returns-then-digits-eq43-clause-of_others : goal.returns-then-digits-eq43-clause-of_others
 returns-then-digits-eq43-clause-of_others c number numbered is =

@@ -11,4 +11,5 @@ returns-clause-records c l f is =
 pub returns-clause-entries : goal.returns-clause-entries
 returns-clause-entries c l f is =
     logged_entries-more l.active.format l.active.number 16 l.active.frames f
-    ∙ ap (λ n. frame_entries l.active.format l.active.number n f ++ logged_entries l.active.format l.active.number 16 l.active.frames) (place_behind-is l.active.format 16 l.active.frames ∙ sym is)
+    ∙ ap (λ n. frame_entries l.active.format l.active.number n f ++ logged_entries l.active.format l.active.number 16
+    l.active.frames) (place_behind-is l.active.format 16 l.active.frames ∙ sym is)

@@ -22,4 +22,5 @@ returns-clause-conflicts c p n reads proper = conflict_in-is p proper n reads
 pub returns-clause-past : goal.returns-clause-past
 returns-clause-past c p b number key n proper =
     ap (λ (least : ℕ). at_answer_by number least (value_in p n key) key n) (low_in-is p proper b.floor b.keep b.since key)
-    ∙ ap (λ (value : Option Stored). at_answer_by number (low (history_in p) b.floor b.keep b.since key) value key n) (value_in-is p proper n key)
+    ∙ ap (λ (value : Option Stored). at_answer_by number (low (history_in p) b.floor b.keep b.since key) value key n)
+    (value_in-is p proper n key)

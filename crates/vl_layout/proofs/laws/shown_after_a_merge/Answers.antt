@@ -5,4 +5,5 @@ pub returns-clause-at_once : goal.returns-clause-at_once
 returns-clause-at_once c logs keep ss floor h since to some of shows = shows_merge_at_once logs keep ss floor h since to some of shows
 
 pub returns-clause-later : goal.returns-clause-later
-returns-clause-later c logs ms keep floor h now v since to some up fits of justified shows = shows_merge logs ms keep floor some h now v since to up fits of justified shows
+returns-clause-later c logs ms keep floor h now v since to some up fits of justified shows = shows_merge logs ms keep
+    floor some h now v since to up fits of justified shows

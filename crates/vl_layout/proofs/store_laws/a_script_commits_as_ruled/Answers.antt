@@ -8,4 +8,5 @@ use Rattle.vl_layout.proofs.store_laws.a_script_commits_as_ruled.Goals as goal
 
 pub returns : goal.returns
 returns c s t proper =
-    ap (λ (conflict : Option Named). commit_unless s.layout.halted s.layout (history_in s.commits) t conflict) (conflict_in-is s.commits proper t.number t.reads)
+    ap (λ (conflict : Option Named). commit_unless s.layout.halted s.layout (history_in s.commits) t conflict)
+    (conflict_in-is s.commits proper t.number t.reads)

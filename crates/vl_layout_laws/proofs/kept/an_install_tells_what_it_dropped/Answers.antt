@@ -1,7 +1,9 @@
 use Rattle.std.proofs.Common.{◌≡◌, refl}
 use Rattle.vl_model.specs.History.{History}
 use Rattle.vl_layout.specs.declared.layout.Layout.{Layout}
-use Rattle.vl_layout_laws.specs.laws.EachRuling.{begin_leaves, commit_leaves, drain_leaves, flush_leaves, fresh_leaves, keep_leaves, pick_leaves, plan_leaves, relocate_leaves, rotate_leaves, sweep_leaves, sweep_to_leaves}
+use Rattle.vl_layout_laws.specs.laws.EachRuling.{begin_leaves, commit_leaves, drain_leaves, flush_leaves}
+use Rattle.vl_layout_laws.specs.laws.EachRuling.{fresh_leaves, keep_leaves, pick_leaves, plan_leaves, relocate_leaves}
+use Rattle.vl_layout_laws.specs.laws.EachRuling.{rotate_leaves, sweep_leaves, sweep_to_leaves}
 use Rattle.vl_layout_laws.specs.laws.Gone.{install_raises}
 use Rattle.vl_layout_laws.proofs.kept.an_install_tells_what_it_dropped.Goals as goal
 

@@ -1,7 +1,9 @@
 use Rattle.std.specs.FinMap.{from_sorted}
 use Rattle.vl_layout.specs.Tickets.{free_ticket, tickets_of}
 use Rattle.vl_layout_laws.specs.Kept.{IsFloorUp}
-use Rattle.vl_layout_laws.specs.laws.EachRuling.{begin_leaves, commit_leaves, drain_leaves, flush_leaves, fresh_leaves, install_leaves, keep_leaves, pick_leaves, plan_leaves, relocate_leaves, rotate_leaves, sweep_leaves, sweep_to_leaves}
+use Rattle.vl_layout_laws.specs.laws.EachRuling.{begin_leaves, commit_leaves, drain_leaves, flush_leaves}
+use Rattle.vl_layout_laws.specs.laws.EachRuling.{fresh_leaves, install_leaves, keep_leaves, pick_leaves, plan_leaves}
+use Rattle.vl_layout_laws.specs.laws.EachRuling.{relocate_leaves, rotate_leaves, sweep_leaves, sweep_to_leaves}
 use Rattle.vl_layout_laws.specs.laws.Floors.{floor-committed, floor-ended, floor-same, floor-with}
 use Rattle.vl_layout_laws.proofs.kept.the_floor_never_falls.Goals as goal
 
@@ -9,7 +11,8 @@ pub returns-clause-begin : goal.returns-clause-begin
 returns-clause-begin c l h = begin_leaves (IsFloorUp l h) l h (floor-same l h) (λ few. floor-with l h (free_ticket (tickets_of l.live)))
 
 pub returns-clause-commit : goal.returns-clause-commit
-returns-clause-commit c l h t = commit_leaves (IsFloorUp l h) l h (floor-same l h) t (floor-ended l h t.ticket) (floor-committed l h t.ticket (from_sorted t.writes))
+returns-clause-commit c l h t = commit_leaves (IsFloorUp l h) l h (floor-same l h) t (floor-ended l h t.ticket)
+    (floor-committed l h t.ticket (from_sorted t.writes))
 
 pub returns-clause-forget : goal.returns-clause-forget
 returns-clause-forget c l h t = floor-ended l h t.ticket

@@ -1,4 +1,5 @@
-use Rattle.vl_layout_laws.specs.laws.Beside.{open_begun, open_ended, open_committed, open_rotated, open_flushed, open_relocated, open_drawn, open_picked, open_swept, open_keeping}
+use Rattle.vl_layout_laws.specs.laws.Beside.{open_begun, open_ended, open_committed, open_rotated, open_flushed}
+use Rattle.vl_layout_laws.specs.laws.Beside.{open_relocated, open_drawn, open_picked, open_swept, open_keeping}
 use Rattle.vl_layout_laws.proofs.laws.an_open_job_stays_open_well.Goals as goal
 
 pub returns-clause-begin : goal.returns-clause-begin

@@ -1,4 +1,6 @@
-use Rattle.vl_layout_laws.specs.laws.RulingStocked.{begin_well, commit_well, forget_well, release_well, rotate_well, flush_well, pick_well, relocate_well, end_pass_well, sweep_well, sweep_to_well, keep_well}
+use Rattle.vl_layout_laws.specs.laws.RulingStocked.{begin_well, commit_well, forget_well, release_well, rotate_well}
+use Rattle.vl_layout_laws.specs.laws.RulingStocked.{flush_well, pick_well, relocate_well, end_pass_well, sweep_well}
+use Rattle.vl_layout_laws.specs.laws.RulingStocked.{sweep_to_well, keep_well}
 use Rattle.vl_layout_laws.proofs.laws.files_stay_tidy.Goals as goal
 
 pub returns-clause-begin : goal.returns-clause-begin

@@ -6,7 +6,10 @@ use Rattle.vl_layout.specs.Ruling.{Ruling, leaving, has_no_number}
 use Rattle.vl_layout.specs.Rulings.Fresh.{FreshAnswer, Drawn, Exhausted, drawn, fresh_unless}
 use Rattle.vl_layout.specs.declared.file_name.FileName.{FileName}
 use Rattle.vl_layout.specs.declared.layout.Layout.{Layout}
-use Rattle.vl_layout_laws.specs.laws.Numbers.{begin_rises, commit_rises, forget_rises, release_rises, rotate_rises, flush_rises, relocate_rises, plan_rises, drain_rises, fresh_rises, abandon_rises, install_rises, pick_rises, end_pass_rises, sweep_rises, sweep_to_rises, keep_rises}
+use Rattle.vl_layout_laws.specs.laws.Numbers.{begin_rises, commit_rises, forget_rises, release_rises, rotate_rises}
+use Rattle.vl_layout_laws.specs.laws.Numbers.{flush_rises, relocate_rises, plan_rises, drain_rises, fresh_rises}
+use Rattle.vl_layout_laws.specs.laws.Numbers.{abandon_rises, install_rises, pick_rises, end_pass_rises, sweep_rises}
+use Rattle.vl_layout_laws.specs.laws.Numbers.{sweep_to_rises, keep_rises}
 use Rattle.vl_layout_laws.proofs.laws.numbers_are_drawn_once.Goals as goal
 
 abbrev drawn_if : Layout → History → Bool → Ruling FreshAnswer

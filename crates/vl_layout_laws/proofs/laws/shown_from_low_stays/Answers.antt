@@ -2,7 +2,8 @@ use Rattle.std.proofs.Common.{Bool, true, false}
 use Rattle.std.specs.Prelude.{T, IsTrue}
 use Rattle.std.specs.FinMap.{is_sorted}
 use Rattle.vl_model.specs.Keys.{key_cmp}
-use Rattle.vl_layout.specs.laws.LowRulings.{commit_shows_low, rotate_shows_low, flush_shows_low, relocate_shows_low, ended_shows_low, begun_shows_low, keeping_shows_low}
+use Rattle.vl_layout.specs.laws.LowRulings.{commit_shows_low, rotate_shows_low, flush_shows_low, relocate_shows_low}
+use Rattle.vl_layout.specs.laws.LowRulings.{ended_shows_low, begun_shows_low, keeping_shows_low}
 use Rattle.vl_layout_laws.proofs.laws.shown_from_low_stays.Goals as goal
 
 as_T : (b : Bool) → IsTrue b → T b

@@ -2,7 +2,9 @@ use Rattle.std.proofs.Common.{refl, arith}
 use Rattle.std.specs.FinMap.{from_sorted}
 use Rattle.vl_layout.specs.Ruling.{ended}
 use Rattle.vl_layout_laws.specs.Live.{IsLivedIn}
-use Rattle.vl_layout_laws.specs.laws.EachRuling.{begin_leaves, commit_leaves, drain_leaves, flush_leaves, fresh_leaves, install_leaves, keep_leaves, pick_leaves, plan_leaves, relocate_leaves, rotate_leaves, sweep_leaves, sweep_to_leaves}
+use Rattle.vl_layout_laws.specs.laws.EachRuling.{begin_leaves, commit_leaves, drain_leaves, flush_leaves}
+use Rattle.vl_layout_laws.specs.laws.EachRuling.{fresh_leaves, install_leaves, keep_leaves, pick_leaves, plan_leaves}
+use Rattle.vl_layout_laws.specs.laws.EachRuling.{relocate_leaves, rotate_leaves, sweep_leaves, sweep_to_leaves}
 use Rattle.vl_layout_laws.specs.laws.Lives.{live-begun, live-committed, live-ended, live-same}
 use Rattle.vl_layout_laws.proofs.live.what_lives_stays_in_order.Goals as goal
 
@@ -13,7 +15,8 @@ pub returns-clause-begin : goal.returns-clause-begin
 returns-clause-begin c l h w = begin_leaves IsLivedIn l h w (λ few. live-begun l h w few)
 
 pub returns-clause-commit : goal.returns-clause-commit
-returns-clause-commit c l h t w = commit_leaves IsLivedIn l h w t (live-ended l h w t.ticket) (live-committed (ended t.ticket l) _ h (from_sorted t.writes) refl (live-ended l h w t.ticket))
+returns-clause-commit c l h t w = commit_leaves IsLivedIn l h w t (live-ended l h w t.ticket)
+    (live-committed (ended t.ticket l) _ h (from_sorted t.writes) refl (live-ended l h w t.ticket))
 
 pub returns-clause-forget : goal.returns-clause-forget
 returns-clause-forget c l h t w = live-ended l h w t.ticket

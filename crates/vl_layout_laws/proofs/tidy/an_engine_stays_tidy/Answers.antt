@@ -2,7 +2,10 @@ use Rattle.std.proofs.Common.{Bool, true, false}
 use Rattle.std.specs.Prelude.{T, IsTrue}
 use Rattle.std.specs.FinMap.{is_sorted}
 use Rattle.vl_model.specs.Keys.{key_cmp}
-use Rattle.vl_layout_laws.specs.laws.TidyRulings.{abandon_tidy, begin_tidy, commit_tidy, drain_tidy, end_pass_tidy, flush_tidy, forget_tidy, fresh_tidy, install_tidy, keep_tidy, pick_tidy, plan_tidy, release_tidy, relocate_tidy, rotate_tidy, sweep_tidy, sweep_to_tidy}
+use Rattle.vl_layout_laws.specs.laws.TidyRulings.{abandon_tidy, begin_tidy, commit_tidy, drain_tidy, end_pass_tidy}
+use Rattle.vl_layout_laws.specs.laws.TidyRulings.{flush_tidy, forget_tidy, fresh_tidy, install_tidy, keep_tidy}
+use Rattle.vl_layout_laws.specs.laws.TidyRulings.{pick_tidy, plan_tidy, release_tidy, relocate_tidy, rotate_tidy}
+use Rattle.vl_layout_laws.specs.laws.TidyRulings.{sweep_tidy, sweep_to_tidy}
 use Rattle.vl_layout_laws.proofs.tidy.an_engine_stays_tidy.Goals as goal
 
 as_T : (b : Bool) → IsTrue b → T b

@@ -8,4 +8,5 @@ use Rattle.vl_manifest.proofs.writing.edits_body.Given as goal
 abbrev pub invariant-loop-edit : goal.invariant-loop-edit
 invariant-loop-edit l =
     (l.body.items ++ spelling.edits_bytes (drop l.edit-index l.edits) ≡ spelling.edits_body l.edits)
-    × (AllByRecursion (spelling.IsEdit manifest_format) (drop l.edit-index l.edits) → AllByRecursion (spelling.IsEdit manifest_format) l.edits)
+    × (AllByRecursion (spelling.IsEdit manifest_format) (drop l.edit-index l.edits)
+    → AllByRecursion (spelling.IsEdit manifest_format) l.edits)

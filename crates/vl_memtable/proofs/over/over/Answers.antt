@@ -6,7 +6,8 @@ use Rattle.vl_memtable.proofs.over.over.Goals as goal
 
 pub loop-older-preserved : goal.loop-older-preserved
 loop-older-preserved c =
-    over_next c.args.run c.loop-older.front c.in_ok-front.front c.args.runs.now c.loop-older.older-index c.older-item.result c.loop-older-test.true c.older-item.is c.loop-older.invariant c.in_ok-front.ensures
+    over_next c.args.run c.loop-older.front c.in_ok-front.front c.args.runs.now c.loop-older.older-index
+    c.older-item.result c.loop-older-test.true c.older-item.is c.loop-older.invariant c.in_ok-front.ensures
 
 pub returns-clause-entries : goal.returns-clause-entries
 returns-clause-entries c =

@@ -7,7 +7,8 @@ use Rattle.vl_memtable.proofs.runs.exact.Goals as goal
 
 pub returns-in-Some : goal.returns-in-Some
 returns-in-Some c =
-    exact-found c.args.key.now c.args.version c.args.runs.now c.loop-run.run-index c.run-item.result c.in-Some.entry.now c.loop-run-test.true c.run-item.is c.loop-run.invariant c.in-Some.ensures
+    exact-found c.args.key.now c.args.version c.args.runs.now c.loop-run.run-index c.run-item.result c.in-Some.entry.now
+    c.loop-run-test.true c.run-item.is c.loop-run.invariant c.in-Some.ensures
 
 pub loop-run-preserved : goal.loop-run-preserved
 loop-run-preserved c =

@@ -15,4 +15,5 @@ loop-run-preserved c =
     c.newest_ref-best.ensures
     ∙ ap (λ x. newest_of x (option_copied c.find.result)) c.loop-run.invariant
     ∙ ap (newest_of (winner (all_of (take i runs)) key number)) c.find.ensures
-    ∙ sym (ap (λ l. winner (all_of l) key number) (take_next runs i run c.loop-run-test.true c.run-item.is) ∙ winner-push key number (take i runs) run)
+    ∙ sym (ap (λ l. winner (all_of l) key number) (take_next runs i run c.loop-run-test.true c.run-item.is)
+    ∙ winner-push key number (take i runs) run)

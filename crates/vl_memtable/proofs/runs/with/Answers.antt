@@ -10,7 +10,8 @@ use Rattle.vl_memtable.proofs.runs.with.Goals.{then-joining-test+else-len, else-
 pub joining-init : goal.joining-init
 joining-init c = record {
   place = omega arith;
-  joins = joins_first c.args.run c.args.runs.now (subst IsInOrder c.as_slice.ensures.entries c.as_slice.ensures.in_order) c.requires.new c.requires.runs c.requires.some;
+  joins = joins_first c.args.run c.args.runs.now
+      (subst IsInOrder c.as_slice.ensures.entries c.as_slice.ensures.in_order) c.requires.new c.requires.runs c.requires.some;
 }
 
 pub joining-preserved : goal.joining-preserved
@@ -19,11 +20,14 @@ joining-preserved c =
     let i = c.joining.joined in
     let tested = c.index-runs-joined.result in
     let next = c.index-runs-joined-in-joining.result in
-    let same : tested ≡ next = c.index-runs-joined.is ∙ get_or_default runs i tested next c.joining-test.true ∙ sym c.index-runs-joined-in-joining.is in
-    let less : length next < 2 * length c.joining.front = let test = c.if-len.true in omega (arith, c.len.ensures, c.len-in-joining.ensures, ap length same, test) in
+    let same : tested ≡ next = c.index-runs-joined.is ∙ get_or_default runs i tested next c.joining-test.true
+    ∙ sym c.index-runs-joined-in-joining.is in
+    let less : length next < 2 * length c.joining.front = let test = c.if-len.true in omega
+    (arith, c.len.ensures, c.len-in-joining.ensures, ap length same, test) in
     record {
       place = omega arith;
-      joins = joins_at c.args.run c.joining.front runs i next c.in_ok-front.front c.joining-test.true c.index-runs-joined-in-joining.is c.joining.invariant.joins less c.in_ok-front.ensures;
+      joins = joins_at c.args.run c.joining.front runs i next c.in_ok-front.front c.joining-test.true
+          c.index-runs-joined-in-joining.is c.joining.invariant.joins less c.in_ok-front.ensures;
     }
 
 pub returns-clause-entries : goal.returns-clause-entries
@@ -51,4 +55,5 @@ returns-clause-are c =
           (let test = w.if-len.false in omega (arith, w.len.ensures, w.len-in-joining.ensures, test))
       | else-joining-test w ↦ finished_past front runs i (let test = w.joining-test.false in omega (arith, test))
     ] in
-    subst AreRuns (sym all) (are_joined c.args.run front runs (drop i runs) c.joining.invariant.joins finished c.requires.runs here (all-drop IsInOrder runs i c.requires.runs.rising) (all-drop (λ r. 0 < length r) runs i c.requires.runs.some))
+    subst AreRuns (sym all) (are_joined c.args.run front runs (drop i runs) c.joining.invariant.joins finished
+    c.requires.runs here (all-drop IsInOrder runs i c.requires.runs.rising) (all-drop (λ r. 0 < length r) runs i c.requires.runs.some))

@@ -5,7 +5,10 @@ use Rattle.vl_merge.specs.MergeOf.{pair_of}
 use Rattle.vl_merge.specs.Trees.{MayFailIn, tree_left, tree_budget, half_left, half_budget}
 use Rattle.vl_merge.proofs.TreeLaws.{source_given, gives_same, gives_older, gives_newer, halves, fails-halves, keeps-halves}
 use Rattle.vl_merge.proofs.tree.+next.Goals as goal
-use Rattle.vl_merge.proofs.tree.+next.Goals.{look-in-Unread+in_ok-entry+in-Next+in-Inline-1, look-in-Unread+in_ok-entry+in-Next+in-Logged-1, look-in-Unread+in_ok-entry+in-Next+in-Gone-1, look-in-Unread+in_ok-entry+in-Unread-1, look-in_default}
+use Rattle.vl_merge.proofs.tree.+next.Goals.{look-in-Unread+in_ok-entry+in-Next+in-Inline-1}
+use Rattle.vl_merge.proofs.tree.+next.Goals.{look-in-Unread+in_ok-entry+in-Next+in-Logged-1}
+use Rattle.vl_merge.proofs.tree.+next.Goals.{look-in-Unread+in_ok-entry+in-Next+in-Gone-1}
+use Rattle.vl_merge.proofs.tree.+next.Goals.{look-in-Unread+in_ok-entry+in-Unread-1, look-in_default}
 
 pub Tree::next-returns-in-Source-clause-given : goal.Tree::next-returns-in-Source-clause-given
 Tree::next-returns-in-Source-clause-given g t c =
@@ -16,15 +19,20 @@ pub Tree::next-returns-in-Two-clause-given : goal.Tree::next-returns-in-Two-clau
 Tree::next-returns-in-Two-clause-given g t c =
     let left = tree_left (λ k. g.C.Cursor.left k) c.args.way in
     IfOk-weaker c.next_of_two.result _ _ (λ next h. gives_same _ _ _ next
-    (halves (λ newer older. pair_of c.args.way (half_left (λ k. g.C.Cursor.left k) c.args.way c.in-Two.first newer) (half_left (λ k. g.C.Cursor.left k) c.args.way c.in-Two.second older)) c.deref_mut.result.now c.deref_mut-in-Two.result.now c.in-Two.newer.value c.in-Two.older.value (left c.args.self.now)
+    (halves (λ newer older. pair_of c.args.way (half_left (λ k. g.C.Cursor.left k) c.args.way c.in-Two.first newer)
+    (half_left (λ k. g.C.Cursor.left k) c.args.way c.in-Two.second older)) c.deref_mut.result.now
+    c.deref_mut-in-Two.result.now c.in-Two.newer.value c.in-Two.older.value (left c.args.self.now)
     c.deref_mut.ensures.value c.deref_mut-in-Two.ensures.value (ap left c.in-Two.is)) h) c.next_of_two.ensures.given
 
 pub Tree::next-returns-in-Two-clause-spends : goal.Tree::next-returns-in-Two-clause-spends
 Tree::next-returns-in-Two-clause-spends g t c =
     let budget = tree_budget (λ k. g.C.Cursor.budget k) in
-    let now = half_budget (λ k. g.C.Cursor.budget k) c.next_of_two.new.first c.next_of_two.new.newer + half_budget (λ k. g.C.Cursor.budget k) c.next_of_two.new.second c.next_of_two.new.older in
+    let now = half_budget (λ k. g.C.Cursor.budget k) c.next_of_two.new.first c.next_of_two.new.newer + half_budget
+    (λ k. g.C.Cursor.budget k) c.next_of_two.new.second c.next_of_two.new.older in
     subst (λ n. MatchResult c.next_of_two.result (Spends n now) (λ _. now ≤ n))
-    (halves (λ newer older. half_budget (λ k. g.C.Cursor.budget k) c.in-Two.first newer + half_budget (λ k. g.C.Cursor.budget k) c.in-Two.second older) c.deref_mut.result.now c.deref_mut-in-Two.result.now c.in-Two.newer.value c.in-Two.older.value (budget c.args.self.now)
+    (halves (λ newer older. half_budget (λ k. g.C.Cursor.budget k) c.in-Two.first newer + half_budget
+    (λ k. g.C.Cursor.budget k) c.in-Two.second older) c.deref_mut.result.now c.deref_mut-in-Two.result.now
+    c.in-Two.newer.value c.in-Two.older.value (budget c.args.self.now)
     c.deref_mut.ensures.value c.deref_mut-in-Two.ensures.value (ap budget c.in-Two.is)) c.next_of_two.ensures.spends
 
 pub Tree::next-returns-in-Two-clause-may_fail : goal.Tree::next-returns-in-Two-clause-may_fail
@@ -45,21 +53,28 @@ Tree::next-returns-in-Two-clause-keeps g t c fault now =
 pub look-returns-clause-keeps : goal.look-returns-clause-keeps
 look-returns-clause-keeps g t c fault now =
     elim c.match-head.branch [
-      | look-in-Unread+in_ok-entry+in-Next+in-Inline-1 w ↦ w.next.ensures.keeps fault (subst (λ tree. MayFailIn g.C.Cursor.may_fail tree fault) w.half-is now)
-      | look-in-Unread+in_ok-entry+in-Next+in-Logged-1 w ↦ w.next.ensures.keeps fault (subst (λ tree. MayFailIn g.C.Cursor.may_fail tree fault) w.half-is now)
-      | look-in-Unread+in_ok-entry+in-Next+in-Gone-1 w ↦ w.next.ensures.keeps fault (subst (λ tree. MayFailIn g.C.Cursor.may_fail tree fault) w.half-is now)
-      | look-in-Unread+in_ok-entry+in-Unread-1 w ↦ w.next.ensures.keeps fault (subst (λ tree. MayFailIn g.C.Cursor.may_fail tree fault) w.half-is now)
+      | look-in-Unread+in_ok-entry+in-Next+in-Inline-1 w ↦ w.next.ensures.keeps fault
+          (subst (λ tree. MayFailIn g.C.Cursor.may_fail tree fault) w.half-is now)
+      | look-in-Unread+in_ok-entry+in-Next+in-Logged-1 w ↦ w.next.ensures.keeps fault
+          (subst (λ tree. MayFailIn g.C.Cursor.may_fail tree fault) w.half-is now)
+      | look-in-Unread+in_ok-entry+in-Next+in-Gone-1 w ↦ w.next.ensures.keeps fault
+          (subst (λ tree. MayFailIn g.C.Cursor.may_fail tree fault) w.half-is now)
+      | look-in-Unread+in_ok-entry+in-Unread-1 w ↦ w.next.ensures.keeps fault
+          (subst (λ tree. MayFailIn g.C.Cursor.may_fail tree fault) w.half-is now)
       | look-in_default w ↦ subst (λ tree. MayFailIn g.C.Cursor.may_fail tree fault) w.half-is now
     ]
 
 pub next_of_two-returns-then-takes_older-clause-given : goal.next_of_two-returns-then-takes_older-clause-given
 next_of_two-returns-then-takes_older-clause-given g t c =
-    gives_older c.args.way _ _ (tree_left (λ k. g.C.Cursor.left k) c.args.way c.look.new.half) (tree_left (λ k. g.C.Cursor.left k) c.args.way c.look-2.new.half) c.look.new.head c.look-2.new.head
+    gives_older c.args.way _ _ (tree_left (λ k. g.C.Cursor.left k) c.args.way c.look.new.half)
+    (tree_left (λ k. g.C.Cursor.left k) c.args.way c.look-2.new.half) c.look.new.head c.look-2.new.head
     c.look.ensures.kept c.look-2.ensures.kept c.in_ok-look.ensures.read c.in_ok-look-2.ensures.read c.take.result c.take.new.self
     (sym c.takes_older.ensures ∙ c.if-takes_older.true) c.take.ensures.taken c.take.ensures.gives
 
 pub next_of_two-returns-else-takes_older-clause-given : goal.next_of_two-returns-else-takes_older-clause-given
 next_of_two-returns-else-takes_older-clause-given g t c =
-    gives_newer c.args.way _ _ (tree_left (λ k. g.C.Cursor.left k) c.args.way c.look.new.half) (tree_left (λ k. g.C.Cursor.left k) c.args.way c.look-2.new.half) c.look.new.head c.look-2.new.head
-    c.look.ensures.kept c.look-2.ensures.kept c.in_ok-look.ensures.read c.in_ok-look-2.ensures.read c.take-else-takes_older.result c.take-else-takes_older.new.self
+    gives_newer c.args.way _ _ (tree_left (λ k. g.C.Cursor.left k) c.args.way c.look.new.half)
+    (tree_left (λ k. g.C.Cursor.left k) c.args.way c.look-2.new.half) c.look.new.head c.look-2.new.head
+    c.look.ensures.kept c.look-2.ensures.kept c.in_ok-look.ensures.read c.in_ok-look-2.ensures.read
+    c.take-else-takes_older.result c.take-else-takes_older.new.self
     (sym c.takes_older.ensures ∙ c.if-takes_older.false) c.take-else-takes_older.ensures.taken c.take-else-takes_older.ensures.gives

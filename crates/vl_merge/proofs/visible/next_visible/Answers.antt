@@ -5,18 +5,23 @@ use Rattle.vl_merge.proofs.visible.next_visible.Goals as goal
 
 pub returns-then-is_some-clause-given : goal.returns-then-is_some-clause-given
 returns-then-is_some-clause-given g c =
-    step_given c.args.number c.loop-entry.held c.pass-winner.new.held _ (g.M.Cursor.left c.loop-entry.merge) (g.M.Cursor.left c.next.new.self) c.loop-entry.invariant.kept
-    c.in_ok-entry.field-0 c.in-Some.entry c.in_ok-entry.ensures.given c.in-Some.is c.pass-winner.ensures.held c.pass-winner.result c.pass-winner.ensures.gives
+    step_given c.args.number c.loop-entry.held c.pass-winner.new.held _ (g.M.Cursor.left c.loop-entry.merge)
+    (g.M.Cursor.left c.next.new.self) c.loop-entry.invariant.kept
+    c.in_ok-entry.field-0 c.in-Some.entry c.in_ok-entry.ensures.given c.in-Some.is c.pass-winner.ensures.held
+    c.pass-winner.result c.pass-winner.ensures.gives
     (sym c.is_some.ensures ∙ c.if-is_some.true)
 
 pub loop-entry-preserved : goal.loop-entry-preserved
 loop-entry-preserved g c = record {
   kept =
-      step_kept c.args.number c.loop-entry.held c.pass-winner.new.held _ (g.M.Cursor.left c.loop-entry.merge) (g.M.Cursor.left c.next.new.self) c.loop-entry.invariant.kept
-      c.in_ok-entry.field-0 c.in-Some.entry c.in_ok-entry.ensures.given c.in-Some.is c.pass-winner.ensures.held c.pass-winner.result c.pass-winner.ensures.gives
+      step_kept c.args.number c.loop-entry.held c.pass-winner.new.held _ (g.M.Cursor.left c.loop-entry.merge)
+      (g.M.Cursor.left c.next.new.self) c.loop-entry.invariant.kept
+      c.in_ok-entry.field-0 c.in-Some.entry c.in_ok-entry.ensures.given c.in-Some.is c.pass-winner.ensures.held
+      c.pass-winner.result c.pass-winner.ensures.gives
       (sym c.is_some.ensures ∙ c.if-is_some.false);
   spends =
-      step_spends c.loop-entry.held c.pass-winner.new.held c.in_ok-entry.field-0 c.in-Some.entry _ (g.M.Cursor.budget c.loop-entry.merge) (g.M.Cursor.budget c.next.new.self)
+      step_spends c.loop-entry.held c.pass-winner.new.held c.in_ok-entry.field-0 c.in-Some.entry _
+      (g.M.Cursor.budget c.loop-entry.merge) (g.M.Cursor.budget c.next.new.self)
       c.in-Some.is c.in_ok-entry.ensures.spends c.loop-entry.invariant.spends;
   steady = c.in_ok-entry.ensures.cause ∙ c.loop-entry.invariant.steady;
   fails = λ fault now. c.loop-entry.invariant.fails fault (c.next.ensures.keeps fault now);
@@ -24,6 +29,7 @@ loop-entry-preserved g c = record {
 
 pub returns-clause-given : goal.returns-clause-given
 returns-clause-given g c =
-    step_end c.args.number c.loop-entry.held c.take.new.self _ (g.M.Cursor.left c.loop-entry.merge) (g.M.Cursor.left c.next.new.self) c.loop-entry.invariant.kept
+    step_end c.args.number c.loop-entry.held c.take.new.self _ (g.M.Cursor.left c.loop-entry.merge)
+    (g.M.Cursor.left c.next.new.self) c.loop-entry.invariant.kept
     c.in_ok-entry.field-0 c.only_shown.result c.in_ok-entry.ensures.given c.in_default.is c.take.ensures.after
     (c.only_shown.ensures ∙ ap only_shown c.take.ensures.value)

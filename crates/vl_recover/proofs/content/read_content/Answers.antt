@@ -7,13 +7,15 @@ use Rattle.vl_recover.proofs.content.read_content.Goals as goal
 pub returns-in-None : goal.returns-in-None
 returns-in-None c =
     let none = rw c.in-None.is at c.in_ok-read_next.ensures.none in
-    all_read c.args.format c.args.number c.args.before c.args.bytes.now c.loop-content.rest.now c.loop-content.content c.loop-content.invariant none
+    all_read c.args.format c.args.number c.args.before c.args.bytes.now c.loop-content.rest.now c.loop-content.content
+    c.loop-content.invariant none
 
 pub with_frame-requires : goal.with_frame-requires
 with_frame-requires c =
     let stands = rw c.in-Some.is at c.in_ok-read_next.ensures.found in
     let at = rw c.in-Some.is at c.in_ok-read_next.ensures.place in
-    next_within c.args.format c.args.number c.args.before c.args.bytes.now c.loop-content.rest.now c.loop-content.content c.in-Some.frame c.in-Some.after.now
+    next_within c.args.format c.args.number c.args.before c.args.bytes.now c.loop-content.rest.now
+    c.loop-content.content c.in-Some.frame c.in-Some.after.now
     c.loop-content.invariant c.requires stands at
 
 pub loop-content-smaller : goal.loop-content-smaller
@@ -25,5 +27,6 @@ pub loop-content-preserved : goal.loop-content-preserved
 loop-content-preserved c =
     let stands = rw c.in-Some.is at c.in_ok-read_next.ensures.found in
     let at = rw c.in-Some.is at c.in_ok-read_next.ensures.place in
-    one_read c.args.format c.args.number c.args.before c.args.bytes.now c.loop-content.rest.now c.loop-content.content c.in_ok-content-in-Some.content c.in-Some.frame c.in-Some.after.now
+    one_read c.args.format c.args.number c.args.before c.args.bytes.now c.loop-content.rest.now c.loop-content.content
+    c.in_ok-content-in-Some.content c.in-Some.frame c.in-Some.after.now
     c.loop-content.invariant stands at c.in_ok-content-in-Some.ensures

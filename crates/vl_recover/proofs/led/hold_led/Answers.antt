@@ -49,7 +49,8 @@ loop-number-preserved g c =
     let i = c.loop-number.number-index in
     let number = get_or led i 0 in
     let so = c.loop-number.invariant in
-    let first = then_call g.D.Watched c.args.disk.now c.loop-number.disk c.format_of_log.new.disk ⊥ so.still c.in_ok-format.ensures.no_change in
+    let first = then_call g.D.Watched c.args.disk.now c.loop-number.disk c.format_of_log.new.disk ⊥ so.still
+    c.in_ok-format.ensures.no_change in
     record {
       still = then_call g.D.Watched c.args.disk.now c.format_of_log.new.disk c.hold.new.disk ⊥ first c.in_ok-held.ensures.no_change;
       tested = λ state read told is.
@@ -61,7 +62,8 @@ loop-number-preserved g c =
           let stands : get read (Log number) ≡ Some (file_at state (Log number)).bytes =
           as_read read state (Log number) (file_at state (Log number)).bytes is there refl in
           one_held g.D.Held.HeldFile.bytes read c.args.head led c.loop-number.logs.items c.push.new.self.items
-          (record { number = number; format = c.in_ok-format.format; held = c.in_ok-held.held }) i c.loop-number-test.true c.if-number-head.false
+          (record { number = number; format = c.in_ok-format.format; held = c.in_ok-held.held }) i
+          c.loop-number-test.true c.if-number-head.false
           c.in-Ok.ensures.items (so.held state read told is)
           (held_as_read g.D.Held.HeldFile.bytes read c.args.head led number c.in_ok-format.format c.in_ok-held.held
           (c.in_ok-format.ensures.format state read (so.still.told ∙ told) is)
@@ -76,7 +78,8 @@ returns-clause-answer g c = λ state read told is.
 
 pub returns-clause-held : goal.returns-clause-held
 returns-clause-held g c = λ state read told is.
-    all_held g.D.Held.HeldFile.bytes read c.args.head c.args.led.now c.loop-number.logs.items c.loop-number.number-index c.loop-number-test.false
+    all_held g.D.Held.HeldFile.bytes read c.args.head c.args.led.now c.loop-number.logs.items c.loop-number.number-index
+    c.loop-number-test.false
     (c.loop-number.invariant.held state read told is)
 
 pub returns-in_err-format-clause-answer : goal.returns-in_err-format-clause-answer
@@ -100,21 +103,26 @@ pub returns-in_err-held-clause-at : goal.returns-in_err-held-clause-at
 returns-in_err-held-clause-at g c =
     let name = Log (get_or c.args.led.now c.loop-number.number-index 0) in
     handed_on c.hold.result c.in_err-held.field-0.0 c.from_residual-in_err-held.result (λ (at : Name). at ≡ name)
-    (IsReadLog (g.D.Watched.told c.args.disk.now)) c.in_err-held.was c.from_residual-in_err-held.ensures.0 c.from_residual-in_err-held.ensures.1
+    (IsReadLog (g.D.Watched.told c.args.disk.now)) c.in_err-held.was c.from_residual-in_err-held.ensures.0
+    c.from_residual-in_err-held.ensures.1
     (λ at is. record {
       number = get_or c.args.led.now c.loop-number.number-index 0;
       is = is;
-      stands = λ state told. subst (λ (n : Name). Stands n state) (sym is) (((c.requires.lists state told).all name).0 c.in_ok-format.ensures.named);
+      stands = λ state told. subst (λ (n : Name). Stands n state) (sym is)
+          (((c.requires.lists state told).all name).0 c.in_ok-format.ensures.named);
     })
     c.hold.ensures.at
 
 pub returns-in_err-held-clause-no_change : goal.returns-in_err-held-clause-no_change
 returns-in_err-held-clause-no_change g c =
-    let first = then_call g.D.Watched c.args.disk.now c.loop-number.disk c.format_of_log.new.disk ⊥ c.loop-number.invariant.still c.in_ok-format.ensures.no_change in
+    let first = then_call g.D.Watched c.args.disk.now c.loop-number.disk c.format_of_log.new.disk ⊥
+    c.loop-number.invariant.still c.in_ok-format.ensures.no_change in
     fault_handed g.D.Watched c.args.disk.now c.format_of_log.new.disk c.hold.new.disk first
-    c.in_err-held.field-0.0 c.from_residual-in_err-held.result c.from_residual-in_err-held.ensures.0 c.from_residual-in_err-held.ensures.1 c.in_err-held.ensures.no_change
+    c.in_err-held.field-0.0 c.from_residual-in_err-held.result c.from_residual-in_err-held.ensures.0
+    c.from_residual-in_err-held.ensures.1 c.in_err-held.ensures.no_change
 
 pub returns-in-Err-clause-no_change : goal.returns-in-Err-clause-no_change
 returns-in-Err-clause-no_change g c =
-    let first = then_call g.D.Watched c.args.disk.now c.loop-number.disk c.format_of_log.new.disk ⊥ c.loop-number.invariant.still c.in_ok-format.ensures.no_change in
+    let first = then_call g.D.Watched c.args.disk.now c.loop-number.disk c.format_of_log.new.disk ⊥
+    c.loop-number.invariant.still c.in_ok-format.ensures.no_change in
     no_fault_handed g.D.Watched c.args.disk.now c.format_of_log.new.disk c.hold.new.disk first ⊥ (λ e. e) c.in_ok-held.ensures.no_change

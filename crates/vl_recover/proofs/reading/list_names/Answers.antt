@@ -8,4 +8,5 @@ returns-in-Ok-clause-names g c = λ state told.
     lists_permuted c.in-Ok.names.items c.in_order.result.items state c.in_order.ensures.same (c.in-Ok.ensures.names state told)
 
 pub returns-in-Ok-clause-numbered : goal.returns-in-Ok-clause-numbered
-returns-in-Ok-clause-numbered g c = All-permutation IsNumbered c.in-Ok.names.items c.in_order.result.items c.in_order.ensures.same c.in-Ok.ensures.numbered
+returns-in-Ok-clause-numbered g c = All-permutation IsNumbered c.in-Ok.names.items c.in_order.result.items
+    c.in_order.ensures.same c.in-Ok.ensures.numbered

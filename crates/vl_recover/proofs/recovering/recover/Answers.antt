@@ -7,7 +7,11 @@ use Rattle.vl_recover.specs.repairing.PlanViews.{manifest_of, plan_view}
 use Rattle.vl_recover.specs.opening.FoundTables.{all_found}
 use Rattle.vl_recover.specs.opening.Results.{recovery_by}
 use Rattle.vl_recover.proofs.crash.IntactAfter.{intact_after, intact_throughout}
-use Rattle.vl_recover.proofs.crash.Recovered.{as_long, fault_counted, fault_of, frame_failed, frame_is, goes_on_ready, calls_counted, calls_stopped, none_made, disk_repaired, repaired_again, repaired_faults, repaired_meanwhile, repaired_tells, repaired_through, sealed_held, opened_same, read_faults, refused_disk, still_tells, store_held, unchanged_again, unchanged_meanwhile, unchanged_through}
+use Rattle.vl_recover.proofs.crash.Recovered.{as_long, fault_counted, fault_of, frame_failed, frame_is, goes_on_ready}
+use Rattle.vl_recover.proofs.crash.Recovered.{calls_counted, calls_stopped, none_made, disk_repaired, repaired_again}
+use Rattle.vl_recover.proofs.crash.Recovered.{repaired_faults, repaired_meanwhile, repaired_tells, repaired_through}
+use Rattle.vl_recover.proofs.crash.Recovered.{sealed_held, opened_same, read_faults, refused_disk, still_tells}
+use Rattle.vl_recover.proofs.crash.Recovered.{store_held, unchanged_again, unchanged_meanwhile, unchanged_through}
 use Rattle.vl_recover.proofs.opening.Unmoved.{call_as, no_call, reader_failed, then_call}
 use Rattle.vl_seglog.specs.declared.active.ActiveLog.{ActiveLog}
 use Rattle.vl_recover.proofs.recovering.recover.Goals as goal

@@ -1,5 +1,6 @@
 use Rattle.std.proofs.Common.{arith}
-use Rattle.vl_recover.proofs.repairs.Removals.{can_here, can_next, left_from, none_left, removing_ends, removing_failed, removing_goes_on, removing_stops}
+use Rattle.vl_recover.proofs.repairs.Removals.{can_here, can_next, left_from, none_left, removing_ends}
+use Rattle.vl_recover.proofs.repairs.Removals.{removing_failed, removing_goes_on, removing_stops}
 use Rattle.vl_recover.proofs.repairing.remove_all.Goals as goal
 
 pub remove-requires : goal.remove-requires

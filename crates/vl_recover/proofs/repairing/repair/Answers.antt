@@ -1,6 +1,7 @@
 use Rattle.std.proofs.Common.{ap}
 use Rattle.vl_recover.specs.repairing.PlanViews.{manifest_of}
-use Rattle.vl_recover.proofs.repairs.Repaired.{all_repaired, behind_fits, held_before, create_stops, err_is, frame_behind, frame_made, frame_stops, repairing_fails}
+use Rattle.vl_recover.proofs.repairs.Repaired.{all_repaired, behind_fits, held_before, create_stops, err_is}
+use Rattle.vl_recover.proofs.repairs.Repaired.{frame_behind, frame_made, frame_stops, repairing_fails}
 use Rattle.vl_recover.proofs.repairing.repair.Goals as goal
 
 pub returns-in_err-manifest-clause-repaired : goal.returns-in_err-manifest-clause-repaired

@@ -1,6 +1,7 @@
 use Rattle.vl_recover.specs.repairing.PlanViews.{plan_view}
 use Rattle.vl_recover.specs.repairing.Repairing.{WhileStrays, behind_last, behind_strays}
-use Rattle.vl_recover.proofs.repairs.Repaired.{all_behind, fails_as, last_failed, log_failed, log_stops, passes_as, so_before, strays_failed}
+use Rattle.vl_recover.proofs.repairs.Repaired.{all_behind, fails_as, last_failed, log_failed, log_stops, passes_as}
+use Rattle.vl_recover.proofs.repairs.Repaired.{so_before, strays_failed}
 use Rattle.vl_recover.proofs.repairing.repair_behind.Goals as goal
 
 pub returns-in_err-log-clause-at : goal.returns-in_err-log-clause-at

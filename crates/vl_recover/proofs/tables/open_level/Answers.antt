@@ -10,7 +10,8 @@ use Rattle.vl_recover.specs.opening.Opening.{FoundTable, NamedLevel}
 use Rattle.vl_recover.proofs.opening.FaultNames.{handed_on}
 use Rattle.vl_recover.proofs.opening.HandedCalls.{disk_fault_handed, no_fault_handed}
 use Rattle.vl_recover.proofs.opening.Handing.{as_handed}
-use Rattle.vl_recover.proofs.opening.NamingTables.{AreOpened, all_opened, found_more, held_more, next_refused, no_held, not_next_handed, none_opened, one_opened, table_refused}
+use Rattle.vl_recover.proofs.opening.NamingTables.{AreOpened, all_opened, found_more, held_more, next_refused}
+use Rattle.vl_recover.proofs.opening.NamingTables.{no_held, not_next_handed, none_opened, one_opened, table_refused}
 use Rattle.vl_recover.proofs.opening.Unmoved.{no_call, then_call}
 use Rattle.vl_recover.proofs.tables.open_level.Goals as goal
 
@@ -19,7 +20,8 @@ loop-number-init g c = record {
   still = no_call g.D.Watched c.args.disk.now;
   fresh = c.requires.fresh;
   so_far = λ state read told is.
-      subst (λ (ts : List _). AreOpened read c.args.is_deeper c.args.tables.now (found_list ts) c.args.tables.now) (sym c.new-opened.ensures.items)
+      subst (λ (ts : List _). AreOpened read c.args.is_deeper c.args.tables.now (found_list ts) c.args.tables.now)
+      (sym c.new-opened.ensures.items)
       (none_opened read c.args.is_deeper c.args.tables.now);
   held = λ state read told is.
       subst (AreReadTables g.D.Held.HeldFile.bytes read) (sym c.new-opened.ensures.items) (no_held g.D.Held.HeldFile.bytes read);
@@ -37,11 +39,14 @@ loop-number-preserved g c =
       so_far = λ state read told is.
           subst (λ (ts : List FoundTable). AreOpened read deeper tables ts (drop (i + 1) tables))
           (found_more c.loop-number.opened.items c.in_ok-opened.opened.items c.in_ok-table.table c.in_ok-opened.ensures.more)
-          (one_opened read deeper tables (found_level c.loop-number.opened) (get_or tables i 0) (drop (i + 1) tables) (found_table c.in_ok-table.table)
-          (subst (AreOpened read deeper tables (found_level c.loop-number.opened)) (drop_more tables i 0 c.loop-number-test.true) (so.so_far state read told is))
+          (one_opened read deeper tables (found_level c.loop-number.opened) (get_or tables i 0) (drop (i + 1) tables)
+          (found_table c.in_ok-table.table)
+          (subst (AreOpened read deeper tables (found_level c.loop-number.opened))
+          (drop_more tables i 0 c.loop-number-test.true) (so.so_far state read told is))
           (c.in_ok-table.ensures.answer state read (so.still.told ∙ told) is) c.in_ok-opened.ensures.next);
       held = λ state read told is.
-          held_more g.D.Held.HeldFile.bytes read c.loop-number.opened.items c.in_ok-opened.opened.items c.in_ok-table.table (get_or tables i 0)
+          held_more g.D.Held.HeldFile.bytes read c.loop-number.opened.items c.in_ok-opened.opened.items
+          c.in_ok-table.table (get_or tables i 0)
           c.in_ok-opened.ensures.more (c.in_ok-table.ensures.answer state read (so.still.told ∙ told) is).numbered
           (so.held state read told is) (c.in_ok-table.ensures.held state read (so.still.told ∙ told) is);
     }
@@ -61,7 +66,8 @@ returns-in_err-table-clause-answer g c = λ state read told is.
     as_handed found_level (NamedLevel c.args.is_deeper read _ tables) c.from_residual.result c.in_err-table.field-0.0
     c.from_residual.ensures.0 c.from_residual.ensures.1
     (table_refused read c.args.is_deeper tables (found_level c.loop-number.opened) (get_or tables i 0) (drop (i + 1) tables)
-    (subst (AreOpened read c.args.is_deeper tables (found_level c.loop-number.opened)) (drop_more tables i 0 c.loop-number-test.true) (so.so_far state read told is))
+    (subst (AreOpened read c.args.is_deeper tables (found_level c.loop-number.opened))
+    (drop_more tables i 0 c.loop-number-test.true) (so.so_far state read told is))
     c.in_err-table.field-0.0 (c.in_err-table.ensures.answer state read (so.still.told ∙ told) is))
 
 pub returns-in_err-opened-clause-answer : goal.returns-in_err-opened-clause-answer
@@ -71,8 +77,10 @@ returns-in_err-opened-clause-answer g c = λ state read told is.
     let so = c.loop-number.invariant in
     as_handed found_level (NamedLevel c.args.is_deeper read _ tables) c.from_residual-in_err-opened.result c.in_err-opened.field-0.0
     c.from_residual-in_err-opened.ensures.0 c.from_residual-in_err-opened.ensures.1
-    (next_refused read c.args.is_deeper tables (found_level c.loop-number.opened) (get_or tables i 0) (drop (i + 1) tables) (found_table c.in_ok-table.table)
-    (subst (AreOpened read c.args.is_deeper tables (found_level c.loop-number.opened)) (drop_more tables i 0 c.loop-number-test.true) (so.so_far state read told is))
+    (next_refused read c.args.is_deeper tables (found_level c.loop-number.opened) (get_or tables i 0)
+    (drop (i + 1) tables) (found_table c.in_ok-table.table)
+    (subst (AreOpened read c.args.is_deeper tables (found_level c.loop-number.opened))
+    (drop_more tables i 0 c.loop-number-test.true) (so.so_far state read told is))
     (c.in_ok-table.ensures.answer state read (so.still.told ∙ told) is)
     c.in_err-opened.field-0.0 c.in_err-opened.ensures.next)
 
@@ -91,7 +99,8 @@ pub returns-in_err-opened-clause-no_change : goal.returns-in_err-opened-clause-n
 returns-in_err-opened-clause-no_change g c =
     no_fault_handed g.D.Watched c.args.disk.now c.loop-number.disk c.open_table.new.disk c.loop-number.invariant.still _
     (not_next_handed (last_before c.args.is_deeper (found_level c.loop-number.opened)) (found_table c.in_ok-table.table) _
-    c.in_err-opened.field-0.0 c.from_residual-in_err-opened.result c.from_residual-in_err-opened.ensures.0 c.from_residual-in_err-opened.ensures.1
+    c.in_err-opened.field-0.0 c.from_residual-in_err-opened.result c.from_residual-in_err-opened.ensures.0
+    c.from_residual-in_err-opened.ensures.1
     c.in_err-opened.ensures.next)
     c.in_ok-table.ensures.no_change
 

@@ -1,4 +1,5 @@
-use Rattle.std.proofs.Common.{◌≡◌, ◌+◌, ◌<◌, ℕ, zero, suc, List, [], ◌∷◌, ap, arith, drop, get_or, inl, inr, length, map, refl, subst, sym, ◌∙◌}
+use Rattle.std.proofs.Common.{◌≡◌, ◌+◌, ◌<◌, ℕ, zero, suc, List, [], ◌∷◌, ap, arith, drop, get_or, inl, inr, length}
+use Rattle.std.proofs.Common.{map, refl, subst, sym, ◌∙◌}
 use Rattle.std.specs.Prelude.{Option, None, Ok, Err, true, false}
 use Rattle.std.proofs.lemmas.List.{drop_all, drop_more, length_push}
 use Rattle.vl_disk.specs.DiskState.{DiskState}
@@ -9,14 +10,16 @@ use Rattle.vl_recover.specs.opening.Opening.{FoundTable, IsAmong, IsNamed, Named
 use Rattle.vl_recover.proofs.opening.FaultNames.{handed_on}
 use Rattle.vl_recover.proofs.opening.HandedCalls.{disk_fault_handed, no_fault_handed}
 use Rattle.vl_recover.proofs.opening.Handing.{as_handed, of_stage}
-use Rattle.vl_recover.proofs.opening.NamingTables.{AreLevelsOpened, level_held, level_refused, levels_more, levels_opened, no_held, no_levels, one_level}
+use Rattle.vl_recover.proofs.opening.NamingTables.{AreLevelsOpened, level_held, level_refused, levels_more}
+use Rattle.vl_recover.proofs.opening.NamingTables.{levels_opened, no_held, no_levels, one_level}
 use Rattle.vl_recover.proofs.opening.Unmoved.{no_call, then_call}
 use Rattle.vl_recover.proofs.tables.open_tables.Goals as goal
 
 -- the level that comes next
 next_list : (levels : List (List ℕ)) (i : ℕ) (item ns : List ℕ) → i < length levels → item ≡ get_or levels i item → ns ≡ item
     → drop i levels ≡ ns ∷ drop (i + 1) levels
-next_list levels i item ns inside is same = drop_more levels i item inside ∙ ap (λ (l : List ℕ). l ∷ drop (i + 1) levels) (sym is ∙ sym same)
+next_list levels i item ns inside is same = drop_more levels i item inside
+    ∙ ap (λ (l : List ℕ). l ∷ drop (i + 1) levels) (sym is ∙ sym same)
 
 -- where no level names a table none of them has one
 unnamed_level : (levels : List (List ℕ)) (i : ℕ) (ns : List ℕ) (rest : List (List ℕ)) → drop i levels ≡ ns ∷ rest
@@ -38,7 +41,8 @@ loop-list-init g c =
           subst (λ (ls : List _). AreLevelsOpened read levels (map found_level ls) false levels) (sym c.new-opened.ensures.items)
           (no_levels read levels);
       held = λ state read told is.
-          subst (λ (ls : List _). AreReadTables g.D.Held.HeldFile.bytes read (tables_of ls)) (sym c.new-opened.ensures.items) (no_held g.D.Held.HeldFile.bytes read);
+          subst (λ (ls : List _). AreReadTables g.D.Held.HeldFile.bytes read (tables_of ls))
+          (sym c.new-opened.ensures.items) (no_held g.D.Held.HeldFile.bytes read);
       counted = ap (λ (ls : List _). length ls) c.new-opened.ensures.items;
     }
 
@@ -54,14 +58,16 @@ loop-list-preserved g c =
       so_far = λ state read told is.
           subst (λ (ls : List (List FoundTable)). AreLevelsOpened read levels ls true (drop (i + 1) levels))
           (levels_more c.loop-list.opened.items c.push.new.self.items c.in_ok-tables.tables c.in-Ok.ensures.items)
-          (one_level read levels (all_found c.loop-list.opened) c.loop-list.is_deeper ns (drop (i + 1) levels) (found_level c.in_ok-tables.tables)
+          (one_level read levels (all_found c.loop-list.opened) c.loop-list.is_deeper ns (drop (i + 1) levels)
+          (found_level c.in_ok-tables.tables)
           (subst (AreLevelsOpened read levels (all_found c.loop-list.opened) c.loop-list.is_deeper)
           (next_list levels i c.list-item.result ns c.loop-list-test.true c.list-item.is c.as_slice.ensures) (so.so_far state read told is))
           (c.in_ok-tables.ensures.answer state read (so.still.told ∙ told) is));
       held = λ state read told is.
           level_held g.D.Held.HeldFile.bytes read c.loop-list.opened.items c.push.new.self.items c.in_ok-tables.tables c.in-Ok.ensures.items
           (so.held state read told is) (c.in_ok-tables.ensures.held state read (so.still.told ∙ told) is);
-      counted = ap (λ (ls : List _). length ls) c.in-Ok.ensures.items ∙ length_push c.loop-list.opened.items c.in_ok-tables.tables ∙ ap (λ (n : ℕ). n + 1) so.counted;
+      counted = ap (λ (ls : List _). length ls) c.in-Ok.ensures.items
+          ∙ length_push c.loop-list.opened.items c.in_ok-tables.tables ∙ ap (λ (n : ℕ). n + 1) so.counted;
     }
 
 pub returns-clause-answer : goal.returns-clause-answer

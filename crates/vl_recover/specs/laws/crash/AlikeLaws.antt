@@ -1,6 +1,7 @@
 -- Opening depends on what leads an image, on the tables that are named and the logs that these lead into, and on the logs
 -- from head on.
-use Rattle.std.specs.Prelude.{◌≡◌, ◌≢◌, ◌⊎◌, ◌≤◌, ◌<◌, ℕ, ◌+◌, if◌then◌else◌, List, [], ◌∷◌, None, Some, Result, Ok, Err, refl, true, Bool, false, nat_le, Option}
+use Rattle.std.specs.Prelude.{◌≡◌, ◌≢◌, ◌⊎◌, ◌≤◌, ◌<◌, ℕ, ◌+◌, if◌then◌else◌, List, [], ◌∷◌, None, Some, Result, Ok}
+use Rattle.std.specs.Prelude.{Err, refl, true, Bool, false, nat_le, Option}
 use Rattle.std.specs.FinMap.{get}
 use Rattle.std.proofs.Common.{sym, ap, subst, ◌∙◌, arith, inl, inr, ⊎_elim}
 use Rattle.std.proofs.lemmas.Bool.{cases_eq}
@@ -16,7 +17,10 @@ use Rattle.vl_model.specs.declared.log_frame.LogFrame.{LogFrame}
 use Rattle.vl_recover.specs.crash.Alike.{OpensLike, SameNeeded, SameState, ShowsAs}
 use Rattle.vl_seglog.specs.LogReading.{LogReading, ReadsLog}
 use Rattle.vl_seglog.specs.laws.LogReadingLaws.{one_log_reading}
-use Rattle.vl_recover.specs.opening.Opening.{Bare, FoundTable, Heading, Headless, IsAmong, IsBare, IsHeaded, IsNamed, IsNextLog, Led, NamedLevel, NamedLevels, NamedLogs, NamedTable, NewerFormat, Newest, NotAStore, Opening, Refusal, Says, StandingLogs, key_before, led_into}
+use Rattle.vl_recover.specs.opening.Opening.{Bare, FoundTable, Heading, Headless, IsAmong, IsBare, IsHeaded, IsNamed}
+use Rattle.vl_recover.specs.opening.Opening.{IsNextLog, Led, NamedLevel, NamedLevels, NamedLogs, NamedTable}
+use Rattle.vl_recover.specs.opening.Opening.{NewerFormat, Newest, NotAStore, Opening, Refusal, Says, StandingLogs}
+use Rattle.vl_recover.specs.opening.Opening.{key_before, led_into}
 use Rattle.vl_recover.specs.laws.opening.OpeningLaws.{IsOpened, is_opened, opened, opening_made, some_none, some_same}
 use Rattle.vl_recover.specs.laws.repairing.StageLaws.{ok_with}
 use Rattle.vl_recover.specs.laws.opening.ContentLaws.{SameContent, same_counted, same_filled, walk_more}

@@ -1,6 +1,7 @@
 -- A held store whose last log takes one frame more: what a crash leaves meanwhile, and what the disk holds then. No table
 -- leads into that log.
-use Rattle.std.specs.Prelude.{Bool, ◌≡◌, ◌≢◌, ◌⊎◌, ◌≤◌, ◌<◌, ℕ, ◌+◌, ◌==◌, List, [], ◌∷◌, ◌++◌, length, map, take, Option, None, Some, Result, Ok, Err, refl, true, if◌then◌else◌}
+use Rattle.std.specs.Prelude.{Bool, ◌≡◌, ◌≢◌, ◌⊎◌, ◌≤◌, ◌<◌, ℕ, ◌+◌, ◌==◌, List, [], ◌∷◌, ◌++◌, length, map, take}
+use Rattle.std.specs.Prelude.{Option, None, Some, Result, Ok, Err, refl, true, if◌then◌else◌}
 use Rattle.std.specs.FinMap.{get}
 use Rattle.std.specs.List.{AllByRecursion, sum_by}
 use Rattle.std.specs.Option.{option_map}
@@ -29,7 +30,9 @@ use Rattle.vl_recover.specs.crash.Alike.{IsLeft, Spells}
 use Rattle.vl_recover.specs.laws.crash.AlikeLaws.{log_manifest, log_same}
 use Rattle.vl_recover.specs.opening.Walk.{standing_log}
 use Rattle.vl_recover.specs.crash.Held.{AllSettled, HoldsLogs, HoldsManifest, HoldsStore, IsNowhere, IsSettled, Needs, View}
-use Rattle.vl_recover.specs.laws.opening.HeldLaws.{AreSealed, held_current, held_may_open, held_opens, held_says, left_nowhere, left_settled, may_open_by, needs_image, needs_led, none_removed, settled_may_stand}
+use Rattle.vl_recover.specs.laws.opening.HeldLaws.{AreSealed, held_current, held_may_open, held_opens, held_says}
+use Rattle.vl_recover.specs.laws.opening.HeldLaws.{left_nowhere, left_settled, may_open_by, needs_image, needs_led}
+use Rattle.vl_recover.specs.laws.opening.HeldLaws.{none_removed, settled_may_stand}
 use Rattle.vl_recover.specs.crash.Held.{GoOn, log_as_held, opening_held}
 use Rattle.vl_recover.specs.laws.opening.LeadsLaws.{needs_kept, nowhere_kept, unled_unneeded}
 use Rattle.vl_recover.specs.laws.crash.OneName.{elsewhere_then}
@@ -39,7 +42,8 @@ use Rattle.vl_recover.specs.laws.repairing.StageLaws.{err_ok, ok_same, ok_with}
 use Rattle.vl_recover.specs.crash.Starts.{AllMayStand, AllStay, MayOpen, MayStand}
 use Rattle.vl_recover.specs.opening.Stages.{on_ok}
 use Rattle.vl_recover.specs.laws.crash.TornFrames.{due_as_read, frame_behind, headed_front, torn_log, torn_says}
-use Rattle.vl_recover.specs.opening.Walk.{LogDamage, StandingLog, counted, counted_behind, counted_frame, counted_whole, filled, in_log, walked, walked_on, with_frames}
+use Rattle.vl_recover.specs.opening.Walk.{LogDamage, StandingLog, counted, counted_behind, counted_frame}
+use Rattle.vl_recover.specs.opening.Walk.{counted_whole, filled, in_log, walked, walked_on, with_frames}
 use Rattle.vl_seglog.specs.laws.FrameLaws.{log_bytes-more}
 use Rattle.vl_seglog.specs.Frames.{frames_grammar, log_bytes}
 use Rattle.vl_model.specs.Formats.{log_format}

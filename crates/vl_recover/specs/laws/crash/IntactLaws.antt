@@ -1,5 +1,6 @@
 -- Images that open like an intact one are intact; and what a crash leaves behind an opening opens like what was read.
-use Rattle.std.specs.Prelude.{◌≡◌, ◌⊎◌, ◌≤◌, ℕ, ◌==◌, ◌||◌, zero, suc, if◌then◌else◌, Bool, true, false, bytes_eq, List, [], ◌∷◌, ◌++◌, take, Option, None, Some, Ok, refl}
+use Rattle.std.specs.Prelude.{◌≡◌, ◌⊎◌, ◌≤◌, ℕ, ◌==◌, ◌||◌, zero, suc, if◌then◌else◌, Bool, true, false, bytes_eq}
+use Rattle.std.specs.Prelude.{List, [], ◌∷◌, ◌++◌, take, Option, None, Some, Ok, refl}
 use Rattle.std.specs.FinMap.{get}
 use Rattle.std.specs.List.{AllByRecursion, AllZip}
 use Rattle.std.proofs.Common.{sym, ap, subst, ◌∙◌, arith, inl, inr}
@@ -24,8 +25,10 @@ use Rattle.vl_recover.specs.laws.opening.OpeningLaws.{opened, single_opening}
 use Rattle.vl_recover.specs.laws.repairing.RecoveredLaws.{found_goes_on, found_shows}
 use Rattle.vl_recover.specs.laws.repairing.StageLaws.{ok_same}
 use Rattle.vl_recover.specs.opening.Answers.{Finds, logs_then}
-use Rattle.vl_recover.specs.opening.Intact.{AllResolve, IsIntact, IsTableOf, LeavesIntact, all_tables, entries_of, format_said, image_logs, stored_by, stored_in}
-use Rattle.vl_recover.specs.opening.Opening.{FoundTable, IsAmong, IsNamed, NamedLevel, NamedLevels, Opening, Opens, Refusal, key_before, led_into}
+use Rattle.vl_recover.specs.opening.Intact.{AllResolve, IsIntact, IsTableOf, LeavesIntact, all_tables, entries_of}
+use Rattle.vl_recover.specs.opening.Intact.{format_said, image_logs, stored_by, stored_in}
+use Rattle.vl_recover.specs.opening.Opening.{FoundTable, IsAmong, IsNamed, NamedLevel, NamedLevels, Opening, Opens}
+use Rattle.vl_recover.specs.opening.Opening.{Refusal, key_before, led_into}
 use Rattle.vl_recover.specs.opening.Plans.{new_state}
 use Rattle.vl_seglog.specs.Frames.{log_header}
 use Rattle.vl_seglog.specs.LogReading.{HasHeader, IsLogFormat}
@@ -185,7 +188,14 @@ intact_like image other like intact = by (like intact.opening intact.opens)
       whole = λ n among.
           (let was = subst (λ (l : List (List FoundTable)). IsAmong (led_into l) n) alike.levels among in
           let log = intact.whole n was in
-          record { bytes = log.bytes; stands = needed.logs n was ∙ log.stands; reading = log.reading; reads = log.reads; whole = log.whole });
+          record {
+            bytes = log.bytes;
+            stands = needed.logs n was
+                ∙ log.stands;
+            reading = log.reading;
+            reads = log.reads;
+            whole = log.whole;
+          });
       resolve = resolve_alike p o (image_logs image (led_into p.levels)) intact.tables alike
           (subst (λ (logs : Logs). AllResolve o.number o.state.keep o.state.since logs (entries_of o.logs intact.tables))
           (sym logs_are) intact.resolve);

@@ -21,7 +21,8 @@ use Rattle.vl_recover.specs.laws.crash.AlikeLaws.{log_same}
 use Rattle.vl_recover.specs.laws.crash.AppendLaws.{manifest_kept, needs_beside}
 use Rattle.vl_recover.specs.laws.crash.OneName.{IsPart, Making, done, making, part_empty, part_some, torn, waits}
 use Rattle.vl_recover.specs.laws.crash.Torn.{ended_no_chance}
-use Rattle.vl_recover.specs.laws.opening.HeldLaws.{AreSealed, held_may_open, may_open_by, none_removed, settled_may_all_stand, settled_may_stand}
+use Rattle.vl_recover.specs.laws.opening.HeldLaws.{AreSealed, held_may_open, may_open_by, none_removed}
+use Rattle.vl_recover.specs.laws.opening.HeldLaws.{settled_may_all_stand, settled_may_stand}
 use Rattle.vl_recover.specs.laws.opening.OpeningLaws.{some_none, some_same}
 use Rattle.vl_recover.specs.opening.Opening.{IsAmong, led_into}
 use Rattle.vl_seglog.specs.Frames.{log_header}

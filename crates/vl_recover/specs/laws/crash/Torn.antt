@@ -1,8 +1,10 @@
 -- What bytes say that a crash left of a file that isn't durable.
-use Rattle.std.specs.Prelude.{◌≡◌, ◌⊎◌, ℕ, ◌+◌, ◌-◌, ◌^◌, ◌<◌, ◌≤◌, ◌==◌, min, max, true, false, List, [], ◌∷◌, ◌++◌, length, take, drop, All, Any, Option, None, Some, refl}
+use Rattle.std.specs.Prelude.{◌≡◌, ◌⊎◌, ℕ, ◌+◌, ◌-◌, ◌^◌, ◌<◌, ◌≤◌, ◌==◌, min, max, true, false, List, [], ◌∷◌, ◌++◌}
+use Rattle.std.specs.Prelude.{length, take, drop, All, Any, Option, None, Some, refl}
 use Rattle.std.proofs.Common.{append_assoc, ap, arith, length-append, subst, sym, zero-le, ◌∙◌, ⊎_elim}
 use Rattle.std.proofs.lemmas.Bool.{cases_Bool, cases_lt, true≢false}
-use Rattle.std.proofs.lemmas.List.{append-nil, drop-append-le, drop-drop, drop_all, drop_at, length-take, take-append-drop, take-take, take_all, take_at}
+use Rattle.std.proofs.lemmas.List.{append-nil, drop-append-le, drop-drop, drop_all, drop_at, length-take}
+use Rattle.std.proofs.lemmas.List.{take-append-drop, take-take, take_all, take_at}
 use Rattle.vl_disk.specs.Chance.{HasOnlyHandedOver, NoChanceOne, StandsIn, WasHandedOver, torn_from}
 use Rattle.vl_disk.specs.Crash.{Agrees}
 use Rattle.vl_disk.specs.DiskState.{File, IsLawfulFile, Piece, shortened}

@@ -16,8 +16,10 @@ use Rattle.vl_manifest.specs.Current.{IsCurrent, StandsReadable}
 use Rattle.vl_manifest.specs.laws.ManifestLaws.{says_readable}
 use Rattle.vl_manifest.specs.declared.state.ManifestState.{ManifestState}
 use Rattle.vl_recover.specs.laws.crash.AlikeLaws.{led_logs_kept, levels_kept}
-use Rattle.vl_recover.specs.crash.Held.{AllSettled, DurableAs, GoOn, HoldsLogs, HoldsManifest, HoldsStore, IsNowhere, IsSettled, Needs, View, log_as_held, opening_held}
-use Rattle.vl_recover.specs.opening.Opening.{FoundTable, IsAmong, IsNamed, Led, NamedLevels, NamedLogs, Opening, Opens, Refusal, Says, StandingLogs, led_into}
+use Rattle.vl_recover.specs.crash.Held.{AllSettled, DurableAs, GoOn, HoldsLogs, HoldsManifest, HoldsStore, IsNowhere}
+use Rattle.vl_recover.specs.crash.Held.{IsSettled, Needs, View, log_as_held, opening_held}
+use Rattle.vl_recover.specs.opening.Opening.{FoundTable, IsAmong, IsNamed, Led, NamedLevels, NamedLogs, Opening}
+use Rattle.vl_recover.specs.opening.Opening.{Opens, Refusal, Says, StandingLogs, led_into}
 use Rattle.vl_recover.specs.laws.opening.OpeningLaws.{IsOpened, is_opened, opened, one_heading, single_says, some_none, some_same}
 use Rattle.vl_recover.specs.laws.opening.TablesLaws.{single_levels}
 use Rattle.vl_recover.specs.laws.repairing.StageLaws.{ok_same}

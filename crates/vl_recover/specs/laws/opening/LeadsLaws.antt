@@ -21,7 +21,8 @@ use Rattle.vl_recover.specs.laws.crash.AlikeLaws.{Alike, OpensAs, SameBut, like_
 use Rattle.vl_recover.specs.crash.Held.{DurableAs, HoldsLogs, HoldsManifest, IsNowhere, IsSettled, Needs, View}
 use Rattle.vl_recover.specs.laws.opening.HeldLaws.{held_current, needs_image}
 use Rattle.vl_recover.specs.laws.crash.OneName.{made_elsewhere, made_there}
-use Rattle.vl_recover.specs.opening.Opening.{FoundTable, Heading, IsAmong, IsNamed, Led, NamedLevels, Opening, Refusal, Says, StandingLogs, led_into}
+use Rattle.vl_recover.specs.opening.Opening.{FoundTable, Heading, IsAmong, IsNamed, Led, NamedLevels, Opening}
+use Rattle.vl_recover.specs.opening.Opening.{Refusal, Says, StandingLogs, led_into}
 use Rattle.vl_recover.specs.laws.opening.OpeningLaws.{IsOpened, one_heading, single_says, some_none}
 use Rattle.vl_recover.specs.laws.opening.TablesLaws.{single_levels}
 use Rattle.vl_recover.specs.laws.repairing.StageLaws.{ok_same}

@@ -1,5 +1,6 @@
 -- The logs from head on as they stand on a disk, before and after the last one is repaired.
-use Rattle.std.specs.Prelude.{◌≡◌, ◌≢◌, ◌⊎◌, ℕ, ◌+◌, ◌≤◌, ◌<◌, ◌==◌, Bool, List, [], ◌∷◌, length, Option, None, Some, Result, Ok, Err, if◌then◌else◌, false, true, refl}
+use Rattle.std.specs.Prelude.{◌≡◌, ◌≢◌, ◌⊎◌, ℕ, ◌+◌, ◌≤◌, ◌<◌, ◌==◌, Bool, List, [], ◌∷◌, length, Option, None, Some}
+use Rattle.std.specs.Prelude.{Result, Ok, Err, if◌then◌else◌, false, true, refl}
 use Rattle.std.specs.FinMap.{get}
 use Rattle.std.specs.Option.{option_map}
 use Rattle.std.proofs.Common.{ap, arith, inl, inr, subst, sym, ◌∙◌, ⊎_elim}
@@ -25,7 +26,8 @@ use Rattle.vl_recover.specs.opening.Plans.{log_behind, log_made}
 use Rattle.vl_recover.specs.laws.repairing.StageLaws.{err_ok, ok_apart}
 use Rattle.vl_recover.specs.opening.Stages.{on_ok}
 use Rattle.vl_recover.specs.crash.Starts.{AllMayStand}
-use Rattle.vl_recover.specs.opening.Walk.{StandingLog, content_end, counted_behind, counted_whole, format_of, in_log, keeps_header, walked, walked_on}
+use Rattle.vl_recover.specs.opening.Walk.{StandingLog, content_end, counted_behind, counted_whole, format_of, in_log}
+use Rattle.vl_recover.specs.opening.Walk.{keeps_header, walked, walked_on}
 use Rattle.vl_model.specs.Formats.{log_format}
 use Rattle.vl_seglog.specs.Frames.{log_bytes, log_header}
 use Rattle.vl_seglog.specs.LogReading.{LogReading, ReadsLog}

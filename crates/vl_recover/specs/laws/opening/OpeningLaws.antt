@@ -10,7 +10,10 @@ use Rattle.vl_manifest.specs.laws.ManifestLaws.{one_saying}
 use Rattle.vl_manifest.specs.declared.state.ManifestState.{ManifestState}
 use Rattle.vl_seglog.specs.LogReading.{ReadsLog}
 use Rattle.vl_seglog.specs.laws.LogReadingLaws.{one_log_reading}
-use Rattle.vl_recover.specs.opening.Opening.{Bare, Current, FoundTable, Headless, Heading, IsBare, IsHeaded, IsHeadless, Led, LogsFrom, NamedLevels, NamedLogs, Newest, Opening, Opens, Says, StandingLogs, WithLogs, WithTables, led_into, of_manifest, opening_of}
+use Rattle.vl_recover.specs.opening.Opening.{Bare, Current, FoundTable, Headless, Heading, IsBare, IsHeaded}
+use Rattle.vl_recover.specs.opening.Opening.{IsHeadless, Led, LogsFrom, NamedLevels, NamedLogs, Newest, Opening}
+use Rattle.vl_recover.specs.opening.Opening.{Opens, Says, StandingLogs, WithLogs, WithTables, led_into, of_manifest}
+use Rattle.vl_recover.specs.opening.Opening.{opening_of}
 use Rattle.vl_recover.specs.laws.opening.TablesLaws.{single_levels, single_logs_led}
 use Rattle.vl_recover.specs.laws.repairing.StageLaws.{ok_err, ok_same, single_then}
 use Rattle.vl_recover.specs.opening.Stages.{IsSingle}

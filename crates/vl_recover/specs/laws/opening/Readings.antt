@@ -13,7 +13,8 @@ use Rattle.vl_block.specs.Index.{places}
 use Rattle.vl_block.specs.laws.ListLaws.{one_list}
 use Rattle.vl_block.specs.declared.footer_head.FramePlace.{FramePlace}
 use Rattle.vl_block.specs.declared.index.BlockPlace.{BlockPlace}
-use Rattle.vl_table.specs.Opening.{HasFooter, IsDamaged, IsRead, Said, StandsFilter, StandsFooter, StandsIndex, no_filter, no_footer, no_header, no_index, no_place}
+use Rattle.vl_table.specs.Opening.{HasFooter, IsDamaged, IsRead, Said, StandsFilter, StandsFooter, StandsIndex}
+use Rattle.vl_table.specs.Opening.{no_filter, no_footer, no_header, no_index, no_place}
 use Rattle.vl_table.specs.Begun.{IsBegun, said_place}
 
 -- ---- one reading

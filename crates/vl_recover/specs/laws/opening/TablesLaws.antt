@@ -4,7 +4,9 @@ use Rattle.std.proofs.Common.{sym, ap, subst, ◌∙◌}
 use Rattle.vl_disk.specs.Crash.{Image}
 use Rattle.vl_disk.specs.declared.name.Name.TheVariants.{Table}
 use Rattle.vl_recover.specs.laws.repairing.StageLaws.{single_then}
-use Rattle.vl_recover.specs.opening.Opening.{Damaged, FoundTable, IsAbove, IsBadTable, NamedLevel, NamedLevels, NamedLog, NamedLogs, NamedTable, Refusal, StandsTable, damaged, first_key, key_before, missing, not_above}
+use Rattle.vl_recover.specs.opening.Opening.{Damaged, FoundTable, IsAbove, IsBadTable, NamedLevel, NamedLevels}
+use Rattle.vl_recover.specs.opening.Opening.{NamedLog, NamedLogs, NamedTable, Refusal, StandsTable, damaged}
+use Rattle.vl_recover.specs.opening.Opening.{first_key, key_before, missing, not_above}
 use Rattle.vl_recover.specs.opening.Stages.{AndThen, IsSingle}
 use Rattle.vl_table.specs.Begun.{said_place}
 use Rattle.vl_table.specs.Opening.{IsDamaged, IsRead}

@@ -1,6 +1,7 @@
 -- What becomes of the last log: what a crash leaves meanwhile opens as before, and then it is durable with
 -- its frames and nothing else.
-use Rattle.std.specs.Prelude.{◌≡◌, ◌≢◌, ℕ, ◌+◌, ◌≤◌, ◌<◌, ◌==◌, ◌||◌, Bool, List, [], ◌∷◌, ◌++◌, length, take, All, Option, None, Some, if◌then◌else◌, false, true, refl}
+use Rattle.std.specs.Prelude.{◌≡◌, ◌≢◌, ℕ, ◌+◌, ◌≤◌, ◌<◌, ◌==◌, ◌||◌, Bool, List, [], ◌∷◌, ◌++◌, length, take, All}
+use Rattle.std.specs.Prelude.{Option, None, Some, if◌then◌else◌, false, true, refl}
 use Rattle.std.specs.FinMap.{get}
 use Rattle.std.specs.List.{AllByRecursion}
 use Rattle.std.specs.Option.{option_map}
@@ -13,7 +14,8 @@ use Rattle.vl_disk.specs.Chance.{NoChanceOne}
 use Rattle.vl_disk.specs.Changes.{SameElsewhere, changed_elsewhere, changed_there}
 use Rattle.vl_disk.specs.Crash.{WhileAppending, WhileCutting, WhileSyncing}
 use Rattle.vl_disk.specs.Disk.{IsInside}
-use Rattle.vl_disk.specs.DiskState.{DiskState, File, IsLawfulFile, Piece, appended, cut_to, lengthened, settled, shortened, synced, synced_file, with_file}
+use Rattle.vl_disk.specs.DiskState.{DiskState, File, IsLawfulFile, Piece, appended, cut_to, lengthened, settled}
+use Rattle.vl_disk.specs.DiskState.{shortened, synced, synced_file, with_file}
 use Rattle.vl_disk.specs.declared.name.Name.TheVariants.{Log, Manifest, Table}
 use Rattle.vl_frame.specs.Runs.{HasFrame}
 use Rattle.vl_manifest.specs.declared.state.ManifestState.{ManifestState}
@@ -25,10 +27,12 @@ use Rattle.vl_recover.specs.crash.Held.{IsNowhere, IsSettled, View}
 use Rattle.vl_recover.specs.crash.Starts.{StaysAsItIs}
 use Rattle.vl_recover.specs.laws.opening.LeadsLaws.{Leads, leads_kept, nowhere_kept, settled_kept, unled_unneeded}
 use Rattle.vl_recover.specs.opening.Opening.{IsAmong, led_into}
-use Rattle.vl_recover.specs.repairing.Repairing.{Cut, Headed, Kept, LastLog, Rewritten, WhileHeading, WhileLast, behind_last, headed, repairing_of}
+use Rattle.vl_recover.specs.repairing.Repairing.{Cut, Headed, Kept, LastLog, Rewritten, WhileHeading, WhileLast}
+use Rattle.vl_recover.specs.repairing.Repairing.{behind_last, headed, repairing_of}
 use Rattle.vl_recover.specs.laws.repairing.RepairingSteps.{IsLast, change_step, manifest_log, sync_step}
 use Rattle.vl_recover.specs.laws.crash.OneName.{as_before, as_of_then, elsewhere_then}
-use Rattle.vl_recover.specs.laws.crash.Torn.{LeavesNone, cut_no_chance, leaves_empty, leaves_none, leaves_read, no_reading, ended_no_chance, torn_cut, torn_header, uncut, uncut_chance}
+use Rattle.vl_recover.specs.laws.crash.Torn.{LeavesNone, cut_no_chance, leaves_empty, leaves_none, leaves_read}
+use Rattle.vl_recover.specs.laws.crash.Torn.{no_reading, ended_no_chance, torn_cut, torn_header, uncut, uncut_chance}
 use Rattle.vl_recover.specs.opening.Answers.{last_format}
 use Rattle.vl_recover.specs.opening.Walk.{StandingLog, format_of, has_some, keeps_header}
 use Rattle.vl_seglog.specs.laws.FrameLaws.{length-log_header}

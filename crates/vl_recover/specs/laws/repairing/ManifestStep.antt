@@ -24,8 +24,12 @@ use Rattle.vl_model.specs.Formats.{manifest_format}
 use Rattle.vl_recover.specs.crash.Alike.{IsLeft, OpensAsOf, OpensLike, SameState, Spells}
 use Rattle.vl_recover.specs.crash.Held.{IsNowhere}
 use Rattle.vl_recover.specs.crash.Starts.{AllMayStand}
-use Rattle.vl_recover.specs.laws.crash.AlikeLaws.{SameLead, lead_over, led_kept, like_lead, like_new, log_manifest, manifest_same, no_state, read_same, same_lead, same_state, state_then}
-use Rattle.vl_recover.specs.laws.crash.OneName.{IsLeftOne, Making, as_before, done, left_before, left_each, left_elsewhere, left_one, left_there, making, may_miss, torn, waits, with_left}
+use Rattle.vl_recover.specs.laws.crash.AlikeLaws.{SameLead, lead_over, led_kept, like_lead, like_new, log_manifest}
+use Rattle.vl_recover.specs.laws.crash.AlikeLaws.{manifest_same, no_state, read_same, same_lead, same_state}
+use Rattle.vl_recover.specs.laws.crash.AlikeLaws.{state_then}
+use Rattle.vl_recover.specs.laws.crash.OneName.{IsLeftOne, Making, as_before, done, left_before, left_each}
+use Rattle.vl_recover.specs.laws.crash.OneName.{left_elsewhere, left_one, left_there, making, may_miss, torn, waits}
+use Rattle.vl_recover.specs.laws.crash.OneName.{with_left}
 use Rattle.vl_recover.specs.laws.crash.Torn.{CanWrite, torn_manifest}
 use Rattle.vl_recover.specs.laws.opening.HeldLaws.{left_nowhere}
 use Rattle.vl_recover.specs.laws.opening.OpeningLaws.{IsOpened, one_heading, single_says, some_none, some_same}

@@ -17,7 +17,8 @@ use Rattle.vl_recover.specs.laws.opening.OpeningLaws.{IsOpened, one_standing, op
 use Rattle.vl_recover.specs.opening.Plans.{log_made, new_state}
 use Rattle.vl_recover.specs.laws.repairing.StageLaws.{err_ok, ok_apart, ok_with}
 use Rattle.vl_recover.specs.opening.Stages.{on_ok}
-use Rattle.vl_recover.specs.opening.Walk.{StandingLog, content_end, counted, counted_behind, counted_whole, filled, format_of, in_log, walked, walked_on, with_frames}
+use Rattle.vl_recover.specs.opening.Walk.{StandingLog, content_end, counted, counted_behind, counted_whole, filled}
+use Rattle.vl_recover.specs.opening.Walk.{format_of, in_log, walked, walked_on, with_frames}
 use Rattle.vl_seglog.specs.LogReading.{LogReading}
 
 -- ---- logs that are made whole

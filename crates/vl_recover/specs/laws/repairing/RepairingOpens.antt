@@ -23,10 +23,16 @@ use Rattle.vl_recover.specs.laws.opening.OpeningLaws.{IsOpened}
 use Rattle.vl_recover.specs.opening.Opening.{IsAmong, IsNamed, led_into}
 use Rattle.vl_recover.specs.laws.repairing.LastLaws.{LastStands}
 use Rattle.vl_recover.specs.laws.opening.LeadsLaws.{IsUnneeded, Leads, leads_holds, needs_kept, nowhere_kept}
-use Rattle.vl_recover.specs.laws.opening.LogsLaws.{IsTheLast, MayRepair, StandUpTo, last_kept, last_stands, stand_kept, stand_read, the_last, written_held, written_whole}
-use Rattle.vl_recover.specs.repairing.Repairing.{IsPlan, Plan, WhileRepairing, at_last, at_log, at_manifest, at_strays, repaired, plan_of, with_last, with_log, with_manifest}
-use Rattle.vl_recover.specs.laws.repairing.RepairingStages.{IsBelow, IsFreeFrom, held_settled, settled_is, LastStage, LogStage, SameBelow, below_then, last_stage, log_stage, made_free, spare_below, still_stands}
-use Rattle.vl_recover.specs.laws.repairing.RepairingStart.{Begins, can_write, found_walk, free_unread, log_below, manifest_unneeded, manifests_nowhere, may_as, opened_read, some_file, start_needs}
+use Rattle.vl_recover.specs.laws.opening.LogsLaws.{IsTheLast, MayRepair, StandUpTo, last_kept, last_stands}
+use Rattle.vl_recover.specs.laws.opening.LogsLaws.{stand_kept, stand_read, the_last, written_held, written_whole}
+use Rattle.vl_recover.specs.repairing.Repairing.{IsPlan, Plan, WhileRepairing, at_last, at_log, at_manifest}
+use Rattle.vl_recover.specs.repairing.Repairing.{at_strays, repaired, plan_of, with_last, with_log, with_manifest}
+use Rattle.vl_recover.specs.laws.repairing.RepairingStages.{IsBelow, IsFreeFrom, held_settled, settled_is, LastStage}
+use Rattle.vl_recover.specs.laws.repairing.RepairingStages.{LogStage, SameBelow, below_then, last_stage, log_stage}
+use Rattle.vl_recover.specs.laws.repairing.RepairingStages.{made_free, spare_below, still_stands}
+use Rattle.vl_recover.specs.laws.repairing.RepairingStart.{Begins, can_write, found_walk, free_unread, log_below}
+use Rattle.vl_recover.specs.laws.repairing.RepairingStart.{manifest_unneeded, manifests_nowhere, may_as, opened_read}
+use Rattle.vl_recover.specs.laws.repairing.RepairingStart.{some_file, start_needs}
 use Rattle.vl_recover.specs.laws.repairing.ManifestStep.{manifest_step}
 use Rattle.vl_recover.specs.laws.repairing.RepairingSteps.{table_manifest}
 use Rattle.vl_recover.specs.laws.crash.OneName.{as_of_then, made_elsewhere, made_there}

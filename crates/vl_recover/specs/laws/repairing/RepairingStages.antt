@@ -23,8 +23,10 @@ use Rattle.vl_recover.specs.crash.Starts.{StaysAsItIs}
 use Rattle.vl_recover.specs.opening.Opening.{IsAmong, led_into}
 use Rattle.vl_recover.specs.laws.repairing.LastLaws.{IsLastWritten, LastStands, RepairsLast, last_law}
 use Rattle.vl_recover.specs.laws.opening.LeadsLaws.{Leads, leads_kept, log_added, unled_unneeded}
-use Rattle.vl_recover.specs.laws.opening.LogsLaws.{IsTheLast, StandUpTo, all_written, last_is, last_stands, made_is, repairing_elsewhere, the_last}
-use Rattle.vl_recover.specs.repairing.Repairing.{LastLog, WhileLast, WhileLog, behind_last, behind_log, behind_strays, last_of, repairing_of}
+use Rattle.vl_recover.specs.laws.opening.LogsLaws.{IsTheLast, StandUpTo, all_written, last_is, last_stands, made_is}
+use Rattle.vl_recover.specs.laws.opening.LogsLaws.{repairing_elsewhere, the_last}
+use Rattle.vl_recover.specs.repairing.Repairing.{LastLog, WhileLast, WhileLog, behind_last, behind_log, behind_strays}
+use Rattle.vl_recover.specs.repairing.Repairing.{last_of, repairing_of}
 use Rattle.vl_recover.specs.laws.repairing.RepairingSteps.{log_step, manifest_log}
 use Rattle.vl_recover.specs.laws.crash.OneName.{as_before, made_elsewhere}
 use Rattle.vl_recover.specs.laws.opening.OpeningLaws.{some_none, some_same}

@@ -1,6 +1,7 @@
 -- What is so of the disk on which a repairing begins: its new manifest is above all others, and says what is in range; and
 -- what the store needs is durable.
-use Rattle.std.specs.Prelude.{◌≡◌, ◌≢◌, ◌⊎◌, ℕ, ◌+◌, ◌≤◌, ◌<◌, ◌==◌, Bool, List, [], ◌∷◌, Option, None, Some, Result, Ok, Err, if◌then◌else◌, false, true, refl}
+use Rattle.std.specs.Prelude.{◌≡◌, ◌≢◌, ◌⊎◌, ℕ, ◌+◌, ◌≤◌, ◌<◌, ◌==◌, Bool, List, [], ◌∷◌, Option, None, Some, Result}
+use Rattle.std.specs.Prelude.{Ok, Err, if◌then◌else◌, false, true, refl}
 use Rattle.std.specs.FinMap.{get}
 use Rattle.std.specs.Option.{option_map}
 use Rattle.std.proofs.Common.{ap, arith, inl, inr, subst, sym, ◌∙◌, ⊎_elim}
@@ -28,7 +29,9 @@ use Rattle.vl_recover.specs.crash.Held.{DurableAs, IsNowhere, Needs}
 use Rattle.vl_recover.specs.laws.crash.Torn.{CanWrite}
 use Rattle.vl_recover.specs.laws.opening.LeadsLaws.{IsUnneeded}
 use Rattle.vl_recover.specs.laws.repairing.RepairingSteps.{table_manifest}
-use Rattle.vl_recover.specs.opening.Opening.{Bare, FoundTable, Heading, Headless, IsAmong, IsNamed, Led, NamedLevel, NamedLevels, NamedLogs, NewerFormat, Newest, NotAStore, Refusal, Says, key_before, led_into, of_manifest}
+use Rattle.vl_recover.specs.opening.Opening.{Bare, FoundTable, Heading, Headless, IsAmong, IsNamed, Led, NamedLevel}
+use Rattle.vl_recover.specs.opening.Opening.{NamedLevels, NamedLogs, NewerFormat, Newest, NotAStore, Refusal, Says}
+use Rattle.vl_recover.specs.opening.Opening.{key_before, led_into, of_manifest}
 use Rattle.vl_recover.specs.laws.opening.OpeningLaws.{IsOpened, one_standing, opened, some_none, some_same}
 use Rattle.vl_recover.specs.laws.crash.AlikeLaws.{log_manifest, no_state}
 use Rattle.vl_recover.specs.opening.Plans.{IsGreatest, log_made, new_state, passes}

@@ -21,10 +21,12 @@ use Rattle.vl_recover.specs.laws.opening.ContentLaws.{SameContent, none_each, sa
 use Rattle.vl_recover.specs.crash.Held.{IsNowhere, View}
 use Rattle.vl_recover.specs.laws.opening.HeldLaws.{left_nowhere, needs_image}
 use Rattle.vl_recover.specs.laws.opening.LeadsLaws.{IsUnneeded, Leads, current_kept, leads_image, led_like, led_same}
-use Rattle.vl_recover.specs.laws.crash.OneName.{IsLeftOne, IsPart, Making, WasLeft, as_before, done, left_still, making, may_miss, one_name, part_empty, part_some, torn, waits}
+use Rattle.vl_recover.specs.laws.crash.OneName.{IsLeftOne, IsPart, Making, WasLeft, as_before, done, left_still}
+use Rattle.vl_recover.specs.laws.crash.OneName.{making, may_miss, one_name, part_empty, part_some, torn, waits}
 use Rattle.vl_recover.specs.opening.Opening.{IsAmong, led_into}
 use Rattle.vl_recover.specs.laws.opening.OpeningLaws.{some_none}
-use Rattle.vl_recover.specs.laws.crash.Torn.{Leaves, ReadsFrames, header_reads, leaves_read, no_reading, part_loose, part_synced, torn_header}
+use Rattle.vl_recover.specs.laws.crash.Torn.{Leaves, ReadsFrames, header_reads, leaves_read, no_reading, part_loose}
+use Rattle.vl_recover.specs.laws.crash.Torn.{part_synced, torn_header}
 use Rattle.vl_model.specs.Formats.{log_format}
 use Rattle.vl_seglog.specs.Frames.{log_header}
 use Rattle.vl_seglog.specs.LogReading.{LogReading, ReadsLog}

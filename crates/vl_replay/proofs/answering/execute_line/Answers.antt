@@ -10,7 +10,9 @@ use Rattle.vl_replay.proofs.Runs.Asking.{line_asks}
 use Rattle.vl_replay.proofs.Runs.Ends.{exchange_at-answered}
 use Rattle.vl_replay.proofs.Disk.Halting.{by_disk_still, by_read_still, out_not_by_disk, out_readable}
 use Rattle.vl_replay.proofs.Runs.Extending.{is_told_text}
-use Rattle.vl_replay.proofs.Runs.Texts.{by_damage_still, by_reader_still, carries_nothing, carries_bad, carries_line, kept_without_number, of_ok, ok_not_err, ok_not_out, out_not_by_reader, out_undamaged, same_halt}
+use Rattle.vl_replay.proofs.Runs.Texts.{by_damage_still, by_reader_still, carries_nothing, carries_bad, carries_line}
+use Rattle.vl_replay.proofs.Runs.Texts.{kept_without_number, of_ok, ok_not_err, ok_not_out, out_not_by_reader}
+use Rattle.vl_replay.proofs.Runs.Texts.{out_undamaged, same_halt}
 use Rattle.vl_replay.proofs.answering.execute_line.Goals as goal
 
 pub line-requires : goal.line-requires
@@ -29,22 +31,27 @@ returns-clause-answers g c s stands =
 
 pub returns-in_err-line-clause-carries : goal.returns-in_err-line-clause-carries
 returns-in_err-line-clause-carries g c s stands held =
-    carries_nothing g.D.Watched (record { only_now = g.met.D.Disk.only_now; counts_now = g.met.D.Disk.counts_now }) s c.args.text.now (disk_of c.args.replayer.now) c.from_residual.result c.from_residual.ensures.0 (out_not_by_disk c.from_residual.result c.from_residual.ensures.1) held
+    carries_nothing g.D.Watched (record { only_now = g.met.D.Disk.only_now; counts_now = g.met.D.Disk.counts_now }) s
+    c.args.text.now (disk_of c.args.replayer.now) c.from_residual.result c.from_residual.ensures.0
+    (out_not_by_disk c.from_residual.result c.from_residual.ensures.1) held
 
 pub returns-in_default-clause-carries : goal.returns-in_default-clause-carries
 returns-in_default-clause-carries g c s stands held =
-    carries_bad g.D.Watched (record { only_now = g.met.D.Disk.only_now; counts_now = g.met.D.Disk.counts_now }) s c.args.text.now (disk_of c.args.replayer.now) _ (ap (option_map (exchanged s)) (sym c.in_ok-line.ensures ∙ c.in_default.is)) held
+    carries_bad g.D.Watched (record { only_now = g.met.D.Disk.only_now; counts_now = g.met.D.Disk.counts_now }) s
+    c.args.text.now (disk_of c.args.replayer.now) _ (ap (option_map (exchanged s)) (sym c.in_ok-line.ensures ∙ c.in_default.is)) held
 
 pub returns-in_err-out-clause-carries : goal.returns-in_err-out-clause-carries
 returns-in_err-out-clause-carries g c s stands held =
-    carries_nothing g.D.Watched (record { only_now = g.met.D.Disk.only_now; counts_now = g.met.D.Disk.counts_now }) s c.args.text.now (disk_of c.args.replayer.now) c.from_residual-in_err-out.result c.from_residual-in_err-out.ensures.0
+    carries_nothing g.D.Watched (record { only_now = g.met.D.Disk.only_now; counts_now = g.met.D.Disk.counts_now }) s
+    c.args.text.now (disk_of c.args.replayer.now) c.from_residual-in_err-out.result c.from_residual-in_err-out.ensures.0
     (out_not_by_disk c.from_residual-in_err-out.result c.from_residual-in_err-out.ensures.1) held
 
 pub returns-in_err-answer-clause-carries : goal.returns-in_err-answer-clause-carries
 returns-in_err-answer-clause-carries g c s stands held =
     let residual = c.from_residual-in_err-answer in
     let carried = c.line.ensures.carries c.requires s stands held in
-    carries_line g.D.Watched (record { only_now = g.met.D.Disk.only_now; counts_now = g.met.D.Disk.counts_now }) s c.args.text.now (disk_of c.args.replayer.now) (disk_of c.line.new.self) c.in-Some.line c.line.result residual.result
+    carries_line g.D.Watched (record { only_now = g.met.D.Disk.only_now; counts_now = g.met.D.Disk.counts_now }) s
+    c.args.text.now (disk_of c.args.replayer.now) (disk_of c.line.new.self) c.in-Some.line c.line.result residual.result
     (sym c.in_ok-line.ensures ∙ c.in-Some.is) carried
     (λ ok. absurd (ok_not_err residual.result ok residual.ensures.0))
     (by_disk_still c.line.result residual.result _ c.in_err-answer.was residual.ensures.1)
@@ -56,20 +63,30 @@ returns-in_err-print_answer-clause-carries g c s stands held =
     let residual = c.from_residual-in_err-print_answer in
     let carried = c.line.ensures.carries c.requires s stands held in
     let ok = ap is_ok c.in_ok-answer.was in
-    carries_line g.D.Watched (record { only_now = g.met.D.Disk.only_now; counts_now = g.met.D.Disk.counts_now }) s c.args.text.now (disk_of c.args.replayer.now) (disk_of c.line.new.self) c.in-Some.line c.line.result residual.result
+    carries_line g.D.Watched (record { only_now = g.met.D.Disk.only_now; counts_now = g.met.D.Disk.counts_now }) s
+    c.args.text.now (disk_of c.args.replayer.now) (disk_of c.line.new.self) c.in-Some.line c.line.result residual.result
     (sym c.in_ok-line.ensures ∙ c.in-Some.is) carried
     (λ is_it. absurd (ok_not_err residual.result is_it residual.ensures.0))
     (λ by. absurd (out_not_by_disk residual.result residual.ensures.1 by))
     (λ by. absurd (out_readable residual.result residual.ensures.1 by))
-    (λ out. kept_without_number g.D.Watched (record { only_now = g.met.D.Disk.only_now; counts_now = g.met.D.Disk.counts_now }) s c.args.text.now (disk_of c.args.replayer.now) (disk_of c.line.new.self) c.in-Some.line c.in_ok-answer.answer stands.serves.sound (c.in_ok-answer.ensures.answer s stands)
-    (λ number is_number. ok_not_err c.print_answer.result (c.print_answer.ensures.room number is_number (omega (arith, ap length c.in_ok-out.ensures.items, c.in_ok-out.ensures.capacity))) (ap is_err c.in_err-print_answer.was))
-    (λ is_done. ok_not_err c.print_answer.result (c.print_answer.ensures.room_for_ok is_done (omega (arith, ap length c.in_ok-out.ensures.items, c.in_ok-out.ensures.capacity))) (ap is_err c.in_err-print_answer.was))
+    (λ out. kept_without_number g.D.Watched
+    (record { only_now = g.met.D.Disk.only_now; counts_now = g.met.D.Disk.counts_now }) s c.args.text.now
+    (disk_of c.args.replayer.now) (disk_of c.line.new.self) c.in-Some.line c.in_ok-answer.answer stands.serves.sound
+    (c.in_ok-answer.ensures.answer s stands)
+    (λ number is_number. ok_not_err c.print_answer.result
+    (c.print_answer.ensures.room number is_number
+    (omega (arith, ap length c.in_ok-out.ensures.items, c.in_ok-out.ensures.capacity))) (ap is_err c.in_err-print_answer.was))
+    (λ is_done. ok_not_err c.print_answer.result
+    (c.print_answer.ensures.room_for_ok is_done
+    (omega (arith, ap length c.in_ok-out.ensures.items, c.in_ok-out.ensures.capacity))) (ap is_err c.in_err-print_answer.was))
     (of_ok c.line.result _ ok carried.answered))
 
 pub returns-clause-carries : goal.returns-clause-carries
 returns-clause-carries g c s stands held =
-    carries_line g.D.Watched (record { only_now = g.met.D.Disk.only_now; counts_now = g.met.D.Disk.counts_now }) s c.args.text.now (disk_of c.args.replayer.now) (disk_of c.line.new.self) c.in-Some.line c.line.result _
-    (sym c.in_ok-line.ensures ∙ c.in-Some.is) (c.line.ensures.carries c.requires s stands held) (λ ok. ap is_ok c.in_ok-answer.was) (λ by. absurd by) (λ by. absurd by) (λ out. absurd (ok_not_out _ out))
+    carries_line g.D.Watched (record { only_now = g.met.D.Disk.only_now; counts_now = g.met.D.Disk.counts_now }) s
+    c.args.text.now (disk_of c.args.replayer.now) (disk_of c.line.new.self) c.in-Some.line c.line.result _
+    (sym c.in_ok-line.ensures ∙ c.in-Some.is) (c.line.ensures.carries c.requires s stands held)
+    (λ ok. ap is_ok c.in_ok-answer.was) (λ by. absurd by) (λ by. absurd by) (λ out. absurd (ok_not_out _ out))
 
 pub returns-in_default-clause-reads : goal.returns-in_default-clause-reads
 returns-in_default-clause-reads g c = sym c.in_ok-line.ensures ∙ c.in_default.is
@@ -96,7 +113,8 @@ returns-in_err-answer-clause-readable g c s stands by =
       exchanged s line,
       exchange_at-answered s c.args.text.now line (sym c.in_ok-line.ensures ∙ c.in-Some.is),
       c.line.ensures.sound c.requires s stands
-          (by_read_still c.line.result c.from_residual-in_err-answer.result _ c.in_err-answer.was c.from_residual-in_err-answer.ensures.1 by),
+          (by_read_still c.line.result c.from_residual-in_err-answer.result _ c.in_err-answer.was
+          c.from_residual-in_err-answer.ensures.1 by),
     )
 
 pub returns-in_err-print_answer-clause-readable : goal.returns-in_err-print_answer-clause-readable

@@ -24,7 +24,8 @@ returns-clause-rows g c h read sees so_far =
     c.in_ok-more.ensures.rows h sees ∙ ap (λ (low : List ℕ). rows_under empty h number low [] rows_at_once Up) c.as_slice.ensures
     ∙ rows_are h number row.0 rows_at_once in
     let left : c.pop.new.self.items ≡ take last rows = c.pop.ensures.rest ∙ ap (λ (n : ℕ). take n rows) (omega (arith, long)) in
-    let joined : c.append.new.self.items ≡ take last rows ++ more = c.in_ok-append.ensures.items ∙ ap (λ (rs : List Row). rs ++ more) left in
+    let joined : c.append.new.self.items ≡ take last rows ++ more = c.in_ok-append.ensures.items
+    ∙ ap (λ (rs : List Row). rs ++ more) left in
     subst (λ (n : ℕ). AreRead all c.append.new.self.items n) (sym (c.len-read.ensures ∙ c.in_ok-more.more.ok.0))
     (subst (λ (rs : List Row). AreRead all rs (length more)) (sym joined)
     (next_read all rows more read last row (entries_sorted (contents_at h number)) so_far at long more_is))

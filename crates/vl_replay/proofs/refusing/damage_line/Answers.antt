@@ -8,7 +8,8 @@ use Rattle.vl_replay.proofs.refusing.damage_line.Goals as goal
 
 -- behind the kind: the file's number, and the place
 regrouped : (number place : List ℕ) → number ++ (codes " at " ++ (place ++ (10 ∷ []))) ≡ ((number ++ codes " at ") ++ place) ++ (10 ∷ [])
-regrouped number place = sym (append_assoc (number ++ codes " at ") place (10 ∷ []) ∙ append_assoc number (codes " at ") (place ++ (10 ∷ [])))
+regrouped number place = sym
+    (append_assoc (number ++ codes " at ") place (10 ∷ []) ∙ append_assoc number (codes " at ") (place ++ (10 ∷ [])))
 
 pub returns-in-Log : goal.returns-in-Log
 returns-in-Log c =

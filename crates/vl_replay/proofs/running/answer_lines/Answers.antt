@@ -21,18 +21,26 @@ use Rattle.vl_replay.proofs.running.answer_lines.Goals as goal
 pub returns-in_default-clause-runs : goal.returns-in_default-clause-runs
 returns-in_default-clause-runs g c s input stands told =
     let script = script_of s 0 input in
-    step_apart g.D.Watched (record { only_now = g.met.D.Disk.only_now; counts_now = g.met.D.Disk.counts_now }) IsStored Shown IsStopped shown_stays stored_exactly script
-    (outside g.S.Source g.K.Sink c.args.source.now c.args.sink.now (disk_of c.args.replayer)) (outside g.S.Source g.K.Sink c.args.source.now c.finish.new.sink c.close.result)
-    ⊥ (λ never. absurd never) c.finish.result (line_leaves_disk g.K.Sink _ _ _ NoMemory c.finish.result (λ e. cc, λ e. cc) c.finish.ensures) c.close.ensures
-    (finished g.K.Sink c.args.sink.now c.finish.new.sink (Evidence ⊥ ⊥) script (g.S.Source.left c.args.source.now) NoMemory c.finish.result no_memory_line refl tt c.finish.ensures)
+    step_apart g.D.Watched (record { only_now = g.met.D.Disk.only_now; counts_now = g.met.D.Disk.counts_now }) IsStored
+    Shown IsStopped shown_stays stored_exactly script
+    (outside g.S.Source g.K.Sink c.args.source.now c.args.sink.now (disk_of c.args.replayer))
+    (outside g.S.Source g.K.Sink c.args.source.now c.finish.new.sink c.close.result)
+    ⊥ (λ never. absurd never) c.finish.result
+    (line_leaves_disk g.K.Sink _ _ _ NoMemory c.finish.result (λ e. cc, λ e. cc) c.finish.ensures) c.close.ensures
+    (finished g.K.Sink c.args.sink.now c.finish.new.sink (Evidence ⊥ ⊥) script (g.S.Source.left c.args.source.now)
+    NoMemory c.finish.result no_memory_line refl tt c.finish.ensures)
     (keeps_up_at_first input (g.S.Source.asked c.args.source.now) (g.met.S.Source.since_asked c.args.source.now input told))
 
 pub lines-init : goal.lines-init
 lines-init g c = record {
   under_way = λ s input stands told.
       let begin = outside g.S.Source g.K.Sink c.args.source.now c.args.sink.now (disk_of c.args.replayer) in
-      subst (λ (b : List ℕ). UnderWay g.D.Watched IsStored Shown (script_of s 0 input) begin begin (kept (StandsFor g.D.Watched g.D.Writer.Writer g.D.Held.HeldFile.bytes c.args.replayer) b 0)) (sym c.in-Ok.ensures)
-      (begun g.D.Watched (record { only_now = g.met.D.Disk.only_now; counts_now = g.met.D.Disk.counts_now }) IsStored Shown IsStopped shown_stays stored_exactly s input begin (StandsFor g.D.Watched g.D.Writer.Writer g.D.Held.HeldFile.bytes c.args.replayer) stands told (g.met.S.Source.since_asked c.args.source.now));
+      subst (λ (b : List ℕ). UnderWay g.D.Watched IsStored Shown (script_of s 0 input) begin begin
+      (kept (StandsFor g.D.Watched g.D.Writer.Writer g.D.Held.HeldFile.bytes c.args.replayer) b 0)) (sym c.in-Ok.ensures)
+      (begun g.D.Watched (record { only_now = g.met.D.Disk.only_now; counts_now = g.met.D.Disk.counts_now }) IsStored
+      Shown IsStopped shown_stays stored_exactly s input begin
+      (StandsFor g.D.Watched g.D.Writer.Writer g.D.Held.HeldFile.bytes c.args.replayer) stands told
+      (g.met.S.Source.since_asked c.args.source.now));
   has_read = λ input told.
       let begin = streams g.S.Source g.K.Sink c.args.source.now c.args.sink.now in
       subst (λ (b : List ℕ). HasRead input begin begin b 0) (sym c.in-Ok.ensures)
@@ -49,11 +57,18 @@ pub lines-preserved : goal.lines-preserved
 lines-preserved g c = record {
   under_way = λ s input stands told.
       let u = c.lines.invariant.under_way s input stands told in
-      further g.D.Watched (record { only_now = g.met.D.Disk.only_now; counts_now = g.met.D.Disk.counts_now }) IsStored Shown IsStopped shown_stays stored_exactly s input
-      (outside g.S.Source g.K.Sink c.args.source.now c.args.sink.now (disk_of c.args.replayer)) (outside g.S.Source g.K.Sink c.lines.source c.lines.sink (disk_of c.lines.progress.replayer)) (outside g.S.Source g.K.Sink c.step.new.source c.step.new.sink (disk_of c.step.new.self.replayer))
-      (kept (StandsFor g.D.Watched g.D.Writer.Writer g.D.Held.HeldFile.bytes c.lines.progress.replayer) c.lines.progress.buffer c.lines.progress.answered) (kept (StandsFor g.D.Watched g.D.Writer.Writer g.D.Held.HeldFile.bytes c.step.new.self.replayer) c.step.new.self.buffer c.step.new.self.answered) u
+      further g.D.Watched (record { only_now = g.met.D.Disk.only_now; counts_now = g.met.D.Disk.counts_now }) IsStored
+      Shown IsStopped shown_stays stored_exactly s input
+      (outside g.S.Source g.K.Sink c.args.source.now c.args.sink.now (disk_of c.args.replayer))
+      (outside g.S.Source g.K.Sink c.lines.source c.lines.sink (disk_of c.lines.progress.replayer))
+      (outside g.S.Source g.K.Sink c.step.new.source c.step.new.sink (disk_of c.step.new.self.replayer))
+      (kept (StandsFor g.D.Watched g.D.Writer.Writer g.D.Held.HeldFile.bytes c.lines.progress.replayer)
+      c.lines.progress.buffer c.lines.progress.answered)
+      (kept (StandsFor g.D.Watched g.D.Writer.Writer g.D.Held.HeldFile.bytes c.step.new.self.replayer)
+      c.step.new.self.buffer c.step.new.self.answered) u
       (c.in_default-step.ensures.runs u.rest u.to_do);
-  has_read = λ input told. c.in_default-step.ensures.reads input (streams g.S.Source g.K.Sink c.args.source.now c.args.sink.now) (c.lines.invariant.has_read input told);
+  has_read = λ input told. c.in_default-step.ensures.reads input
+      (streams g.S.Source g.K.Sink c.args.source.now c.args.sink.now) (c.lines.invariant.has_read input told);
   stands = λ s stands. let now = c.lines.invariant.stands s stands in c.in_default-step.ensures.stands now.0 now.1 refl;
   source_steady = c.in_default-step.ensures.source_faults.steady (λ e. cc) (λ e. cc) ∙ c.lines.invariant.source_steady;
   sink_steady = c.in_default-step.ensures.sink_faults.steady (λ e. cc) (λ e. cc) ∙ c.lines.invariant.sink_steady;
@@ -67,19 +82,30 @@ returns-in-Some-clause-runs g c s input stands told =
     let u = c.lines.invariant.under_way s input stands told in
     let same = c.lines.invariant.source_steady in
     let same_disk = c.lines.invariant.disk_steady in
-    rw c.close-in-Some.ensures (over g.D.Watched (record { only_now = g.met.D.Disk.only_now; counts_now = g.met.D.Disk.counts_now }) IsStored Shown IsStopped shown_stays stored_exactly s input
-    (outside g.S.Source g.K.Sink c.args.source.now c.args.sink.now (disk_of c.args.replayer)) (outside g.S.Source g.K.Sink c.lines.source c.lines.sink (disk_of c.lines.progress.replayer)) (outside g.S.Source g.K.Sink c.step.new.source c.step.new.sink (disk_of c.step.new.self.replayer))
-    (kept (StandsFor g.D.Watched g.D.Writer.Writer g.D.Held.HeldFile.bytes c.lines.progress.replayer) c.lines.progress.buffer c.lines.progress.answered) (kept (StandsFor g.D.Watched g.D.Writer.Writer g.D.Held.HeldFile.bytes c.step.new.self.replayer) c.step.new.self.buffer c.step.new.self.answered) u
+    rw c.close-in-Some.ensures
+    (over g.D.Watched (record { only_now = g.met.D.Disk.only_now; counts_now = g.met.D.Disk.counts_now }) IsStored
+    Shown IsStopped shown_stays stored_exactly s input
+    (outside g.S.Source g.K.Sink c.args.source.now c.args.sink.now (disk_of c.args.replayer))
+    (outside g.S.Source g.K.Sink c.lines.source c.lines.sink (disk_of c.lines.progress.replayer))
+    (outside g.S.Source g.K.Sink c.step.new.source c.step.new.sink (disk_of c.step.new.self.replayer))
+    (kept (StandsFor g.D.Watched g.D.Writer.Writer g.D.Held.HeldFile.bytes c.lines.progress.replayer)
+    c.lines.progress.buffer c.lines.progress.answered)
+    (kept (StandsFor g.D.Watched g.D.Writer.Writer g.D.Held.HeldFile.bytes c.step.new.self.replayer)
+    c.step.new.self.buffer c.step.new.self.answered) u
     c.in-Some.ending (omega arith) same_disk (c.in-Some.ensures.runs u.rest u.to_do))
 
 pub returns-in_default-clause-input : goal.returns-in_default-clause-input
 returns-in_default-clause-input g c input told =
-    let other = finished_otherwise g.K.Sink c.args.sink.now c.finish.new.sink no_memory_line NoMemory c.finish.result (λ e. cc, λ e. cc, λ name place e. cc, λ e. cc) c.finish.ensures in
-    reads_nothing input (streams g.S.Source g.K.Sink c.args.source.now c.args.sink.now) (streams g.S.Source g.K.Sink c.args.source.now c.finish.new.sink) c.finish.result (c.finish.ensures.printed, c.finish.ensures.taken) other
+    let other = finished_otherwise g.K.Sink c.args.sink.now c.finish.new.sink no_memory_line NoMemory c.finish.result
+    (λ e. cc, λ e. cc, λ name place e. cc, λ e. cc) c.finish.ensures in
+    reads_nothing input (streams g.S.Source g.K.Sink c.args.source.now c.args.sink.now)
+    (streams g.S.Source g.K.Sink c.args.source.now c.finish.new.sink) c.finish.result
+    (c.finish.ensures.printed, c.finish.ensures.taken) other
     (keeps_up_at_first input (g.S.Source.asked c.args.source.now) (g.met.S.Source.since_asked c.args.source.now input told))
 
 pub returns-in-Some-clause-input : goal.returns-in-Some-clause-input
-returns-in-Some-clause-input g c input told = c.in-Some.ensures.reads input (streams g.S.Source g.K.Sink c.args.source.now c.args.sink.now) (c.lines.invariant.has_read input told)
+returns-in-Some-clause-input g c input told = c.in-Some.ensures.reads input
+    (streams g.S.Source g.K.Sink c.args.source.now c.args.sink.now) (c.lines.invariant.has_read input told)
 
 -- ---- the faults that are counted, and the measure
 
@@ -102,7 +128,8 @@ pub returns-in_default-clause-as_meant : goal.returns-in_default-clause-as_meant
 returns-in_default-clause-as_meant g c = otherwise_as g.K.Sink _ _ _ NoMemory c.finish.result c.args.on_fault (λ e. cc) c.finish.ensures
 
 pub returns-in-Some-clause-as_meant : goal.returns-in-Some-clause-as_meant
-returns-in-Some-clause-as_meant g c = subst (λ (f : OnFault). EndsAs f (Some c.in-Some.ending)) c.lines.invariant.mode c.in-Some.ensures.as_meant
+returns-in-Some-clause-as_meant g c = subst (λ (f : OnFault). EndsAs f (Some c.in-Some.ending)) c.lines.invariant.mode
+    c.in-Some.ensures.as_meant
 
 -- ---- which reader failed
 
@@ -121,4 +148,5 @@ pub returns-in_default-clause-still_told : goal.returns-in_default-clause-still_
 returns-in_default-clause-still_told g c left told = (left, told)
 
 pub returns-in-Some-clause-still_told : goal.returns-in-Some-clause-still_told
-returns-in-Some-clause-still_told g c left told = let h = c.lines.invariant.has_read left told in c.in-Some.ensures.still_told h.rest h.left_is
+returns-in-Some-clause-still_told g c left told = let h = c.lines.invariant.has_read left told
+    in c.in-Some.ensures.still_told h.rest h.left_is

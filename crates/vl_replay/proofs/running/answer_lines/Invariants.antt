@@ -14,11 +14,16 @@ invariant-lines g l =
     let begin = outside g.S.Source g.K.Sink l.fn.source l.fn.sink (disk_of l.fn.replayer) in
     let now = outside g.S.Source g.K.Sink l.source l.sink (disk_of l.progress.replayer) in
     record {
-      under_way : (s : State) (input : List ℕ) → StandsFor g.D.Watched g.D.Writer.Writer g.D.Held.HeldFile.bytes l.fn.replayer s → begin.left ≡ Some input
-          → UnderWay g.D.Watched IsStored Shown (script_of s 0 input) begin now (kept (StandsFor g.D.Watched g.D.Writer.Writer g.D.Held.HeldFile.bytes l.progress.replayer) l.progress.buffer l.progress.answered);
+      under_way : (s : State) (input : List ℕ) → StandsFor g.D.Watched g.D.Writer.Writer g.D.Held.HeldFile.bytes
+          l.fn.replayer s → begin.left ≡ Some input
+          → UnderWay g.D.Watched IsStored Shown (script_of s 0 input) begin now
+          (kept (StandsFor g.D.Watched g.D.Writer.Writer g.D.Held.HeldFile.bytes l.progress.replayer)
+          l.progress.buffer l.progress.answered);
       has_read : (input : List ℕ) → begin.left ≡ Some input
-          → HasRead input (streams g.S.Source g.K.Sink l.fn.source l.fn.sink) (streams g.S.Source g.K.Sink l.source l.sink) l.progress.buffer l.progress.answered;
-      stands : (s : State) → StandsFor g.D.Watched g.D.Writer.Writer g.D.Held.HeldFile.bytes l.fn.replayer s → (t : State) × StandsFor g.D.Watched g.D.Writer.Writer g.D.Held.HeldFile.bytes l.progress.replayer t;
+          → HasRead input (streams g.S.Source g.K.Sink l.fn.source l.fn.sink)
+          (streams g.S.Source g.K.Sink l.source l.sink) l.progress.buffer l.progress.answered;
+      stands : (s : State) → StandsFor g.D.Watched g.D.Writer.Writer g.D.Held.HeldFile.bytes l.fn.replayer s
+          → (t : State) × StandsFor g.D.Watched g.D.Writer.Writer g.D.Held.HeldFile.bytes l.progress.replayer t;
       source_steady : g.S.Source.faults l.source ≡ g.S.Source.faults l.fn.source;
       sink_steady : g.K.Sink.faults l.sink ≡ g.K.Sink.faults l.fn.sink;
       disk_steady : g.D.Watched.faults (disk_of l.progress.replayer) ≡ g.D.Watched.faults (disk_of l.fn.replayer);

@@ -15,7 +15,8 @@ returns-clause-opened c =
     let none = c.new.ensures.calls in
     let begins = starts c.args.stop disk empty_is stops none in
     let opens = c.new-2.ensures in
-    opened c.args.stop disk empty_is stops none _ c.new-2.result (steady_readers _ (λ reader. refl) c.new-2.result) opens.cause (opens.meanwhile empty_disk empty (told c.args.stop disk empty_is stops none) bare_read) writing.ghosts all_told
+    opened c.args.stop disk empty_is stops none _ c.new-2.result (steady_readers _ (λ reader. refl) c.new-2.result)
+    opens.cause (opens.meanwhile empty_disk empty (told c.args.stop disk empty_is stops none) bare_read) writing.ghosts all_told
     (opens.store begun begins)
     (opens.holds begun begins refl)
 
@@ -28,6 +29,7 @@ returns-clause-stopped c =
     let begins = starts c.args.stop disk empty_is stops none in
     let here = told c.args.stop disk empty_is stops none in
     let opens = c.new-2.ensures in
-    stopped c.args.stop disk empty_is stops none _ c.new-2.result (steady_readers _ (λ reader. refl) c.new-2.result) opens.cause (opens.meanwhile empty_disk empty here bare_read)
+    stopped c.args.stop disk empty_is stops none _ c.new-2.result (steady_readers _ (λ reader. refl) c.new-2.result)
+    opens.cause (opens.meanwhile empty_disk empty here bare_read)
     (opens.answer empty_disk empty here bare_read)
     (opens.at_most begun begins (counts_small c.args.stop disk empty_is stops none))

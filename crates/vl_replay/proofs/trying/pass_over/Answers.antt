@@ -10,7 +10,12 @@ loop-init g c = record { told = λ had is. (had, is); steady = refl }
 pub returns-in_err-next-clause-cause : goal.returns-in_err-next-clause-cause
 returns-in_err-next-clause-cause g c =
     subst (λ (n : ℕ). HasCause n (g.S.Source.faults c.next.new.self) (IsErr c.from_residual.result)) c.loop.invariant.steady
-    (record { later = c.next.ensures.cause.later; rose = λ _. c.in_err-next.ensures.cause.rose refl; steady = λ fine. absurd (fine c.from_residual.ensures.0) })
+    (record {
+      later = c.next.ensures.cause.later;
+      rose = λ _. c.in_err-next.ensures.cause.rose refl;
+      steady = λ fine.
+          absurd (fine c.from_residual.ensures.0);
+    })
 
 pub loop-smaller : goal.loop-smaller
 loop-smaller g c = omega (arith, c.in_ok-next.ensures.spends, c.if-branch-gt0.true)
@@ -32,7 +37,12 @@ returns-clause-left g c rest told =
 pub returns-clause-cause : goal.returns-clause-cause
 returns-clause-cause g c =
     subst (λ (n : ℕ). HasCause n (g.S.Source.faults c.next.new.self) (false ≡ true)) c.loop.invariant.steady
-    (record { later = c.next.ensures.cause.later; rose = λ failed. absurd (not_failed failed); steady = λ fine. c.in_ok-next.ensures.cause.steady (λ e. cc) })
+    (record {
+      later = c.next.ensures.cause.later;
+      rose = λ failed. absurd (not_failed failed);
+      steady = λ fine.
+          c.in_ok-next.ensures.cause.steady (λ e. cc);
+    })
   where
     not_failed : false ≡ true → ⊥
     not_failed e = cc

@@ -37,14 +37,17 @@ returns-in-Ok-clause-comes g c input told =
 
 pub returns-then-is_fault-clause-comes : goal.returns-then-is_fault-clause-comes
 returns-then-is_fault-clause-comes g c input told =
-    let stops = stops_by_fault c.args.stop c.in-Err.field-0.disk c.in-Err.field-0.why (c.is_fault.ensures.0 c.if-is_fault.true) c.in-Err.ensures.stopped in
+    let stops = stops_by_fault c.args.stop c.in-Err.field-0.disk c.in-Err.field-0.why
+    (c.is_fault.ensures.0 c.if-is_fault.true) c.in-Err.ensures.stopped in
     stopped_opening c.args.stop input c.in-Err.field-0.disk _ _ stops.0 stops.1 input told
 
 pub returns-else-is_fault-clause-comes : goal.returns-else-is_fault-clause-comes
 returns-else-is_fault-clause-comes g c input told =
     comes_nowhere g.K.Sink c.args.sink.now c.end_unopened-ending.new.sink c.end_unopened-ending.result
-    (memory_line g.K.Sink c.args.sink.now c.end_unopened-ending.new.sink c.in-Err.field-0.why c.end_unopened-ending.result c.end_unopened-ending.ensures
-    (stops_by_memory c.args.stop c.in-Err.field-0.disk c.in-Err.field-0.why (λ by. not_both (sym (c.is_fault.ensures.1 by) ∙ c.if-is_fault.false)) c.in-Err.ensures.stopped))
+    (memory_line g.K.Sink c.args.sink.now c.end_unopened-ending.new.sink c.in-Err.field-0.why
+    c.end_unopened-ending.result c.end_unopened-ending.ensures
+    (stops_by_memory c.args.stop c.in-Err.field-0.disk c.in-Err.field-0.why
+    (λ by. not_both (sym (c.is_fault.ensures.1 by) ∙ c.if-is_fault.false)) c.in-Err.ensures.stopped))
     (trial_of c.args.stop input) _ c.in-Err.field-0.disk
 
 -- ---- no read of the store fails
@@ -58,5 +61,6 @@ returns-then-is_fault-clause-no_read_fault g c e = cc
 
 pub returns-else-is_fault-clause-no_read_fault : goal.returns-else-is_fault-clause-no_read_fault
 returns-else-is_fault-clause-no_read_fault g c =
-    of_ended g.K.Sink c.args.sink.now c.end_unopened-ending.new.sink c.in-Err.field-0.why c.end_unopened-ending.result (λ (e : Ending). e ≢ ReaderFault)
+    of_ended g.K.Sink c.args.sink.now c.end_unopened-ending.new.sink c.in-Err.field-0.why c.end_unopened-ending.result
+    (λ (e : Ending). e ≢ ReaderFault)
     c.end_unopened-ending.ensures (λ how. of_unopened (λ (e : Ending). e ≢ ReaderFault) (λ refusal e. cc) (λ e. cc) (λ e. cc) how) (λ e. cc)

@@ -17,22 +17,29 @@ pub returns-then-is_complete-clause-ends : goal.returns-then-is_complete-clause-
 returns-then-is_complete-clause-ends g c input told =
     let ran = c.run_to_stop-ending in
     let is = c.is_complete.ensures.0 c.if-is_complete.true in
-    let (reaches, all, tried) = subst (λ (e : Ending). ComesTo (trial_of c.args.stop input) (g.K.Sink.held c.args.sink.now) (g.K.Sink.held ran.new.sink) (g.S.Source.left ran.new.source) ran.result.disk e)
+    let (reaches, all, tried) = subst
+    (λ (e : Ending). ComesTo (trial_of c.args.stop input) (g.K.Sink.held c.args.sink.now) (g.K.Sink.held ran.new.sink)
+    (g.S.Source.left ran.new.source) ran.result.disk e)
     is (ran.ensures.comes input told) in
-    ends_reopened (trial_of c.args.stop input c.args.outcome) _ _ (tried.taken c.args.outcome) g.K.Sink ran.new.sink c.reopen.new.sink refl _ c.reopen.result
+    ends_reopened (trial_of c.args.stop input c.args.outcome) _ _ (tried.taken c.args.outcome) g.K.Sink ran.new.sink
+    c.reopen.new.sink refl _ c.reopen.result
     (reaches c.args.outcome) all (c.reopen.ensures.reopens _ (tried.leaves c.args.outcome))
 
 pub returns-then-has_stopped-clause-ends : goal.returns-then-has_stopped-clause-ends
 returns-then-has_stopped-clause-ends g c input told =
     let ran = c.run_to_stop-ending in
     let is = c.has_stopped.ensures.0 c.if-has_stopped.true in
-    let (meets, (rest, left), tried) = subst (λ (e : Ending). ComesTo (trial_of c.args.stop input) (g.K.Sink.held c.args.sink.now) (g.K.Sink.held ran.new.sink) (g.S.Source.left ran.new.source) ran.result.disk e)
+    let (meets, (rest, left), tried) = subst
+    (λ (e : Ending). ComesTo (trial_of c.args.stop input) (g.K.Sink.held c.args.sink.now) (g.K.Sink.held ran.new.sink)
+    (g.S.Source.left ran.new.source) ran.result.disk e)
     is (ran.ensures.comes input told) in
     let t = trial_of c.args.stop input c.args.outcome in
     let s = reopened_state t in
     ⊎_elim
-    (λ (all : (g.S.Source.left c.pass_and_reopen.new.source ≡ Some []) × ReopensAs g.K.Sink (history_of s) (last_number (history_of s)) ran.new.sink c.pass_and_reopen.new.sink c.pass_and_reopen.result).
-    ends_reopened t _ _ (tried.taken c.args.outcome) g.K.Sink ran.new.sink c.pass_and_reopen.new.sink refl _ c.pass_and_reopen.result (inl (meets c.args.outcome)) all.0 all.1)
+    (λ (all : (g.S.Source.left c.pass_and_reopen.new.source ≡ Some [])
+    × ReopensAs g.K.Sink (history_of s) (last_number (history_of s)) ran.new.sink c.pass_and_reopen.new.sink c.pass_and_reopen.result).
+    ends_reopened t _ _ (tried.taken c.args.outcome) g.K.Sink ran.new.sink c.pass_and_reopen.new.sink refl _
+    c.pass_and_reopen.result (inl (meets c.args.outcome)) all.0 all.1)
     (λ (failed : Finishes g.K.Sink ran.new.sink c.pass_and_reopen.new.sink read_fault_line ReadFault c.pass_and_reopen.result).
     ends_source t _ _ (tried.taken c.args.outcome) g.K.Sink ran.new.sink c.pass_and_reopen.new.sink refl _ c.pass_and_reopen.result failed)
     (c.pass_and_reopen.ensures.reopens rest (history_of s) left (tried.leaves c.args.outcome))

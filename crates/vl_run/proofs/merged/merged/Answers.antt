@@ -19,7 +19,8 @@ steps-preserved-in-Less c =
       merges =
           subst (λ l. Merges newer older l (c.steps.i + 1) c.steps.j)
           (sym (c.in_ok-push-in-Less.ensures.items ∙ ap (λ e. both ++ e ∷ []) c.in_ok-share-in-Less.ensures))
-          (takes_newer newer older both c.steps.i c.steps.j a b c.requires.newer c.requires.older at_a at_b c.steps.invariant.merges (sym c.entry_order.ensures ∙ c.in-Less.is));
+          (takes_newer newer older both c.steps.i c.steps.j a b c.requires.newer c.requires.older at_a at_b
+          c.steps.invariant.merges (sym c.entry_order.ensures ∙ c.in-Less.is));
     }
 
 pub steps-preserved-in-Equal : goal.steps-preserved-in-Equal
@@ -37,7 +38,8 @@ steps-preserved-in-Equal c =
       merges =
           subst (λ l. Merges newer older l (c.steps.i + 1) (c.steps.j + 1))
           (sym (c.in_ok-push-in-Equal.ensures.items ∙ ap (λ e. both ++ e ∷ []) c.in_ok-share-in-Equal.ensures))
-          (takes_both newer older both c.steps.i c.steps.j a b c.requires.newer c.requires.older at_a at_b c.steps.invariant.merges (sym c.entry_order.ensures ∙ c.in-Equal.is));
+          (takes_both newer older both c.steps.i c.steps.j a b c.requires.newer c.requires.older at_a at_b
+          c.steps.invariant.merges (sym c.entry_order.ensures ∙ c.in-Equal.is));
     }
 
 pub steps-preserved : goal.steps-preserved
@@ -55,7 +57,8 @@ steps-preserved c =
       merges =
           subst (λ l. Merges newer older l c.steps.i (c.steps.j + 1))
           (sym (c.in_ok-push-in-Greater.ensures.items ∙ ap (λ e. both ++ e ∷ []) c.in_ok-share-in-Greater.ensures))
-          (takes_older newer older both c.steps.i c.steps.j a b c.requires.newer c.requires.older at_a at_b c.steps.invariant.merges (sym c.entry_order.ensures ∙ c.in-Greater.is));
+          (takes_older newer older both c.steps.i c.steps.j a b c.requires.newer c.requires.older at_a at_b
+          c.steps.invariant.merges (sym c.entry_order.ensures ∙ c.in-Greater.is));
     }
 
 pub returns : goal.returns
@@ -66,9 +69,12 @@ returns c =
     let i = c.steps.i in
     let j = c.steps.j in
     let one : c.share_all.new.all.items ≡ both ++ drop i newer = c.in_ok-share_all.ensures ∙ ap (λ l. both ++ l) (take_rest newer i) in
-    let two : c.share_all-2.new.all.items ≡ c.share_all.new.all.items ++ drop j older = c.in_ok-share_all-2.ensures ∙ ap (λ l. c.share_all.new.all.items ++ l) (take_rest older j) in
+    let two : c.share_all-2.new.all.items ≡ c.share_all.new.all.items ++ drop j older = c.in_ok-share_all-2.ensures
+    ∙ ap (λ l. c.share_all.new.all.items ++ l) (take_rest older j) in
     let all : c.share_all-2.new.all.items ≡ (both ++ drop i newer) ++ drop j older = two ∙ ap (λ l. l ++ drop j older) one in
     elim c.steps-test.branch [
-      | then-steps-test+else-j-older w ↦ all ∙ ends_older newer older both i j c.requires.newer (let past = w.if-j-older.false in omega arith) c.steps.invariant.merges
-      | else-steps-test w ↦ all ∙ ends_newer newer older both i j c.requires.older (let past = w.steps-test.false in omega arith) c.steps.invariant.merges
+      | then-steps-test+else-j-older w ↦ all
+          ∙ ends_older newer older both i j c.requires.newer (let past = w.if-j-older.false in omega arith) c.steps.invariant.merges
+      | else-steps-test w ↦ all
+          ∙ ends_newer newer older both i j c.requires.older (let past = w.steps-test.false in omega arith) c.steps.invariant.merges
     ]

@@ -34,11 +34,13 @@ pub returns-clause-of_key : goal.returns-clause-of_key
 returns-clause-of_key c =
     let sought = c.args.sought.now in
     ap (if_of_key sought.key.now) (sym (at_found sought.key.now sought.version sought.head c.requires.sought
-    c.args.heads.now c.args.entries.now c.requires.heads c.place-at.result c.place-at.ensures c.index-entries-at.result (omega arith) c.index-entries-at.is))
+    c.args.heads.now c.args.entries.now c.requires.heads c.place-at.result c.place-at.ensures c.index-entries-at.result
+    (omega arith) c.index-entries-at.is))
 
 pub returns-clause-exact : goal.returns-clause-exact
 returns-clause-exact c =
     let sought = c.args.sought.now in
     ap (if_exact sought.key.now sought.version)
     (sym (at_found sought.key.now sought.version sought.head c.requires.sought
-    c.args.heads.now c.args.entries.now c.requires.heads c.place-at.result c.place-at.ensures c.index-entries-at.result (omega arith) c.index-entries-at.is))
+    c.args.heads.now c.args.entries.now c.requires.heads c.place-at.result c.place-at.ensures c.index-entries-at.result
+    (omega arith) c.index-entries-at.is))

@@ -24,7 +24,8 @@ bounds-heads-middle c =
 
 pub is_ahead-requires-clause-head : goal.is_ahead-requires-clause-head
 is_ahead-requires-clause-head c =
-    heads-here c.args.heads.now c.args.entries.now (c.halving.low + (c.halving.high - c.halving.low) / 2) c.index-entries-middle.result c.requires.heads
+    heads-here c.args.heads.now c.args.entries.now (c.halving.low + (c.halving.high - c.halving.low) / 2)
+    c.index-entries-middle.result c.requires.heads
     (omega (arith, c.halving-test.true, c.halving.invariant.within)) c.index-entries-middle.is
 
 pub halving-preserved-then-is_ahead : goal.halving-preserved-then-is_ahead

@@ -11,5 +11,6 @@ pub returns : goal.returns
 returns c =
     let test = λ (e : Entry). is_short_of c.args.span.now e in
     let entries = c.args.entries.now in
-    let point = IsPartitionPoint-from_clause test _ _ c.partition_point.ensures.partitioned (parted_at test entries (short-parted c.args.span.now entries (rising entries c.requires))) (λ a r q k. search rules) in
+    let point = IsPartitionPoint-from_clause test _ _ c.partition_point.ensures.partitioned
+    (parted_at test entries (short-parted c.args.span.now entries (rising entries c.requires))) (λ a r q k. search rules) in
     point-prefix test entries _ c.partition_point.ensures.bound point

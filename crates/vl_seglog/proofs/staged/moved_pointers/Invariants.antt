@@ -5,4 +5,5 @@ use Rattle.vl_seglog.proofs.Placing.{UnderWay, moves_lying}
 use Rattle.vl_seglog.proofs.staged.moved_pointers.Given as goal
 
 abbrev pub invariant-loop-moved : goal.invariant-loop-moved
-invariant-loop-moved l = UnderWay (moves_lying log_format l.log) l.place l.pointers.items (moved_pointers log_format l.log l.fn.from l.records) (drop l.moved-index l.records)
+invariant-loop-moved l = UnderWay (moves_lying log_format l.log) l.place l.pointers.items
+    (moved_pointers log_format l.log l.fn.from l.records) (drop l.moved-index l.records)

@@ -5,4 +5,5 @@ use Rattle.vl_seglog.proofs.Placing.{UnderWay, records_lying}
 use Rattle.vl_seglog.proofs.staged.record_pointers.Given as goal
 
 abbrev pub invariant-loop-key : goal.invariant-loop-key
-invariant-loop-key l = UnderWay (records_lying log_format l.log) l.place l.pointers.items (pointers_from log_format l.log l.fn.from l.writes) (drop l.key-index l.writes)
+invariant-loop-key l = UnderWay (records_lying log_format l.log) l.place l.pointers.items
+    (pointers_from log_format l.log l.fn.from l.writes) (drop l.key-index l.writes)

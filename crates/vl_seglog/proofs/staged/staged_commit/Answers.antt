@@ -3,7 +3,8 @@ use Rattle.vl_model.specs.declared.log_frame.LogFrame.TheVariants.{Committed}
 use Rattle.vl_seglog.proofs.Staging.{IsWritten, commit_long, written}
 use Rattle.vl_seglog.proofs.staged.staged_commit.Goals as goal
 
-frame_written : (c : goal.Else-len-place) → IsWritten c.args.log c.args.place (Committed c.args.number c.args.writes.now) c.in_ok-frame.frame.items
+frame_written : (c : goal.Else-len-place)
+    → IsWritten c.args.log c.args.place (Committed c.args.number c.args.writes.now) c.in_ok-frame.frame.items
 frame_written c =
     written c.args.log c.args.place (Committed c.args.number c.args.writes.now) c.in_ok-frame.frame.items
     c.in_ok-frame.ensures.written c.requires c.in_ok-frame.ensures.short

@@ -18,7 +18,8 @@ pub returns-in-None-clause-answers : goal.returns-in-None-clause-answers
 returns-in-None-clause-answers g c =
     and_then _ _ _ c.args.number _ _ _ _ _ (λ bytes damage. damage ≡ 0) _ c.in_ok-fill.field-0 _ (λ bytes told read x good. good)
     (λ bytes told read p bad. (
-      λ format begun. c.in-None.ensures.none format (subst (HasHeader format c.args.number) (sym read) (header_fewer format c.args.number bytes begun.header)),
+      λ format begun. c.in-None.ensures.none format
+          (subst (HasHeader format c.args.number) (sym read) (header_fewer format c.args.number bytes begun.header)),
       bad,
     ))
     c.in_ok-fill.ensures.answers

@@ -21,6 +21,7 @@ returns-else-id-len-clause-whole g c = λ bytes es told stands.
     let inside = lies_inside id.number id.place id.length kinds.Block bytes stands.body stands.frame in
     elim c.if-id-le-MAX_FRAME_BYTES.branch [
       | then-id-le-MAX_FRAME_BYTES w ↦
-          subst IsTrue (sym w.value-is) (is_le _ _ (omega (arith, inside, g.met.H.HeldFile.sized c.args.held.now bytes told, w.len.ensures)))
+          subst IsTrue (sym w.value-is)
+          (is_le _ _ (omega (arith, inside, g.met.H.HeldFile.sized c.args.held.now bytes told, w.len.ensures)))
       | else-id-le-MAX_FRAME_BYTES w ↦ absurd (omega (arith, w.if-id-le-MAX_FRAME_BYTES.false, stands.frame.sized, stands.says.short))
     ]

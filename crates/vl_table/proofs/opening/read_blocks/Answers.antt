@@ -8,10 +8,12 @@ use Rattle.vl_table.proofs.opening.read_blocks.Goals as goal
 
 pub returns : goal.returns
 returns g c =
-    and_then _ _ _ c.args.number _ _ _ _ _ (λ bytes damage. damage ≡ c.args.place) _ c.in_ok-read_part.field-0 _ (λ bytes told read x good. good)
+    and_then _ _ _ c.args.number _ _ _ _ _ (λ bytes damage. damage ≡ c.args.place) _ c.in_ok-read_part.field-0 _
+    (λ bytes told read x good. good)
     (λ bytes told read p bad. (
       λ ps stands.
-          let same = one_frame files.Table c.args.number c.args.place _ kinds.Index kinds.Index read.0 stands.body read.1.frame stands.frame.frame in
+          let same = one_frame files.Table c.args.number c.args.place _ kinds.Index kinds.Index read.0 stands.body
+          read.1.frame stands.frame.frame in
           let body = c.body_of.ensures c.args.number c.args.place kinds.Index read.0 (c.deref.ensures.value ∙ read.2) in
           let none = rw c.in-None.is at c.in_ok-blocks.ensures.none in
           none ps (subst (λ (b : List ℕ). SpellsIndex b ps) (sym (body ∙ same.1)) stands.says),

@@ -12,7 +12,8 @@ returns g c =
     and_then _ _ _ c.args.number _ _ _ _ _ (λ bytes damage. damage ≡ place) _ c.in_ok-read_part.field-0 _ (λ bytes told read x good. good)
     (λ bytes told read p bad. (
       λ bits stands.
-          let same = one_frame files.Table c.args.number place _ kinds.Filter kinds.Filter read.0 stands.body read.1.frame stands.frame.frame in
+          let same = one_frame files.Table c.args.number place _ kinds.Filter kinds.Filter read.0 stands.body
+          read.1.frame stands.frame.frame in
           let body = c.body_of.ensures c.args.number place kinds.Filter read.0 (c.deref.ensures.value ∙ read.2) in
           c.in-None.ensures.none bits (subst (λ (b : List ℕ). SpellsFilter b bits) (sym (body ∙ same.1)) stands.says),
       bad,

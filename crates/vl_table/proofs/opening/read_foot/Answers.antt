@@ -9,7 +9,8 @@ returns g c =
     and_then _ _ _ c.args.number _ _ _ _ _ (λ bytes damage. damage ≡ c.args.place) _ c.in_ok-bytes.bytes _ (λ bytes told read x good. good)
     (λ bytes told read p bad. (
       λ f stands.
-          let rest = c.deref.ensures.value ∙ read ∙ whole_rest c.args.place _ bytes (omega (arith, c.len.ensures, g.met.H.HeldFile.sized c.args.held.now bytes told)) in
+          let rest = c.deref.ensures.value ∙ read
+          ∙ whole_rest c.args.place _ bytes (omega (arith, c.len.ensures, g.met.H.HeldFile.sized c.args.held.now bytes told)) in
           let none = rw c.in-None.is at c.in_ok-footer.ensures.none in
           none f (subst (λ (l : List ℕ). FooterIn c.args.format c.args.number c.args.place l f) (sym rest) stands),
       bad,

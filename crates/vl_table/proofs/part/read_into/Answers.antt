@@ -30,7 +30,8 @@ returns-clause-answers g c =
     and_then _ _ _ c.args.number _ _ (λ bytes done. Unit {0}) _ _ (λ bytes damage. ⊥) _ c.in_ok-fill.field-0 _
     (λ bytes told read x good.
     let at = stands c.args.number c.args.place size c.args.kind bytes c.fill.new.out found.0 read found.1 found.2
-    (sym (ap length read ∙ length-cut c.args.place size bytes (omega (arith, c.requires, g.met.H.HeldFile.sized c.args.held.now bytes told)))) in
+    (sym (ap length read ∙ length-cut c.args.place size bytes
+    (omega (arith, c.requires, g.met.H.HeldFile.sized c.args.held.now bytes told)))) in
     (found.0, at, fills c.args.number c.args.place c.fill.new.out c.args.kind found.0 found.1 found.2))
     (λ bytes told read p bad. absurd bad)
     c.in_ok-fill.ensures.answers

@@ -12,7 +12,8 @@ returns g c =
     and_then _ _ _ c.args.number _ _ (λ bytes (a : Ahead). a ≡ ahead) _ _ (λ bytes damage. ⊥) _ c.in_ok-bytes.bytes _
     (λ bytes told read a is. subst (AheadOf bytes) (sym is) (
       drop c.args.count (drop c.args.place bytes),
-      sym (take-append-drop c.args.count (drop c.args.place bytes)) ∙ ap (λ (l : List ℕ). l ++ drop c.args.count (drop c.args.place bytes)) (sym read),
+      sym (take-append-drop c.args.count (drop c.args.place bytes))
+          ∙ ap (λ (l : List ℕ). l ++ drop c.args.count (drop c.args.place bytes)) (sym read),
     ))
     (λ bytes told read damage none. absurd none)
     c.in_ok-bytes.ensures

@@ -9,5 +9,6 @@ pub returns-clause-end : goal.returns-clause-end
 returns-clause-end c = λ parted.
     let test = ends_within c.args.span.now in
     let blocks = c.args.blocks.now in
-    let point = IsPartitionPoint-from_clause test _ _ c.partition_point.ensures.partitioned (parted_at test blocks (parted_from test blocks parted)) (λ a r q k. search rules) in
+    let point = IsPartitionPoint-from_clause test _ _ c.partition_point.ensures.partitioned
+    (parted_at test blocks (parted_from test blocks parted)) (λ a r q k. search rules) in
     point-prefix test blocks _ c.partition_point.ensures.bound point

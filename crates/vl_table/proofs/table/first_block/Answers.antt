@@ -9,5 +9,6 @@ pub returns-clause-first : goal.returns-clause-first
 returns-clause-first c = λ parted.
     let test = λ (p : BlockPlace). is_below c.args.key.now p.last in
     let blocks = c.args.blocks.now in
-    let point = IsPartitionPoint-from_clause test _ _ c.partition_point.ensures.partitioned (parted_at test blocks parted) (λ a r q k. search rules) in
+    let point = IsPartitionPoint-from_clause test _ _ c.partition_point.ensures.partitioned
+    (parted_at test blocks parted) (λ a r q k. search rules) in
     point-prefix test blocks _ c.partition_point.ensures.bound point

@@ -9,5 +9,8 @@ returns-clause-written c =
     let p = c.args.block.now in
     let numbers = big_bytes 8 p.place ++ big_bytes 4 p.length in
     on_ok_weaker c.write_key.result
-    (λ e. e ∙ ap (λ (k : List ℕ). c.extend_from_slice.new.self.items ++ key_bytes k) c.as_slice.ensures ∙ ap (λ (l : List ℕ). l ++ key_bytes p.last) (c.in_ok-extend_from_slice.ensures.items ∙ ap (λ (l : List ℕ). c.args.out.now.items ++ l) c.frame_bytes.ensures) ∙ append_assoc c.args.out.now.items numbers (key_bytes p.last))
+    (λ e. e ∙ ap (λ (k : List ℕ). c.extend_from_slice.new.self.items ++ key_bytes k) c.as_slice.ensures
+    ∙ ap (λ (l : List ℕ). l ++ key_bytes p.last)
+    (c.in_ok-extend_from_slice.ensures.items ∙ ap (λ (l : List ℕ). c.args.out.now.items ++ l) c.frame_bytes.ensures)
+    ∙ append_assoc c.args.out.now.items numbers (key_bytes p.last))
     c.write_key.ensures.written

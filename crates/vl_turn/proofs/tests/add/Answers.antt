@@ -5,12 +5,14 @@ use Rattle.vl_turn.specs.declared.tests.Addition.{Addition}
 use Rattle.vl_turn.proofs.tests.add.Invariants.{addition_of}
 use Rattle.vl_turn.proofs.tests.add.Goals as goal
 
-one_session : (owns : List (Own Addition)) → length owns ≡ 1 → (own : List Addition) × (owns ≡ record { number = (addition_of owns).session; entries = own } ∷ [])
+one_session : (owns : List (Own Addition)) → length owns ≡ 1 → (own : List Addition)
+    × (owns ≡ record { number = (addition_of owns).session; entries = own } ∷ [])
 one_session [] is = absurd (omega arith)
 one_session (own ∷ []) is = (own.entries, refl)
 one_session (own ∷ other ∷ owns) is = absurd (omega arith)
 
-one_more : (count : ℕ) (list : List Addition) (addition : Addition) → count ≡ length list % 2 ^ 64 → (count + 1) % 2 ^ 64 ≡ length (list ++ addition ∷ []) % 2 ^ 64
+one_more : (count : ℕ) (list : List Addition) (addition : Addition) → count ≡ length list % 2 ^ 64
+    → (count + 1) % 2 ^ 64 ≡ length (list ++ addition ∷ []) % 2 ^ 64
 one_more count list addition is =
     let longer : length list + 1 ≡ length (list ++ addition ∷ []) = omega (arith, length-append list (addition ∷ [])) in
     ap (λ n. (n + 1) % 2 ^ 64) is ∙ (mod-add-mod (length list) (2 ^ 64) 1 ∙ ap (λ n. n % 2 ^ 64) longer)

@@ -10,5 +10,6 @@ pub returns : goal.returns
 returns c =
     let test = λ (e : List ℕ × Change). is_above c.args.key.now e in
     let entries = c.args.entries.now in
-    let point = IsPartitionPoint-from_clause test _ _ c.partition_point.ensures.partitioned (partitioned test entries (is_sorted-parted c.args.key.now entries c.requires)) (λ a r q k. search rules) in
+    let point = IsPartitionPoint-from_clause test _ _ c.partition_point.ensures.partitioned
+    (partitioned test entries (is_sorted-parted c.args.key.now entries c.requires)) (λ a r q k. search rules) in
     prefix_len-point test entries _ c.partition_point.ensures.bound point

@@ -18,7 +18,8 @@ pub returns-in-Some : goal.returns-in-Some
 returns-in-Some c =
     let key = c.args.key.now in
     let version = c.args.version in
-    sym (frozen_some key version c.args.frozen.now c.loop-log.log-index c.log-item.result c.loop-log-test.true c.log-item.is c.loop-log.invariant
+    sym (frozen_some key version c.args.frozen.now c.loop-log.log-index c.log-item.result c.loop-log-test.true
+    c.log-item.is c.loop-log.invariant
     c.in-Some.entry.now
     (ap (λ (m : Contents). exact m.entries key version) (sym c.memtable.ensures) ∙ sym c.exact.ensures ∙ ap option_copied c.in-Some.is))
 

@@ -25,7 +25,8 @@ loop-log-preserved g c =
           (sym (ap held_entries (take_next all i log c.loop-log-test.true c.log-item.is) ∙ entries-push (take i all) log))
           (adds_then bytes c.args.span.now c.args.way (held_entries (take i all)) log.memtable.entries c.args.sources.now.items
           c.loop-log.sources.items c.add_memtable.new.sources.items c.loop-log.invariant.adds
-          (subst (λ (m : Contents). Adds bytes c.args.span.now c.args.way m.entries c.loop-log.sources.items c.add_memtable.new.sources.items)
+          (subst (λ (m : Contents). Adds bytes c.args.span.now c.args.way m.entries c.loop-log.sources.items
+          c.add_memtable.new.sources.items)
           c.memtable.ensures c.in_ok-add_memtable.ensures.winners));
       quiet = λ quiet. c.in_ok-add_memtable.ensures.quiet (c.loop-log.invariant.quiet quiet);
     }

@@ -9,7 +9,8 @@ use Rattle.vl_version.specs.Rows.{AreRowsOf, OneAstray, PushesRow}
 use Rattle.vl_version.specs.Sources.{stored_in}
 use Rattle.vl_version.specs.declared.fault.ReadFault.{ReadFault}
 use Rattle.vl_version.specs.declared.fault.ReadFault.TheVariants.{Damaged}
-use Rattle.vl_version.proofs.TakeLaws.{TakesFront, astray_next, err_answer, leaves_near, next_kept, takes_all, takes_end, takes_next, takes_none}
+use Rattle.vl_version.proofs.TakeLaws.{TakesFront, astray_next, err_answer, leaves_near, next_kept, takes_all}
+use Rattle.vl_version.proofs.TakeLaws.{takes_end, takes_next, takes_none}
 use Rattle.vl_version.proofs.rows.take_rows.Goals as goal
 
 pub returns-in_default-clause-answers : goal.returns-in_default-clause-answers

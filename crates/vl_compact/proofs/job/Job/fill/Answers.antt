@@ -16,10 +16,12 @@ returns-in-Ok-clause-next g c = λ j fits fresh h.
     let new = c.take.new.self in
     let filled = c.in-Ok.filled in
     let same = c.take.ensures.same
-    ∙ ap (λ (s : Job g.row.V.Denot g.row.H.Denot g.row.W.Denot W). record s { after = Some filled.last; made = new.made; needless = new.needless; waits = false })
+    ∙ ap (λ (s : Job g.row.V.Denot g.row.H.Denot g.row.W.Denot W). record s
+    { after = Some filled.last; made = new.made; needless = new.needless; waits = false })
     c.write.ensures.same in
     subst (λ (s : Job g.row.V.Denot g.row.H.Denot g.row.W.Denot W). Has W bytes has s j) (sym same)
-    (makes_one W bytes has old j h c.requires.waits c.write.new.lent filled (c.in-Ok.ensures.fills j fits fresh h) (c.in-Ok.ensures.settled j fits fresh h)
+    (makes_one W bytes has old j h c.requires.waits c.write.new.lent filled (c.in-Ok.ensures.fills j fits fresh h)
+    (c.in-Ok.ensures.settled j fits fresh h)
     new.made
     (subst (λ (l : List (Synced g.row.W.Denot W)). HasTaken c.write.new.lent filled l new.made.items)
     (ap (λ (s : Job g.row.V.Denot g.row.H.Denot g.row.W.Denot W). s.made.items) c.write.ensures.same) c.take.ensures.made)
@@ -66,7 +68,8 @@ returns-in-Err-clause-refused g c =
     record {
       leaving = c.write.new.lent;
       number = c.write.ensures.number;
-      kept = ap (λ (s : Job g.row.V.Denot g.row.H.Denot g.row.W.Denot W). record s { leavings = c.push_reserved.new.self }) c.write.ensures.same;
+      kept = ap (λ (s : Job g.row.V.Denot g.row.H.Denot g.row.W.Denot W). record s
+          { leavings = c.push_reserved.new.self }) c.write.ensures.same;
       left = c.push_reserved.ensures.items
           ∙ ap (λ (s : Job g.row.V.Denot g.row.H.Denot g.row.W.Denot W). s.leavings.items ++ c.write.new.lent ∷ []) c.write.ensures.same;
       needless_are = c.write.ensures.items;

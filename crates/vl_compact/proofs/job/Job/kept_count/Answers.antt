@@ -10,4 +10,5 @@ use Rattle.vl_compact.proofs.job.Job.kept_count.Goals as goal
 pub returns : goal.returns
 returns g c = λ j has.
     c.total.ensures ∙ ap (λ (l : List (Synced g.row.W.Denot g.W.Writer)). min (entry_count l) (2 ^ 64 - 1)) c.deref.ensures.value
-    ∙ ap (λ n. min n (2 ^ 64 - 1)) (counted_by g.W.Writer c.args.self.now.made.items (outputs j) has.made ∙ ap length (cut-whole (merged_entries j)))
+    ∙ ap (λ n. min n (2 ^ 64 - 1))
+    (counted_by g.W.Writer c.args.self.now.made.items (outputs j) has.made ∙ ap length (cut-whole (merged_entries j)))

@@ -5,4 +5,5 @@ use Rattle.vl_compact.proofs.job.Job.race.Goals as goal
 
 pub returns : goal.returns
 returns g c = λ j has.
-    c.first_moved.ensures ∙ ap (least_moved c.args.moved.now) has.needless_are ∙ sym (race-in_order c.args.moved.now (least_moved c.args.moved.now) refl (λ n ns. refl) j)
+    c.first_moved.ensures ∙ ap (least_moved c.args.moved.now) has.needless_are
+    ∙ sym (race-in_order c.args.moved.now (least_moved c.args.moved.now) refl (λ n ns. refl) j)

@@ -15,7 +15,8 @@ returns-then-branch-clause-next g c = λ j left are has fits told.
     gives_it j _ c.walking.self.last before c.walking.found.items (c.walking.invariant.walked j left are has fits told)
     c.pass.new.last now c.pass.new.found.items e
     (subst (λ (o : Option Entry). Gives before now o) c.in-Some.is c.in_ok-entry.ensures.given)
-    (subst (λ (b : Bool). Passes j (place_in c.walking.self.last) (place_in c.pass.new.last) e c.walking.found.items c.pass.new.found.items b)
+    (subst (λ (b : Bool). Passes j (place_in c.walking.self.last) (place_in c.pass.new.last) e c.walking.found.items
+    c.pass.new.found.items b)
     c.if-branch.true (c.in_ok-pass.ensures.passes j rules has (c.walking.invariant.fits fits)))
 
 pub walking-preserved-else-branch : goal.walking-preserved-else-branch
@@ -28,7 +29,8 @@ walking-preserved-else-branch g c = record {
       walks_on j _ c.walking.self.last before c.walking.found.items (c.walking.invariant.walked j left are has fits told)
       c.pass.new.last now c.pass.new.found.items e
       (subst (λ (o : Option Entry). Gives before now o) c.in-Some.is c.in_ok-entry.ensures.given)
-      (subst (λ (b : Bool). Passes j (place_in c.walking.self.last) (place_in c.pass.new.last) e c.walking.found.items c.pass.new.found.items b)
+      (subst (λ (b : Bool). Passes j (place_in c.walking.self.last) (place_in c.pass.new.last) e c.walking.found.items
+      c.pass.new.found.items b)
       c.if-branch.false (c.in_ok-pass.ensures.passes j rules has (c.walking.invariant.fits fits)));
   rules = c.walking.invariant.rules;
   fits = λ fits. c.pass.ensures.fits (c.walking.invariant.fits fits);
@@ -53,7 +55,8 @@ walking-preserved-else-branch-2 g c = record {
       walks_on j _ c.walking.self.last before c.walking.found.items (c.walking.invariant.walked j left are has fits told)
       c.pass.new.last now c.pass.new.found.items e
       (subst (λ (o : Option Entry). Gives before now o) c.in-Some.is c.in_ok-entry.ensures.given)
-      (subst (λ (b : Bool). Passes j (place_in c.walking.self.last) (place_in c.pass.new.last) e c.walking.found.items c.pass.new.found.items b)
+      (subst (λ (b : Bool). Passes j (place_in c.walking.self.last) (place_in c.pass.new.last) e c.walking.found.items
+      c.pass.new.found.items b)
       c.if-branch.false (c.in_ok-pass.ensures.passes j rules has (c.walking.invariant.fits fits)));
   rules = c.walking.invariant.rules;
   fits = λ fits. c.pass.ensures.fits (c.walking.invariant.fits fits);
@@ -78,7 +81,8 @@ walking-preserved g c = record {
       walks_on j _ c.walking.self.last before c.walking.found.items (c.walking.invariant.walked j left are has fits told)
       c.pass.new.last now c.pass.new.found.items e
       (subst (λ (o : Option Entry). Gives before now o) c.in-Some.is c.in_ok-entry.ensures.given)
-      (subst (λ (b : Bool). Passes j (place_in c.walking.self.last) (place_in c.pass.new.last) e c.walking.found.items c.pass.new.found.items b)
+      (subst (λ (b : Bool). Passes j (place_in c.walking.self.last) (place_in c.pass.new.last) e c.walking.found.items
+      c.pass.new.found.items b)
       c.if-branch.false (c.in_ok-pass.ensures.passes j rules has (c.walking.invariant.fits fits)));
   rules = c.walking.invariant.rules;
   fits = λ fits. c.pass.ensures.fits (c.walking.invariant.fits fits);

@@ -9,6 +9,8 @@ returns-clause-put g c = λ target inputs first ls new t are is. record {
   others = are.others;
   tables = put_next g.H.HeldFile.bytes c.args.self.now.tables.items c.insert.new.self.items c.args.table
       (without inputs (level_at c.args.self.now.level ls)) new t c.args.self.now.position c.args.self.now.next c.insert.result
-      are.place.within are.next are.tables is (c.insert.ensures.succeeds (room_less (vec_len c.args.self.now.tables) (vec_capacity c.args.self.now.tables) c.requires)) c.insert.ensures.items;
+      are.place.within are.next are.tables is
+      (c.insert.ensures.succeeds
+      (room_less (vec_len c.args.self.now.tables) (vec_capacity c.args.self.now.tables) c.requires)) c.insert.ensures.items;
   next = next_is g.H.HeldFile.bytes c.args.self.now.next c.args.self.now.position new t are.next;
 }

@@ -1,5 +1,6 @@
 use Rattle.std.proofs.Common.{◌≡◌, ap, arith, refl, ◌∙◌, ℕ}
-use Rattle.vl_engine.proofs.Begins.{begins_making, begins_nothing, keeps_making, keeps_told, made_so, next_back, next_version, none_known, same_back, still_numbered, stops_making, then_numbered}
+use Rattle.vl_engine.proofs.Begins.{begins_making, begins_nothing, keeps_making, keeps_told, made_so, next_back}
+use Rattle.vl_engine.proofs.Begins.{next_version, none_known, same_back, still_numbered, stops_making, then_numbered}
 use Rattle.vl_engine.proofs.Fitting.{fit_halted}
 use Rattle.vl_engine.proofs.Lending.{leaves_made, leaves_then, still_lent}
 use Rattle.vl_engine.proofs.RotateFit.{fit_rotated, stands_still}

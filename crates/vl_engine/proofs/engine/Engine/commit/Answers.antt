@@ -2,7 +2,8 @@ use Rattle.std.proofs.Common.{refl, sym, ◌∙◌}
 use Rattle.std.specs.Prelude.{[]}
 use Rattle.vl_engine.proofs.Committing.{carries_unwritten, decides_leaving}
 use Rattle.vl_engine.proofs.Fitted.{written_by}
-use Rattle.vl_engine.proofs.Ruled.{carries_by, carries_refused_by, decides_by, failed_by, files_by, no_conflict_by, ruling_so, stands_by, stops_by, unwritten_here}
+use Rattle.vl_engine.proofs.Ruled.{carries_by, carries_refused_by, decides_by, failed_by, files_by, no_conflict_by}
+use Rattle.vl_engine.proofs.Ruled.{ruling_so, stands_by, stops_by, unwritten_here}
 use Rattle.vl_engine.proofs.Untouched.{alone}
 use Rattle.vl_engine.proofs.engine.Engine.commit.Goals as goal
 use Rattle.vl_engine.specs.Represents.{Fronts, StandsFor, file_of}
@@ -24,21 +25,26 @@ returns-in_default-clause-carries g c h l reads is lives notes =
 pub returns-in-Halted-clause-decides : goal.returns-in-Halted-clause-decides
 returns-in-Halted-clause-decides g c h l reads is lives notes =
     decides_leaving (Fronts c.end.new.self.core) h l _ _ (answers.Halted (file_of c.in-Halted.name)) (ended c.args.txn.ticket l)
-    (ruling_so c.args.self.now.core h l is c.args.txn.ticket c.args.txn.number reads c.args.txn.writes (decisions.Halted c.in-Halted.name) lives
+    (ruling_so c.args.self.now.core h l is c.args.txn.ticket c.args.txn.number reads c.args.txn.writes
+    (decisions.Halted c.in-Halted.name) lives
     (λ floor remembers below. sym c.in-Halted.is ∙ c.in-Ok.ensures.decided h floor reads remembers below notes))
     (c.end.ensures.decides h l is)
 
 pub returns-in-Halted-clause-stands : goal.returns-in-Halted-clause-stands
 returns-in-Halted-clause-stands g c h l reads is lives notes =
-    decides_leaving (StandsFor g.D.Held.HeldFile.bytes c.end.new.self.core) h l _ _ (answers.Halted (file_of c.in-Halted.name)) (ended c.args.txn.ticket l)
-    (ruling_so c.args.self.now.core h l is.fronts c.args.txn.ticket c.args.txn.number reads c.args.txn.writes (decisions.Halted c.in-Halted.name) lives
+    decides_leaving (StandsFor g.D.Held.HeldFile.bytes c.end.new.self.core) h l _ _
+    (answers.Halted (file_of c.in-Halted.name)) (ended c.args.txn.ticket l)
+    (ruling_so c.args.self.now.core h l is.fronts c.args.txn.ticket c.args.txn.number reads c.args.txn.writes
+    (decisions.Halted c.in-Halted.name) lives
     (λ floor remembers below. sym c.in-Halted.is ∙ c.in-Ok.ensures.decided h floor reads remembers below notes))
     (c.end.ensures.stands h l is)
 
 pub returns-in-Halted-clause-fits : goal.returns-in-Halted-clause-fits
 returns-in-Halted-clause-fits g c h l reads is fits lives notes =
-    decides_leaving (Fits (g.D.Watched.told c.end.new.self.disk) c.end.new.self.core) h l _ _ (answers.Halted (file_of c.in-Halted.name)) (ended c.args.txn.ticket l)
-    (ruling_so c.args.self.now.core h l is.fronts c.args.txn.ticket c.args.txn.number reads c.args.txn.writes (decisions.Halted c.in-Halted.name) lives
+    decides_leaving (Fits (g.D.Watched.told c.end.new.self.disk) c.end.new.self.core) h l _ _
+    (answers.Halted (file_of c.in-Halted.name)) (ended c.args.txn.ticket l)
+    (ruling_so c.args.self.now.core h l is.fronts c.args.txn.ticket c.args.txn.number reads c.args.txn.writes
+    (decisions.Halted c.in-Halted.name) lives
     (λ floor remembers below. sym c.in-Halted.is ∙ c.in-Ok.ensures.decided h floor reads remembers below notes))
     (c.end.ensures.fits h l fits)
 
@@ -46,8 +52,10 @@ pub returns-in-Halted-clause-carries : goal.returns-in-Halted-clause-carries
 returns-in-Halted-clause-carries g c h l reads is lives notes =
     carries_refused_by g.D.Watched (record { only_now = g.met.D.Disk.only_now; counts_now = g.met.D.Disk.counts_now })
     g.D.Held.HeldFile.bytes c.args.self.now.disk c.end.new.self.disk c.args.self.now.core c.end.new.self.core h l
-    c.args.txn.ticket c.args.txn.number reads c.args.txn.writes c.end.ensures.back (answers.Halted (file_of c.in-Halted.name)) (ended c.args.txn.ticket l)
-    (ruling_so c.args.self.now.core h l is.stands.fronts c.args.txn.ticket c.args.txn.number reads c.args.txn.writes (decisions.Halted c.in-Halted.name) lives
+    c.args.txn.ticket c.args.txn.number reads c.args.txn.writes c.end.ensures.back
+    (answers.Halted (file_of c.in-Halted.name)) (ended c.args.txn.ticket l)
+    (ruling_so c.args.self.now.core h l is.stands.fronts c.args.txn.ticket c.args.txn.number reads c.args.txn.writes
+    (decisions.Halted c.in-Halted.name) lives
     (λ floor remembers below. sym c.in-Halted.is ∙ c.in-Ok.ensures.decided h floor reads remembers below notes))
     c.end.ensures.disk is (c.end.ensures.represents h l is)
 
@@ -67,7 +75,8 @@ returns-in-Nothing-clause-stands g c h l reads is lives notes =
 
 pub returns-in-Nothing-clause-fits : goal.returns-in-Nothing-clause-fits
 returns-in-Nothing-clause-fits g c h l reads is fits lives notes =
-    decides_leaving (Fits (g.D.Watched.told c.end-in-Nothing.new.self.disk) c.end-in-Nothing.new.self.core) h l _ _ answers.Nothing (ended c.args.txn.ticket l)
+    decides_leaving (Fits (g.D.Watched.told c.end-in-Nothing.new.self.disk) c.end-in-Nothing.new.self.core) h l _ _
+    answers.Nothing (ended c.args.txn.ticket l)
     (ruling_so c.args.self.now.core h l is.fronts c.args.txn.ticket c.args.txn.number reads c.args.txn.writes decisions.Nothing lives
     (λ floor remembers below. sym c.in-Nothing.is ∙ c.in-Ok.ensures.decided h floor reads remembers below notes))
     (c.end-in-Nothing.ensures.fits h l fits)
@@ -107,28 +116,35 @@ returns-in-Exhausted-clause-carries g c h l reads is lives notes =
     carries_refused_by g.D.Watched (record { only_now = g.met.D.Disk.only_now; counts_now = g.met.D.Disk.counts_now })
     g.D.Held.HeldFile.bytes c.args.self.now.disk c.args.self.now.disk c.args.self.now.core c.args.self.now.core h l
     c.args.txn.ticket c.args.txn.number reads c.args.txn.writes refl (answers.Exhausted counters.Commit) l
-    (ruling_so c.args.self.now.core h l is.stands.fronts c.args.txn.ticket c.args.txn.number reads c.args.txn.writes decisions.Exhausted lives
+    (ruling_so c.args.self.now.core h l is.stands.fronts c.args.txn.ticket c.args.txn.number reads c.args.txn.writes
+    decisions.Exhausted lives
     (λ floor remembers below. sym c.in-Exhausted.is ∙ c.in-Ok.ensures.decided h floor reads remembers below notes))
     refl is is
 
 pub returns-in-Conflict-clause-decides : goal.returns-in-Conflict-clause-decides
 returns-in-Conflict-clause-decides g c h l reads is lives notes =
-    decides_leaving (Fronts c.end-in-Conflict.new.self.core) h l _ _ (answers.Conflict c.in-Conflict.key c.in-Conflict.number) (ended c.args.txn.ticket l)
-    (ruling_so c.args.self.now.core h l is c.args.txn.ticket c.args.txn.number reads c.args.txn.writes (decisions.Conflict c.in-Conflict.key c.in-Conflict.number) lives
+    decides_leaving (Fronts c.end-in-Conflict.new.self.core) h l _ _
+    (answers.Conflict c.in-Conflict.key c.in-Conflict.number) (ended c.args.txn.ticket l)
+    (ruling_so c.args.self.now.core h l is c.args.txn.ticket c.args.txn.number reads c.args.txn.writes
+    (decisions.Conflict c.in-Conflict.key c.in-Conflict.number) lives
     (λ floor remembers below. sym c.in-Conflict.is ∙ c.in-Ok.ensures.decided h floor reads remembers below notes))
     (c.end-in-Conflict.ensures.decides h l is)
 
 pub returns-in-Conflict-clause-stands : goal.returns-in-Conflict-clause-stands
 returns-in-Conflict-clause-stands g c h l reads is lives notes =
-    decides_leaving (StandsFor g.D.Held.HeldFile.bytes c.end-in-Conflict.new.self.core) h l _ _ (answers.Conflict c.in-Conflict.key c.in-Conflict.number) (ended c.args.txn.ticket l)
-    (ruling_so c.args.self.now.core h l is.fronts c.args.txn.ticket c.args.txn.number reads c.args.txn.writes (decisions.Conflict c.in-Conflict.key c.in-Conflict.number) lives
+    decides_leaving (StandsFor g.D.Held.HeldFile.bytes c.end-in-Conflict.new.self.core) h l _ _
+    (answers.Conflict c.in-Conflict.key c.in-Conflict.number) (ended c.args.txn.ticket l)
+    (ruling_so c.args.self.now.core h l is.fronts c.args.txn.ticket c.args.txn.number reads c.args.txn.writes
+    (decisions.Conflict c.in-Conflict.key c.in-Conflict.number) lives
     (λ floor remembers below. sym c.in-Conflict.is ∙ c.in-Ok.ensures.decided h floor reads remembers below notes))
     (c.end-in-Conflict.ensures.stands h l is)
 
 pub returns-in-Conflict-clause-fits : goal.returns-in-Conflict-clause-fits
 returns-in-Conflict-clause-fits g c h l reads is fits lives notes =
-    decides_leaving (Fits (g.D.Watched.told c.end-in-Conflict.new.self.disk) c.end-in-Conflict.new.self.core) h l _ _ (answers.Conflict c.in-Conflict.key c.in-Conflict.number) (ended c.args.txn.ticket l)
-    (ruling_so c.args.self.now.core h l is.fronts c.args.txn.ticket c.args.txn.number reads c.args.txn.writes (decisions.Conflict c.in-Conflict.key c.in-Conflict.number) lives
+    decides_leaving (Fits (g.D.Watched.told c.end-in-Conflict.new.self.disk) c.end-in-Conflict.new.self.core) h l _ _
+    (answers.Conflict c.in-Conflict.key c.in-Conflict.number) (ended c.args.txn.ticket l)
+    (ruling_so c.args.self.now.core h l is.fronts c.args.txn.ticket c.args.txn.number reads c.args.txn.writes
+    (decisions.Conflict c.in-Conflict.key c.in-Conflict.number) lives
     (λ floor remembers below. sym c.in-Conflict.is ∙ c.in-Ok.ensures.decided h floor reads remembers below notes))
     (c.end-in-Conflict.ensures.fits h l fits)
 
@@ -136,29 +152,35 @@ pub returns-in-Conflict-clause-carries : goal.returns-in-Conflict-clause-carries
 returns-in-Conflict-clause-carries g c h l reads is lives notes =
     carries_refused_by g.D.Watched (record { only_now = g.met.D.Disk.only_now; counts_now = g.met.D.Disk.counts_now })
     g.D.Held.HeldFile.bytes c.args.self.now.disk c.end-in-Conflict.new.self.disk c.args.self.now.core c.end-in-Conflict.new.self.core h l
-    c.args.txn.ticket c.args.txn.number reads c.args.txn.writes c.end-in-Conflict.ensures.back (answers.Conflict c.in-Conflict.key c.in-Conflict.number) (ended c.args.txn.ticket l)
-    (ruling_so c.args.self.now.core h l is.stands.fronts c.args.txn.ticket c.args.txn.number reads c.args.txn.writes (decisions.Conflict c.in-Conflict.key c.in-Conflict.number) lives
+    c.args.txn.ticket c.args.txn.number reads c.args.txn.writes c.end-in-Conflict.ensures.back
+    (answers.Conflict c.in-Conflict.key c.in-Conflict.number) (ended c.args.txn.ticket l)
+    (ruling_so c.args.self.now.core h l is.stands.fronts c.args.txn.ticket c.args.txn.number reads c.args.txn.writes
+    (decisions.Conflict c.in-Conflict.key c.in-Conflict.number) lives
     (λ floor remembers below. sym c.in-Conflict.is ∙ c.in-Ok.ensures.decided h floor reads remembers below notes))
     c.end-in-Conflict.ensures.disk is (c.end-in-Conflict.ensures.represents h l is)
 
 pub returns-in-Full-clause-decides : goal.returns-in-Full-clause-decides
 returns-in-Full-clause-decides g c h l reads is lives notes =
     decides_leaving (Fronts c.args.self.now.core) h l _ _ (answers.Full c.in-Full.length c.in-Full.frame) l
-    (ruling_so c.args.self.now.core h l is c.args.txn.ticket c.args.txn.number reads c.args.txn.writes (decisions.Full c.in-Full.length c.in-Full.frame) lives
+    (ruling_so c.args.self.now.core h l is c.args.txn.ticket c.args.txn.number reads c.args.txn.writes
+    (decisions.Full c.in-Full.length c.in-Full.frame) lives
     (λ floor remembers below. sym c.in-Full.is ∙ c.in-Ok.ensures.decided h floor reads remembers below notes))
     is
 
 pub returns-in-Full-clause-stands : goal.returns-in-Full-clause-stands
 returns-in-Full-clause-stands g c h l reads is lives notes =
     decides_leaving (StandsFor g.D.Held.HeldFile.bytes c.args.self.now.core) h l _ _ (answers.Full c.in-Full.length c.in-Full.frame) l
-    (ruling_so c.args.self.now.core h l is.fronts c.args.txn.ticket c.args.txn.number reads c.args.txn.writes (decisions.Full c.in-Full.length c.in-Full.frame) lives
+    (ruling_so c.args.self.now.core h l is.fronts c.args.txn.ticket c.args.txn.number reads c.args.txn.writes
+    (decisions.Full c.in-Full.length c.in-Full.frame) lives
     (λ floor remembers below. sym c.in-Full.is ∙ c.in-Ok.ensures.decided h floor reads remembers below notes))
     is
 
 pub returns-in-Full-clause-fits : goal.returns-in-Full-clause-fits
 returns-in-Full-clause-fits g c h l reads is fits lives notes =
-    decides_leaving (Fits (g.D.Watched.told c.args.self.now.disk) c.args.self.now.core) h l _ _ (answers.Full c.in-Full.length c.in-Full.frame) l
-    (ruling_so c.args.self.now.core h l is.fronts c.args.txn.ticket c.args.txn.number reads c.args.txn.writes (decisions.Full c.in-Full.length c.in-Full.frame) lives
+    decides_leaving (Fits (g.D.Watched.told c.args.self.now.disk) c.args.self.now.core) h l _ _
+    (answers.Full c.in-Full.length c.in-Full.frame) l
+    (ruling_so c.args.self.now.core h l is.fronts c.args.txn.ticket c.args.txn.number reads c.args.txn.writes
+    (decisions.Full c.in-Full.length c.in-Full.frame) lives
     (λ floor remembers below. sym c.in-Full.is ∙ c.in-Ok.ensures.decided h floor reads remembers below notes))
     fits
 
@@ -167,7 +189,8 @@ returns-in-Full-clause-carries g c h l reads is lives notes =
     carries_refused_by g.D.Watched (record { only_now = g.met.D.Disk.only_now; counts_now = g.met.D.Disk.counts_now })
     g.D.Held.HeldFile.bytes c.args.self.now.disk c.args.self.now.disk c.args.self.now.core c.args.self.now.core h l
     c.args.txn.ticket c.args.txn.number reads c.args.txn.writes refl (answers.Full c.in-Full.length c.in-Full.frame) l
-    (ruling_so c.args.self.now.core h l is.stands.fronts c.args.txn.ticket c.args.txn.number reads c.args.txn.writes (decisions.Full c.in-Full.length c.in-Full.frame) lives
+    (ruling_so c.args.self.now.core h l is.stands.fronts c.args.txn.ticket c.args.txn.number reads c.args.txn.writes
+    (decisions.Full c.in-Full.length c.in-Full.frame) lives
     (λ floor remembers below. sym c.in-Full.is ∙ c.in-Ok.ensures.decided h floor reads remembers below notes))
     refl is is
 

@@ -2,7 +2,9 @@ use Rattle.std.proofs.Common.{arith, refl, sym}
 use Rattle.vl_disk.specs.declared.name.Name.TheVariants as names
 use Rattle.vl_engine.proofs.Committing.{decides_leaving}
 use Rattle.vl_engine.proofs.Fitted.{flushed_by}
-use Rattle.vl_engine.proofs.Flushed.{calls_by, carries_by, carries_leaving_flush, fronts_by, ruled_exhausted, ruled_halted, ruled_idle, runs_on, stands_by, stopped_by, untouched_by, writes_by, written_by}
+use Rattle.vl_engine.proofs.Flushed.{calls_by, carries_by, carries_leaving_flush, fronts_by, ruled_exhausted}
+use Rattle.vl_engine.proofs.Flushed.{ruled_halted, ruled_idle, runs_on, stands_by, stopped_by, untouched_by}
+use Rattle.vl_engine.proofs.Flushed.{writes_by, written_by}
 use Rattle.vl_engine.proofs.FlushKeeps.{kept_itself}
 use Rattle.vl_engine.proofs.FlushSteps.{leaves_numbers, numbers_held}
 use Rattle.vl_engine.proofs.Leaving.{flush_within}
@@ -40,7 +42,8 @@ returns-in-Some-clause-carries g c h l is =
 pub returns-in-Some-clause-fits : goal.returns-in-Some-clause-fits
 returns-in-Some-clause-fits g c h l is fits =
     let core = c.args.self.now.core in
-    decides_leaving (Fits (g.D.Watched.told c.args.self.now.disk) core) h l (flush_ruling l h) (as_before l l) (Halted (file_of c.in-Some.name)) l
+    decides_leaving (Fits (g.D.Watched.told c.args.self.now.disk) core) h l (flush_ruling l h) (as_before l l)
+    (Halted (file_of c.in-Some.name)) l
     (ruled_halted core h l is.fronts c.in-Some.name c.in-Some.is) fits
 
 pub returns-in-Some-clause-untouched : goal.returns-in-Some-clause-untouched
@@ -143,7 +146,8 @@ returns-in-Exhausted-clause-carries g c h l is =
 pub returns-in-Exhausted-clause-fits : goal.returns-in-Exhausted-clause-fits
 returns-in-Exhausted-clause-fits g c h l is fits =
     let core = c.args.self.now.core in
-    decides_leaving (Fits (g.D.Watched.told c.args.self.now.disk) core) h l (flush_ruling l h) (as_before l l) (Exhausted c.in-Exhausted.counter) l
+    decides_leaving (Fits (g.D.Watched.told c.args.self.now.disk) core) h l (flush_ruling l h) (as_before l l)
+    (Exhausted c.in-Exhausted.counter) l
     (ruled_exhausted core h l is.fronts c.in_default.is (fits.running (runs_on core h l is.fronts c.in_default.is)).numbers
     c.in-Exhausted.counter (sym c.in-Exhausted.ensures.decided)) fits
 

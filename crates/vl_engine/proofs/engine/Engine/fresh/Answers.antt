@@ -2,7 +2,8 @@ use Rattle.std.proofs.Common.{arith, refl, subst, ◌≡◌, ◌∙◌}
 use Rattle.vl_disk.specs.declared.name.Name.TheVariants as names
 use Rattle.vl_engine.proofs.Carrying.{IsWatched}
 use Rattle.vl_engine.proofs.DrawFits.{fit_drawn, fit_told, is_new, lent_failed, lent_then, log_kept, more_then, same_itself}
-use Rattle.vl_engine.proofs.DrawSteps.{carries_done, carries_exhausted, carries_failing, carries_short, decides_drawn, decides_undrawn, stops_drawing, writes_err, writes_ok}
+use Rattle.vl_engine.proofs.DrawSteps.{carries_done, carries_exhausted, carries_failing, carries_short, decides_drawn}
+use Rattle.vl_engine.proofs.DrawSteps.{decides_undrawn, stops_drawing, writes_err, writes_ok}
 use Rattle.vl_engine.proofs.Drawing.{fits_drawn, leaves_numbers, opens_more, opens_same, runs, stands_drawn, stands_undrawn}
 use Rattle.vl_engine.proofs.Fitting.{fit_halted}
 use Rattle.vl_engine.proofs.FlushKeeps.{kept_from}

@@ -1,6 +1,9 @@
 use Rattle.std.proofs.Common.{arith, refl, ◌∙◌}
 use Rattle.std.specs.Prelude.{None}
-use Rattle.vl_engine.proofs.InstallExits.{calls_by, carries_by, carries_ended, carries_short, failed_by, files_by, fits_by, fits_ended, fits_short, keeps_told, leaves_by, meanwhile_by, raced_so, ruled_halted, ruled_raced, stands_by, stands_ended, stands_short, stopped_by, untold_by, untouched_by, within_by}
+use Rattle.vl_engine.proofs.InstallExits.{calls_by, carries_by, carries_ended, carries_short, failed_by, files_by}
+use Rattle.vl_engine.proofs.InstallExits.{fits_by, fits_ended, fits_short, keeps_told, leaves_by, meanwhile_by}
+use Rattle.vl_engine.proofs.InstallExits.{raced_so, ruled_halted, ruled_raced, stands_by, stands_ended, stands_short}
+use Rattle.vl_engine.proofs.InstallExits.{stopped_by, untold_by, untouched_by, within_by}
 use Rattle.vl_engine.proofs.InstallTotal.{core_by, halted_at, none_races, not_halted, written_by}
 use Rattle.vl_engine.proofs.Untouched.{alone}
 use Rattle.vl_engine.specs.Merging.{made_numbers}
@@ -208,7 +211,8 @@ pub returns-in-Err-clause-carries : goal.returns-in-Err-clause-carries
 returns-in-Err-clause-carries g c h l o represents is opened whole lent =
     carries_short g.D.Watched g.D.Held.HeldFile.bytes g.D.Writer.Writer c.args.job c.args.self.now.disk c.args.self.now.core
     c.args.self.now.merging h l o is opened whole lent
-    (record { only_now = g.met.D.Disk.only_now; counts_now = g.met.D.Disk.counts_now }) represents c.args.self.now.disk (alone g.D.Watched c.args.self.now.disk c.args.self.now.disk refl)
+    (record { only_now = g.met.D.Disk.only_now; counts_now = g.met.D.Disk.counts_now }) represents c.args.self.now.disk
+    (alone g.D.Watched c.args.self.now.disk c.args.self.now.disk refl)
 
 pub returns-in-Err-clause-fits : goal.returns-in-Err-clause-fits
 returns-in-Err-clause-fits g c h l o is opened whole lent fits =

@@ -1,7 +1,9 @@
 use Rattle.vl_engine.proofs.Committing.{decides_leaving}
 use Rattle.vl_engine.proofs.Flushed.{runs_on as runs_so}
 use Rattle.vl_engine.proofs.KeepSteps.{leaves_numbers}
-use Rattle.vl_engine.proofs.KeptBy.{carries_by, carries_left, carries_same, fits_by, fronts_by, is_invalid, is_some, left_same, ruled_halted, ruled_invalid, stands_by, switched_by, within_by, written_by}
+use Rattle.vl_engine.proofs.KeptBy.{carries_by, carries_left, carries_same, fits_by, fronts_by, is_invalid, is_some}
+use Rattle.vl_engine.proofs.KeptBy.{left_same, ruled_halted, ruled_invalid, stands_by, switched_by, within_by}
+use Rattle.vl_engine.proofs.KeptBy.{written_by}
 use Rattle.vl_engine.specs.Keeping.{MayKeep}
 use Rattle.vl_engine.specs.Represents.{Fronts, StandsFor, file_of}
 use Rattle.vl_engine.specs.Stepping.{Fits}

@@ -3,7 +3,8 @@ use Rattle.std.specs.Prelude.{Option}
 use Rattle.vl_compact.specs.Laid.{AreBoth}
 use Rattle.vl_disk.specs.DiskState.{DiskState}
 use Rattle.vl_engine.proofs.Committing.{decides_leaving}
-use Rattle.vl_engine.proofs.Planning.{decides_planned, fits_planned, fits_readers, is_idle, is_planned, merge_for, merge_is, represents_planned, stands_planned}
+use Rattle.vl_engine.proofs.Planning.{decides_planned, fits_planned, fits_readers, is_idle, is_planned, merge_for}
+use Rattle.vl_engine.proofs.Planning.{merge_is, represents_planned, stands_planned}
 use Rattle.vl_engine.proofs.engine.Engine.plan.Goals as goal
 use Rattle.vl_engine.specs.Merging.{HasMerge, StandsOpen}
 use Rattle.vl_engine.specs.Represents.{Represents}

@@ -3,7 +3,9 @@ use Rattle.vl_engine.proofs.Begins.{keeps_told}
 use Rattle.vl_engine.proofs.Fitted.{rotate_refused, rotated_by}
 use Rattle.vl_engine.proofs.Leaving.{rotate_within}
 use Rattle.vl_engine.proofs.RotateSteps.{leaves_numbers, running_so}
-use Rattle.vl_engine.proofs.Rotated.{begins_by, calls_by, can_by, carries_as_refused, carries_by, fronts_as_refused, fronts_by, numbers_held, refused_calls, refused_no_disk, stands_as_refused, stands_by, stopped_by, untouched_by}
+use Rattle.vl_engine.proofs.Rotated.{begins_by, calls_by, can_by, carries_as_refused, carries_by, fronts_as_refused}
+use Rattle.vl_engine.proofs.Rotated.{fronts_by, numbers_held, refused_calls, refused_no_disk, stands_as_refused}
+use Rattle.vl_engine.proofs.Rotated.{stands_by, stopped_by, untouched_by}
 use Rattle.vl_engine.proofs.Untouched.{alone}
 use Rattle.vl_engine.specs.Stepping.{StepFailed}
 use Rattle.vl_engine.proofs.Untold.{rotate_untold, untold_same}

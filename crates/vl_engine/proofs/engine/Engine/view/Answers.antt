@@ -86,17 +86,21 @@ returns-in-Err-clause-stands g c h l is =
     let core = c.args.self.now.core in
     decides_refused l h _ g.row.D-Held.Denot g.row.D-Reader.Denot c.in-Err.why
     (λ many. is_full core h l is.fronts (c.in-Err.ensures.too_many.0 (cc)))
-    (subst (λ (f : Front). StandsFor g.D.Held.HeldFile.bytes (record core { version = c.share.new.self; front = f }) h l) (sym c.in-Err.ensures.err)
-    (subst (λ (v : Version g.row.D-Held.Denot). StandsFor g.D.Held.HeldFile.bytes (record core { version = v }) h l) (sym c.share.ensures.same) is))
+    (subst (λ (f : Front). StandsFor g.D.Held.HeldFile.bytes (record core { version = c.share.new.self; front = f }) h
+    l) (sym c.in-Err.ensures.err)
+    (subst (λ (v : Version g.row.D-Held.Denot). StandsFor g.D.Held.HeldFile.bytes (record core { version = v }) h l)
+    (sym c.share.ensures.same) is))
 
 pub returns-in-Err-clause-represents : goal.returns-in-Err-clause-represents
 returns-in-Err-clause-represents g c h l is =
     let core = c.args.self.now.core in
     decides_refused l h _ g.row.D-Held.Denot g.row.D-Reader.Denot c.in-Err.why
     (λ many. is_full core h l is.stands.fronts (c.in-Err.ensures.too_many.0 (cc)))
-    (subst (λ (f : Front). Represents g.D.Held.HeldFile.bytes (record core { version = c.share.new.self; front = f }) (g.D.Watched.told c.args.self.now.disk) h l)
+    (subst (λ (f : Front). Represents g.D.Held.HeldFile.bytes (record core { version = c.share.new.self; front = f })
+    (g.D.Watched.told c.args.self.now.disk) h l)
     (sym c.in-Err.ensures.err)
-    (subst (λ (v : Version g.row.D-Held.Denot). Represents g.D.Held.HeldFile.bytes (record core { version = v }) (g.D.Watched.told c.args.self.now.disk) h l)
+    (subst (λ (v : Version g.row.D-Held.Denot). Represents g.D.Held.HeldFile.bytes (record core { version = v })
+    (g.D.Watched.told c.args.self.now.disk) h l)
     (sym c.share.ensures.same) is))
 
 pub returns-in-Err-clause-fits : goal.returns-in-Err-clause-fits

@@ -131,7 +131,8 @@ returns-clause-as_written g c =
             ∙ ap (λ (o : LiveTickets). oracle.ended c.args.txn.ticket (oracle.advanced (o.last + 1) o)) same.oracle;
         number = ap (λ (log : ActiveLog). log.number) c.committed.ensures.log.log ∙ c.append_durably.ensures.number ∙ number;
         long = longer g.D.Watched before.front writes then_front.log.number c.in-Ok.staged.frame number staged.frame _
-            (ap (λ (log : ActiveLog). log.length) c.committed.ensures.log.log ∙ (rw c.in-Ok-append_durably.is at c.append_durably.ensures.longer)
+            (ap (λ (log : ActiveLog). log.length) c.committed.ensures.log.log
+            ∙ (rw c.in-Ok-append_durably.is at c.append_durably.ensures.longer)
             ∙ ap (λ (log : ActiveLog). min (log.length + length c.in-Ok.staged.frame.frame.items) (2 ^ 64 - 1)) same.log.log);
         room = c.committed.ensures.log.room ∙ same.log.room;
         halted = c.committed.ensures.log.halted ∙ same.log.halted;

@@ -6,7 +6,8 @@ use Rattle.vl_engine.proofs.txn.Txn.get_tagged.Goals as goal
 
 pub returns-in_err-get-clause-sound : goal.returns-in_err-get-clause-sound
 returns-in_err-get-clause-sound g c h reads sees =
-    handed_on (Option Stored) _ c.in_err-get.field-0.0 (c.in_err-get.ensures.sound h reads sees) c.from_residual.result c.from_residual.ensures.1
+    handed_on (Option Stored) _ c.in_err-get.field-0.0 (c.in_err-get.ensures.sound h reads sees) c.from_residual.result
+    c.from_residual.ensures.1
 
 pub returns-clause-value : goal.returns-clause-value
 returns-clause-value g c h reads sees =

@@ -26,7 +26,8 @@ pub returns-in_err-get-clause-sound : goal.returns-in_err-get-clause-sound
 returns-in_err-get-clause-sound g c h sees =
     let v = sees.version in
     fault_sound (λ (value : Option Stored). resolved_at v.logs (winner v.entries_of c.args.key.now c.args.self.now.number) ≡ Some value)
-    (IsAstray v.logs (winner v.entries_of c.args.key.now c.args.self.now.number)) (λ name place astray. none_astray v.logs v.entries_of h c.args.self.now.number v.shows c.args.key.now astray.0)
+    (IsAstray v.logs (winner v.entries_of c.args.key.now c.args.self.now.number))
+    (λ name place astray. none_astray v.logs v.entries_of h c.args.self.now.number v.shows c.args.key.now astray.0)
     c.in_err-get.field-0.0
     (c.in_err-get.ensures.answers sees.files v.entries_of v.logs sees.reader v.has)
     c.from_residual-in_err-get.result c.from_residual-in_err-get.ensures.1

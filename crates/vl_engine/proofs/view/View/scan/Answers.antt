@@ -20,7 +20,8 @@ returns-in_err-rows-clause-sound g c h sees =
     let v = sees.version in
     let number = c.args.self.now.number in
     let asked : Wanted = record { low = c.args.low; high = c.args.high; limit = c.args.limit; way = c.args.way } in
-    fault_sound (λ (rows : Vec Row Global). AreScanned v.logs v.entries_of number asked c.new-own.result rows.items) (SomeAstray v.logs v.entries_of number)
+    fault_sound (λ (rows : Vec Row Global). AreScanned v.logs v.entries_of number asked c.new-own.result rows.items)
+    (SomeAstray v.logs v.entries_of number)
     (λ name place astray. none_astray v.logs v.entries_of h number v.shows astray.0 astray.1.0)
     c.in_err-rows.field-0.0
     (c.in_err-rows.ensures.answers v.entries_of v.logs v.has)

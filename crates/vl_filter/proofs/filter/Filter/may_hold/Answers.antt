@@ -7,7 +7,8 @@ returns-then-not-is_set c =
     let bytes = c.args.self.now.bytes.now in
     let same : length bytes * 8 ≡ 8 * length bytes = omega arith in
     one_unset c.args.key.now c.of-hashes.result c.loop-index.index c.of-hashes.ensures
-    bytes (length bytes * 8) c.place.result c.is_set.result (let within = c.loop-index-test.true in omega arith) same c.place.ensures.is c.is_set.ensures c.if-not-is_set.true
+    bytes (length bytes * 8) c.place.result c.is_set.result (let within = c.loop-index-test.true in omega arith) same
+    c.place.ensures.is c.is_set.ensures c.if-not-is_set.true
 
 pub returns : goal.returns
 returns c =

@@ -3,7 +3,8 @@ use Rattle.std.specs.FinMap.{entries, len}
 use Rattle.vl_seglog.specs.Commit.{commit_length}
 use Rattle.vl_front.proofs.Deciding.{has_room, is_full, next_length-counted}
 use Rattle.vl_front.proofs.front.Front.room_for.Goals as goal
-use Rattle.vl_front.proofs.front.Front.room_for.Goals.{else-length-self-via-then-length-self+else-frame-self, else-length-self-via-else-length-self}
+use Rattle.vl_front.proofs.front.Front.room_for.Goals.{else-length-self-via-then-length-self+else-frame-self}
+use Rattle.vl_front.proofs.front.Front.room_for.Goals.{else-length-self-via-else-length-self}
 
 pub returns-then-frame-self : goal.returns-then-frame-self
 returns-then-frame-self c =

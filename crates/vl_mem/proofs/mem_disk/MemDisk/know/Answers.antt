@@ -9,6 +9,8 @@ none_there (Some e) is = cc
 
 pub invariant_of-self : goal.invariant_of-self
 invariant_of-self c = record {
-  kept = known c.insert.result c.args.name c.blank.result c.args.self.now.entries c.insert.new.self c.args.self.now.events.items (vec_capacity c.args.self.now.events) c.blank.ensures
-      (none_there _ (sym c.contains_key.ensures ∙ c.if-contains_key.false)) c.insert.ensures.updates c.insert.ensures.entries c.insert.ensures.err c.insert.ensures.was_ordered c.args.self.now.kept;
+  kept = known c.insert.result c.args.name c.blank.result c.args.self.now.entries c.insert.new.self
+      c.args.self.now.events.items (vec_capacity c.args.self.now.events) c.blank.ensures
+      (none_there _ (sym c.contains_key.ensures ∙ c.if-contains_key.false)) c.insert.ensures.updates
+      c.insert.ensures.entries c.insert.ensures.err c.insert.ensures.was_ordered c.args.self.now.kept;
 }

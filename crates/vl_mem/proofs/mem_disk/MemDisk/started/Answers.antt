@@ -15,23 +15,30 @@ AreNumbered = All (λ file. IsNumbered file.0)
 
 pub loop-name-init : goal.loop-name-init
 loop-name-init c =
-    let items : into_iter_items c.into_iter-name-iterator.result ≡ c.args.files.items = c.into_iter-name-iterator.ensures.into_iter_gives.0 in
+    let items : into_iter_items
+    c.into_iter-name-iterator.result ≡ c.args.files.items = c.into_iter-name-iterator.ensures.into_iter_gives.0 in
     record {
-      kept = kept_at_first c.new-entries.result c.new-events.result.items (vec_capacity c.new-events.result) c.new-entries.ensures.empty c.new-events.ensures.items;
-      rest = ap (λ files. with_found files (state_after c.new-events.result.items)) items ∙ ap (λ es. with_found c.args.files.items (state_after es)) c.new-events.ensures.items;
+      kept = kept_at_first c.new-entries.result c.new-events.result.items (vec_capacity c.new-events.result)
+          c.new-entries.ensures.empty c.new-events.ensures.items;
+      rest = ap (λ files. with_found files (state_after c.new-events.result.items)) items
+          ∙ ap (λ es. with_found c.args.files.items (state_after es)) c.new-events.ensures.items;
       numbered = subst AreNumbered (sym items) c.requires;
     }
 
 pub found-requires : goal.found-requires
-found-requires c = (subst AreNumbered c.in-Some.ensures.steps.0 c.loop-name.invariant.numbered) 0 (c.in-Some.name, c.in-Some.bytes) (omega arith)
+found-requires c = (subst AreNumbered c.in-Some.ensures.steps.0 c.loop-name.invariant.numbered) 0
+    (c.in-Some.name, c.in-Some.bytes) (omega arith)
 
 pub loop-name-preserved : goal.loop-name-preserved
 loop-name-preserved c =
-    let more : into_iter_items c.loop-name.name-iterator ≡ (c.in-Some.name, c.in-Some.bytes) ∷ into_iter_items c.next.new.self = c.in-Some.ensures.steps.0 in
+    let more : into_iter_items c.loop-name.name-iterator ≡ (c.in-Some.name, c.in-Some.bytes) ∷ into_iter_items
+    c.next.new.self = c.in-Some.ensures.steps.0 in
     record {
       kept = c.in_ok-found.ensures.kept c.loop-name.invariant.kept;
-      rest = ap (with_found (into_iter_items c.next.new.self)) c.in_ok-found.ensures.state ∙ ap (λ files. with_found files (state_after c.loop-name.events.items)) (sym more) ∙ c.loop-name.invariant.rest;
-      numbered = All-tail (λ file. IsNumbered file.0) (c.in-Some.name, c.in-Some.bytes) (into_iter_items c.next.new.self) (subst AreNumbered more c.loop-name.invariant.numbered);
+      rest = ap (with_found (into_iter_items c.next.new.self)) c.in_ok-found.ensures.state
+          ∙ ap (λ files. with_found files (state_after c.loop-name.events.items)) (sym more) ∙ c.loop-name.invariant.rest;
+      numbered = All-tail (λ file. IsNumbered file.0) (c.in-Some.name, c.in-Some.bytes)
+          (into_iter_items c.next.new.self) (subst AreNumbered more c.loop-name.invariant.numbered);
     }
 
 pub invariant_of-result : goal.invariant_of-result
@@ -43,6 +50,8 @@ ended (x ∷ xs) none = absurd (omega arith)
 
 pub returns-clause-started : goal.returns-clause-started
 returns-clause-started c disk is =
-    let none : into_iter_items c.loop-name.name-iterator ≡ [] = ended (into_iter_items c.loop-name.name-iterator) (sym c.loop-name.name-iterator.rest.ok.0 ∙ c.in-None.ensures.steps.0) in
+    let none : into_iter_items c.loop-name.name-iterator ≡ [] = ended (into_iter_items c.loop-name.name-iterator)
+    (sym c.loop-name.name-iterator.rest.ok.0 ∙ c.in-None.ensures.steps.0) in
     subst (Started (image_of c.args.files.items))
-    (sym c.loop-name.invariant.rest ∙ ap (λ files. with_found files (state_after c.loop-name.events.items)) none ∙ some_state (state_after c.loop-name.events.items) disk is) (starts c.args.files.items)
+    (sym c.loop-name.invariant.rest ∙ ap (λ files. with_found files (state_after c.loop-name.events.items)) none
+    ∙ some_state (state_after c.loop-name.events.items) disk is) (starts c.args.files.items)

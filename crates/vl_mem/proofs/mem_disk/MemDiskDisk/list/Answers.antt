@@ -18,4 +18,5 @@ pub returns-clause-numbered : goal.returns-clause-numbered
 returns-clause-numbered c =
     let m = c.args.self.now in
     subst (All IsNumbered) (sym c.in_ok-names_of.ensures.names)
-    (all_numbered m.entries (state_of m) m.kept.files c.names_of.ensures.ordered (told_lawful m.events.items m.kept.sound (state_of m) refl))
+    (all_numbered m.entries (state_of m) m.kept.files c.names_of.ensures.ordered
+    (told_lawful m.events.items m.kept.sound (state_of m) refl))

@@ -13,7 +13,8 @@ returns-clause-left g c =
 pub returns-clause-budget : goal.returns-clause-budget
 returns-clause-budget g c =
     let budget = g.C.Cursor.budget in
-    budget-planted budget c.in_ok-build_tree.field-0 c.in_ok-build_tree.ensures.unread ∙ ap (sum_by budget) c.in_ok-build_tree.ensures.leaves
+    budget-planted budget c.in_ok-build_tree.field-0 c.in_ok-build_tree.ensures.unread
+    ∙ ap (sum_by budget) c.in_ok-build_tree.ensures.leaves
 
 pub returns-clause-may_fail : goal.returns-clause-may_fail
 returns-clause-may_fail g c = λ fault fails.

@@ -38,7 +38,8 @@ invariant_of-self-in-Err c =
     let live : LiveTickets = record { last = c.self.inside.last; tickets = c.self.inside.live.items } in
     subst (λ (ts : List Ticket). IsKept (record { last = live.last; tickets = ts })
     (get nat_cmp c.remove.new.numbers)) (sym c.in-Err.ensures.items)
-    (kept-undone live (get nat_cmp c.self.inside.numbers) c.self.invariant (get nat_cmp c.add.new.numbers) (get nat_cmp c.remove.new.numbers) c.in_ok-add.ensures.ok (λ count n one. c.remove.ensures count one n))
+    (kept-undone live (get nat_cmp c.self.inside.numbers) c.self.invariant (get nat_cmp c.add.new.numbers)
+    (get nat_cmp c.remove.new.numbers) c.in_ok-add.ensures.ok (λ count n one. c.remove.ensures count one n))
 
 pub returns-in-Ok-clause-ok : goal.returns-in-Ok-clause-ok
 returns-in-Ok-clause-ok c =
@@ -64,7 +65,8 @@ returns-in-Ok-clause-floor c =
     let free = c.free_ticket-ticket.ensures.free ∙ ap (free_from 0) c.deref.ensures.value in
     let entries = c.in-Ok.ensures.items ∙ ap (λ (t : ℕ). insert live.tickets t (t, live.last)) free
     ∙ insert-free live.last live.tickets (as_T (is_sorted nat_cmp live.tickets) c.self.invariant.are.rising) in
-    let after = kept-begun live (get nat_cmp c.self.inside.numbers) c.self.invariant (get nat_cmp c.add.new.numbers) room c.in_ok-add.ensures.ok in
+    let after = kept-begun live (get nat_cmp c.self.inside.numbers) c.self.invariant (get nat_cmp c.add.new.numbers)
+    room c.in_ok-add.ensures.ok in
     let floors = floor-begun live c.self.invariant.are after.are in
     subst (λ (ts : List Ticket). floor_of c.args.self.now ≤ floor_of (record { last = live.last; tickets = ts })) (sym entries)
     (subst (λ (l : LiveTickets). floor_of l ≤ floor_of (begun live)) c.self.view_is floors)

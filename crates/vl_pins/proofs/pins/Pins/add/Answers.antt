@@ -16,10 +16,13 @@ invariant_of-self c =
     let fine = c.insert.ensures.succeeds (omega arith) in
     let items = c.insert.ensures.items ∙ ap (λ (b : Bool). cond b (insert v.items at c.args.version) v.items) fine in
     let position : IsBinarySearchResult (λ y. nat_cmp y c.args.version) v.items c.binary_search.result =
-    subst (λ (xs : List ℕ). IsBinarySearchResult (λ y. nat_cmp y c.args.version) xs c.binary_search.result) c.deref.ensures.value c.binary_search.ensures.position in
+    subst (λ (xs : List ℕ). IsBinarySearchResult (λ y. nat_cmp y c.args.version) xs c.binary_search.result)
+    c.deref.ensures.value c.binary_search.ensures.position in
     let place : IsPlace v.items c.args.version at = elim c.match-binary_search.branch [
-      | in-Ok w ↦ subst (IsPlace v.items c.args.version) (sym w.at-is) (placed_ok v.items c.args.version c.self.invariant c.binary_search.result position w.in-Ok.at w.in-Ok.is)
-      | in-Err w ↦ subst (IsPlace v.items c.args.version) (sym w.at-is) (placed_err v.items c.args.version c.self.invariant c.binary_search.result position w.in-Err.at w.in-Err.is)
+      | in-Ok w ↦ subst (IsPlace v.items c.args.version) (sym w.at-is)
+          (placed_ok v.items c.args.version c.self.invariant c.binary_search.result position w.in-Ok.at w.in-Ok.is)
+      | in-Err w ↦ subst (IsPlace v.items c.args.version) (sym w.at-is)
+          (placed_err v.items c.args.version c.self.invariant c.binary_search.result position w.in-Err.at w.in-Err.is)
     ] in
     let P : List ℕ → Type 0 = λ xs. IsNonDecreasing xs in
     subst P (sym items) (rises_insert v.items c.args.version c.self.invariant at place)

@@ -12,7 +12,8 @@ invariant_of-self c =
     let v = c.self.inside.versions in
     let at = c.in-Ok.at in
     let position : IsBinarySearchResult (λ y. nat_cmp y c.args.version) v.items c.binary_search.result =
-    subst (λ (xs : List ℕ). IsBinarySearchResult (λ y. nat_cmp y c.args.version) xs c.binary_search.result) c.deref.ensures.value c.binary_search.ensures.position in
+    subst (λ (xs : List ℕ). IsBinarySearchResult (λ y. nat_cmp y c.args.version) xs c.binary_search.result)
+    c.deref.ensures.value c.binary_search.ensures.position in
     let there = found v.items c.args.version c.self.invariant c.binary_search.result position at c.in-Ok.is in
     let P : List ℕ → Type 0 = λ xs. IsNonDecreasing xs in
     subst P (sym c.remove.ensures.items) (rises_remove v.items c.args.version c.self.invariant at there.within)
@@ -23,8 +24,10 @@ returns-in-Ok-clause-versions c =
     let at = c.in-Ok.at in
     let version = c.args.version in
     let position : IsBinarySearchResult (λ y. nat_cmp y version) v.items c.binary_search.result =
-    subst (λ (xs : List ℕ). IsBinarySearchResult (λ y. nat_cmp y version) xs c.binary_search.result) c.deref.ensures.value c.binary_search.ensures.position in
+    subst (λ (xs : List ℕ). IsBinarySearchResult (λ y. nat_cmp y version) xs c.binary_search.result)
+    c.deref.ensures.value c.binary_search.ensures.position in
     let there = found v.items version c.self.invariant c.binary_search.result position at c.in-Ok.is in
     let is : version ≡ get_or v.items at version = sym there.is ∙ get_or_default v.items at 0 version there.within in
     subst (λ (p : Pinned). IsPermutation p.versions (version ∷ c.remove.new.self.items)) c.self.view_is
-    (subst (λ (xs : List ℕ). IsPermutation v.items (version ∷ xs)) (sym c.remove.ensures.items) (IsPermutation-remove v.items at version there.within is))
+    (subst (λ (xs : List ℕ). IsPermutation v.items (version ∷ xs)) (sym c.remove.ensures.items)
+    (IsPermutation-remove v.items at version there.within is))

@@ -7,7 +7,8 @@ use Rattle.vl_pins.proofs.trash.Trash.take.Goals as goal
 pub returns-clause-files : goal.returns-clause-files
 returns-clause-files c =
     let old = c.self.inside.files in
-    ap all_retired (removed _ _ deque_items c.remove.result old c.remove.new.self c.place_of-at.result old.len old.ok.0 c.remove.ensures.items c.remove.ensures.unchanged c.remove.ensures.variant)
+    ap all_retired (removed _ _ deque_items c.remove.result old c.remove.new.self c.place_of-at.result old.len old.ok.0
+    c.remove.ensures.items c.remove.ensures.unchanged c.remove.ensures.variant)
     ∙ c.place_of-at.ensures.first
     ∙ ap (λ (t : RetiredFiles). without_first (file_of c.args.file) t.files) c.self.view_is
 

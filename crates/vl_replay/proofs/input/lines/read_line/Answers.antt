@@ -33,14 +33,16 @@ returns-in_err-refill-clause-keeps_up g c left told kept_up =
     let was = c.loop-line.invariant.told left told in
     let taken = rw c.if-branch.false at c.in_ok-take_line.ensures in
     let all = read_all _ _ _ _ _ _ was.2 c.loop-line.invariant.unended taken in
-    keeps_up_within (c.args.buffer.now ++ left) c.take_line.new.line.items was.0 (g.S.Source.asked c.refill.new.source) all.0 all.1 (c.refill.ensures.asked ∙ was.1)
+    keeps_up_within (c.args.buffer.now ++ left) c.take_line.new.line.items was.0 (g.S.Source.asked c.refill.new.source)
+    all.0 all.1 (c.refill.ensures.asked ∙ was.1)
 
 pub returns-else-is_empty-clause-keeps_up : goal.returns-else-is_empty-clause-keeps_up
 returns-else-is_empty-clause-keeps_up g c left told kept_up =
     let was = c.loop-line.invariant.told left told in
     let taken = rw c.if-branch.false at c.in_ok-take_line.ensures in
     let all = read_all _ _ _ _ _ _ was.2 c.loop-line.invariant.unended taken in
-    keeps_up_within (c.args.buffer.now ++ left) c.take_line.new.line.items was.0 (g.S.Source.asked c.refill.new.source) all.0 all.1 (c.refill.ensures.asked ∙ was.1)
+    keeps_up_within (c.args.buffer.now ++ left) c.take_line.new.line.items was.0 (g.S.Source.asked c.refill.new.source)
+    all.0 all.1 (c.refill.ensures.asked ∙ was.1)
 
 pub loop-line-preserved : goal.loop-line-preserved
 loop-line-preserved g c =
@@ -50,13 +52,21 @@ loop-line-preserved g c =
           let was = c.loop-line.invariant.told had told in
           let all = read_all _ _ _ _ _ _ was.2 c.loop-line.invariant.unended taken in
           let filled = rw (c.if-not-branch.false, was.1) at c.in_ok-refill.ensures.bytes in
-          more_given (c.args.buffer.now ++ had) c.take_line.new.line.items was.0 c.refill.new.self (g.S.Source.left c.refill.new.source) all.0 filled;
+          more_given (c.args.buffer.now ++ had) c.take_line.new.line.items was.0 c.refill.new.self
+          (g.S.Source.left c.refill.new.source) all.0 filled;
       unended = rw taken.2 (unended-append c.loop-line.line.items c.loop-line.buffer c.loop-line.invariant.unended taken.1);
       keeps_up = λ had told kept_up.
           let was = c.loop-line.invariant.told had told in
           let all = read_all _ _ _ _ _ _ was.2 c.loop-line.invariant.unended taken in
-          keeps_up_within (c.args.buffer.now ++ had) c.take_line.new.line.items was.0 (g.S.Source.asked c.refill.new.source) all.0 all.1 (c.refill.ensures.asked ∙ was.1);
-      spent = omega (arith, ap length taken.2, length-append c.loop-line.line.items c.loop-line.buffer, c.in_ok-refill.ensures.budget, c.loop-line.invariant.spent);
+          keeps_up_within (c.args.buffer.now ++ had) c.take_line.new.line.items was.0
+          (g.S.Source.asked c.refill.new.source) all.0 all.1 (c.refill.ensures.asked ∙ was.1);
+      spent = omega (
+        arith,
+        ap length taken.2,
+        length-append c.loop-line.line.items c.loop-line.buffer,
+        c.in_ok-refill.ensures.budget,
+        c.loop-line.invariant.spent,
+      );
       steady = c.in_ok-refill.ensures.cause.steady (λ e. cc) ∙ c.loop-line.invariant.steady;
     }
 

@@ -10,9 +10,11 @@ invariant-loop-line g l =
     let left = g.S.Source.left in
     let asked = g.S.Source.asked in
     record {
-      told : (had : List ℕ) → left l.fn.source ≡ Some had → (rest : List ℕ) × (left l.source ≡ Some rest) × (l.fn.buffer ++ had ≡ l.line.items ++ (l.buffer ++ rest));
+      told : (had : List ℕ) → left l.fn.source ≡ Some had → (rest : List ℕ) × (left l.source ≡ Some rest)
+          × (l.fn.buffer ++ had ≡ l.line.items ++ (l.buffer ++ rest));
       unended : HasNoLineEnd l.line.items;
-      keeps_up : (had : List ℕ) → left l.fn.source ≡ Some had → KeepsUp (l.fn.buffer ++ had) (asked l.fn.source) 0 → KeepsUp (l.fn.buffer ++ had) (asked l.source) 0;
+      keeps_up : (had : List ℕ) → left l.fn.source ≡ Some had → KeepsUp (l.fn.buffer ++ had) (asked l.fn.source) 0
+          → KeepsUp (l.fn.buffer ++ had) (asked l.source) 0;
       spent : length l.line.items + (length l.buffer + g.S.Source.budget l.source) ≤ length l.fn.buffer + g.S.Source.budget l.fn.source;
       steady : g.S.Source.faults l.source ≡ g.S.Source.faults l.fn.source;
     }

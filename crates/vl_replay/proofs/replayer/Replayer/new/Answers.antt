@@ -36,7 +36,9 @@ returns-in-Ok-clause-refused g c state read refusal is is_read refused =
 
 pub returns-in-Err-clause-at_most : goal.returns-in-Err-clause-at_most
 returns-in-Err-clause-at_most g c s starts below =
-    at_most _ _ _ s.calls below (c.in-Err.ensures.stopped starts.state starts.read starts.found starts.strays starts.told starts.is_read starts.are_strays) starts.calls
+    at_most _ _ _ s.calls below
+    (c.in-Err.ensures.stopped starts.state starts.read starts.found starts.strays starts.told starts.is_read
+    starts.are_strays) starts.calls
 
 pub returns-in-Ok-clause-at_most : goal.returns-in-Ok-clause-at_most
 returns-in-Ok-clause-at_most g c s starts below =
@@ -65,6 +67,7 @@ pub returns-in-Ok-clause-holds : goal.returns-in-Ok-clause-holds
 returns-in-Ok-clause-holds g c s starts openable =
     opened_holds g.D.Watched g.D.Held.HeldFile.bytes c.args.disk s starts c.in-Ok.engine.core
     (c.in-Ok.ensures.back starts.state starts.read starts.found starts.told starts.is_read) c.in-Ok.engine.disk openable
-    (c.in-Ok.ensures.represents starts.state starts.read starts.found (history_of s) starts.told (starts.openable openable) starts.is_read starts.shown)
+    (c.in-Ok.ensures.represents starts.state starts.read starts.found (history_of s) starts.told
+    (starts.openable openable) starts.is_read starts.shown)
     (c.in-Ok.ensures.repaired starts.state starts.read starts.told starts.is_read)
     (c.in-Ok.ensures.calls starts.state starts.read starts.found starts.strays starts.told starts.is_read starts.are_strays)

@@ -96,7 +96,8 @@ returns-in-Err-Conflict-clause-makes g c s stands =
     let (t, b, there, is, began) = itself bytes seen core os s stands left c.args.name txn taken in
     conflict_makes bytes seen now core then os s stands c.commit.ensures.steps left c.args.name txn taken t b there is _ _
     c.in-Err-Conflict.key c.in-Err-Conflict.number
-    (decided_so txn bytes (Serves bytes now s.openable then) (history_of s) s.store.layout t is _ _ (rulings.Conflict c.in-Err-Conflict.key c.in-Err-Conflict.number)
+    (decided_so txn bytes (Serves bytes now s.openable then) (history_of s) s.store.layout t is _ _
+    (rulings.Conflict c.in-Err-Conflict.key c.in-Err-Conflict.number)
     (outcome_fail txn _ _ c.in-Err-Conflict.field-0-is)
     (decides_all bytes now s.openable then (history_of s) s.store.layout _ _ _ _
     (c.in-Err-Conflict.ensures.stands (history_of s) s.store.layout t.reads stands.engine is.live is.sees.notes)
@@ -154,7 +155,8 @@ returns-in-Err-Full-clause-makes g c s stands =
     c.in-Err-Full.txn
     (c.in-Err-Full.ensures.back c.in-Err-Full.txn (handed_so txn _ _ c.in-Err-Full.field-0-is))
     c.in-Err-Full.field-0-1 c.in-Err-Full.field-0-2
-    (decided_so txn bytes (Serves bytes now s.openable then) (history_of s) s.store.layout t is _ _ (rulings.Full c.in-Err-Full.field-0-1 c.in-Err-Full.field-0-2)
+    (decided_so txn bytes (Serves bytes now s.openable then) (history_of s) s.store.layout t is _ _
+    (rulings.Full c.in-Err-Full.field-0-1 c.in-Err-Full.field-0-2)
     (outcome_fail txn _ _ c.in-Err-Full.field-0-is)
     (decides_all bytes now s.openable then (history_of s) s.store.layout _ _ _ _
     (c.in-Err-Full.ensures.stands (history_of s) s.store.layout t.reads stands.engine is.live is.sees.notes)
@@ -176,7 +178,8 @@ returns-clause-sound g c s stands halts =
     c.in-Some-Transaction.field-0-is c.in-Some-Transaction.ensures in
     let (t, b, there, is, began) = itself bytes seen core os s stands left c.args.name txn taken in
     never_halted bytes seen now core then os s stands c.commit.ensures.steps left c.args.name txn taken t b there is _ _ _
-    (decided_so txn bytes (Serves bytes now s.openable then) (history_of s) s.store.layout t is _ _ (rulings.Halted (engine.file_of c.in-Err-Halted.file))
+    (decided_so txn bytes (Serves bytes now s.openable then) (history_of s) s.store.layout t is _ _
+    (rulings.Halted (engine.file_of c.in-Err-Halted.file))
     (outcome_fail txn _ _ c.in-Err-Halted.field-0-is)
     (decides_all bytes now s.openable then (history_of s) s.store.layout _ _ _ _
     (c.in-Err-Halted.ensures.stands (history_of s) s.store.layout t.reads stands.engine is.live is.sees.notes)
@@ -214,7 +217,8 @@ returns-in-Some-View-clause-carries g c s stands =
     quiet_carries g.D.Watched (record { only_now = g.met.D.Disk.only_now; counts_now = g.met.D.Disk.counts_now }) bytes
     seen core c.put.new.opens.items s
     (commit_by s.store c.args.name (thing_of s.store c.args.name))
-    (only_keeps s.store _ _ (ap (commit_by s.store c.args.name) (its bytes seen core os s stands left c.args.name c.in-Some-View.view taken).1))
+    (only_keeps s.store _ _ (ap (commit_by s.store c.args.name)
+    (its bytes seen core os s stands left c.args.name c.in-Some-View.view taken).1))
     _ (returns-in-Some-View-clause-makes g c s stands) (λ halts. halts) c.args.self.now.engine.disk c.args.self.now.engine.disk refl
 
 pub returns-in-Ok-At-clause-carries : goal.returns-in-Ok-At-clause-carries
@@ -390,7 +394,8 @@ returns-in_err-put-in-Some-View-clause-carries g c s stands =
     carries_short g.D.Watched _ _ s _ _ c.from_residual.ensures.1
     (quiet_carries g.D.Watched (record { only_now = g.met.D.Disk.only_now; counts_now = g.met.D.Disk.counts_now }) bytes seen core left s
     (commit_by s.store c.args.name (thing_of s.store c.args.name))
-    (only_keeps s.store _ _ (ap (commit_by s.store c.args.name) (its bytes seen core os s stands left c.args.name c.in-Some-View.view taken).1))
+    (only_keeps s.store _ _ (ap (commit_by s.store c.args.name)
+    (its bytes seen core os s stands left c.args.name c.in-Some-View.view taken).1))
     (Err halts.NoMemory) tt (λ by. by) c.args.self.now.engine.disk c.args.self.now.engine.disk refl)
 
 pub returns-in_err-put-in-Err-Exhausted-clause-carries : goal.returns-in_err-put-in-Err-Exhausted-clause-carries

@@ -26,11 +26,13 @@ returns-in-Some-View-clause-makes g c s stands none =
     let left = c.take_out.new.opens.items in
     let taken = taken_out bytes seen core os left s stands c.as_slice.result.now c.args.name c.as_slice.ensures _ _
     c.in-Some-View.field-0-is c.in-Some-View.ensures in
-    view_ends bytes seen (g.D.Watched.told c.release.new.self.disk) core c.release.new.self.core os s stands c.release.ensures.back left c.args.name c.in-Some-View.view taken
+    view_ends bytes seen (g.D.Watched.told c.release.new.self.disk) core c.release.new.self.core os s stands
+    c.release.ensures.back left c.args.name c.in-Some-View.view taken
     (record {
       stands = c.release.ensures.stands (history_of s) s.store.layout stands.engine;
       fits = c.release.ensures.fits (history_of s) s.store.layout stands.fits;
-      held = λ openable. (c.release.ensures.represents (history_of s) s.store.layout (represents bytes seen core os s stands openable)).held;
+      held = λ openable. (c.release.ensures.represents (history_of s) s.store.layout
+          (represents bytes seen core os s stands openable)).held;
     })
 
 pub returns-clause-makes : goal.returns-clause-makes
@@ -42,7 +44,8 @@ returns-clause-makes g c s stands none =
     let left = c.take_out.new.opens.items in
     let taken = taken_out bytes seen core os left s stands c.as_slice.result.now c.args.name c.as_slice.ensures _ _
     c.in-Some-Transaction.field-0-is c.in-Some-Transaction.ensures in
-    transaction_ends bytes seen (g.D.Watched.told c.forget.new.self.disk) core c.forget.new.self.core os s stands c.forget.ensures.back left c.args.name
+    transaction_ends bytes seen (g.D.Watched.told c.forget.new.self.disk) core c.forget.new.self.core os s stands
+    c.forget.ensures.back left c.args.name
     c.in-Some-Transaction.txn taken
     (record {
       stands = c.forget.ensures.stands (history_of s) s.store.layout stands.engine;

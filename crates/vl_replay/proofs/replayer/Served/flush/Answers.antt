@@ -54,7 +54,8 @@ returns-clause-sound g c s stands halts =
     (c.flush.ensures.stands fits.state h l fits.told_is stands.engine (λ running. (fits.numbers, fits.files)))
     (c.flush.ensures.fits h l stands.engine stands.fits)
     (λ openable. (c.flush.ensures.carries h l (represents bytes seen core os s stands openable)).decides) in
-    step_sound bytes seen now core then os s stands (flush_ruling l h) (flush_leaves l h) (state_after-sound s lines.Flush stands.sound) _ _ c.flush.result decides
+    step_sound bytes seen now core then os s stands (flush_ruling l h) (flush_leaves l h)
+    (state_after-sound s lines.Flush stands.sound) _ _ c.flush.result decides
     (subst (λ (x : Result Answer Halt). HaltsByRead x) c.told.ensures halts)
 
 pub returns-clause-cause : goal.returns-clause-cause
@@ -64,7 +65,8 @@ pub returns-clause-named : goal.returns-clause-named
 returns-clause-named g c s file stands is =
     let fits = stands.fits.running stands.running in
     let either = flush_named _ _ _ _ file (c.flush.ensures.stopped file (halted_at c.flush.result file (sym c.told.ensures ∙ is))) in
-    subst (λ (n : ℕ). (file ≡ names.Table n) ⊎ (file ≡ names.Manifest c.args.self.now.engine.core.back.manifest.number)) fits.numbers.next_table either
+    subst (λ (n : ℕ). (file ≡ names.Table n) ⊎ (file ≡ names.Manifest c.args.self.now.engine.core.back.manifest.number))
+    fits.numbers.next_table either
 
 pub returns-clause-carries : goal.returns-clause-carries
 returns-clause-carries g c s stands =
@@ -82,7 +84,8 @@ returns-clause-carries g c s stands =
     (c.flush.ensures.fits h l stands.engine stands.fits)
     (λ openable. (c.flush.ensures.carries h l (represents bytes seen core os s stands openable)).decides) in
     step_carries g.D.Watched (record { only_now = g.met.D.Disk.only_now; counts_now = g.met.D.Disk.counts_now }) bytes core then
-    c.args.self.now.engine.disk c.flush.new.self.disk os s stands (flush_ruling l h) (flush_leaves l h) 5 (names.Table core.back.state.next_table) c.flush.result
+    c.args.self.now.engine.disk c.flush.new.self.disk os s stands (flush_ruling l h) (flush_leaves l h) 5
+    (names.Table core.back.state.next_table) c.flush.result
     (record {
       effects = _;
       carries = λ represented. c.flush.ensures.carries h l represented;
@@ -90,13 +93,15 @@ returns-clause-carries g c s stands =
       files = c.flush.ensures.files;
       near = λ disk stored. (let next = fits.numbers.next_table in let up = stored.next_drawn in omega (arith, next, up));
       within = λ fine. c.flush.ensures.within fine stands.within;
-      sound = (step_sound bytes seen now core then os s stands (flush_ruling l h) (flush_leaves l h) (state_after-sound s lines.Flush stands.sound) _ _ c.flush.result decides);
+      sound = (step_sound bytes seen now core then os s stands (flush_ruling l h) (flush_leaves l h)
+          (state_after-sound s lines.Flush stands.sound) _ _ c.flush.result decides);
       stops = λ failed.
           let (file, is) = failed_at c.flush.result failed in
           let (made, most, calls) = flush_made _ _ _ _ file (c.flush.ensures.stopped file is) in
           let may = c.flush.ensures.failed failed in
           let (first, waits) = flush_waits core.back l h stands.running stands.engine.fronts.version fits.numbers may.waits in
-          let ruled : flush_ruled l h first ≡ flush_ruling l h = flush_made_so core.back l h stands.running stands.engine.fronts.version fits.numbers
+          let ruled : flush_ruled l h first ≡ flush_ruling l h = flush_made_so core.back l h stands.running
+          stands.engine.fronts.version fits.numbers
           (may_go core.back may) first waits in
           record {
             ruled = sym (ap (λ (r : Ruling StepAnswer). r.calls) ruled);
@@ -106,7 +111,8 @@ returns-clause-carries g c s stands =
             most = most;
             calls = calls;
             numbers = λ represented state told. c.flush.ensures.leaves h l state represented stands.within failed told;
-            torn = λ represented state told. flush_torn g.D.Watched (record { only_now = g.met.D.Disk.only_now; counts_now = g.met.D.Disk.counts_now })
+            torn = λ represented state told. flush_torn g.D.Watched
+                (record { only_now = g.met.D.Disk.only_now; counts_now = g.met.D.Disk.counts_now })
                 bytes core h l c.args.self.now.engine.disk c.flush.new.self.disk represented stands.running
                 (c.flush.ensures.meanwhile failed).0 (c.flush.ensures.meanwhile failed).1 state told;
           };

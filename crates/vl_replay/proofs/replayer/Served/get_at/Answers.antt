@@ -51,7 +51,8 @@ returns-in-View-clause-near g c s stands untabled =
     let taken = out_of_place bytes seen core os s stands c.deref.result.now c.deref.ensures.value c.as_slice.result.now
     c.args.name c.as_slice.ensures
     c.in-Some.at (sym c.place.ensures ∙ c.in-Some.is) c.index_mut.result.now c.index_mut.ensures.value _ c.in-View.is in
-    let (b, there, sees, live, near, began) = its bytes seen core os s stands (without_open c.args.name os) c.args.name c.in-View.view taken in
+    let (b, there, sees, live, near, began) = its bytes seen core os s stands (without_open c.args.name os) c.args.name
+    c.in-View.view taken in
     past_sound _ c.get_at.result c.told_past.result c.told_past.ensures (c.get_at.ensures.answer (history_of s) sees)
     (c.get_at.ensures.near (near untabled))
 
@@ -64,7 +65,8 @@ returns-in-View-clause-undamaged g c s stands =
     let taken = out_of_place bytes seen core os s stands c.deref.result.now c.deref.ensures.value c.as_slice.result.now
     c.args.name c.as_slice.ensures
     c.in-Some.at (sym c.place.ensures ∙ c.in-Some.is) c.index_mut.result.now c.index_mut.ensures.value _ c.in-View.is in
-    let (b, there, sees, live, near, began) = its bytes seen core os s stands (without_open c.args.name os) c.args.name c.in-View.view taken in
+    let (b, there, sees, live, near, began) = its bytes seen core os s stands (without_open c.args.name os) c.args.name
+    c.in-View.view taken in
     past_undamaged _ c.get_at.result c.told_past.result c.told_past.ensures (c.get_at.ensures.answer (history_of s) sees)
 
 pub returns-in-View-clause-fault : goal.returns-in-View-clause-fault
@@ -100,8 +102,10 @@ returns-clause-near g c s stands untabled =
     let taken = out_of_place bytes seen core os s stands c.deref.result.now c.deref.ensures.value c.as_slice.result.now
     c.args.name c.as_slice.ensures
     c.in-Some.at (sym c.place.ensures ∙ c.in-Some.is) c.index_mut.result.now c.index_mut.ensures.value _ c.in-Transaction.is in
-    let (t, b, there, is, began) = itself bytes seen core os s stands (without_open c.args.name os) c.args.name c.in-Transaction.txn taken in
-    past_sound _ c.get_at-in-Transaction.result c.told_past-in-Transaction.result c.told_past-in-Transaction.ensures (c.get_at-in-Transaction.ensures.answer (history_of s) t.reads is.sees)
+    let (t, b, there, is, began) = itself bytes seen core os s stands (without_open c.args.name os) c.args.name
+    c.in-Transaction.txn taken in
+    past_sound _ c.get_at-in-Transaction.result c.told_past-in-Transaction.result c.told_past-in-Transaction.ensures
+    (c.get_at-in-Transaction.ensures.answer (history_of s) t.reads is.sees)
     (c.get_at-in-Transaction.ensures.near (is.near untabled))
 
 pub returns-clause-undamaged : goal.returns-clause-undamaged
@@ -113,13 +117,15 @@ returns-clause-undamaged g c s stands =
     let taken = out_of_place bytes seen core os s stands c.deref.result.now c.deref.ensures.value c.as_slice.result.now
     c.args.name c.as_slice.ensures
     c.in-Some.at (sym c.place.ensures ∙ c.in-Some.is) c.index_mut.result.now c.index_mut.ensures.value _ c.in-Transaction.is in
-    let (t, b, there, is, began) = itself bytes seen core os s stands (without_open c.args.name os) c.args.name c.in-Transaction.txn taken in
+    let (t, b, there, is, began) = itself bytes seen core os s stands (without_open c.args.name os) c.args.name
+    c.in-Transaction.txn taken in
     past_undamaged _ c.get_at-in-Transaction.result c.told_past-in-Transaction.result c.told_past-in-Transaction.ensures
     (c.get_at-in-Transaction.ensures.answer (history_of s) t.reads is.sees)
 
 pub returns-clause-fault : goal.returns-clause-fault
 returns-clause-fault g c =
-    past_counted c.get_at-in-Transaction.result c.told_past-in-Transaction.result c.told_past-in-Transaction.ensures g.D.Reader.Reader.faults _ _ c.get_at-in-Transaction.ensures.cause
+    past_counted c.get_at-in-Transaction.result c.told_past-in-Transaction.result c.told_past-in-Transaction.ensures
+    g.D.Reader.Reader.faults _ _ c.get_at-in-Transaction.ensures.cause
 
 pub returns-in-View-clause-not_the_disk : goal.returns-in-View-clause-not_the_disk
 returns-in-View-clause-not_the_disk g c = past_not_by_disk c.get_at.result c.told_past.result c.told_past.ensures

@@ -53,7 +53,8 @@ returns-clause-sound g c s stands halts =
     (c.keep.ensures.stands h l stands.engine)
     (c.keep.ensures.fits h l stands.engine stands.fits)
     (λ openable. (c.keep.ensures.carries h l (represents bytes seen core os s stands openable)).decides) in
-    keep_sound bytes seen now core then os s stands (keep_ruling l h v) (keep_keeps l h v) (state_after-sound s (lines.Keep v) stands.sound) _ _ c.keep.result decides
+    keep_sound bytes seen now core then os s stands (keep_ruling l h v) (keep_keeps l h v)
+    (state_after-sound s (lines.Keep v) stands.sound) _ _ c.keep.result decides
     (subst (λ (x : Result Answer Halt). HaltsByRead x) c.told_keep.ensures halts)
 
 pub returns-clause-cause : goal.returns-clause-cause
@@ -85,7 +86,8 @@ returns-clause-carries g c s stands =
       carries = λ represented. c.keep.ensures.carries h l represented;
       files = c.keep.ensures.files;
       within = λ fine. c.keep.ensures.within fine stands.within;
-      sound = keep_sound bytes seen now core then os s stands (keep_ruling l h v) (keep_keeps l h v) (state_after-sound s (lines.Keep v) stands.sound) _ _ c.keep.result decides;
+      sound = keep_sound bytes seen now core then os s stands (keep_ruling l h v) (keep_keeps l h v)
+          (state_after-sound s (lines.Keep v) stands.sound) _ _ c.keep.result decides;
       stops = λ failed.
           let (file, is) = unkept_at c.keep.result failed in
           let (made, most, calls) = keep_made _ _ _ file (c.keep.ensures.stopped file is) in
@@ -98,7 +100,8 @@ returns-clause-carries g c s stands =
             most = most;
             calls = calls;
             numbers = λ represented state told. c.keep.ensures.leaves h l state represented stands.within failed told;
-            torn = λ represented state told. keep_torn g.D.Watched (record { only_now = g.met.D.Disk.only_now; counts_now = g.met.D.Disk.counts_now })
+            torn = λ represented state told. keep_torn g.D.Watched
+                (record { only_now = g.met.D.Disk.only_now; counts_now = g.met.D.Disk.counts_now })
                 bytes core h l c.args.self.now.engine.disk c.keep.new.self.disk represented stands.running
                 (c.keep.ensures.meanwhile failed).0 (c.keep.ensures.meanwhile failed).1 state told;
           };

@@ -53,7 +53,8 @@ returns-in-View-clause-near g c s stands untabled =
     let taken = out_of_place bytes seen core os s stands c.deref.result.now c.deref.ensures.value c.as_slice.result.now
     c.args.name c.as_slice.ensures
     c.in-Some.at (sym c.place.ensures ∙ c.in-Some.is) c.index_mut.result.now c.index_mut.ensures.value _ c.in-View.is in
-    let (b, there, sees, live, near, began) = its bytes seen core os s stands (without_open c.args.name os) c.args.name c.in-View.view taken in
+    let (b, there, sees, live, near, began) = its bytes seen core os s stands (without_open c.args.name os) c.args.name
+    c.in-View.view taken in
     call_sound (told_value c.args.with_tag) c.get.result c.told.result c.told.ensures (c.get.ensures.sound (history_of s) sees)
     (c.get.ensures.near (near untabled))
 
@@ -66,7 +67,8 @@ returns-in-View-clause-undamaged g c s stands =
     let taken = out_of_place bytes seen core os s stands c.deref.result.now c.deref.ensures.value c.as_slice.result.now
     c.args.name c.as_slice.ensures
     c.in-Some.at (sym c.place.ensures ∙ c.in-Some.is) c.index_mut.result.now c.index_mut.ensures.value _ c.in-View.is in
-    let (b, there, sees, live, near, began) = its bytes seen core os s stands (without_open c.args.name os) c.args.name c.in-View.view taken in
+    let (b, there, sees, live, near, began) = its bytes seen core os s stands (without_open c.args.name os) c.args.name
+    c.in-View.view taken in
     call_undamaged (told_value c.args.with_tag) c.get.result c.told.result c.told.ensures (c.get.ensures.sound (history_of s) sees)
 
 pub returns-in-View-clause-fault : goal.returns-in-View-clause-fault
@@ -104,8 +106,10 @@ returns-clause-near g c s stands untabled =
     let taken = out_of_place bytes seen core os s stands c.deref.result.now c.deref.ensures.value c.as_slice.result.now
     c.args.name c.as_slice.ensures
     c.in-Some.at (sym c.place.ensures ∙ c.in-Some.is) c.index_mut.result.now c.index_mut.ensures.value _ c.in-Transaction.is in
-    let (t, b, there, is, began) = itself bytes seen core os s stands (without_open c.args.name os) c.args.name c.in-Transaction.txn taken in
-    call_sound (told_value c.args.with_tag) c.get-in-Transaction.result c.told-in-Transaction.result c.told-in-Transaction.ensures (c.get-in-Transaction.ensures.sound (history_of s) t.reads is.sees)
+    let (t, b, there, is, began) = itself bytes seen core os s stands (without_open c.args.name os) c.args.name
+    c.in-Transaction.txn taken in
+    call_sound (told_value c.args.with_tag) c.get-in-Transaction.result c.told-in-Transaction.result
+    c.told-in-Transaction.ensures (c.get-in-Transaction.ensures.sound (history_of s) t.reads is.sees)
     (c.get-in-Transaction.ensures.near (is.near untabled))
 
 pub returns-clause-undamaged : goal.returns-clause-undamaged
@@ -117,10 +121,12 @@ returns-clause-undamaged g c s stands =
     let taken = out_of_place bytes seen core os s stands c.deref.result.now c.deref.ensures.value c.as_slice.result.now
     c.args.name c.as_slice.ensures
     c.in-Some.at (sym c.place.ensures ∙ c.in-Some.is) c.index_mut.result.now c.index_mut.ensures.value _ c.in-Transaction.is in
-    let (t, b, there, is, began) = itself bytes seen core os s stands (without_open c.args.name os) c.args.name c.in-Transaction.txn taken in
+    let (t, b, there, is, began) = itself bytes seen core os s stands (without_open c.args.name os) c.args.name
+    c.in-Transaction.txn taken in
     call_undamaged (told_value c.args.with_tag) c.get-in-Transaction.result c.told-in-Transaction.result c.told-in-Transaction.ensures
     (c.get-in-Transaction.ensures.sound (history_of s) t.reads is.sees)
 
 pub returns-clause-fault : goal.returns-clause-fault
 returns-clause-fault g c =
-    call_counted (told_value c.args.with_tag) c.get-in-Transaction.result c.told-in-Transaction.result c.told-in-Transaction.ensures g.D.Reader.Reader.faults _ _ c.get-in-Transaction.ensures.cause
+    call_counted (told_value c.args.with_tag) c.get-in-Transaction.result c.told-in-Transaction.result
+    c.told-in-Transaction.ensures g.D.Reader.Reader.faults _ _ c.get-in-Transaction.ensures.cause

@@ -54,7 +54,8 @@ returns-clause-sound g c s stands halts =
     (c.rotate.ensures.stands fits.state h l fits.told_is stands.engine (λ running. (fits.numbers, fits.active)))
     (c.rotate.ensures.fits h l stands.engine stands.fits)
     (λ openable. (c.rotate.ensures.carries h l (represents bytes seen core os s stands openable)).decides) in
-    step_sound bytes seen now core then os s stands (rotate_ruling l h) (rotate_leaves l h) (state_after-sound s lines.Rotate stands.sound) _ _ c.rotate.result decides
+    step_sound bytes seen now core then os s stands (rotate_ruling l h) (rotate_leaves l h)
+    (state_after-sound s lines.Rotate stands.sound) _ _ c.rotate.result decides
     (subst (λ (x : Result Answer Halt). HaltsByRead x) c.told.ensures halts)
 
 pub returns-clause-cause : goal.returns-clause-cause
@@ -83,7 +84,8 @@ returns-clause-carries g c s stands =
     (c.rotate.ensures.fits h l stands.engine stands.fits)
     (λ openable. (c.rotate.ensures.carries h l (represents bytes seen core os s stands openable)).decides) in
     step_carries g.D.Watched (record { only_now = g.met.D.Disk.only_now; counts_now = g.met.D.Disk.counts_now }) bytes core then
-    c.args.self.now.engine.disk c.rotate.new.self.disk os s stands (rotate_ruling l h) (rotate_leaves l h) 3 (names.Log core.back.next_log) c.rotate.result
+    c.args.self.now.engine.disk c.rotate.new.self.disk os s stands (rotate_ruling l h) (rotate_leaves l h) 3
+    (names.Log core.back.next_log) c.rotate.result
     (record {
       effects = _;
       carries = λ represented. c.rotate.ensures.carries h l represented;
@@ -91,7 +93,8 @@ returns-clause-carries g c s stands =
       files = c.rotate.ensures.files;
       near = λ disk stored. (let next = fits.numbers.next_log in let up = stored.next_log in omega (arith, next, up));
       within = λ fine. c.rotate.ensures.within fine stands.within;
-      sound = (step_sound bytes seen now core then os s stands (rotate_ruling l h) (rotate_leaves l h) (state_after-sound s lines.Rotate stands.sound) _ _ c.rotate.result decides);
+      sound = (step_sound bytes seen now core then os s stands (rotate_ruling l h) (rotate_leaves l h)
+          (state_after-sound s lines.Rotate stands.sound) _ _ c.rotate.result decides);
       stops = λ failed.
           let (file, is) = failed_at c.rotate.result failed in
           let (made, most, calls) = rotate_made _ _ _ _ file (c.rotate.ensures.stopped file is) in
@@ -112,8 +115,10 @@ returns-clause-carries g c s stands =
             most = most;
             calls = calls;
             numbers = λ represented state told. c.rotate.ensures.leaves h l state represented stands.within failed told;
-            torn = λ represented state told. rotate_torn g.D.Watched (record { only_now = g.met.D.Disk.only_now; counts_now = g.met.D.Disk.counts_now })
-                bytes core h l c.args.self.now.engine.disk c.rotate.new.self.disk represented stands.running (c.rotate.ensures.meanwhile failed) state told;
+            torn = λ represented state told. rotate_torn g.D.Watched
+                (record { only_now = g.met.D.Disk.only_now; counts_now = g.met.D.Disk.counts_now })
+                bytes core h l c.args.self.now.engine.disk c.rotate.new.self.disk represented stands.running
+                (c.rotate.ensures.meanwhile failed) state told;
           };
     })
     c.told.result c.told.ensures

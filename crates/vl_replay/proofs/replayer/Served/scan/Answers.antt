@@ -44,7 +44,8 @@ returns-in-View-clause-makes g c s stands =
     (λ (high : List ℕ). step c.args.low high) c.as_slice-in-View-2.ensures) c.told_rows.ensures
     (view_scan_makes bytes seen core os s stands (without_open c.args.name os) c.args.name c.args.way
     c.as_slice-in-View.result.now c.as_slice-in-View-2.result.now c.args.limit
-    (λ rows. rows.items) (λ rows. answers.Rows rows) (λ rows. refl) c.in-View.view c.scan.new.self taken c.scan.ensures.keeps c.scan.ensures.still
+    (λ rows. rows.items) (λ rows. answers.Rows rows) (λ rows. refl) c.in-View.view c.scan.new.self taken
+    c.scan.ensures.keeps c.scan.ensures.still
     c.scan.result c.scan.ensures.refused c.scan.ensures.rows)
 
 pub returns-in-View-clause-near : goal.returns-in-View-clause-near
@@ -56,7 +57,8 @@ returns-in-View-clause-near g c s stands untabled =
     let taken = out_of_place bytes seen core os s stands c.deref.result.now c.deref.ensures.value c.as_slice.result.now
     c.args.name c.as_slice.ensures
     c.in-Some.at (sym c.place.ensures ∙ c.in-Some.is) c.index_mut.result.now c.index_mut.ensures.value _ c.in-View.is in
-    let (b, there, sees, live, near, began) = its bytes seen core os s stands (without_open c.args.name os) c.args.name c.in-View.view taken in
+    let (b, there, sees, live, near, began) = its bytes seen core os s stands (without_open c.args.name os) c.args.name
+    c.in-View.view taken in
     call_sound (λ rows. answers.Rows rows) c.scan.result c.told_rows.result c.told_rows.ensures (c.scan.ensures.sound (history_of s) sees)
     (c.scan.ensures.near (near untabled))
 
@@ -69,12 +71,15 @@ returns-in-View-clause-undamaged g c s stands =
     let taken = out_of_place bytes seen core os s stands c.deref.result.now c.deref.ensures.value c.as_slice.result.now
     c.args.name c.as_slice.ensures
     c.in-Some.at (sym c.place.ensures ∙ c.in-Some.is) c.index_mut.result.now c.index_mut.ensures.value _ c.in-View.is in
-    let (b, there, sees, live, near, began) = its bytes seen core os s stands (without_open c.args.name os) c.args.name c.in-View.view taken in
-    call_undamaged (λ rows. answers.Rows rows) c.scan.result c.told_rows.result c.told_rows.ensures (c.scan.ensures.sound (history_of s) sees)
+    let (b, there, sees, live, near, began) = its bytes seen core os s stands (without_open c.args.name os) c.args.name
+    c.in-View.view taken in
+    call_undamaged (λ rows. answers.Rows rows) c.scan.result c.told_rows.result c.told_rows.ensures
+    (c.scan.ensures.sound (history_of s) sees)
 
 pub returns-in-View-clause-fault : goal.returns-in-View-clause-fault
 returns-in-View-clause-fault g c =
-    call_counted (λ rows. answers.Rows rows) c.scan.result c.told_rows.result c.told_rows.ensures g.D.Reader.Reader.faults _ _ c.scan.ensures.cause
+    call_counted (λ rows. answers.Rows rows) c.scan.result c.told_rows.result c.told_rows.ensures
+    g.D.Reader.Reader.faults _ _ c.scan.ensures.cause
 
 pub returns-clause-makes : goal.returns-clause-makes
 returns-clause-makes g c s stands =
@@ -98,7 +103,8 @@ returns-clause-makes g c s stands =
     c.as_slice-in-Transaction.result.now c.as_slice-in-Transaction-2.result.now c.args.limit
     (λ rows. rows.items) (λ rows. answers.Rows rows) (λ rows. refl) c.in-Transaction.txn
     c.scan-in-Transaction.new.self taken c.scan-in-Transaction.ensures.keeps
-    c.scan-in-Transaction.result c.scan-in-Transaction.ensures.refused c.scan-in-Transaction.ensures.kept c.scan-in-Transaction.ensures.still
+    c.scan-in-Transaction.result c.scan-in-Transaction.ensures.refused c.scan-in-Transaction.ensures.kept
+    c.scan-in-Transaction.ensures.still
     c.scan-in-Transaction.ensures.rows c.scan-in-Transaction.ensures.sees)
 
 pub returns-clause-near : goal.returns-clause-near
@@ -110,8 +116,10 @@ returns-clause-near g c s stands untabled =
     let taken = out_of_place bytes seen core os s stands c.deref.result.now c.deref.ensures.value c.as_slice.result.now
     c.args.name c.as_slice.ensures
     c.in-Some.at (sym c.place.ensures ∙ c.in-Some.is) c.index_mut.result.now c.index_mut.ensures.value _ c.in-Transaction.is in
-    let (t, b, there, is, began) = itself bytes seen core os s stands (without_open c.args.name os) c.args.name c.in-Transaction.txn taken in
-    call_sound (λ rows. answers.Rows rows) c.scan-in-Transaction.result c.told_rows-in-Transaction.result c.told_rows-in-Transaction.ensures (c.scan-in-Transaction.ensures.sound (history_of s) t.reads is.sees)
+    let (t, b, there, is, began) = itself bytes seen core os s stands (without_open c.args.name os) c.args.name
+    c.in-Transaction.txn taken in
+    call_sound (λ rows. answers.Rows rows) c.scan-in-Transaction.result c.told_rows-in-Transaction.result
+    c.told_rows-in-Transaction.ensures (c.scan-in-Transaction.ensures.sound (history_of s) t.reads is.sees)
     (c.scan-in-Transaction.ensures.near (is.near untabled))
 
 pub returns-clause-undamaged : goal.returns-clause-undamaged
@@ -123,10 +131,13 @@ returns-clause-undamaged g c s stands =
     let taken = out_of_place bytes seen core os s stands c.deref.result.now c.deref.ensures.value c.as_slice.result.now
     c.args.name c.as_slice.ensures
     c.in-Some.at (sym c.place.ensures ∙ c.in-Some.is) c.index_mut.result.now c.index_mut.ensures.value _ c.in-Transaction.is in
-    let (t, b, there, is, began) = itself bytes seen core os s stands (without_open c.args.name os) c.args.name c.in-Transaction.txn taken in
-    call_undamaged (λ rows. answers.Rows rows) c.scan-in-Transaction.result c.told_rows-in-Transaction.result c.told_rows-in-Transaction.ensures
+    let (t, b, there, is, began) = itself bytes seen core os s stands (without_open c.args.name os) c.args.name
+    c.in-Transaction.txn taken in
+    call_undamaged (λ rows. answers.Rows rows) c.scan-in-Transaction.result c.told_rows-in-Transaction.result
+    c.told_rows-in-Transaction.ensures
     (c.scan-in-Transaction.ensures.sound (history_of s) t.reads is.sees)
 
 pub returns-clause-fault : goal.returns-clause-fault
 returns-clause-fault g c =
-    call_counted (λ rows. answers.Rows rows) c.scan-in-Transaction.result c.told_rows-in-Transaction.result c.told_rows-in-Transaction.ensures g.D.Reader.Reader.faults _ _ c.scan-in-Transaction.ensures.cause
+    call_counted (λ rows. answers.Rows rows) c.scan-in-Transaction.result c.told_rows-in-Transaction.result
+    c.told_rows-in-Transaction.ensures g.D.Reader.Reader.faults _ _ c.scan-in-Transaction.ensures.cause

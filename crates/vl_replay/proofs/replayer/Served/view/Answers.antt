@@ -31,7 +31,8 @@ returns-in-Ok-clause-makes g c s stands none =
     let os = c.args.self.now.opens.items in
     let free = free_of os c.deref.result.now c.deref.ensures.value c.as_slice.result.now c.args.name
     c.as_slice.ensures c.is_taken.result c.is_taken.ensures c.if-is_taken.false in
-    let bare = bare_of bytes (history_of s) s.store.layout (open_in os c.args.name) (thing_of s.store c.args.name) free (stands.names.each c.args.name) none in
+    let bare = bare_of bytes (history_of s) s.store.layout (open_in os c.args.name) (thing_of s.store c.args.name) free
+    (stands.names.each c.args.name) none in
     returns_so bytes now c.view.new.self.core _ c.put.new.opens.items s
     (begin_as s.store c.args.name a_view (thing_of s.store c.args.name)) (begin_as s.store c.args.name a_view
     (thing_of s.store c.args.name)) _ _
@@ -54,7 +55,8 @@ returns-in-Err-TooMany-clause-makes g c s stands none =
     let os = c.args.self.now.opens.items in
     let free = free_of os c.deref.result.now c.deref.ensures.value c.as_slice.result.now c.args.name
     c.as_slice.ensures c.is_taken.result c.is_taken.ensures c.if-is_taken.false in
-    let bare = bare_of bytes (history_of s) s.store.layout (open_in os c.args.name) (thing_of s.store c.args.name) free (stands.names.each c.args.name) none in
+    let bare = bare_of bytes (history_of s) s.store.layout (open_in os c.args.name) (thing_of s.store c.args.name) free
+    (stands.names.each c.args.name) none in
     too_many_makes bytes seen now core c.view.new.self.core os s stands
     c.view.ensures.back c.args.name a_view
     (state_after-sound s (lines.View c.args.name) stands.sound) bare

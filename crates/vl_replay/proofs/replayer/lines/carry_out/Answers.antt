@@ -15,16 +15,21 @@ use Rattle.vl_replay.specs.laws.Growing.{begin_keeps, get_at_keeps, get_keeps, s
 use Rattle.vl_script.specs.declared.line.Line.{Line}
 use Rattle.vl_script.specs.declared.line.Line.TheVariants as lines
 use Rattle.vl_replay.proofs.Disk.Carried.{quiet_carries}
-use Rattle.vl_replay.proofs.Merges.Keeping.{commit_keeps_merges, flush_keeps_merges, get_at_keeps_merges, get_keeps_merges, keep_keeps_merges, rotate_keeps_merges, scan_keeps_merges, transaction_keeps_merges, view_keeps_merges, write_keeps_merges}
+use Rattle.vl_replay.proofs.Merges.Keeping.{commit_keeps_merges, flush_keeps_merges, get_at_keeps_merges}
+use Rattle.vl_replay.proofs.Merges.Keeping.{get_keeps_merges, keep_keeps_merges, rotate_keeps_merges}
+use Rattle.vl_replay.proofs.Merges.Keeping.{scan_keeps_merges, transaction_keeps_merges, view_keeps_merges}
+use Rattle.vl_replay.proofs.Merges.Keeping.{write_keeps_merges}
 use Rattle.vl_replay.proofs.Merges.Handing.{can_answered, can_same}
 use Rattle.vl_replay.proofs.Merges.Waiting.{merges_behind, on_ok_of}
 use Rattle.vl_replay.proofs.Disk.Halting.{not_by_disk}
-use Rattle.vl_replay.proofs.Names.Halts.{by_the_reader, damage_is_read, no_cause, not_at, not_by_damage, not_by_read, not_by_reader, reader_is_read}
+use Rattle.vl_replay.proofs.Names.Halts.{by_the_reader, damage_is_read, no_cause, not_at, not_by_damage, not_by_read}
+use Rattle.vl_replay.proofs.Names.Halts.{not_by_reader, reader_is_read}
 use Rattle.vl_replay.proofs.replayer.lines.carry_out.Goals as goal
 
 pub returns-in-Begin-clause-makes : goal.returns-in-Begin-clause-makes
 returns-in-Begin-clause-makes g c s stands =
-    subst (λ (line : Line). MakesStep g.D.Held.HeldFile.bytes (g.D.Watched.told c.begin.new.served.engine.disk) c.begin.new.served.engine.core
+    subst (λ (line : Line). MakesStep g.D.Held.HeldFile.bytes (g.D.Watched.told c.begin.new.served.engine.disk)
+    c.begin.new.served.engine.core
     c.begin.new.served.opens.items s (step_to s line) c.begin.result)
     (sym c.in-Begin.is) (c.begin.ensures.makes s stands)
 
@@ -47,14 +52,17 @@ returns-in-Begin-clause-carries g c s stands =
     c.begin.new.served.engine.disk s (state_after s line) c.begin.result) (sym c.in-Begin.is)
     (quiet_carries g.D.Watched (record { only_now = g.met.D.Disk.only_now; counts_now = g.met.D.Disk.counts_now })
     g.D.Held.HeldFile.bytes
-    (g.D.Watched.told c.begin.new.served.engine.disk) c.begin.new.served.engine.core c.begin.new.served.opens.items s (step_to s (lines.Begin c.in-Begin.name))
+    (g.D.Watched.told c.begin.new.served.engine.disk) c.begin.new.served.engine.core c.begin.new.served.opens.items s
+    (step_to s (lines.Begin c.in-Begin.name))
     (begin_keeps s.store c.in-Begin.name a_transaction (thing_of s.store c.in-Begin.name)) c.begin.result
-    (c.begin.ensures.makes s stands) (not_by_disk c.begin.result c.begin.ensures.fails) c.args.served.now.engine.disk c.begin.new.served.engine.disk
+    (c.begin.ensures.makes s stands) (not_by_disk c.begin.result c.begin.ensures.fails) c.args.served.now.engine.disk
+    c.begin.new.served.engine.disk
     c.begin.ensures.disk)
 
 pub returns-in-View-clause-makes : goal.returns-in-View-clause-makes
 returns-in-View-clause-makes g c s stands =
-    subst (λ (line : Line). MakesStep g.D.Held.HeldFile.bytes (g.D.Watched.told c.view.new.served.engine.disk) c.view.new.served.engine.core c.view.new.served.opens.items
+    subst (λ (line : Line). MakesStep g.D.Held.HeldFile.bytes (g.D.Watched.told c.view.new.served.engine.disk)
+    c.view.new.served.engine.core c.view.new.served.opens.items
     s (step_to s line) c.view.result)
     (sym c.in-View.is) (c.view.ensures.makes s stands)
 
@@ -77,13 +85,16 @@ returns-in-View-clause-carries g c s stands =
     c.view.new.served.engine.disk s (state_after s line) c.view.result) (sym c.in-View.is)
     (quiet_carries g.D.Watched (record { only_now = g.met.D.Disk.only_now; counts_now = g.met.D.Disk.counts_now })
     g.D.Held.HeldFile.bytes
-    (g.D.Watched.told c.view.new.served.engine.disk) c.view.new.served.engine.core c.view.new.served.opens.items s (step_to s (lines.View c.in-View.name)) (begin_keeps
+    (g.D.Watched.told c.view.new.served.engine.disk) c.view.new.served.engine.core c.view.new.served.opens.items s
+    (step_to s (lines.View c.in-View.name)) (begin_keeps
     s.store c.in-View.name a_view (thing_of s.store c.in-View.name)) c.view.result
-    (c.view.ensures.makes s stands) (not_by_disk c.view.result c.view.ensures.fails) c.args.served.now.engine.disk c.view.new.served.engine.disk c.view.ensures.disk)
+    (c.view.ensures.makes s stands) (not_by_disk c.view.result c.view.ensures.fails) c.args.served.now.engine.disk
+    c.view.new.served.engine.disk c.view.ensures.disk)
 
 pub returns-in-Get-clause-makes : goal.returns-in-Get-clause-makes
 returns-in-Get-clause-makes g c s stands =
-    subst (λ (line : Line). MakesStep g.D.Held.HeldFile.bytes (g.D.Watched.told c.read.new.self.engine.disk) c.read.new.self.engine.core c.read.new.self.opens.items
+    subst (λ (line : Line). MakesStep g.D.Held.HeldFile.bytes (g.D.Watched.told c.read.new.self.engine.disk)
+    c.read.new.self.engine.core c.read.new.self.opens.items
     s (step_to s line) c.read.result)
     (sym c.in-Get.is) (c.read.ensures.makes s stands.serves)
 
@@ -96,7 +107,8 @@ pub returns-in-Get-clause-undamaged : goal.returns-in-Get-clause-undamaged
 returns-in-Get-clause-undamaged g c s stands = c.read.ensures.undamaged s stands.serves
 
 pub returns-in-Get-clause-fault : goal.returns-in-Get-clause-fault
-returns-in-Get-clause-fault g c s stands halts = by_the_reader g.D.Reader.Reader.faults g.D.Writer.Writer.faults (c.read.ensures.fault halts)
+returns-in-Get-clause-fault g c s stands halts = by_the_reader g.D.Reader.Reader.faults g.D.Writer.Writer.faults
+    (c.read.ensures.fault halts)
 
 pub returns-in-Get-clause-cause : goal.returns-in-Get-clause-cause
 returns-in-Get-clause-cause g c = no_cause _ _ _ (ap (λ disk. g.D.Watched.faults disk) (ap (λ e. e.disk)
@@ -108,14 +120,16 @@ returns-in-Get-clause-carries g c s stands =
     c.read.new.self.engine.disk s (state_after s line) c.read.result) (sym c.in-Get.is)
     (quiet_carries g.D.Watched (record { only_now = g.met.D.Disk.only_now; counts_now = g.met.D.Disk.counts_now })
     g.D.Held.HeldFile.bytes
-    (g.D.Watched.told c.read.new.self.engine.disk) c.read.new.self.engine.core c.read.new.self.opens.items s (step_to s (lines.Get c.in-Get.name c.in-Get.key))
+    (g.D.Watched.told c.read.new.self.engine.disk) c.read.new.self.engine.core c.read.new.self.opens.items s
+    (step_to s (lines.Get c.in-Get.name c.in-Get.key))
     (get_keeps s.store c.in-Get.name answer_of c.in-Get.key (thing_of s.store c.in-Get.name)) c.read.result
     (c.read.ensures.makes s stands.serves) c.read.ensures.not_the_disk c.args.served.now.engine.disk
     c.read.new.self.engine.disk (ap (λ e. e.disk) c.read.ensures.engine))
 
 pub returns-in-GetTagged-clause-makes : goal.returns-in-GetTagged-clause-makes
 returns-in-GetTagged-clause-makes g c s stands =
-    subst (λ (line : Line). MakesStep g.D.Held.HeldFile.bytes (g.D.Watched.told c.read-in-GetTagged.new.self.engine.disk) c.read-in-GetTagged.new.self.engine.core
+    subst (λ (line : Line). MakesStep g.D.Held.HeldFile.bytes
+    (g.D.Watched.told c.read-in-GetTagged.new.self.engine.disk) c.read-in-GetTagged.new.self.engine.core
     c.read-in-GetTagged.new.self.opens.items s (step_to s line) c.read-in-GetTagged.result)
     (sym c.in-GetTagged.is) (c.read-in-GetTagged.ensures.makes s stands.serves)
 
@@ -128,7 +142,8 @@ pub returns-in-GetTagged-clause-undamaged : goal.returns-in-GetTagged-clause-und
 returns-in-GetTagged-clause-undamaged g c s stands = c.read-in-GetTagged.ensures.undamaged s stands.serves
 
 pub returns-in-GetTagged-clause-fault : goal.returns-in-GetTagged-clause-fault
-returns-in-GetTagged-clause-fault g c s stands halts = by_the_reader g.D.Reader.Reader.faults g.D.Writer.Writer.faults (c.read-in-GetTagged.ensures.fault halts)
+returns-in-GetTagged-clause-fault g c s stands halts = by_the_reader g.D.Reader.Reader.faults g.D.Writer.Writer.faults
+    (c.read-in-GetTagged.ensures.fault halts)
 
 pub returns-in-GetTagged-clause-cause : goal.returns-in-GetTagged-clause-cause
 returns-in-GetTagged-clause-cause g c = no_cause _ _ _ (ap (λ disk. g.D.Watched.faults disk) (ap (λ e. e.disk)
@@ -140,7 +155,8 @@ returns-in-GetTagged-clause-carries g c s stands =
     c.read-in-GetTagged.new.self.engine.disk s (state_after s line) c.read-in-GetTagged.result) (sym c.in-GetTagged.is)
     (quiet_carries g.D.Watched (record { only_now = g.met.D.Disk.only_now; counts_now = g.met.D.Disk.counts_now })
     g.D.Held.HeldFile.bytes
-    (g.D.Watched.told c.read-in-GetTagged.new.self.engine.disk) c.read-in-GetTagged.new.self.engine.core c.read-in-GetTagged.new.self.opens.items s (step_to s (lines.GetTagged
+    (g.D.Watched.told c.read-in-GetTagged.new.self.engine.disk) c.read-in-GetTagged.new.self.engine.core
+    c.read-in-GetTagged.new.self.opens.items s (step_to s (lines.GetTagged
     c.in-GetTagged.name c.in-GetTagged.key)) (get_keeps s.store c.in-GetTagged.name answer_with_tag
     c.in-GetTagged.key (thing_of s.store c.in-GetTagged.name)) c.read-in-GetTagged.result
     (c.read-in-GetTagged.ensures.makes s stands.serves) c.read-in-GetTagged.ensures.not_the_disk
@@ -161,7 +177,8 @@ pub returns-in-GetAt-clause-undamaged : goal.returns-in-GetAt-clause-undamaged
 returns-in-GetAt-clause-undamaged g c s stands = c.get_at.ensures.undamaged s stands.serves
 
 pub returns-in-GetAt-clause-fault : goal.returns-in-GetAt-clause-fault
-returns-in-GetAt-clause-fault g c s stands halts = by_the_reader g.D.Reader.Reader.faults g.D.Writer.Writer.faults (c.get_at.ensures.fault halts)
+returns-in-GetAt-clause-fault g c s stands halts = by_the_reader g.D.Reader.Reader.faults g.D.Writer.Writer.faults
+    (c.get_at.ensures.fault halts)
 
 pub returns-in-GetAt-clause-cause : goal.returns-in-GetAt-clause-cause
 returns-in-GetAt-clause-cause g c = no_cause _ _ _ (ap (λ disk. g.D.Watched.faults disk) (ap (λ e. e.disk)
@@ -204,26 +221,32 @@ returns-in-Set-clause-carries g c s stands =
     c.write.new.self.engine.disk s (state_after s line) c.write.result) (sym c.in-Set.is)
     (quiet_carries g.D.Watched (record { only_now = g.met.D.Disk.only_now; counts_now = g.met.D.Disk.counts_now })
     g.D.Held.HeldFile.bytes
-    (g.D.Watched.told c.write.new.self.engine.disk) c.write.new.self.engine.core c.write.new.self.opens.items s (step_to s (lines.Set c.in-Set.name c.in-Set.key
+    (g.D.Watched.told c.write.new.self.engine.disk) c.write.new.self.engine.core c.write.new.self.opens.items s
+    (step_to s (lines.Set c.in-Set.name c.in-Set.key
     c.in-Set.value)) (write_keeps s.store c.in-Set.name c.in-Set.key (changes.Set (untagged c.in-Set.value))
     (thing_of s.store c.in-Set.name)) c.write.result
-    (c.write.ensures.makes s stands.serves) (not_by_disk c.write.result c.write.ensures.fails) c.args.served.now.engine.disk c.write.new.self.engine.disk
+    (c.write.ensures.makes s stands.serves) (not_by_disk c.write.result c.write.ensures.fails)
+    c.args.served.now.engine.disk c.write.new.self.engine.disk
     (ap (λ e. e.disk) c.write.ensures.engine))
 
 pub returns-in-SetTagged-clause-makes : goal.returns-in-SetTagged-clause-makes
 returns-in-SetTagged-clause-makes g c s stands =
-    subst (λ (line : Line). MakesStep g.D.Held.HeldFile.bytes (g.D.Watched.told c.write-in-SetTagged.new.self.engine.disk) c.write-in-SetTagged.new.self.engine.core
+    subst (λ (line : Line). MakesStep g.D.Held.HeldFile.bytes
+    (g.D.Watched.told c.write-in-SetTagged.new.self.engine.disk) c.write-in-SetTagged.new.self.engine.core
     c.write-in-SetTagged.new.self.opens.items s (step_to s line) c.write-in-SetTagged.result)
     (sym c.in-SetTagged.is) (c.write-in-SetTagged.ensures.makes s stands.serves)
 
 pub returns-in-SetTagged-clause-sound : goal.returns-in-SetTagged-clause-sound
-returns-in-SetTagged-clause-sound g c s stands halts = absurd (not_by_read c.write-in-SetTagged.result c.write-in-SetTagged.ensures.fails halts)
+returns-in-SetTagged-clause-sound g c s stands halts = absurd
+    (not_by_read c.write-in-SetTagged.result c.write-in-SetTagged.ensures.fails halts)
 
 pub returns-in-SetTagged-clause-undamaged : goal.returns-in-SetTagged-clause-undamaged
-returns-in-SetTagged-clause-undamaged g c s stands halts = not_by_damage c.write-in-SetTagged.result c.write-in-SetTagged.ensures.fails halts
+returns-in-SetTagged-clause-undamaged g c s stands halts = not_by_damage c.write-in-SetTagged.result
+    c.write-in-SetTagged.ensures.fails halts
 
 pub returns-in-SetTagged-clause-fault : goal.returns-in-SetTagged-clause-fault
-returns-in-SetTagged-clause-fault g c s stands halts = absurd (not_by_reader c.write-in-SetTagged.result c.write-in-SetTagged.ensures.fails halts)
+returns-in-SetTagged-clause-fault g c s stands halts = absurd
+    (not_by_reader c.write-in-SetTagged.result c.write-in-SetTagged.ensures.fails halts)
 
 pub returns-in-SetTagged-clause-cause : goal.returns-in-SetTagged-clause-cause
 returns-in-SetTagged-clause-cause g c = no_cause _ _ _ (ap (λ disk. g.D.Watched.faults disk) (ap (λ e. e.disk)
@@ -235,16 +258,19 @@ returns-in-SetTagged-clause-carries g c s stands =
     c.write-in-SetTagged.new.self.engine.disk s (state_after s line) c.write-in-SetTagged.result) (sym c.in-SetTagged.is)
     (quiet_carries g.D.Watched (record { only_now = g.met.D.Disk.only_now; counts_now = g.met.D.Disk.counts_now })
     g.D.Held.HeldFile.bytes
-    (g.D.Watched.told c.write-in-SetTagged.new.self.engine.disk) c.write-in-SetTagged.new.self.engine.core c.write-in-SetTagged.new.self.opens.items s (step_to s (lines.SetTagged
+    (g.D.Watched.told c.write-in-SetTagged.new.self.engine.disk) c.write-in-SetTagged.new.self.engine.core
+    c.write-in-SetTagged.new.self.opens.items s (step_to s (lines.SetTagged
     c.in-SetTagged.name c.in-SetTagged.key c.in-SetTagged.value c.in-SetTagged.tag)) (write_keeps s.store
     c.in-SetTagged.name c.in-SetTagged.key (changes.Set (tagged c.in-SetTagged.value c.in-SetTagged.tag)) (thing_of
     s.store c.in-SetTagged.name)) c.write-in-SetTagged.result
-    (c.write-in-SetTagged.ensures.makes s stands.serves) (not_by_disk c.write-in-SetTagged.result c.write-in-SetTagged.ensures.fails) c.args.served.now.engine.disk
+    (c.write-in-SetTagged.ensures.makes s stands.serves)
+    (not_by_disk c.write-in-SetTagged.result c.write-in-SetTagged.ensures.fails) c.args.served.now.engine.disk
     c.write-in-SetTagged.new.self.engine.disk (ap (λ e. e.disk) c.write-in-SetTagged.ensures.engine))
 
 pub returns-in-Delete-clause-makes : goal.returns-in-Delete-clause-makes
 returns-in-Delete-clause-makes g c s stands =
-    subst (λ (line : Line). MakesStep g.D.Held.HeldFile.bytes (g.D.Watched.told c.write-in-Delete.new.self.engine.disk) c.write-in-Delete.new.self.engine.core
+    subst (λ (line : Line). MakesStep g.D.Held.HeldFile.bytes (g.D.Watched.told c.write-in-Delete.new.self.engine.disk)
+    c.write-in-Delete.new.self.engine.core
     c.write-in-Delete.new.self.opens.items s (step_to s line) c.write-in-Delete.result)
     (sym c.in-Delete.is) (c.write-in-Delete.ensures.makes s stands.serves)
 
@@ -267,15 +293,18 @@ returns-in-Delete-clause-carries g c s stands =
     c.write-in-Delete.new.self.engine.disk s (state_after s line) c.write-in-Delete.result) (sym c.in-Delete.is)
     (quiet_carries g.D.Watched (record { only_now = g.met.D.Disk.only_now; counts_now = g.met.D.Disk.counts_now })
     g.D.Held.HeldFile.bytes
-    (g.D.Watched.told c.write-in-Delete.new.self.engine.disk) c.write-in-Delete.new.self.engine.core c.write-in-Delete.new.self.opens.items s (step_to s (lines.Delete
+    (g.D.Watched.told c.write-in-Delete.new.self.engine.disk) c.write-in-Delete.new.self.engine.core
+    c.write-in-Delete.new.self.opens.items s (step_to s (lines.Delete
     c.in-Delete.name c.in-Delete.key)) (write_keeps s.store c.in-Delete.name c.in-Delete.key changes.Delete (thing_of
     s.store c.in-Delete.name)) c.write-in-Delete.result
-    (c.write-in-Delete.ensures.makes s stands.serves) (not_by_disk c.write-in-Delete.result c.write-in-Delete.ensures.fails) c.args.served.now.engine.disk
+    (c.write-in-Delete.ensures.makes s stands.serves)
+    (not_by_disk c.write-in-Delete.result c.write-in-Delete.ensures.fails) c.args.served.now.engine.disk
     c.write-in-Delete.new.self.engine.disk (ap (λ e. e.disk) c.write-in-Delete.ensures.engine))
 
 pub returns-in-Scan-clause-makes : goal.returns-in-Scan-clause-makes
 returns-in-Scan-clause-makes g c s stands =
-    subst (λ (line : Line). MakesStep g.D.Held.HeldFile.bytes (g.D.Watched.told c.scan.new.self.engine.disk) c.scan.new.self.engine.core c.scan.new.self.opens.items
+    subst (λ (line : Line). MakesStep g.D.Held.HeldFile.bytes (g.D.Watched.told c.scan.new.self.engine.disk)
+    c.scan.new.self.engine.core c.scan.new.self.opens.items
     s (step_to s line) c.scan.result)
     (sym c.in-Scan.is) (c.scan.ensures.makes s stands.serves)
 
@@ -288,7 +317,8 @@ pub returns-in-Scan-clause-undamaged : goal.returns-in-Scan-clause-undamaged
 returns-in-Scan-clause-undamaged g c s stands = c.scan.ensures.undamaged s stands.serves
 
 pub returns-in-Scan-clause-fault : goal.returns-in-Scan-clause-fault
-returns-in-Scan-clause-fault g c s stands halts = by_the_reader g.D.Reader.Reader.faults g.D.Writer.Writer.faults (c.scan.ensures.fault halts)
+returns-in-Scan-clause-fault g c s stands halts = by_the_reader g.D.Reader.Reader.faults g.D.Writer.Writer.faults
+    (c.scan.ensures.fault halts)
 
 pub returns-in-Scan-clause-cause : goal.returns-in-Scan-clause-cause
 returns-in-Scan-clause-cause g c = no_cause _ _ _ (ap (λ disk. g.D.Watched.faults disk) (ap (λ e. e.disk)
@@ -300,7 +330,8 @@ returns-in-Scan-clause-carries g c s stands =
     c.scan.new.self.engine.disk s (state_after s line) c.scan.result) (sym c.in-Scan.is)
     (quiet_carries g.D.Watched (record { only_now = g.met.D.Disk.only_now; counts_now = g.met.D.Disk.counts_now })
     g.D.Held.HeldFile.bytes
-    (g.D.Watched.told c.scan.new.self.engine.disk) c.scan.new.self.engine.core c.scan.new.self.opens.items s (step_to s (lines.Scan c.in-Scan.name c.in-Scan.low
+    (g.D.Watched.told c.scan.new.self.engine.disk) c.scan.new.self.engine.core c.scan.new.self.opens.items s
+    (step_to s (lines.Scan c.in-Scan.name c.in-Scan.low
     c.in-Scan.high c.in-Scan.limit c.in-Scan.way)) (scan_keeps s.store c.in-Scan.way c.in-Scan.name c.in-Scan.low
     c.in-Scan.high c.in-Scan.limit (thing_of s.store c.in-Scan.name)) c.scan.result
     (c.scan.ensures.makes s stands.serves) c.scan.ensures.not_the_disk c.args.served.now.engine.disk
@@ -320,7 +351,8 @@ returns-in-Commit-clause-carries g c s stands =
 
 pub returns-in-Drop-clause-makes : goal.returns-in-Drop-clause-makes
 returns-in-Drop-clause-makes g c s stands =
-    subst (λ (line : Line). MakesStep g.D.Held.HeldFile.bytes (g.D.Watched.told c.end.new.served.engine.disk) c.end.new.served.engine.core c.end.new.served.opens.items s
+    subst (λ (line : Line). MakesStep g.D.Held.HeldFile.bytes (g.D.Watched.told c.end.new.served.engine.disk)
+    c.end.new.served.engine.core c.end.new.served.opens.items s
     (step_to s line) (Ok c.end.result))
     (sym c.in-Drop.is) (c.end.ensures.makes s stands)
 
@@ -460,150 +492,239 @@ returns-in-Keep-clause-named g c s file stands is =
 
 pub returns-in-Begin-clause-merges : goal.returns-in-Begin-clause-merges
 returns-in-Begin-clause-merges g c s stands =
-    subst (λ (line : Line). OnOk c.begin.result (MergesIn g.D.Writer.Writer g.D.Held.HeldFile.bytes c.begin.new.served.engine.merging c.args.planned.now (step_to s line).state)) (sym c.in-Begin.is)
-    (on_ok_of c.begin.result _ (merges_behind g.D.Writer.Writer g.D.Held.HeldFile.bytes c.args.served.now.engine.merging c.begin.new.served.engine.merging c.args.planned.now c.args.planned.now
-    c.begin.ensures.merging refl s.store (step_to s (lines.Begin c.in-Begin.name)) (transaction_keeps_merges s.store c.in-Begin.name) stands.merges))
+    subst (λ (line : Line). OnOk c.begin.result
+    (MergesIn g.D.Writer.Writer g.D.Held.HeldFile.bytes c.begin.new.served.engine.merging c.args.planned.now
+    (step_to s line).state)) (sym c.in-Begin.is)
+    (on_ok_of c.begin.result _
+    (merges_behind g.D.Writer.Writer g.D.Held.HeldFile.bytes c.args.served.now.engine.merging
+    c.begin.new.served.engine.merging c.args.planned.now c.args.planned.now
+    c.begin.ensures.merging refl s.store (step_to s (lines.Begin c.in-Begin.name))
+    (transaction_keeps_merges s.store c.in-Begin.name) stands.merges))
 
 pub returns-in-Begin-clause-handed : goal.returns-in-Begin-clause-handed
 returns-in-Begin-clause-handed g c =
-    can_same g.D.Watched g.D.Writer.Writer c.args.served.now.engine.disk c.begin.new.served.engine.disk c.args.served.now.engine.merging c.begin.new.served.engine.merging c.args.planned.now
+    can_same g.D.Watched g.D.Writer.Writer c.args.served.now.engine.disk c.begin.new.served.engine.disk
+    c.args.served.now.engine.merging c.begin.new.served.engine.merging c.args.planned.now
     c.begin.ensures.merging c.begin.result c.begin.ensures.disk c.requires.handed
 
 pub returns-in-View-clause-merges : goal.returns-in-View-clause-merges
 returns-in-View-clause-merges g c s stands =
-    subst (λ (line : Line). OnOk c.view.result (MergesIn g.D.Writer.Writer g.D.Held.HeldFile.bytes c.view.new.served.engine.merging c.args.planned.now (step_to s line).state)) (sym c.in-View.is)
-    (on_ok_of c.view.result _ (merges_behind g.D.Writer.Writer g.D.Held.HeldFile.bytes c.args.served.now.engine.merging c.view.new.served.engine.merging c.args.planned.now c.args.planned.now
+    subst (λ (line : Line). OnOk c.view.result
+    (MergesIn g.D.Writer.Writer g.D.Held.HeldFile.bytes c.view.new.served.engine.merging c.args.planned.now
+    (step_to s line).state)) (sym c.in-View.is)
+    (on_ok_of c.view.result _
+    (merges_behind g.D.Writer.Writer g.D.Held.HeldFile.bytes c.args.served.now.engine.merging
+    c.view.new.served.engine.merging c.args.planned.now c.args.planned.now
     c.view.ensures.merging refl s.store (step_to s (lines.View c.in-View.name)) (view_keeps_merges s.store c.in-View.name) stands.merges))
 
 pub returns-in-View-clause-handed : goal.returns-in-View-clause-handed
 returns-in-View-clause-handed g c =
-    can_same g.D.Watched g.D.Writer.Writer c.args.served.now.engine.disk c.view.new.served.engine.disk c.args.served.now.engine.merging c.view.new.served.engine.merging c.args.planned.now
+    can_same g.D.Watched g.D.Writer.Writer c.args.served.now.engine.disk c.view.new.served.engine.disk
+    c.args.served.now.engine.merging c.view.new.served.engine.merging c.args.planned.now
     c.view.ensures.merging c.view.result c.view.ensures.disk c.requires.handed
 
 pub returns-in-Get-clause-merges : goal.returns-in-Get-clause-merges
 returns-in-Get-clause-merges g c s stands =
-    subst (λ (line : Line). OnOk c.read.result (MergesIn g.D.Writer.Writer g.D.Held.HeldFile.bytes c.read.new.self.engine.merging c.args.planned.now (step_to s line).state)) (sym c.in-Get.is)
-    (on_ok_of c.read.result _ (merges_behind g.D.Writer.Writer g.D.Held.HeldFile.bytes c.args.served.now.engine.merging c.read.new.self.engine.merging c.args.planned.now c.args.planned.now
-    (ap (λ e. e.merging) c.read.ensures.engine) refl s.store (step_to s (lines.Get c.in-Get.name c.in-Get.key)) (get_keeps_merges s.store c.in-Get.name answer_of c.in-Get.key (thing_of s.store c.in-Get.name) refl) stands.merges))
+    subst (λ (line : Line). OnOk c.read.result
+    (MergesIn g.D.Writer.Writer g.D.Held.HeldFile.bytes c.read.new.self.engine.merging c.args.planned.now
+    (step_to s line).state)) (sym c.in-Get.is)
+    (on_ok_of c.read.result _
+    (merges_behind g.D.Writer.Writer g.D.Held.HeldFile.bytes c.args.served.now.engine.merging
+    c.read.new.self.engine.merging c.args.planned.now c.args.planned.now
+    (ap (λ e. e.merging) c.read.ensures.engine) refl s.store (step_to s (lines.Get c.in-Get.name c.in-Get.key))
+    (get_keeps_merges s.store c.in-Get.name answer_of c.in-Get.key (thing_of s.store c.in-Get.name) refl) stands.merges))
 
 pub returns-in-Get-clause-handed : goal.returns-in-Get-clause-handed
 returns-in-Get-clause-handed g c =
-    can_same g.D.Watched g.D.Writer.Writer c.args.served.now.engine.disk c.read.new.self.engine.disk c.args.served.now.engine.merging c.read.new.self.engine.merging c.args.planned.now
+    can_same g.D.Watched g.D.Writer.Writer c.args.served.now.engine.disk c.read.new.self.engine.disk
+    c.args.served.now.engine.merging c.read.new.self.engine.merging c.args.planned.now
     (ap (λ e. e.merging) c.read.ensures.engine) c.read.result (ap (λ e. e.disk) c.read.ensures.engine) c.requires.handed
 
 pub returns-in-GetTagged-clause-merges : goal.returns-in-GetTagged-clause-merges
 returns-in-GetTagged-clause-merges g c s stands =
-    subst (λ (line : Line). OnOk c.read-in-GetTagged.result (MergesIn g.D.Writer.Writer g.D.Held.HeldFile.bytes c.read-in-GetTagged.new.self.engine.merging c.args.planned.now (step_to s line).state)) (sym c.in-GetTagged.is)
-    (on_ok_of c.read-in-GetTagged.result _ (merges_behind g.D.Writer.Writer g.D.Held.HeldFile.bytes c.args.served.now.engine.merging c.read-in-GetTagged.new.self.engine.merging c.args.planned.now c.args.planned.now
-    (ap (λ e. e.merging) c.read-in-GetTagged.ensures.engine) refl s.store (step_to s (lines.GetTagged c.in-GetTagged.name c.in-GetTagged.key)) (get_keeps_merges s.store c.in-GetTagged.name answer_with_tag c.in-GetTagged.key (thing_of s.store c.in-GetTagged.name) refl) stands.merges))
+    subst (λ (line : Line). OnOk c.read-in-GetTagged.result
+    (MergesIn g.D.Writer.Writer g.D.Held.HeldFile.bytes c.read-in-GetTagged.new.self.engine.merging c.args.planned.now
+    (step_to s line).state)) (sym c.in-GetTagged.is)
+    (on_ok_of c.read-in-GetTagged.result _
+    (merges_behind g.D.Writer.Writer g.D.Held.HeldFile.bytes c.args.served.now.engine.merging
+    c.read-in-GetTagged.new.self.engine.merging c.args.planned.now c.args.planned.now
+    (ap (λ e. e.merging) c.read-in-GetTagged.ensures.engine) refl s.store
+    (step_to s (lines.GetTagged c.in-GetTagged.name c.in-GetTagged.key))
+    (get_keeps_merges s.store c.in-GetTagged.name answer_with_tag c.in-GetTagged.key
+    (thing_of s.store c.in-GetTagged.name) refl) stands.merges))
 
 pub returns-in-GetTagged-clause-handed : goal.returns-in-GetTagged-clause-handed
 returns-in-GetTagged-clause-handed g c =
-    can_same g.D.Watched g.D.Writer.Writer c.args.served.now.engine.disk c.read-in-GetTagged.new.self.engine.disk c.args.served.now.engine.merging c.read-in-GetTagged.new.self.engine.merging c.args.planned.now
-    (ap (λ e. e.merging) c.read-in-GetTagged.ensures.engine) c.read-in-GetTagged.result (ap (λ e. e.disk) c.read-in-GetTagged.ensures.engine) c.requires.handed
+    can_same g.D.Watched g.D.Writer.Writer c.args.served.now.engine.disk c.read-in-GetTagged.new.self.engine.disk
+    c.args.served.now.engine.merging c.read-in-GetTagged.new.self.engine.merging c.args.planned.now
+    (ap (λ e. e.merging) c.read-in-GetTagged.ensures.engine) c.read-in-GetTagged.result
+    (ap (λ e. e.disk) c.read-in-GetTagged.ensures.engine) c.requires.handed
 
 pub returns-in-GetAt-clause-merges : goal.returns-in-GetAt-clause-merges
 returns-in-GetAt-clause-merges g c s stands =
-    subst (λ (line : Line). OnOk c.get_at.result (MergesIn g.D.Writer.Writer g.D.Held.HeldFile.bytes c.get_at.new.self.engine.merging c.args.planned.now (step_to s line).state)) (sym c.in-GetAt.is)
-    (on_ok_of c.get_at.result _ (merges_behind g.D.Writer.Writer g.D.Held.HeldFile.bytes c.args.served.now.engine.merging c.get_at.new.self.engine.merging c.args.planned.now c.args.planned.now
-    (ap (λ e. e.merging) c.get_at.ensures.engine) refl s.store (step_to s (lines.GetAt c.in-GetAt.name c.in-GetAt.key c.in-GetAt.number)) (get_at_keeps_merges s.store c.in-GetAt.name c.in-GetAt.key c.in-GetAt.number (thing_of s.store c.in-GetAt.name)) stands.merges))
+    subst (λ (line : Line). OnOk c.get_at.result
+    (MergesIn g.D.Writer.Writer g.D.Held.HeldFile.bytes c.get_at.new.self.engine.merging c.args.planned.now
+    (step_to s line).state)) (sym c.in-GetAt.is)
+    (on_ok_of c.get_at.result _
+    (merges_behind g.D.Writer.Writer g.D.Held.HeldFile.bytes c.args.served.now.engine.merging
+    c.get_at.new.self.engine.merging c.args.planned.now c.args.planned.now
+    (ap (λ e. e.merging) c.get_at.ensures.engine) refl s.store
+    (step_to s (lines.GetAt c.in-GetAt.name c.in-GetAt.key c.in-GetAt.number))
+    (get_at_keeps_merges s.store c.in-GetAt.name c.in-GetAt.key c.in-GetAt.number (thing_of s.store c.in-GetAt.name)) stands.merges))
 
 pub returns-in-GetAt-clause-handed : goal.returns-in-GetAt-clause-handed
 returns-in-GetAt-clause-handed g c =
-    can_same g.D.Watched g.D.Writer.Writer c.args.served.now.engine.disk c.get_at.new.self.engine.disk c.args.served.now.engine.merging c.get_at.new.self.engine.merging c.args.planned.now
+    can_same g.D.Watched g.D.Writer.Writer c.args.served.now.engine.disk c.get_at.new.self.engine.disk
+    c.args.served.now.engine.merging c.get_at.new.self.engine.merging c.args.planned.now
     (ap (λ e. e.merging) c.get_at.ensures.engine) c.get_at.result (ap (λ e. e.disk) c.get_at.ensures.engine) c.requires.handed
 
 pub returns-in-Set-clause-merges : goal.returns-in-Set-clause-merges
 returns-in-Set-clause-merges g c s stands =
-    subst (λ (line : Line). OnOk c.write.result (MergesIn g.D.Writer.Writer g.D.Held.HeldFile.bytes c.write.new.self.engine.merging c.args.planned.now (step_to s line).state)) (sym c.in-Set.is)
-    (on_ok_of c.write.result _ (merges_behind g.D.Writer.Writer g.D.Held.HeldFile.bytes c.args.served.now.engine.merging c.write.new.self.engine.merging c.args.planned.now c.args.planned.now
-    (ap (λ e. e.merging) c.write.ensures.engine) refl s.store (step_to s (lines.Set c.in-Set.name c.in-Set.key c.in-Set.value)) (write_keeps_merges s.store c.in-Set.name c.in-Set.key (changes.Set (untagged c.in-Set.value)) (thing_of s.store c.in-Set.name) refl) stands.merges))
+    subst (λ (line : Line). OnOk c.write.result
+    (MergesIn g.D.Writer.Writer g.D.Held.HeldFile.bytes c.write.new.self.engine.merging c.args.planned.now
+    (step_to s line).state)) (sym c.in-Set.is)
+    (on_ok_of c.write.result _
+    (merges_behind g.D.Writer.Writer g.D.Held.HeldFile.bytes c.args.served.now.engine.merging
+    c.write.new.self.engine.merging c.args.planned.now c.args.planned.now
+    (ap (λ e. e.merging) c.write.ensures.engine) refl s.store
+    (step_to s (lines.Set c.in-Set.name c.in-Set.key c.in-Set.value))
+    (write_keeps_merges s.store c.in-Set.name c.in-Set.key (changes.Set (untagged c.in-Set.value))
+    (thing_of s.store c.in-Set.name) refl) stands.merges))
 
 pub returns-in-Set-clause-handed : goal.returns-in-Set-clause-handed
 returns-in-Set-clause-handed g c =
-    can_same g.D.Watched g.D.Writer.Writer c.args.served.now.engine.disk c.write.new.self.engine.disk c.args.served.now.engine.merging c.write.new.self.engine.merging c.args.planned.now
+    can_same g.D.Watched g.D.Writer.Writer c.args.served.now.engine.disk c.write.new.self.engine.disk
+    c.args.served.now.engine.merging c.write.new.self.engine.merging c.args.planned.now
     (ap (λ e. e.merging) c.write.ensures.engine) c.write.result (ap (λ e. e.disk) c.write.ensures.engine) c.requires.handed
 
 pub returns-in-SetTagged-clause-merges : goal.returns-in-SetTagged-clause-merges
 returns-in-SetTagged-clause-merges g c s stands =
-    subst (λ (line : Line). OnOk c.write-in-SetTagged.result (MergesIn g.D.Writer.Writer g.D.Held.HeldFile.bytes c.write-in-SetTagged.new.self.engine.merging c.args.planned.now (step_to s line).state)) (sym c.in-SetTagged.is)
-    (on_ok_of c.write-in-SetTagged.result _ (merges_behind g.D.Writer.Writer g.D.Held.HeldFile.bytes c.args.served.now.engine.merging c.write-in-SetTagged.new.self.engine.merging c.args.planned.now c.args.planned.now
-    (ap (λ e. e.merging) c.write-in-SetTagged.ensures.engine) refl s.store (step_to s (lines.SetTagged c.in-SetTagged.name c.in-SetTagged.key c.in-SetTagged.value c.in-SetTagged.tag)) (write_keeps_merges s.store c.in-SetTagged.name c.in-SetTagged.key (changes.Set (tagged c.in-SetTagged.value c.in-SetTagged.tag)) (thing_of s.store c.in-SetTagged.name) refl) stands.merges))
+    subst (λ (line : Line). OnOk c.write-in-SetTagged.result
+    (MergesIn g.D.Writer.Writer g.D.Held.HeldFile.bytes c.write-in-SetTagged.new.self.engine.merging
+    c.args.planned.now (step_to s line).state)) (sym c.in-SetTagged.is)
+    (on_ok_of c.write-in-SetTagged.result _
+    (merges_behind g.D.Writer.Writer g.D.Held.HeldFile.bytes c.args.served.now.engine.merging
+    c.write-in-SetTagged.new.self.engine.merging c.args.planned.now c.args.planned.now
+    (ap (λ e. e.merging) c.write-in-SetTagged.ensures.engine) refl s.store
+    (step_to s (lines.SetTagged c.in-SetTagged.name c.in-SetTagged.key c.in-SetTagged.value c.in-SetTagged.tag))
+    (write_keeps_merges s.store c.in-SetTagged.name c.in-SetTagged.key
+    (changes.Set (tagged c.in-SetTagged.value c.in-SetTagged.tag)) (thing_of s.store c.in-SetTagged.name) refl) stands.merges))
 
 pub returns-in-SetTagged-clause-handed : goal.returns-in-SetTagged-clause-handed
 returns-in-SetTagged-clause-handed g c =
-    can_same g.D.Watched g.D.Writer.Writer c.args.served.now.engine.disk c.write-in-SetTagged.new.self.engine.disk c.args.served.now.engine.merging c.write-in-SetTagged.new.self.engine.merging c.args.planned.now
-    (ap (λ e. e.merging) c.write-in-SetTagged.ensures.engine) c.write-in-SetTagged.result (ap (λ e. e.disk) c.write-in-SetTagged.ensures.engine) c.requires.handed
+    can_same g.D.Watched g.D.Writer.Writer c.args.served.now.engine.disk c.write-in-SetTagged.new.self.engine.disk
+    c.args.served.now.engine.merging c.write-in-SetTagged.new.self.engine.merging c.args.planned.now
+    (ap (λ e. e.merging) c.write-in-SetTagged.ensures.engine) c.write-in-SetTagged.result
+    (ap (λ e. e.disk) c.write-in-SetTagged.ensures.engine) c.requires.handed
 
 pub returns-in-Delete-clause-merges : goal.returns-in-Delete-clause-merges
 returns-in-Delete-clause-merges g c s stands =
-    subst (λ (line : Line). OnOk c.write-in-Delete.result (MergesIn g.D.Writer.Writer g.D.Held.HeldFile.bytes c.write-in-Delete.new.self.engine.merging c.args.planned.now (step_to s line).state)) (sym c.in-Delete.is)
-    (on_ok_of c.write-in-Delete.result _ (merges_behind g.D.Writer.Writer g.D.Held.HeldFile.bytes c.args.served.now.engine.merging c.write-in-Delete.new.self.engine.merging c.args.planned.now c.args.planned.now
-    (ap (λ e. e.merging) c.write-in-Delete.ensures.engine) refl s.store (step_to s (lines.Delete c.in-Delete.name c.in-Delete.key)) (write_keeps_merges s.store c.in-Delete.name c.in-Delete.key changes.Delete (thing_of s.store c.in-Delete.name) refl) stands.merges))
+    subst (λ (line : Line). OnOk c.write-in-Delete.result
+    (MergesIn g.D.Writer.Writer g.D.Held.HeldFile.bytes c.write-in-Delete.new.self.engine.merging c.args.planned.now
+    (step_to s line).state)) (sym c.in-Delete.is)
+    (on_ok_of c.write-in-Delete.result _
+    (merges_behind g.D.Writer.Writer g.D.Held.HeldFile.bytes c.args.served.now.engine.merging
+    c.write-in-Delete.new.self.engine.merging c.args.planned.now c.args.planned.now
+    (ap (λ e. e.merging) c.write-in-Delete.ensures.engine) refl s.store
+    (step_to s (lines.Delete c.in-Delete.name c.in-Delete.key))
+    (write_keeps_merges s.store c.in-Delete.name c.in-Delete.key changes.Delete (thing_of s.store c.in-Delete.name) refl) stands.merges))
 
 pub returns-in-Delete-clause-handed : goal.returns-in-Delete-clause-handed
 returns-in-Delete-clause-handed g c =
-    can_same g.D.Watched g.D.Writer.Writer c.args.served.now.engine.disk c.write-in-Delete.new.self.engine.disk c.args.served.now.engine.merging c.write-in-Delete.new.self.engine.merging c.args.planned.now
-    (ap (λ e. e.merging) c.write-in-Delete.ensures.engine) c.write-in-Delete.result (ap (λ e. e.disk) c.write-in-Delete.ensures.engine) c.requires.handed
+    can_same g.D.Watched g.D.Writer.Writer c.args.served.now.engine.disk c.write-in-Delete.new.self.engine.disk
+    c.args.served.now.engine.merging c.write-in-Delete.new.self.engine.merging c.args.planned.now
+    (ap (λ e. e.merging) c.write-in-Delete.ensures.engine) c.write-in-Delete.result
+    (ap (λ e. e.disk) c.write-in-Delete.ensures.engine) c.requires.handed
 
 pub returns-in-Scan-clause-merges : goal.returns-in-Scan-clause-merges
 returns-in-Scan-clause-merges g c s stands =
-    subst (λ (line : Line). OnOk c.scan.result (MergesIn g.D.Writer.Writer g.D.Held.HeldFile.bytes c.scan.new.self.engine.merging c.args.planned.now (step_to s line).state)) (sym c.in-Scan.is)
-    (on_ok_of c.scan.result _ (merges_behind g.D.Writer.Writer g.D.Held.HeldFile.bytes c.args.served.now.engine.merging c.scan.new.self.engine.merging c.args.planned.now c.args.planned.now
-    (ap (λ e. e.merging) c.scan.ensures.engine) refl s.store (step_to s (lines.Scan c.in-Scan.name c.in-Scan.low c.in-Scan.high c.in-Scan.limit c.in-Scan.way)) (scan_keeps_merges s.store c.in-Scan.way c.in-Scan.name c.in-Scan.low c.in-Scan.high c.in-Scan.limit (thing_of s.store c.in-Scan.name) refl) stands.merges))
+    subst (λ (line : Line). OnOk c.scan.result
+    (MergesIn g.D.Writer.Writer g.D.Held.HeldFile.bytes c.scan.new.self.engine.merging c.args.planned.now
+    (step_to s line).state)) (sym c.in-Scan.is)
+    (on_ok_of c.scan.result _
+    (merges_behind g.D.Writer.Writer g.D.Held.HeldFile.bytes c.args.served.now.engine.merging
+    c.scan.new.self.engine.merging c.args.planned.now c.args.planned.now
+    (ap (λ e. e.merging) c.scan.ensures.engine) refl s.store
+    (step_to s (lines.Scan c.in-Scan.name c.in-Scan.low c.in-Scan.high c.in-Scan.limit c.in-Scan.way))
+    (scan_keeps_merges s.store c.in-Scan.way c.in-Scan.name c.in-Scan.low c.in-Scan.high c.in-Scan.limit
+    (thing_of s.store c.in-Scan.name) refl) stands.merges))
 
 pub returns-in-Scan-clause-handed : goal.returns-in-Scan-clause-handed
 returns-in-Scan-clause-handed g c =
-    can_same g.D.Watched g.D.Writer.Writer c.args.served.now.engine.disk c.scan.new.self.engine.disk c.args.served.now.engine.merging c.scan.new.self.engine.merging c.args.planned.now
+    can_same g.D.Watched g.D.Writer.Writer c.args.served.now.engine.disk c.scan.new.self.engine.disk
+    c.args.served.now.engine.merging c.scan.new.self.engine.merging c.args.planned.now
     (ap (λ e. e.merging) c.scan.ensures.engine) c.scan.result (ap (λ e. e.disk) c.scan.ensures.engine) c.requires.handed
 
 pub returns-in-Commit-clause-merges : goal.returns-in-Commit-clause-merges
 returns-in-Commit-clause-merges g c s stands =
-    subst (λ (line : Line). OnOk c.commit.result (MergesIn g.D.Writer.Writer g.D.Held.HeldFile.bytes c.commit.new.self.engine.merging c.args.planned.now (step_to s line).state)) (sym c.in-Commit.is)
-    (on_ok_of c.commit.result _ (merges_behind g.D.Writer.Writer g.D.Held.HeldFile.bytes c.args.served.now.engine.merging c.commit.new.self.engine.merging c.args.planned.now c.args.planned.now
-    c.commit.ensures.merging refl s.store (step_to s (lines.Commit c.in-Commit.name)) (commit_keeps_merges s.store c.in-Commit.name (thing_of s.store c.in-Commit.name) refl) stands.merges))
+    subst (λ (line : Line). OnOk c.commit.result
+    (MergesIn g.D.Writer.Writer g.D.Held.HeldFile.bytes c.commit.new.self.engine.merging c.args.planned.now
+    (step_to s line).state)) (sym c.in-Commit.is)
+    (on_ok_of c.commit.result _
+    (merges_behind g.D.Writer.Writer g.D.Held.HeldFile.bytes c.args.served.now.engine.merging
+    c.commit.new.self.engine.merging c.args.planned.now c.args.planned.now
+    c.commit.ensures.merging refl s.store (step_to s (lines.Commit c.in-Commit.name))
+    (commit_keeps_merges s.store c.in-Commit.name (thing_of s.store c.in-Commit.name) refl) stands.merges))
 
 pub returns-in-Commit-clause-handed : goal.returns-in-Commit-clause-handed
 returns-in-Commit-clause-handed g c =
-    can_answered g.D.Watched g.D.Writer.Writer c.args.served.now.engine.disk c.commit.new.self.engine.disk c.args.served.now.engine.merging c.commit.new.self.engine.merging c.args.planned.now
+    can_answered g.D.Watched g.D.Writer.Writer c.args.served.now.engine.disk c.commit.new.self.engine.disk
+    c.args.served.now.engine.merging c.commit.new.self.engine.merging c.args.planned.now
     c.commit.ensures.merging c.commit.result c.commit.ensures.untold c.requires.handed
 
 pub returns-in-Rotate-clause-merges : goal.returns-in-Rotate-clause-merges
 returns-in-Rotate-clause-merges g c s stands =
-    subst (λ (line : Line). OnOk c.rotate.result (MergesIn g.D.Writer.Writer g.D.Held.HeldFile.bytes c.rotate.new.self.engine.merging c.args.planned.now (step_to s line).state)) (sym c.in-Rotate.is)
-    (on_ok_of c.rotate.result _ (merges_behind g.D.Writer.Writer g.D.Held.HeldFile.bytes c.args.served.now.engine.merging c.rotate.new.self.engine.merging c.args.planned.now c.args.planned.now
+    subst (λ (line : Line). OnOk c.rotate.result
+    (MergesIn g.D.Writer.Writer g.D.Held.HeldFile.bytes c.rotate.new.self.engine.merging c.args.planned.now
+    (step_to s line).state)) (sym c.in-Rotate.is)
+    (on_ok_of c.rotate.result _
+    (merges_behind g.D.Writer.Writer g.D.Held.HeldFile.bytes c.args.served.now.engine.merging
+    c.rotate.new.self.engine.merging c.args.planned.now c.args.planned.now
     c.rotate.ensures.merging refl s.store (step_to s (lines.Rotate)) (rotate_keeps_merges s.store) stands.merges))
 
 pub returns-in-Rotate-clause-handed : goal.returns-in-Rotate-clause-handed
 returns-in-Rotate-clause-handed g c =
-    can_answered g.D.Watched g.D.Writer.Writer c.args.served.now.engine.disk c.rotate.new.self.engine.disk c.args.served.now.engine.merging c.rotate.new.self.engine.merging c.args.planned.now
+    can_answered g.D.Watched g.D.Writer.Writer c.args.served.now.engine.disk c.rotate.new.self.engine.disk
+    c.args.served.now.engine.merging c.rotate.new.self.engine.merging c.args.planned.now
     c.rotate.ensures.merging c.rotate.result c.rotate.ensures.untold c.requires.handed
 
 pub returns-in-Flush-clause-merges : goal.returns-in-Flush-clause-merges
 returns-in-Flush-clause-merges g c s stands =
-    subst (λ (line : Line). OnOk c.flush.result (MergesIn g.D.Writer.Writer g.D.Held.HeldFile.bytes c.flush.new.self.engine.merging c.args.planned.now (step_to s line).state)) (sym c.in-Flush.is)
-    (on_ok_of c.flush.result _ (merges_behind g.D.Writer.Writer g.D.Held.HeldFile.bytes c.args.served.now.engine.merging c.flush.new.self.engine.merging c.args.planned.now c.args.planned.now
+    subst (λ (line : Line). OnOk c.flush.result
+    (MergesIn g.D.Writer.Writer g.D.Held.HeldFile.bytes c.flush.new.self.engine.merging c.args.planned.now
+    (step_to s line).state)) (sym c.in-Flush.is)
+    (on_ok_of c.flush.result _
+    (merges_behind g.D.Writer.Writer g.D.Held.HeldFile.bytes c.args.served.now.engine.merging
+    c.flush.new.self.engine.merging c.args.planned.now c.args.planned.now
     c.flush.ensures.merging refl s.store (step_to s (lines.Flush)) (flush_keeps_merges s.store) stands.merges))
 
 pub returns-in-Flush-clause-handed : goal.returns-in-Flush-clause-handed
 returns-in-Flush-clause-handed g c =
-    can_answered g.D.Watched g.D.Writer.Writer c.args.served.now.engine.disk c.flush.new.self.engine.disk c.args.served.now.engine.merging c.flush.new.self.engine.merging c.args.planned.now
+    can_answered g.D.Watched g.D.Writer.Writer c.args.served.now.engine.disk c.flush.new.self.engine.disk
+    c.args.served.now.engine.merging c.flush.new.self.engine.merging c.args.planned.now
     c.flush.ensures.merging c.flush.result c.flush.ensures.untold c.requires.handed
 
 pub returns-in-Keep-clause-merges : goal.returns-in-Keep-clause-merges
 returns-in-Keep-clause-merges g c s stands =
-    subst (λ (line : Line). OnOk c.keep.result (MergesIn g.D.Writer.Writer g.D.Held.HeldFile.bytes c.keep.new.self.engine.merging c.args.planned.now (step_to s line).state)) (sym c.in-Keep.is)
-    (on_ok_of c.keep.result _ (merges_behind g.D.Writer.Writer g.D.Held.HeldFile.bytes c.args.served.now.engine.merging c.keep.new.self.engine.merging c.args.planned.now c.args.planned.now
-    c.keep.ensures.merging refl s.store (step_to s (lines.Keep c.in-Keep.versions)) (keep_keeps_merges s.store c.in-Keep.versions) stands.merges))
+    subst (λ (line : Line). OnOk c.keep.result
+    (MergesIn g.D.Writer.Writer g.D.Held.HeldFile.bytes c.keep.new.self.engine.merging c.args.planned.now
+    (step_to s line).state)) (sym c.in-Keep.is)
+    (on_ok_of c.keep.result _
+    (merges_behind g.D.Writer.Writer g.D.Held.HeldFile.bytes c.args.served.now.engine.merging
+    c.keep.new.self.engine.merging c.args.planned.now c.args.planned.now
+    c.keep.ensures.merging refl s.store (step_to s (lines.Keep c.in-Keep.versions))
+    (keep_keeps_merges s.store c.in-Keep.versions) stands.merges))
 
 pub returns-in-Keep-clause-handed : goal.returns-in-Keep-clause-handed
 returns-in-Keep-clause-handed g c =
-    can_answered g.D.Watched g.D.Writer.Writer c.args.served.now.engine.disk c.keep.new.self.engine.disk c.args.served.now.engine.merging c.keep.new.self.engine.merging c.args.planned.now
+    can_answered g.D.Watched g.D.Writer.Writer c.args.served.now.engine.disk c.keep.new.self.engine.disk
+    c.args.served.now.engine.merging c.keep.new.self.engine.merging c.args.planned.now
     c.keep.ensures.merging c.keep.result c.keep.ensures.untold c.requires.handed
 
 pub returns-in-Drop-clause-merges : goal.returns-in-Drop-clause-merges
 returns-in-Drop-clause-merges g c s stands =
-    subst (λ (line : Line). MergesIn g.D.Writer.Writer g.D.Held.HeldFile.bytes c.end.new.served.engine.merging c.end.new.planned (step_to s line).state) (sym c.in-Drop.is)
+    subst (λ (line : Line). MergesIn g.D.Writer.Writer g.D.Held.HeldFile.bytes c.end.new.served.engine.merging
+    c.end.new.planned (step_to s line).state) (sym c.in-Drop.is)
     (c.end.ensures.merges s stands)
 
 -- ---- merges
@@ -615,7 +736,9 @@ returns-in-Plan-clause-makes g c s stands =
 
 pub returns-in-Plan-clause-merges : goal.returns-in-Plan-clause-merges
 returns-in-Plan-clause-merges g c s stands =
-    subst (λ (line : Line). OnOk c.plan.result (MergesIn g.D.Writer.Writer g.D.Held.HeldFile.bytes c.plan.new.served.engine.merging c.plan.new.planned (step_to s line).state)) (sym c.in-Plan.is)
+    subst (λ (line : Line). OnOk c.plan.result
+    (MergesIn g.D.Writer.Writer g.D.Held.HeldFile.bytes c.plan.new.served.engine.merging c.plan.new.planned
+    (step_to s line).state)) (sym c.in-Plan.is)
     (c.plan.ensures.merges s stands)
 
 pub returns-in-Plan-clause-carries : goal.returns-in-Plan-clause-carries
@@ -640,12 +763,15 @@ returns-in-Plan-clause-fault g c s stands = c.plan.ensures.fault s stands
 
 pub returns-in-Install-clause-makes : goal.returns-in-Install-clause-makes
 returns-in-Install-clause-makes g c s stands =
-    subst (λ (line : Line). MakesStep g.D.Held.HeldFile.bytes (g.D.Watched.told c.install.new.served.engine.disk) c.install.new.served.engine.core
+    subst (λ (line : Line). MakesStep g.D.Held.HeldFile.bytes (g.D.Watched.told c.install.new.served.engine.disk)
+    c.install.new.served.engine.core
     c.install.new.served.opens.items s (step_to s line) c.install.result) (sym c.in-Install.is) (c.install.ensures.makes s stands)
 
 pub returns-in-Install-clause-merges : goal.returns-in-Install-clause-merges
 returns-in-Install-clause-merges g c s stands =
-    subst (λ (line : Line). OnOk c.install.result (MergesIn g.D.Writer.Writer g.D.Held.HeldFile.bytes c.install.new.served.engine.merging c.install.new.planned (step_to s line).state)) (sym c.in-Install.is)
+    subst (λ (line : Line). OnOk c.install.result
+    (MergesIn g.D.Writer.Writer g.D.Held.HeldFile.bytes c.install.new.served.engine.merging c.install.new.planned
+    (step_to s line).state)) (sym c.in-Install.is)
     (c.install.ensures.merges s stands)
 
 pub returns-in-Install-clause-carries : goal.returns-in-Install-clause-carries

@@ -25,10 +25,12 @@ use Rattle.vl_replay.proofs.replayer.merging.end.Goals as goal
 
 pub returns-in-None-clause-makes : goal.returns-in-None-clause-makes
 returns-in-None-clause-makes g c s stands =
-    let (still, other) = took_none c.as_slice.result.now c.args.name c.as_slice.ensures c.args.planned.now c.take_planned.new.planned c.take_planned.result
+    let (still, other) = took_none c.as_slice.result.now c.args.name c.as_slice.ensures c.args.planned.now
+    c.take_planned.new.planned c.take_planned.result
     c.take_planned.ensures c.in-None.is in
     c.end.ensures.makes s stands.serves
-    (no_merge_named g.D.Writer.Writer g.D.Held.HeldFile.bytes c.args.planned.now s.store.things s.store.layout c.args.name stands.merges.waits other)
+    (no_merge_named g.D.Writer.Writer g.D.Held.HeldFile.bytes c.args.planned.now s.store.things s.store.layout
+    c.args.name stands.merges.waits other)
 
 pub returns-in-Some-clause-makes : goal.returns-in-Some-clause-makes
 returns-in-Some-clause-makes g c s stands =
@@ -37,14 +39,17 @@ returns-in-Some-clause-makes g c s stands =
     let new = c.abandon.new.self in
     let seen = g.D.Watched.told old.disk in
     let now = g.D.Watched.told new.disk in
-    let (p, there, named, job, none) = took c.as_slice.result.now c.args.name c.as_slice.ensures c.args.planned.now c.take_planned.new.planned c.take_planned.result c.in-Some.job
+    let (p, there, named, job, none) = took c.as_slice.result.now c.args.name c.as_slice.ensures c.args.planned.now
+    c.take_planned.new.planned c.take_planned.result c.in-Some.job
     c.take_planned.ensures c.in-Some.is in
     let merges = subst (λ (o : Option _). Merges g.D.Writer.Writer bytes old.merging o s.store.things s.store.layout) there stands.merges in
     let o = merges.waits.open_job in
     let made = made_of p.job o.job in
-    drop_makes g.D.Writer.Writer bytes seen now old.core new.core old.merging new.merging c.args.served.now.opens.items s stands.serves p merges c.args.name named
+    drop_makes g.D.Writer.Writer bytes seen now old.core new.core old.merging new.merging c.args.served.now.opens.items
+    s stands.serves p merges c.args.name named
     c.abandon.ensures.core
-    (c.abandon.ensures.stands (history_of s) s.store.layout o made (record { stands = stands.serves.engine; opens = merges.opens }) merges.waits.is_open merges.waits.lent)
+    (c.abandon.ensures.stands (history_of s) s.store.layout o made
+    (record { stands = stands.serves.engine; opens = merges.opens }) merges.waits.is_open merges.waits.lent)
     (c.abandon.ensures.fits (history_of s) s.store.layout o made stands.serves.fits)
     (λ openable. c.abandon.ensures.represents (history_of s) s.store.layout o made
     (represents bytes seen old.core c.args.served.now.opens.items s stands.serves openable) merges.waits.is_open merges.waits.lent)
@@ -56,16 +61,19 @@ returns-in-Some-clause-merges g c s stands =
     let new = c.abandon.new.self in
     let seen = g.D.Watched.told old.disk in
     let now = g.D.Watched.told new.disk in
-    let (p, there, named, job, none) = took c.as_slice.result.now c.args.name c.as_slice.ensures c.args.planned.now c.take_planned.new.planned c.take_planned.result c.in-Some.job
+    let (p, there, named, job, none) = took c.as_slice.result.now c.args.name c.as_slice.ensures c.args.planned.now
+    c.take_planned.new.planned c.take_planned.result c.in-Some.job
     c.take_planned.ensures c.in-Some.is in
     let merges = subst (λ (o : Option _). Merges g.D.Writer.Writer bytes old.merging o s.store.things s.store.layout) there stands.merges in
     let o = merges.waits.open_job in
     let made = made_of p.job o.job in
     let x = drop_by s.store c.args.name (thing_of s.store c.args.name) in
     subst (λ (q : Option _). Merges g.D.Writer.Writer bytes new.merging q x.state.things x.state.layout) (sym none)
-    (drop_merges g.D.Writer.Writer bytes seen now old.core new.core old.merging new.merging c.args.served.now.opens.items s stands.serves p merges c.args.name named
+    (drop_merges g.D.Writer.Writer bytes seen now old.core new.core old.merging new.merging
+    c.args.served.now.opens.items s stands.serves p merges c.args.name named
     c.abandon.ensures.core
-    (c.abandon.ensures.stands (history_of s) s.store.layout o made (record { stands = stands.serves.engine; opens = merges.opens }) merges.waits.is_open merges.waits.lent)
+    (c.abandon.ensures.stands (history_of s) s.store.layout o made
+    (record { stands = stands.serves.engine; opens = merges.opens }) merges.waits.is_open merges.waits.lent)
     (c.abandon.ensures.fits (history_of s) s.store.layout o made stands.serves.fits)
     (λ openable. c.abandon.ensures.represents (history_of s) s.store.layout o made
     (represents bytes seen old.core c.args.served.now.opens.items s stands.serves openable) merges.waits.is_open merges.waits.lent))
@@ -76,43 +84,56 @@ returns-in-Some-clause-carries g c s stands =
     let old = c.args.served.now.engine in
     let new = c.abandon.new.self in
     let seen = g.D.Watched.told old.disk in
-    let (p, there, named, job, none) = took c.as_slice.result.now c.args.name c.as_slice.ensures c.args.planned.now c.take_planned.new.planned c.take_planned.result c.in-Some.job
+    let (p, there, named, job, none) = took c.as_slice.result.now c.args.name c.as_slice.ensures c.args.planned.now
+    c.take_planned.new.planned c.take_planned.result c.in-Some.job
     c.take_planned.ensures c.in-Some.is in
     let merges = subst (λ (o : Option _). Merges g.D.Writer.Writer bytes old.merging o s.store.things s.store.layout) there stands.merges in
     let o = merges.waits.open_job in
     let made = made_of p.job o.job in
-    subst (λ (d : _). CarriesOut g.D.Watched IsStored Shown IsStopped old.disk d s (state_by s (drop_by s.store c.args.name (thing_of s.store c.args.name))) (Ok answers.Done))
+    subst (λ (d : _). CarriesOut g.D.Watched IsStored Shown IsStopped old.disk d s
+    (state_by s (drop_by s.store c.args.name (thing_of s.store c.args.name))) (Ok answers.Done))
     (sym c.abandon.ensures.disk)
-    (drop_carries g.D.Watched (record { only_now = g.met.D.Disk.only_now; counts_now = g.met.D.Disk.counts_now }) g.D.Writer.Writer bytes old.disk old.core new.core old.merging
+    (drop_carries g.D.Watched (record { only_now = g.met.D.Disk.only_now; counts_now = g.met.D.Disk.counts_now })
+    g.D.Writer.Writer bytes old.disk old.core new.core old.merging
     c.args.served.now.opens.items s stands.serves p merges c.args.name named c.abandon.ensures.core
-    (λ openable. subst (λ (d : _). engine.Represents bytes new.core (g.D.Watched.told d) (history_of s) (job_ended made s.store.layout)) c.abandon.ensures.disk
+    (λ openable. subst (λ (d : _). engine.Represents bytes new.core (g.D.Watched.told d) (history_of s)
+    (job_ended made s.store.layout)) c.abandon.ensures.disk
     (c.abandon.ensures.represents (history_of s) s.store.layout o made
     (represents bytes seen old.core c.args.served.now.opens.items s stands.serves openable) merges.waits.is_open merges.waits.lent)))
 
 pub returns-in-None-clause-merges : goal.returns-in-None-clause-merges
 returns-in-None-clause-merges g c s stands =
-    let (still, other) = took_none c.as_slice.result.now c.args.name c.as_slice.ensures c.args.planned.now c.take_planned.new.planned c.take_planned.result
+    let (still, other) = took_none c.as_slice.result.now c.args.name c.as_slice.ensures c.args.planned.now
+    c.take_planned.new.planned c.take_planned.result
     c.take_planned.ensures c.in-None.is in
-    let none = no_merge_named g.D.Writer.Writer g.D.Held.HeldFile.bytes c.args.planned.now s.store.things s.store.layout c.args.name stands.merges.waits other in
-    merges_behind g.D.Writer.Writer g.D.Held.HeldFile.bytes c.args.served.now.engine.merging c.end.new.self.engine.merging c.args.planned.now c.take_planned.new.planned
+    let none = no_merge_named g.D.Writer.Writer g.D.Held.HeldFile.bytes c.args.planned.now s.store.things s.store.layout
+    c.args.name stands.merges.waits other in
+    merges_behind g.D.Writer.Writer g.D.Held.HeldFile.bytes c.args.served.now.engine.merging
+    c.end.new.self.engine.merging c.args.planned.now c.take_planned.new.planned
     c.end.ensures.merging still s.store (drop_by s.store c.args.name (thing_of s.store c.args.name))
-    (drop_keeps_merges s.store c.args.name (thing_of s.store c.args.name) refl (only_reader (history_of s) s.store stands.serves.sound c.args.name none)) stands.merges
+    (drop_keeps_merges s.store c.args.name (thing_of s.store c.args.name) refl
+    (only_reader (history_of s) s.store stands.serves.sound c.args.name none)) stands.merges
 
 pub returns-in-None-clause-carries : goal.returns-in-None-clause-carries
 returns-in-None-clause-carries g c s stands =
-    let (still, other) = took_none c.as_slice.result.now c.args.name c.as_slice.ensures c.args.planned.now c.take_planned.new.planned c.take_planned.result
+    let (still, other) = took_none c.as_slice.result.now c.args.name c.as_slice.ensures c.args.planned.now
+    c.take_planned.new.planned c.take_planned.result
     c.take_planned.ensures c.in-None.is in
-    let none = no_merge_named g.D.Writer.Writer g.D.Held.HeldFile.bytes c.args.planned.now s.store.things s.store.layout c.args.name stands.merges.waits other in
+    let none = no_merge_named g.D.Writer.Writer g.D.Held.HeldFile.bytes c.args.planned.now s.store.things s.store.layout
+    c.args.name stands.merges.waits other in
     quiet_carries g.D.Watched (record { only_now = g.met.D.Disk.only_now; counts_now = g.met.D.Disk.counts_now })
     g.D.Held.HeldFile.bytes (g.D.Watched.told c.end.new.self.engine.disk) c.end.new.self.engine.core c.end.new.self.opens.items s
     (drop_by s.store c.args.name (thing_of s.store c.args.name))
-    (drop_keeps s.store c.args.name (thing_of s.store c.args.name) (only_reader (history_of s) s.store stands.serves.sound c.args.name none)) (Ok c.end.result)
+    (drop_keeps s.store c.args.name (thing_of s.store c.args.name)
+    (only_reader (history_of s) s.store stands.serves.sound c.args.name none)) (Ok c.end.result)
     (c.end.ensures.makes s stands.serves none) (λ halts. halts) c.args.served.now.engine.disk c.end.new.self.engine.disk c.end.ensures.disk
 
 pub returns-in-None-clause-handed : goal.returns-in-None-clause-handed
 returns-in-None-clause-handed g c =
-    let (still, other) = took_none c.as_slice.result.now c.args.name c.as_slice.ensures c.args.planned.now c.take_planned.new.planned c.take_planned.result
+    let (still, other) = took_none c.as_slice.result.now c.args.name c.as_slice.ensures c.args.planned.now
+    c.take_planned.new.planned c.take_planned.result
     c.take_planned.ensures c.in-None.is in
     subst (λ (q : Option _). CanHandIn g.D.Watched g.D.Writer.Writer c.end.new.self.engine.disk c.end.new.self.engine.merging q) (sym still)
-    (can_still g.D.Watched g.D.Writer.Writer c.args.served.now.engine.disk c.end.new.self.engine.disk c.args.served.now.engine.merging c.end.new.self.engine.merging c.args.planned.now
+    (can_still g.D.Watched g.D.Writer.Writer c.args.served.now.engine.disk c.end.new.self.engine.disk
+    c.args.served.now.engine.merging c.end.new.self.engine.merging c.args.planned.now
     c.end.ensures.merging (λ none. ap (λ (d : _). g.D.Watched.told d) c.end.ensures.disk ∙ none) c.requires)

@@ -15,8 +15,13 @@ use Rattle.vl_script.specs.declared.answer.Answer.TheVariants as answers
 use Rattle.vl_script.specs.declared.line.Line.TheVariants as lines
 use Rattle.vl_replay.proofs.CarryingTables.{out_is}
 use Rattle.vl_replay.proofs.Disk.DiskSteps.{IsWatched}
-use Rattle.vl_replay.proofs.Merges.GivenUp.{Abandons, exhausted_leads, exhausted_makes, exhausted_merges, none_of, not_halted, stopped_fault, stopped_leads, stopped_named, stopped_sound, stopped_undamaged, unplanned_leads}
-use Rattle.vl_replay.proofs.Merges.PlanLine.{WasMerged, handed_waits, idle_step, merge_carries, merge_makes, merge_waits, neither_taken, none_due, none_waits, opened_taken, still_open, unplanned_carries, unplanned_makes, unplanned_merges, waiting_idle, waiting_taken, was_merged}
+use Rattle.vl_replay.proofs.Merges.GivenUp.{Abandons, exhausted_leads, exhausted_makes, exhausted_merges, none_of}
+use Rattle.vl_replay.proofs.Merges.GivenUp.{not_halted, stopped_fault, stopped_leads, stopped_named, stopped_sound}
+use Rattle.vl_replay.proofs.Merges.GivenUp.{stopped_undamaged, unplanned_leads}
+use Rattle.vl_replay.proofs.Merges.PlanLine.{WasMerged, handed_waits, idle_step, merge_carries, merge_makes}
+use Rattle.vl_replay.proofs.Merges.PlanLine.{merge_waits, neither_taken, none_due, none_waits, opened_taken}
+use Rattle.vl_replay.proofs.Merges.PlanLine.{still_open, unplanned_carries, unplanned_makes, unplanned_merges}
+use Rattle.vl_replay.proofs.Merges.PlanLine.{waiting_idle, waiting_taken, was_merged}
 use Rattle.vl_replay.proofs.Names.BeginMaking.{free_of, taken_of}
 use Rattle.vl_replay.proofs.Names.Serving.{represents}
 use Rattle.vl_replay.proofs.replayer.merging.plan.Given as given
@@ -51,13 +56,15 @@ returns-then-is_taken-clause-makes g c s stands =
 pub returns-then-is_taken-clause-merges : goal.returns-then-is_taken-clause-merges
 returns-then-is_taken-clause-merges g c s stands =
     let e = c.args.served.now.engine in
-    unplanned_merges g.D.Writer.Writer g.D.Held.HeldFile.bytes e.merging e.merging c.args.planned.now c.args.planned.now refl refl s stands.merges
+    unplanned_merges g.D.Writer.Writer g.D.Held.HeldFile.bytes e.merging e.merging c.args.planned.now c.args.planned.now
+    refl refl s stands.merges
     c.args.name (store_lines.Taken c.args.name) (in_use g c s stands)
 
 pub returns-then-is_taken-clause-carries : goal.returns-then-is_taken-clause-carries
 returns-then-is_taken-clause-carries g c s stands =
     let e = c.args.served.now.engine in
-    unplanned_carries g.D.Watched (record { only_now = g.met.D.Disk.only_now; counts_now = g.met.D.Disk.counts_now }) g.D.Held.HeldFile.bytes
+    unplanned_carries g.D.Watched (record { only_now = g.met.D.Disk.only_now; counts_now = g.met.D.Disk.counts_now })
+    g.D.Held.HeldFile.bytes
     e.core e.core e.disk e.disk c.args.served.now.opens.items s stands.serves refl refl c.args.name (answers.Taken c.args.name)
     (store_lines.Taken c.args.name) refl (in_use g c s stands)
 
@@ -71,9 +78,11 @@ waits_already g c s stands =
     (neither_taken g.D.Writer.Writer g.D.Held.HeldFile.bytes c.args.planned.now (g.D.Watched.told c.args.served.now.engine.disk)
     c.args.served.now.engine.core c.args.served.now.opens.items s stands.serves stands.merges.waits c.args.name
     c.as_slice-else-is_taken.result.now c.as_slice-else-is_taken.ensures c.is_planned.result c.is_planned.ensures c.if-is_planned.false
-    (free_of c.args.served.now.opens.items c.deref.result.now c.deref.ensures.value c.as_slice.result.now c.args.name c.as_slice.ensures c.is_taken.result
+    (free_of c.args.served.now.opens.items c.deref.result.now c.deref.ensures.value c.as_slice.result.now c.args.name
+    c.as_slice.ensures c.is_taken.result
     c.is_taken.ensures c.if-is_taken.false))
-    (waiting_idle g.D.Writer.Writer g.D.Held.HeldFile.bytes c.args.planned.now s stands.merges.waits (sym c.is_some.ensures ∙ c.if-is_some.true))
+    (waiting_idle g.D.Writer.Writer g.D.Held.HeldFile.bytes c.args.planned.now s stands.merges.waits
+    (sym c.is_some.ensures ∙ c.if-is_some.true))
 
 pub returns-then-is_some-clause-makes : goal.returns-then-is_some-clause-makes
 returns-then-is_some-clause-makes g c s stands =
@@ -85,7 +94,8 @@ returns-then-is_some-clause-makes g c s stands =
 pub returns-then-is_some-clause-carries : goal.returns-then-is_some-clause-carries
 returns-then-is_some-clause-carries g c s stands =
     let e = c.args.served.now.engine in
-    unplanned_carries g.D.Watched (record { only_now = g.met.D.Disk.only_now; counts_now = g.met.D.Disk.counts_now }) g.D.Held.HeldFile.bytes
+    unplanned_carries g.D.Watched (record { only_now = g.met.D.Disk.only_now; counts_now = g.met.D.Disk.counts_now })
+    g.D.Held.HeldFile.bytes
     e.core e.core e.disk e.disk c.args.served.now.opens.items s stands.serves refl refl c.args.name answers.Idle store_lines.Idle refl
     (waits_already g c s stands)
 
@@ -101,7 +111,8 @@ not_due g c s stands =
     (neither_taken g.D.Writer.Writer g.D.Held.HeldFile.bytes c.args.planned.now (g.D.Watched.told c.args.served.now.engine.disk)
     c.args.served.now.engine.core c.args.served.now.opens.items s stands.serves stands.merges.waits c.args.name
     c.as_slice-else-is_taken.result.now c.as_slice-else-is_taken.ensures c.is_planned.result c.is_planned.ensures c.if-is_planned.false
-    (free_of c.args.served.now.opens.items c.deref.result.now c.deref.ensures.value c.as_slice.result.now c.args.name c.as_slice.ensures c.is_taken.result
+    (free_of c.args.served.now.opens.items c.deref.result.now c.deref.ensures.value c.as_slice.result.now c.args.name
+    c.as_slice.ensures c.is_taken.result
     c.is_taken.ensures c.if-is_taken.false))
     (none_due g.D.Watched g.D.Writer.Writer g.D.Held.HeldFile.bytes old.core new.core old.disk new.disk old.merging new.merging
     c.args.served.now.opens.items s stands.serves c.plan.result c.plan.ensures.core c.plan.ensures.disk
@@ -130,7 +141,8 @@ pub returns-in_default-clause-carries : goal.returns-in_default-clause-carries
 returns-in_default-clause-carries g c s stands =
     let old = c.args.served.now.engine in
     let new = c.plan.new.self in
-    unplanned_carries g.D.Watched (record { only_now = g.met.D.Disk.only_now; counts_now = g.met.D.Disk.counts_now }) g.D.Held.HeldFile.bytes
+    unplanned_carries g.D.Watched (record { only_now = g.met.D.Disk.only_now; counts_now = g.met.D.Disk.counts_now })
+    g.D.Held.HeldFile.bytes
     old.core new.core old.disk new.disk c.args.served.now.opens.items s stands.serves c.plan.ensures.core c.plan.ensures.disk
     c.args.name answers.Idle store_lines.Idle refl (not_due g c s stands)
 
@@ -143,7 +155,8 @@ whole_free g c s stands =
     neither_taken g.D.Writer.Writer g.D.Held.HeldFile.bytes c.args.planned.now (g.D.Watched.told c.args.served.now.engine.disk)
     c.args.served.now.engine.core c.args.served.now.opens.items s stands.serves stands.merges.waits c.args.name
     c.as_slice-else-is_taken.result.now c.as_slice-else-is_taken.ensures c.is_planned.result c.is_planned.ensures c.if-is_planned.false
-    (free_of c.args.served.now.opens.items c.deref.result.now c.deref.ensures.value c.as_slice.result.now c.args.name c.as_slice.ensures c.is_taken.result
+    (free_of c.args.served.now.opens.items c.deref.result.now c.deref.ensures.value c.as_slice.result.now c.args.name
+    c.as_slice.ensures c.is_taken.result
     c.is_taken.ensures c.if-is_taken.false)
 
 whole_merge : (g : given.Over) (c : goal.Joined-planned g) (s : State)
@@ -167,7 +180,8 @@ whole_merge g c s stands =
     (did.job h l (record { stands = stands.serves.engine; opens = stands.merges.opens }))
     (did.looks h l (record { stands = stands.serves.engine; opens = stands.merges.opens }))
     (record { only_now = g.met.D.Disk.only_now; counts_now = g.met.D.Disk.counts_now }) c.args.name (whole_free g c s stands)
-    (free_of c.args.served.now.opens.items c.deref.result.now c.deref.ensures.value c.as_slice.result.now c.args.name c.as_slice.ensures c.is_taken.result
+    (free_of c.args.served.now.opens.items c.deref.result.now c.deref.ensures.value c.as_slice.result.now c.args.name
+    c.as_slice.ensures c.is_taken.result
     c.is_taken.ensures c.if-is_taken.false)
     c.make_tables.new.engine.core c.make_tables.new.engine.disk c.make_tables.new.engine.merging c.make_tables.new.job c.make_tables.result
     c.make_tables.ensures.merged
@@ -175,44 +189,57 @@ whole_merge g c s stands =
 pub returns-in-Ok-None-clause-makes : goal.returns-in-Ok-None-clause-makes
 returns-in-Ok-None-clause-makes g c s stands =
     let new = c.make_tables.new.engine in
-    merge_makes g.D.Watched (record { only_now = g.met.D.Disk.only_now; counts_now = g.met.D.Disk.counts_now }) g.D.Writer.Writer g.D.Held.HeldFile.bytes
-    c.args.served.now.engine.core new.core c.args.served.now.engine.disk new.disk new.merging c.make_tables.new.job c.args.served.now.opens.items s
+    merge_makes g.D.Watched (record { only_now = g.met.D.Disk.only_now; counts_now = g.met.D.Disk.counts_now })
+    g.D.Writer.Writer g.D.Held.HeldFile.bytes
+    c.args.served.now.engine.core new.core c.args.served.now.engine.disk new.disk new.merging c.make_tables.new.job
+    c.args.served.now.opens.items s
     stands.serves c.args.name (whole_free g c s stands)
-    (free_of c.args.served.now.opens.items c.deref.result.now c.deref.ensures.value c.as_slice.result.now c.args.name c.as_slice.ensures c.is_taken.result
+    (free_of c.args.served.now.opens.items c.deref.result.now c.deref.ensures.value c.as_slice.result.now c.args.name
+    c.as_slice.ensures c.is_taken.result
     c.is_taken.ensures c.if-is_taken.false)
-    c.make_tables.result (whole_merge g c s stands) (c.in-Ok-None.is ∙ ap Ok c.in-Ok-None.field-0-is) c.kept_count-number.result c.kept_count-number.ensures
+    c.make_tables.result (whole_merge g c s stands) (c.in-Ok-None.is ∙ ap Ok c.in-Ok-None.field-0-is)
+    c.kept_count-number.result c.kept_count-number.ensures
 
 pub returns-in-Ok-None-clause-merges : goal.returns-in-Ok-None-clause-merges
 returns-in-Ok-None-clause-merges g c s stands =
     let new = c.make_tables.new.engine in
-    merge_waits g.D.Watched (record { only_now = g.met.D.Disk.only_now; counts_now = g.met.D.Disk.counts_now }) g.D.Writer.Writer g.D.Held.HeldFile.bytes
-    c.args.served.now.engine.core new.core c.args.served.now.engine.disk new.disk new.merging c.make_tables.new.job c.args.served.now.opens.items s
+    merge_waits g.D.Watched (record { only_now = g.met.D.Disk.only_now; counts_now = g.met.D.Disk.counts_now })
+    g.D.Writer.Writer g.D.Held.HeldFile.bytes
+    c.args.served.now.engine.core new.core c.args.served.now.engine.disk new.disk new.merging c.make_tables.new.job
+    c.args.served.now.opens.items s
     stands.serves c.args.name (whole_free g c s stands)
-    (free_of c.args.served.now.opens.items c.deref.result.now c.deref.ensures.value c.as_slice.result.now c.args.name c.as_slice.ensures c.is_taken.result
+    (free_of c.args.served.now.opens.items c.deref.result.now c.deref.ensures.value c.as_slice.result.now c.args.name
+    c.as_slice.ensures c.is_taken.result
     c.is_taken.ensures c.if-is_taken.false)
     c.make_tables.result (whole_merge g c s stands) (c.in-Ok-None.is ∙ ap Ok c.in-Ok-None.field-0-is)
-    (none_waits g.D.Writer.Writer g.D.Held.HeldFile.bytes c.args.planned.now s stands.merges.waits (sym c.is_some.ensures ∙ c.if-is_some.false))
+    (none_waits g.D.Writer.Writer g.D.Held.HeldFile.bytes c.args.planned.now s stands.merges.waits
+    (sym c.is_some.ensures ∙ c.if-is_some.false))
 
 pub returns-in-Ok-None-clause-carries : goal.returns-in-Ok-None-clause-carries
 returns-in-Ok-None-clause-carries g c s stands =
     let new = c.make_tables.new.engine in
-    merge_carries g.D.Watched (record { only_now = g.met.D.Disk.only_now; counts_now = g.met.D.Disk.counts_now }) g.D.Writer.Writer g.D.Held.HeldFile.bytes
-    c.args.served.now.engine.core new.core c.args.served.now.engine.disk new.disk new.merging c.make_tables.new.job c.args.served.now.opens.items s
+    merge_carries g.D.Watched (record { only_now = g.met.D.Disk.only_now; counts_now = g.met.D.Disk.counts_now })
+    g.D.Writer.Writer g.D.Held.HeldFile.bytes
+    c.args.served.now.engine.core new.core c.args.served.now.engine.disk new.disk new.merging c.make_tables.new.job
+    c.args.served.now.opens.items s
     stands.serves c.args.name (whole_free g c s stands)
-    (free_of c.args.served.now.opens.items c.deref.result.now c.deref.ensures.value c.as_slice.result.now c.args.name c.as_slice.ensures c.is_taken.result
+    (free_of c.args.served.now.opens.items c.deref.result.now c.deref.ensures.value c.as_slice.result.now c.args.name
+    c.as_slice.ensures c.is_taken.result
     c.is_taken.ensures c.if-is_taken.false)
     c.make_tables.result (whole_merge g c s stands) (c.in-Ok-None.is ∙ ap Ok c.in-Ok-None.field-0-is) c.kept_count-number.result
 
 pub returns-in-Ok-None-clause-handed : goal.returns-in-Ok-None-clause-handed
 returns-in-Ok-None-clause-handed g c =
-    handed_waits g.D.Watched g.D.Writer.Writer c.make_tables.new.engine.disk c.make_tables.new.engine.merging c.make_tables.new.job c.args.name
+    handed_waits g.D.Watched g.D.Writer.Writer c.make_tables.new.engine.disk c.make_tables.new.engine.merging
+    c.make_tables.new.job c.args.name
     (c.make_tables.ensures.handed (c.in-Ok-None.is ∙ ap Ok c.in-Ok-None.field-0-is))
 
 -- ---- memory ran out before a merge was planned
 
 pub returns-in_err-job-clause-carries : goal.returns-in_err-job-clause-carries
 returns-in_err-job-clause-carries g c s stands =
-    subst (λ (r : Result Answer Halt). CarriesOut {T = Answer} g.D.Watched IsStored Shown IsStopped c.args.served.now.engine.disk c.plan.new.self.disk s
+    subst (λ (r : Result Answer Halt). CarriesOut {T = Answer} g.D.Watched IsStored Shown IsStopped
+    c.args.served.now.engine.disk c.plan.new.self.disk s
     (state_after s (lines.Plan c.args.name)) r) (sym (out_is c.from_residual.result c.from_residual.ensures.1))
     (unplanned_leads g.D.Watched (record { only_now = g.met.D.Disk.only_now; counts_now = g.met.D.Disk.counts_now })
     c.args.served.now.engine.disk c.plan.new.self.disk c.plan.ensures.disk s c.args.name)
@@ -226,7 +253,8 @@ exhausted_free g c s stands =
     neither_taken g.D.Writer.Writer g.D.Held.HeldFile.bytes c.args.planned.now (g.D.Watched.told c.args.served.now.engine.disk)
     c.args.served.now.engine.core c.args.served.now.opens.items s stands.serves stands.merges.waits c.args.name
     c.as_slice-else-is_taken.result.now c.as_slice-else-is_taken.ensures c.is_planned.result c.is_planned.ensures c.if-is_planned.false
-    (free_of c.args.served.now.opens.items c.deref.result.now c.deref.ensures.value c.as_slice.result.now c.args.name c.as_slice.ensures c.is_taken.result
+    (free_of c.args.served.now.opens.items c.deref.result.now c.deref.ensures.value c.as_slice.result.now c.args.name
+    c.as_slice.ensures c.is_taken.result
     c.is_taken.ensures c.if-is_taken.false)
 
 exhausted_merge : (g : given.Over) (c : goal.After-drop-name-inside-in-Some-make_tables-2 g) (s : State)
@@ -250,7 +278,8 @@ exhausted_merge g c s stands =
     (did.job h l (record { stands = stands.serves.engine; opens = stands.merges.opens }))
     (did.looks h l (record { stands = stands.serves.engine; opens = stands.merges.opens }))
     (record { only_now = g.met.D.Disk.only_now; counts_now = g.met.D.Disk.counts_now }) c.args.name (exhausted_free g c s stands)
-    (free_of c.args.served.now.opens.items c.deref.result.now c.deref.ensures.value c.as_slice.result.now c.args.name c.as_slice.ensures c.is_taken.result
+    (free_of c.args.served.now.opens.items c.deref.result.now c.deref.ensures.value c.as_slice.result.now c.args.name
+    c.as_slice.ensures c.is_taken.result
     c.is_taken.ensures c.if-is_taken.false)
     c.make_tables.new.engine.core c.make_tables.new.engine.disk c.make_tables.new.engine.merging c.make_tables.new.job c.make_tables.result
     c.make_tables.ensures.merged
@@ -275,8 +304,10 @@ returns-in-Ok-Some-clause-makes g c s stands =
       fits = c.abandon.ensures.fits;
       core = c.abandon.ensures.core;
     } in
-    exhausted_makes g.D.Watched watched w bytes before.disk after.disk before.core after.core after.merging os s stands.serves name bare free
-    c.make_tables.new.job c.make_tables.result was (g.D.Watched.told c.abandon.new.self.disk) c.abandon.new.self.core c.abandon.new.self.merging did
+    exhausted_makes g.D.Watched watched w bytes before.disk after.disk before.core after.core after.merging os s
+    stands.serves name bare free
+    c.make_tables.new.job c.make_tables.result was (g.D.Watched.told c.abandon.new.self.disk) c.abandon.new.self.core
+    c.abandon.new.self.merging did
     c.in-Ok-Some.counter (c.in-Ok-Some.is ∙ ap Ok c.in-Ok-Some.field-0-is)
 
 pub returns-in-Ok-Some-clause-merges : goal.returns-in-Ok-Some-clause-merges
@@ -303,8 +334,10 @@ returns-in-Ok-Some-clause-merges g c s stands =
     let x = step_to s (lines.Plan name) in
     subst (λ (p : Option _). Merges w bytes c.abandon.new.self.merging p x.state.things x.state.layout)
     (sym (none_of c.args.planned.now (sym c.is_some.ensures ∙ c.if-is_some.false)))
-    (exhausted_merges g.D.Watched watched w bytes before.disk after.disk before.core after.core after.merging os s stands.serves name bare free
-    c.make_tables.new.job c.make_tables.result was (g.D.Watched.told c.abandon.new.self.disk) c.abandon.new.self.core c.abandon.new.self.merging did
+    (exhausted_merges g.D.Watched watched w bytes before.disk after.disk before.core after.core after.merging os s
+    stands.serves name bare free
+    c.make_tables.new.job c.make_tables.result was (g.D.Watched.told c.abandon.new.self.disk) c.abandon.new.self.core
+    c.abandon.new.self.merging did
     c.in-Ok-Some.counter (c.in-Ok-Some.is ∙ ap Ok c.in-Ok-Some.field-0-is) none)
 
 pub returns-in-Ok-Some-clause-carries : goal.returns-in-Ok-Some-clause-carries
@@ -327,10 +360,13 @@ returns-in-Ok-Some-clause-carries g c s stands held =
       fits = c.abandon.ensures.fits;
       core = c.abandon.ensures.core;
     } in
-    subst (λ (d : _). LeadsTo g.D.Watched IsStored Shown IsStopped before.disk d s (state_after s (lines.Plan name)) (Ok (answers.Exhausted c.in-Ok-Some.counter)))
+    subst (λ (d : _). LeadsTo g.D.Watched IsStored Shown IsStopped before.disk d s (state_after s (lines.Plan name))
+    (Ok (answers.Exhausted c.in-Ok-Some.counter)))
     (sym c.abandon.ensures.disk)
-    (exhausted_leads g.D.Watched watched w bytes before.disk after.disk before.core after.core after.merging os s stands.serves name bare free
-    c.make_tables.new.job c.make_tables.result was (g.D.Watched.told c.abandon.new.self.disk) c.abandon.new.self.core c.abandon.new.self.merging did
+    (exhausted_leads g.D.Watched watched w bytes before.disk after.disk before.core after.core after.merging os s
+    stands.serves name bare free
+    c.make_tables.new.job c.make_tables.result was (g.D.Watched.told c.abandon.new.self.disk) c.abandon.new.self.core
+    c.abandon.new.self.merging did
     c.in-Ok-Some.counter (c.in-Ok-Some.is ∙ ap Ok c.in-Ok-Some.field-0-is) (ap (λ (d : _). g.D.Watched.told d) c.abandon.ensures.disk) held)
 
 -- ---- it stopped without an answer
@@ -342,7 +378,8 @@ stopped_free g c s stands =
     neither_taken g.D.Writer.Writer g.D.Held.HeldFile.bytes c.args.planned.now (g.D.Watched.told c.args.served.now.engine.disk)
     c.args.served.now.engine.core c.args.served.now.opens.items s stands.serves stands.merges.waits c.args.name
     c.as_slice-else-is_taken.result.now c.as_slice-else-is_taken.ensures c.is_planned.result c.is_planned.ensures c.if-is_planned.false
-    (free_of c.args.served.now.opens.items c.deref.result.now c.deref.ensures.value c.as_slice.result.now c.args.name c.as_slice.ensures c.is_taken.result
+    (free_of c.args.served.now.opens.items c.deref.result.now c.deref.ensures.value c.as_slice.result.now c.args.name
+    c.as_slice.ensures c.is_taken.result
     c.is_taken.ensures c.if-is_taken.false)
 
 stopped_merge : (g : given.Over) (c : goal.After-drop-name-inside-in-Err-1 g) (s : State)
@@ -366,7 +403,8 @@ stopped_merge g c s stands =
     (did.job h l (record { stands = stands.serves.engine; opens = stands.merges.opens }))
     (did.looks h l (record { stands = stands.serves.engine; opens = stands.merges.opens }))
     (record { only_now = g.met.D.Disk.only_now; counts_now = g.met.D.Disk.counts_now }) c.args.name (stopped_free g c s stands)
-    (free_of c.args.served.now.opens.items c.deref.result.now c.deref.ensures.value c.as_slice.result.now c.args.name c.as_slice.ensures c.is_taken.result
+    (free_of c.args.served.now.opens.items c.deref.result.now c.deref.ensures.value c.as_slice.result.now c.args.name
+    c.as_slice.ensures c.is_taken.result
     c.is_taken.ensures c.if-is_taken.false)
     c.make_tables.new.engine.core c.make_tables.new.engine.disk c.make_tables.new.engine.merging c.make_tables.new.job c.make_tables.result
     c.make_tables.ensures.merged
@@ -384,7 +422,8 @@ returns-in-Err-clause-carries g c s stands held =
     c.as_slice.ensures c.is_taken.result c.is_taken.ensures c.if-is_taken.false in
     let bare = stopped_free g c s stands in
     let was = stopped_merge g c s stands in
-    subst (λ (d : _). LeadsTo {T = Answer} g.D.Watched IsStored Shown IsStopped before.disk d s (state_after s (lines.Plan name)) (Err c.in-Err.halt))
+    subst (λ (d : _). LeadsTo {T = Answer} g.D.Watched IsStored Shown IsStopped before.disk d s
+    (state_after s (lines.Plan name)) (Err c.in-Err.halt))
     (sym c.abandon-in-Err.ensures.disk)
     (stopped_leads g.D.Watched watched w bytes before.disk after.disk before.core after.core after.merging os s stands.serves name bare free
     c.make_tables.new.job c.make_tables.result was c.in-Err.halt c.in-Err.is held)
@@ -418,14 +457,16 @@ returns-in-Err-clause-undamaged g c s stands =
     c.as_slice.ensures c.is_taken.result c.is_taken.ensures c.if-is_taken.false in
     let bare = stopped_free g c s stands in
     let was = stopped_merge g c s stands in
-    stopped_undamaged g.D.Watched watched w bytes before.disk after.disk before.core after.core after.merging os s stands.serves name bare free
+    stopped_undamaged g.D.Watched watched w bytes before.disk after.disk before.core after.core after.merging os s
+    stands.serves name bare free
     c.make_tables.new.job c.make_tables.result was c.in-Err.halt c.in-Err.is
 
 pub returns-in-Err-clause-fault : goal.returns-in-Err-clause-fault
 returns-in-Err-clause-fault g c s stands by =
     c.make_tables.ensures.fault
     (ap (λ (core : Core _). core.front.halted) c.plan.ensures.core
-    ∙ not_halted g.D.Held.HeldFile.bytes c.args.served.now.engine.core (history_of s) s.store.layout stands.serves.engine stands.serves.running)
+    ∙ not_halted g.D.Held.HeldFile.bytes c.args.served.now.engine.core (history_of s) s.store.layout
+    stands.serves.engine stands.serves.running)
     (stopped_fault c.make_tables.result c.in-Err.halt c.in-Err.is by)
 
 pub returns-in-Err-clause-named : goal.returns-in-Err-clause-named

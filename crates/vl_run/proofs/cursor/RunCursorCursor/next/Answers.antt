@@ -16,4 +16,5 @@ returns-clause-given c =
       | in-Down w ↦ along-down way entries i c.match-self.at e w.in-Down.is w.at-is within c.index-entries-at.is
     ] in
     λ left here.
-    given_next way (between c.self.inside.first c.self.inside.end c.self.inside.run) entries i e c.in_ok-entry.entry c.part-entries.ensures c.in_ok-entry.ensures within found left (ap Some c.self.view_is ∙ here)
+    given_next way (between c.self.inside.first c.self.inside.end c.self.inside.run) entries i e c.in_ok-entry.entry
+    c.part-entries.ensures c.in_ok-entry.ensures within found left (ap Some c.self.view_is ∙ here)

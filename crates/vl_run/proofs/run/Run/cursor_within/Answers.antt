@@ -19,7 +19,8 @@ returns c =
     let entries = c.as_slice-entries.result.now in
     let start = prefix_len (is_short_of c.args.span.now) entries in
     let end = prefix_len (is_not_past c.args.span.now) entries in
-    let first : c.min-first.result ≡ min start end = c.min-first.ensures ∙ ap (λ n. min n c.end_of-end.result) c.start_of.ensures ∙ ap (min start) c.end_of-end.ensures in
+    let first : c.min-first.result ≡ min start end = c.min-first.ensures
+    ∙ ap (λ n. min n c.end_of-end.result) c.start_of.ensures ∙ ap (min start) c.end_of-end.ensures in
     c.between.ensures
     ∙ ap (along c.args.way)
     (ap (between c.min-first.result c.end_of-end.result) (c.in_ok-share.ensures ∙ sym c.as_slice-entries.ensures.entries)

@@ -6,4 +6,5 @@ use Rattle.vl_seglog.proofs.reading.moves.read_all_moved.Given as goal
 
 abbrev pub invariant-loop : goal.invariant-loop
 invariant-loop l =
-    ReadSoFar (moves_spelling l.format) moved_of (LiesMovedAt l.format l.log) (moved_size l.format) (moved_sized l.format) l.first l.bytes l.counter l.records.items l.rest l.place
+    ReadSoFar (moves_spelling l.format) moved_of (LiesMovedAt l.format l.log) (moved_size l.format)
+    (moved_sized l.format) l.first l.bytes l.counter l.records.items l.rest l.place

@@ -6,4 +6,5 @@ use Rattle.vl_seglog.proofs.reading.records.read_records.Given as goal
 
 abbrev pub invariant-loop : goal.invariant-loop
 invariant-loop l =
-    ReadSoFar (records_spelling l.format) write_of (LiesAt l.format l.log l.number) (record_size l.format) (write_sized l.format) l.first l.bytes l.counter l.records.items l.rest l.place
+    ReadSoFar (records_spelling l.format) write_of (LiesAt l.format l.log l.number) (record_size l.format)
+    (write_sized l.format) l.first l.bytes l.counter l.records.items l.rest l.place

@@ -27,7 +27,9 @@ returns-clause-answers g c =
     (λ bytes told read.
     let front = record_head c.args.self.now.format + length c.args.key.now in
     let here = c.in-Some.ensures.found in
-    let found = gives_some c.args.self.now.format bytes c.args.pointer c.args.key.now c.in-Some.tag c.args.value_len c.requires.key c.requires.value here.0 (omega arith)
-    (omega (arith, g.met.H.HeldFile.sized c.args.self.now.held bytes told)) (sym (read_so _ bytes c.args.pointer.place _ front read (omega arith)) ∙ here.1) in
+    let found = gives_some c.args.self.now.format bytes c.args.pointer c.args.key.now c.in-Some.tag c.args.value_len
+    c.requires.key c.requires.value here.0 (omega arith)
+    (omega (arith, g.met.H.HeldFile.sized c.args.self.now.held bytes told))
+    (sym (read_so _ bytes c.args.pointer.place _ front read (omega arith)) ∙ here.1) in
     found ∙ ap (λ (k : ℕ). Some (tagged (bytes_at (c.args.pointer.place + k) c.args.value_len bytes) c.in-Some.tag)) (sym c.requires.front))
     c.in_ok-fill.ensures.answers

@@ -34,7 +34,8 @@ returns-then-not-is_inside-2-clause-answers g c =
         within = omega (arith, sized);
         none = λ f rest s.
             let spelled = frame_of (frames_grammar c.args.self.now.format) c.args.self.now.number c.args.place _ f rest s in
-            let says = c.body_length.ensures.is (frame_code (frame_kind f)) _ s.short (read ∙ frame_head c.args.self.now.number c.args.place bytes _ _ spelled) in
+            let says = c.body_length.ensures.is (frame_code (frame_kind f)) _ s.short
+            (read ∙ frame_head c.args.self.now.number c.args.place bytes _ _ spelled) in
             let inside = frame_inside c.args.self.now.number c.args.place bytes _ _ spelled in
             let yes = c.is_inside-2.ensures.is.1 (omega (arith, sized, inside, says)) in
             let no = c.if-not-is_inside-2.true in cc;
@@ -47,5 +48,6 @@ pub returns-clause-answers : goal.returns-clause-answers
 returns-clause-answers g c =
     then_gives _ _ c.args.self.now.number _ _ _ _ _ c.in_ok-fill.field-0 _
     (λ bytes told read kind body s.
-    ap (λ (n : ℕ). n + 13) (c.body_length.ensures.is (frame_code kind) _ s.short (read ∙ frame_head c.args.self.now.number c.args.place bytes kind body s)))
+    ap (λ (n : ℕ). n + 13) (c.body_length.ensures.is (frame_code kind) _ s.short
+    (read ∙ frame_head c.args.self.now.number c.args.place bytes kind body s)))
     c.in_ok-fill.ensures.answers

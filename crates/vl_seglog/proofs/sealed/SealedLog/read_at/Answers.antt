@@ -8,7 +8,8 @@ use Rattle.vl_seglog.proofs.sealed.SealedLog.read_at.Goals as goal
 pub returns-clause-answers : goal.returns-clause-answers
 returns-clause-answers g c =
     let lying = c.in_ok-lying.lying in
-    and_then _ _ _ c.args.self.now.number _ _ (λ bytes value. value ≡ tagged (bytes_at lying.place lying.length bytes) lying.tag) _ _ (λ bytes damage. ⊥) _ c.in_ok-lying.lying _
+    and_then _ _ _ c.args.self.now.number _ _
+    (λ bytes value. value ≡ tagged (bytes_at lying.place lying.length bytes) lying.tag) _ _ (λ bytes damage. ⊥) _ c.in_ok-lying.lying _
     (λ bytes told found value is. found ∙ ap Some (sym is))
     (λ bytes told found p bad. absurd bad)
     c.in_ok-lying.ensures.answers

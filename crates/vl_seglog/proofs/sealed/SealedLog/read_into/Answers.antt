@@ -13,12 +13,17 @@ pub returns-clause-answers : goal.returns-clause-answers
 returns-clause-answers g c =
     let lying = c.in_ok-lying.lying in
     let old = c.args.out.now in
-    and_then _ _ _ c.args.self.now.number _ _ (λ bytes filled. (c.fill.new.out ≡ bytes_at lying.place lying.length bytes) × (filled ≡ Here lying.length)) _ _ (λ bytes damage. ⊥) _ c.in_ok-lying.lying _
-    (λ bytes told found filled is. subst (IsFilled (stored_at c.args.self.now.format bytes c.args.pointer c.args.key.now) old (c.fill.new.out ++ drop lying.length old)) (sym is.1)
+    and_then _ _ _ c.args.self.now.number _ _
+    (λ bytes filled. (c.fill.new.out ≡ bytes_at lying.place lying.length bytes) × (filled ≡ Here lying.length)) _ _
+    (λ bytes damage. ⊥) _ c.in_ok-lying.lying _
+    (λ bytes told found filled is. subst
+    (IsFilled (stored_at c.args.self.now.format bytes c.args.pointer c.args.key.now) old
+    (c.fill.new.out ++ drop lying.length old)) (sym is.1)
     (record {
       value = tagged (bytes_at lying.place lying.length bytes) lying.tag;
       is = found;
-      long = sym (length-cut lying.place lying.length bytes (omega (arith, g.met.H.HeldFile.sized c.args.self.now.held bytes told, c.in_ok-lying.ensures.inside)));
+      long = sym (length-cut lying.place lying.length bytes
+          (omega (arith, g.met.H.HeldFile.sized c.args.self.now.held bytes told, c.in_ok-lying.ensures.inside)));
       room = omega arith;
       filled = ap (λ (l : List ℕ). l ++ drop lying.length old) is.0;
     }))

@@ -25,10 +25,14 @@ returns-clause-answers g c = λ files p reads named.
     c.index.ensures ∙ ap (λ (s : TableShape). get_or s.blocks.items c.args.at c.index.result.now) c.shape-shape.ensures
     ∙ one_default (shape_of c.args.table.now).blocks.items c.args.at c.index.result.now p c.requires ∙ sym named in
     let same : c.of-id.result ≡ id_of (shape_of c.args.table.now) p =
-    c.of-id.ensures ∙ ap (λ (s : TableShape). id_of s c.index.result.now) c.shape-shape.ensures ∙ ap (id_of (shape_of c.args.table.now)) place in
+    c.of-id.ensures ∙ ap (λ (s : TableShape). id_of s c.index.result.now) c.shape-shape.ensures
+    ∙ ap (id_of (shape_of c.args.table.now)) place in
     let file = ap files numbers ∙ reads.told.0 ∙ ap g.H.HeldFile.bytes (sym c.held.ensures) in
-    subst (λ (h : g.row.H.Denot). Answers (g.R.Reader.faults c.args.self.now.reader) (g.R.Reader.faults c.load_block.new.self.reader) (number_of t) (g.H.HeldFile.bytes h)
-    (λ bytes done. (es : List Entry) × HasBlock c.load_block.new.self.front (id_of s p) bytes es) (IsMissing (id_of s p)) c.load_block.result) c.held.ensures
-    (subst (λ (i : BlockId). Answers (g.R.Reader.faults c.args.self.now.reader) (g.R.Reader.faults c.load_block.new.self.reader) i.number (g.H.HeldFile.bytes c.held.result.now)
+    subst (λ (h : g.row.H.Denot). Answers (g.R.Reader.faults c.args.self.now.reader)
+    (g.R.Reader.faults c.load_block.new.self.reader) (number_of t) (g.H.HeldFile.bytes h)
+    (λ bytes done. (es : List Entry) × HasBlock c.load_block.new.self.front (id_of s p) bytes es)
+    (IsMissing (id_of s p)) c.load_block.result) c.held.ensures
+    (subst (λ (i : BlockId). Answers (g.R.Reader.faults c.args.self.now.reader)
+    (g.R.Reader.faults c.load_block.new.self.reader) i.number (g.H.HeldFile.bytes c.held.result.now)
     (λ bytes done. (es : List Entry) × HasBlock c.load_block.new.self.front i bytes es) (IsMissing i) c.load_block.result) same
     (c.load_block.ensures.answers files reads.kept file))

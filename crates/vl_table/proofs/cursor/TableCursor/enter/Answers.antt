@@ -27,7 +27,8 @@ pub returns-clause-unread : goal.returns-clause-unread
 returns-clause-unread g c = λ rises.
     let s = c.args.self.now in
     let t = c.index.result.now in
-    begun s.span s.way s.tables.items s.later c.in-Some.rest c.in-Some.at s.table t s.blocks c.blocks_in-blocks.result s.known c.in-Some.ensures.found c.index.ensures c.requires
+    begun s.span s.way s.tables.items s.later c.in-Some.rest c.in-Some.at s.table t s.blocks c.blocks_in-blocks.result
+    s.known c.in-Some.ensures.found c.index.ensures c.requires
     (λ rise. c.blocks_in-blocks.ensures.exact (ap (λ (h : TableShape). rises_over s.span h.blocks.items) c.shape.ensures ∙ rise)
     ∙ ap (blocks_in s.span) c.shape.ensures) rises
 
@@ -35,5 +36,6 @@ pub returns-clause-fewer : goal.returns-clause-fewer
 returns-clause-fewer g c =
     let s = c.args.self.now in
     let t = c.index.result.now in
-    begun_fewer s.way s.tables.items s.later c.in-Some.rest c.in-Some.at t s.blocks c.blocks_in-blocks.result s.known c.in-Some.ensures.found c.index.ensures
+    begun_fewer s.way s.tables.items s.later c.in-Some.rest c.in-Some.at t s.blocks c.blocks_in-blocks.result s.known
+    c.in-Some.ensures.found c.index.ensures
     (omega (arith, c.blocks_in-blocks.ensures.within, ap (λ (h : TableShape). length h.blocks.items) c.shape.ensures))

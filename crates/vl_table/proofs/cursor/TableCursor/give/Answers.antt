@@ -12,7 +12,8 @@ returns-then-is_in_span-clause-given g c =
     let s = c.skips.self in
     let e = entry_of c.get-entry.result in
     sym c.skips.invariant.left
-    ∙ gives_next s.span s.way s.block s.entries c.in-Some.rest c.in-Some.at e c.in-Some.ensures.found s.inside c.get-entry.ensures (sym c.is_in_span.ensures ∙ c.if-is_in_span.true)
+    ∙ gives_next s.span s.way s.block s.entries c.in-Some.rest c.in-Some.at e c.in-Some.ensures.found s.inside
+    c.get-entry.ensures (sym c.is_in_span.ensures ∙ c.if-is_in_span.true)
     ∙ ap (λ (f : Entry). f ∷ within s.span (on_way s.way (stretch_of c.in-Some.rest s.block))) (sym c.in_ok-given.ensures)
 
 pub skips-preserved : goal.skips-preserved
@@ -22,7 +23,8 @@ skips-preserved g c =
     let before = c.skips.invariant in
     let less = less_on s.way s.entries c.in-Some.rest c.in-Some.at c.in-Some.ensures.found in
     record {
-      left = sym (skips_next s.span s.way s.block s.entries c.in-Some.rest c.in-Some.at e c.in-Some.ensures.found s.inside c.get-entry.ensures (sym c.is_in_span.ensures ∙ c.if-is_in_span.false))
+      left = sym (skips_next s.span s.way s.block s.entries c.in-Some.rest c.in-Some.at e c.in-Some.ensures.found
+          s.inside c.get-entry.ensures (sym c.is_in_span.ensures ∙ c.if-is_in_span.false))
           ∙ before.left;
       fewer = omega (arith, less.0, before.fewer);
       stays = record {

@@ -45,7 +45,8 @@ steps-preserved g c =
     let goes = c.in_ok-read.ensures.goes in
     record {
       left = keeps_on _ _ _ before.left
-          (keeps_on _ _ _ (keeps_step bytes d e stays.goes (λ rises. unread_stays d e stays) (none ∙ sym ends.0)) (keeps_read bytes e f goes there none));
+          (keeps_on _ _ _ (keeps_step bytes d e stays.goes (λ rises. unread_stays d e stays) (none ∙ sym ends.0))
+          (keeps_read bytes e f goes there none));
       budget = omega (arith, before.budget, c.in_ok-read.ensures.budget, blocks_stay d e stays, ends.1);
       steady = c.in_ok-read.ensures.cause ∙ before.steady;
       read = reads_one bytes fn e f (goes_on fn d e before.goes stays.goes)

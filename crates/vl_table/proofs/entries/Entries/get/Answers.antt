@@ -6,7 +6,13 @@ use Rattle.vl_table.proofs.entries.Entries.get.Goals as goal
 pub returns-then-index-self-clause-found : goal.returns-then-index-self-clause-found
 returns-then-index-self-clause-found c = λ es e lists at.
     let s = c.args.self.now in
-    absurd (omega (arith, c.if-index-self.true, at-within es c.args.index e at, starts-counted s.format s.bytes.now s.starts.now es lists.starts))
+    absurd (omega (
+      arith,
+      c.if-index-self.true,
+      at-within es c.args.index e at,
+      starts-counted s.format s.bytes.now
+          s.starts.now es lists.starts,
+    ))
 
 pub returns-clause-found : goal.returns-clause-found
 returns-clause-found c = λ es e lists at.

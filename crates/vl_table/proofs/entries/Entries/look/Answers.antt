@@ -18,7 +18,8 @@ pub returns-in-Some : goal.returns-in-Some
 returns-in-Some c = λ es lists.
     let s = c.args.self.now in
     let test = is_ahead c.args.key.now c.args.version in
-    let e = entry_is c.args.key.now c.args.version s.format s.bytes.now s.starts.now es lists.lawful lists.starts c.place.result c.in-Some.ensures.within in
+    let e = entry_is c.args.key.now c.args.version s.format s.bytes.now s.starts.now es lists.lawful lists.starts
+    c.place.result c.in-Some.ensures.within in
     let first : first_failing test es ≡ Some (entry_of c.in-Some.entry) =
     sym (slice_get-prefix test es) ∙ sym (ap (slice_get es) (c.place.ensures es lists)) ∙ e.at
     ∙ ap Some (sym (c.in-Some.ensures.found es e.entry lists e.at)) in

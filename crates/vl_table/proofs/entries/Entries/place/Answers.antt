@@ -22,9 +22,11 @@ halves-preserved-then-is_ahead c = (
   λ es lists.
       let s = c.args.self.now in
       let middle = c.halves.low + (c.halves.high - c.halves.low) / 2 in
-      let within : c.halves.low + (c.halves.high - c.halves.low) / 2 < length s.starts.now = omega (arith, c.halves.invariant.0, c.halves-test.true) in
+      let within : c.halves.low + (c.halves.high - c.halves.low) / 2 < length s.starts.now = omega
+      (arith, c.halves.invariant.0, c.halves-test.true) in
       let e = entry_is c.args.key.now c.args.version s.format s.bytes.now s.starts.now es lists.lawful lists.starts middle within in
-      goes_up c.args.key.now c.args.version s.format s.bytes.now s.starts.now es lists.lawful lists.starts c.halves.low c.halves.high middle e
+      goes_up c.args.key.now c.args.version s.format s.bytes.now s.starts.now es lists.lawful lists.starts c.halves.low
+      c.halves.high middle e
       (c.halves.invariant.1 es lists) (sym (c.is_ahead.ensures e.entry e.lawful e.starts) ∙ c.if-is_ahead.true),
 )
 
@@ -34,8 +36,10 @@ halves-preserved c = (
   λ es lists.
       let s = c.args.self.now in
       let middle = c.halves.low + (c.halves.high - c.halves.low) / 2 in
-      let within : c.halves.low + (c.halves.high - c.halves.low) / 2 < length s.starts.now = omega (arith, c.halves.invariant.0, c.halves-test.true) in
+      let within : c.halves.low + (c.halves.high - c.halves.low) / 2 < length s.starts.now = omega
+      (arith, c.halves.invariant.0, c.halves-test.true) in
       let e = entry_is c.args.key.now c.args.version s.format s.bytes.now s.starts.now es lists.lawful lists.starts middle within in
-      goes_down c.args.key.now c.args.version s.format s.bytes.now s.starts.now es lists.lawful lists.starts c.halves.low c.halves.high middle e
+      goes_down c.args.key.now c.args.version s.format s.bytes.now s.starts.now es lists.lawful lists.starts
+      c.halves.low c.halves.high middle e
       (c.halves.invariant.1 es lists) (sym (c.is_ahead.ensures e.entry e.lawful e.starts) ∙ c.if-is_ahead.false),
 )

@@ -15,5 +15,6 @@ returns c =
     (subst (λ (l : List Entry). c.args.index < length l) (sym c.self.view_is) c.requires) c.index.ensures
     (λ f lawful starts.
     let all : take (length c.deref.result.now - 9) (drop 9 c.deref.result.now) ≡ drop 9 b.frame.items =
-    take_all (length c.deref.result.now - 9) (drop 9 c.deref.result.now) (omega (arith, length-drop 9 c.deref.result.now)) ∙ ap (drop 9) c.deref.ensures.value in
+    take_all (length c.deref.result.now - 9) (drop 9 c.deref.result.now)
+    (omega (arith, length-drop 9 c.deref.result.now)) ∙ ap (drop 9) c.deref.ensures.value in
     c.in-Some.ensures.found f lawful (subst (λ (l : List ℕ). StartsAt b.format l c.index.result.now f) (sym all) starts)))

@@ -24,7 +24,8 @@ pub returns-clause-answers : goal.returns-clause-answers
 returns-clause-answers g c = λ files reads.
     let key = c.args.key.now in
     let t = c.args.self.now in
-    and_then _ _ _ (number_of t) (g.H.HeldFile.bytes t.held) _ (λ bytes found. found ≡ c.of_version.result) _ _ (λ bytes damage. ⊥) _ c.in_ok-found.found _
+    and_then _ _ _ (number_of t) (g.H.HeldFile.bytes t.held) _ (λ bytes found. found ≡ c.of_version.result) _ _
+    (λ bytes damage. ⊥) _ c.in_ok-found.found _
     (λ bytes told good found is es is_of.
     ap (option_map (found_of key)) is
     ∙ c.of_version.ensures key (first_over key c.args.version (blocks (shape_of t).format es)) (good es is_of)
@@ -36,9 +37,11 @@ pub returns-in_err-found-clause-answers : goal.returns-in_err-found-clause-answe
 returns-in_err-found-clause-answers g c = λ files reads.
     let t = c.args.self.now in
     let p = err_from_is_err_and c.from_residual.result c.from_residual.ensures.1 in
-    subst (λ (r : Result (Option Found) TableFault). Answers (g.R.Reader.faults c.args.reader.now.reader) (g.R.Reader.faults c.seek.new.reader.reader)
+    subst (λ (r : Result (Option Found) TableFault). Answers (g.R.Reader.faults c.args.reader.now.reader)
+    (g.R.Reader.faults c.seek.new.reader.reader)
     (number_of c.args.self.now) (g.H.HeldFile.bytes c.args.self.now.held)
-    (λ bytes found. (es : List Entry) → IsOf g.H.HeldFile.bytes c.args.self.now es → option_map (found_of c.args.key.now) found ≡ exact es c.args.key.now c.args.version)
+    (λ bytes found. (es : List Entry) → IsOf g.H.HeldFile.bytes c.args.self.now es
+    → option_map (found_of c.args.key.now) found ≡ exact es c.args.key.now c.args.version)
     (IsBadBlock (shape_of c.args.self.now)) r) (sym (p.1 ∙ ap Err p.2))
     (fails _ _ (number_of t) _ _ _ _ _ c.in_err-found.field-0.0 (λ bytes told damage bad. bad) (c.in_err-found.ensures.answers files reads))
 
@@ -50,7 +53,8 @@ returns-clause-looks g c = λ files reads holds bytes told.
 pub returns-in_err-found-clause-looks : goal.returns-in_err-found-clause-looks
 returns-in_err-found-clause-looks g c = λ files reads holds.
     let p = err_from_is_err_and c.from_residual.result c.from_residual.ensures.1 in
-    subst (λ (r : Result (Option Found) TableFault). LooksIn g.H.HeldFile.bytes (if_exact c.args.key.now c.args.version) c.args.self.now c.args.key.now c.args.version r) (sym p.1) tt
+    subst (λ (r : Result (Option Found) TableFault). LooksIn g.H.HeldFile.bytes (if_exact c.args.key.now c.args.version)
+    c.args.self.now c.args.key.now c.args.version r) (sym p.1) tt
 
 pub returns-in_err-found-clause-no_memory : goal.returns-in_err-found-clause-no_memory
 returns-in_err-found-clause-no_memory g c =
@@ -71,4 +75,5 @@ returns-then-not-may_hold-clause-answers g c = λ files reads.
     sym (exact-none c.args.key.now c.args.version es (holds_none (number_of t) c.args.key.now (shape_of t) es is.shape unheld)))
 
 pub returns-then-not-may_hold-clause-looks : goal.returns-then-not-may_hold-clause-looks
-returns-then-not-may_hold-clause-looks g c = λ files reads holds. absurd (true_false (sym holds ∙ (sym c.may_hold.ensures ∙ c.if-not-may_hold.true)))
+returns-then-not-may_hold-clause-looks g c = λ files reads holds. absurd
+    (true_false (sym holds ∙ (sym c.may_hold.ensures ∙ c.if-not-may_hold.true)))

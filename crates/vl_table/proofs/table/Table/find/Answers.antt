@@ -10,7 +10,8 @@ use Rattle.vl_table.proofs.table.Table.find.Goals as goal
 pub returns-clause-answers : goal.returns-clause-answers
 returns-clause-answers g c = λ files reads.
     weaker _ _ (number_of c.args.self.now) _ _ _ _ _ c.seek.result
-    (λ bytes told x good es is. good es is ∙ found-blocks (shape_of c.args.self.now).format c.args.key.now c.args.number es is.shape.table.tabled.ordered)
+    (λ bytes told x good es is. good es is ∙ found-blocks (shape_of c.args.self.now).format c.args.key.now c.args.number
+    es is.shape.table.tabled.ordered)
     (λ bytes told damage bad. bad) (c.seek.ensures.answers files reads)
 
 pub returns-clause-looks : goal.returns-clause-looks
@@ -23,7 +24,10 @@ pub returns-then-not-may_hold-clause-answers : goal.returns-then-not-may_hold-cl
 returns-then-not-may_hold-clause-answers g c = λ files reads.
     let t = c.args.self.now in
     let no = sym c.may_hold.ensures ∙ c.if-not-may_hold.true in
-    gives _ (number_of t) _ _ _ None (λ bytes told es is. sym (winner-none c.args.key.now c.args.number es (holds_none (number_of t) c.args.key.now (shape_of t) es is.shape no)))
+    gives _ (number_of t) _ _ _ None
+    (λ bytes told es is. sym
+    (winner-none c.args.key.now c.args.number es (holds_none (number_of t) c.args.key.now (shape_of t) es is.shape no)))
 
 pub returns-then-not-may_hold-clause-looks : goal.returns-then-not-may_hold-clause-looks
-returns-then-not-may_hold-clause-looks g c = λ files reads holds. absurd (true_false (sym holds ∙ (sym c.may_hold.ensures ∙ c.if-not-may_hold.true)))
+returns-then-not-may_hold-clause-looks g c = λ files reads holds. absurd
+    (true_false (sym holds ∙ (sym c.may_hold.ensures ∙ c.if-not-may_hold.true)))

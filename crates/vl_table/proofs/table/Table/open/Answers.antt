@@ -30,4 +30,5 @@ returns-in_err-shape-clause-opens g c = λ format es first readable is told.
     let p = err_from_is_err_and c.from_residual.result c.from_residual.ensures.1 in
     subst (OpensAs g.H.HeldFile.bytes es) (sym (p.1 ∙ ap Err p.2))
     (opens_as {H = g.row.H.Denot} g.H.HeldFile.bytes _ _ c.args.number c.args.held format es (Err c.in_err-shape.field-0.0)
-    (fails _ _ c.args.number _ _ _ _ _ c.in_err-shape.field-0.0 (λ bytes told damage bad. bad) c.in_err-shape.ensures.answers) tt tt first readable is told)
+    (fails _ _ c.args.number _ _ _ _ _ c.in_err-shape.field-0.0 (λ bytes told damage bad. bad)
+    c.in_err-shape.ensures.answers) tt tt first readable is told)

@@ -13,7 +13,8 @@ use Rattle.vl_table.specs.Meets.{LooksIn}
 use Rattle.vl_table.specs.Seeks.{IsBadBlock}
 use Rattle.vl_table.specs.Tables.{number_of, shape_of}
 use Rattle.vl_table.proofs.KeptSteps.{place_at}
-use Rattle.vl_table.proofs.SeekSteps.{Finds, finds_none, found_here, load_fails, looks_here, looks_none, moves_on, says_at, says_other, seeks}
+use Rattle.vl_table.proofs.SeekSteps.{Finds, finds_none, found_here, load_fails, looks_here, looks_none, moves_on}
+use Rattle.vl_table.proofs.SeekSteps.{says_at, says_other, seeks}
 use Rattle.vl_table.specs.declared.fault.TableFault.{TableFault}
 use Rattle.vl_table.proofs.table.Table.seek.Goals as goal
 
@@ -43,10 +44,13 @@ returns-in_err-load-clause-answers g c = λ files reads.
     let within : c.loop-at.at < length (shape_of c.args.self.now).blocks.items = omega (arith, c.loop-at-test.true, ap length places) in
     let p = place_at (shape_of c.args.self.now).blocks.items c.loop-at.at within in
     let e = err_from_is_err_and c.from_residual.result c.from_residual.ensures.1 in
-    subst (λ (r : Result (Option Found) TableFault). Answers (g.R.Reader.faults c.args.reader.now.reader) (g.R.Reader.faults c.load.new.self.reader)
+    subst (λ (r : Result (Option Found) TableFault). Answers (g.R.Reader.faults c.args.reader.now.reader)
+    (g.R.Reader.faults c.load.new.self.reader)
     (number_of c.args.self.now) (g.H.HeldFile.bytes c.args.self.now.held)
-    (Finds g.H.HeldFile.bytes c.args.self.now c.args.key.now c.args.version) (IsBadBlock (shape_of c.args.self.now)) r) (sym (e.1 ∙ ap Err e.2))
-    (load_fails g.H.HeldFile.bytes c.args.self.now c.args.key.now c.args.version c.loop-at.at p.0 within p.1 _ _ _ c.load.new.self.front c.in_err-load.field-0.0 so.steady
+    (Finds g.H.HeldFile.bytes c.args.self.now c.args.key.now c.args.version) (IsBadBlock (shape_of c.args.self.now)) r)
+    (sym (e.1 ∙ ap Err e.2))
+    (load_fails g.H.HeldFile.bytes c.args.self.now c.args.key.now c.args.version c.loop-at.at p.0 within p.1 _ _ _
+    c.load.new.self.front c.in_err-load.field-0.0 so.steady
     (c.in_err-load.ensures.answers files p.0 over p.1))
 
 pub returns-in-At-clause-kept : goal.returns-in-At-clause-kept
@@ -65,7 +69,8 @@ returns-in-At-clause-answers g c = λ files reads.
     let p = place_at (shape_of c.args.self.now).blocks.items c.loop-at.at within in
     let says = says_at c.args.key.now c.args.version c.args.self.now p.0 c.load.new.self.front c.in-At.found
     (λ bytes es has. c.in-At.ensures es (c.entries.ensures (id_of (shape_of c.args.self.now) p.0) bytes es has)) in
-    found_here g.H.HeldFile.bytes c.args.self.now c.args.key.now c.args.version c.loop-at.at p.0 within p.1 _ _ _ c.load.new.self.front (Some c.in-At.found) so.steady
+    found_here g.H.HeldFile.bytes c.args.self.now c.args.key.now c.args.version c.loop-at.at p.0 within p.1 _ _ _
+    c.load.new.self.front (Some c.in-At.found) so.steady
     (c.in_ok-load.ensures.answers files p.0 over p.1) says so.so_far
 
 pub returns-in-At-clause-looks : goal.returns-in-At-clause-looks
@@ -78,7 +83,8 @@ returns-in-At-clause-looks g c = λ files reads.
     let p = place_at (shape_of c.args.self.now).blocks.items c.loop-at.at within in
     let says = says_at c.args.key.now c.args.version c.args.self.now p.0 c.load.new.self.front c.in-At.found
     (λ bytes es has. c.in-At.ensures es (c.entries.ensures (id_of (shape_of c.args.self.now) p.0) bytes es has)) in
-    looks_here g.H.HeldFile.bytes c.args.self.now c.args.key.now c.args.version c.loop-at.at p.0 within p.1 _ _ c.load.new.self.front (Some c.in-At.found)
+    looks_here g.H.HeldFile.bytes c.args.self.now c.args.key.now c.args.version c.loop-at.at p.0 within p.1 _ _
+    c.load.new.self.front (Some c.in-At.found)
     (c.in_ok-load.ensures.answers files p.0 over p.1) says so.met
 
 pub returns-in-Other-clause-kept : goal.returns-in-Other-clause-kept
@@ -97,7 +103,8 @@ returns-in-Other-clause-answers g c = λ files reads.
     let p = place_at (shape_of c.args.self.now).blocks.items c.loop-at.at within in
     let says = says_other c.args.key.now c.args.version c.args.self.now p.0 c.load.new.self.front
     (λ bytes es has. c.in-Other.ensures es (c.entries.ensures (id_of (shape_of c.args.self.now) p.0) bytes es has)) in
-    found_here g.H.HeldFile.bytes c.args.self.now c.args.key.now c.args.version c.loop-at.at p.0 within p.1 _ _ _ c.load.new.self.front None so.steady
+    found_here g.H.HeldFile.bytes c.args.self.now c.args.key.now c.args.version c.loop-at.at p.0 within p.1 _ _ _
+    c.load.new.self.front None so.steady
     (c.in_ok-load.ensures.answers files p.0 over p.1) says so.so_far
 
 pub returns-in-Other-clause-looks : goal.returns-in-Other-clause-looks
@@ -123,7 +130,8 @@ loop-at-preserved g c = record {
       c.as_slice-places.ensures.value ∙ ap (λ (s : TableShape). s.blocks.items) c.shape.ensures in
       let within : c.loop-at.at < length (shape_of c.args.self.now).blocks.items = omega (arith, c.loop-at-test.true, ap length places) in
       let p = place_at (shape_of c.args.self.now).blocks.items c.loop-at.at within in
-      moves_on g.H.HeldFile.bytes c.args.self.now c.args.key.now c.args.version c.loop-at.at p.0 within p.1 _ _ _ files c.loop-at.reader c.load.new.self so
+      moves_on g.H.HeldFile.bytes c.args.self.now c.args.key.now c.args.version c.loop-at.at p.0 within p.1 _ _ _ files
+      c.loop-at.reader c.load.new.self so
       (c.load.ensures.kept files over) (c.in_ok-load.ensures.answers files p.0 over p.1)
       (λ bytes es has. c.in-Behind.ensures es (c.entries.ensures (id_of (shape_of c.args.self.now) p.0) bytes es has));
 }
@@ -137,7 +145,8 @@ returns-clause-answers g c = λ files reads.
     let places : c.as_slice-places.result.now ≡ (shape_of c.args.self.now).blocks.items =
     c.as_slice-places.ensures.value ∙ ap (λ (s : TableShape). s.blocks.items) c.shape.ensures in
     let past : length (shape_of c.args.self.now).blocks.items ≤ c.loop-at.at = omega (arith, c.loop-at-test.false, ap length places) in
-    finds_none g.H.HeldFile.bytes c.args.self.now c.args.key.now c.args.version files _ _ c.loop-at.reader c.loop-at.at (c.loop-at.invariant.so files reads) past
+    finds_none g.H.HeldFile.bytes c.args.self.now c.args.key.now c.args.version files _ _ c.loop-at.reader c.loop-at.at
+    (c.loop-at.invariant.so files reads) past
 
 pub returns-clause-looks : goal.returns-clause-looks
 returns-clause-looks g c = λ files reads.
@@ -150,4 +159,5 @@ returns-clause-looks g c = λ files reads.
 pub returns-in_err-load-clause-looks : goal.returns-in_err-load-clause-looks
 returns-in_err-load-clause-looks g c = λ files reads.
     let e = err_from_is_err_and c.from_residual.result c.from_residual.ensures.1 in
-    subst (λ (r : Result (Option Found) TableFault). LooksIn g.H.HeldFile.bytes (if_of_key c.args.key.now) c.args.self.now c.args.key.now c.args.version r) (sym e.1) tt
+    subst (λ (r : Result (Option Found) TableFault). LooksIn g.H.HeldFile.bytes (if_of_key c.args.key.now)
+    c.args.self.now c.args.key.now c.args.version r) (sym e.1) tt

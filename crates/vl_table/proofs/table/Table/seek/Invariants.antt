@@ -8,5 +8,6 @@ abbrev pub invariant-loop-at : goal.invariant-loop-at
 invariant-loop-at g l = record {
   steady : g.R.Reader.faults l.reader.reader ≡ g.R.Reader.faults l.fn.reader.reader;
   so : (files : Files) → ReadsOf g.H.HeldFile.bytes files l.fn.reader (l.self ∷ [])
-      → Seeking g.H.HeldFile.bytes l.self l.key l.version files (g.R.Reader.faults l.fn.reader.reader) (g.R.Reader.faults l.reader.reader) l.reader l.at;
+      → Seeking g.H.HeldFile.bytes l.self l.key l.version files (g.R.Reader.faults l.fn.reader.reader)
+      (g.R.Reader.faults l.reader.reader) l.reader l.at;
 }

@@ -8,7 +8,8 @@ use Rattle.vl_table_writer.proofs.block_writer.BlockWriter.append_frame.Goals as
 pub returns-clause-written : goal.returns-clause-written
 returns-clause-written c = λ es has.
     c.in_ok-hand_over.ensures
-    ∙ ap (λ l. c.args.out.now.items ++ l) (c.in_ok-finish_frame.ensures.written (0 ∷ 0 ∷ 0 ∷ 0 ∷ 0 ∷ []) (block_body table_format es) refl has.frame)
+    ∙ ap (λ l. c.args.out.now.items ++ l)
+    (c.in_ok-finish_frame.ensures.written (0 ∷ 0 ∷ 0 ∷ 0 ∷ 0 ∷ []) (block_body table_format es) refl has.frame)
 
 pub returns-clause-length : goal.returns-clause-length
 returns-clause-length c = λ es has.

@@ -6,4 +6,10 @@ use Rattle.vl_table_writer.proofs.blocks_writer.BlocksWriter.bytes.Goals as goal
 
 pub returns : goal.returns
 returns c = λ closed open_block has.
-    omega (arith, has.place, c.len.ensures.exact open_block has.written, length-block_body table_format open_block, sum-push closed open_block)
+    omega (
+      arith,
+      has.place,
+      c.len.ensures.exact open_block has.written,
+      length-block_body table_format open_block,
+      sum-push closed open_block,
+    )

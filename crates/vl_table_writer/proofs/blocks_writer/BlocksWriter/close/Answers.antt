@@ -17,7 +17,9 @@ returns-clause-blocks c = λ closed open_block has last.
       places =
           c.in_ok-push.ensures.items
           ∙ ap (λ l. l ++ record { place = c.args.self.now.place; length = size; last = c.in_ok-share.field-0 } ∷ []) has.places
-          ∙ places_alike (block_places table_format 16 closed) c.args.self.now.place (16 + sum_by (block_frame_length table_format) closed) size (block_frame_length table_format open_block) c.in_ok-share.field-0 (last_key open_block)
+          ∙ places_alike (block_places table_format 16 closed) c.args.self.now.place
+          (16 + sum_by (block_frame_length table_format) closed) size (block_frame_length table_format open_block)
+          c.in_ok-share.field-0 (last_key open_block)
           has.place (omega (arith, length-block_body table_format open_block, long)) (c.in_ok-share.ensures ∙ last)
           ∙ sym (places-push 16 closed open_block);
     }

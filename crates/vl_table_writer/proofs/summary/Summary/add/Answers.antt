@@ -18,7 +18,10 @@ returns c = λ es some sums.
       last_version = sym (last_version-push es e);
       count = omega (arith, sums.count, length-append es (e ∷ []));
       greatest = omega (arith, c.max-self.ensures, sums.greatest, greatest-push es e);
-      keys = hashes-push es e c.as_slice.result.now c.args.self.now.keys.items c.note_key.new.keys.items some (c.as_slice.ensures ∙ sums.last) sums.keys
-          (subst (λ (k : List ℕ). c.note_key.new.keys.items ≡ (if eq_by_cmp key_cmp c.as_slice.result.now k then c.args.self.now.keys.items else c.args.self.now.keys.items ++ hashes_of k ∷ [])) c.as_slice-2.ensures c.in_ok-note_key.ensures);
+      keys = hashes-push es e c.as_slice.result.now c.args.self.now.keys.items c.note_key.new.keys.items some
+          (c.as_slice.ensures ∙ sums.last) sums.keys
+          (subst (λ (k : List ℕ). c.note_key.new.keys.items ≡
+          (if eq_by_cmp key_cmp c.as_slice.result.now k then c.args.self.now.keys.items else
+          c.args.self.now.keys.items ++ hashes_of k ∷ [])) c.as_slice-2.ensures c.in_ok-note_key.ensures);
       points = c.in_ok-note.ensures ∙ ap (with_point e.body) sums.points ∙ sym (points_of-push es e);
     }

@@ -8,7 +8,9 @@ returns c = λ es some sums.
     let s = c.args.self.now in
     let e = c.args.entry.now in
     let stands : c.place_order.result ≡ last_cmp s.last s.last_version e =
-    c.place_order.ensures ∙ (λ i. last_cmp (c.as_slice.ensures i) s.last_version (record e { key = c.place.ensures.key i; version = c.place.ensures.version i })) in (
-      λ less. next_from es e s.last s.last_version some sums.last sums.last_version (sym stands ∙ less_from c.place_order.result (sym c.is_lt.ensures ∙ less)),
+    c.place_order.ensures ∙ (λ i. last_cmp (c.as_slice.ensures i) s.last_version
+    (record e { key = c.place.ensures.key i; version = c.place.ensures.version i })) in (
+      λ less. next_from es e s.last s.last_version some sums.last sums.last_version
+          (sym stands ∙ less_from c.place_order.result (sym c.is_lt.ensures ∙ less)),
       λ next. c.is_lt.ensures ∙ ap is_lt (stands ∙ next_less es e s.last s.last_version some sums.last sums.last_version next),
     )

@@ -14,7 +14,9 @@ returns c =
     ends c.args.self c.close.new.self c.in_ok-rest.rest number es given is
     (c.in_ok-close.ensures.blocks is.closed is.open_block is.has (is.sums.last ∙ sym is.last)) c.close.ensures.number c.in_ok-rest.ensures
     c.behind.result c.close.new.out.items
-    (c.in_ok-close.ensures.written is.closed is.open_block is.has ∙ ap (λ (l : List ℕ). l ++ frame_bytes c.args.self.blocks.number c.args.self.blocks.place kinds.Block (block_body table_format is.open_block)) c.new-block.ensures.items)
+    (c.in_ok-close.ensures.written is.closed is.open_block is.has
+    ∙ ap (λ (l : List ℕ). l ++ frame_bytes c.args.self.blocks.number c.args.self.blocks.place kinds.Block
+    (block_body table_format is.open_block)) c.new-block.ensures.items)
     c.behind.ensures in
     record {
       tail = tail;

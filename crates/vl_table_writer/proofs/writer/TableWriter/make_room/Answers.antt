@@ -29,4 +29,5 @@ returns c = λ number es given is.
       closes w (record { blocks = c.close.new.self; summary = w.summary }) number es given frame c.args.entry.now is
           (sym (c.has_room.ensures is.closed is.open_block is.has) ∙ c.if-has_room.false) both.0 c.close.ensures.number refl refl,
     ))
-    (on_ok_both c.close.result _ _ (c.close.ensures.blocks is.closed is.open_block is.has (is.sums.last ∙ sym is.last)) (c.close.ensures.written is.closed is.open_block is.has))
+    (on_ok_both c.close.result _ _ (c.close.ensures.blocks is.closed is.open_block is.has (is.sums.last ∙ sym is.last))
+    (c.close.ensures.written is.closed is.open_block is.has))

@@ -6,4 +6,5 @@ pub returns-clause-begun : goal.returns-clause-begun
 returns-clause-begun c =
     begins (record { blocks = c.add.new.self; summary = c.in_ok-summary.summary }) c.args.number c.args.first.now
     (let fits = c.ranges.number in omega arith)
-    (c.add.ensures.number ∙ c.in_ok-blocks.ensures.number) (c.in_ok-add.ensures.blocks [] [] c.in_ok-blocks.ensures.blocks) c.in_ok-summary.ensures c.requires
+    (c.add.ensures.number ∙ c.in_ok-blocks.ensures.number)
+    (c.in_ok-add.ensures.blocks [] [] c.in_ok-blocks.ensures.blocks) c.in_ok-summary.ensures c.requires

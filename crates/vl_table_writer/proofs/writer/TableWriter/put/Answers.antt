@@ -10,7 +10,8 @@ returns c = λ number es given is comes.
     (λ sums. (
       piece,
       appended,
-      adds c.make_room.new.self (record { blocks = c.add.new.self; summary = c.add-2.new.self }) number es (given ++ piece) c.args.entry.now room
+      adds c.make_room.new.self (record { blocks = c.add.new.self; summary = c.add-2.new.self }) number es
+          (given ++ piece) c.args.entry.now room
           (c.in_ok-add.ensures.blocks room.closed room.open_block room.has) c.add.ensures.number sums comes,
     ))
     (c.add-2.ensures es is.some room.sums)

@@ -20,7 +20,8 @@ returns-clause-ok c own =
     let span = c.in_ok-span.ensures ∙ covered-scan c.args.lo.now c.args.hi.now c.args.limit c.args.way rows own _ last in
     let spans = c.in_ok-push.ensures.items ∙ ap (λ (s : Span). c.self.inside.spans.items ++ (s ∷ [])) span in
     ap (λ (ss : List Span). record { keys = map boxed_slice_items c.self.inside.keys.keys; spans = ss }) spans
-    ∙ ap (λ (notes : Notes). with_span notes (covered (scan_of c.args.lo.now c.args.hi.now c.args.limit c.args.way rows own))) c.self.view_is
+    ∙ ap (λ (notes : Notes). with_span notes
+    (covered (scan_of c.args.lo.now c.args.hi.now c.args.limit c.args.way rows own))) c.self.view_is
 
 pub returns-clause-noted : goal.returns-clause-noted
 returns-clause-noted c =

@@ -26,7 +26,8 @@ loop-level-preserved g c =
           (λ more are_more. c.in_ok-add_tables.ensures.winners more are_more
           (subst AreApart (sym is) (all_get AreApart ls i level apart c.loop-level-test.true))) tabled
           (subst (λ (l : List (Table g.row.H.Denot)). AreOf bytes l tabled) (tables-next ls i level c.loop-level-test.true is) are);
-      quiet = λ none. c.in_ok-add_tables.ensures.quiet (no_level bytes ls i level c.loop-level-test.true is none) ∙ c.loop-level.invariant.quiet none;
+      quiet = λ none. c.in_ok-add_tables.ensures.quiet (no_level bytes ls i level c.loop-level-test.true is none)
+          ∙ c.loop-level.invariant.quiet none;
     }
 
 pub returns-clause-winners : goal.returns-clause-winners

@@ -4,7 +4,8 @@ use Rattle.vl_version.proofs.gather.tables.add_if_met.Goals as goal
 
 pub returns-then-not-meets : goal.returns-then-not-meets
 returns-then-not-meets g c es fs have of_t =
-    have_outside g.H.HeldFile.bytes c.args.span.now c.args.table.now c.args.met.now.items (sym c.meets.ensures ∙ c.if-not-meets.true) es fs have of_t
+    have_outside g.H.HeldFile.bytes c.args.span.now c.args.table.now c.args.met.now.items
+    (sym c.meets.ensures ∙ c.if-not-meets.true) es fs have of_t
 
 pub returns : goal.returns
 returns g c es fs have of_t =

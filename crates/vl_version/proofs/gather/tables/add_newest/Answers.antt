@@ -19,7 +19,8 @@ loop-table-preserved g c =
     let i = c.loop-table.table-index in
     let t = c.table-item.result in
     record {
-      adds = λ tabled are. adds_next bytes c.args.span.now c.args.way (take i ts) (t ∷ []) c.args.sources.now.items c.loop-table.sources.items
+      adds = λ tabled are. adds_next bytes c.args.span.now c.args.way (take i ts) (t ∷ []) c.args.sources.now.items
+          c.loop-table.sources.items
           c.add_tables.new.sources.items c.loop-table.invariant.adds
           (adds_one bytes c.args.span.now c.args.way t c.from_ref.result.now c.loop-table.sources.items c.add_tables.new.sources.items
           c.from_ref.ensures.value c.in_ok-add_tables.ensures.winners) tabled

@@ -30,7 +30,8 @@ returns-in_err-input g c =
     (record { key = c.args.key; look = Exactly c.args.version; inputs = c.args.inputs; outside = false })
     c.first_mark.new.reader c.first_mark-2.new.reader c.args.version refl
     (record { key = c.args.key; look = Exactly c.args.version; inputs = c.args.inputs; outside = true })
-    c.args.reader.now c.in_ok-first_mark.field-0 c.in_ok-first_mark.ensures c.in_err-input.field-0.0 c.from_residual-in_err-input.result (p.1 ∙ ap Err p.2)
+    c.args.reader.now c.in_ok-first_mark.field-0 c.in_ok-first_mark.ensures c.in_err-input.field-0.0
+    c.from_residual-in_err-input.result (p.1 ∙ ap Err p.2)
     c.in_err-input.ensures
 
 pub returns-in-Some-2 : goal.returns-in-Some-2

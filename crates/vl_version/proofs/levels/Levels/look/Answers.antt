@@ -29,13 +29,16 @@ returns-in_err-best-clause-answers g c = λ files reads.
     let front = subst (ReadsOf bytes_of files c.args.reader.now) (sym c.deref.ensures.value)
     (read_front bytes_of files c.args.reader.now self.newest.items (all_tables self.deeper.items) reads) in
     let p = err_from_is_err_and c.from_residual.result c.from_residual.ensures.1 in
-    let one = subst (λ (l : List (Table g.row.H.Denot)). LooksOn bytes_of l (Unit {0}) c.args.look c.args.key.now (option_map (found_of c.args.key.now) c.args.newer)
+    let one = subst (λ (l : List (Table g.row.H.Denot)). LooksOn bytes_of l (Unit {0}) c.args.look c.args.key.now
+    (option_map (found_of c.args.key.now) c.args.newer)
     (g.R.Reader.faults c.args.reader.now.reader) (g.R.Reader.faults c.look_in_each.new.reader.reader) (Err c.in_err-best.field-0.0))
     c.deref.ensures.value (c.in_err-best.ensures.answers files front) in
-    subst (λ (r : Result (Option Found) TableFault). LooksOn bytes_of (self.newest.items ++ all_tables self.deeper.items) (AreInOrder self) c.args.look
+    subst (λ (r : Result (Option Found) TableFault). LooksOn bytes_of
+    (self.newest.items ++ all_tables self.deeper.items) (AreInOrder self) c.args.look
     c.args.key.now (option_map (found_of c.args.key.now) c.args.newer) (g.R.Reader.faults c.args.reader.now.reader)
     (g.R.Reader.faults c.look_in_each.new.reader.reader) r) (sym (p.1 ∙ ap Err p.2))
-    (fails_on bytes_of c.args.look c.args.key.now self.newest.items (all_tables self.deeper.items) (Unit {0}) (AreInOrder self) (option_map (found_of c.args.key.now) c.args.newer) _ _
+    (fails_on bytes_of c.args.look c.args.key.now self.newest.items (all_tables self.deeper.items) (Unit {0})
+    (AreInOrder self) (option_map (found_of c.args.key.now) c.args.newer) _ _
     c.in_err-best.field-0.0 (λ lawful. tt) one)
 
 pub returns-clause-kept : goal.returns-clause-kept
@@ -45,8 +48,10 @@ returns-clause-kept g c = λ files reads.
     let front = subst (ReadsOf bytes_of files c.args.reader.now) (sym c.deref.ensures.value)
     (read_front bytes_of files c.args.reader.now self.newest.items (all_tables self.deeper.items) reads) in
     c.look_in_levels.ensures.kept files
-    (subst (λ (l : List (List (Table g.row.H.Denot))). ReadsOf bytes_of files c.look_in_each.new.reader (all_tables l)) (sym c.deref-2.ensures.value)
-    (read_on bytes_of files c.args.reader.now c.look_in_each.new.reader (all_tables self.deeper.items) (c.look_in_each.ensures.kept files front)
+    (subst (λ (l : List (List (Table g.row.H.Denot))). ReadsOf bytes_of files c.look_in_each.new.reader (all_tables l))
+    (sym c.deref-2.ensures.value)
+    (read_on bytes_of files c.args.reader.now c.look_in_each.new.reader (all_tables self.deeper.items)
+    (c.look_in_each.ensures.kept files front)
     (read_back bytes_of files c.args.reader.now self.newest.items (all_tables self.deeper.items) reads)))
 
 pub returns-clause-answers : goal.returns-clause-answers
@@ -55,17 +60,21 @@ returns-clause-answers g c = λ files reads.
     let bytes_of = g.H.HeldFile.bytes in
     let front = subst (ReadsOf bytes_of files c.args.reader.now) (sym c.deref.ensures.value)
     (read_front bytes_of files c.args.reader.now self.newest.items (all_tables self.deeper.items) reads) in
-    let back = subst (λ (l : List (List (Table g.row.H.Denot))). ReadsOf bytes_of files c.look_in_each.new.reader (all_tables l)) (sym c.deref-2.ensures.value)
-    (read_on bytes_of files c.args.reader.now c.look_in_each.new.reader (all_tables self.deeper.items) (c.look_in_each.ensures.kept files front)
+    let back = subst (λ (l : List (List (Table g.row.H.Denot))). ReadsOf bytes_of files c.look_in_each.new.reader
+    (all_tables l)) (sym c.deref-2.ensures.value)
+    (read_on bytes_of files c.args.reader.now c.look_in_each.new.reader (all_tables self.deeper.items)
+    (c.look_in_each.ensures.kept files front)
     (read_back bytes_of files c.args.reader.now self.newest.items (all_tables self.deeper.items) reads)) in
-    let one = subst (λ (l : List (Table g.row.H.Denot)). LooksOn bytes_of l (Unit {0}) c.args.look c.args.key.now (option_map (found_of c.args.key.now) c.args.newer)
+    let one = subst (λ (l : List (Table g.row.H.Denot)). LooksOn bytes_of l (Unit {0}) c.args.look c.args.key.now
+    (option_map (found_of c.args.key.now) c.args.newer)
     (g.R.Reader.faults c.args.reader.now.reader) (g.R.Reader.faults c.look_in_each.new.reader.reader) (Ok c.in_ok-best.best))
     c.deref.ensures.value (c.in_ok-best.ensures.answers files front) in
     let two = subst (λ (l : List (List (Table g.row.H.Denot))). LooksOn bytes_of (all_tables l) (AreAllApart l) c.args.look c.args.key.now
     (option_map (found_of c.args.key.now) c.in_ok-best.best)
     (g.R.Reader.faults c.look_in_each.new.reader.reader) (g.R.Reader.faults c.look_in_levels.new.reader.reader) c.look_in_levels.result)
     c.deref-2.ensures.value (c.look_in_levels.ensures.answers files back) in
-    goes_on bytes_of c.args.look c.args.key.now self.newest.items (all_tables self.deeper.items) (Unit {0}) (AreInOrder self) (AreInOrder self) (option_map (found_of c.args.key.now) c.args.newer) _ _ _
+    goes_on bytes_of c.args.look c.args.key.now self.newest.items (all_tables self.deeper.items) (Unit {0})
+    (AreInOrder self) (AreInOrder self) (option_map (found_of c.args.key.now) c.args.newer) _ _ _
     c.in_ok-best.best c.look_in_levels.result (λ lawful. tt) (λ lawful. lawful) one two
 
 pub returns-clause-looks : goal.returns-clause-looks
@@ -74,11 +83,15 @@ returns-clause-looks g c = λ files reads laid.
     let bytes_of = g.H.HeldFile.bytes in
     let front = subst (ReadsOf bytes_of files c.args.reader.now) (sym c.deref.ensures.value)
     (read_front bytes_of files c.args.reader.now self.newest.items (all_tables self.deeper.items) reads) in
-    let back = subst (λ (l : List (List (Table g.row.H.Denot))). ReadsOf bytes_of files c.look_in_each.new.reader (all_tables l)) (sym c.deref-2.ensures.value)
-    (read_on bytes_of files c.args.reader.now c.look_in_each.new.reader (all_tables self.deeper.items) (c.look_in_each.ensures.kept files front)
+    let back = subst (λ (l : List (List (Table g.row.H.Denot))). ReadsOf bytes_of files c.look_in_each.new.reader
+    (all_tables l)) (sym c.deref-2.ensures.value)
+    (read_on bytes_of files c.args.reader.now c.look_in_each.new.reader (all_tables self.deeper.items)
+    (c.look_in_each.ensures.kept files front)
     (read_back bytes_of files c.args.reader.now self.newest.items (all_tables self.deeper.items) reads)) in
-    in_all-append bytes_of c.args.look c.args.key.now self.newest.items (all_tables self.deeper.items) (option_map (found_of c.args.key.now) c.args.newer) (option_map (found_of c.args.key.now) c.in_ok-best.best) c.look_in_levels.result
-    (subst (λ (l : List (Table g.row.H.Denot)). LooksInAll bytes_of c.args.look c.args.key.now (option_map (found_of c.args.key.now) c.args.newer) l (Ok c.in_ok-best.best)) c.deref.ensures.value
+    in_all-append bytes_of c.args.look c.args.key.now self.newest.items (all_tables self.deeper.items)
+    (option_map (found_of c.args.key.now) c.args.newer) (option_map (found_of c.args.key.now) c.in_ok-best.best) c.look_in_levels.result
+    (subst (λ (l : List (Table g.row.H.Denot)). LooksInAll bytes_of c.args.look c.args.key.now
+    (option_map (found_of c.args.key.now) c.args.newer) l (Ok c.in_ok-best.best)) c.deref.ensures.value
     (c.in_ok-best.ensures.looks files front))
     (subst (λ (l : List (List (Table g.row.H.Denot))). AreAllApart l → AreAllRanged l → LooksInAll bytes_of c.args.look c.args.key.now
     (option_map (found_of c.args.key.now) c.in_ok-best.best) (all_tables l) c.look_in_levels.result)
@@ -91,8 +104,11 @@ returns-in_err-best-clause-looks g c = λ files reads laid.
     let front = subst (ReadsOf bytes_of files c.args.reader.now) (sym c.deref.ensures.value)
     (read_front bytes_of files c.args.reader.now self.newest.items (all_tables self.deeper.items) reads) in
     let p = err_from_is_err_and c.from_residual.result c.from_residual.ensures.1 in
-    subst (λ (r : Result (Option Found) TableFault). LooksInAll bytes_of c.args.look c.args.key.now (option_map (found_of c.args.key.now) c.args.newer) (self.newest.items ++ all_tables self.deeper.items) r)
+    subst (λ (r : Result (Option Found) TableFault). LooksInAll bytes_of c.args.look c.args.key.now
+    (option_map (found_of c.args.key.now) c.args.newer) (self.newest.items ++ all_tables self.deeper.items) r)
     (sym (p.1 ∙ ap Err p.2))
-    (in_all-front bytes_of c.args.look c.args.key.now self.newest.items (all_tables self.deeper.items) (option_map (found_of c.args.key.now) c.args.newer) c.in_err-best.field-0.0
-    (subst (λ (l : List (Table g.row.H.Denot)). LooksInAll bytes_of c.args.look c.args.key.now (option_map (found_of c.args.key.now) c.args.newer) l (Err c.in_err-best.field-0.0))
+    (in_all-front bytes_of c.args.look c.args.key.now self.newest.items (all_tables self.deeper.items)
+    (option_map (found_of c.args.key.now) c.args.newer) c.in_err-best.field-0.0
+    (subst (λ (l : List (Table g.row.H.Denot)). LooksInAll bytes_of c.args.look c.args.key.now
+    (option_map (found_of c.args.key.now) c.args.newer) l (Err c.in_err-best.field-0.0))
     c.deref.ensures.value (c.in_err-best.ensures.looks files front)))

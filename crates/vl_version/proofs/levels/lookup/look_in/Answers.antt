@@ -16,22 +16,28 @@ use Rattle.vl_version.proofs.looking.Through.{looks_in, stops_here, through_one,
 use Rattle.vl_version.proofs.levels.lookup.look_in.Goals as goal
 
 wants : {H : Type 0} (look : Look) (key : List ℕ) (best : Option Found) (t : Table H) (s : TableShape) (is b : Bool) → s ≡ shape_of t
-    → is ≡ is_wanted look (option_map (found_of key) best) s.footer.greatest → is ≡ b → is_wanted look (option_map (found_of key) best) (shape_of t).footer.greatest ≡ b
+    → is ≡ is_wanted look (option_map (found_of key) best) s.footer.greatest → is ≡ b
+    → is_wanted look (option_map (found_of key) best) (shape_of t).footer.greatest ≡ b
 wants look key best t s is b same wanted test =
     ap (λ (u : TableShape). is_wanted look (option_map (found_of key) best) u.footer.greatest) (sym same) ∙ sym wanted ∙ test
 
 pub returns-then-not-is_wanted-clause-answers : goal.returns-then-not-is_wanted-clause-answers
 returns-then-not-is_wanted-clause-answers g c = λ files reads.
-    skips g.H.HeldFile.bytes c.args.look c.args.key.now c.args.table.now (option_map (found_of c.args.key.now) c.args.best) (Unit {0}) c.args.best _ refl
-    (wants c.args.look c.args.key.now c.args.best c.args.table.now c.shape.result.now c.is_wanted.result false c.shape.ensures (c.is_wanted.ensures c.args.key.now) c.if-not-is_wanted.true)
+    skips g.H.HeldFile.bytes c.args.look c.args.key.now c.args.table.now
+    (option_map (found_of c.args.key.now) c.args.best) (Unit {0}) c.args.best _ refl
+    (wants c.args.look c.args.key.now c.args.best c.args.table.now c.shape.result.now c.is_wanted.result false
+    c.shape.ensures (c.is_wanted.ensures c.args.key.now) c.if-not-is_wanted.true)
 
 pub returns-in_err-older-clause-answers : goal.returns-in_err-older-clause-answers
 returns-in_err-older-clause-answers g c = λ files reads.
     let p = err_from_is_err_and c.from_residual.result c.from_residual.ensures.1 in
-    subst (λ (r : Result (Option Found) TableFault). LooksOn g.H.HeldFile.bytes (c.args.table.now ∷ []) (Unit {0}) c.args.look c.args.key.now
-    (option_map (found_of c.args.key.now) c.args.best) (g.R.Reader.faults c.args.reader.now.reader) (g.R.Reader.faults c.ask.new.reader.reader) r)
+    subst (λ (r : Result (Option Found) TableFault). LooksOn g.H.HeldFile.bytes (c.args.table.now ∷ []) (Unit {0})
+    c.args.look c.args.key.now
+    (option_map (found_of c.args.key.now) c.args.best) (g.R.Reader.faults c.args.reader.now.reader)
+    (g.R.Reader.faults c.ask.new.reader.reader) r)
     (sym (p.1 ∙ ap Err p.2))
-    (asks_in_vain g.H.HeldFile.bytes c.args.look c.args.key.now c.args.table.now (option_map (found_of c.args.key.now) c.args.best) (Unit {0}) _ _
+    (asks_in_vain g.H.HeldFile.bytes c.args.look c.args.key.now c.args.table.now
+    (option_map (found_of c.args.key.now) c.args.best) (Unit {0}) _ _
     c.in_err-older.field-0.0 (λ no. (c.in_err-older.ensures.unread no).0) (c.in_err-older.ensures.answers files reads))
 
 pub returns-clause-answers : goal.returns-clause-answers
@@ -45,7 +51,8 @@ returns-clause-looks g c = λ files reads.
     (option_map (found_of c.args.key.now) c.better.result)
     (looks_in g.H.HeldFile.bytes c.args.look c.args.key.now (option_map (found_of c.args.key.now) c.args.best) c.args.table.now
     c.in_ok-older.older c.better.result
-    (wants c.args.look c.args.key.now c.args.best c.args.table.now c.shape.result.now c.is_wanted.result true c.shape.ensures (c.is_wanted.ensures c.args.key.now) c.if-not-is_wanted.false)
+    (wants c.args.look c.args.key.now c.args.best c.args.table.now c.shape.result.now c.is_wanted.result true
+    c.shape.ensures (c.is_wanted.ensures c.args.key.now) c.if-not-is_wanted.false)
     (c.better.ensures.counts c.args.key.now)
     (λ refused. let unread = (c.in_ok-older.ensures.unread refused).0 in cc) (c.in_ok-older.ensures.looks files reads))
 
@@ -57,20 +64,26 @@ returns-in_err-older-clause-looks g c = λ files reads.
     let p = err_from_is_err_and c.from_residual.result c.from_residual.ensures.1 in
     subst (λ (r : Result (Option Found) TableFault). LooksInAll g.H.HeldFile.bytes c.args.look c.args.key.now
     (option_map (found_of c.args.key.now) c.args.best) (c.args.table.now ∷ []) r) (sym (p.1 ∙ ap Err p.2))
-    (stops_here g.H.HeldFile.bytes c.args.look c.args.key.now (option_map (found_of c.args.key.now) c.args.best) c.args.table.now _ _ _ c.in_err-older.field-0.0
-    (wants c.args.look c.args.key.now c.args.best c.args.table.now c.shape.result.now c.is_wanted.result true c.shape.ensures (c.is_wanted.ensures c.args.key.now) c.if-not-is_wanted.false)
+    (stops_here g.H.HeldFile.bytes c.args.look c.args.key.now (option_map (found_of c.args.key.now) c.args.best)
+    c.args.table.now _ _ _ c.in_err-older.field-0.0
+    (wants c.args.look c.args.key.now c.args.best c.args.table.now c.shape.result.now c.is_wanted.result true
+    c.shape.ensures (c.is_wanted.ensures c.args.key.now) c.if-not-is_wanted.false)
     (λ no. other_answer c.in_err-older.field-0.0 None (c.in_err-older.ensures.unread no).0) (c.in_err-older.ensures.answers files reads))
 
 pub returns-in_err-older-clause-unread : goal.returns-in_err-older-clause-unread
 returns-in_err-older-clause-unread g c = λ refused.
-    let wanted = wants c.args.look c.args.key.now c.args.best c.args.table.now c.shape.result.now c.is_wanted.result true c.shape.ensures (c.is_wanted.ensures c.args.key.now) c.if-not-is_wanted.false in
-    let no = unheld g.H.HeldFile.bytes c.args.look c.args.key.now (option_map (found_of c.args.key.now) c.args.best) c.args.table.now wanted refused in
+    let wanted = wants c.args.look c.args.key.now c.args.best c.args.table.now c.shape.result.now c.is_wanted.result
+    true c.shape.ensures (c.is_wanted.ensures c.args.key.now) c.if-not-is_wanted.false in
+    let no = unheld g.H.HeldFile.bytes c.args.look c.args.key.now (option_map (found_of c.args.key.now) c.args.best)
+    c.args.table.now wanted refused in
     absurd (other_answer c.in_err-older.field-0.0 None (c.in_err-older.ensures.unread no).0)
 
 pub returns-clause-unread : goal.returns-clause-unread
 returns-clause-unread g c = λ refused.
-    let wanted = wants c.args.look c.args.key.now c.args.best c.args.table.now c.shape.result.now c.is_wanted.result true c.shape.ensures (c.is_wanted.ensures c.args.key.now) c.if-not-is_wanted.false in
-    let no = unheld g.H.HeldFile.bytes c.args.look c.args.key.now (option_map (found_of c.args.key.now) c.args.best) c.args.table.now wanted refused in
+    let wanted = wants c.args.look c.args.key.now c.args.best c.args.table.now c.shape.result.now c.is_wanted.result
+    true c.shape.ensures (c.is_wanted.ensures c.args.key.now) c.if-not-is_wanted.false in
+    let no = unheld g.H.HeldFile.bytes c.args.look c.args.key.now (option_map (found_of c.args.key.now) c.args.best)
+    c.args.table.now wanted refused in
     let unread = c.in_ok-older.ensures.unread no in
     (ap Ok (c.better.ensures.same (inside c.in_ok-older.older None unread.0)), unread.1)
   where

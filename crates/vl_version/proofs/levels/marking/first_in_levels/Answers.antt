@@ -20,7 +20,8 @@ loop-level-preserved g c =
     let is = subst (λ (l : List (Table g.row.H.Denot)). l ≡ get_or ls i l) (sym c.as_slice.ensures) c.level-item.is in
     none_there g.H.HeldFile.bytes g.R.Reader.faults c.args.asked (all_tables (take i ls)) level (all_tables (take (i + 1) ls))
     (AreAllApart ls) (AreApart level) (AreAllApart ls) c.args.reader.now c.loop-level.reader c.mark_in_level.new.reader (λ apart. apart)
-    (λ apart. subst AreApart (sym is) (all_get AreApart ls i level apart c.loop-level-test.true)) c.loop-level.invariant c.in_ok-input.field-0
+    (λ apart. subst AreApart (sym is) (all_get AreApart ls i level apart c.loop-level-test.true)) c.loop-level.invariant
+    c.in_ok-input.field-0
     (tables-next ls i level c.loop-level-test.true is) c.in_default.is c.in_ok-input.ensures
 
 pub returns-in_err-input : goal.returns-in_err-input
@@ -32,7 +33,8 @@ returns-in_err-input g c =
     let p = err_from_is_err_and c.from_residual.result c.from_residual.ensures.1 in
     failed_there g.H.HeldFile.bytes g.R.Reader.faults c.args.asked (all_tables (take i ls)) level (all_tables ls)
     (AreAllApart ls) (AreApart level) (AreAllApart ls) c.args.reader.now c.loop-level.reader c.mark_in_level.new.reader (λ apart. apart)
-    (λ apart. subst AreApart (sym is) (all_get AreApart ls i level apart c.loop-level-test.true)) c.loop-level.invariant (all_tables (drop (suc i) ls))
+    (λ apart. subst AreApart (sym is) (all_get AreApart ls i level apart c.loop-level-test.true)) c.loop-level.invariant
+    (all_tables (drop (suc i) ls))
     c.in_err-input.field-0.0 c.from_residual.result (tables-split ls i level c.loop-level-test.true is) (p.1 ∙ ap Err p.2)
     c.in_err-input.ensures
 
@@ -44,11 +46,13 @@ returns-in-Some g c =
     let is = subst (λ (l : List (Table g.row.H.Denot)). l ≡ get_or ls i l) (sym c.as_slice.ensures) c.level-item.is in
     found_there g.H.HeldFile.bytes g.R.Reader.faults c.args.asked (all_tables (take i ls)) level (all_tables ls)
     (AreAllApart ls) (AreApart level) (AreAllApart ls) c.args.reader.now c.loop-level.reader c.mark_in_level.new.reader (λ apart. apart)
-    (λ apart. subst AreApart (sym is) (all_get AreApart ls i level apart c.loop-level-test.true)) c.loop-level.invariant (all_tables (drop (suc i) ls))
+    (λ apart. subst AreApart (sym is) (all_get AreApart ls i level apart c.loop-level-test.true)) c.loop-level.invariant
+    (all_tables (drop (suc i) ls))
     c.in_ok-input.field-0 c.in-Some.input (tables-split ls i level c.loop-level-test.true is) c.in-Some.is c.in_ok-input.ensures
 
 pub returns : goal.returns
 returns g c =
-    subst (λ (l : List (List (Table g.row.H.Denot))). TellsFirst g.H.HeldFile.bytes g.R.Reader.faults c.args.asked (all_tables l) (AreAllApart c.args.levels.now)
+    subst (λ (l : List (List (Table g.row.H.Denot))). TellsFirst g.H.HeldFile.bytes g.R.Reader.faults c.args.asked
+    (all_tables l) (AreAllApart c.args.levels.now)
     c.args.reader.now c.loop-level.reader (Ok None))
     (take_all c.loop-level.level-index c.args.levels.now c.loop-level-test.false) c.loop-level.invariant

@@ -9,6 +9,8 @@ returns-then-at-tables g c =
 
 pub returns : goal.returns
 returns g c =
-    let within : c.ending_before-at.result < length c.args.tables.now = let some = c.if-at-tables.false in omega (arith, c.ending_before-at.ensures.within) in
-    level_asked g.H.HeldFile.bytes g.R.Reader.faults c.args.asked c.args.tables.now c.index-tables-at.result c.args.reader.now c.mark_of.new.reader
+    let within : c.ending_before-at.result < length c.args.tables.now = let some = c.if-at-tables.false in omega
+    (arith, c.ending_before-at.ensures.within) in
+    level_asked g.H.HeldFile.bytes g.R.Reader.faults c.args.asked c.args.tables.now c.index-tables-at.result
+    c.args.reader.now c.mark_of.new.reader
     c.ending_before-at.result c.mark_of.result c.ending_before-at.ensures.first within c.index-tables-at.is c.mark_of.ensures

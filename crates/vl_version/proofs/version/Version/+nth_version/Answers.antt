@@ -19,7 +19,8 @@ returns-in_err-newer g t c =
     let key = c.args.key.now in
     let number = c.args.number in
     first_failed g.H.HeldFile.bytes g.R.Reader.faults c.args.self.now (λ es. nth_below (versions_in es key) (number + 1) (c.args.nth - 1))
-    (λ es. nth_below (versions_in es key) (number + 1) c.args.nth) _ _ c.in_err-newer.field-0.0 c.from_residual.result c.from_residual.ensures.1
+    (λ es. nth_below (versions_in es key) (number + 1) c.args.nth) _ _ c.in_err-newer.field-0.0 c.from_residual.result
+    c.from_residual.ensures.1
     c.in_err-newer.ensures
 
 pub returns-in-None : goal.returns-in-None

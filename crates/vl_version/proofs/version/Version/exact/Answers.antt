@@ -4,7 +4,8 @@ use Rattle.std.proofs.Common.{◌∙◌, ap, sym}
 use Rattle.std.proofs.lemmas.Result.{err_from_is_err_and}
 use Rattle.vl_block.specs.Founds.{found_of}
 use Rattle.vl_version.specs.declared.behind.Behind.{Behind}
-use Rattle.vl_version.proofs.marking.VersionLaws.{SourcesHave, TablesHave, held_first, held_told, memory_wanted, tables_failed, tables_first, tables_told}
+use Rattle.vl_version.proofs.marking.VersionLaws.{SourcesHave, TablesHave, held_first, held_told, memory_wanted}
+use Rattle.vl_version.proofs.marking.VersionLaws.{tables_failed, tables_first, tables_told}
 use Rattle.vl_version.proofs.version.Version.exact.Goals as goal
 
 pub returns-in-Some : goal.returns-in-Some
@@ -27,7 +28,8 @@ returns-in_err-found g c =
     tables_failed bytes faults self key c.args.version c.args.reader.now c.exact.new.reader c.in_err-found.field-0.0
     c.from_residual-in_err-found.result (p.1 ∙ ap Err p.2)
     (tables_told bytes faults self key c.args.version c.as_ref-behind.result.now.levels
-    (ap (λ (b : Behind g.row.H.Denot). b.levels) c.as_ref-behind.ensures) c.args.reader.now c.exact.new.reader (Err c.in_err-found.field-0.0)
+    (ap (λ (b : Behind g.row.H.Denot). b.levels) c.as_ref-behind.ensures) c.args.reader.now c.exact.new.reader
+    (Err c.in_err-found.field-0.0)
     c.in_err-found.ensures.cause c.in_err-found.ensures.kept c.in_err-found.ensures.answers)
 
 pub returns-in_err-entry-in-Some-2 : goal.returns-in_err-entry-in-Some-2

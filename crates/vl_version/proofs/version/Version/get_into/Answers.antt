@@ -33,12 +33,14 @@ returns-clause-answers g c files es logs reads has =
     let behind = c.as_ref-behind.ensures in
     let stands = c.stand_in.ensures ∙ ap stand_in c.find_held-held.ensures in
     let on = on_version bytes self key number b behind c.stand_in.result stands _ _ (Ok c.in_ok-found.found)
-    (c.in_ok-found.ensures.answers files (reads_behind bytes self key number b behind c.stand_in.result stands files c.args.reader.now reads)) in
+    (c.in_ok-found.ensures.answers files
+    (reads_behind bytes self key number b behind c.stand_in.result stands files c.args.reader.now reads)) in
     let wins = c.newer_of-counts.ensures key
     ∙ ap (λ (w : Option Entry). newest_of w (option_map (found_of key) c.in_ok-found.found)) c.find_held-held.ensures
     ∙ newest_wins bytes self es logs has key number c.in_ok-found.found _ _ on in
     let held = c.deref.ensures.value ∙ ap (λ (d : Behind g.row.H.Denot). d.logs.items) behind in
-    filled_of bytes self es logs has key number (newest_entry key c.newer_of-counts.result) wins c.deref.result.now held c.args.out.now c.resolve_newest_into.new.out
+    filled_of bytes self es logs has key number (newest_entry key c.newer_of-counts.result) wins c.deref.result.now held
+    c.args.out.now c.resolve_newest_into.new.out
     c.resolve_newest_into.result c.resolve_newest_into.ensures.answers
 
 pub returns-in_err-found-clause-answers : goal.returns-in_err-found-clause-answers
@@ -54,7 +56,8 @@ returns-in_err-found-clause-answers g c files es logs reads has =
     fault_answers bytes self es logs has key number (IsFound logs (winner es key number) c.args.out.now c.args.out.now)
     (IsAstray logs (winner es key number)) c.in_err-found.field-0.0 _ _ _ c.from_residual.result (p.1 ∙ ap Err p.2)
     (on_version bytes self key number b behind c.stand_in.result stands _ _ (Err c.in_err-found.field-0.0)
-    (c.in_err-found.ensures.answers files (reads_behind bytes self key number b behind c.stand_in.result stands files c.args.reader.now reads)))
+    (c.in_err-found.ensures.answers files
+    (reads_behind bytes self key number b behind c.stand_in.result stands files c.args.reader.now reads)))
 
 pub returns-clause-looks : goal.returns-clause-looks
 returns-clause-looks g c files reads laid told =
@@ -68,12 +71,14 @@ returns-clause-looks g c files reads laid told =
     let held = c.deref.ensures.value ∙ ap (λ (d : Behind g.row.H.Denot). d.logs.items) behind in
     let now = reads_behind bytes self key number b behind c.stand_in.result stands files c.args.reader.now reads in
     let laid_then = laid_behind bytes self key number b behind c.stand_in.result stands laid in
-    over_found bytes self key number b behind c.stand_in.result stands (λ (w : Option Entry). Fills (stored_in bytes self.behind.logs.items) w c.args.out.now c.resolve_newest_into.new.out)
+    over_found bytes self key number b behind c.stand_in.result stands
+    (λ (w : Option Entry). Fills (stored_in bytes self.behind.logs.items) w c.args.out.now c.resolve_newest_into.new.out)
     c.resolve_newest_into.result c.in_ok-found.found (newest_entry key c.newer_of-counts.result)
     (c.in_ok-found.ensures.looks files now laid_then)
     (c.newer_of-counts.ensures key
     ∙ ap (λ (w : Option Entry). newest_of w (option_map (found_of key) c.in_ok-found.found)) c.find_held-held.ensures)
-    (subst (λ (l : List (SealedLog g.row.H.Denot)). Fills (stored_in bytes l) (newest_entry key c.newer_of-counts.result) c.args.out.now c.resolve_newest_into.new.out c.resolve_newest_into.result) held
+    (subst (λ (l : List (SealedLog g.row.H.Denot)). Fills (stored_in bytes l)
+    (newest_entry key c.newer_of-counts.result) c.args.out.now c.resolve_newest_into.new.out c.resolve_newest_into.result) held
     (c.resolve_newest_into.ensures.answers (subst (AreTold bytes) (sym held) told)))
 
 pub returns-in_err-found-clause-looks : goal.returns-in_err-found-clause-looks
@@ -88,7 +93,8 @@ returns-in_err-found-clause-looks g c files reads laid told =
     let now = reads_behind bytes self key number b behind c.stand_in.result stands files c.args.reader.now reads in
     let laid_then = laid_behind bytes self key number b behind c.stand_in.result stands laid in
     let p = err_from_is_err_and c.from_residual.result c.from_residual.ensures.1 in
-    over_fault bytes self key number b behind c.stand_in.result stands (λ (w : Option Entry). Fills (stored_in bytes self.behind.logs.items) w c.args.out.now c.args.out.now)
+    over_fault bytes self key number b behind c.stand_in.result stands
+    (λ (w : Option Entry). Fills (stored_in bytes self.behind.logs.items) w c.args.out.now c.args.out.now)
     c.from_residual.result c.in_err-found.field-0.0 (c.in_err-found.ensures.looks files now laid_then) (p.1 ∙ ap Err p.2)
 
 pub returns-clause-near : goal.returns-clause-near
@@ -101,7 +107,8 @@ returns-clause-near g c untabled near =
     let held = c.find_held-held.ensures in
     c.resolve_newest_into.ensures.near (near_winner (in_memory self) key number near (newest_entry key c.newer_of-counts.result)
     (c.newer_of-counts.ensures key
-    ∙ held_counts g.H.HeldFile.bytes b.levels key number _ c.stand_in.result c.in_ok-found.found c.stand_in.ensures _ _ c.args.reader.now none
+    ∙ held_counts g.H.HeldFile.bytes b.levels key number _ c.stand_in.result c.in_ok-found.found c.stand_in.ensures _ _
+    c.args.reader.now none
     c.in_ok-found.ensures.answers
     ∙ held))
 
@@ -136,4 +143,5 @@ returns-clause-cause g c =
 pub returns-in_err-found-clause-cause : goal.returns-in_err-found-clause-cause
 returns-in_err-found-clause-cause g c =
     let p = err_from_is_err_and c.from_residual.result c.from_residual.ensures.1 in
-    handed_cause Found (Option TableFound) _ _ c.in_err-found.field-0.0 c.from_residual.result (p.1 ∙ ap Err p.2) c.in_err-found.ensures.cause
+    handed_cause Found (Option TableFound) _ _ c.in_err-found.field-0.0 c.from_residual.result (p.1 ∙ ap Err p.2)
+    c.in_err-found.ensures.cause

@@ -10,7 +10,8 @@ returns-then-is_some g c =
     let faults = g.R.Reader.faults in
     let self = c.args.self.now in
     held_told bytes faults self (IsFirst bytes faults self c.args.inputs.now c.args.key.now c.args.version) c.args.reader.now true
-    (held_outside bytes faults self c.args.inputs.now c.args.key.now c.args.version c.exact_held.result c.is_some.result c.exact_held.ensures
+    (held_outside bytes faults self c.args.inputs.now c.args.key.now c.args.version c.exact_held.result c.is_some.result
+    c.exact_held.ensures
     c.is_some.ensures c.if-is_some.true)
 
 pub returns : goal.returns

@@ -35,7 +35,8 @@ returns g c =
           c.find.ensures.kept files (reads_behind bytes self key number b behind c.stand_in.result stands files c.args.reader.now reads);
       answers = λ files es logs reads has.
           let on = on_version bytes self key number b behind c.stand_in.result stands _ _ (Ok c.in_ok-found.found)
-          (c.in_ok-found.ensures.answers files (reads_behind bytes self key number b behind c.stand_in.result stands files c.args.reader.now reads)) in
+          (c.in_ok-found.ensures.answers files
+          (reads_behind bytes self key number b behind c.stand_in.result stands files c.args.reader.now reads)) in
           let wins = c.newer_of.ensures key
           ∙ ap (λ (w : Option Entry). newest_of w (option_map (found_of key) c.in_ok-found.found)) c.find_held-held.ensures
           ∙ newest_wins bytes self es logs has key number c.in_ok-found.found _ _ on in
@@ -65,5 +66,6 @@ returns-in_err-found g c =
           fault_answers bytes self es logs has key number (λ (found : Option ℕ). found ≡ greatest_below (number + 1) (versions_in es key))
           (λ name place. ⊥) c.in_err-found.field-0.0 _ _ _ c.from_residual.result (p.1 ∙ ap Err p.2)
           (on_version bytes self key number b behind c.stand_in.result stands _ _ (Err c.in_err-found.field-0.0)
-          (c.in_err-found.ensures.answers files (reads_behind bytes self key number b behind c.stand_in.result stands files c.args.reader.now reads)));
+          (c.in_err-found.ensures.answers files
+          (reads_behind bytes self key number b behind c.stand_in.result stands files c.args.reader.now reads)));
     }

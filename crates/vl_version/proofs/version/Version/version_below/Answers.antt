@@ -9,7 +9,8 @@ pub returns-then-bound-eq0 : goal.returns-then-bound-eq0
 returns-then-bound-eq0 g c =
     let key = c.args.key.now in
     let zero : c.args.bound ≡ 0 = grind (arith, nat_tests, c.if-bound-eq0.true) in
-    found_none g.H.HeldFile.bytes g.R.Reader.faults c.args.self.now (λ es. greatest_below c.args.bound (versions_in es key)) c.args.reader.now
+    found_none g.H.HeldFile.bytes g.R.Reader.faults c.args.self.now
+    (λ es. greatest_below c.args.bound (versions_in es key)) c.args.reader.now
     (λ es. none_below (versions_in es key) ∙ ap (λ (n : ℕ). greatest_below n (versions_in es key)) (sym zero))
 
 pub returns : goal.returns

@@ -30,5 +30,6 @@ returns-in_ok-extend_from_slice-in-None c =
     let seen : window ≡ c.args.self.now = ap (λ (b : List ℕ). take (end - start) (drop start b)) c.deref.ensures.value ∙ c.self.view_is in (
       empty_window c.self.inside.bytes.items end,
       subst HasNoLineEnd seen (no_split window (sym c.find_byte.ensures ∙ c.in-None.is)),
-      subst (λ (more : List ℕ). c.extend_from_slice-in-None.new.self.items ≡ c.args.line.now.items ++ more) seen c.in_ok-extend_from_slice-in-None.ensures.items,
+      subst (λ (more : List ℕ). c.extend_from_slice-in-None.new.self.items ≡ c.args.line.now.items ++ more) seen
+          c.in_ok-extend_from_slice-in-None.ensures.items,
     )
