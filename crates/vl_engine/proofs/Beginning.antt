@@ -5,15 +5,15 @@ use Rattle.std.proofs.lemmas.List.{length-map}
 use Rattle.std.proofs.lemmas.Bool.Decides.{nat_tests}
 use Rattle.vl_engine.specs.Answers.{view_outcome}
 use Rattle.vl_engine.specs.Past.{ShowsPast, beginning, past_now}
-use Rattle.vl_engine.specs.Pointed.{layout_logs}
-use Rattle.vl_engine.specs.Represents.{Fronts, StandsFor}
+use Rattle.vl_core.specs.Pointed.{layout_logs}
+use Rattle.vl_core.specs.Represents.{Fronts, StandsFor}
 use Rattle.vl_engine.specs.Sees.{SeesAlone, ShowsAt}
-use Rattle.vl_engine.specs.declared.kept.Core.{Core}
+use Rattle.vl_core.specs.declared.kept.Core.{Core}
 use Rattle.vl_engine.specs.declared.past.Past.{Past}
 use Rattle.vl_engine.specs.declared.view.View.{View}
-use Rattle.vl_engine.specs.laws.LaidLaws.{laid_entries}
-use Rattle.vl_engine.specs.laws.LiveLaws.{same_floor, same_free_ticket}
-use Rattle.vl_engine.specs.laws.SparedLaws.{are_of, low_exact}
+use Rattle.vl_core.specs.laws.LaidLaws.{laid_entries}
+use Rattle.vl_core.specs.laws.LiveLaws.{same_floor, same_free_ticket}
+use Rattle.vl_core.specs.laws.SparedLaws.{are_of, low_exact}
 use Rattle.vl_engine.specs.laws.SeesLaws.{file_in, files_laid, shows_last}
 use Rattle.vl_front.specs.declared.front.Front.{Front}
 use Rattle.vl_layout.specs.AtAnswer.{Beginning, beginning_of}

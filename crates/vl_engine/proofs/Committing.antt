@@ -12,21 +12,21 @@ use Rattle.vl_disk.specs.DiskState.{DiskState}
 use Rattle.vl_disk.specs.Moments.{Elapses}
 use Rattle.vl_disk.specs.declared.name.Name.TheVariants as names
 use Rattle.vl_disk.specs.declared.watched.Watched.{Ghosts}
-use Rattle.vl_engine.proofs.Carrying.{IsWatched, carries_committed, carries_failed, carries_leaving, carries_no_memory, extends_itself}
-use Rattle.vl_engine.proofs.Knowing.{knows_of}
-use Rattle.vl_engine.proofs.Represented.{represents_live}
-use Rattle.vl_engine.proofs.Standing.{decides_as, fronts_committed, fronts_ended, fronts_halted, stands_committed}
-use Rattle.vl_engine.proofs.Standing.{stands_ended, stands_halted}
-use Rattle.vl_engine.specs.Carries.{Carries}
-use Rattle.vl_engine.specs.Laid.{HasLayout}
-use Rattle.vl_engine.specs.Represents.{Fronts, Represents, StandsFor, file_of}
+use Rattle.vl_core.specs.laws.Carrying.{IsWatched, carries_committed, carries_failed, carries_leaving, carries_no_memory, extends_itself}
+use Rattle.vl_core.specs.laws.Knowing.{knows_of}
+use Rattle.vl_core.specs.laws.Represented.{represents_live}
+use Rattle.vl_core.specs.laws.Standing.{decides_as, fronts_committed, fronts_ended, fronts_halted, stands_committed}
+use Rattle.vl_core.specs.laws.Standing.{stands_ended, stands_halted}
+use Rattle.vl_core.specs.Carries.{Carries}
+use Rattle.vl_core.specs.Laid.{HasLayout}
+use Rattle.vl_core.specs.Represents.{Fronts, Represents, StandsFor, file_of}
 use Rattle.vl_engine.specs.Staging.{next_frame}
 use Rattle.vl_engine.specs.Steps.{IsFailed, IsUnwritten, IsWritten, frame_of}
-use Rattle.vl_engine.specs.Writing.{WhileWriting, written}
-use Rattle.vl_engine.specs.declared.kept.Core.{Core}
-use Rattle.vl_engine.specs.laws.FrontLaws.{front_known}
-use Rattle.vl_engine.specs.laws.RulingLaws.{IsAccepted, answered_accepted, ruled, ruled_so}
-use Rattle.vl_engine.specs.laws.VersionLaws.{next_entries}
+use Rattle.vl_core.specs.Writing.{WhileWriting, written}
+use Rattle.vl_core.specs.declared.kept.Core.{Core}
+use Rattle.vl_core.specs.laws.FrontLaws.{front_known}
+use Rattle.vl_core.specs.laws.RulingLaws.{IsAccepted, answered_accepted, ruled, ruled_so}
+use Rattle.vl_core.specs.laws.VersionLaws.{next_entries}
 use Rattle.vl_frame.specs.Runs.{HasFrame}
 use Rattle.vl_front.specs.Decisions.{decision_of}
 use Rattle.vl_front.specs.Front.{IsSame, Knows}

@@ -19,35 +19,35 @@ use Rattle.vl_disk.specs.Name.{IsNumbered}
 use Rattle.vl_disk.specs.declared.name.Name.TheVariants as names
 use Rattle.vl_disk.specs.declared.name.Name.{Name}
 use Rattle.vl_disk.specs.declared.watched.Watched.{Ghosts}
-use Rattle.vl_engine.proofs.Carrying.{IsWatched, looked}
+use Rattle.vl_core.specs.laws.Carrying.{IsWatched, looked}
 use Rattle.vl_engine.proofs.Committing.{decides_answered, decides_failed}
-use Rattle.vl_engine.proofs.FlushKeeps.{KeepsAsMany}
+use Rattle.vl_core.specs.laws.FlushKeeps.{KeepsAsMany}
 use Rattle.vl_engine.proofs.Leaving.{base_numbers, either_state, first_drawn, making_elsewhere, manifest_held}
-use Rattle.vl_engine.proofs.Represented.{represents_halted}
-use Rattle.vl_engine.proofs.Standing.{stands_halted}
-use Rattle.vl_engine.specs.Carries.{Carries, CrashesShow}
-use Rattle.vl_engine.specs.Files.{IsLogFile}
-use Rattle.vl_engine.specs.Flushing.{IsNextBack, IsNextVersion, IsStagedOf, IsTableHeld, WhileFlushed, WritesFlush, flush_written}
-use Rattle.vl_engine.specs.Held.{Base}
-use Rattle.vl_engine.specs.Pointed.{layout_logs}
-use Rattle.vl_engine.specs.Represents.{Fronts, IsBack, IsFront, IsHeld, Represents, StandsFor, file_of}
-use Rattle.vl_engine.specs.Shown.{LeavesBetween}
-use Rattle.vl_engine.specs.Stepping.{AreLogFiles, HasNumbers, LeavesNumbers}
-use Rattle.vl_engine.specs.declared.kept.Core.{Core}
-use Rattle.vl_engine.specs.laws.FlushBase.{before_then}
-use Rattle.vl_engine.specs.laws.FlushLaws.{CanFlush, WhileFlushing, base_beside, base_mid, base_then, bytes_of}
-use Rattle.vl_engine.specs.laws.FlushLaws.{edits_of, files_mid, files_then, final, flush_either, flush_holds}
-use Rattle.vl_engine.specs.laws.FlushLaws.{flush_leaves, later, memtables, mid, state_is, tidy_then}
-use Rattle.vl_engine.specs.laws.FlushRulings.{flush_made}
-use Rattle.vl_engine.specs.laws.FlushTidy.{flush_tidy, stays}
-use Rattle.vl_engine.specs.laws.HeldLaws.{held_opens_again}
-use Rattle.vl_engine.specs.laws.KeptLaws.{none_drawn}
-use Rattle.vl_engine.specs.laws.LaidFlush.{laid_flushed, made_table, oldest_entries}
-use Rattle.vl_engine.specs.laws.OpensAgain.{flush_opens_again}
-use Rattle.vl_engine.specs.laws.ShownLaws.{between_itself}
-use Rattle.vl_engine.specs.laws.SparedSteps.{spares_flushed}
-use Rattle.vl_engine.specs.laws.SwitchLaws.{switch_frame, switching_says}
-use Rattle.vl_engine.specs.laws.WaitingLaws.{waiting_dropped, waiting_edits}
+use Rattle.vl_core.specs.laws.Represented.{represents_halted}
+use Rattle.vl_core.specs.laws.Standing.{stands_halted}
+use Rattle.vl_core.specs.Carries.{Carries, CrashesShow}
+use Rattle.vl_core.specs.Files.{IsLogFile}
+use Rattle.vl_core.specs.FlushFacts.{IsNextBack, IsNextVersion, IsStagedOf, IsTableHeld, WhileFlushed, WritesFlush, flush_written}
+use Rattle.vl_core.specs.Held.{Base}
+use Rattle.vl_core.specs.Pointed.{layout_logs}
+use Rattle.vl_core.specs.Represents.{Fronts, IsBack, IsFront, IsHeld, Represents, StandsFor, file_of}
+use Rattle.vl_core.specs.Shown.{LeavesBetween}
+use Rattle.vl_core.specs.MayStep.{AreLogFiles, HasNumbers, LeavesNumbers}
+use Rattle.vl_core.specs.declared.kept.Core.{Core}
+use Rattle.vl_core.specs.laws.FlushBase.{before_then}
+use Rattle.vl_core.specs.laws.FlushLaws.{CanFlush, WhileFlushing, base_beside, base_mid, base_then, bytes_of}
+use Rattle.vl_core.specs.laws.FlushLaws.{edits_of, files_mid, files_then, final, flush_either, flush_holds}
+use Rattle.vl_core.specs.laws.FlushLaws.{flush_leaves, later, memtables, mid, state_is, tidy_then}
+use Rattle.vl_core.specs.laws.FlushRulings.{flush_made}
+use Rattle.vl_core.specs.laws.FlushTidy.{flush_tidy, stays}
+use Rattle.vl_core.specs.laws.HeldLaws.{held_opens_again}
+use Rattle.vl_core.specs.laws.KeptLaws.{none_drawn}
+use Rattle.vl_core.specs.laws.LaidFlush.{laid_flushed, made_table, oldest_entries}
+use Rattle.vl_core.specs.laws.OpensAgain.{flush_opens_again}
+use Rattle.vl_core.specs.laws.ShownLaws.{between_itself}
+use Rattle.vl_core.specs.laws.SparedSteps.{spares_flushed}
+use Rattle.vl_core.specs.laws.SwitchLaws.{switch_frame, switching_says}
+use Rattle.vl_core.specs.laws.WaitingLaws.{waiting_dropped, waiting_edits}
 use Rattle.vl_frame.specs.Runs.{HasFrame, item_frame}
 use Rattle.vl_front.specs.declared.front.Front.{Front}
 use Rattle.vl_layout.specs.Decides.{Answered, Effects, Failed, as_before}

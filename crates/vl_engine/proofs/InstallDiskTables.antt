@@ -13,10 +13,10 @@ use Rattle.vl_compact.specs.declared.files.Synced.{Synced}
 use Rattle.vl_disk.specs.declared.name.Name.TheVariants as names
 use Rattle.vl_disk.specs.declared.writer.Writer.{Ghosts as Writers}
 use Rattle.vl_engine.proofs.TakenFiles.{tables_of}
-use Rattle.vl_engine.specs.Files as files
+use Rattle.vl_core.specs.Files as files
 use Rattle.vl_engine.specs.Installing.{first_made}
-use Rattle.vl_engine.specs.laws.InstallTaken.{AreApart, IsApart}
-use Rattle.vl_engine.specs.laws.KeptLaws.{AreOtherTables, table_same}
+use Rattle.vl_core.specs.laws.InstallTaken.{AreApart, IsApart}
+use Rattle.vl_core.specs.laws.KeptLaws.{AreOtherTables, table_same}
 use Rattle.vl_layout.specs.Sources.{numbers_of}
 use Rattle.vl_layout.specs.Tables.{new_table}
 use Rattle.vl_layout.specs.TidyLevels.{IsDistinct}

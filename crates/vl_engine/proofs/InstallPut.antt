@@ -15,21 +15,21 @@ use Rattle.vl_disk.specs.DiskState.{DiskState}
 use Rattle.vl_disk.specs.declared.name.Name.{Name}
 use Rattle.vl_disk.specs.declared.watched.Watched.{Ghosts}
 use Rattle.vl_disk.specs.declared.writer.Writer.{Ghosts as Writers}
-use Rattle.vl_engine.proofs.FlushKeeps.{as_many}
+use Rattle.vl_core.specs.laws.FlushKeeps.{as_many}
 use Rattle.vl_engine.proofs.FlushSteps.{fronts_unflushed, stands_unflushed}
-use Rattle.vl_engine.proofs.InstallKeeps.{kept_installed}
+use Rattle.vl_core.specs.laws.InstallKeeps.{kept_installed}
 use Rattle.vl_engine.proofs.Planning.{stands_abandoned}
 use Rattle.vl_engine.proofs.TakenFiles.{AreTold, all_held_laid, tables_of}
 use Rattle.vl_engine.specs.Installing.{IsInstalled, IsUninstalled, first_made}
-use Rattle.vl_engine.specs.Laid.{AreLevelsOf, AreTablesOf, HasLayout, by_level}
+use Rattle.vl_core.specs.Laid.{AreLevelsOf, AreTablesOf, HasLayout, by_level}
 use Rattle.vl_engine.specs.Merging.{HasAllMerge}
-use Rattle.vl_engine.specs.Represents.{Fronts, IsFront, StandsFor, file_of}
-use Rattle.vl_engine.specs.Stepping.{AreLogFiles}
+use Rattle.vl_core.specs.Represents.{Fronts, IsFront, StandsFor, file_of}
+use Rattle.vl_core.specs.MayStep.{AreLogFiles}
 use Rattle.vl_engine.specs.Taking.{IsHeldTable, TakesBack}
-use Rattle.vl_engine.specs.declared.kept.Core.{Core}
-use Rattle.vl_engine.specs.laws.InstallRulings.{GoesOn}
-use Rattle.vl_engine.specs.laws.InstallSpares.{spares_installed}
-use Rattle.vl_engine.specs.laws.InstallTidy.{IsPutTidy, logs_put, tidy_put}
+use Rattle.vl_core.specs.declared.kept.Core.{Core}
+use Rattle.vl_core.specs.laws.InstallRulings.{GoesOn}
+use Rattle.vl_core.specs.laws.InstallSpares.{spares_installed}
+use Rattle.vl_core.specs.laws.InstallTidy.{IsPutTidy, logs_put, tidy_put}
 use Rattle.vl_engine.specs.laws.LaidInstall.{laid_installed}
 use Rattle.vl_engine.specs.laws.PlannedJobs.{levels_are}
 use Rattle.vl_front.specs.declared.front.Front.{Front}

@@ -11,7 +11,7 @@ use Rattle.vl_compact.specs.declared.job.Job.{Job}
 use Rattle.vl_disk.specs.declared.writer.Writer.{Ghosts as Writers}
 use Rattle.vl_engine.specs.Installing.{IsReadyFor, first_made}
 use Rattle.vl_engine.specs.declared.installing.ReadyInstall.{ReadyInstall}
-use Rattle.vl_engine.specs.declared.kept.Core.{Core}
+use Rattle.vl_core.specs.declared.kept.Core.{Core}
 use Rattle.vl_layout.specs.Merging.{gone_after, needless}
 use Rattle.vl_layout.specs.declared.job.Job as laid_job
 use Rattle.vl_layout.specs.declared.job.Target.{Target}

@@ -11,7 +11,7 @@ use Rattle.vl_engine.specs.Installing.{InstallsCore, InstallsUnraced, IsInstallW
 use Rattle.vl_engine.specs.Merging.{HasAllMerge}
 use Rattle.vl_engine.specs.declared.fails.InstallFail.TheVariants as install
 use Rattle.vl_engine.specs.declared.fails.InstallFail.{InstallFail}
-use Rattle.vl_engine.specs.declared.kept.Core.{Core}
+use Rattle.vl_core.specs.declared.kept.Core.{Core}
 use Rattle.vl_engine.specs.declared.open.OpenMerge.{OpenMerge}
 use Rattle.vl_layout.specs.Rulings.Install.{race}
 use Rattle.vl_layout.specs.declared.job.Job.{Job}

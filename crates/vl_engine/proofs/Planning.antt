@@ -13,12 +13,12 @@ use Rattle.vl_disk.specs.declared.watched.Watched.{Ghosts}
 use Rattle.vl_disk.specs.declared.writer.Writer.{Ghosts as Writers}
 use Rattle.vl_engine.specs.Lent.{AreLent as AreLentTo, Opens}
 use Rattle.vl_engine.specs.Merging.{FitsReaders, IsJustOpen, IsMergeFor, IsMergeOf, StandsOpen}
-use Rattle.vl_engine.specs.Pointed.{layout_logs}
-use Rattle.vl_engine.specs.Represents.{Represents, StandsFor}
-use Rattle.vl_engine.specs.Stepping.{Fits}
-use Rattle.vl_engine.specs.declared.kept.Core.{Core}
+use Rattle.vl_core.specs.Pointed.{layout_logs}
+use Rattle.vl_core.specs.Represents.{Represents, StandsFor}
+use Rattle.vl_core.specs.MayStep.{Fits}
+use Rattle.vl_core.specs.declared.kept.Core.{Core}
 use Rattle.vl_engine.specs.declared.open.OpenMerge.{OpenMerge}
-use Rattle.vl_engine.specs.laws.AsideLaws.{same_fits, same_represents, same_stands}
+use Rattle.vl_core.specs.laws.AsideLaws.{same_fits, same_represents, same_stands}
 use Rattle.vl_engine.specs.laws.PlannedJobs.{job_is, levels_are}
 use Rattle.vl_layout.specs.Decides.{Answered, Decides, as_before, no_effects}
 use Rattle.vl_layout.specs.Jobs.{AreLent, Made, lent_numbers, loose}

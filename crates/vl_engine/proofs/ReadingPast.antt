@@ -5,7 +5,7 @@ use Rattle.std.specs.Prelude.{◌==◌, nat_le, nat_lt, if◌then◌else◌, len
 use Rattle.vl_disk.specs.Faults.{HasCause}
 use Rattle.vl_disk.specs.declared.name.Name.{Name}
 use Rattle.vl_engine.specs.Past.{IsWithin, ReadsPast, ShowsPast, as_at_fail, as_failed_at, beginning, if_above}
-use Rattle.vl_engine.specs.Reading.{IsInMemory}
+use Rattle.vl_core.specs.LiesOver.{IsInMemory}
 use Rattle.vl_engine.specs.declared.fails.AtFail.{AtFail}
 use Rattle.vl_engine.specs.declared.fails.AtFail.TheVariants as why
 use Rattle.vl_engine.specs.declared.past.Past.{Past}

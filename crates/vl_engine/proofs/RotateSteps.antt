@@ -13,28 +13,28 @@ use Rattle.vl_disk.specs.Name.{IsNumbered}
 use Rattle.vl_disk.specs.declared.name.Name.TheVariants as names
 use Rattle.vl_disk.specs.declared.name.Name.{Name}
 use Rattle.vl_disk.specs.declared.watched.Watched.{Ghosts}
-use Rattle.vl_engine.proofs.Carrying.{IsWatched, looked}
+use Rattle.vl_core.specs.laws.Carrying.{IsWatched, looked}
 use Rattle.vl_engine.proofs.Committing.{decides_answered, decides_failed, decides_short}
 use Rattle.vl_engine.proofs.Leaving.{base_numbers, making_elsewhere, manifest_held}
-use Rattle.vl_engine.proofs.Represented.{represents_halted}
-use Rattle.vl_engine.proofs.Standing.{fronts_halted, stands_halted}
-use Rattle.vl_engine.specs.Carries.{Carries, CrashesShow}
-use Rattle.vl_engine.specs.Held.{Base, Holds}
-use Rattle.vl_engine.specs.Laid.{HasLayout}
-use Rattle.vl_engine.specs.Pointed.{bytes_of_log, layout_logs}
-use Rattle.vl_engine.specs.Represents.{Fronts, IsFront, IsHeld, Represents, StandsFor, file_of}
-use Rattle.vl_engine.specs.Rotating.{BeginsLog, HasActive, IsNextBack, IsNextVersion, IsSameBack, IsSameCore, next_header, next_name}
-use Rattle.vl_engine.specs.Shown.{LeavesBetween}
-use Rattle.vl_engine.specs.Stepping.{LeavesNumbers}
-use Rattle.vl_engine.specs.declared.kept.Core.{Core}
-use Rattle.vl_engine.specs.laws.HeldLaws.{held_opens_again, held_shown}
-use Rattle.vl_engine.specs.laws.KeptLaws.{begun_kept, table_log}
-use Rattle.vl_engine.specs.laws.LaidRotate.{laid_rotated, rotated_tidy}
-use Rattle.vl_engine.specs.laws.RotateLaws.{rotate_base, rotate_holds, rotate_leaves, rotate_opens_again, rotated_base}
-use Rattle.vl_engine.specs.laws.RotateRulings.{halted_ruled, idle_ruled, is_filled, log_used_up, made_ruled, rotate_made, version_used_up}
-use Rattle.vl_engine.specs.laws.RotateWaiting.{rotate_waiting}
-use Rattle.vl_engine.specs.laws.ShownLaws.{between_itself}
-use Rattle.vl_engine.specs.laws.SparedSteps.{spares_rotated}
+use Rattle.vl_core.specs.laws.Represented.{represents_halted}
+use Rattle.vl_core.specs.laws.Standing.{fronts_halted, stands_halted}
+use Rattle.vl_core.specs.Carries.{Carries, CrashesShow}
+use Rattle.vl_core.specs.Held.{Base, Holds}
+use Rattle.vl_core.specs.Laid.{HasLayout}
+use Rattle.vl_core.specs.Pointed.{bytes_of_log, layout_logs}
+use Rattle.vl_core.specs.Represents.{Fronts, IsFront, IsHeld, Represents, StandsFor, file_of}
+use Rattle.vl_core.specs.RotateFacts.{BeginsLog, HasActive, IsNextBack, IsNextVersion, IsSameBack, IsSameCore, next_header, next_name}
+use Rattle.vl_core.specs.Shown.{LeavesBetween}
+use Rattle.vl_core.specs.MayStep.{LeavesNumbers}
+use Rattle.vl_core.specs.declared.kept.Core.{Core}
+use Rattle.vl_core.specs.laws.HeldLaws.{held_opens_again, held_shown}
+use Rattle.vl_core.specs.laws.KeptLaws.{begun_kept, table_log}
+use Rattle.vl_core.specs.laws.LaidRotate.{laid_rotated, rotated_tidy}
+use Rattle.vl_core.specs.laws.RotateLaws.{rotate_base, rotate_holds, rotate_leaves, rotate_opens_again, rotated_base}
+use Rattle.vl_core.specs.laws.RotateRulings.{halted_ruled, idle_ruled, is_filled, log_used_up, made_ruled, rotate_made, version_used_up}
+use Rattle.vl_core.specs.laws.RotateWaiting.{rotate_waiting}
+use Rattle.vl_core.specs.laws.ShownLaws.{between_itself}
+use Rattle.vl_core.specs.laws.SparedSteps.{spares_rotated}
 use Rattle.vl_front.specs.declared.front.Front.{Front}
 use Rattle.vl_layout.specs.Decides.{Answered, Effects, Failed, NoMemory, as_before, no_effects}
 use Rattle.vl_layout.specs.Ruling.{Exhausted, Halted, Idle, Ruling, StepAnswer, Stepped, halted_at, leaving}

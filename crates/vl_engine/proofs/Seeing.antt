@@ -13,7 +13,7 @@ use Rattle.vl_engine.specs.declared.fails.ReadFail.TheVariants as fails
 use Rattle.vl_engine.specs.declared.past.Past.{Past}
 use Rattle.vl_engine.specs.declared.txn.Txn.{Txn}
 use Rattle.vl_engine.specs.declared.view.View.{View}
-use Rattle.vl_engine.specs.laws.ReadLaws.{value_led, winner_leads}
+use Rattle.vl_core.specs.laws.ReadLaws.{value_led, winner_leads}
 use Rattle.vl_layout.specs.Shows.{Shows}
 use Rattle.vl_model.specs.History.{History, contents_at, value_at, value_left}
 use Rattle.vl_model.specs.Keys.{Row, Stored, Writes}

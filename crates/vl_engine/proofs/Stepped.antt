@@ -16,20 +16,20 @@ use Rattle.vl_disk.specs.MadeFile.{made}
 use Rattle.vl_disk.specs.declared.name.Name.TheVariants as names
 use Rattle.vl_disk.specs.declared.name.Name.{Name}
 use Rattle.vl_disk.specs.declared.watched.Watched.{Ghosts}
-use Rattle.vl_engine.specs.Files.{IsLogFile}
-use Rattle.vl_engine.specs.Flushing.{IsTableMade, flush_written}
-use Rattle.vl_engine.specs.Pointed.{bytes_of_log}
-use Rattle.vl_engine.specs.Represents.{StandsFor}
-use Rattle.vl_engine.specs.Rotating.{HasBegun, IsSameBack, next_header, next_name}
-use Rattle.vl_engine.specs.Stepping.{Fits, HasNumbers, MayStep, covered_all}
-use Rattle.vl_engine.specs.declared.kept.Core.{Core}
+use Rattle.vl_core.specs.Files.{IsLogFile}
+use Rattle.vl_core.specs.FlushFacts.{IsTableMade, flush_written}
+use Rattle.vl_core.specs.Pointed.{bytes_of_log}
+use Rattle.vl_core.specs.Represents.{StandsFor}
+use Rattle.vl_core.specs.RotateFacts.{HasBegun, IsSameBack, next_header, next_name}
+use Rattle.vl_core.specs.MayStep.{Fits, HasNumbers, MayStep, covered_all}
+use Rattle.vl_core.specs.declared.kept.Core.{Core}
 use Rattle.vl_engine.specs.Staging.{next_frame}
 use Rattle.vl_engine.specs.Steps.{IsWritten, frame_of, log_of}
-use Rattle.vl_engine.specs.Writing.{written}
-use Rattle.vl_engine.specs.laws.FileLaws.{all_more}
-use Rattle.vl_engine.specs.laws.KeptLaws.{log_manifest, log_table, written_elsewhere}
-use Rattle.vl_engine.specs.laws.RotateWaiting.{covered_more, waits_behind}
-use Rattle.vl_engine.specs.laws.WaitingLaws.{waits_first}
+use Rattle.vl_core.specs.Writing.{written}
+use Rattle.vl_core.specs.laws.FileLaws.{all_more}
+use Rattle.vl_core.specs.laws.KeptLaws.{log_manifest, log_table, written_elsewhere}
+use Rattle.vl_core.specs.laws.RotateWaiting.{covered_more, waits_behind}
+use Rattle.vl_core.specs.laws.WaitingLaws.{waits_first}
 use Rattle.vl_frame.specs.Runs.{HasFrame}
 use Rattle.vl_layout.specs.Ruling.{ended, halted_at, logged}
 use Rattle.vl_layout.specs.Rulings.Commit.{commit_frame}

@@ -13,7 +13,7 @@ use Rattle.vl_disk.specs.Lending.{adopted}
 use Rattle.vl_disk.specs.declared.name.Name.TheVariants as names
 use Rattle.vl_disk.specs.declared.writer.Writer.{Ghosts as Writers}
 use Rattle.vl_engine.specs.Taking.{IsHeldTable, WhileTaking, file_in, file_of_table, with_files}
-use Rattle.vl_engine.specs.laws.InstallTaken.{WhileTakingTables, with_tables}
+use Rattle.vl_core.specs.laws.InstallTaken.{WhileTakingTables, with_tables}
 use Rattle.vl_layout.specs.Jobs.{tables_made}
 use Rattle.vl_layout.specs.Tables.{new_table}
 use Rattle.vl_layout.specs.declared.table.Table as laid

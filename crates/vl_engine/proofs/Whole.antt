@@ -16,21 +16,21 @@ use Rattle.vl_disk.specs.Moments.{holds_then}
 use Rattle.vl_disk.specs.declared.name.Name.{Name}
 use Rattle.vl_disk.specs.declared.watched.Watched.{Ghosts}
 use Rattle.vl_disk.specs.declared.writer.Writer.{Ghosts as Writers}
-use Rattle.vl_engine.proofs.Carrying.{IsWatched, opens_again, rests}
+use Rattle.vl_core.specs.laws.Carrying.{IsWatched, opens_again, rests}
 use Rattle.vl_engine.proofs.InstallDiskTables.{made_numbers_are}
 use Rattle.vl_engine.proofs.Planning.{fits_abandoned, represents_abandoned}
-use Rattle.vl_engine.specs.Carries.{Carries, CrashesShow, Tells}
+use Rattle.vl_core.specs.Carries.{Carries, CrashesShow, Tells}
 use Rattle.vl_engine.specs.Drawing.{IsSameJob}
 use Rattle.vl_engine.specs.Installing.{IsHandedIn, install_otherwise, numbers_in}
 use Rattle.vl_engine.specs.Lent.{Opens}
 use Rattle.vl_engine.specs.Merging.{FitsReaders, HasAllMerge, HasMerge, StandsOpen, fresh_effects, fresh_outcome, plan_outcome}
-use Rattle.vl_engine.specs.Represents.{Represents}
-use Rattle.vl_engine.specs.Shown.{LeavesBetween}
-use Rattle.vl_engine.specs.Stepping.{Fits}
+use Rattle.vl_core.specs.Represents.{Represents}
+use Rattle.vl_core.specs.Shown.{LeavesBetween}
+use Rattle.vl_core.specs.MayStep.{Fits}
 use Rattle.vl_engine.specs.Whole.{HasSameLogs, MakesTables, StaysFor, kept_of}
 use Rattle.vl_engine.specs.declared.fails.MergeFail.{MergeFail}
 use Rattle.vl_engine.specs.declared.fails.StepFail.{StepFail}
-use Rattle.vl_engine.specs.declared.kept.Core.{Core}
+use Rattle.vl_core.specs.declared.kept.Core.{Core}
 use Rattle.vl_engine.specs.declared.open.OpenMerge.{OpenMerge}
 use Rattle.vl_layout.specs.Decides.{Answered, Damaged, Decides, Effects, Failed, NoMemory, Otherwise, Outcome, as_before, no_effects}
 use Rattle.vl_layout.specs.Jobs.{AreDistinct, AreLent, Made, nothing_made}

@@ -1,6 +1,6 @@
 -- What a call came to, as the ruling on it has it, and how many changing calls it made.
 use Rattle.std.specs.Prelude.{◌≡◌, Option, None, Some, Result, Ok, Err}
-use Rattle.vl_engine.specs.Represents.{file_of}
+use Rattle.vl_core.specs.Represents.{file_of}
 use Rattle.vl_engine.specs.declared.engine.Done.{Done}
 use Rattle.vl_engine.specs.declared.engine.Done.TheVariants as done
 use Rattle.vl_engine.specs.declared.fails.CommitFail.{CommitFail}

@@ -28,7 +28,7 @@ use Rattle.vl_engine.specs.Taking.{StopsTaking, TakesBack}
 use Rattle.vl_engine.specs.declared.fails.InstallFail.TheVariants as install
 use Rattle.vl_engine.specs.declared.fails.InstallFail.{InstallFail}
 use Rattle.vl_engine.specs.declared.installing.ReadyInstall.{ReadyInstall}
-use Rattle.vl_engine.specs.declared.kept.Core.{Core}
+use Rattle.vl_core.specs.declared.kept.Core.{Core}
 use Rattle.vl_engine.specs.declared.open.OpenMerge.{OpenMerge}
 use Rattle.vl_layout.specs.Decides.{Otherwise, as_before}
 use Rattle.vl_layout.specs.Jobs.{AreDistinct, Made}

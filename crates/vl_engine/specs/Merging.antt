@@ -6,13 +6,13 @@ use Rattle.vl_compact.specs.declared.files.Lent.{Lent}
 use Rattle.vl_compact.specs.declared.files.Synced.{Synced}
 use Rattle.vl_compact.specs.Progress.{Has, HasAll, IsJobOf}
 use Rattle.vl_disk.specs.declared.writer.Writer.{Ghosts as Writers}
-use Rattle.vl_engine.specs.Represents.{StandsFor, file_of}
+use Rattle.vl_core.specs.Represents.{StandsFor, file_of}
 use Rattle.vl_engine.specs.Lent.{Opens}
 use Rattle.vl_engine.specs.declared.fails.InstallFail.{InstallFail}
 use Rattle.vl_engine.specs.declared.fails.InstallFail.TheVariants as install
 use Rattle.vl_engine.specs.declared.fails.StepFail.{StepFail}
 use Rattle.vl_engine.specs.declared.fails.StepFail.TheVariants as fails
-use Rattle.vl_engine.specs.declared.kept.Core.{Core}
+use Rattle.vl_core.specs.declared.kept.Core.{Core}
 use Rattle.vl_engine.specs.declared.open.OpenMerge.{OpenMerge}
 use Rattle.vl_layout.specs.Decides.{Answered, Effects, Failed, NoMemory, Outcome, no_effects}
 use Rattle.vl_layout.specs.Rulings.Fresh.{Drawn, FreshAnswer}

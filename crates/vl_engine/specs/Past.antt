@@ -1,10 +1,10 @@
 -- Reads of the past: from which number on they are answered, and what of a version that needs.
 use Rattle.std.specs.Prelude.{◌≡◌, ◌≤◌, ◌<◌, ℕ, nat_lt, if◌then◌else◌, List, Option, None, Some, Result, Ok, Err}
 use Rattle.vl_disk.specs.Faults.{HasCause}
-use Rattle.vl_engine.specs.Reading.{IsInMemory}
+use Rattle.vl_core.specs.LiesOver.{IsInMemory}
 use Rattle.vl_engine.specs.declared.fails.AtFail.{AtFail}
 use Rattle.vl_engine.specs.declared.fails.AtFail.TheVariants as why
-use Rattle.vl_engine.specs.declared.kept.Core.{Core}
+use Rattle.vl_core.specs.declared.kept.Core.{Core}
 use Rattle.vl_engine.specs.declared.past.Past.{Past}
 use Rattle.vl_layout.specs.AtAnswer.{Ahead, AtAnswer, Beginning, Dropped, EmptyKey, Found, KeyTooLong, at_answer}
 use Rattle.vl_layout.specs.Shows.{Shows}

@@ -14,23 +14,18 @@ use Rattle.vl_model.specs.Reads.{rows_of}
 use Rattle.vl_model.specs.declared.change.Change.{Change}
 use Rattle.vl_model.specs.declared.way.Way.{Way}
 use Rattle.vl_seglog.specs.Sealed.{IsHere, IsSmall}
-use Rattle.vl_table.specs.Kept.{Files}
-use Rattle.vl_table.specs.KeptBlocks.{ReadsOf}
-use Rattle.vl_table.specs.declared.block_reader.BlockReader.{BlockReader}
 use Rattle.vl_txn.specs.Reads.{scan_of}
 use Rattle.vl_txn.specs.Refusals.{refused_bound}
 use Rattle.vl_txn.specs.declared.key_fail.KeyFail.{KeyFail}
 use Rattle.vl_txn.specs.declared.key_fail.KeyFail.TheVariants.{EmptyKey, KeyTooLong}
 use Rattle.vl_version.specs.Answers.{Fills, Gives}
-use Rattle.vl_version.specs.Near.{AreNear}
 use Rattle.vl_version.specs.Over.{LooksOver}
-use Rattle.vl_version.specs.Sources.{AreTold, in_memory, stored_in, tables_in}
+use Rattle.vl_version.specs.Sources.{stored_in}
 use Rattle.vl_version.specs.declared.fault.ReadFault.{ReadFault as VersionFault}
 use Rattle.vl_version.specs.declared.fault.ReadFault.TheVariants as failed
 use Rattle.vl_version.specs.declared.found.Found.{Found}
 use Rattle.vl_version.specs.declared.found.Found.TheVariants as found
 use Rattle.vl_version.specs.declared.version.Version.{Version}
-use Rattle.vl_version.specs.levels.LevelsLooked.{AreLaidOut}
 
 -- ---- refusals
 
@@ -100,11 +95,6 @@ IsSound result = MetDamage result → ⊥
 abbrev pub IsSoundInto : {T : Type 0} → Result T ReadFault → Type 0
 IsSoundInto result = MetDamageInto result → ⊥
 
--- All of the version is in memory, so that no read of it asks a file: it has no tables, and no entry leads into a log.
-pub record IsInMemory {H : Type 0} (version : Version H) : Type 0 where
-  pub tables : tables_in version ≡ []
-  pub near : AreNear (in_memory version)
-
 -- ---- answers
 
 -- the value that a write leaves
@@ -139,14 +129,6 @@ IsFound value old new (found.Here len) = IsHere value old new len
 IsFound value old new (found.Small len) = IsSmall value old new len
 
 -- ---- answers over tables that may not be true
-
--- A version lies over these files, whatever stands in them: its reader keeps blocks of them, its tables are laid out, and its
--- logs are told.
-pub record LiesOver {H R : Type 0} (bytes : H → Option (List ℕ)) (files : Files) (version : Version H) (reader : BlockReader R)
-    : Type 0 where
-  pub reads : ReadsOf bytes files reader (tables_in version)
-  pub tables : AreLaidOut version.behind.levels
-  pub logs : AreTold bytes version.behind.logs.items
 
 -- What a version answers is handed on, and so are its faults. A refused key and want of memory are free.
 abbrev pub IsHandedOn : {T : Type 0} → (Result T VersionFault → Type 0) → Result T ReadFail → Type 0

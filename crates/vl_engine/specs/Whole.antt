@@ -4,12 +4,12 @@ use Rattle.vl_compact.specs.Progress.{made_of}
 use Rattle.vl_compact.specs.declared.job.Job.{Job as Merging}
 use Rattle.vl_disk.specs.declared.watched.Watched.{Ghosts}
 use Rattle.vl_disk.specs.declared.writer.Writer.{Ghosts as Writers}
-use Rattle.vl_engine.specs.Carries.{CrashesShow, Tells}
+use Rattle.vl_core.specs.Carries.{CrashesShow, Tells}
 use Rattle.vl_engine.specs.Merging.{HasAllMerge, StandsOpen}
-use Rattle.vl_engine.specs.Represents.{Represents}
-use Rattle.vl_engine.specs.Stepping.{Fits}
+use Rattle.vl_core.specs.Represents.{Represents}
+use Rattle.vl_core.specs.MayStep.{Fits}
 use Rattle.vl_engine.specs.declared.fails.MergeFail.{MergeFail}
-use Rattle.vl_engine.specs.declared.kept.Core.{Core}
+use Rattle.vl_core.specs.declared.kept.Core.{Core}
 use Rattle.vl_engine.specs.declared.open.OpenMerge.{OpenMerge}
 use Rattle.vl_layout.specs.Jobs.{AreLent}
 use Rattle.vl_layout.specs.Merging.{merged_entries}

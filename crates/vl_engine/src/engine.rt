@@ -1,8 +1,8 @@
 //! The engine: a disk, and what is kept of its store in memory.
 ghost use Rattle.std.specs.Prelude.{◌≡◌, ◌≤◌, true};
 ghost use Rattle.std.specs.Option.{ForSome};
-ghost use Rattle.vl_engine.specs.Fit.{IsFitFor};
-ghost use Rattle.vl_engine.specs.Known.{are_known};
+ghost use Rattle.vl_core.specs.Fit.{IsFitFor};
+ghost use Rattle.vl_core.specs.Known.{are_known};
 ghost use Rattle.vl_engine.specs.Lent.{AreLent};
 
 mod beginning;
@@ -17,9 +17,9 @@ mod opening;
 mod planning;
 mod rotating;
 
-use crate::kept::Core;
 use crate::open::OpenMerge;
 use std::alloc::Global;
+use vl_core::Core;
 use vl_disk::Disk;
 
 /// A store that is open.

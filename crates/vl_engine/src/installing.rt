@@ -13,10 +13,10 @@ ghost use Rattle.vl_engine.specs.Taking.{MayTake, MayTakeAll, StopsTaking, Takes
 ghost use Rattle.vl_manifest.specs.Switching.{IsStagedFor};
 ghost use Rattle.vl_table.specs.Tables.{number_of};
 
-use crate::kept::Core;
 use std::alloc::{AllocError, Global};
 use vl_back::{StageFail, StagedInstall};
 use vl_compact::{Job, ReadyLevels, Synced, ready_levels};
+use vl_core::Core;
 use vl_disk::{Disk, HeldFile, Name, Writer};
 use vl_manifest::{ManifestLog, StagedEdits};
 use vl_table::Table;

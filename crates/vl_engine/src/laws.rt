@@ -1,26 +1,18 @@
-// Laws of what is seen: each is the contract of a function that does nothing.
-ghost use Rattle.std.specs.Prelude.{List, Some, ℕ, ◌≡◌};
-ghost use Rattle.vl_disk.specs.Crash.{Image, WhileCreating, WhileRemoving};
-ghost use Rattle.vl_disk.specs.DiskState.{DiskState, created, settled, without};
-ghost use Rattle.vl_disk.specs.Lending.{WhileAdopting, adopted};
-ghost use Rattle.vl_disk.specs.Name.{IsNumbered};
-ghost use Rattle.vl_disk.specs.declared.name.Name.TheVariants.{Table};
-ghost use Rattle.vl_engine.specs.Held.{Base, Holds, IsBase};
-ghost use Rattle.vl_engine.specs.Laid.{AreLevelsOf, HasLayout};
-ghost use Rattle.vl_engine.specs.Pointed.{layout_logs};
+// Laws of what is seen, and of installs: each is the contract of a function that does nothing.
+ghost use Rattle.std.specs.Prelude.{List, ◌≡◌};
+ghost use Rattle.vl_disk.specs.DiskState.{DiskState};
+ghost use Rattle.vl_core.specs.Held.{Base, Holds, IsBase};
+ghost use Rattle.vl_core.specs.Laid.{AreLevelsOf, HasLayout};
+ghost use Rattle.vl_core.specs.Pointed.{layout_logs};
 ghost use Rattle.vl_engine.specs.Sees.{Sees, SeesAlone};
-ghost use Rattle.vl_engine.specs.Shown.{LeavesBetween, Shown};
-ghost use Rattle.vl_engine.specs.Spared.{Spares, SparesRuled};
+ghost use Rattle.vl_core.specs.Shown.{LeavesBetween};
 ghost use Rattle.vl_engine.specs.declared.txn.Txn.{Txn};
 ghost use Rattle.vl_engine.specs.declared.view.View.{View};
 ghost use Rattle.vl_engine.specs.laws.InstallApplies.{edits_of};
 ghost use Rattle.vl_engine.specs.laws.InstallBase.{CanInstall};
 ghost use Rattle.vl_engine.specs.laws.InstallLaws.{IsHeldTidy};
-ghost use Rattle.vl_engine.specs.laws.KeptLaws.{AreOtherTables};
-ghost use Rattle.vl_engine.specs.laws.SwitchLaws.{switch_frame};
-ghost use Rattle.vl_layout.specs.Jobs.{AreOutputs, Made};
-ghost use Rattle.vl_layout.specs.OpenJobs.{IsOpenWell};
-ghost use Rattle.vl_layout.specs.Rulings.Fresh.{drawn};
+ghost use Rattle.vl_core.specs.laws.SwitchLaws.{switch_frame};
+ghost use Rattle.vl_layout.specs.Jobs.{Made};
 ghost use Rattle.vl_layout.specs.Rulings.Install.{install_ruling, installed};
 ghost use Rattle.vl_layout.specs.Sources.{tables};
 ghost use Rattle.vl_layout.specs.Tidy.{IsTidy};
@@ -30,7 +22,6 @@ ghost use Rattle.vl_manifest.specs.Switching.{WhileSwitching, switched};
 ghost use Rattle.vl_model.specs.History.{Extends, History};
 ghost use Rattle.vl_model.specs.Reads.{Read};
 ghost use Rattle.vl_recover.specs.crash.Starts.{MayOpen};
-ghost use Rattle.vl_recover.specs.opening.Intact.{IsIntact};
 ghost use Rattle.vl_version.specs.Shared.{AreSameLogs};
 ghost use Rattle.vl_version.specs.declared.version.Version.{Version};
 
@@ -42,18 +33,6 @@ pub fn what_is_seen_stays<H: HeldFile, R: Reader<Held = H>>()
         → Sees H.bytes txn least reads → Sees H.bytes txn most reads }
     ensures view { (view : View H R) (least most : History) → Extends least most
         → SeesAlone H.bytes view least → SeesAlone H.bytes view most }
-{}
-
-/// An image that shows a history is intact: a store opens from it, and every live pointer resolves, by the image's own bytes.
-pub fn what_is_shown_is_intact()
-    ensures { (image : Image) (h : History) (m : ℕ) → Shown image h m → IsIntact image }
-{}
-
-/// Whatever an install answers, and however much later than its plan it comes, it leaves of each key's versions what tells from
-/// where on the key can be read.
-pub fn an_install_spares_versions()
-    ensures { (l : Layout) (h : History) (o : OpenJob) (made : Made) → IsOpenWell l h o.job o.moved → AreOutputs o.job made
-        → Spares l h → SparesRuled (install_ruling l h o.job made) }
 {}
 
 /// While a switch puts the tables of a merge in the place of its inputs, whatever a crash leaves shows the history; and behind it
@@ -69,26 +48,6 @@ pub fn an_install_is_one_switch()
         → IsTidy (layout_logs l) l h → Holds b l disk → CanInstall b l o made disk
         → IsHeldTidy (install_ruling l h o.job made).layout h
         (switched b.manifest.number (switch_frame b (edits_of b l o.job made)) disk) }
-{}
-
-/// While a table's file is made beside the layout, lent to the writer of a merge and taken back, whatever a crash leaves shows
-/// the history, and the disk holds the layout.
-pub fn a_merge_writes_beside_the_layout()
-    ensures making { (b : Base) (l : Layout) (h : History) (disk now : DiskState) (n : ℕ) → IsBase b l h
-        → IsTidy (layout_logs l) l h → Holds b l disk → AreOtherTables (Table n) (tables l) → IsNumbered (Table n)
-        → WhileCreating (Table n) disk now → LeavesBetween h h now × MayOpen now }
-    ensures lending { (b : Base) (l : Layout) (h : History) (disk now : DiskState) (n : ℕ) → IsBase b l h
-        → IsTidy (layout_logs l) l h → Holds b l disk → AreOtherTables (Table n) (tables l) → IsNumbered (Table n)
-        → WhileRemoving (Table n) (created (Table n) disk) now → LeavesBetween h h now × MayOpen now }
-    ensures lent { (b : Base) (l : Layout) (h : History) (disk : DiskState) → IsBase b l h → IsTidy (layout_logs l) l h
-        → Holds b l disk → IsNumbered (Table l.next_table)
-        → Holds b (drawn l) (without (Table l.next_table) (created (Table l.next_table) disk)) }
-    ensures adopting { (b : Base) (l : Layout) (h : History) (disk now : DiskState) (n : ℕ) (bytes : List ℕ) → IsBase b l h
-        → IsTidy (layout_logs l) l h → Holds b l disk → AreOtherTables (Table n) (tables l) → IsNumbered (Table n)
-        → WhileAdopting (Table n) (Some (settled bytes)) disk now → LeavesBetween h h now × MayOpen now }
-    ensures adopted { (b : Base) (l : Layout) (h : History) (disk : DiskState) (n : ℕ) (bytes : List ℕ) → IsBase b l h
-        → IsTidy (layout_logs l) l h → Holds b l disk → AreOtherTables (Table n) (tables l) → IsNumbered (Table n)
-        → Holds b l (adopted (Table n) (settled bytes) disk) }
 {}
 
 /// Where the tables of an install take the place of its inputs in a version, and the rest stays, the version has the layout that

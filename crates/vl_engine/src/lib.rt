@@ -11,7 +11,6 @@ mod engine;
 mod fails;
 mod flushing;
 mod installing;
-mod kept;
 mod laws;
 mod making;
 mod open;

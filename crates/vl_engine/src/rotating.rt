@@ -7,12 +7,13 @@ ghost use Rattle.vl_disk.specs.Spare.{IsReady};
 ghost use Rattle.vl_disk.specs.declared.errors.DiskFail.TheVariants as why;
 ghost use Rattle.vl_disk.specs.declared.name.Name.TheVariants as names;
 ghost use Rattle.vl_engine.specs.Lent.{LeavesTables};
-ghost use Rattle.vl_engine.specs.Rotating.{IsNextVersion, IsRefusedSo, MayBegin, next_name};
+ghost use Rattle.vl_engine.specs.Rotating.{IsRefusedSo};
+ghost use Rattle.vl_core.specs.RotateFacts.{IsNextVersion, MayBegin, next_name};
 
 use crate::StepFail;
-use crate::kept::Core;
 use std::alloc::Global;
 use vl_back::Decision;
+use vl_core::Core;
 use vl_disk::{Disk, DiskFail, Name};
 use vl_seglog::{ActiveLog, LOG_HEADER_BYTES};
 use vl_version::Version;

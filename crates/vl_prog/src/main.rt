@@ -4,9 +4,9 @@
 
 use std::io;
 use std::process::ExitCode;
-use vl_cli::{Served, process_words, serve};
 use vl_folder::FolderDisk;
 use vl_io::{StdSink, StdSource};
+use vl_replay::{Served, process_words, serve};
 
 fn main(rt: HostRuntime) -> ExitCode {
     let mut source = StdSource::new(rt.reader());

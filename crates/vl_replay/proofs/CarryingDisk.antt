@@ -14,9 +14,9 @@ use Rattle.vl_disk.specs.declared.name.Name.TheVariants.{Table}
 use Rattle.vl_disk.specs.declared.watched.Watched.{Ghosts}
 use Rattle.vl_disk.specs.laws.NameMap.{get_removed, same_or_other}
 use Rattle.vl_engine.specs.Drawing.{WhileLent, WritesFresh}
-use Rattle.vl_engine.specs.Represents.{IsHeld, Represents}
-use Rattle.vl_engine.specs.Shown.{Shown}
-use Rattle.vl_engine.specs.declared.kept.Core.{Core}
+use Rattle.vl_core.specs.Represents.{IsHeld, Represents}
+use Rattle.vl_core.specs.Shown.{Shown}
+use Rattle.vl_core.specs.declared.kept.Core.{Core}
 use Rattle.vl_layout.specs.declared.layout.Layout.{Layout}
 use Rattle.vl_mem.specs.laws.CrashChance.{IsTornByPieces}
 use Rattle.vl_model.specs.History.{History}

@@ -16,15 +16,16 @@ use Rattle.vl_disk.specs.declared.name.Name.{Name}
 use Rattle.vl_disk.specs.declared.name.Name.TheVariants.{Table}
 use Rattle.vl_disk.specs.declared.watched.Watched.{Ghosts}
 use Rattle.vl_disk.specs.laws.NameMap.{same_or_other}
-use Rattle.vl_engine.specs.Carries.{Carries}
+use Rattle.vl_core.specs.Carries.{Carries}
 use Rattle.vl_engine.specs.Drawing.{DrawsCore, FreshLeavesDisk, MayDraw, StopsDrawing, WritesFresh}
 use Rattle.vl_engine.specs.Merging.{StandsOpen, fresh_effects, fresh_outcome}
-use Rattle.vl_engine.specs.Represents.{Fronts, Represents, file_of}
-use Rattle.vl_engine.specs.Shown.{Shown}
-use Rattle.vl_engine.specs.Stepping.{Fits, HasNumbers, LeavesNumbers, StepFailed}
+use Rattle.vl_core.specs.Represents.{Fronts, Represents, file_of}
+use Rattle.vl_core.specs.Shown.{Shown}
+use Rattle.vl_engine.specs.Stepping.{StepFailed}
+use Rattle.vl_core.specs.MayStep.{Fits, HasNumbers, LeavesNumbers}
 use Rattle.vl_engine.specs.declared.fails.StepFail.{StepFail}
 use Rattle.vl_engine.specs.declared.fails.StepFail.TheVariants as fails
-use Rattle.vl_engine.specs.declared.kept.Core.{Core}
+use Rattle.vl_core.specs.declared.kept.Core.{Core}
 use Rattle.vl_engine.specs.declared.open.OpenMerge.{OpenMerge}
 use Rattle.vl_layout.specs.Decides.{Decides, as_before}
 use Rattle.vl_layout.specs.Ruling.{Ruling, has_no_number, leaving}

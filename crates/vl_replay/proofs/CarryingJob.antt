@@ -20,7 +20,7 @@ use Rattle.vl_disk.specs.Faults.{Rose}
 use Rattle.vl_disk.specs.declared.name.Name.{Name}
 use Rattle.vl_disk.specs.declared.watched.Watched.{Ghosts}
 use Rattle.vl_disk.specs.declared.writer.Writer.{Ghosts as Writers}
-use Rattle.vl_engine.specs.Carries.{StaysUntold}
+use Rattle.vl_core.specs.Carries.{StaysUntold}
 use Rattle.vl_engine.specs.Drawing.{IsLentMore, IsNewTo, IsSameJob}
 use Rattle.vl_engine.specs.Installing.{numbers_in}
 use Rattle.vl_engine.specs.Merging.{HasMerge, IsJustOpen, made_numbers}

@@ -16,7 +16,7 @@ use Rattle.vl_engine.specs.Drawing.{IsSameJob}
 use Rattle.vl_engine.specs.Merging.{HasMerge, made_numbers}
 use Rattle.vl_engine.specs.declared.fails.StepFail.{StepFail}
 use Rattle.vl_engine.specs.declared.fails.StepFail.TheVariants as fails
-use Rattle.vl_engine.specs.declared.kept.Core.{Core}
+use Rattle.vl_core.specs.declared.kept.Core.{Core}
 use Rattle.vl_engine.specs.declared.open.OpenMerge.{OpenMerge}
 use Rattle.vl_layout.specs.Merging.{outputs}
 use Rattle.vl_layout.specs.declared.job.Job.{Job}

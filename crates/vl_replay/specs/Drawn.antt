@@ -9,11 +9,11 @@ use Rattle.vl_disk.specs.declared.watched.Watched.{Ghosts}
 use Rattle.vl_disk.specs.declared.writer.Writer.{Ghosts as Writers}
 use Rattle.vl_engine.specs.Lent.{Opens}
 use Rattle.vl_engine.specs.Merging.{FitsReaders, HasAllMerge, HasMerge}
-use Rattle.vl_engine.specs.Represents as engine
-use Rattle.vl_engine.specs.Represents.{IsHeld}
-use Rattle.vl_engine.specs.Shown.{Shown}
-use Rattle.vl_engine.specs.Stepping.{Fits}
-use Rattle.vl_engine.specs.declared.kept.Core.{Core}
+use Rattle.vl_core.specs.Represents as engine
+use Rattle.vl_core.specs.Represents.{IsHeld}
+use Rattle.vl_core.specs.Shown.{Shown}
+use Rattle.vl_core.specs.MayStep.{Fits}
+use Rattle.vl_core.specs.declared.kept.Core.{Core}
 use Rattle.vl_engine.specs.declared.open.OpenMerge.{OpenMerge}
 use Rattle.vl_layout.specs.Jobs.{tables_made}
 use Rattle.vl_layout.specs.Merging.{outputs}

@@ -11,11 +11,13 @@ pub mod Handed
 pub mod Input
 pub mod laws
 pub mod Opening
+pub mod Process
 pub mod Readers
 pub mod Reading
 pub mod Reopens
-pub mod Rounds
 pub mod Replaying
+pub mod Rounds
+pub mod Run
 pub mod Runs
 pub mod Sequential
 pub mod Standing
@@ -26,3 +28,4 @@ pub mod Stored
 pub mod Text
 pub mod Trial
 pub mod Trying
+pub mod Words

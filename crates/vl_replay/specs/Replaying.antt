@@ -3,10 +3,10 @@ use Rattle.std.specs.Prelude.{◌≡◌, ◌≤◌, ◌+◌, ℕ, List, [], Opti
 use Rattle.vl_disk.specs.DiskState.{DiskState}
 use Rattle.vl_disk.specs.Faults.{after_calls}
 use Rattle.vl_disk.specs.declared.watched.Watched.{Ghosts}
-use Rattle.vl_engine.specs.Represents as engine
-use Rattle.vl_engine.specs.Represents.{IsHeld}
-use Rattle.vl_engine.specs.Stepping.{Fits}
-use Rattle.vl_engine.specs.declared.kept.Core.{Core}
+use Rattle.vl_core.specs.Represents as engine
+use Rattle.vl_core.specs.Represents.{IsHeld}
+use Rattle.vl_core.specs.MayStep.{Fits}
+use Rattle.vl_core.specs.declared.kept.Core.{Core}
 use Rattle.vl_compact.specs.Progress.{made_of}
 use Rattle.vl_compact.specs.declared.job.Job.{Job as TheJob}
 use Rattle.vl_disk.specs.declared.writer.Writer.{Ghosts as Writers}

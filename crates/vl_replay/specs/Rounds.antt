@@ -12,7 +12,7 @@ use Rattle.vl_disk.specs.declared.writer.Writer.{Ghosts as Writers}
 use Rattle.vl_engine.specs.Merging.{HasAllMerge, HasMerge, made_numbers}
 use Rattle.vl_engine.specs.declared.fails.StepFail.{StepFail}
 use Rattle.vl_engine.specs.declared.fails.StepFail.TheVariants as fails
-use Rattle.vl_engine.specs.declared.kept.Core.{Core}
+use Rattle.vl_core.specs.declared.kept.Core.{Core}
 use Rattle.vl_engine.specs.declared.open.OpenMerge.{OpenMerge}
 use Rattle.vl_layout.specs.Jobs.{AreDistinct}
 use Rattle.vl_layout.specs.Merging.{outputs}

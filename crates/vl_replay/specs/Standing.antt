@@ -3,8 +3,8 @@ use Rattle.std.specs.Prelude.{◌≡◌, ◌+◌, ℕ, Bool, true, false, Result
 use Rattle.std.specs.Option.{option_map}
 use Rattle.std.specs.Bool.{⊤}
 use Rattle.std.specs.Ordering.{eq_by_cmp}
-use Rattle.vl_engine.specs.Reading.{IsInMemory}
-use Rattle.vl_engine.specs.Represents.{IsLive}
+use Rattle.vl_core.specs.LiesOver.{IsInMemory}
+use Rattle.vl_core.specs.Represents.{IsLive}
 use Rattle.vl_engine.specs.declared.txn.Txn.{Txn}
 use Rattle.vl_engine.specs.Sees.{Sees, SeesAlone, asked, asked_view}
 use Rattle.vl_layout.specs.Rulings.Commit.{Transaction as ATxn}

@@ -9,8 +9,8 @@ use Rattle.vl_disk.specs.Started.{IsRead}
 use Rattle.vl_disk.specs.declared.name.Name.{Name as FileName}
 use Rattle.vl_disk.specs.declared.watched.Watched.{Ghosts}
 use Rattle.vl_io.specs.declared.sink.Sink as sink
-use Rattle.vl_engine.specs.Opening.{IsDurable, recovered}
-use Rattle.vl_engine.specs.Shown.{Shown}
+use Rattle.vl_core.specs.Found.{IsDurable, recovered}
+use Rattle.vl_core.specs.Shown.{Shown}
 use Rattle.vl_layout.specs.Start.{layout_at_start}
 use Rattle.vl_layout.specs.Store.Commits.{AreProper}
 use Rattle.vl_layout.specs.Store.Lines.{Name}

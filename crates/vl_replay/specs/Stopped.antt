@@ -7,7 +7,7 @@ use Rattle.vl_disk.specs.DiskState.{DiskState, appended}
 use Rattle.vl_disk.specs.Name.{file_number}
 use Rattle.vl_disk.specs.declared.name.Name.{Name}
 use Rattle.vl_disk.specs.declared.name.Name.TheVariants.{Log}
-use Rattle.vl_engine.specs.Writing.{written}
+use Rattle.vl_core.specs.Writing.{written}
 use Rattle.vl_frame.specs.Runs.{HasFrame}
 use Rattle.vl_layout.specs.Store.Commits.{Changes, with_changes}
 use Rattle.vl_manifest.specs.declared.state.ManifestState.{ManifestState}

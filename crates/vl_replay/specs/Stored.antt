@@ -1,9 +1,9 @@
 -- What a disk holds of a state.
 use Rattle.std.specs.Prelude.{◌≤◌, ◌+◌, IsTrue}
 use Rattle.vl_disk.specs.DiskState.{DiskState}
-use Rattle.vl_engine.specs.Held.{AreBegun, Base, Holds, IsBase}
-use Rattle.vl_engine.specs.Pointed.{layout_logs}
-use Rattle.vl_engine.specs.Shown.{Shown}
+use Rattle.vl_core.specs.Held.{AreBegun, Base, Holds, IsBase}
+use Rattle.vl_core.specs.Pointed.{layout_logs}
+use Rattle.vl_core.specs.Shown.{Shown}
 use Rattle.vl_layout.specs.Tidy.{IsTidy}
 use Rattle.vl_replay.specs.Between.{Stopping}
 use Rattle.vl_replay.specs.Sequential.{State, history_of}

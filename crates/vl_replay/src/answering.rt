@@ -9,7 +9,7 @@ ghost use Rattle.vl_replay.specs.Endings.{TheDisk, TheSink, TheSource, CountsFau
 ghost use Rattle.vl_replay.specs.Runs.{Script};
 ghost use Rattle.vl_replay.specs.Durable.{HoldsState, CarriesOut};
 ghost use Rattle.vl_replay.specs.Stored.{IsStopped, IsStored};
-ghost use Rattle.vl_engine.specs.Shown.{Shown};
+ghost use Rattle.vl_core.specs.Shown.{Shown};
 ghost use Rattle.vl_replay.specs.Steps.{IsAnswered, IsNext, EndsAtBadLine, PrintsStep, DiskSteps};
 ghost use Rattle.vl_replay.specs.Failing.{IsTableRead, ReaderFailed, beside};
 ghost use Rattle.vl_replay.specs.Halts.{HaltsByDamage, HaltsByDisk, HaltsByRead, HaltsByReader};

@@ -3,7 +3,7 @@ ghost use Rattle.std.specs.Prelude.{◌≡◌, ◌≤◌, ◌<◌, ◌+◌, ◌^
 ghost use Rattle.std.specs.FinMap.{entries};
 ghost use Rattle.std.specs.Option.{ForSome};
 ghost use Rattle.vl_engine.specs.Reading.{OnlyReads};
-ghost use Rattle.vl_engine.specs.Represents.{StandsFor};
+ghost use Rattle.vl_core.specs.Represents.{StandsFor};
 ghost use Rattle.vl_engine.specs.Sees.{SeesAlone};
 ghost use Rattle.vl_layout.specs.declared.layout.Layout.{Layout};
 ghost use Rattle.vl_model.specs.History.{History, contents_at, last_number};

@@ -13,7 +13,7 @@ ghost use Rattle.vl_replay.specs.Runs.{Script, script_of, outside, EndsRun};
 ghost use Rattle.vl_replay.specs.Failing.{ReaderFailed, beside};
 ghost use Rattle.vl_replay.specs.Durable.{HoldsState, DiskEndsFrom};
 ghost use Rattle.vl_replay.specs.Stored.{IsStopped, IsStored};
-ghost use Rattle.vl_engine.specs.Shown.{Shown};
+ghost use Rattle.vl_core.specs.Shown.{Shown};
 ghost use Rattle.vl_replay.specs.Start.{AnswersInput, EndsAtTables, StartsIn, StaysOpenable};
 ghost use Rattle.vl_replay.specs.Opening.{IsRefused};
 ghost use Rattle.vl_replay.specs.declared.fails.Refusal.{Refusal};

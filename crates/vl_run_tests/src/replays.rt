@@ -3,11 +3,10 @@
 
 use std::alloc::Global;
 use std::test::Fail;
-use vl_cli::{Ended, run};
 use vl_disk::{Failed, Name};
 use vl_io::{SliceSource, VecSink};
 use vl_mem::MemDisk;
-use vl_replay::Halt;
+use vl_replay::{CommandEnded, Halt, run};
 
 /// Runs over an empty disk, one a line. Between the bars stand the words, the numbers of the call of the source and of the sink
 /// that fail, the input, what is printed, and the status. A `;` stands for a line's end, and `*n*` for n bytes, spelled.
@@ -185,7 +184,7 @@ fn ran(
     let mut source = SliceSource::new(&input, failing(alloc, reads)?);
     let mut sink = VecSink::new(alloc, 16_384, failing(alloc, puts)?)?;
     let disk = MemDisk::new(alloc, Vec::new(alloc), Vec::new(alloc));
-    let Ended { status, disk: _ } = run(alloc, all.as_slice(), &mut source, &mut sink, disk);
+    let CommandEnded { status, disk: _ } = run(alloc, all.as_slice(), &mut source, &mut sink, disk);
     Ok((sink.into_bytes(), status.to_string(alloc)?))
 }
 

@@ -1,9 +1,9 @@
 //! A process whose words are no text.
 use std::env::{Env, FillError};
 use std::test::Fail;
-use vl_cli::{Ended, process_words, run};
 use vl_io::{SliceSource, VecSink};
 use vl_mem::MemDisk;
+use vl_replay::{CommandEnded, process_words, run};
 
 /// The name and one word of a process: a byte each that begins no letter of UTF-8.
 #[derive(Drop)]
@@ -40,7 +40,13 @@ fn a_word_that_is_no_text_gets_the_usage_line(rt: HostRuntime) -> Result<(), Fai
     let mut source = SliceSource::new(b"begin a\n", Vec::new(alloc));
     let mut sink = VecSink::new(alloc, 4096, Vec::new(alloc))?;
     let disk = MemDisk::new(alloc, Vec::new(alloc), Vec::new(alloc));
-    let Ended { status, disk: _ } = run(alloc, words.as_slice(), &mut source, &mut sink, disk);
+    let CommandEnded { status, disk: _ } = run(
+        alloc,
+        words.as_slice(),
+        &mut source,
+        &mut sink,
+        disk,
+    );
     assert!(rt; sink.into_bytes().as_slice().starts_with(b"usage: vlstore "));
     assert_eq!(rt; status, 2);
     Ok(())

@@ -4,10 +4,10 @@ ghost use Rattle.vl_disk.specs.Name.{IsNumbered};
 
 use std::alloc::Global;
 use std::test::Fail;
-use vl_cli::{Ended, run};
 use vl_disk::Name;
 use vl_io::{SliceSource, VecSink};
 use vl_mem::MemDisk;
+use vl_replay::{CommandEnded, run};
 
 /// A replay of an input: what it prints, and its status.
 #[derive(Clone, Copy)]
@@ -45,7 +45,7 @@ pub fn outcome_of(
     }
     let mut source = SliceSource::new(input.as_bytes(), Vec::new(alloc));
     let mut sink = VecSink::new(alloc, 4096, Vec::new(alloc))?;
-    let Ended { status, disk } = run(alloc, words.as_slice(), &mut source, &mut sink, disk);
+    let CommandEnded { status, disk } = run(alloc, words.as_slice(), &mut source, &mut sink, disk);
     Ok((status, sink.into_bytes(), disk))
 }
 

@@ -10,10 +10,10 @@ use Rattle.vl_back.specs.InstallEdits.{Replacing, install_switch, left_levels, l
 use Rattle.vl_back.specs.InstallSays.{CanReplace, install_either, install_says, levels_then, replaced_state}
 use Rattle.vl_disk.specs.DiskState.{DiskState, settled}
 use Rattle.vl_disk.specs.declared.name.Name.TheVariants as names
-use Rattle.vl_engine.specs.Files.{HoldsTable, bytes_of_table}
-use Rattle.vl_engine.specs.Held.{Base, Holds, IsBase, frames_of}
-use Rattle.vl_engine.specs.Pointed.{layout_logs}
-use Rattle.vl_engine.specs.laws.HeldLaws.{base_says}
+use Rattle.vl_core.specs.Files.{HoldsTable, bytes_of_table}
+use Rattle.vl_core.specs.Held.{Base, Holds, IsBase, frames_of}
+use Rattle.vl_core.specs.Pointed.{layout_logs}
+use Rattle.vl_core.specs.laws.HeldLaws.{base_says}
 use Rattle.vl_engine.specs.laws.InstallPlaces.{IsPutAt, place, put_at_place}
 use Rattle.vl_layout.specs.Jobs.{AreDistinct, AreLent, AreOutputs, Made, lent_numbers}
 use Rattle.vl_layout.specs.Levels.{is_among, without}

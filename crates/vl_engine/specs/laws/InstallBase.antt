@@ -7,19 +7,19 @@ use Rattle.std.proofs.lemmas.Bool.Decides.{nat_tests}
 use Rattle.vl_block.specs.Cutting.{points_of}
 use Rattle.vl_block.specs.declared.points.Point.{Point}
 use Rattle.vl_disk.specs.DiskState.{DiskState}
-use Rattle.vl_engine.specs.Files.{HoldsLog, HoldsTable, IsLogFile, found_levels}
-use Rattle.vl_engine.specs.Held.{Base, Holds, HoldsFiles, IsBase}
-use Rattle.vl_engine.specs.Pointed.{IsFramedAmong, layout_logs}
-use Rattle.vl_engine.specs.laws.FileLaws.{all_each, all_filtered, all_front}
-use Rattle.vl_engine.specs.laws.FlushBase.{state_more}
-use Rattle.vl_engine.specs.laws.FlushTidy.{IsThere, IsWider, tables_far}
-use Rattle.vl_engine.specs.laws.HeldLaws.{sources_held}
+use Rattle.vl_core.specs.Files.{HoldsLog, HoldsTable, IsLogFile, found_levels}
+use Rattle.vl_core.specs.Held.{Base, Holds, HoldsFiles, IsBase}
+use Rattle.vl_core.specs.Pointed.{IsFramedAmong, layout_logs}
+use Rattle.vl_core.specs.laws.FileLaws.{all_each, all_filtered, all_front}
+use Rattle.vl_core.specs.laws.FlushBase.{state_more}
+use Rattle.vl_core.specs.laws.FlushTidy.{IsThere, IsWider, tables_far}
+use Rattle.vl_core.specs.laws.HeldLaws.{sources_held}
 use Rattle.vl_engine.specs.laws.InstallApplies.{edits_of, install_applies, levels_are, state}
-use Rattle.vl_engine.specs.laws.InstallRulings.{GoesOn}
-use Rattle.vl_engine.specs.laws.InstallSpares.{rest_spares_installed}
-use Rattle.vl_engine.specs.laws.InstallTidy.{IsPutTidy, each_entry_put, logs_put, still_put, each_put, tidy_put}
-use Rattle.vl_engine.specs.laws.LedLaws.{AreFarTo, IsFarTo, among_in, led_in, points_led}
-use Rattle.vl_engine.specs.laws.SwitchLaws.{switched_base}
+use Rattle.vl_core.specs.laws.InstallRulings.{GoesOn}
+use Rattle.vl_core.specs.laws.InstallSpares.{rest_spares_installed}
+use Rattle.vl_core.specs.laws.InstallTidy.{IsPutTidy, each_entry_put, logs_put, still_put, each_put, tidy_put}
+use Rattle.vl_core.specs.laws.LedLaws.{AreFarTo, IsFarTo, among_in, led_in, points_led}
+use Rattle.vl_core.specs.laws.SwitchLaws.{switched_base}
 use Rattle.vl_frame.specs.Runs.{HasFrame}
 use Rattle.vl_layout.specs.Jobs.{AreLent, AreOutputs, Made}
 use Rattle.vl_layout.specs.Ruling.{is_idle}

@@ -7,14 +7,14 @@ use Rattle.std.specs.declared.cmp.Ordering.TheVariants.{Equal, Greater, Less}
 use Rattle.std.proofs.Common.{sym, ap, subst, ◌∙◌, arith}
 use Rattle.std.proofs.lemmas.Bool.Decides.{nat_tests}
 use Rattle.vl_block.specs.Footer.{Foot}
-use Rattle.vl_engine.specs.Laid.{AreLevelsOf, AreTablesOf, HasLayout, IsMemtableOf, IsTableOf}
+use Rattle.vl_core.specs.Laid.{AreLevelsOf, AreTablesOf, HasLayout, IsMemtableOf, IsTableOf}
 use Rattle.vl_disk.specs.DiskState.{DiskState}
-use Rattle.vl_engine.specs.Held.{Base, Holds, IsBase}
-use Rattle.vl_engine.specs.Pointed.{layout_logs}
-use Rattle.vl_engine.specs.laws.FileLaws.{all_back, all_front}
-use Rattle.vl_engine.specs.laws.FlushTidy.{IsWider}
+use Rattle.vl_core.specs.Held.{Base, Holds, IsBase}
+use Rattle.vl_core.specs.Pointed.{layout_logs}
+use Rattle.vl_core.specs.laws.FileLaws.{all_back, all_front}
+use Rattle.vl_core.specs.laws.FlushTidy.{IsWider}
 use Rattle.vl_engine.specs.laws.InstallBase.{CanInstall, stays, tidy_then}
-use Rattle.vl_engine.specs.laws.SharedLaws.{below_shared, logs_shared, told_shared}
+use Rattle.vl_core.specs.laws.SharedLaws.{below_shared, logs_shared, told_shared}
 use Rattle.vl_layout.specs.Jobs.{Made}
 use Rattle.vl_layout.specs.Levels.{level_at}
 use Rattle.vl_layout.specs.Rulings.Install.{installed}

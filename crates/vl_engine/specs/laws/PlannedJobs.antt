@@ -7,13 +7,13 @@ use Rattle.vl_compact.specs.Laid.{AreBoth}
 use Rattle.vl_compact.specs.Progress.{IsJobOf}
 use Rattle.vl_compact.specs.declared.job.Job.{Job}
 use Rattle.vl_disk.specs.declared.writer.Writer.{Ghosts as Writers}
-use Rattle.vl_engine.specs.Laid.{AreTablesOf, HasLayout, IsMemtableOf, IsTableOf, by_level}
-use Rattle.vl_engine.specs.Pointed.{layout_logs}
-use Rattle.vl_engine.specs.Represents.{StandsFor}
-use Rattle.vl_engine.specs.declared.kept.Core.{Core}
-use Rattle.vl_engine.specs.laws.LaidTables.{tables_are}
-use Rattle.vl_engine.specs.laws.LiveLaws.{same_floor}
-use Rattle.vl_engine.specs.laws.PlanSources.{sourced_level}
+use Rattle.vl_core.specs.Laid.{AreTablesOf, HasLayout, IsMemtableOf, IsTableOf, by_level}
+use Rattle.vl_core.specs.Pointed.{layout_logs}
+use Rattle.vl_core.specs.Represents.{StandsFor}
+use Rattle.vl_core.specs.declared.kept.Core.{Core}
+use Rattle.vl_core.specs.laws.LaidTables.{tables_are}
+use Rattle.vl_core.specs.laws.LiveLaws.{same_floor}
+use Rattle.vl_core.specs.laws.PlanSources.{sourced_level}
 use Rattle.vl_layout.specs.Levels.{inputs_at, is_among}
 use Rattle.vl_layout.specs.Logs.{memtable}
 use Rattle.vl_layout.specs.Rulings.Plan.{job_of, sourced}

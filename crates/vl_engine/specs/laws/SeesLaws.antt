@@ -3,8 +3,8 @@ use Rattle.std.specs.Prelude.{◌≡◌, ◌≢◌, ◌≤◌, ◌==◌, ℕ, Bo
 use Rattle.std.specs.List.{AllByRecursion, AllZip}
 use Rattle.std.proofs.Common.{ap, arith, length-append, sym, ◌∙◌}
 use Rattle.std.proofs.lemmas.Bool.Decides.{nat_tests}
-use Rattle.vl_engine.specs.Laid.{HasLayout, IsTableOf}
-use Rattle.vl_engine.specs.laws.LaidTables.{tables_are}
+use Rattle.vl_core.specs.Laid.{HasLayout, IsTableOf}
+use Rattle.vl_core.specs.laws.LaidTables.{tables_are}
 use Rattle.vl_engine.specs.Sees.{Sees, SeesAlone, ShowsAt}
 use Rattle.vl_engine.specs.declared.past.Past.{Past}
 use Rattle.vl_engine.specs.declared.txn.Txn.{Txn}

@@ -1,10 +1,10 @@
 ghost use Rattle.std.specs.Prelude.{◌≡◌, [], IfOk};
 ghost use Rattle.vl_engine.specs.Answers.{begin_outcome, view_outcome};
 ghost use Rattle.vl_engine.specs.Past.{beginning};
-ghost use Rattle.vl_engine.specs.Reading.{IsInMemory};
-ghost use Rattle.vl_engine.specs.Represents.{Fronts, Represents, StandsFor};
+ghost use Rattle.vl_core.specs.LiesOver.{IsInMemory};
+ghost use Rattle.vl_core.specs.Represents.{Fronts, Represents, StandsFor};
 ghost use Rattle.vl_engine.specs.Sees.{IsNew, Sees, SeesAlone};
-ghost use Rattle.vl_engine.specs.Stepping.{Fits};
+ghost use Rattle.vl_core.specs.MayStep.{Fits};
 ghost use Rattle.vl_layout.specs.AtAnswer.{beginning_of};
 ghost use Rattle.vl_layout.specs.Decides.{Decides, as_before, no_effects};
 ghost use Rattle.vl_layout.specs.Rulings.Begin.{begin_ruling};

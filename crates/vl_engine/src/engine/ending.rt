@@ -1,6 +1,6 @@
 ghost use Rattle.std.specs.Prelude.{◌≡◌};
-ghost use Rattle.vl_engine.specs.Represents.{Fronts, Represents, StandsFor};
-ghost use Rattle.vl_engine.specs.Stepping.{Fits};
+ghost use Rattle.vl_core.specs.Represents.{Fronts, Represents, StandsFor};
+ghost use Rattle.vl_core.specs.MayStep.{Fits};
 ghost use Rattle.vl_layout.specs.Ruling.{ended};
 ghost use Rattle.vl_layout.specs.declared.layout.Layout.{Layout};
 ghost use Rattle.vl_model.specs.History.{History, last_number};

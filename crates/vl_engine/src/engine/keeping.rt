@@ -3,12 +3,14 @@ ghost use Rattle.vl_disk.specs.Calls.{ChangesNothing};
 ghost use Rattle.vl_disk.specs.DiskState.{DiskState};
 ghost use Rattle.vl_disk.specs.Faults.{HasCause, after_calls};
 ghost use Rattle.vl_disk.specs.declared.name.Name.{Name};
-ghost use Rattle.vl_engine.specs.Carries.{Carries, SameFiles, StaysUntold};
-ghost use Rattle.vl_engine.specs.Keeping.{IsKeepWritten, KeepFailed, KeepLeavesDisk, KeepsAs, MayKeep, StopsKeeping};
-ghost use Rattle.vl_engine.specs.Keeping.{WritesKeep, keep_calls, keep_effects, keep_outcome};
-ghost use Rattle.vl_engine.specs.Keeping as keeping;
-ghost use Rattle.vl_engine.specs.Represents.{Fronts, Represents, StandsFor};
-ghost use Rattle.vl_engine.specs.Stepping.{Fits, LeavesNumbers};
+ghost use Rattle.vl_core.specs.Carries.{Carries, SameFiles, StaysUntold};
+ghost use Rattle.vl_engine.specs.Keeping.{KeepFailed, KeepLeavesDisk, KeepsAs};
+ghost use Rattle.vl_core.specs.KeepFacts.{IsKeepWritten, MayKeep, StopsKeeping};
+ghost use Rattle.vl_engine.specs.Keeping.{keep_calls, keep_effects, keep_outcome};
+ghost use Rattle.vl_core.specs.KeepFacts.{WritesKeep};
+ghost use Rattle.vl_core.specs.KeepFacts as facts;
+ghost use Rattle.vl_core.specs.Represents.{Fronts, Represents, StandsFor};
+ghost use Rattle.vl_core.specs.MayStep.{Fits, LeavesNumbers};
 ghost use Rattle.vl_engine.specs.declared.fails.KeepFail.TheVariants as fails;
 ghost use Rattle.vl_layout.specs.Decides.{Decides, as_before};
 ghost use Rattle.vl_layout.specs.Rulings.Keep.{keep_ruling};
@@ -16,8 +18,8 @@ ghost use Rattle.vl_layout.specs.declared.layout.Layout.{Layout};
 ghost use Rattle.vl_manifest.specs.declared.staged.StagedEdits.{StagedEdits};
 ghost use Rattle.vl_model.specs.History.{History};
 
-use crate::kept::Core;
 use crate::{Engine, KeepFail};
+use vl_core::Core;
 use vl_disk::{Disk, Name};
 use vl_manifest::Edit;
 
@@ -132,7 +134,7 @@ impl<D: Disk> Engine<D> {
 
 // Since when so many versions are kept: where they are more than before, older ones may be gone already.
 fn next_since<H>(core: &Core<H>, versions: u8) -> u64
-    ensures { result ≡ keeping.next_since core.now versions }
+    ensures { result ≡ facts.next_since core.now versions }
 {
     if versions > core.back.state.keep {
         core.front.oracle.last()

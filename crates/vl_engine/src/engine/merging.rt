@@ -1,8 +1,8 @@
 ghost use Rattle.std.specs.Prelude.{◌≡◌, IfOk, None, Ok, OnOk, Some};
 ghost use Rattle.vl_engine.specs.Installing.{IsHandedIn};
 ghost use Rattle.vl_engine.specs.Merging.{FitsReaders, HasMerge, StandsOpen};
-ghost use Rattle.vl_engine.specs.Represents.{Represents};
-ghost use Rattle.vl_engine.specs.Stepping.{Fits};
+ghost use Rattle.vl_core.specs.Represents.{Represents};
+ghost use Rattle.vl_core.specs.MayStep.{Fits};
 ghost use Rattle.vl_engine.specs.UnderWay.{IsUnderWay};
 ghost use Rattle.vl_engine.specs.Whole.{MakesTables, StaysFor, kept_of};
 ghost use Rattle.vl_layout.specs.Rulings.Plan.{plan_ruling};

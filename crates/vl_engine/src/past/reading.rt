@@ -7,9 +7,9 @@ ghost use Rattle.vl_model.specs.Versions.{versions_in};
 ghost use Rattle.vl_version.specs.Past.{SeeksVersion};
 
 use crate::AtFail;
-use crate::kept::Core;
 use crate::past::Past;
 use std::alloc::Global;
+use vl_core::Core;
 use vl_disk::{HeldFile, Reader};
 use vl_model::Value;
 use vl_table::BlockReader;

@@ -4,10 +4,10 @@ use Rattle.std.specs.Prelude.{Ok, Err, Option, Result, OnOk}
 use Rattle.vl_disk.specs.DiskState.{DiskState}
 use Rattle.vl_disk.specs.Faults.{after_calls}
 use Rattle.vl_disk.specs.declared.watched.Watched.{Ghosts}
-use Rattle.vl_engine.specs.Held.{AreBegun, Base, Holds, IsBase}
-use Rattle.vl_engine.specs.Pointed.{layout_logs}
-use Rattle.vl_engine.specs.Shown.{Shown}
-use Rattle.vl_engine.specs.declared.kept.Core.{Core}
+use Rattle.vl_core.specs.Held.{AreBegun, Base, Holds, IsBase}
+use Rattle.vl_core.specs.Pointed.{layout_logs}
+use Rattle.vl_core.specs.Shown.{Shown}
+use Rattle.vl_core.specs.declared.kept.Core.{Core}
 use Rattle.vl_layout.specs.Store.Commits.{Commits, history_in}
 use Rattle.vl_layout.specs.Store.Things.{Step}
 use Rattle.vl_layout.specs.Tidy.{IsTidy}

@@ -8,20 +8,20 @@ use Rattle.vl_disk.specs.Faults.{after_calls}
 use Rattle.vl_disk.specs.declared.name.Name.{Name as FileName}
 use Rattle.vl_disk.specs.declared.watched.Watched.{Ghosts}
 use Rattle.vl_engine.specs.Answers.{IsWritable}
-use Rattle.vl_engine.specs.Carries.{Carries, SameFiles}
-use Rattle.vl_engine.specs.Held.{Holds}
-use Rattle.vl_engine.specs.Represents as engine
+use Rattle.vl_core.specs.Carries.{Carries, SameFiles}
+use Rattle.vl_core.specs.Held.{Holds}
+use Rattle.vl_core.specs.Represents as engine
 use Rattle.vl_engine.specs.Sees.{asked}
-use Rattle.vl_engine.specs.Pointed.{layout_logs}
-use Rattle.vl_engine.specs.Shown.{Shown}
-use Rattle.vl_engine.specs.Spared.{at_rest}
-use Rattle.vl_engine.specs.Writing.{StopsWriting, at_append, at_sync, written}
+use Rattle.vl_core.specs.Pointed.{layout_logs}
+use Rattle.vl_core.specs.Shown.{Shown}
+use Rattle.vl_core.specs.Spared.{at_rest}
+use Rattle.vl_core.specs.Writing.{StopsWriting, at_append, at_sync, written}
 use Rattle.vl_back.specs.declared.back.Back.{Back}
-use Rattle.vl_engine.specs.declared.kept.Core.{Core}
+use Rattle.vl_core.specs.declared.kept.Core.{Core}
 use Rattle.vl_engine.specs.declared.txn.Txn.{Txn}
-use Rattle.vl_engine.specs.laws.CommitLaws.{commit_base, commit_holds}
-use Rattle.vl_engine.specs.laws.KeptLaws.{begun_kept, table_log, written_elsewhere}
-use Rattle.vl_engine.specs.laws.SparedRulings.{committed_spares}
+use Rattle.vl_core.specs.laws.CommitLaws.{commit_base, commit_holds}
+use Rattle.vl_core.specs.laws.KeptLaws.{begun_kept, table_log, written_elsewhere}
+use Rattle.vl_core.specs.laws.SparedRulings.{committed_spares}
 use Rattle.vl_frame.specs.Runs.{HasFrame}
 use Rattle.vl_layout.specs.AtAnswer.{Beginning}
 use Rattle.vl_layout.specs.Decides.{Answered, Effects, NoMemory as OutOfMemory, Outcome, as_before}

@@ -2,10 +2,10 @@
 use Rattle.std.proofs.Common.{◌≡◌, ◌≤◌, ◌+◌, ℕ, List, sym, ap, subst, arith}
 use Rattle.std.specs.Prelude.{IsTrue, Option, None, Some}
 use Rattle.vl_disk.specs.DiskState.{DiskState}
-use Rattle.vl_engine.specs.Held.{AreBegun, Base, Holds, IsBase}
-use Rattle.vl_engine.specs.Pointed.{layout_logs}
-use Rattle.vl_engine.specs.Represents as engine
-use Rattle.vl_engine.specs.declared.kept.Core.{Core}
+use Rattle.vl_core.specs.Held.{AreBegun, Base, Holds, IsBase}
+use Rattle.vl_core.specs.Pointed.{layout_logs}
+use Rattle.vl_core.specs.Represents as engine
+use Rattle.vl_core.specs.declared.kept.Core.{Core}
 use Rattle.vl_layout.specs.Tidy.{IsTidy}
 use Rattle.vl_layout.specs.declared.layout.Layout.{Layout}
 use Rattle.vl_manifest.specs.declared.state.ManifestState.{ManifestState}

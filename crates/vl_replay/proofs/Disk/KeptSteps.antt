@@ -9,14 +9,14 @@ use Rattle.vl_disk.specs.Performs.{FailedAt, calls_on}
 use Rattle.vl_disk.specs.declared.name.Name.{Name as FileName}
 use Rattle.vl_disk.specs.declared.name.Name.TheVariants.{Manifest}
 use Rattle.vl_disk.specs.declared.watched.Watched.{Ghosts}
-use Rattle.vl_engine.specs.Carries.{Carries, SameFiles}
+use Rattle.vl_core.specs.Carries.{Carries, SameFiles}
 use Rattle.vl_engine.specs.Keeping.{KeepFailed, keep_outcome}
-use Rattle.vl_engine.specs.Represents as engine
-use Rattle.vl_engine.specs.Shown.{Shown}
-use Rattle.vl_engine.specs.Stepping.{LeavesNumbers}
+use Rattle.vl_core.specs.Represents as engine
+use Rattle.vl_core.specs.Shown.{Shown}
+use Rattle.vl_core.specs.MayStep.{LeavesNumbers}
 use Rattle.vl_engine.specs.declared.fails.KeepFail.{KeepFail}
 use Rattle.vl_engine.specs.declared.fails.KeepFail.TheVariants as unkept
-use Rattle.vl_engine.specs.declared.kept.Core.{Core}
+use Rattle.vl_core.specs.declared.kept.Core.{Core}
 use Rattle.vl_layout.specs.Decides.{Answered, Effects, as_before}
 use Rattle.vl_layout.specs.Ruling.{Ruling}
 use Rattle.vl_layout.specs.Rulings.Keep as rulings

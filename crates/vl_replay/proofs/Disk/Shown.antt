@@ -1,7 +1,7 @@
 -- What a disk that holds a state leaves.
-use Rattle.vl_engine.specs.Shown.{Shown}
-use Rattle.vl_engine.specs.laws.HeldLaws.{held_opens_again, held_shown}
-use Rattle.vl_engine.specs.laws.ShownLaws.{shown_later}
+use Rattle.vl_core.specs.Shown.{Shown}
+use Rattle.vl_core.specs.laws.HeldLaws.{held_opens_again, held_shown}
+use Rattle.vl_core.specs.laws.ShownLaws.{shown_later}
 use Rattle.vl_replay.specs.Durable.{LeavesItsHistory, StaysShown}
 use Rattle.vl_replay.specs.Sequential.{history_of}
 use Rattle.vl_replay.specs.Stored.{IsStored}

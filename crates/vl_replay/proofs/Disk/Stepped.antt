@@ -14,14 +14,16 @@ use Rattle.vl_disk.specs.laws.NameMap.{same_or_other}
 use Rattle.vl_disk.specs.declared.name.Name.{Name as FileName}
 use Rattle.vl_disk.specs.declared.name.Name.TheVariants.{Log, Manifest, Table}
 use Rattle.vl_disk.specs.declared.watched.Watched.{Ghosts}
-use Rattle.vl_engine.specs.Carries.{Carries}
-use Rattle.vl_engine.specs.Represents as engine
-use Rattle.vl_engine.specs.Rotating.{StopsRotating, at_hold, at_new_log}
-use Rattle.vl_engine.specs.Shown.{Shown}
-use Rattle.vl_engine.specs.Stepping.{LeavesNumbers, StepFailed, StepLeavesDisk, step_outcome}
+use Rattle.vl_core.specs.Carries.{Carries}
+use Rattle.vl_core.specs.Represents as engine
+use Rattle.vl_core.specs.RotateFacts.{at_hold, at_new_log}
+use Rattle.vl_core.specs.RotateFacts.{StopsRotating}
+use Rattle.vl_core.specs.Shown.{Shown}
+use Rattle.vl_engine.specs.Stepping.{StepFailed, StepLeavesDisk, step_outcome}
+use Rattle.vl_core.specs.MayStep.{LeavesNumbers}
 use Rattle.vl_engine.specs.declared.fails.StepFail.{StepFail}
 use Rattle.vl_engine.specs.declared.fails.StepFail.TheVariants as undone
-use Rattle.vl_engine.specs.declared.kept.Core.{Core}
+use Rattle.vl_core.specs.declared.kept.Core.{Core}
 use Rattle.vl_layout.specs.Decides.{Answered, Effects, as_before}
 use Rattle.vl_layout.specs.Ruling as rulings
 use Rattle.vl_layout.specs.Ruling.{Ruling, StepAnswer}

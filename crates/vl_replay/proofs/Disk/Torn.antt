@@ -7,11 +7,11 @@ use Rattle.vl_disk.specs.MadeFile.{WhileMaking}
 use Rattle.vl_disk.specs.Moments.{While}
 use Rattle.vl_disk.specs.declared.watched.Watched.{Ghosts}
 use Rattle.vl_disk.specs.declared.name.Name.TheVariants.{Manifest}
-use Rattle.vl_engine.specs.Flushing.{WhileFlushed, WritesFlush}
-use Rattle.vl_engine.specs.Keeping.{WhileKeeping, WritesKeep}
-use Rattle.vl_engine.specs.Represents.{IsHeld, Represents}
-use Rattle.vl_engine.specs.Rotating.{BeginsLog, next_header, next_name}
-use Rattle.vl_engine.specs.declared.kept.Core.{Core}
+use Rattle.vl_core.specs.FlushFacts.{WhileFlushed, WritesFlush}
+use Rattle.vl_core.specs.KeepFacts.{WhileKeeping, WritesKeep}
+use Rattle.vl_core.specs.Represents.{IsHeld, Represents}
+use Rattle.vl_core.specs.RotateFacts.{BeginsLog, next_header, next_name}
+use Rattle.vl_core.specs.declared.kept.Core.{Core}
 use Rattle.vl_layout.specs.declared.layout.Layout.{Layout}
 use Rattle.vl_manifest.specs.declared.staged.StagedEdits.{StagedEdits}
 use Rattle.vl_mem.specs.laws.CrashChance.{IsTornByPieces}

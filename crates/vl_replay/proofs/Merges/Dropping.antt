@@ -6,10 +6,10 @@ use Rattle.vl_disk.specs.DiskState.{DiskState}
 use Rattle.vl_disk.specs.declared.watched.Watched.{Ghosts}
 use Rattle.vl_disk.specs.declared.writer.Writer.{Ghosts as Writers}
 use Rattle.vl_engine.specs.Merging.{StandsOpen}
-use Rattle.vl_engine.specs.Represents as engine
-use Rattle.vl_engine.specs.Shown.{Shown}
-use Rattle.vl_engine.specs.Stepping.{Fits}
-use Rattle.vl_engine.specs.declared.kept.Core.{Core}
+use Rattle.vl_core.specs.Represents as engine
+use Rattle.vl_core.specs.Shown.{Shown}
+use Rattle.vl_core.specs.MayStep.{Fits}
+use Rattle.vl_core.specs.declared.kept.Core.{Core}
 use Rattle.vl_engine.specs.declared.open.OpenMerge.{OpenMerge}
 use Rattle.vl_layout.specs.Jobs.{AreLent, Made, job_ended}
 use Rattle.vl_layout.specs.Store.Dispatch.{drop_by}

@@ -9,10 +9,10 @@ use Rattle.vl_disk.specs.Faults.{after_calls}
 use Rattle.vl_disk.specs.declared.watched.Watched.{Ghosts}
 use Rattle.vl_disk.specs.declared.writer.Writer.{Ghosts as Writers}
 use Rattle.vl_engine.specs.Merging.{FitsReaders, HasAllMerge, HasMerge, OpensMerge, StandsOpen, plan_outcome}
-use Rattle.vl_engine.specs.Represents as engine
-use Rattle.vl_engine.specs.Shown.{Shown}
-use Rattle.vl_engine.specs.Stepping.{Fits}
-use Rattle.vl_engine.specs.declared.kept.Core.{Core}
+use Rattle.vl_core.specs.Represents as engine
+use Rattle.vl_core.specs.Shown.{Shown}
+use Rattle.vl_core.specs.MayStep.{Fits}
+use Rattle.vl_core.specs.declared.kept.Core.{Core}
 use Rattle.vl_engine.specs.declared.open.OpenMerge.{OpenMerge}
 use Rattle.vl_layout.specs.Decides.{Answered, Decides, as_before, no_effects}
 use Rattle.vl_layout.specs.Jobs.{Made}

@@ -4,10 +4,10 @@ use Rattle.std.specs.Prelude.{◌≤◌, Option, None, Some, Ok, nat_le}
 use Rattle.std.specs.Option.{is_some}
 use Rattle.vl_disk.specs.DiskState.{DiskState}
 use Rattle.vl_engine.specs.Past.{beginning}
-use Rattle.vl_engine.specs.Reading.{IsInMemory}
+use Rattle.vl_core.specs.LiesOver.{IsInMemory}
 use Rattle.vl_engine.specs.Sees.{IsNew, Sees, SeesAlone, asked_view}
 use Rattle.vl_back.specs.declared.back.Back.{Back}
-use Rattle.vl_engine.specs.declared.kept.Core.{Core}
+use Rattle.vl_core.specs.declared.kept.Core.{Core}
 use Rattle.vl_engine.specs.declared.txn.Txn.{Txn}
 use Rattle.vl_engine.specs.declared.view.View.{View as EngineView}
 use Rattle.vl_layout.specs.AtAnswer.{Beginning, beginning_of}

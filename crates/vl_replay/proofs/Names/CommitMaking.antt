@@ -9,7 +9,7 @@ use Rattle.vl_engine.specs.Sees.{asked}
 use Rattle.vl_engine.specs.declared.engine.Done.{Done}
 use Rattle.vl_engine.specs.declared.fails.CommitFail.{CommitFail}
 use Rattle.vl_engine.specs.declared.fails.CommitFail.TheVariants as fails
-use Rattle.vl_engine.specs.declared.kept.Core.{Core}
+use Rattle.vl_core.specs.declared.kept.Core.{Core}
 use Rattle.vl_engine.specs.declared.txn.Txn.{Txn}
 use Rattle.vl_layout.specs.AtAnswer.{Beginning}
 use Rattle.vl_layout.specs.Decides.{Answered, Decides, Effects, Otherwise, Outcome, as_before}

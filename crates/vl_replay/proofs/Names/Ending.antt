@@ -3,14 +3,14 @@ use Rattle.std.proofs.Common.{◌≡◌, ℕ, List, [], ◌∷◌, ◌++◌, len
 use Rattle.std.specs.Prelude.{Option, None, Some}
 use Rattle.std.specs.FinMap.{empty, entries, len-empty, len-entries}
 use Rattle.vl_engine.specs.Past.{beginning}
-use Rattle.vl_engine.specs.Reading.{IsInMemory}
-use Rattle.vl_engine.specs.Represents.{IsLive}
+use Rattle.vl_core.specs.LiesOver.{IsInMemory}
+use Rattle.vl_core.specs.Represents.{IsLive}
 use Rattle.vl_engine.specs.Sees.{IsNew, Sees, SeesAlone, ShowsAt}
 use Rattle.vl_engine.specs.declared.past.Past.{Past}
 use Rattle.vl_engine.specs.declared.txn.Txn.{Txn}
 use Rattle.vl_engine.specs.declared.view.View.{View as EngineView}
 use Rattle.vl_engine.specs.laws.PastLaws.{past_later}
-use Rattle.vl_engine.specs.laws.LiveLaws.{begun_lives, begun_was_free, lives_begun, lives_ended}
+use Rattle.vl_core.specs.laws.LiveLaws.{begun_lives, begun_was_free, lives_begun, lives_ended}
 use Rattle.vl_engine.specs.laws.SeesLaws.{shows_at_later}
 use Rattle.vl_layout.specs.AtAnswer.{Beginning}
 use Rattle.vl_layout_laws.specs.Live.{IsLivedIn}

@@ -5,11 +5,11 @@ use Rattle.std.specs.Bool.{⊤}
 use Rattle.vl_disk.specs.DiskState.{DiskState}
 use Rattle.vl_disk.specs.Faults.{HasCause}
 use Rattle.vl_engine.specs.Keeping.{KeepFailed, keep_outcome}
-use Rattle.vl_engine.specs.Represents as engine
-use Rattle.vl_engine.specs.Represents.{IsLive}
+use Rattle.vl_core.specs.Represents as engine
+use Rattle.vl_core.specs.Represents.{IsLive}
 use Rattle.vl_engine.specs.declared.fails.KeepFail.{KeepFail}
 use Rattle.vl_engine.specs.declared.fails.KeepFail.TheVariants as unkept
-use Rattle.vl_engine.specs.declared.kept.Core.{Core}
+use Rattle.vl_core.specs.declared.kept.Core.{Core}
 use Rattle.vl_layout.specs.Decides.{Decides, Effects, Otherwise}
 use Rattle.vl_layout.specs.Ruling.{Ruling, leaving}
 use Rattle.vl_layout.specs.Rulings.Keep as rulings

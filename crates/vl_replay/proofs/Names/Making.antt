@@ -4,10 +4,11 @@ use Rattle.std.specs.Prelude.{Option, None, Some, Ok, Err, Result, IfOk, OnOk}
 use Rattle.std.specs.Bool.{⊤}
 use Rattle.vl_disk.specs.DiskState.{DiskState}
 use Rattle.vl_engine.specs.Past.{beginning}
-use Rattle.vl_engine.specs.Reading.{IsInMemory, NotesNothing, OnlyReads, OnlyWrites}
-use Rattle.vl_engine.specs.Represents.{IsLive}
+use Rattle.vl_engine.specs.Reading.{NotesNothing, OnlyReads, OnlyWrites}
+use Rattle.vl_core.specs.LiesOver.{IsInMemory}
+use Rattle.vl_core.specs.Represents.{IsLive}
 use Rattle.vl_engine.specs.Sees.{Sees, SeesAlone, asked, asked_view}
-use Rattle.vl_engine.specs.declared.kept.Core.{Core}
+use Rattle.vl_core.specs.declared.kept.Core.{Core}
 use Rattle.vl_engine.specs.declared.txn.Txn.{Txn}
 use Rattle.vl_engine.specs.declared.view.View.{View as EngineView}
 use Rattle.vl_layout.specs.AtAnswer.{Beginning}

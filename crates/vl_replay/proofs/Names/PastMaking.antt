@@ -8,7 +8,7 @@ use Rattle.vl_engine.specs.Reading.{NotesNothing, OnlyReads}
 use Rattle.vl_engine.specs.Sees.{Sees, SeesAlone}
 use Rattle.vl_engine.specs.declared.fails.AtFail.{AtFail}
 use Rattle.vl_engine.specs.declared.fails.AtFail.TheVariants as gone
-use Rattle.vl_engine.specs.declared.kept.Core.{Core}
+use Rattle.vl_core.specs.declared.kept.Core.{Core}
 use Rattle.vl_engine.specs.declared.txn.Txn.{Txn}
 use Rattle.vl_engine.specs.declared.view.View.{View as EngineView}
 use Rattle.vl_layout.specs.AtAnswer.{AtAnswer, Beginning, at_answer, at_answer_by}

@@ -3,9 +3,9 @@ use Rattle.std.proofs.Common.{◌≡◌, ℕ, Bool, true, false, cond, ◌&&◌,
 use Rattle.std.specs.Prelude.{Option, None, Some, nat_le}
 use Rattle.std.specs.FinMap.{find, put}
 use Rattle.vl_disk.specs.DiskState.{DiskState}
-use Rattle.vl_engine.specs.Represents as engine
-use Rattle.vl_engine.specs.Stepping.{Fits}
-use Rattle.vl_engine.specs.declared.kept.Core.{Core}
+use Rattle.vl_core.specs.Represents as engine
+use Rattle.vl_core.specs.MayStep.{Fits}
+use Rattle.vl_core.specs.declared.kept.Core.{Core}
 use Rattle.vl_layout.specs.AtAnswer.{Beginning}
 use Rattle.vl_layout.specs.Rulings.Commit.{Transaction as ATxn}
 use Rattle.vl_layout.specs.Store.Commits.{Commits, history_in}

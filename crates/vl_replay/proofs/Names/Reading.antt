@@ -4,8 +4,9 @@ use Rattle.std.specs.Prelude.{Option, None, Some}
 use Rattle.std.specs.FinMap.{find, get, get-entries}
 use Rattle.std.specs.Option.{is_some}
 use Rattle.vl_engine.specs.Past.{beginning}
-use Rattle.vl_engine.specs.Reading.{IsInMemory, OnlyNotes, value_under}
-use Rattle.vl_engine.specs.Represents.{IsLive}
+use Rattle.vl_engine.specs.Reading.{OnlyNotes, value_under}
+use Rattle.vl_core.specs.LiesOver.{IsInMemory}
+use Rattle.vl_core.specs.Represents.{IsLive}
 use Rattle.vl_engine.specs.Sees.{Sees, SeesAlone, asked, asked_view}
 use Rattle.vl_engine.specs.declared.txn.Txn.{Txn}
 use Rattle.vl_engine.specs.declared.view.View.{View as EngineView}

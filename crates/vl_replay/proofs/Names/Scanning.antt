@@ -3,8 +3,9 @@ use Rattle.std.proofs.Common.{◌≡◌, ℕ, true, ◌&&◌, List, [], ◌∷�
 use Rattle.std.specs.Prelude.{Option, Some, nat_le}
 use Rattle.std.specs.FinMap.{entries, entries-from_sorted, entries_sorted, from_sorted, same_entries_map}
 use Rattle.vl_engine.specs.Past.{beginning}
-use Rattle.vl_engine.specs.Reading.{IsInMemory, OnlyNotes, rows_under}
-use Rattle.vl_engine.specs.Represents.{IsLive}
+use Rattle.vl_engine.specs.Reading.{OnlyNotes, rows_under}
+use Rattle.vl_core.specs.LiesOver.{IsInMemory}
+use Rattle.vl_core.specs.Represents.{IsLive}
 use Rattle.vl_engine.specs.Sees.{Sees, asked}
 use Rattle.vl_engine.specs.declared.txn.Txn.{Txn}
 use Rattle.vl_layout.specs.AtAnswer.{Beginning}

@@ -9,12 +9,12 @@ use Rattle.vl_back.specs.declared.back.Back.{Back}
 use Rattle.vl_back.specs.declared.decision.Decision.TheVariants as decisions
 use Rattle.vl_disk.specs.DiskState.{DiskState}
 use Rattle.vl_disk.specs.Faults.{HasCause}
-use Rattle.vl_engine.specs.Represents as engine
-use Rattle.vl_engine.specs.Represents.{IsLive}
+use Rattle.vl_core.specs.Represents as engine
+use Rattle.vl_core.specs.Represents.{IsLive}
 use Rattle.vl_engine.specs.Stepping.{StepFailed, step_outcome}
 use Rattle.vl_engine.specs.declared.fails.StepFail.{StepFail}
 use Rattle.vl_engine.specs.declared.fails.StepFail.TheVariants as undone
-use Rattle.vl_engine.specs.declared.kept.Core.{Core}
+use Rattle.vl_core.specs.declared.kept.Core.{Core}
 use Rattle.vl_layout.specs.Decides.{Decides, Effects, Otherwise}
 use Rattle.vl_layout.specs.Levels.{in_front}
 use Rattle.vl_layout.specs.Ruling as rulings

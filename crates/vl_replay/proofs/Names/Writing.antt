@@ -7,8 +7,9 @@ use Rattle.std.specs.FinMap.{entries, entries-insert, insert, len-entries, put}
 use Rattle.std.specs.Cmp.Lexicographic.{nat_list_cmp_total}
 use Rattle.std.proofs.lemmas.Bool.Decides.{nat_tests}
 use Rattle.vl_engine.specs.Past.{beginning}
-use Rattle.vl_engine.specs.Reading.{IsInMemory, OnlyWrites}
-use Rattle.vl_engine.specs.Represents.{IsLive}
+use Rattle.vl_engine.specs.Reading.{OnlyWrites}
+use Rattle.vl_core.specs.LiesOver.{IsInMemory}
+use Rattle.vl_core.specs.Represents.{IsLive}
 use Rattle.vl_engine.specs.Sees.{Sees, asked}
 use Rattle.vl_engine.specs.declared.txn.Txn.{Txn}
 use Rattle.vl_layout.specs.AtAnswer.{Beginning}

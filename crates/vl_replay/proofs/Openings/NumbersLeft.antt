@@ -35,7 +35,7 @@ use Rattle.vl_replay.specs.Reopens.{NamesUpTo, Reopens}
 use Rattle.vl_replay.specs.Start.{OpensUpTo, StartsIn}
 use Rattle.vl_replay.specs.laws.StartLaws.{past, reopened_store, starts_shown}
 use Rattle.vl_replay.specs.Stopped.{AreNumberedUpTo}
-use Rattle.vl_engine.specs.Shown.{Shown}
+use Rattle.vl_core.specs.Shown.{Shown}
 use Rattle.vl_replay.specs.declared.fails.Refusal.{Refusal}
 use Rattle.vl_replay.proofs.Openings.Recovering.{refused_not}
 

@@ -18,7 +18,7 @@ use Rattle.vl_replay.specs.Halts.{HaltsByDamage, HaltsByDisk, HaltsByRead, Halts
 use Rattle.vl_replay.specs.Endings.{CutsAnswer, IsBetweenLines, TheDisk, TheReader, culprit_of, ending_at}
 use Rattle.vl_replay.specs.Durable.{HoldsState, HoldsCommits, LeadsTo, DiskEnds, without_live}
 use Rattle.vl_replay.specs.Stored.{IsStopped, IsStored}
-use Rattle.vl_engine.specs.Shown.{Shown}
+use Rattle.vl_core.specs.Shown.{Shown}
 use Rattle.vl_replay.specs.Steps.{Finishes}
 use Rattle.vl_replay.specs.declared.fails.Halt.{Halt}
 use Rattle.vl_replay.specs.declared.fails.Halt.TheVariants as why

@@ -55,7 +55,7 @@ use Rattle.vl_replay.specs.Reopens.{NamesUpTo, Reopens}
 use Rattle.vl_replay.specs.laws.StartLaws.{empty_stay, finds_nothing, not_there, shown_nothing, started_durable}
 use Rattle.vl_replay.specs.Stopped.{AreNumberedUpTo}
 use Rattle.vl_replay.proofs.Openings.NumbersLeft.{names_left, numbers_left, reopens_by}
-use Rattle.vl_engine.specs.laws.ShownLaws.{opening_shown}
+use Rattle.vl_core.specs.laws.ShownLaws.{opening_shown}
 
 -- ---- frames stand where they are spelled
 

@@ -32,7 +32,7 @@ use Rattle.vl_replay.specs.Reopens.{Reopens}
 use Rattle.vl_disk.specs.declared.writer.Writer.{Ghosts as Writers}
 use Rattle.vl_replay.specs.Replaying.{StandsFor, disk_of}
 use Rattle.vl_replay.specs.Start.{StartsIn}
-use Rattle.vl_engine.specs.Opening.{IsDurable}
+use Rattle.vl_core.specs.Found.{IsDurable}
 use Rattle.vl_replay.specs.laws.StartLaws.{empty_stay, finds_nothing, no_commits, started_durable, starts_empty}
 use Rattle.vl_replay.specs.Steps.{EndsUnopened, Finishes, FinishesBy}
 use Rattle.vl_replay.specs.Stored.{IsStored}

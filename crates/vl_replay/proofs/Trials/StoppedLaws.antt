@@ -48,13 +48,13 @@ use Rattle.vl_replay.specs.Reopens.{NamesUpTo, Reopens, state_left}
 use Rattle.vl_replay.specs.Sequential.{State, history_of}
 use Rattle.vl_replay.specs.Stopped.{Commits, StopsStep, append_failed, step_failed, sync_failed, with_taken}
 use Rattle.vl_replay.specs.Stored.{IsStopped, IsStored}
-use Rattle.vl_engine.specs.Files.{found_levels}
-use Rattle.vl_engine.specs.Held.{Base, logs_from}
-use Rattle.vl_engine.specs.laws.HeldLaws.{image_shows, sources_held, store_held}
-use Rattle.vl_engine.specs.laws.KeptLaws.{sources_kept, tables_beside_log}
-use Rattle.vl_engine.specs.laws.SegmentLaws.{not_among, other_logs}
-use Rattle.vl_engine.specs.Shown.{Shown}
-use Rattle.vl_engine.specs.Writing.{written}
+use Rattle.vl_core.specs.Files.{found_levels}
+use Rattle.vl_core.specs.Held.{Base, logs_from}
+use Rattle.vl_core.specs.laws.HeldLaws.{image_shows, sources_held, store_held}
+use Rattle.vl_core.specs.laws.KeptLaws.{sources_kept, tables_beside_log}
+use Rattle.vl_core.specs.laws.SegmentLaws.{not_among, other_logs}
+use Rattle.vl_core.specs.Shown.{Shown}
+use Rattle.vl_core.specs.Writing.{written}
 use Rattle.vl_replay.proofs.Trials.OpeningStopped.{spells_what_stands}
 use Rattle.vl_replay.proofs.Openings.NumbersLeft.{names_left, numbered_changed, numbers_left, reopens_by}
 

@@ -26,7 +26,7 @@ use Rattle.vl_replay.specs.Reopens.{Reopens, state_left}
 use Rattle.vl_replay.specs.Runs.{EndsRun, Outside, Script, course, exchanges, script_of}
 use Rattle.vl_replay.specs.Sequential.{State, history_of}
 use Rattle.vl_replay.specs.Stored.{IsStopped, IsStored}
-use Rattle.vl_engine.specs.Shown.{Shown}
+use Rattle.vl_core.specs.Shown.{Shown}
 use Rattle.vl_replay.specs.Trial.{MeetsStop, TakesFirst, Trial, answered_lines, at_stop, before_stop, begun}
 use Rattle.vl_replay.specs.Trial.{reopened_state, state_behind_stop, stopped_line}
 use Rattle.vl_replay.specs.Trying.{ComesTo, IsOnTrial, trial_of}

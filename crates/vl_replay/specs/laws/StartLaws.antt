@@ -15,13 +15,13 @@ use Rattle.vl_disk.specs.Started.{IsRead, Started, read_left, started_left}
 use Rattle.vl_disk.specs.declared.name.Name.{Name}
 use Rattle.vl_disk.specs.declared.name.Name.TheVariants.{Log, Manifest, Table}
 use Rattle.vl_disk.specs.declared.watched.Watched.{Ghosts}
-use Rattle.vl_engine.specs.Files.{found_levels}
-use Rattle.vl_engine.specs.Opening.{IsDurable, recovered}
-use Rattle.vl_engine.specs.Pointed.{stored_among}
-use Rattle.vl_engine.specs.Reopened.{reopened}
-use Rattle.vl_engine.specs.Shown.{EntriesShow, Shown, entries_among, logs_entries}
-use Rattle.vl_engine.specs.laws.HeldLaws.{has_stays, held_durable, held_opens_again}
-use Rattle.vl_engine.specs.laws.ReopenedShown.{entries_show_reopened, none_show}
+use Rattle.vl_core.specs.Files.{found_levels}
+use Rattle.vl_core.specs.Found.{IsDurable, recovered}
+use Rattle.vl_core.specs.Pointed.{stored_among}
+use Rattle.vl_core.specs.Reopened.{reopened}
+use Rattle.vl_core.specs.Shown.{EntriesShow, Shown, entries_among, logs_entries}
+use Rattle.vl_core.specs.laws.HeldLaws.{has_stays, held_durable, held_opens_again}
+use Rattle.vl_core.specs.laws.ReopenedShown.{entries_show_reopened, none_show}
 use Rattle.vl_layout.specs.Start.{layout_at_start, no_tables}
 use Rattle.vl_layout.specs.Store.Commits.{AreProper, Changes, Commits, history_in}
 use Rattle.vl_layout.specs.Store.Dispatch.{new_store}

@@ -3,9 +3,9 @@ use Rattle.std.specs.Prelude.{◌≡◌, ℕ, Bool, true, false, List, [], ◌�
 use Rattle.std.specs.List.{flat_map}
 use Rattle.std.proofs.Common.{subst, sym, ap, ◌∙◌, inl, inr}
 use Rattle.vl_disk.specs.Crash.{Image}
-use Rattle.vl_engine.specs.Files.{found_levels}
-use Rattle.vl_engine.specs.Shown.{Shown, entries_among, tables_among}
-use Rattle.vl_engine.specs.laws.ShownLaws.{levels_numbers}
+use Rattle.vl_core.specs.Files.{found_levels}
+use Rattle.vl_core.specs.Shown.{Shown, entries_among, tables_among}
+use Rattle.vl_core.specs.laws.ShownLaws.{levels_numbers}
 use Rattle.vl_layout.specs.Sources.{numbers_of, table_entries}
 use Rattle.vl_layout.specs.declared.table.Table as laid
 use Rattle.vl_manifest.specs.declared.state.ManifestState.{ManifestState}

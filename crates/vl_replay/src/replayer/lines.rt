@@ -3,7 +3,7 @@ ghost use Rattle.std.specs.Prelude.{◌≡◌, Err, IfOk, None, OnOk, Some};
 ghost use Rattle.vl_disk.specs.Faults.{HasCause};
 ghost use Rattle.vl_disk.specs.declared.name.Name.{Name};
 ghost use Rattle.vl_replay.specs.Asking.{AsksForRow};
-ghost use Rattle.vl_engine.specs.Shown.{Shown};
+ghost use Rattle.vl_core.specs.Shown.{Shown};
 ghost use Rattle.vl_replay.specs.Durable.{CarriesOut};
 ghost use Rattle.vl_replay.specs.Failing.{FailsAt, ReaderFailed, ReadsTables, beside};
 ghost use Rattle.vl_replay.specs.Halts.{HaltsByDamage, HaltsByDisk, HaltsByRead, HaltsByReader};

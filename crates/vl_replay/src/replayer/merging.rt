@@ -4,7 +4,7 @@ ghost use Rattle.std.specs.Option.{is_some, option_map_or};
 ghost use Rattle.std.specs.Str.{bytes_eq};
 ghost use Rattle.vl_disk.specs.Faults.{HasCause};
 ghost use Rattle.vl_disk.specs.declared.name.Name.{Name};
-ghost use Rattle.vl_engine.specs.Shown.{Shown};
+ghost use Rattle.vl_core.specs.Shown.{Shown};
 ghost use Rattle.vl_layout.specs.Store.Dispatch.{drop_by};
 ghost use Rattle.vl_layout.specs.Store.Reading.{a_transaction, a_view, begin_as};
 ghost use Rattle.vl_layout.specs.Store.Things.{thing_of};

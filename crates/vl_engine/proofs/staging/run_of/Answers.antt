@@ -2,7 +2,7 @@ use Rattle.std.proofs.Common.{◌≡◌, ℕ, ◌++◌, ◌∷◌, [], List, add
 use Rattle.std.specs.FinMap.{entries, entries_sorted}
 use Rattle.vl_engine.proofs.Staged.{all_taken, as_many, entries_lead, one_entry_more}
 use Rattle.vl_engine.specs.Staging.{commit_entries}
-use Rattle.vl_engine.specs.laws.MemtableLaws.{commit_in_order}
+use Rattle.vl_core.specs.laws.MemtableLaws.{commit_in_order}
 use Rattle.vl_model.specs.Formats.{log_format}
 use Rattle.vl_model.specs.declared.change.Change.{Change}
 use Rattle.vl_model.specs.declared.entry.Entry.{Entry}

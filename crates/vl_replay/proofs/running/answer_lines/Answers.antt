@@ -9,7 +9,7 @@ use Rattle.vl_replay.specs.Replaying.{StandsFor, disk_of}
 use Rattle.vl_replay.specs.Runs.{script_of, outside}
 use Rattle.vl_replay.specs.Steps.{kept}
 use Rattle.vl_replay.specs.Stored.{IsStopped, IsStored}
-use Rattle.vl_engine.specs.Shown.{Shown}
+use Rattle.vl_core.specs.Shown.{Shown}
 use Rattle.vl_replay.specs.declared.ending.Ending.TheVariants.{NoMemory, ReaderFault}
 use Rattle.vl_replay.proofs.Runs.Ends.{finish_counts, finished, line_leaves_disk, or_cut, otherwise_as, otherwise_counts}
 use Rattle.vl_replay.proofs.Disk.Shown.{shown_stays, stored_exactly}

@@ -5,7 +5,7 @@ use Rattle.vl_replay.specs.Runs.{script_of, outside}
 use Rattle.vl_replay.specs.Sequential.{State}
 use Rattle.vl_replay.specs.Steps.{kept}
 use Rattle.vl_replay.specs.Stored.{IsStored}
-use Rattle.vl_engine.specs.Shown.{Shown}
+use Rattle.vl_core.specs.Shown.{Shown}
 use Rattle.vl_replay.proofs.Runs.UnderWay.{UnderWay}
 use Rattle.vl_replay.proofs.running.answer_lines.Given as goal
 

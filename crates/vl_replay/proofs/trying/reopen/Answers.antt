@@ -1,7 +1,7 @@
 use Rattle.std.proofs.Common.{◌≡◌, inl, inr, refl, subst, sym, ◌∙◌, List, ℕ, true, false}
 use Rattle.vl_disk.specs.Started.{started_read}
 use Rattle.vl_layout.specs.Start.{layout_at_start}
-use Rattle.vl_engine.specs.Opening.{recovered}
+use Rattle.vl_core.specs.Found.{recovered}
 use Rattle.vl_mem.specs.CrashImage.{crash_image}
 use Rattle.vl_mem.specs.StoppingDisk.{state_on}
 use Rattle.vl_model.specs.History.{last_number}

@@ -1,11 +1,11 @@
 use Rattle.std.proofs.Common.{ap, refl}
 use Rattle.vl_disk.specs.declared.name.Name.TheVariants.{Table}
-use Rattle.vl_engine.proofs.Carrying.{IsWatched}
+use Rattle.vl_core.specs.laws.Carrying.{IsWatched}
 use Rattle.vl_engine.proofs.UnderWay.{handed_in, one_more}
 use Rattle.vl_engine.proofs.Whole.{drawn_runs, fails, fits_asked, fits_roomy, fits_taken, has_all, has_same, is_fresh}
 use Rattle.vl_engine.proofs.Whole.{made_more, starts, unbegun, unfilled, unlent}
 use Rattle.vl_engine.specs.Drawing.{lent_new}
-use Rattle.vl_engine.specs.declared.kept.Core.{Core}
+use Rattle.vl_core.specs.declared.kept.Core.{Core}
 use Rattle.vl_layout.specs.Decides.{no_effects}
 use Rattle.vl_layout.specs.Rulings.Fresh as fresh
 use Rattle.vl_engine.proofs.engine.Engine.carry_out.Goals as goal

@@ -1,8 +1,8 @@
 use Rattle.std.specs.Prelude.{◌≡◌, Some}
 use Rattle.vl_engine.proofs.Whole.{IsMaking}
 use Rattle.vl_engine.specs.Merging.{FitsReaders, HasMerge, StandsOpen}
-use Rattle.vl_engine.specs.Represents.{Represents}
-use Rattle.vl_engine.specs.Stepping.{Fits}
+use Rattle.vl_core.specs.Represents.{Represents}
+use Rattle.vl_core.specs.MayStep.{Fits}
 use Rattle.vl_engine.specs.UnderWay.{IsUnderWay}
 use Rattle.vl_layout.specs.declared.job.OpenJob.{OpenJob}
 use Rattle.vl_layout.specs.declared.layout.Layout.{Layout}

@@ -1,9 +1,9 @@
 use Rattle.std.proofs.Common.{refl, not}
 use Rattle.std.specs.List.{filter}
 use Rattle.std.specs.Prelude.{◌==◌}
-use Rattle.vl_engine.proofs.Knowing.{knows_of}
-use Rattle.vl_engine.proofs.Represented.{represents_live}
-use Rattle.vl_engine.proofs.Standing.{fronts_ended, stands_ended}
+use Rattle.vl_core.specs.laws.Knowing.{knows_of}
+use Rattle.vl_core.specs.laws.Represented.{represents_live}
+use Rattle.vl_core.specs.laws.Standing.{fronts_ended, stands_ended}
 use Rattle.vl_engine.proofs.Stepped.{fits_live}
 use Rattle.vl_layout.specs.declared.live.Live.{Live}
 use Rattle.vl_engine.proofs.engine.Engine.end.Goals as goal

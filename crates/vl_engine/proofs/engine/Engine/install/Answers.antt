@@ -5,9 +5,9 @@ use Rattle.vl_engine.proofs.InstallExits.{fits_by, fits_ended, fits_short, keeps
 use Rattle.vl_engine.proofs.InstallExits.{raced_so, ruled_halted, ruled_raced, stands_by, stands_ended, stands_short}
 use Rattle.vl_engine.proofs.InstallExits.{stopped_by, untold_by, untouched_by, within_by}
 use Rattle.vl_engine.proofs.InstallTotal.{core_by, halted_at, none_races, not_halted, written_by}
-use Rattle.vl_engine.proofs.Untouched.{alone}
+use Rattle.vl_core.specs.laws.Untouched.{alone}
 use Rattle.vl_engine.specs.Merging.{made_numbers}
-use Rattle.vl_engine.specs.Represents.{file_of}
+use Rattle.vl_core.specs.Represents.{file_of}
 use Rattle.vl_layout.specs.Rulings.Install as ruling
 use Rattle.vl_engine.proofs.engine.Engine.install.Goals as goal
 

@@ -4,9 +4,9 @@ use Rattle.vl_engine.proofs.KeepSteps.{leaves_numbers}
 use Rattle.vl_engine.proofs.KeptBy.{carries_by, carries_left, carries_same, fits_by, fronts_by, is_invalid, is_some}
 use Rattle.vl_engine.proofs.KeptBy.{left_same, ruled_halted, ruled_invalid, stands_by, switched_by, within_by}
 use Rattle.vl_engine.proofs.KeptBy.{written_by}
-use Rattle.vl_engine.specs.Keeping.{MayKeep}
-use Rattle.vl_engine.specs.Represents.{Fronts, StandsFor, file_of}
-use Rattle.vl_engine.specs.Stepping.{Fits}
+use Rattle.vl_core.specs.KeepFacts.{MayKeep}
+use Rattle.vl_core.specs.Represents.{Fronts, StandsFor, file_of}
+use Rattle.vl_core.specs.MayStep.{Fits}
 use Rattle.vl_layout.specs.Decides.{as_before}
 use Rattle.vl_layout.specs.Rulings.Keep.{Halted, InvalidRequest, keep_ruling}
 use Rattle.vl_engine.proofs.Untold.{keep_untold}

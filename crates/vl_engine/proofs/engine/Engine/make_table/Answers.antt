@@ -1,11 +1,11 @@
 use Rattle.std.proofs.Common.{List, ap, arith, refl, sym, ◌∙◌, ℕ}
 use Rattle.std.specs.Prelude.{Some}
 use Rattle.vl_disk.specs.declared.name.Name.TheVariants as names
-use Rattle.vl_engine.proofs.FlushKeeps.{changed_by, failed_then, fit_flushed, fit_unflushed, kept_from, next_then}
-use Rattle.vl_engine.proofs.FlushKeeps.{still_told, stops_by, writes_by}
+use Rattle.vl_core.specs.laws.FlushKeeps.{changed_by, failed_then, fit_flushed, fit_unflushed, kept_from, next_then}
+use Rattle.vl_core.specs.laws.FlushKeeps.{still_told, stops_by, writes_by}
 use Rattle.vl_engine.proofs.Lending.{leaves_then, leaves_written, still_lent}
-use Rattle.vl_engine.specs.Fit.{IsFitFor}
-use Rattle.vl_engine.specs.Known.{are_known}
+use Rattle.vl_core.specs.Fit.{IsFitFor}
+use Rattle.vl_core.specs.Known.{are_known}
 use Rattle.vl_manifest.specs.declared.manifest_log.ManifestLog.{ManifestLog}
 use Rattle.vl_manifest.specs.declared.state.ManifestState.{ManifestState}
 use Rattle.vl_memtable.specs.Contents.{Contents}

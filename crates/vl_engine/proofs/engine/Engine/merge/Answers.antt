@@ -1,7 +1,7 @@
 use Rattle.std.proofs.Common.{Ok, Option, Some, ap, refl, subst, sym, ◌∙◌}
 use Rattle.vl_compact.specs.Progress.{made_of}
 use Rattle.vl_disk.specs.declared.errors.NoMemory.{NoMemory}
-use Rattle.vl_engine.proofs.Carrying.{IsWatched}
+use Rattle.vl_core.specs.laws.Carrying.{IsWatched}
 use Rattle.vl_engine.proofs.UnderWay.{just_planned}
 use Rattle.vl_engine.proofs.Whole.{begun, given_up, goes_on, put_in, none_kept, untouched_by}
 use Rattle.vl_engine.specs.Merging.{HasAllMerge, OpensMerge}

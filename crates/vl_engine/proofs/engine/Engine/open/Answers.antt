@@ -1,12 +1,12 @@
 use Rattle.std.proofs.Common.{refl, ap, subst, sym, ◌∙◌}
 use Rattle.std.specs.Prelude.{max}
 use Rattle.vl_disk.specs.Moments.{waits}
-use Rattle.vl_engine.proofs.FitsAtStart.{opened_fits}
-use Rattle.vl_engine.proofs.Opened.{opened_back, opened_core, opened_fit, opened_numbered, opened_represents}
-use Rattle.vl_engine.proofs.Opened.{opened_stands, opening_through, opens_still}
+use Rattle.vl_core.specs.laws.FitsAtStart.{opened_fits}
+use Rattle.vl_core.specs.laws.Opened.{opened_back, opened_core, opened_fit, opened_numbered, opened_represents}
+use Rattle.vl_core.specs.laws.Opened.{opened_stands, opening_through, opens_still}
 use Rattle.vl_engine.proofs.engine.Engine.open.Goals as goal
-use Rattle.vl_engine.specs.Known.{are_known}
-use Rattle.vl_engine.specs.Opening.{AreLeveled}
+use Rattle.vl_core.specs.Known.{are_known}
+use Rattle.vl_core.specs.Found.{AreLeveled}
 use Rattle.vl_memtable.specs.Contents.{Contents}
 use Rattle.vl_recover.specs.opening.Intact.{LeavesIntact}
 

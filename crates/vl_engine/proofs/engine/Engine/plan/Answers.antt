@@ -7,9 +7,9 @@ use Rattle.vl_engine.proofs.Planning.{decides_planned, fits_planned, fits_reader
 use Rattle.vl_engine.proofs.Planning.{merge_is, represents_planned, stands_planned}
 use Rattle.vl_engine.proofs.engine.Engine.plan.Goals as goal
 use Rattle.vl_engine.specs.Merging.{HasMerge, StandsOpen}
-use Rattle.vl_engine.specs.Represents.{Represents}
-use Rattle.vl_engine.specs.Stepping.{Fits}
-use Rattle.vl_engine.specs.declared.kept.Core.{Core}
+use Rattle.vl_core.specs.Represents.{Represents}
+use Rattle.vl_core.specs.MayStep.{Fits}
+use Rattle.vl_core.specs.declared.kept.Core.{Core}
 use Rattle.vl_layout.specs.Decides.{as_before}
 use Rattle.vl_layout.specs.Levels.{inputs_at}
 use Rattle.vl_layout.specs.Ruling.{Ruling}

@@ -2,11 +2,11 @@ use Rattle.std.proofs.Common.{ap, arith, refl, subst, sym, ◌∙◌}
 use Rattle.vl_compact.specs.Laid.{AreLevelsOf}
 use Rattle.vl_disk.specs.declared.name.Name.TheVariants as names
 use Rattle.vl_engine.proofs.HandedIn.{made_given, may_take_all}
-use Rattle.vl_engine.proofs.InstallDiskEdits.{install_next}
+use Rattle.vl_core.specs.laws.InstallDiskEdits.{install_next}
 use Rattle.vl_engine.proofs.Lending.{leaves_told, no_manifest, still_lent}
 use Rattle.vl_engine.proofs.PutIn.{fit_installed, fit_uninstalled, none_open, quiet_then}
 use Rattle.vl_engine.specs.Installing.{InstallsAll, StopsInstalling}
-use Rattle.vl_engine.specs.Known.{are_known}
+use Rattle.vl_core.specs.Known.{are_known}
 use Rattle.vl_engine.specs.Taking.{MayTakeAll}
 use Rattle.vl_layout.specs.Levels.{replaced}
 use Rattle.vl_engine.proofs.engine.Engine.put_in.Goals as goal

@@ -6,7 +6,7 @@ use Rattle.vl_engine.proofs.RotateSteps.{leaves_numbers, running_so}
 use Rattle.vl_engine.proofs.Rotated.{begins_by, calls_by, can_by, carries_as_refused, carries_by, fronts_as_refused}
 use Rattle.vl_engine.proofs.Rotated.{fronts_by, numbers_held, refused_calls, refused_no_disk, stands_as_refused}
 use Rattle.vl_engine.proofs.Rotated.{stands_by, stopped_by, untouched_by}
-use Rattle.vl_engine.proofs.Untouched.{alone}
+use Rattle.vl_core.specs.laws.Untouched.{alone}
 use Rattle.vl_engine.specs.Stepping.{StepFailed}
 use Rattle.vl_engine.proofs.Untold.{rotate_untold, untold_same}
 use Rattle.vl_engine.proofs.engine.Engine.rotate.Goals as goal

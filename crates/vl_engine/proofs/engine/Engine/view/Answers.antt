@@ -1,13 +1,13 @@
 use Rattle.std.proofs.Common.{◌≡◌, ℕ, ap, refl, sym, subst, true, ◌∙◌}
 use Rattle.vl_engine.proofs.Beginning.{began_as, decides_begun, decides_refused, has_room, is_full, last_begun, sees_now, ticket_is}
 use Rattle.vl_engine.proofs.Fitting.{fit_still}
-use Rattle.vl_engine.proofs.Knowing.{knows_of}
-use Rattle.vl_engine.proofs.Represented.{represents_live}
-use Rattle.vl_engine.proofs.Standing.{fronts_begun, stands_begun}
+use Rattle.vl_core.specs.laws.Knowing.{knows_of}
+use Rattle.vl_core.specs.laws.Represented.{represents_live}
+use Rattle.vl_core.specs.laws.Standing.{fronts_begun, stands_begun}
 use Rattle.vl_engine.proofs.Stepped.{fits_back, fits_live}
-use Rattle.vl_engine.specs.Known.{are_known}
-use Rattle.vl_engine.specs.Reading.{IsInMemory}
-use Rattle.vl_engine.specs.Represents.{Fronts, Represents, StandsFor}
+use Rattle.vl_core.specs.Known.{are_known}
+use Rattle.vl_core.specs.LiesOver.{IsInMemory}
+use Rattle.vl_core.specs.Represents.{Fronts, Represents, StandsFor}
 use Rattle.vl_front.specs.declared.front.Front.{Front}
 use Rattle.vl_layout.specs.Rulings.Begin.{begun}
 use Rattle.vl_layout.specs.Tickets.{free_ticket, tickets_of}

@@ -7,8 +7,8 @@ use Rattle.vl_disk.specs.declared.name.Name.TheVariants as names
 use Rattle.vl_engine.proofs.Fitting.{fit_still, fit_written}
 use Rattle.vl_engine.proofs.Lending.{leaves_then, still_lent}
 use Rattle.vl_engine.proofs.Written.{changed_by, hands_by, known_then, knows_alike, longer, stopped_by}
-use Rattle.vl_engine.specs.Fit.{IsFitFor}
-use Rattle.vl_engine.specs.Known.{are_known}
+use Rattle.vl_core.specs.Fit.{IsFitFor}
+use Rattle.vl_core.specs.Known.{are_known}
 use Rattle.vl_oracle.specs.LiveTickets as oracle
 use Rattle.vl_oracle.specs.LiveTickets.{LiveTickets}
 use Rattle.vl_seglog.specs.declared.active.ActiveLog.{ActiveLog}

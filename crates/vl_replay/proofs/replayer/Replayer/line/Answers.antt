@@ -1,7 +1,7 @@
 -- Behind a line the replayer stands for the state that the line leaves.
 use Rattle.std.proofs.Common.{sym, subst}
 use Rattle.std.specs.Prelude.{Err}
-use Rattle.vl_engine.specs.Shown.{Shown}
+use Rattle.vl_core.specs.Shown.{Shown}
 use Rattle.vl_replay.specs.Durable.{CarriesOut}
 use Rattle.vl_replay.specs.Sequential.{state_after}
 use Rattle.vl_replay.specs.Stored.{IsStopped, IsStored}

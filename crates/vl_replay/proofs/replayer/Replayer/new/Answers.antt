@@ -1,7 +1,7 @@
 use Rattle.std.proofs.Common.{◌≡◌, ap, sym, subst, ◌∙◌, refl, arith}
 use Rattle.vl_layout.specs.declared.layout.Layout.{Layout}
 use Rattle.vl_replay.proofs.Merges.Waiting.{none_merges}
-use Rattle.vl_engine.specs.Opening.{IsDurable}
+use Rattle.vl_core.specs.Found.{IsDurable}
 use Rattle.vl_recover.specs.laws.opening.OneFinding.{opened_not}
 use Rattle.vl_replay.specs.Sequential.{history_of}
 use Rattle.vl_replay.proofs.Openings.Begun.{opened_holds, opened_stands}

@@ -1,7 +1,7 @@
 -- The commit is answered as the ruling on it has it, and carried out so.
 use Rattle.std.specs.Prelude.{Ok, Err, Option}
 use Rattle.std.proofs.Common.{◌≡◌, ap, refl, sym, ◌∙◌}
-use Rattle.vl_engine.specs.Represents as engine
+use Rattle.vl_core.specs.Represents as engine
 use Rattle.vl_layout.specs.Rulings.Commit as rulings
 use Rattle.vl_layout.specs.Rulings.Commit.{commit_lost, commit_ruling}
 use Rattle.vl_layout.specs.Store.Reading.{commit_by}

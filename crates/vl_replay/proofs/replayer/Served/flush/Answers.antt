@@ -16,7 +16,7 @@ use Rattle.vl_script.specs.declared.line.Line.TheVariants as lines
 use Rattle.vl_replay.proofs.Disk.Stepped.{failed_at, halted_at, flush_made, flush_named, step_carries}
 use Rattle.vl_replay.proofs.Names.Serving.{decides_all, represents}
 use Rattle.vl_replay.proofs.Names.StepMaking.{flush_leaves, may_go, step_cause, step_makes, step_sound}
-use Rattle.vl_engine.specs.laws.FlushRulings.{flush_made as flush_ruled, flush_made_so, flush_waits}
+use Rattle.vl_core.specs.laws.FlushRulings.{flush_made as flush_ruled, flush_made_so, flush_waits}
 use Rattle.vl_replay.proofs.Disk.Torn.{flush_torn}
 use Rattle.vl_replay.proofs.replayer.Served.flush.Goals as goal
 

@@ -2,7 +2,7 @@
 use Rattle.std.proofs.Common.{◌≡◌, ap, sym, ◌∙◌, subst}
 use Rattle.std.specs.Prelude.{Result}
 use Rattle.vl_engine.specs.Keeping.{keep_outcome}
-use Rattle.vl_engine.specs.laws.KeepLaws.{keep_made as keep_ruled, keep_other}
+use Rattle.vl_core.specs.laws.KeepLaws.{keep_made as keep_ruled, keep_other}
 use Rattle.vl_layout.specs.Ruling.{Ruling}
 use Rattle.vl_layout.specs.Rulings.Keep.{KeepAnswer, keep_ruling}
 use Rattle.vl_layout.specs.Store.Dispatch.{keep_by}

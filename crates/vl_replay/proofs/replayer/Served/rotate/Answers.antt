@@ -16,7 +16,7 @@ use Rattle.vl_script.specs.declared.line.Line.TheVariants as lines
 use Rattle.vl_replay.proofs.Disk.Stepped.{failed_at, halted_at, rotate_made, rotate_named, step_carries}
 use Rattle.vl_replay.proofs.Names.Serving.{decides_all, represents}
 use Rattle.vl_replay.proofs.Names.StepMaking.{rotate_leaves, step_cause, step_makes, step_sound}
-use Rattle.vl_engine.specs.laws.RotateRulings.{made_ruled, rotate_made as rotate_ruled}
+use Rattle.vl_core.specs.laws.RotateRulings.{made_ruled, rotate_made as rotate_ruled}
 use Rattle.vl_replay.proofs.Disk.Torn.{rotate_torn}
 use Rattle.vl_replay.proofs.replayer.Served.rotate.Goals as goal
 

@@ -1,7 +1,7 @@
 -- Where the name is free, what begins stands for it.
 use Rattle.std.proofs.Common.{refl, ap}
 use Rattle.std.specs.Prelude.{Ok}
-use Rattle.vl_engine.specs.laws.VersionLaws.{laid_in_memory}
+use Rattle.vl_core.specs.laws.VersionLaws.{laid_in_memory}
 use Rattle.vl_layout.specs.Store.Reading.{a_view, begin_as}
 use Rattle.vl_layout.specs.Store.Things.{thing_of}
 use Rattle.vl_replay.specs.Sequential.{history_of}

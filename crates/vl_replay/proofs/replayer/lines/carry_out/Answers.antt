@@ -1,7 +1,7 @@
 -- Each line's call makes the line's step.
 use Rattle.std.proofs.Common.{ap, refl, sym, subst}
 use Rattle.std.specs.Prelude.{Ok, OnOk}
-use Rattle.vl_engine.specs.Shown.{Shown}
+use Rattle.vl_core.specs.Shown.{Shown}
 use Rattle.vl_layout.specs.Store.Reading.{a_transaction, a_view, answer_of, answer_with_tag}
 use Rattle.vl_layout.specs.Store.Things.{thing_of}
 use Rattle.vl_model.specs.Keys.{tagged, untagged}

@@ -2,8 +2,8 @@
 use Rattle.std.proofs.Common.{refl, ap, sym, ◌∙◌, subst}
 use Rattle.std.specs.Prelude.{Ok, Option}
 use Rattle.vl_compact.specs.Progress.{made_of}
-use Rattle.vl_engine.specs.Represents as engine
-use Rattle.vl_engine.specs.Shown.{Shown}
+use Rattle.vl_core.specs.Represents as engine
+use Rattle.vl_core.specs.Shown.{Shown}
 use Rattle.vl_layout.specs.Jobs.{job_ended}
 use Rattle.vl_replay.specs.Durable.{CarriesOut}
 use Rattle.vl_replay.specs.Handed.{CanHandIn}

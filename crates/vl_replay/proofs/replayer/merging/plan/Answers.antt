@@ -1,8 +1,8 @@
 -- A plan is answered as the store has it, and carried out so.
 use Rattle.std.proofs.Common.{◌∙◌, ◌≡◌, ap, refl, subst, sym}
 use Rattle.std.specs.Prelude.{Err, None, Ok, Option, Result, Some}
-use Rattle.vl_engine.specs.Shown.{Shown}
-use Rattle.vl_engine.specs.declared.kept.Core.{Core}
+use Rattle.vl_core.specs.Shown.{Shown}
+use Rattle.vl_core.specs.declared.kept.Core.{Core}
 use Rattle.vl_layout.specs.Store.Lines as store_lines
 use Rattle.vl_layout.specs.Store.Things.{only, thing_of}
 use Rattle.vl_replay.specs.Durable.{CarriesOut, LeadsTo}

@@ -6,7 +6,7 @@ use Rattle.vl_replay.specs.Replaying.{StandsFor, disk_of}
 use Rattle.vl_replay.specs.Runs.{outside}
 use Rattle.vl_replay.specs.Steps.{kept, Steps}
 use Rattle.vl_replay.specs.Stored.{IsStopped, IsStored}
-use Rattle.vl_engine.specs.Shown.{Shown}
+use Rattle.vl_core.specs.Shown.{Shown}
 use Rattle.vl_replay.specs.declared.ending.Ending.{Ending}
 use Rattle.vl_replay.specs.declared.ending.Ending.TheVariants.{NoMemory, ReadFault, ReaderFault}
 use Rattle.vl_replay.specs.declared.input.lines.Next.TheVariants.{Line as WholeLine, LastLine, TooLong, End}

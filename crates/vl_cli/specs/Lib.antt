@@ -1,3 +1,0 @@
-pub mod Process
-pub mod Run
-pub mod Words

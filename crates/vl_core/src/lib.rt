@@ -1,0 +1,10 @@
+//! What an engine keeps in memory, and what it stands for: a history and a layout, in memory and on a disk's state.
+#![tactic(auto)]
+
+mod kept;
+mod laws;
+
+pub use kept::Core;
+pub use laws::{
+    a_merge_writes_beside_the_layout, an_install_spares_versions, what_is_shown_is_intact,
+};

@@ -1,0 +1,356 @@
+use Rattle.std.proofs.Common.{◌≡◌, ◌≢◌, ◌<◌, ◌≤◌, ⊎_elim, inl, inr, ℕ, Option, None, Some, refl, sym, ap, subst, ◌∙◌, arith}
+use Rattle.vl_mem.specs.declared.outcome.Outcome.{Outcome}
+use Rattle.vl_layout.specs.Store.Commits.{AreProper}
+use Rattle.vl_replay.specs.Trial.{EndsTrial, begun}
+use Rattle.vl_replay.specs.Trying.{trial_of}
+use Rattle.vl_replay.specs.declared.command_line.words.Command.{Command}
+use Rattle.vl_replay.specs.declared.command_line.words.Command.TheVariants.{Replay, Trial}
+use Rattle.vl_script.specs.Script.{lines_of}
+use Rattle.vl_replay.specs.Endings.{CountsFaultsOf, TheDisk, TheSource, TheSink, status_of, usage_line}
+use Rattle.vl_disk.specs.Faults.{Rose}
+use Rattle.vl_disk.specs.declared.name.Name.{Name}
+use Rattle.vl_replay.specs.Failing.{ByReader}
+use Rattle.vl_replay.specs.Reading.{ReadsInput, streams}
+use Rattle.vl_replay.specs.Start.{EndsAtTables, all_explained, explained_from}
+use Rattle.vl_replay.specs.declared.ending.Ending.TheVariants.{Damaged, ReaderFault, Refused}
+use Rattle.vl_replay.specs.declared.fails.Refusal.{Refusal}
+use Rattle.vl_replay.proofs.Words.{disk_steady, rose_or_unread, source_status, sink_status, is_refused, is_bad_words}
+use Rattle.vl_replay.proofs.Words.{rose_by, steady_by, refused_status, refused_rose, refused_steady}
+use Rattle.vl_replay.proofs.command_line.run.Goals as goal
+
+-- the store on an empty disk has no commits
+empty_proper : AreProper begun.store.commits
+empty_proper = record { numbers = tt; base = tt; commits = tt }
+
+-- what the words ask for
+asks : {o p : Option Command} {command : Command} → o ≡ p → o ≡ Some command → p ≡ Some command
+asks is found = sym is ∙ found
+
+none_asked : {o p : Option Command} (command : Command) → o ≡ p → o ≡ None → p ≡ Some command → ⊥
+none_asked command is none found = some_none command (sym found ∙ sym is ∙ none)
+  where
+    some_none : (c : Command) → Some c ≡ None → ⊥
+    some_none c e = cc
+
+is_asked : {o p : Option Command} (command : Command) → o ≡ p → o ≡ Some command → p ≡ None → ⊥
+is_asked command is found none = none_asked command (sym is) none found
+
+other_asked : {o p : Option Command} (stop : ℕ) (outcome : Outcome) → o ≡ p → o ≡ Some (Trial stop outcome) → p ≡ Some Replay → ⊥
+other_asked stop outcome is found other = apart stop outcome (sym found ∙ is ∙ other)
+  where
+    apart : (n : ℕ) (o : Outcome) → Some (Trial n o) ≡ Some Replay → ⊥
+    apart n o e = cc
+
+no_trial : {o p : Option Command} (stop : ℕ) (outcome : Outcome) → o ≡ p → o ≡ Some Replay → p ≡ Some (Trial stop outcome) → ⊥
+no_trial stop outcome is found other = apart stop outcome (sym found ∙ is ∙ other)
+  where
+    apart : (n : ℕ) (o : Outcome) → Some Replay ≡ Some (Trial n o) → ⊥
+    apart n o e = cc
+
+same_trial : {o p : Option Command} (stop n : ℕ) (outcome other : Outcome) → o ≡ p → o ≡ Some (Trial n other)
+    → p ≡ Some (Trial stop outcome)
+    → (n ≡ stop) × (other ≡ outcome)
+same_trial stop n outcome other is found asked = apart n stop other outcome (sym found ∙ is ∙ asked)
+  where
+    apart : (a b : ℕ) (o p : Outcome) → Some (Trial a o) ≡ Some (Trial b p) → (a ≡ b) × (o ≡ p)
+    apart a b o p e = (cc, cc)
+
+below : (n m : ℕ) → n < 6 → 6 ≤ m → n ≢ m
+below n m less le e = omega arith
+
+-- ---- a replay
+
+pub returns-in-Some-Replay-clause-answers : goal.returns-in-Some-Replay-clause-answers
+returns-in-Some-Replay-clause-answers g c
+    plain = (c.replay-ending.result.ending, c.status-status.ensures, c.replay-ending.ensures.reported, c.replay-ending.ensures.runs)
+
+pub returns-in-Some-Replay-clause-explained : goal.returns-in-Some-Replay-clause-explained
+returns-in-Some-Replay-clause-explained g c s input starts = all_explained
+    c.reads_without_conflict_stay_explained.ensures g.D.Watched c.args.disk s (lines_of input) starts
+
+pub returns-in-Some-Replay-clause-explained_in_trial : goal.returns-in-Some-Replay-clause-explained_in_trial
+returns-in-Some-Replay-clause-explained_in_trial g c input = explained_from
+    c.reads_without_conflict_stay_explained.ensures begun (lines_of input) empty_proper refl
+
+pub returns-in-Some-Replay-clause-no_usage_line : goal.returns-in-Some-Replay-clause-no_usage_line
+returns-in-Some-Replay-clause-no_usage_line g c command plain two = c.replay-ending.ensures.not_the_words
+    (is_bad_words c.replay-ending.result.ending (sym c.status-status.ensures ∙ two))
+
+pub returns-in-Some-Replay-clause-not_plain : goal.returns-in-Some-Replay-clause-not_plain
+returns-in-Some-Replay-clause-not_plain g c other = absurd
+    (is_asked Replay c.command_in.ensures (c.in-Some-Replay.is ∙ ap Some c.in-Some-Replay.field-0-is) other)
+
+pub returns-in-Some-Replay-clause-disk_fault : goal.returns-in-Some-Replay-clause-disk_fault
+returns-in-Some-Replay-clause-disk_fault g c is =
+    let ending = c.replay-ending.result.ending in
+    let old = streams g.S.Source g.K.Sink c.args.source.now c.args.sink.now in
+    let new = streams g.S.Source g.K.Sink c.replay-ending.new.source c.replay-ending.new.sink in
+    let before = g.D.Watched.faults c.args.disk in
+    let now = g.D.Watched.faults c.replay-ending.result.disk in
+    ⊎_elim
+    (λ (counts : CountsFaultsOf TheDisk (Some ending) before now). ⊎_elim
+    (λ (rose : Rose before now). inl rose)
+    (λ (unread : ending ≡ ReaderFault). inr
+    (inl (λ input told. subst (ReadsInput input old new) unread (c.replay-ending.ensures.input input told))))
+    (rose_or_unread ending before now counts (sym c.status-status.ensures ∙ is)))
+    (λ (tables : EndsAtTables g.D.Watched g.D.Reader.Reader.faults g.K.Sink c.args.disk c.replay-ending.result.disk
+    c.args.sink.now c.replay-ending.new.sink ending
+    × (c.replay-ending.new.source ≡ c.args.source.now)). inr (inr (tables.1, (ending, tables.0))))
+    c.replay-ending.ensures.disk_faults
+
+pub returns-in-Some-Replay-clause-reader_fault : goal.returns-in-Some-Replay-clause-reader_fault
+returns-in-Some-Replay-clause-reader_fault g c s starts is =
+    let ending = c.replay-ending.result.ending in
+    let before = g.D.Watched.faults c.args.disk in
+    let now = g.D.Watched.faults c.replay-ending.result.disk in
+    ⊎_elim
+    (λ (counts : CountsFaultsOf TheDisk (Some ending) before now). ⊎_elim
+    (λ (rose : Rose before now). inl rose)
+    (λ (unread : ending ≡ ReaderFault). inr (c.replay-ending.ensures.reader_fault s starts unread))
+    (rose_or_unread ending before now counts (sym c.status-status.ensures ∙ is)))
+    (λ (tables : EndsAtTables g.D.Watched g.D.Reader.Reader.faults g.K.Sink c.args.disk c.replay-ending.result.disk
+    c.args.sink.now c.replay-ending.new.sink ending
+    × (c.replay-ending.new.source ≡ c.args.source.now)).
+    inr (record { reader = ByReader tables.0.0.reader.reader; some = tables.0.0.reader.some }))
+    c.replay-ending.ensures.disk_faults
+
+pub returns-in-Some-Replay-clause-no_disk_fault : goal.returns-in-Some-Replay-clause-no_disk_fault
+returns-in-Some-Replay-clause-no_disk_fault g c other whole =
+    let ending = c.replay-ending.result.ending in
+    let before = g.D.Watched.faults c.args.disk in
+    let now = g.D.Watched.faults c.replay-ending.result.disk in
+    ⊎_elim
+    (λ (counts : CountsFaultsOf TheDisk (Some ending) before now).
+    disk_steady ending before now counts (λ e. other (c.status-status.ensures ∙ e)) (λ e. whole (c.status-status.ensures ∙ e)))
+    (λ (tables : EndsAtTables g.D.Watched g.D.Reader.Reader.faults g.K.Sink c.args.disk c.replay-ending.result.disk
+    c.args.sink.now c.replay-ending.new.sink ending
+    × (c.replay-ending.new.source ≡ c.args.source.now)). tables.0.0.steady)
+    c.replay-ending.ensures.disk_faults
+
+pub returns-in-Some-Replay-clause-refused : goal.returns-in-Some-Replay-clause-refused
+returns-in-Some-Replay-clause-refused g c plain is =
+    let ending = c.replay-ending.result.ending in
+    let old = streams g.S.Source g.K.Sink c.args.source.now c.args.sink.now in
+    let new = streams g.S.Source g.K.Sink c.replay-ending.new.source c.replay-ending.new.sink in
+    ⊎_elim
+    (λ (by : (refusal : Refusal) × (ending ≡ Refused refusal)). let refused = c.replay-ending.ensures.refused by.0 by.1
+    in inl ((by.0, refused.0), refused.1))
+    (λ (by : (name : Name) × (place : ℕ) × (ending ≡ Damaged name place)).
+    inr (by.0, by.1, λ input told. subst (ReadsInput input old new) by.2 (c.replay-ending.ensures.input input told)))
+    (is_refused ending (sym c.status-status.ensures ∙ is))
+
+pub returns-in-Some-Replay-clause-refuses : goal.returns-in-Some-Replay-clause-refuses
+returns-in-Some-Replay-clause-refuses g c plain state read refusal told is_read is_refused =
+    let stays = c.replay-ending.ensures.refuses state read refusal told is_read is_refused in
+    ((c.replay-ending.result.ending, c.status-status.ensures, stays.0), stays.1)
+
+pub returns-in-Some-Replay-clause-read_fault : goal.returns-in-Some-Replay-clause-read_fault
+returns-in-Some-Replay-clause-read_fault g c is =
+    let six = sym c.status-status.ensures ∙ is in (
+      rose_by TheSource 6 source_status c.replay-ending.result.ending _ _ c.replay-ending.ensures.source_faults six,
+      steady_by TheSink 7 sink_status c.replay-ending.result.ending _ _ c.replay-ending.ensures.sink_faults
+          (λ e. apart (sym six ∙ e)) (λ e. apart (sym six ∙ e)),
+    )
+  where
+    apart : ◌≡◌ {A = ℕ} 6 7 → ⊥
+    apart e = omega arith
+
+pub returns-in-Some-Replay-clause-write_fault : goal.returns-in-Some-Replay-clause-write_fault
+returns-in-Some-Replay-clause-write_fault g c is = rose_by TheSink 7 sink_status c.replay-ending.result.ending _ _
+    c.replay-ending.ensures.sink_faults (sym c.status-status.ensures ∙ is)
+
+pub returns-in-Some-Replay-clause-no_stream_fault : goal.returns-in-Some-Replay-clause-no_stream_fault
+returns-in-Some-Replay-clause-no_stream_fault g c less =
+    let ending = c.replay-ending.result.ending in
+    let small : status_of ending < 6 = subst (λ (n : ℕ). n < 6) c.status-status.ensures less in (
+      steady_by TheSource 6 source_status ending _ _ c.replay-ending.ensures.source_faults
+          (below (status_of ending) 6 small (omega arith)) (below (status_of ending) 7 small (omega arith)),
+      steady_by TheSink 7 sink_status ending _ _ c.replay-ending.ensures.sink_faults
+          (below (status_of ending) 7 small (omega arith)) (below (status_of ending) 7 small (omega arith)),
+    )
+
+pub returns-in-Some-Replay-clause-input : goal.returns-in-Some-Replay-clause-input
+returns-in-Some-Replay-clause-input g c plain input
+    told = (c.replay-ending.result.ending, c.status-status.ensures, c.replay-ending.ensures.input input told)
+
+pub returns-in-Some-Replay-clause-tries : goal.returns-in-Some-Replay-clause-tries
+returns-in-Some-Replay-clause-tries g c stop outcome input asked = absurd
+    (no_trial stop outcome c.command_in.ensures (c.in-Some-Replay.is ∙ ap Some c.in-Some-Replay.field-0-is) asked)
+
+pub returns-in-Some-Replay-clause-untouched : goal.returns-in-Some-Replay-clause-untouched
+returns-in-Some-Replay-clause-untouched g c stop outcome asked = absurd
+    (no_trial stop outcome c.command_in.ensures (c.in-Some-Replay.is ∙ ap Some c.in-Some-Replay.field-0-is) asked)
+
+pub returns-in-Some-Replay-clause-no_fault_in_trial : goal.returns-in-Some-Replay-clause-no_fault_in_trial
+returns-in-Some-Replay-clause-no_fault_in_trial g c stop outcome asked = absurd
+    (no_trial stop outcome c.command_in.ensures (c.in-Some-Replay.is ∙ ap Some c.in-Some-Replay.field-0-is) asked)
+
+pub returns-in-Some-Replay-clause-again : goal.returns-in-Some-Replay-clause-again
+returns-in-Some-Replay-clause-again g c s input starts told = c.replay-ending.ensures.again s input starts told
+
+-- ---- words that aren't plain
+
+pub returns-in-None-clause-answers : goal.returns-in-None-clause-answers
+returns-in-None-clause-answers g c plain = absurd (none_asked Replay c.command_in.ensures c.in-None.is plain)
+
+pub returns-in-None-clause-explained : goal.returns-in-None-clause-explained
+returns-in-None-clause-explained g c s input starts = all_explained c.reads_without_conflict_stay_explained.ensures
+    g.D.Watched c.args.disk s (lines_of input) starts
+
+pub returns-in-None-clause-explained_in_trial : goal.returns-in-None-clause-explained_in_trial
+returns-in-None-clause-explained_in_trial g c input = explained_from c.reads_without_conflict_stay_explained.ensures
+    begun (lines_of input) empty_proper refl
+
+pub returns-in-None-clause-no_usage_line : goal.returns-in-None-clause-no_usage_line
+returns-in-None-clause-no_usage_line g c command plain = absurd (none_asked command c.command_in.ensures c.in-None.is plain)
+
+pub returns-in-None-clause-not_plain : goal.returns-in-None-clause-not_plain
+returns-in-None-clause-not_plain g c
+    other = (refl, refl, (c.finish.result, c.status-status-in-None.ensures, (usage_line, refl, c.finish.ensures)))
+
+pub returns-in-None-clause-disk_fault : goal.returns-in-None-clause-disk_fault
+returns-in-None-clause-disk_fault g c is = absurd
+    (refused_status g.K.Sink _ _ _ c.finish.result c.finish.ensures 3 (λ e. omega arith) (λ e. omega arith)
+    (sym c.status-status-in-None.ensures ∙ is))
+
+pub returns-in-None-clause-reader_fault : goal.returns-in-None-clause-reader_fault
+returns-in-None-clause-reader_fault g c s starts is = absurd
+    (refused_status g.K.Sink _ _ _ c.finish.result c.finish.ensures 3 (λ e. omega arith) (λ e. omega arith)
+    (sym c.status-status-in-None.ensures ∙ is))
+
+pub returns-in-None-clause-refused : goal.returns-in-None-clause-refused
+returns-in-None-clause-refused g c plain is = absurd
+    (refused_status g.K.Sink _ _ _ c.finish.result c.finish.ensures 4 (λ e. omega arith) (λ e. omega arith)
+    (sym c.status-status-in-None.ensures ∙ is))
+
+pub returns-in-None-clause-refuses : goal.returns-in-None-clause-refuses
+returns-in-None-clause-refuses g c plain = absurd (none_asked Replay c.command_in.ensures c.in-None.is plain)
+
+pub returns-in-None-clause-read_fault : goal.returns-in-None-clause-read_fault
+returns-in-None-clause-read_fault g c is = absurd
+    (refused_status g.K.Sink _ _ _ c.finish.result c.finish.ensures 6 (λ e. omega arith) (λ e. omega arith)
+    (sym c.status-status-in-None.ensures ∙ is))
+
+pub returns-in-None-clause-write_fault : goal.returns-in-None-clause-write_fault
+returns-in-None-clause-write_fault g c is = refused_rose g.K.Sink _ _ _ c.finish.result c.finish.ensures
+    (sym c.status-status-in-None.ensures ∙ is)
+
+pub returns-in-None-clause-no_stream_fault : goal.returns-in-None-clause-no_stream_fault
+returns-in-None-clause-no_stream_fault g c
+    less = (
+      refl,
+      refused_steady g.K.Sink _ _ _ c.finish.result c.finish.ensures
+          (subst (λ (n : ℕ). n < 6) c.status-status-in-None.ensures less),
+    )
+
+pub returns-in-None-clause-again : goal.returns-in-None-clause-again
+returns-in-None-clause-again g c s input starts told may = may
+
+pub returns-in-None-clause-input : goal.returns-in-None-clause-input
+returns-in-None-clause-input g c plain = absurd (none_asked Replay c.command_in.ensures c.in-None.is plain)
+
+pub returns-in-None-clause-tries : goal.returns-in-None-clause-tries
+returns-in-None-clause-tries g c stop outcome input asked = absurd (none_asked (Trial stop outcome) c.command_in.ensures c.in-None.is asked)
+
+pub returns-in-None-clause-untouched : goal.returns-in-None-clause-untouched
+returns-in-None-clause-untouched g c stop outcome asked = refl
+
+pub returns-in-None-clause-no_fault_in_trial : goal.returns-in-None-clause-no_fault_in_trial
+returns-in-None-clause-no_fault_in_trial g c stop outcome asked = absurd
+    (none_asked (Trial stop outcome) c.command_in.ensures c.in-None.is asked)
+
+-- ---- a trial
+
+pub returns-in-Some-Trial-clause-answers : goal.returns-in-Some-Trial-clause-answers
+returns-in-Some-Trial-clause-answers g c asked = absurd
+    (other_asked c.in-Some-Trial.stop c.in-Some-Trial.outcome c.command_in.ensures
+    (c.in-Some-Trial.is ∙ ap Some c.in-Some-Trial.field-0-is) asked)
+
+pub returns-in-Some-Trial-clause-tries : goal.returns-in-Some-Trial-clause-tries
+returns-in-Some-Trial-clause-tries g c stop outcome input asked told =
+    let same = same_trial stop c.in-Some-Trial.stop outcome c.in-Some-Trial.outcome c.command_in.ensures
+    (c.in-Some-Trial.is ∙ ap Some c.in-Some-Trial.field-0-is) asked in (
+      c.trial.result,
+      c.status-status-in-Some-Trial.ensures,
+      subst (λ (n : ℕ). EndsTrial (trial_of n input outcome) (g.K.Sink.held c.args.sink.now)
+          (g.K.Sink.held c.trial.new.sink) (g.S.Source.left c.trial.new.source) c.trial.result) same.0
+          (subst (λ (o : Outcome). EndsTrial (trial_of c.in-Some-Trial.stop input o) (g.K.Sink.held c.args.sink.now)
+          (g.K.Sink.held c.trial.new.sink) (g.S.Source.left c.trial.new.source) c.trial.result) same.1
+          (c.trial.ensures.ends input told)),
+    )
+
+pub returns-in-Some-Trial-clause-explained : goal.returns-in-Some-Trial-clause-explained
+returns-in-Some-Trial-clause-explained g c s input starts = all_explained
+    c.reads_without_conflict_stay_explained.ensures g.D.Watched c.args.disk s (lines_of input) starts
+
+pub returns-in-Some-Trial-clause-explained_in_trial : goal.returns-in-Some-Trial-clause-explained_in_trial
+returns-in-Some-Trial-clause-explained_in_trial g c input = explained_from
+    c.reads_without_conflict_stay_explained.ensures begun (lines_of input) empty_proper refl
+
+pub returns-in-Some-Trial-clause-no_usage_line : goal.returns-in-Some-Trial-clause-no_usage_line
+returns-in-Some-Trial-clause-no_usage_line g c command plain two = c.trial.ensures.not_the_words
+    (is_bad_words c.trial.result (sym c.status-status-in-Some-Trial.ensures ∙ two))
+
+pub returns-in-Some-Trial-clause-not_plain : goal.returns-in-Some-Trial-clause-not_plain
+returns-in-Some-Trial-clause-not_plain g c other = absurd
+    (is_asked (Trial c.in-Some-Trial.stop c.in-Some-Trial.outcome) c.command_in.ensures
+    (c.in-Some-Trial.is ∙ ap Some c.in-Some-Trial.field-0-is) other)
+
+pub returns-in-Some-Trial-clause-untouched : goal.returns-in-Some-Trial-clause-untouched
+returns-in-Some-Trial-clause-untouched g c stop outcome asked = refl
+
+pub returns-in-Some-Trial-clause-no_fault_in_trial : goal.returns-in-Some-Trial-clause-no_fault_in_trial
+returns-in-Some-Trial-clause-no_fault_in_trial g c stop outcome asked is = c.trial.ensures.no_disk_fault
+    (sym c.status-status-in-Some-Trial.ensures ∙ is)
+
+pub returns-in-Some-Trial-clause-disk_fault : goal.returns-in-Some-Trial-clause-disk_fault
+returns-in-Some-Trial-clause-disk_fault g c is = absurd (c.trial.ensures.no_disk_fault (sym c.status-status-in-Some-Trial.ensures ∙ is))
+
+pub returns-in-Some-Trial-clause-reader_fault : goal.returns-in-Some-Trial-clause-reader_fault
+returns-in-Some-Trial-clause-reader_fault g c s starts is = absurd
+    (c.trial.ensures.no_disk_fault (sym c.status-status-in-Some-Trial.ensures ∙ is))
+
+pub returns-in-Some-Trial-clause-no_disk_fault : goal.returns-in-Some-Trial-clause-no_disk_fault
+returns-in-Some-Trial-clause-no_disk_fault g c other whole = refl
+
+pub returns-in-Some-Trial-clause-refused : goal.returns-in-Some-Trial-clause-refused
+returns-in-Some-Trial-clause-refused g c asked is = absurd
+    (other_asked c.in-Some-Trial.stop c.in-Some-Trial.outcome c.command_in.ensures
+    (c.in-Some-Trial.is ∙ ap Some c.in-Some-Trial.field-0-is) asked)
+
+pub returns-in-Some-Trial-clause-refuses : goal.returns-in-Some-Trial-clause-refuses
+returns-in-Some-Trial-clause-refuses g c asked = absurd
+    (other_asked c.in-Some-Trial.stop c.in-Some-Trial.outcome c.command_in.ensures
+    (c.in-Some-Trial.is ∙ ap Some c.in-Some-Trial.field-0-is) asked)
+
+pub returns-in-Some-Trial-clause-read_fault : goal.returns-in-Some-Trial-clause-read_fault
+returns-in-Some-Trial-clause-read_fault g c is =
+    let six = sym c.status-status-in-Some-Trial.ensures ∙ is in (
+      rose_by TheSource 6 source_status c.trial.result _ _ c.trial.ensures.source_faults six,
+      steady_by TheSink 7 sink_status c.trial.result _ _ c.trial.ensures.sink_faults (λ e. apart (sym six ∙ e)) (λ e. apart (sym six ∙ e)),
+    )
+  where
+    apart : ◌≡◌ {A = ℕ} 6 7 → ⊥
+    apart e = omega arith
+
+pub returns-in-Some-Trial-clause-write_fault : goal.returns-in-Some-Trial-clause-write_fault
+returns-in-Some-Trial-clause-write_fault g c is = rose_by TheSink 7 sink_status c.trial.result _ _
+    c.trial.ensures.sink_faults (sym c.status-status-in-Some-Trial.ensures ∙ is)
+
+pub returns-in-Some-Trial-clause-no_stream_fault : goal.returns-in-Some-Trial-clause-no_stream_fault
+returns-in-Some-Trial-clause-no_stream_fault g c less =
+    let ending = c.trial.result in
+    let small : status_of ending < 6 = subst (λ (n : ℕ). n < 6) c.status-status-in-Some-Trial.ensures less in (
+      steady_by TheSource 6 source_status ending _ _ c.trial.ensures.source_faults
+          (below (status_of ending) 6 small (omega arith)) (below (status_of ending) 7 small (omega arith)),
+      steady_by TheSink 7 sink_status ending _ _ c.trial.ensures.sink_faults
+          (below (status_of ending) 7 small (omega arith)) (below (status_of ending) 7 small (omega arith)),
+    )
+
+pub returns-in-Some-Trial-clause-again : goal.returns-in-Some-Trial-clause-again
+returns-in-Some-Trial-clause-again g c s input starts told may = may
+
+pub returns-in-Some-Trial-clause-input : goal.returns-in-Some-Trial-clause-input
+returns-in-Some-Trial-clause-input g c asked = absurd
+    (other_asked c.in-Some-Trial.stop c.in-Some-Trial.outcome c.command_in.ensures
+    (c.in-Some-Trial.is ∙ ap Some c.in-Some-Trial.field-0-is) asked)
