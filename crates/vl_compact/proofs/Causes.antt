@@ -28,14 +28,14 @@ some_same x y is = ap (λ o. unwrap_or o x) is
 -- a number that is found with a key stands there with it
 found_there : (key : List ℕ) (number : ℕ) (moved : List Named) → find key_cmp key moved ≡ Some number → Contains moved (key, number)
 found_there key number [] is = absurd cc
-found_there key number (m ∷ ms) is = by (eq_by_cmp key_cmp key m.0) refl
+found_there key number (m ∷ ms) is = by (found_there key number ms) (eq_by_cmp key_cmp key m.0) refl
   where
-    by : (b : Bool) → eq_by_cmp key_cmp key m.0 ≡ b → Contains (m ∷ ms) (key, number)
-    by true same =
+    by : (find key_cmp key ms ≡ Some number → Contains ms (key, number)) → (b : Bool) → eq_by_cmp key_cmp key m.0 ≡ b
+        → Contains (m ∷ ms) (key, number)
+    by later true same =
         let number_is : m.1 ≡ number = some_same m.1 number (sym (find_here key m ms same) ∙ is) in
         (0, omega arith, ap (λ k. (k, m.1)) (sym (same_key key m.0 same)) ∙ ap (λ n. (key, n)) number_is)
-    by false other =
-        later_there m (key, number) ms (found_there key number ms (sym (find_later key m ms other) ∙ is))
+    by later false other = later_there m (key, number) ms (later (sym (find_later key m ms other) ∙ is))
 
 module _ (moved : List Named) where
   abbrev keys_of : List Named → List (List ℕ)
@@ -52,12 +52,12 @@ module _ (moved : List Named) where
   -- what is answered has its cause
   pub has_cause : (keys : List Named) (named : Named) → least_moved moved keys ≡ Some named → IsMoved moved keys named
   has_cause [] named is = absurd cc
-  has_cause (n ∷ ns) named is = by (find key_cmp n.0 moved) refl is
+  has_cause (n ∷ ns) named is = by (has_cause ns named) (find key_cmp n.0 moved) refl is
     where
-      by : (o : Option ℕ) → find key_cmp n.0 moved ≡ o → moved_or n.0 o (least_moved moved ns) ≡ Some named
-          → IsMoved moved (n ∷ ns) named
-      by None none answered = cause_stays n named ns (has_cause ns named answered)
-      by (Some number) found answered =
+      by : (least_moved moved ns ≡ Some named → IsMoved moved ns named) → (o : Option ℕ) → find key_cmp n.0 moved ≡ o
+          → moved_or n.0 o (least_moved moved ns) ≡ Some named → IsMoved moved (n ∷ ns) named
+      by later None none answered = cause_stays n named ns (later answered)
+      by later (Some number) found answered =
           let named_is : (n.0, number) ≡ named = some_same (n.0, number) named answered in
           let here : IsMoved moved (n ∷ ns) (n.0, number) = record {
             dropped = head_there n.0 (keys_of ns);
@@ -69,15 +69,17 @@ module _ (moved : List Named) where
   -- and where none is, none of the keys was moved
   pub none_moved : (keys : List Named) → least_moved moved keys ≡ None → All (IsUnmoved moved) keys
   none_moved [] is = λ k d within. absurd (omega (arith, within))
-  none_moved (n ∷ ns) is = by (find key_cmp n.0 moved) refl is
+  none_moved (n ∷ ns) is = by (none_moved ns) (find key_cmp n.0 moved) refl is
     where
-      by : (o : Option ℕ) → find key_cmp n.0 moved ≡ o → moved_or n.0 o (least_moved moved ns) ≡ None → All (IsUnmoved moved) (n ∷ ns)
-      by (Some number) found answered = absurd (let no_such : Some (n.0, number) ≡ None = answered in cc)
-      by None none answered = each
-        where
-          each : (k : ℕ) (d : Named) → k < length (n ∷ ns) → IsUnmoved moved (slice_index_or (n ∷ ns) k d)
-          each zero d within = none
-          each (suc k) d within = none_moved ns answered k d (omega (arith, within))
+      each : find key_cmp n.0 moved ≡ None → All (IsUnmoved moved) ns → (k : ℕ) (d : Named) → k < length (n ∷ ns)
+          → IsUnmoved moved (slice_index_or (n ∷ ns) k d)
+      each first later zero d within = first
+      each first later (suc k) d within = later k d (omega (arith, within))
+
+      by : (least_moved moved ns ≡ None → All (IsUnmoved moved) ns) → (o : Option ℕ) → find key_cmp n.0 moved ≡ o
+          → moved_or n.0 o (least_moved moved ns) ≡ None → All (IsUnmoved moved) (n ∷ ns)
+      by later (Some number) found answered = absurd (let no_such : Some (n.0, number) ≡ None = answered in cc)
+      by later None none answered = each none (later answered)
 
   pub unmoved_none : (keys : List Named) → All (IsUnmoved moved) keys → least_moved moved keys ≡ None
   unmoved_none [] all = refl
