@@ -1,5 +1,5 @@
 -- A key is answered as moved only for cause, and none only where no key has one.
-use Rattle.std.proofs.Common.{◌≡◌, ℕ, zero, suc, ◌+◌, ◌<◌, true, false, Bool, List, [], ◌∷◌, length, refl, ap, sym, ◌∙◌, arith}
+use Rattle.std.proofs.Common.{◌≡◌, ℕ, zero, suc, ◌<◌, true, false, Bool, List, [], ◌∷◌, length, refl, ap, sym, ◌∙◌, arith}
 use Rattle.std.proofs.Common.{subst, Option, Some, None}
 use Rattle.std.specs.FinMap.{find}
 use Rattle.std.specs.Option.{option_map, unwrap_or}

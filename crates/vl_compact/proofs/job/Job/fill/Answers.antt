@@ -62,7 +62,8 @@ returns-in-Ok-clause-takes g c =
           })
           (sym (ap (λ (s : Job g.row.V.Denot g.row.H.Denot g.row.W.Denot W). s.waits) c.take.ensures.same));
       tells = λ told. subst (λ (w : g.row.W.Denot). IsSome (W.file w)) (sym t.writer) (c.write.ensures.tells told);
-      durable = subst (λ (w : g.row.W.Denot). ForSome (W.file w) (λ (f : File). f ≡ settled f.bytes)) (sym t.writer) c.in-Ok.ensures.settled;
+      durable = subst (λ (w : g.row.W.Denot). ForSome (W.file w) (λ (f : File). f ≡ settled f.bytes)) (sym t.writer)
+          c.in-Ok.ensures.settled;
     }
 
 pub returns-in-Err-clause-refused : goal.returns-in-Err-clause-refused
