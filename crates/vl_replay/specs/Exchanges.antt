@@ -19,6 +19,7 @@ use Rattle.vl_script.specs.Script.{line_of}
 use Rattle.vl_script.specs.declared.line.Line.{Line}
 use Rattle.vl_script.specs.declared.line.Line.TheVariants.{Begin, View, Get, Set, SetTagged, GetTagged, Scan, Delete}
 use Rattle.vl_script.specs.declared.line.Line.TheVariants.{Commit, Drop, Rotate, Flush, Keep, GetAt, Plan, Install}
+use Rattle.vl_script.specs.declared.line.Line.TheVariants.{Stats, Pick, Batch, Move}
 
 -- a line with its answer, and the states before and after it
 pub record Exchange : Type 0 where
@@ -132,6 +133,10 @@ IsExplainedExchange Flush e = Unit {0}
 IsExplainedExchange (Keep versions) e = Unit {0}
 IsExplainedExchange (Plan name) e = Unit {0}
 IsExplainedExchange (Install name) e = Unit {0}
+IsExplainedExchange Stats e = Unit {0}
+IsExplainedExchange (Pick name percent) e = Unit {0}
+IsExplainedExchange (Batch name) e = Unit {0}
+IsExplainedExchange (Move name) e = Unit {0}
 IsExplainedExchange (GetAt name key number) e =
     TellsValue e.answer → e.answer ≡ answer_of (value_at (history_of e.before) number key)
 

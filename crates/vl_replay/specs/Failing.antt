@@ -1,10 +1,11 @@
--- At which lines a read of a table may fail, and at which files the disk may fail a line.
-use Rattle.std.specs.Prelude.{◌≡◌, ◌⊎◌, ◌≤◌, ◌<◌, ℕ, true, [], Option, Some}
+-- At which lines a read may fail, and at which files the disk may fail a line.
+use Rattle.std.specs.Prelude.{◌≡◌, ◌⊎◌, ◌≤◌, ◌<◌, ℕ, List, true, [], Option, Some}
 use Rattle.vl_disk.specs.declared.name.Name.{Name}
 use Rattle.vl_disk.specs.declared.name.Name.TheVariants.{Log, Manifest, Table}
 use Rattle.vl_layout.specs.Jobs.{Made}
 use Rattle.vl_layout.specs.Sources.{numbers_of}
-use Rattle.vl_layout.specs.Store.Things.{AJob, Thing, thing_of}
+use Rattle.vl_layout.specs.Relocation.{Candidate, Pass}
+use Rattle.vl_layout.specs.Store.Things.{AJob, APass, Thing, thing_of}
 use Rattle.vl_layout.specs.declared.job.Job.{Job}
 use Rattle.vl_model.specs.Numbers.{has}
 use Rattle.vl_script.specs.declared.line.Line.{Line}
@@ -16,6 +17,10 @@ use Rattle.vl_replay.specs.Sequential.{State, state_after}
 -- the store has a table, or had one since it was opened
 abbrev pub HasTables : State → Type 0
 HasTables s = IsWithoutTables s.store.layout → ⊥
+
+-- a name stands for a pass, which goes over a log that a table was made of
+abbrev pub IsPass : Option Thing → Type 0
+IsPass thing = (pass : Pass) × (batch : Option (List Candidate)) × (thing ≡ Some (APass pass batch))
 
 -- The line reads, of a state that has a table. Only such a line asks the reader for bytes, or writes beside the disk.
 abbrev pub ReadsTables : Line → State → Type 0
@@ -35,6 +40,10 @@ ReadsTables (lines.Keep versions) s = ⊥
 ReadsTables (lines.GetAt name key number) s = HasTables s
 ReadsTables (lines.Plan name) s = HasTables s
 ReadsTables (lines.Install name) s = ⊥
+ReadsTables lines.Stats s = ⊥
+ReadsTables (lines.Pick name percent) s = ⊥
+ReadsTables (lines.Batch name) s = IsPass (thing_of s.store name)
+ReadsTables (lines.Move name) s = IsPass (thing_of s.store name)
 
 -- so it is with the line of this exchange, where there is one
 abbrev pub IsTableRead : Option Exchange → Type 0
@@ -64,9 +73,9 @@ abbrev pub IsTableOf : Option Thing → Name → Type 0
 IsTableOf thing file = (job : Job) × (made : Made) × (n : ℕ) × (thing ≡ Some (AJob job made)) × (file ≡ Table n)
     × (has n (numbers_of made.tables) ≡ true)
 
--- The files at which the disk may fail a line: the log that takes commits; for a rotation that or the next one; for a flush the
--- table that it makes, or the manifest, which has this number; and for a change of how many versions are kept the manifest. For a
--- merge's plan a table that it makes; and for its install one of its tables, or the manifest.
+-- The files at which the disk may fail a line: for a commit or a move the log that takes them; for a rotation that or the next one;
+-- for a flush the table that it makes, or the manifest, which has this number; and for a change of how many versions are kept the
+-- manifest. For a merge's plan a table that it makes; and for its install one of its tables, or the manifest.
 abbrev pub FailsAt : (manifest : ℕ) → Line → State → Name → Type 0
 FailsAt manifest (lines.Begin name) s file = ⊥
 FailsAt manifest (lines.View name) s file = ⊥
@@ -85,3 +94,7 @@ FailsAt manifest (lines.GetAt name key number) s file = ⊥
 FailsAt manifest (lines.Plan name) s file = IsTableBetween s.store.layout.next_table
     (state_after s (lines.Plan name)).store.layout.next_table file
 FailsAt manifest (lines.Install name) s file = IsTableOf (thing_of s.store name) file ⊎ (file ≡ Manifest manifest)
+FailsAt manifest lines.Stats s file = ⊥
+FailsAt manifest (lines.Pick name percent) s file = ⊥
+FailsAt manifest (lines.Batch name) s file = ⊥
+FailsAt manifest (lines.Move name) s file = file ≡ Log s.store.layout.active.number

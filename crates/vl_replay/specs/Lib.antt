@@ -11,6 +11,7 @@ pub mod Handed
 pub mod Input
 pub mod laws
 pub mod Opening
+pub mod Passing
 pub mod Process
 pub mod Readers
 pub mod Reading

@@ -8,12 +8,14 @@ use Rattle.vl_layout.specs.Store.Lines as store
 use Rattle.vl_layout.specs.Store.Reading.{rows_told}
 use Rattle.vl_layout.specs.Store.Things as things
 use Rattle.vl_layout.specs.Store.Things.{Step}
+use Rattle.vl_layout.specs.declared.segment.SegmentStat.{SegmentStat}
 use Rattle.vl_model.specs.History.{History}
 use Rattle.vl_model.specs.Keys.{Row, untagged}
-use Rattle.vl_script.specs.Script.{rows_text, text_of}
+use Rattle.vl_script.specs.Script.{rows_text, segments_text, text_of}
 use Rattle.vl_script.specs.declared.line.Line.{Line}
 use Rattle.vl_script.specs.declared.line.Line.TheVariants as lines
 use Rattle.vl_script.specs.declared.answer.Answer.{Answer}
+use Rattle.vl_script.specs.declared.answer.SegmentLine.{SegmentLine}
 use Rattle.vl_script.specs.declared.answer.Answer.TheVariants as answers
 
 -- the store, how many changing calls the disk was asked for, and a number that none of its files passes
@@ -46,6 +48,10 @@ asked (lines.Keep versions) = store.Keep versions
 asked (lines.Plan name) = store.Plan name
 asked (lines.Install name) = store.Install name
 asked (lines.GetAt name key number) = store.GetAt name key number
+asked lines.Stats = store.Stats
+asked (lines.Pick name percent) = store.Pick name percent
+asked (lines.Batch name) = store.Batch name
+asked (lines.Move name) = store.Move name
 
 -- ---- what a line is answered, and what it leaves
 
@@ -92,6 +98,13 @@ state_after s line = record {
 abbrev pub told_row : List ℕ × List ℕ → Row
 told_row row = (row.0, untagged row.1)
 
+-- what is told of a log, as a line has it, and as the store has that
+abbrev pub told_segment : SegmentStat → SegmentLine
+told_segment stat = record { segment = stat.segment; bytes = stat.bytes; live = stat.live }
+
+abbrev pub stat_told : SegmentLine → SegmentStat
+stat_told line = record { segment = line.segment; bytes = line.bytes; live = line.live }
+
 -- those of a script's lines; no other comes
 abbrev pub answer_text : store.Answer → List ℕ
 answer_text store.Done = text_of answers.Done
@@ -113,13 +126,13 @@ answer_text (store.Full length frame) = text_of answers.Full
 answer_text (store.Exhausted counter) = text_of (answers.Exhausted counter)
 answer_text store.Idle = text_of answers.Idle
 answer_text (store.Raced key) = text_of (answers.Raced key)
-answer_text (store.Rejected segment) = []
-answer_text store.NoRewrite = []
-answer_text (store.Found count) = []
-answer_text store.End = []
-answer_text (store.Moved count) = []
+answer_text (store.Rejected segment) = text_of (answers.Rejected segment)
+answer_text store.NoRewrite = text_of answers.NoRewrite
+answer_text (store.Found count) = text_of (answers.FoundRecords count)
+answer_text store.End = text_of answers.End
+answer_text (store.Moved count) = text_of (answers.Moved count)
 answer_text (store.Removed count) = []
-answer_text (store.Segments stats) = []
+answer_text (store.Segments stats) = segments_text (map told_segment stats)
 answer_text (store.Halted file) = []
 
 -- ---- what a script is told
@@ -145,6 +158,12 @@ as_told answers.Full = store.Full 0 0
 as_told (answers.Exhausted counter) = store.Exhausted counter
 as_told answers.Idle = store.Idle
 as_told (answers.Raced key) = store.Raced key
+as_told (answers.Rejected segment) = store.Rejected segment
+as_told answers.NoRewrite = store.NoRewrite
+as_told (answers.FoundRecords count) = store.Found count
+as_told answers.End = store.End
+as_told (answers.Moved count) = store.Moved count
+as_told (answers.Segments segments) = store.Segments (map stat_told segments.items)
 
 -- the same but for the lengths
 abbrev pub without_lengths : store.Answer → store.Answer

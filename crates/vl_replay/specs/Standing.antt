@@ -31,6 +31,8 @@ use Rattle.vl_engine.specs.declared.fails.ReadFail.{ReadFail}
 use Rattle.vl_engine.specs.declared.fails.ReadFail.TheVariants as unread
 use Rattle.vl_engine.specs.declared.fails.KeepFail.{KeepFail}
 use Rattle.vl_engine.specs.declared.fails.KeepFail.TheVariants as unkept
+use Rattle.vl_engine.specs.declared.fails.PickFail.{PickFail}
+use Rattle.vl_engine.specs.declared.fails.PickFail.TheVariants as unpicked
 use Rattle.vl_engine.specs.declared.fails.StepFail.{StepFail}
 use Rattle.vl_engine.specs.declared.fails.StepFail.TheVariants as undone
 use Rattle.vl_model.specs.Keys.{Stored}
@@ -65,6 +67,7 @@ pub record IsTransaction {H R : Type 0} (bytes : H → Option (List ℕ)) (txn :
 abbrev pub Corresponds : {H R : Type 0} → (H → Option (List ℕ)) → History → Layout → Option (Thing H R) → Option store.Thing → Type 0
 Corresponds bytes h l None None = Unit {0}
 Corresponds bytes h l None (Some (AJob job made)) = Unit {0}
+Corresponds bytes h l None (Some (APass pass batch)) = Unit {0}
 Corresponds bytes h l (Some (Transaction txn)) (Some (ATransaction t b)) = IsTransaction bytes txn t h l × (beginning txn.past ≡ b)
 Corresponds bytes h l (Some (View view)) (Some (AView v b)) =
     (asked_view view ≡ v) × SeesAlone bytes view h × IsLive l view.ticket view.number

@@ -1,6 +1,6 @@
--- How far a commit, or a step on files, came on a disk that then failed, and failed cleanly. And the numbers that a disk's files
--- have.
-use Rattle.std.specs.Prelude.{◌≡◌, ◌≢◌, ◌≤◌, ℕ, ◌+◌, List, length, None}
+-- How far a commit, a move or a step on files came on a disk that then failed, and failed cleanly. And the numbers that a disk's
+-- files have.
+use Rattle.std.specs.Prelude.{◌≡◌, ◌≢◌, ◌⊎◌, ◌≤◌, ℕ, ◌+◌, List, length, None}
 use Rattle.std.specs.FinMap.{get}
 use Rattle.vl_disk.specs.Crash.{Image}
 use Rattle.vl_disk.specs.DiskState.{DiskState, appended}
@@ -20,7 +20,7 @@ use Rattle.vl_seglog.specs.Frames.{frame_at, frames_grammar}
 use Rattle.vl_replay.specs.Between.{Holding, Showing}
 use Rattle.vl_replay.specs.Sequential.{State, history_of}
 
--- ---- a commit that is being written
+-- ---- a frame that is being written
 
 -- the log that takes the state's commits
 abbrev pub log_of : State → Name
@@ -30,8 +30,8 @@ log_of s = Log s.store.layout.active.number
 abbrev pub frame_behind : State → LogFrame → List ℕ
 frame_behind s item = frame_at s.store.layout.active.format s.store.layout.active.number s.store.layout.active.length item
 
--- a frame that makes one state the next, and the disk before it was written
-pub record Commits (holds : Holding) (before after : State) : Type 0 where
+-- a frame that makes one state the next, that of a commit or of a move, and the disk before it was written
+pub record ByFrame (holds : Holding) (before after : State) : Type 0 where
   -- the disk held the state before,
   pub old : DiskState
   pub held : holds before old
@@ -42,15 +42,15 @@ pub record Commits (holds : Holding) (before after : State) : Type 0 where
   pub frame_is : frame ≡ frame_behind before item
   -- and once it is written the disk holds the state after
   pub done : holds after (written (log_of before) frame old)
-  -- that state has these writes more
-  pub writes : Changes
-  pub one_more : after.store.commits ≡ with_changes before.store.commits writes
+  -- that state has some writes more, or the same commits, of which records were moved
+  pub commits : ((writes : Changes) × (after.store.commits ≡ with_changes before.store.commits writes))
+      ⊎ (after.store.commits ≡ before.store.commits)
   -- and no file more
   pub files : after.files ≡ before.files
 
 -- the disk whose log took so many bytes of the frame
-abbrev pub with_taken : {holds : Holding} {before after : State} → Commits holds before after → ℕ → DiskState
-with_taken {before} commits taken = appended (log_of before) commits.frame taken commits.old
+abbrev pub with_taken : {holds : Holding} {before after : State} → ByFrame holds before after → ℕ → DiskState
+with_taken {before} by taken = appended (log_of before) by.frame taken by.old
 
 -- ---- numbers of files
 
@@ -86,11 +86,11 @@ pub record StopsStep (shows : Showing) (before after : State) (passed : ℕ) (no
 
 -- What a line left of a disk that failed, and failed cleanly, where so many of its calls passed at least, and so many were made.
 pub data IsStoppedIn (holds : Holding) (shows : Showing) (before after : State) (passed made : ℕ) (now : DiskState) : Type 0 where
-  -- a commit's append failed, and the log took nothing of the frame
-  append_failed : (commits : Commits holds before after) → passed ≡ 0 → made ≡ 1 → now ≡ with_taken commits 0
+  -- a frame's append failed, and the log took nothing of it
+  append_failed : (by : ByFrame holds before after) → passed ≡ 0 → made ≡ 1 → now ≡ with_taken by 0
       → IsStoppedIn holds shows before after passed made now
-  -- a commit's sync failed behind its append, and the log took all of the frame
-  sync_failed : (commits : Commits holds before after) → passed ≡ 1 → made ≡ 2 → now ≡ with_taken commits (length commits.frame)
+  -- a frame's sync failed behind its append, and the log took all of it
+  sync_failed : (by : ByFrame holds before after) → passed ≡ 1 → made ≡ 2 → now ≡ with_taken by (length by.frame)
       → IsStoppedIn holds shows before after passed made now
   -- a call of a rotation, of a flush, of a change of how many versions are kept, or of a merge's plan or install failed
   -- and no file passes the number that none passes behind the line

@@ -28,6 +28,6 @@ pub record IsStored (s : State) (disk : DiskState) : Type 0 where
   pub next_log : s.store.layout.next_log ≤ s.files + 1
   pub next_drawn : s.store.layout.next_table ≤ s.files + 1
 
--- A line that was stopped was a commit or a step on files.
+-- A line that was stopped was a commit, a move or a step on files.
 abbrev pub IsStopped : Stopping
 IsStopped = IsStoppedIn IsStored Shown

@@ -50,7 +50,7 @@ use Rattle.vl_replay.specs.Halts.{HaltsByDisk, HaltsByRead}
 use Rattle.vl_replay.specs.Replaying.{StandsIn, state_by}
 use Rattle.vl_replay.specs.Sequential.{State, history_of}
 use Rattle.vl_replay.specs.Standing.{IsTransaction}
-use Rattle.vl_replay.specs.Stopped.{AreNumberedUpTo, Commits, append_failed, frame_behind, log_of, sync_failed}
+use Rattle.vl_replay.specs.Stopped.{AreNumberedUpTo, ByFrame, append_failed, frame_behind, log_of, sync_failed}
 use Rattle.vl_replay.specs.Stored.{IsStopped, IsStored}
 use Rattle.vl_replay.specs.declared.fails.Halt.{Halt}
 use Rattle.vl_replay.specs.declared.fails.Halt.TheVariants as why
@@ -333,7 +333,7 @@ module _ {D H R : Type 0} (g : Ghosts D) (bytes : H → Option (List ℕ)) (befo
       abbrev whole : List ℕ
       whole = frame_behind s (commit_frame (history_of s) t.writes)
 
-      commits : HoldsState g IsStored s old → Commits IsStored s (state_by s (committing s name t b))
+      commits : HoldsState g IsStored s old → ByFrame IsStored s (state_by s (committing s name t b))
       commits held =
           let (disk, told, stored) = held.there in
           let has = subst (λ (n : ℕ). HasFrame (frames_grammar n) (commit_frame (history_of s) t.writes))
@@ -365,8 +365,7 @@ module _ {D H R : Type 0} (g : Ghosts D) (bytes : H → Option (List ℕ)) (befo
                 (changed_numbered s.files (log_of s) _ (appended (log_of s) whole (length whole) disk)
                 (changed_numbered s.files (log_of s) _ disk stored.numbered))
                 stored.next stored.next_log stored.next_drawn;
-            writes = t.writes;
-            one_more = ap (λ (x : Step). x.state.commits) step_then;
+            commits = inl (t.writes, ap (λ (x : Step). x.state.commits) step_then);
             files = refl;
           }
 

@@ -46,7 +46,7 @@ use Rattle.vl_seglog.specs.LogReading.{IsLogFormat}
 use Rattle.vl_seglog.specs.laws.LogReadingLaws.{SaysFrames, reads_with_tail}
 use Rattle.vl_replay.specs.Reopens.{NamesUpTo, Reopens, state_left}
 use Rattle.vl_replay.specs.Sequential.{State, history_of}
-use Rattle.vl_replay.specs.Stopped.{Commits, StopsStep, append_failed, step_failed, sync_failed, with_taken}
+use Rattle.vl_replay.specs.Stopped.{ByFrame, StopsStep, append_failed, step_failed, sync_failed, with_taken}
 use Rattle.vl_replay.specs.Stored.{IsStopped, IsStored}
 use Rattle.vl_core.specs.Files.{found_levels}
 use Rattle.vl_core.specs.Held.{Base, logs_from}
@@ -284,7 +284,7 @@ module _ (s : State) (disk : DiskState) (stored : IsStored s disk) where
       held_opens b.state (view_in s image) (logs_from b l) disk
       (store_held b l h stored.is_base disk stored.holds image may stored.tidy.levels) (last_number h) stored.is_base.goes image may
 
-module _ (before after : State) (commits : Commits IsStored before after) where
+module _ (before after : State) (commits : ByFrame IsStored before after) where
   abbrev old : DiskState
   old = commits.old
 
@@ -362,7 +362,7 @@ module _ (s : State) (disk : DiskState) (stored : IsStored s disk) (fits : s.fil
       (names_left s.files disk (crash_image outcome disk) may stored.numbered)
 
 -- And so does the image of a disk on which a commit was stopped.
-module _ (before after : State) (commits : Commits IsStored before after) (fits : before.files + 2 ≤ max_file_number) where
+module _ (before after : State) (commits : ByFrame IsStored before after) (fits : before.files + 2 ≤ max_file_number) where
   abbrev its_log : Name
   its_log = Log before.store.layout.active.number
 

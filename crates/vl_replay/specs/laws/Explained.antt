@@ -18,7 +18,7 @@ use Rattle.vl_layout.specs.AtAnswer as at
 use Rattle.vl_layout.specs.AtAnswer.{AtAnswer, Beginning, beginning_of}
 use Rattle.vl_layout.specs.Jobs.{Made}
 use Rattle.vl_layout.specs.Merging.{outputs}
-use Rattle.vl_layout.specs.Relocation.{Candidate, Pass}
+use Rattle.vl_layout.specs.Relocation.{Candidate, Pass, next_batch}
 use Rattle.vl_layout.specs.Ruling.{Ruling, leaving}
 use Rattle.vl_layout.specs.Rulings.Begin as begin
 use Rattle.vl_layout.specs.Rulings.Begin.{BeginAnswer, begin_ruling, begun}
@@ -26,8 +26,13 @@ use Rattle.vl_layout.specs.Rulings.Commit as commit
 use Rattle.vl_layout.specs.Rulings.Commit.{CommitAnswer, Transaction}
 use Rattle.vl_layout.specs.Rulings.Fresh as fresh
 use Rattle.vl_layout.specs.Rulings.Fresh.{FreshAnswer, fresh_ruling}
+use Rattle.vl_layout.specs.Rulings.Pick as pick
+use Rattle.vl_layout.specs.Rulings.Pick.{PickAnswer, pick_ruling}
+use Rattle.vl_layout.specs.Rulings.Relocate as relocate
+use Rattle.vl_layout.specs.Rulings.Relocate.{MoveAnswer, relocate_ruling}
 use Rattle.vl_layout.specs.Store.Commits.{AreProper, Changes, at_answer_in, history_in, low_in, value_in, with_changes}
-use Rattle.vl_layout.specs.Store.Dispatch.{drop_by, fill, filled, install_by, made_of, plan_as, planned_by}
+use Rattle.vl_layout.specs.Store.Dispatch.{batch_by, drop_by, fill, filled, found_by, install_by, made_of, move_by}
+use Rattle.vl_layout.specs.Store.Dispatch.{moved_by, pick_as, picked_by, plan_as, planned_by}
 use Rattle.vl_layout.specs.Store.Lines.{Answer, Dropped, Invalid, Name, Number, Rows}
 use Rattle.vl_layout.specs.Store.Proper.{HasRisingWrites, IsProper}
 use Rattle.vl_layout.specs.Store.Reading.{a_transaction, a_view, answer_of, begin_as, begun_by, commit_by}
@@ -64,12 +69,12 @@ module _ (s : State) (proper : AreProper s.commits) where
 
 -- ---- what is noted stays explained
 
--- a transaction's reads are explained at its number, at which the history can be read; no pass has a name
+-- a transaction's reads are explained at its number, at which the history can be read
 abbrev pub IsSoundThing : History → Thing → Type 0
 IsSoundThing h (ATransaction t b) = IsExplained h t.number t.reads × (h.first ≤ t.number) × (t.number ≤ last_number h)
 IsSoundThing h (AView v b) = Unit {0}
 IsSoundThing h (AJob job made) = Unit {0}
-IsSoundThing h (APass pass batch) = ⊥
+IsSoundThing h (APass pass batch) = Unit {0}
 
 pub record IsSound (s : State) : Type 0 where
   pub proper : IsProper s
@@ -96,7 +101,7 @@ later_sound least most e (ATransaction t b) (explained, from, known) =
     )
 later_sound least most e (AView v b) sound = tt
 later_sound least most e (AJob job made) sound = tt
-later_sound least most e (APass pass batch) sound = sound
+later_sound least most e (APass pass batch) sound = tt
 
 module _ (P : Name × Thing → Type 0) where
   all_filtered : (q : Name × Thing → Bool) (ts : List (Name × Thing)) → AllByRecursion P ts → AllByRecursion P (filter q ts)
@@ -130,19 +135,20 @@ found_rising (t ∷ ts) name x all is = by (eq_by_cmp key_cmp name t.0) is (foun
     by true is later = let same : t.1 ≡ x = cc in subst HasRisingWrites same all.0
     by false is later = later is
 
--- what a name stands for that stands for no merge reads
-reads_or : (h : History) (x : Thing) → IsSoundThing h x → ((job : Job) (made : Made) → x ≡ AJob job made → ⊥) → IsReader x
-reads_or h (ATransaction t b) sound none = tt
-reads_or h (AView v b) sound none = tt
-reads_or h (AJob job made) sound none = none job made refl
-reads_or h (APass pass batch) sound none = sound
+-- what a name stands for that stands for no merge and no pass reads
+reads_or : (x : Thing) → ((job : Job) (made : Made) → x ≡ AJob job made → ⊥)
+    → ((pass : Pass) (batch : Option (List Candidate)) → x ≡ APass pass batch → ⊥) → IsReader x
+reads_or (ATransaction t b) none no_pass = tt
+reads_or (AView v b) none no_pass = tt
+reads_or (AJob job made) none no_pass = none job made refl
+reads_or (APass pass batch) none no_pass = no_pass pass batch refl
 
-pub only_reader : (h : History) (s : State) → IsSound s → (name : Name)
+pub only_reader : (s : State) (name : Name)
     → ((job : Job) (made : Made) → thing_of s name ≡ Some (AJob job made) → ⊥)
+    → ((pass : Pass) (batch : Option (List Candidate)) → thing_of s name ≡ Some (APass pass batch) → ⊥)
     → (x : Thing) → thing_of s name ≡ Some x → IsReader x
-only_reader h s sound name none x is =
-    reads_or (history_in s.commits) x (found_sound (history_in s.commits) s.things name x sound.things is)
-    (λ job made same. none job made (is ∙ ap Some same))
+only_reader s name none no_pass x is =
+    reads_or x (λ job made same. none job made (is ∙ ap Some same)) (λ pass batch same. no_pass pass batch (is ∙ ap Some same))
 
 module _ (s : State) (sound : IsSound s) where
   abbrev h' : History
@@ -273,11 +279,47 @@ module _ (s : State) (sound : IsSound s) where
   drop_stays name (Some (ATransaction t b)) is = stays _ refl (freed name)
   drop_stays name (Some (AView v b)) is = stays _ refl (freed name)
   drop_stays name (Some (AJob job made)) is = stays _ refl (freed name)
-  drop_stays name (Some (APass pass batch)) is = absurd (found_sound h' s.things name (APass pass batch) sound.things is)
+  drop_stays name (Some (APass pass batch)) is = stays _ refl (freed name)
 
-  -- no name stands for a pass
-  pub no_pass : (name : Name) (pass : Pass) (batch : Option (List Candidate)) → thing_of s name ≡ Some (APass pass batch) → ⊥
-  no_pass name pass batch is = found_sound h' s.things name (APass pass batch) sound.things is
+  -- ---- passes
+
+  picked_stays : (name : Name) (r : Ruling PickAnswer) (a : PickAnswer) → Stays (picked_by s name r a)
+  picked_stays name r (pick.Picked pass) = stays _ refl (with_named name (APass pass None) tt)
+  picked_stays name r pick.InvalidRequest = same_things _ refl refl
+  picked_stays name r (pick.Rejected segment) = same_things _ refl refl
+  picked_stays name r pick.NoRewrite = same_things _ refl refl
+
+  pub pick_stays : (name : Name) (percent : ℕ) (o : Option Thing) → Stays (pick_as s name percent o)
+  pick_stays name percent (Some other) = same_things _ refl refl
+  pick_stays name percent None =
+      picked_stays name (pick_ruling s.layout h' percent) (pick_ruling s.layout h' percent).answer
+
+  found_stays : (name : Name) (next : Option (List Candidate) × Pass) (o : Option (List Candidate)) → Stays (found_by s name next o)
+  found_stays name next None = stays _ refl (with_named name (APass next.1 None) tt)
+  found_stays name next (Some batch) = stays _ refl (with_named name (APass next.1 (Some batch)) tt)
+
+  pub batch_stays : (name : Name) (o : Option Thing) → Stays (batch_by s name o)
+  batch_stays name None = same_things _ refl refl
+  batch_stays name (Some (ATransaction t b)) = same_things _ refl refl
+  batch_stays name (Some (AView v b)) = same_things _ refl refl
+  batch_stays name (Some (AJob job made)) = same_things _ refl refl
+  batch_stays name (Some (APass pass (Some batch))) = same_things _ refl refl
+  batch_stays name (Some (APass pass None)) = found_stays name (next_batch pass) (next_batch pass).0
+
+  moved_stays : (name : Name) (pass : Pass) (r : Ruling MoveAnswer) (a : MoveAnswer) → Stays (moved_by s name pass r a)
+  moved_stays name pass r (relocate.Moves n) = stays _ refl (with_named name (APass pass None) tt)
+  moved_stays name pass r (relocate.Halted file) = same_things _ refl refl
+  moved_stays name pass r (relocate.Exhausted c) = same_things _ refl refl
+  moved_stays name pass r (relocate.Full long frame) = same_things _ refl refl
+
+  pub move_stays : (name : Name) (o : Option Thing) → Stays (move_by s name o)
+  move_stays name None = same_things _ refl refl
+  move_stays name (Some (ATransaction t b)) = same_things _ refl refl
+  move_stays name (Some (AView v b)) = same_things _ refl refl
+  move_stays name (Some (AJob job made)) = same_things _ refl refl
+  move_stays name (Some (APass pass None)) = same_things _ refl refl
+  move_stays name (Some (APass pass (Some batch))) =
+      moved_stays name pass (relocate_ruling s.layout h' pass batch) (relocate_ruling s.layout h' pass batch).answer
 
   -- ---- merges
 

@@ -14,6 +14,7 @@ use Rattle.vl_model.specs.declared.way.Way.{Way}
 use Rattle.vl_layout.specs.AtAnswer.{Beginning, beginning_of}
 use Rattle.vl_layout.specs.Jobs.{Made}
 use Rattle.vl_layout.specs.Merging.{outputs}
+use Rattle.vl_layout.specs.Relocation.{Candidate, Pass, next_batch}
 use Rattle.vl_layout.specs.Ruling.{Ruling, ended, leaving, logged}
 use Rattle.vl_layout.specs.Rulings.Begin as begin
 use Rattle.vl_layout.specs.Rulings.Begin.{BeginAnswer, begin_ruling, begun}
@@ -22,12 +23,17 @@ use Rattle.vl_layout.specs.Rulings.Commit.{CommitAnswer, Transaction, commit_che
 use Rattle.vl_layout.specs.Rulings.Commit.{commit_running, commit_unless, committed}
 use Rattle.vl_layout.specs.Rulings.Fresh as fresh
 use Rattle.vl_layout.specs.Rulings.Fresh.{FreshAnswer, fresh_ruling}
+use Rattle.vl_layout.specs.Rulings.Pick as pick
+use Rattle.vl_layout.specs.Rulings.Pick.{PickAnswer, pick_ruling}
+use Rattle.vl_layout.specs.Rulings.Relocate as relocate
+use Rattle.vl_layout.specs.Rulings.Relocate.{MoveAnswer, relocate_ruling}
 use Rattle.vl_layout.specs.Store.Commits.{Changes, Commits, conflict_in, history_in, with_changes}
-use Rattle.vl_layout.specs.Store.Dispatch.{drop_by, fill, filled, install_by, made_of, plan_as, planned_by}
+use Rattle.vl_layout.specs.Store.Dispatch.{batch_by, drop_by, fill, filled, found_by, install_by, made_of, move_by}
+use Rattle.vl_layout.specs.Store.Dispatch.{moved_by, pick_as, picked_by, plan_as, planned_by}
 use Rattle.vl_layout.specs.Store.Lines.{Answer, Done, Name, Number}
 use Rattle.vl_layout.specs.Store.Reading.{begin_as, begun_by, commit_by, committed_by, get_at_by, get_by, get_own}
 use Rattle.vl_layout.specs.Store.Reading.{is_small_enough, scan_by, write_by}
-use Rattle.vl_layout.specs.Store.Things.{Thing, ATransaction, AView, AJob, APass, State, Step}
+use Rattle.vl_layout.specs.Store.Things.{Thing, ATransaction, AView, AJob, APass, State, Step, only}
 use Rattle.vl_layout.specs.Tickets.{free_ticket, tickets_of}
 use Rattle.vl_layout.specs.declared.file_name.FileName.{FileName}
 use Rattle.vl_layout.specs.declared.job.Job.{Job}
@@ -150,6 +156,50 @@ module _ (s : State) where
   drop_keeps name (Some (AView v b)) only = kept_alike _ refl refl refl
   drop_keeps name (Some (AJob job made)) only = absurd (only (AJob job made) refl)
   drop_keeps name (Some (APass pass batch)) only = absurd (only (APass pass batch) refl)
+
+  -- ---- passes
+
+  found_keeps : (name : Name) (next : Option (List Candidate) × Pass) (o : Option (List Candidate)) → Keeps (found_by s name next o)
+  found_keeps name next None = kept_alike _ refl refl refl
+  found_keeps name next (Some batch) = kept_alike _ refl refl refl
+
+  pub batch_keeps : (name : Name) (o : Option Thing) → Keeps (batch_by s name o)
+  batch_keeps name None = kept_alike _ refl refl refl
+  batch_keeps name (Some (ATransaction t b)) = kept_alike _ refl refl refl
+  batch_keeps name (Some (AView v b)) = kept_alike _ refl refl refl
+  batch_keeps name (Some (AJob job made)) = kept_alike _ refl refl refl
+  batch_keeps name (Some (APass pass (Some batch))) = kept_alike _ refl refl refl
+  batch_keeps name (Some (APass pass None)) = found_keeps name (next_batch pass) (next_batch pass).0
+
+  -- what is told of logs changes nothing
+  pub stats_keeps : (answer : Answer) → Keeps (only answer s)
+  stats_keeps answer = kept_alike _ refl refl refl
+
+  picked_commits : (name : Name) (r : Ruling PickAnswer) (a : PickAnswer) → (picked_by s name r a).state.commits ≡ s.commits
+  picked_commits name r (pick.Picked pass) = refl
+  picked_commits name r pick.InvalidRequest = refl
+  picked_commits name r (pick.Rejected segment) = refl
+  picked_commits name r pick.NoRewrite = refl
+
+  pub pick_commits : (name : Name) (percent : ℕ) (o : Option Thing) → (pick_as s name percent o).state.commits ≡ s.commits
+  pick_commits name percent (Some other) = refl
+  pick_commits name percent None = picked_commits name (pick_ruling l h percent) (pick_ruling l h percent).answer
+
+  moved_commits : (name : Name) (pass : Pass) (r : Ruling MoveAnswer) (a : MoveAnswer)
+      → (moved_by s name pass r a).state.commits ≡ s.commits
+  moved_commits name pass r (relocate.Moves n) = refl
+  moved_commits name pass r (relocate.Halted file) = refl
+  moved_commits name pass r (relocate.Exhausted c) = refl
+  moved_commits name pass r (relocate.Full long frame) = refl
+
+  pub move_commits : (name : Name) (o : Option Thing) → (move_by s name o).state.commits ≡ s.commits
+  move_commits name None = refl
+  move_commits name (Some (ATransaction t b)) = refl
+  move_commits name (Some (AView v b)) = refl
+  move_commits name (Some (AJob job made)) = refl
+  move_commits name (Some (APass pass None)) = refl
+  move_commits name (Some (APass pass (Some batch))) =
+      moved_commits name pass (relocate_ruling l h pass batch) (relocate_ruling l h pass batch).answer
 
   -- ---- merges
 

@@ -9,7 +9,8 @@ use Rattle.vl_layout.specs.Rulings.Commit.{Transaction}
 use Rattle.vl_layout.specs.Rulings.Plan.{plan_ruling}
 use Rattle.vl_layout.specs.AtAnswer.{Beginning}
 use Rattle.vl_layout.specs.Store.Commits.{Commits, history_in}
-use Rattle.vl_layout.specs.Store.Lines.{Done, Name, Number}
+use Rattle.vl_layout.specs.Store.Lines.{Done, Name, Number, Segments}
+use Rattle.vl_layout.specs.Rulings.Stats.{stats_ruling}
 use Rattle.vl_layout.specs.Store.Reading.{a_transaction, a_view, answer_of, answer_with_tag}
 use Rattle.vl_layout.specs.Store.Things.{Thing, ATransaction, thing_of}
 use Rattle.vl_layout.specs.laws.StoreLaws.{step_proper}
@@ -21,19 +22,20 @@ use Rattle.vl_model.specs.declared.change.Change.TheVariants.{Set as Put, Delete
 use Rattle.vl_replay.specs.Exchanges.{exchanged, exchanges_from, and_later, IsExplainedExchange, AreExplained, ended_lines, KeepsUp}
 use Rattle.vl_replay.specs.Sequential.{State, answer_to, asked, history_of, state_after, step_to}
 use Rattle.vl_replay.specs.laws.Explained.{IsSound as IsSoundStore, IsSoundThing, Stays, commit_explained}
-use Rattle.vl_replay.specs.laws.Explained.{commit_stays, drop_stays, get_at_explained, get_at_stays, get_explained}
-use Rattle.vl_replay.specs.laws.Explained.{get_stays, install_stays, later_things, plan_stays, scan_explained}
+use Rattle.vl_replay.specs.laws.Explained.{batch_stays, commit_stays, drop_stays, get_at_explained, get_at_stays, get_explained}
+use Rattle.vl_replay.specs.laws.Explained.{get_stays, install_stays, later_things, move_stays, pick_stays, plan_stays, scan_explained}
 use Rattle.vl_replay.specs.laws.Explained.{scan_stays, transaction_stays, view_stays, write_stays}
-use Rattle.vl_replay.specs.laws.Growing.{Adds, Keeps, begin_keeps, commit_or, drop_or, get_at_keeps, get_keeps}
-use Rattle.vl_replay.specs.laws.Growing.{install_commits, plan_commits, scan_keeps, write_keeps}
+use Rattle.vl_replay.specs.laws.Growing.{Adds, Keeps, batch_keeps, begin_keeps, commit_or, drop_or, get_at_keeps, get_keeps}
+use Rattle.vl_replay.specs.laws.Growing.{install_commits, move_commits, pick_commits, plan_commits, scan_keeps, stats_keeps, write_keeps}
 use Rattle.vl_script.specs.Script.{line_of}
 use Rattle.vl_script.specs.declared.line.Line.{Line}
 use Rattle.vl_script.specs.declared.line.Line.TheVariants.{Begin, View, Get, Set, SetTagged, GetTagged, Scan, Delete}
 use Rattle.vl_script.specs.declared.line.Line.TheVariants.{Commit, Drop, Rotate, Flush, Keep, GetAt, Plan, Install}
+use Rattle.vl_script.specs.declared.line.Line.TheVariants.{Stats, Pick, Batch, Move}
 
 -- ---- what a line leaves
 
--- no name stands for a pass, no name for two things, and what was read is explained at the reader's number
+-- no name stands for two things, and what was read is explained at the reader's number
 abbrev pub IsSound : State → Type 0
 IsSound s = IsSoundStore s.store
 
@@ -42,7 +44,7 @@ abbrev pub Committing : State → Line → Type 0
 Committing s line = (t : Transaction) × (b : Beginning) × (name : Name) × (line ≡ Commit name)
     × (thing_of s.store name ≡ Some (ATransaction t b)) × Adds s.store (step_to s line) t
 
--- the line is a step on files, or ends something
+-- the line is a step on files, or ends something, or goes on with a pass
 abbrev pub IsStepLine : Line → Type 0
 IsStepLine (Begin name) = ⊥
 IsStepLine (View name) = ⊥
@@ -60,6 +62,10 @@ IsStepLine Flush = Unit {0}
 IsStepLine (Keep versions) = Unit {0}
 IsStepLine (Plan name) = Unit {0}
 IsStepLine (Install name) = Unit {0}
+IsStepLine Stats = ⊥
+IsStepLine (Pick name percent) = Unit {0}
+IsStepLine (Batch name) = ⊥
+IsStepLine (Move name) = Unit {0}
 
 -- such a line keeps the commits, and is told by `ok` where it ends something
 pub record Stepping (s : State) (line : Line) : Type 0 where
@@ -99,6 +105,18 @@ keeps_or s (Install name) sound = inr (inr (record {
   ended = λ other same. absurd cc;
 }))
 keeps_or s (GetAt name key number) sound = inl (get_at_keeps s.store name key number (thing_of s.store name))
+keeps_or s Stats sound = inl (stats_keeps s.store (Segments (stats_ruling s.store.layout (history_of s)).answer))
+keeps_or s (Pick name percent) sound = inr (inr (record {
+  is = tt;
+  commits = pick_commits s.store name percent (thing_of s.store name);
+  ended = λ other same. absurd cc;
+}))
+keeps_or s (Batch name) sound = inl (batch_keeps s.store name (thing_of s.store name))
+keeps_or s (Move name) sound = inr (inr (record {
+  is = tt;
+  commits = move_commits s.store name (thing_of s.store name);
+  ended = λ other same. absurd cc;
+}))
 
 -- ---- what is read is explained
 
@@ -161,6 +179,11 @@ state_after-sound s (Plan name) sound =
 state_after-sound s (Install name) sound = stays_sound s (Install name) sound (install_stays s.store sound name (thing_of s.store name))
 state_after-sound s (GetAt name key number) sound =
     stays_sound s (GetAt name key number) sound (get_at_stays s.store sound name key number (thing_of s.store name))
+state_after-sound s Stats sound = kept_sound s Stats sound refl sound.things
+state_after-sound s (Pick name percent) sound =
+    stays_sound s (Pick name percent) sound (pick_stays s.store sound name percent (thing_of s.store name))
+state_after-sound s (Batch name) sound = stays_sound s (Batch name) sound (batch_stays s.store sound name (thing_of s.store name))
+state_after-sound s (Move name) sound = stays_sound s (Move name) sound (move_stays s.store sound name (thing_of s.store name))
 
 -- a commit that is answered by a number adds what its transaction wrote
 adds_of : (s : State) (name : Name) (t : Transaction) (b : Beginning) (n : ℕ) → thing_of s.store name ≡ Some (ATransaction t b)
@@ -191,6 +214,10 @@ exchange_explained stay s Flush sound = tt
 exchange_explained stay s (Keep versions) sound = tt
 exchange_explained stay s (Plan name) sound = tt
 exchange_explained stay s (Install name) sound = tt
+exchange_explained stay s Stats sound = tt
+exchange_explained stay s (Pick name percent) sound = tt
+exchange_explained stay s (Batch name) sound = tt
+exchange_explained stay s (Move name) sound = tt
 exchange_explained stay s (GetAt name key number) sound = λ told. get_at_explained s.store sound name key number
     (thing_of s.store name) told
 exchange_explained stay s (Commit name) sound = λ t b n is e. commit_explained s.store sound stay name t b n

@@ -36,6 +36,8 @@ impl<D: Disk> Served<D> {
         ensures named { (s : State) (file : Name) → ServesFor D.Watched D.Held.bytes self.old s
             → result ≡ Err (halts.Disk file) → file ≡ names.Log s.store.layout.active.number }
         ensures merging { self.new.engine.merging ≡ self.old.engine.merging }
+        ensures collecting { self.new.engine.collecting ≡ self.old.engine.collecting }
+        ensures logs { self.new.engine.core.version.behind.logs ≡ self.old.engine.core.version.behind.logs }
         ensures untold { OnOk result (StaysUntold (D.told self.old.engine.disk) (D.told self.new.engine.disk)) }
     {
         match take_out(&mut self.opens, name.as_slice()) {

@@ -84,6 +84,7 @@ impl<D: Disk> Replayer<D> {
                     opens: Vec::new(alloc),
                 },
                 planned: None,
+                passing: None,
                 halted: None,
             }),
             Err(fail) => Err(fail),

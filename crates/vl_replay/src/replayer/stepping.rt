@@ -5,6 +5,7 @@ ghost use Rattle.vl_disk.specs.declared.name.Name.{Name};
 ghost use Rattle.vl_disk.specs.declared.name.Name.TheVariants as names;
 ghost use Rattle.vl_core.specs.Carries.{StaysUntold};
 ghost use Rattle.vl_core.specs.Shown.{Shown};
+ghost use Rattle.vl_engine.specs.Collecting.{Collects};
 ghost use Rattle.vl_layout.specs.Rulings.Flush.{flush_ruling};
 ghost use Rattle.vl_layout.specs.Rulings.Keep.{keep_ruling};
 ghost use Rattle.vl_layout.specs.Rulings.Rotate.{rotate_ruling};
@@ -38,6 +39,9 @@ impl<D: Disk> Served<D> {
             → result ≡ Err (halts.Disk file)
             → (file ≡ names.Log s.store.layout.active.number) ⊎ (file ≡ names.Log s.store.layout.next_log) }
         ensures merging { self.new.engine.merging ≡ self.old.engine.merging }
+        ensures collects { (s : State) → ServesFor D.Watched D.Held.bytes self.old s
+            → Collects self.old.engine.core self.old.engine.collecting s.store.layout
+            → OnOk result (Collects self.new.engine.core self.new.engine.collecting (rotate_ruling s.store.layout (history_of s)).layout) }
         ensures untold { OnOk result (StaysUntold (D.told self.old.engine.disk) (D.told self.new.engine.disk)) }
     {
         told(self.engine.rotate())
@@ -58,6 +62,9 @@ impl<D: Disk> Served<D> {
             → (file ≡ names.Table s.store.layout.next_table)
             ⊎ (file ≡ names.Manifest self.old.engine.core.back.manifest.number) }
         ensures merging { self.new.engine.merging ≡ self.old.engine.merging }
+        ensures collects { (s : State) → ServesFor D.Watched D.Held.bytes self.old s
+            → Collects self.old.engine.core self.old.engine.collecting s.store.layout
+            → OnOk result (Collects self.new.engine.core self.new.engine.collecting (flush_ruling s.store.layout (history_of s)).layout) }
         ensures untold { OnOk result (StaysUntold (D.told self.old.engine.disk) (D.told self.new.engine.disk)) }
     {
         told(self.engine.flush())
@@ -76,6 +83,8 @@ impl<D: Disk> Served<D> {
         ensures named { (file : Name) → result ≡ Err (halts.Disk file)
             → file ≡ names.Manifest self.old.engine.core.back.manifest.number }
         ensures merging { self.new.engine.merging ≡ self.old.engine.merging }
+        ensures collecting { self.new.engine.collecting ≡ self.old.engine.collecting }
+        ensures logs { self.new.engine.core.version.behind.logs ≡ self.old.engine.core.version.behind.logs }
         ensures untold { OnOk result (StaysUntold (D.told self.old.engine.disk) (D.told self.new.engine.disk)) }
     {
         told_keep(self.engine.keep(versions))
