@@ -7,8 +7,6 @@ use Rattle.vl_collect.specs.declared.pass.Pass.{Pass as ThePass}
 use Rattle.vl_core.specs.MoveFacts.{AreThere}
 use Rattle.vl_core.specs.Passing.{AreReadable, IsStillIn}
 use Rattle.vl_core.specs.declared.kept.Core.{Core}
-use Rattle.vl_disk.specs.declared.name.Name.{Name as FileName}
-use Rattle.vl_disk.specs.declared.name.Name.TheVariants.{Log, Manifest, Table}
 use Rattle.vl_engine.specs.Collecting.{Collects, FitsLooks, GoesOver, passed_in}
 use Rattle.vl_engine.specs.declared.fails.MoveFail.{MoveFail}
 use Rattle.vl_engine.specs.declared.fails.MoveFail.TheVariants as unmoved
@@ -104,12 +102,6 @@ halt_at faults.NoMemory = halts.NoMemory
 halt_at (faults.Disk name) = halts.Read name
 halt_at (faults.Damaged name place) = halts.Damaged name place
 
--- A move writes the log that takes commits, and reads tables: which of them failed is told by the file.
-abbrev pub halt_of : FileName → Halt
-halt_of (Log n) = halts.Disk (Log n)
-halt_of (Table n) = halts.Read (Table n)
-halt_of (Manifest n) = halts.Read (Manifest n)
-
 -- An engine is halted only behind a fault, at which its replayer halts too.
 abbrev pub told_move : Result ℕ MoveFail → Result Answer Halt
 told_move (Ok count) = Ok (answers.Moved count)
@@ -117,5 +109,6 @@ told_move (Err (unmoved.Halted name)) = Err (halts.Read name)
 told_move (Err (unmoved.Exhausted batch counter)) = Ok (answers.Exhausted counter)
 told_move (Err (unmoved.Full batch length frame)) = Ok answers.Full
 told_move (Err (unmoved.NoMemory batch)) = Err halts.NoMemory
-told_move (Err (unmoved.Disk name)) = Err (halt_of name)
+told_move (Err (unmoved.Disk name)) = Err (halts.Disk name)
+told_move (Err (unmoved.Read name)) = Err (halts.Read name)
 told_move (Err (unmoved.Damaged batch name place)) = Err (halts.Damaged name place)

@@ -14,7 +14,7 @@ ghost use Rattle.vl_replay.specs.Durable.{CarriesOut};
 ghost use Rattle.vl_replay.specs.Failing.{IsPass, ReaderFailed};
 ghost use Rattle.vl_replay.specs.Halts.{HaltsByDamage, HaltsByDisk, HaltsByRead, HaltsByReader};
 ghost use Rattle.vl_replay.specs.Handed.{CanHandIn, KeepsLent};
-ghost use Rattle.vl_replay.specs.Passing.{PassesIn, TakesPass, halt_at, halt_of, told_move, told_pick};
+ghost use Rattle.vl_replay.specs.Passing.{PassesIn, TakesPass, halt_at};
 ghost use Rattle.vl_replay.specs.Replaying.{MakesStep, MergesIn, OnlyNoMemory, ServesFor, StandsPassing, StandsWith, state_by};
 ghost use Rattle.vl_replay.specs.Sequential.{State, told_segment};
 ghost use Rattle.vl_replay.specs.Stored.{IsStopped, IsStored};
@@ -27,7 +27,7 @@ use crate::replayer::planned::Planned;
 use crate::replayer::Served;
 use std::alloc::{AllocError, Global};
 use vl_collect::{Pass, PassFault};
-use vl_disk::{Disk, Name as FileName};
+use vl_disk::Disk;
 use vl_engine::{MoveFail, PickFail};
 use vl_layout::SegmentStat;
 use vl_script::{Answer, Ident, SegmentLine};
@@ -228,22 +228,13 @@ pub(super) fn move_batch<D: Disk>(
             Ok(Answer::Exhausted { counter })
         }
         Err(MoveFail::NoMemory(_)) => Err(Halt::NoMemory),
-        Err(MoveFail::Disk { name: file }) => Err(halt_of(file)),
+        Err(MoveFail::Disk { name: file }) => Err(Halt::Disk { name: file }),
+        Err(MoveFail::Read { name: file }) => Err(Halt::Read { name: file }),
         Err(MoveFail::Damaged {
             name: file, place, ..
         }) => Err(Halt::Damaged { name: file, place }),
         // An engine that is halted already: a replayer stops at the first fault, and comes never here.
         Err(MoveFail::Halted { name: file }) => Err(Halt::Read { name: file }),
-    }
-}
-
-// How a move ends at whose file the disk or a read failed: it writes the log that takes commits, and reads tables.
-fn halt_of(file: FileName) -> Halt
-    ensures { result ≡ halt_of file }
-{
-    match file {
-        FileName::Log(_) => Halt::Disk { name: file },
-        FileName::Table(_) | FileName::Manifest(_) => Halt::Read { name: file },
     }
 }
 
