@@ -1,11 +1,11 @@
 -- The pass that is open: what a script's state has of it, and what its lines come to.
-use Rattle.std.specs.Prelude.{◌≡◌, ◌<◌, ◌⊎◌, ℕ, List, Option, None, Some, Result, Ok, Err, is_some, true}
+use Rattle.std.specs.Prelude.{◌≡◌, ℕ, List, Option, None, Some, Result, Ok, Err, is_some, true}
 use Rattle.std.specs.Option.{ForSome}
 use Rattle.vl_collect.specs.declared.fault.PassFault.{PassFault}
 use Rattle.vl_collect.specs.declared.fault.PassFault.TheVariants as faults
 use Rattle.vl_collect.specs.declared.pass.Pass.{Pass as ThePass}
 use Rattle.vl_core.specs.MoveFacts.{AreThere}
-use Rattle.vl_core.specs.Passing.{AreReadable, IsStillIn}
+use Rattle.vl_core.specs.Lasts.{Lasts}
 use Rattle.vl_core.specs.declared.kept.Core.{Core}
 use Rattle.vl_engine.specs.Collecting.{Collects, FitsLooks, GoesOver, passed_in}
 use Rattle.vl_engine.specs.declared.fails.MoveFail.{MoveFail}
@@ -60,8 +60,7 @@ pub record IsPassing {H R : Type 0} (bytes : H → Option (List ℕ)) (passing :
   pub looks : FitsLooks bytes passing.pass
   pub there : thing_in ts passing.name ≡ Some (APass pass passing.batch)
   pub only : (name : Name) (p : Pass) (batch : Option (List Candidate)) → thing_in ts name ≡ Some (APass p batch) → name ≡ passing.name
-  pub still : IsStillIn bytes passing.pass.log l
-  pub below : passing.pass.log.number < l.active.number
+  pub lasts : Lasts bytes passing.pass.log l
   pub batch : ForSome passing.batch (AreThere bytes passing.pass.log)
 
 -- so it is with the one that is open; and where none is, the layout has none, and no name stands for one
@@ -70,11 +69,10 @@ IsOpenPass bytes None ts l =
     (l.pass ≡ None) × ((name : Name) (p : Pass) (batch : Option (List Candidate)) → thing_in ts name ≡ Some (APass p batch) → ⊥)
 IsOpenPass bytes (Some passing) ts l = IsPassing bytes passing ts l
 
--- What the engine keeps of where space comes back from is the layout's, over whose logs a pass may go, and so is the open pass.
+-- What the engine keeps of where space comes back from is the layout's, and so is the open pass.
 pub record Passes {H R : Type 0} (bytes : H → Option (List ℕ)) (core : Core H) (collecting : Collecting)
     (passing : Option (Passing (Base H R) H)) (ts : List (Name × Thing)) (l : Layout) : Type 0 where
   pub collects : Collects core collecting l
-  pub readable : AreReadable l
   pub is_open : IsOpenPass bytes passing ts l
 
 -- so it is in this state of the store

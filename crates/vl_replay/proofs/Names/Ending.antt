@@ -115,7 +115,7 @@ module _ {H R : Type 0} (bytes : H → Option (List ℕ)) (h k : History) (l m :
   still_stands None (Some (ATransaction t b)) on is = absurd is
   still_stands None (Some (AView v b)) on is = absurd is
   still_stands None (Some (AJob job made)) on is = tt
-  still_stands None (Some (APass pass batch)) on is = absurd is
+  still_stands None (Some (APass pass batch)) on is = tt
   still_stands (Some (Transaction txn)) None on is = absurd is
   still_stands (Some (Transaction txn)) (Some (ATransaction t b)) on (is, began) = (
     (record {

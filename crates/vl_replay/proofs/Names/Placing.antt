@@ -148,10 +148,11 @@ module _ {H R : Type 0} (bytes : H → Option (List ℕ)) (seen : Option DiskSta
   -- the name isn't in use
   pub free_returns : place_of q slice ≡ None → (x : Option store.Thing → Step) → x None ≡ only (store_lines.Unknown name) s.store
       → ((job : Job) (made : Made) → x (Some (AJob job made)) ≡ only (store_lines.Unknown name) s.store)
+      → ((pass : Pass) (batch : Option (List Candidate)) → x (Some (APass pass batch)) ≡ only (store_lines.Unknown name) s.store)
       → MakesStep bytes seen core os s (x (thing_of s.store name)) (Ok (answers.Unknown name))
-  free_returns is x unknown merge =
+  free_returns is x unknown merge passes =
       unknown_makes bytes seen core os s stands os name
-      (taken_none name os stands.names.once (place_none name os (place_is None is))) x unknown merge
+      (taken_none name os stands.names.once (place_none name os (place_is None is))) x unknown merge passes
 
   module _ (at : ℕ) (is : place_of q slice ≡ Some at) (o : Open H R) (there : o ≡ slice_index_or os at o) where
     -- what stands there, as if it had been taken out

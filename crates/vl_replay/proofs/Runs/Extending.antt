@@ -15,16 +15,18 @@ use Rattle.vl_model.specs.History.{Extends, History, with_commit}
 use Rattle.vl_model.specs.Keys.{Row, tagged, untagged}
 use Rattle.vl_model.specs.declared.change.Change.TheVariants.{Set as Put, Delete as Deleted}
 use Rattle.vl_replay.specs.Sequential.{IsTold, State, answer_text, answer_to, as_told, history_of, state_after}
-use Rattle.vl_replay.specs.Sequential.{step_to, told_row, without_lengths}
-use Rattle.vl_replay.specs.laws.Growing.{begin_keeps, commit_or, get_at_keeps, get_keeps, history_more}
-use Rattle.vl_replay.specs.laws.Growing.{install_commits, plan_commits, scan_keeps, write_keeps}
-use Rattle.vl_script.specs.Script.{as_line, row_text, rows_text, text_of}
+use Rattle.vl_replay.specs.Sequential.{stat_told, step_to, told_row, told_segment, without_lengths}
+use Rattle.vl_replay.specs.laws.Growing.{batch_keeps, begin_keeps, commit_or, get_at_keeps, get_keeps, history_more}
+use Rattle.vl_replay.specs.laws.Growing.{install_commits, move_commits, pick_commits, plan_commits, scan_keeps, write_keeps}
+use Rattle.vl_script.specs.Script.{as_line, row_text, rows_text, segments_text, text_of}
+use Rattle.vl_script.specs.declared.answer.SegmentLine.{SegmentLine}
 use Rattle.std.specs.Fmt.{decimal}
 use Rattle.vl_script.specs.declared.answer.Answer.{Answer}
 use Rattle.vl_script.specs.declared.answer.Answer.TheVariants as answers
 use Rattle.vl_script.specs.declared.line.Line.{Line}
 use Rattle.vl_script.specs.declared.line.Line.TheVariants.{Begin, View, Get, Set, SetTagged, GetTagged, GetAt, Scan}
 use Rattle.vl_script.specs.declared.line.Line.TheVariants.{Delete, Commit, Drop, Rotate, Flush, Keep, Plan, Install}
+use Rattle.vl_script.specs.declared.line.Line.TheVariants.{Stats, Pick, Batch, Move}
 use Rattle.vl_replay.proofs.Disk.Betweens.{extends_itself}
 
 -- ---- commits
@@ -58,6 +60,10 @@ line_adds s Flush = inl refl
 line_adds s (Keep versions) = inl refl
 line_adds s (Plan name) = inl (plan_commits s.store name (plan_ruling s.store.layout (history_of s)) (thing_of s.store name))
 line_adds s (Install name) = inl (install_commits s.store name (thing_of s.store name))
+line_adds s Stats = inl refl
+line_adds s (Pick name percent) = inl (pick_commits s.store name percent (thing_of s.store name))
+line_adds s (Batch name) = inl (batch_keeps s.store name (thing_of s.store name)).commits
+line_adds s (Move name) = inl (move_commits s.store name (thing_of s.store name))
 line_adds s (Commit name) = elim (commit_or s.store name (thing_of s.store name)) [
   | inl (keeps, none) ↦ inl keeps.commits
   | inr (t, b, is, adds) ↦ inr (t.writes, _, adds.commits, adds.answer)
@@ -93,6 +99,10 @@ rows_many : (rows : List Row) → length rows ≡ length (map told_row (rows_tol
 rows_many [] = refl
 rows_many (row ∷ rows) = ap suc (rows_many rows)
 
+segments_alike : (segments : List SegmentLine) → segments ≡ map told_segment (map stat_told segments)
+segments_alike [] = refl
+segments_alike (s ∷ segments) = ap (λ (rest : List SegmentLine). s ∷ rest) (segments_alike segments)
+
 -- what is printed of an answer is what is printed of it as the store has it
 told_text : (answer : Answer) → text_of answer ≡ answer_text (as_told answer)
 told_text answers.Done = refl
@@ -118,6 +128,12 @@ told_text answers.Full = refl
 told_text answers.Idle = refl
 told_text (answers.Exhausted counter) = refl
 told_text (answers.Raced key) = refl
+told_text (answers.Rejected segment) = refl
+told_text answers.NoRewrite = refl
+told_text (answers.FoundRecords count) = refl
+told_text answers.End = refl
+told_text (answers.Moved count) = refl
+told_text (answers.Segments segments) = ap segments_text (segments_alike segments.items)
 
 -- the lengths of a log aren't printed
 lengths_untold : (answer : store.Answer) → answer_text (without_lengths answer) ≡ answer_text answer
@@ -153,6 +169,12 @@ told_number told answer n is number = of told (is ∙ ap without_lengths number)
     of answers.Idle e = absurd cc
     of (answers.Exhausted counter) e = absurd cc
     of (answers.Raced key) e = absurd cc
+    of (answers.Rejected segment) e = absurd cc
+    of answers.NoRewrite e = absurd cc
+    of (answers.FoundRecords count) e = absurd cc
+    of answers.End e = absurd cc
+    of (answers.Moved count) e = absurd cc
+    of (answers.Segments segments) e = absurd cc
 
 -- And what is told by `ok` is that.
 pub told_done : (told : Answer) (answer : store.Answer) → IsTold told answer → answer ≡ store.Done → told ≡ answers.Done
@@ -178,3 +200,41 @@ told_done told answer is done = of told (is ∙ ap without_lengths done)
     of answers.Idle e = absurd cc
     of (answers.Exhausted counter) e = absurd cc
     of (answers.Raced key) e = absurd cc
+    of (answers.Rejected segment) e = absurd cc
+    of answers.NoRewrite e = absurd cc
+    of (answers.FoundRecords count) e = absurd cc
+    of answers.End e = absurd cc
+    of (answers.Moved count) e = absurd cc
+    of (answers.Segments segments) e = absurd cc
+
+-- So it is with how many records were moved.
+pub told_moved : (told : Answer) (answer : store.Answer) (n : ℕ) → IsTold told answer → answer ≡ store.Moved n
+    → told ≡ answers.Moved n
+told_moved told answer n is moved = of told (is ∙ ap without_lengths moved)
+  where
+    of : (told : Answer) → as_told told ≡ store.Moved n → told ≡ answers.Moved n
+    of (answers.Moved m) e = cc
+    of answers.Done e = absurd cc
+    of (answers.Number m) e = absurd cc
+    of (answers.Found value) e = absurd cc
+    of (answers.FoundTagged value) e = absurd cc
+    of answers.NoValue e = absurd cc
+    of (answers.Dropped least) e = absurd cc
+    of (answers.Rows rows) e = absurd cc
+    of (answers.Taken name) e = absurd cc
+    of (answers.Unknown name) e = absurd cc
+    of answers.ReadOnly e = absurd cc
+    of answers.Invalid e = absurd cc
+    of answers.TooBig e = absurd cc
+    of answers.TooMany e = absurd cc
+    of answers.Nothing e = absurd cc
+    of (answers.Conflict key number) e = absurd cc
+    of answers.Full e = absurd cc
+    of answers.Idle e = absurd cc
+    of (answers.Exhausted counter) e = absurd cc
+    of (answers.Raced key) e = absurd cc
+    of (answers.Rejected segment) e = absurd cc
+    of answers.NoRewrite e = absurd cc
+    of (answers.FoundRecords count) e = absurd cc
+    of answers.End e = absurd cc
+    of (answers.Segments segments) e = absurd cc

@@ -1,4 +1,5 @@
--- A line that is told neither a number nor `ok` leaves the layout as it is, but for what lives and for merges that were given up.
+-- A line that is told neither a number nor `ok`, nor that records were moved, leaves the layout as it is, but for what lives and for
+-- merges that were given up.
 use Rattle.std.proofs.Common.{◌≡◌, inl, inr, ℕ, ◌+◌, Bool, true, false, cond, List, [], ◌∷◌, ◌++◌, refl, ap, ◌∙◌}
 use Rattle.std.specs.List.{filter}
 use Rattle.std.specs.Prelude.{◌==◌, ◌||◌, nat_lt, Option, None, Some}
@@ -19,7 +20,13 @@ use Rattle.vl_layout.specs.Rulings.Keep as keep
 use Rattle.vl_layout.specs.Rulings.Keep.{KeepAnswer, keep_unless}
 use Rattle.vl_layout.specs.Sources.{numbers_of, oldest}
 use Rattle.vl_layout.specs.Store.Commits.{history_in}
-use Rattle.vl_layout.specs.Store.Dispatch.{fill, filled, install_by, install_told, keep_told, made_of, plan_as, planned_by, step_told}
+use Rattle.vl_layout.specs.Store.Dispatch.{fill, filled, install_by, install_told, keep_told, made_of, move_by, moved_by}
+use Rattle.vl_layout.specs.Store.Dispatch.{pick_as, picked_by, plan_as, planned_by, step_told}
+use Rattle.vl_layout.specs.Relocation.{Pass}
+use Rattle.vl_layout.specs.Rulings.Pick as pick
+use Rattle.vl_layout.specs.Rulings.Pick.{PickAnswer, pick_ruling}
+use Rattle.vl_layout.specs.Rulings.Relocate as relocate
+use Rattle.vl_layout.specs.Rulings.Relocate.{MoveAnswer, relocate_ruling}
 use Rattle.vl_layout.specs.Store.Lines as store
 use Rattle.vl_layout.specs.Store.Lines.{Name}
 use Rattle.vl_layout.specs.Store.Things as things
@@ -39,6 +46,7 @@ use Rattle.vl_replay.specs.laws.Laws.{IsSound, Stepping, keeps_or}
 use Rattle.vl_script.specs.declared.line.Line.{Line}
 use Rattle.vl_script.specs.declared.line.Line.TheVariants.{Begin, View, Get, Set, SetTagged, GetTagged, GetAt, Scan}
 use Rattle.vl_script.specs.declared.line.Line.TheVariants.{Delete, Commit, Drop, Rotate, Flush, Keep, Plan, Install}
+use Rattle.vl_script.specs.declared.line.Line.TheVariants.{Stats, Pick, Batch, Move}
 
 -- the ruling on a step leaves the layout unless it is answered by a number
 record Stays (l : Layout) (r : Ruling StepAnswer) : Type 0 where
@@ -198,12 +206,45 @@ module _ (s : things.State) where
   install_stays name (Some (AJob job made)) undone = ended_install job made undone
   install_stays name (Some (APass pass batch)) undone = refl
 
+-- ---- passes
+
+module _ (s : things.State) where
+  picked_stays : (name : Name) (r : Ruling PickAnswer) (a : PickAnswer) → let x = picked_by s name r a in
+      ((n : ℕ) → x.answer ≡ store.Number n → ⊥) → x.state.layout ≡ s.layout
+  picked_stays name r (pick.Picked pass) none = absurd (none pass.segment refl)
+  picked_stays name r pick.InvalidRequest none = refl
+  picked_stays name r (pick.Rejected segment) none = refl
+  picked_stays name r pick.NoRewrite none = refl
+
+  pick_stays : (name : Name) (percent : ℕ) (o : Option Thing) → let x = pick_as s name percent o in
+      ((n : ℕ) → x.answer ≡ store.Number n → ⊥) → x.state.layout ≡ s.layout
+  pick_stays name percent None none =
+      let r = pick_ruling s.layout (history_in s.commits) percent in picked_stays name r r.answer none
+  pick_stays name percent (Some thing) none = refl
+
+  moved_stays : (name : Name) (pass : Pass) (r : Ruling MoveAnswer) (a : MoveAnswer) → let x = moved_by s name pass r a in
+      ((n : ℕ) → x.answer ≡ store.Moved n → ⊥) → x.state.layout ≡ s.layout
+  moved_stays name pass r (relocate.Moves n) none = absurd (none n refl)
+  moved_stays name pass r (relocate.Halted file) none = refl
+  moved_stays name pass r (relocate.Exhausted c) none = refl
+  moved_stays name pass r (relocate.Full long frame) none = refl
+
+  move_stays : (name : Name) (o : Option Thing) → let x = move_by s name o in
+      ((n : ℕ) → x.answer ≡ store.Moved n → ⊥) → x.state.layout ≡ s.layout
+  move_stays name None none = refl
+  move_stays name (Some (ATransaction t b)) none = refl
+  move_stays name (Some (AView v b)) none = refl
+  move_stays name (Some (AJob job made)) none = refl
+  move_stays name (Some (APass pass None)) none = refl
+  move_stays name (Some (APass pass (Some batch))) none =
+      let r = relocate_ruling s.layout (history_in s.commits) pass batch in moved_stays name pass r r.answer none
+
 pub layout_stays : (s : State) (line : Line) → IsSound s → ((n : ℕ) → answer_to s line ≡ store.Number n → ⊥)
-    → (answer_to s line ≡ store.Done → ⊥) → without_merges (state_after s line).store.layout ≡ without_merges s.store.layout
-layout_stays s line sound none undone = elim (keeps_or s line sound) [
+    → (answer_to s line ≡ store.Done → ⊥) → ((n : ℕ) → answer_to s line ≡ store.Moved n → ⊥) → without_merges (state_after s line).store.layout ≡ without_merges s.store.layout
+layout_stays s line sound none undone unmoved = elim (keeps_or s line sound) [
   | inl keeps ↦ ap without_merges keeps.layout
   | inr (inl (t, b, name, is, thing, adds)) ↦ absurd (none _ adds.answer)
-  | inr (inr steps) ↦ of_step line steps none undone
+  | inr (inr steps) ↦ of_step line steps none undone unmoved
 ]
   where
     l : Layout
@@ -211,6 +252,7 @@ layout_stays s line sound none undone = elim (keeps_or s line sound) [
 
     Still : Line → Type 0
     Still other = ((n : ℕ) → answer_to s other ≡ store.Number n → ⊥) → (answer_to s other ≡ store.Done → ⊥)
+        → ((n : ℕ) → answer_to s other ≡ store.Moved n → ⊥)
         → without_merges (state_after s other).store.layout ≡ without_merges s.store.layout
 
     of_step : (other : Line) → Stepping s other → Still other
@@ -224,9 +266,14 @@ layout_stays s line sound none undone = elim (keeps_or s line sound) [
     of_step (SetTagged name key value tag) steps = absurd steps.is
     of_step (Delete name key) steps = absurd steps.is
     of_step (Commit name) steps = absurd steps.is
-    of_step (Drop name) steps = λ none undone. absurd (undone (steps.ended name refl))
-    of_step Rotate steps = λ none undone. ap without_merges ((rotate_stays l (history_of s) l.halted).stays none)
-    of_step Flush steps = λ none undone. ap without_merges ((flush_stays l (history_of s) l.halted).stays none)
-    of_step (Keep versions) steps = λ none undone. ap without_merges ((keep_stays l (history_of s) versions l.halted).stays undone)
-    of_step (Plan name) steps = λ none undone. plan_stays s.store name (thing_of s.store name) (λ n is. none _ (ap counted is))
-    of_step (Install name) steps = λ none undone. install_stays s.store name (thing_of s.store name) undone
+    of_step (Drop name) steps = λ none undone unmoved. absurd (undone (steps.ended name refl))
+    of_step Rotate steps = λ none undone unmoved. ap without_merges ((rotate_stays l (history_of s) l.halted).stays none)
+    of_step Flush steps = λ none undone unmoved. ap without_merges ((flush_stays l (history_of s) l.halted).stays none)
+    of_step (Keep versions) steps = λ none undone unmoved. ap without_merges ((keep_stays l (history_of s) versions l.halted).stays undone)
+    of_step (Plan name) steps = λ none undone unmoved. plan_stays s.store name (thing_of s.store name) (λ n is. none _ (ap counted is))
+    of_step (Install name) steps = λ none undone unmoved. install_stays s.store name (thing_of s.store name) undone
+    of_step Stats steps = absurd steps.is
+    of_step (Pick name percent) steps = λ none undone unmoved. ap without_merges
+        (pick_stays s.store name percent (thing_of s.store name) none)
+    of_step (Batch name) steps = absurd steps.is
+    of_step (Move name) steps = λ none undone unmoved. ap without_merges (move_stays s.store name (thing_of s.store name) unmoved)

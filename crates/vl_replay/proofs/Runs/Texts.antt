@@ -29,7 +29,7 @@ use Rattle.vl_replay.proofs.Runs.Ends.{at_fault, or_cut}
 use Rattle.vl_replay.proofs.Disk.DiskSteps.{IsWatched, text_extends, rests_until, it_holds, its_commits, opens_again}
 use Rattle.vl_replay.proofs.Disk.DiskSteps.{ends_within, ends_unchanged}
 use Rattle.vl_replay.proofs.Disk.Shown.{shown_stays, stored_exactly}
-use Rattle.vl_replay.proofs.Runs.Extending.{line_keeps, told_done, told_number}
+use Rattle.vl_replay.proofs.Runs.Extending.{line_keeps, told_done, told_moved, told_number}
 use Rattle.vl_replay.proofs.Runs.Staying.{layout_stays}
 
 -- ---- results
@@ -171,13 +171,15 @@ module _ {D : Type 0} (g : Ghosts D) (watched : IsWatched g) (s : State) (text :
 
     -- the answer to a line that makes no call found no memory
     pub kept_without_number : (line : Line) (answer : Answer) → IsSound s → IsTold answer (answer_to s line)
-        → ((n : ℕ) → answer ≡ Number n → ⊥) → (answer ≡ Done → ⊥) → HoldsState g IsStored (state_after s line) new
+        → ((n : ℕ) → answer ≡ Number n → ⊥) → (answer ≡ Done → ⊥) → ((n : ℕ) → answer ≡ Moved n → ⊥)
+        → HoldsState g IsStored (state_after s line) new
         → HoldsCommits g IsStored s new
-    kept_without_number line answer sound is none undone held = (
+    kept_without_number line answer sound is none undone unmoved held = (
       state_after s line,
       line_keeps s line unnumbered,
       layout_stays s line sound unnumbered
-          (λ done. undone (told_done answer (answer_to s line) is done)),
+          (λ done. undone (told_done answer (answer_to s line) is done))
+          (λ n moved. unmoved n (told_moved answer (answer_to s line) n is moved)),
       held.there,
     )
       where

@@ -106,7 +106,7 @@ pub(super) fn plan<D: Disk>(
         → HaltsByRead result → HasTables s }
     ensures undamaged { (s : State) → StandsMerging D.Watched D.Writer.Writer D.Held.bytes served.old planned.old s → thing_of s.store name ≡ None
         → HaltsByDamage result → ⊥ }
-    ensures fault { (s : State) → StandsMerging D.Watched D.Writer.Writer D.Held.bytes served.old planned.old s → thing_of s.store name ≡ None
+    ensures fault { (s : State) → StandsMerging D.Watched D.Writer.Writer D.Held.bytes served.old planned.old s
         → HaltsByReader result → ReaderFailed (beside D.Reader.faults D.Writer.faults) }
     ensures cause { HasCause (D.faults served.old.engine.disk) (D.faults served.new.engine.disk) (HaltsByDisk result) }
     ensures named { (s : State) (file : Name) → StandsMerging D.Watched D.Writer.Writer D.Held.bytes served.old planned.old s → thing_of s.store name ≡ None

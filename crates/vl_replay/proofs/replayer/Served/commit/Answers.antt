@@ -26,6 +26,7 @@ returns-in-None-clause-makes g c s stands =
     unknown_returns g.D.Held.HeldFile.bytes _ c.args.self.now.engine.core c.args.self.now.opens.items
     c.take_out.new.opens.items s stands
     c.as_slice.result.now c.args.name c.as_slice.ensures c.in-None.ensures (commit_by s.store c.args.name) refl (λ job made. refl)
+    (λ pass batch. refl)
 
 pub returns-in-Some-View-clause-makes : goal.returns-in-Some-View-clause-makes
 returns-in-Some-View-clause-makes g c s stands =
@@ -202,7 +203,8 @@ returns-in-None-clause-carries g c s stands =
     seen core left s
     (commit_by s.store c.args.name (thing_of s.store c.args.name))
     (only_keeps s.store _ _ (nothing_there bytes seen core os s stands left c.args.name taken
-    (λ (o : Option Thing). commit_by s.store c.args.name o ≡ only (Unknown c.args.name) s.store) refl (λ job made. refl)))
+    (λ (o : Option Thing). commit_by s.store c.args.name o ≡ only (Unknown c.args.name) s.store) refl (λ job made. refl)
+    (λ pass batch. refl)))
     _ (returns-in-None-clause-makes g c s stands) (λ halts. halts) c.args.self.now.engine.disk c.args.self.now.engine.disk refl
 
 pub returns-in-Some-View-clause-carries : goal.returns-in-Some-View-clause-carries
