@@ -51,6 +51,10 @@ pub fn make_tables<D: Disk>(
     ensures fault { engine.old.core.front.halted ≡ None
         → HaltsByReader result → ReaderFailed (beside D.Reader.faults D.Writer.faults) }
 
+    // What is kept of statistics and of passes stays.
+    ensures collecting { engine.new.collecting ≡ engine.old.collecting }
+    ensures logs { engine.new.core.version.behind.logs ≡ engine.old.core.version.behind.logs }
+
     // A merge that has all of its tables can be handed in.
     ensures handed { result ≡ Ok None
         → MayHandIn D.Watched D.Writer.Writer engine.new.disk engine.new.merging job.new }
@@ -83,6 +87,8 @@ fn make_table<D: Disk>(
         → HaltsByReader result → ReaderFailed (beside D.Reader.faults D.Writer.faults) }
     ensures lent { HasLent D.Watched D.Writer.Writer engine.old.disk engine.old.merging job.old
         → StillLent (HasLent D.Watched D.Writer.Writer engine.new.disk engine.new.merging job.new) (job.new.ended ≡ true) result }
+    ensures collecting { engine.new.collecting ≡ engine.old.collecting }
+    ensures logs { engine.new.core.version.behind.logs ≡ engine.old.core.version.behind.logs }
     // Each table takes a number of its own.
     ensures drawn { result ≡ Ok Made
         → (engine.old.core.back.state.next_table < 2 ^ 32) × (engine.new.core ≡ drawn_core engine.old.core) }

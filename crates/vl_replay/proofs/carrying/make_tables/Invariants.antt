@@ -9,6 +9,8 @@ use Rattle.vl_replay.proofs.carrying.make_tables.Given as goal
 abbrev pub invariant-tables : goal.invariant-tables
 invariant-tables g l = record {
   lent : HasLent g.D.Watched g.D.Writer.Writer l.engine.disk l.engine.merging l.job;
+  collecting : l.engine.collecting ≡ l.fn.engine.collecting;
+  logs : l.engine.core.version.behind.logs ≡ l.fn.engine.core.version.behind.logs;
   steady : g.D.Watched.faults l.engine.disk ≡ g.D.Watched.faults l.fn.engine.disk;
   running : l.fn.engine.core.front.halted ≡ None → l.engine.core.front.halted ≡ None;
   so_far : (s : State) (j : Job)
