@@ -268,7 +268,6 @@ module _ {H R : Type 0} (bytes : H → Option (List ℕ)) (told : Option DiskSta
                 (same_or_not other name);
             lent = subst (AreLent (numbers_from s.store.layout.next_table (total_of j))) (sym has.made)
                 (some_lent s name j (total_of j) (omega arith));
-            unmoved = refl;
           };
         })
 

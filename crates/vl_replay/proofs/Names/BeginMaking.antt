@@ -23,7 +23,8 @@ use Rattle.vl_layout.specs.Store.Lines as store_lines
 use Rattle.vl_layout.specs.Store.Lines.{Name}
 use Rattle.vl_layout.specs.Store.Reading.{a_transaction, a_view, begin_as, begun_by}
 use Rattle.vl_layout.specs.Store.Things as store
-use Rattle.vl_layout.specs.Store.Things.{AJob, ATransaction, AView, Step, named, only, thing_of, without_thing}
+use Rattle.vl_layout.specs.Relocation.{Candidate, Pass}
+use Rattle.vl_layout.specs.Store.Things.{AJob, APass, ATransaction, AView, Step, named, only, thing_of, without_thing}
 use Rattle.vl_layout.specs.Tickets.{free_ticket, tickets_of}
 use Rattle.vl_layout.specs.laws.LowShows.{floor-begun}
 use Rattle.vl_layout.specs.declared.layout.Layout.{Layout}
@@ -281,5 +282,6 @@ unnamed_makes bytes seen core os s stands left name taken none no_pass x is =
 pub unread_of : {H R : Type 0} (bytes : H → Option (List ℕ)) (h : History) (l : Layout) (o : Option (Thing H R)) (y : Option store.Thing)
     → Corresponds bytes h l o y → y ≡ None → o ≡ None
 unread_of bytes h l None y is none = refl
-unread_of bytes h l (Some thing) None is none = absurd is
+unread_of bytes h l (Some (Transaction txn)) None is none = absurd is
+unread_of bytes h l (Some (View view)) None is none = absurd is
 unread_of bytes h l (Some thing) (Some z) is none = absurd cc

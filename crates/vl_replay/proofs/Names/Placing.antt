@@ -9,7 +9,8 @@ use Rattle.vl_core.specs.declared.kept.Core.{Core}
 use Rattle.vl_layout.specs.Store.Lines.{Name}
 use Rattle.vl_layout.specs.Store.Things as store
 use Rattle.vl_layout.specs.Store.Lines as store_lines
-use Rattle.vl_layout.specs.Store.Things.{AJob, Step, only, thing_of}
+use Rattle.vl_layout.specs.Relocation.{Candidate, Pass}
+use Rattle.vl_layout.specs.Store.Things.{AJob, APass, Step, only, thing_of}
 use Rattle.vl_layout.specs.Jobs.{Made}
 use Rattle.vl_layout.specs.declared.job.Job.{Job}
 use Rattle.vl_layout.specs.declared.layout.Layout.{Layout}

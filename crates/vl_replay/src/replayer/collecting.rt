@@ -35,10 +35,10 @@ use vl_version::Base;
 
 /// Whether the pass that is open has this name.
 pub(super) fn is_passing<V, H>(passing: &Option<Passing<V, H>>, name: &[u8]) -> bool
-    ensures { result ≡ option_map_or (λ open. bytes_eq name.now open.name) passing.now false }
+    ensures { result ≡ option_map_or (λ going. bytes_eq name.now going.name) passing.now false }
 {
     match passing {
-        Some(open) => open.is_named(name),
+        Some(going) => going.is_named(name),
         None => false,
     }
 }
@@ -139,23 +139,23 @@ pub(super) fn batch<D: Disk>(
     ensures fault { HaltsByReader result → ReaderFailed D.Reader.faults }
     ensures not_the_disk { HaltsByDisk result → ⊥ }
 {
-    let Some(open) = passing else {
+    let Some(going) = passing else {
         return Ok(Answer::Unknown { name });
     };
-    if !open.is_named(name.as_slice()) {
+    if !going.is_named(name.as_slice()) {
         return Ok(Answer::Unknown { name });
     }
-    if open.batch.is_some() {
+    if going.batch.is_some() {
         return Ok(Answer::Taken { name });
     }
     let mut reader = served.engine.reader()?;
-    match open
+    match going
         .pass
         .next(served.alloc, &mut reader.files, &mut reader.looks)
     {
         Ok(Some(batch)) => {
             let count = batch.len() as u64;
-            open.batch = Some(batch);
+            going.batch = Some(batch);
             Ok(Answer::FoundRecords { count })
         }
         Ok(None) => Ok(Answer::End),
@@ -202,29 +202,29 @@ pub(super) fn move_batch<D: Disk>(
     ensures merging { KeepsLent served.old.engine.merging served.new.engine.merging }
     ensures untold { OnOk result (StaysUntold (D.told served.old.engine.disk) (D.told served.new.engine.disk)) }
 {
-    let Some(open) = passing else {
+    let Some(going) = passing else {
         return Ok(Answer::Unknown { name });
     };
-    if !open.is_named(name.as_slice()) {
+    if !going.is_named(name.as_slice()) {
         return Ok(Answer::Unknown { name });
     }
-    let Some(batch) = open.batch.take() else {
+    let Some(batch) = going.batch.take() else {
         return Ok(Answer::Idle);
     };
     let mut reader = served.engine.reader()?;
     match served
         .engine
-        .relocate(&open.pass, batch, &mut reader.looks)
+        .relocate(&going.pass, batch, &mut reader.looks)
     {
         Ok(count) => Ok(Answer::Moved {
             count: u64::from(count),
         }),
         Err(MoveFail::Full { batch, .. }) => {
-            open.batch = Some(batch);
+            going.batch = Some(batch);
             Ok(Answer::Full)
         }
         Err(MoveFail::Exhausted { batch, counter }) => {
-            open.batch = Some(batch);
+            going.batch = Some(batch);
             Ok(Answer::Exhausted { counter })
         }
         Err(MoveFail::NoMemory(_)) => Err(Halt::NoMemory),

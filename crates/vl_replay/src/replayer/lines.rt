@@ -1,6 +1,7 @@
 //! A script's lines, one after the other.
-ghost use Rattle.std.specs.Prelude.{◌≡◌, Err, IfOk, None, OnOk, Some};
-ghost use Rattle.std.specs.Option.{option_map};
+ghost use Rattle.std.specs.Prelude.{◌≡◌, ◌||◌, Err, false, IfOk, None, OnOk, Some};
+ghost use Rattle.std.specs.Option.{is_some, option_map, option_map_or};
+ghost use Rattle.std.specs.Str.{bytes_eq};
 ghost use Rattle.vl_disk.specs.Faults.{HasCause};
 ghost use Rattle.vl_disk.specs.declared.name.Name.{Name};
 ghost use Rattle.vl_replay.specs.Asking.{AsksForRow};
@@ -12,6 +13,7 @@ ghost use Rattle.vl_replay.specs.Handed.{CanHandIn};
 ghost use Rattle.vl_replay.specs.Passing.{PassesIn, TellsUsed, name_made};
 ghost use Rattle.vl_replay.specs.Replaying.{MakesStep, MergesIn, StandsFor, StandsWith, TakesLines, disk_of};
 ghost use Rattle.vl_replay.specs.Sequential.{IsTold, State, answer_to, state_after, step_to};
+ghost use Rattle.vl_replay.specs.Standing.{open_in};
 ghost use Rattle.vl_replay.specs.Stored.{IsStopped, IsStored};
 ghost use Rattle.vl_replay.specs.declared.fails.Halt.{Halt as Halts};
 ghost use Rattle.vl_replay.specs.declared.fails.Halt.TheVariants as halts;
@@ -19,12 +21,12 @@ ghost use Rattle.vl_replay.specs.declared.fails.Halt.TheVariants as halts;
 use crate::fails::Halt;
 use crate::replayer::collecting::{batch, end, is_passing, move_batch, pick, stats};
 use crate::replayer::merging::{install, is_planned, plan};
-use crate::replayer::open::is_taken;
+use crate::replayer::open::{Open, is_taken};
 use crate::replayer::passing::Passing;
 use crate::replayer::planned::Planned;
 use crate::replayer::{Replayer, Served};
 use std::alloc::AllocError;
-use vl_disk::Disk;
+use vl_disk::{Disk, Writer};
 use vl_script::{Answer, Ident, Line};
 use vl_version::Base;
 
@@ -139,13 +141,24 @@ fn name_in_use<D: Disk>(
     let Some(name) = name_made(line) else {
         return Ok(None);
     };
-    let is_used = is_taken(&served.opens, name.as_slice())
-        || is_planned(planned, name.as_slice())
-        || is_passing(passing, name.as_slice());
-    if !is_used {
+    if !is_used(&served.opens, planned, passing, name.as_slice()) {
         return Ok(None);
     }
     Ok(Some(name.share()?))
+}
+
+// Whether a reader, the merge that waits or the pass that is open has this name.
+fn is_used<H, R, V, W: Writer>(
+    opens: &[Open<H, R>],
+    planned: &Option<Planned<V, H, W>>,
+    passing: &Option<Passing<V, H>>,
+    name: &[u8],
+) -> bool
+    ensures { result ≡ (is_some (open_in opens.now name.now)
+        || (option_map_or (λ waiting. bytes_eq name.now waiting.name) planned.now false
+        || option_map_or (λ going. bytes_eq name.now going.name) passing.now false)) }
+{
+    is_taken(opens, name) || is_planned(planned, name) || is_passing(passing, name)
 }
 
 // Carries a line out, by what it asks for.
