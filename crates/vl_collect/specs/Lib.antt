@@ -1,0 +1,4 @@
+pub mod Batches
+pub mod Faults
+pub mod Passing
+pub mod Taking
