@@ -10,6 +10,7 @@
 
 mod batch;
 mod fault;
+mod laws;
 mod pass;
 mod still;
 mod taking;
@@ -17,5 +18,6 @@ mod wins;
 
 pub use batch::{Batch, Found};
 pub use fault::PassFault;
+pub use laws::{a_pass_begins_with_all_records, batches_stand_in_their_log};
 pub use pass::Pass;
 pub use still::still_moved;
