@@ -77,8 +77,7 @@ module _ (batch : List Found) (rs : List ReadRecord) (i : ℕ) (r : ReadRecord) 
   -- so it is behind a record that isn't taken
   pub passes_on : (high : ℕ) → InFront batch (drop i rs) high → InFront batch (drop (i + 1) rs) high
   passes_on high front =
-      let next = next_at read_place front.0 rs i r high within is front.2 in
-      (
+      let next = next_at read_place front.0 rs i r high within is front.2 in (
         front.0,
         front.1,
         lower read_place front.0 (r.pointer.place + 1) (drop (i + 1) rs) high (let here = next.here in omega (arith, here)) next.rest,
@@ -88,8 +87,7 @@ module _ (batch : List Found) (rs : List ReadRecord) (i : ℕ) (r : ReadRecord) 
   pub takes_on : (high : ℕ) (x : Found) → IsOf r x → InFront batch (drop i rs) high → InFront (batch ++ x ∷ []) (drop (i + 1) rs) high
   takes_on high x of front =
       let next = next_at read_place front.0 rs i r high within is front.2 in
-      let place : x.place ≡ r.pointer.place = ap (λ (c : Candidate). c.place) of.is in
-      (
+      let place : x.place ≡ r.pointer.place = ap (λ (c : Candidate). c.place) of.is in (
         x.place + 1,
         one_more found_place 0 batch front.0 x front.1 (let here = next.here in omega (arith, here, place)),
         subst (λ (n : ℕ). Rise read_place (n + 1) (drop (i + 1) rs) high) (sym place) next.rest,

@@ -18,7 +18,7 @@ returns-in_err-is_moved-clause-cause g c =
     c.loop-found.invariant.steady _ c.in_err-is_moved.ensures.cause))
 
 not_both : (b : Bool) → b ≡ true → b ≡ false → ⊥
-not_both b yes no = cc
+not_both b is isnt = cc
 
 pub loop-found-preserved : goal.loop-found-preserved
 loop-found-preserved g c =
