@@ -76,11 +76,13 @@ loop-at-preserved g c =
                 ∙ ap (λ (xs : List Found). outcome entries segment (candidates xs) rest) (sym (ap (λ v. v.items) w.batch-is))
             | in-Some+else-not-has_room+in_ok-put-in-Some w ↦
                 let one = subst (λ (o : Option Found). one_of o ≡ found_in entries segment (record_of r)) w.in-Some.is found in
-                let room = subst (λ (xs : List Found). w.has_room.result ≡ has_room (length xs) (value_lengths (candidates xs)) w.len.result)
+                let room = subst (λ (xs : List Found). w.has_room.result ≡ has_room (length xs)
+                (value_lengths (candidates xs)) w.len.result)
                 w.deref.ensures.value w.has_room.ensures in
                 so_far
                 ∙ taken_in entries segment recs at r c.loop-at-test.true c.index-records-at.is taken w.in-Some.found one
-                (sym (room ∙ ap (has_room (length taken) (value_lengths (candidates taken))) w.len.ensures) ∙ w.if-not-has_room.false) others
+                (sym (room ∙ ap (has_room (length taken) (value_lengths (candidates taken))) w.len.ensures)
+                ∙ w.if-not-has_room.false) others
                 ∙ ap (λ (xs : List Found). outcome entries segment (candidates xs) rest)
                 (sym (ap (λ v. v.items) w.batch-is ∙ w.in_ok-put-in-Some.ensures))
           ];

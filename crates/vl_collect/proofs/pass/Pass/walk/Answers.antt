@@ -77,7 +77,8 @@ loop-at-preserved g c =
       rises = λ none.
           let front = c.loop-at.invariant.rises none in
           let here : front.0 ≡ at.place = front.3 (omega (arith, c.loop-at-test.true, c.len.type_inv)) in
-          let behind = frame_behind log.format log.number at.place f recs c.records_of-records.ensures lies front.0 at.done (omega (arith, here)) in
+          let behind = frame_behind log.format log.number at.place f recs c.records_of-records.ensures lies front.0
+          at.done (omega (arith, here)) in
           let all = c.in_ok-done.ensures.rises front.0 (at.place + f.length) front.1 behind in
           let sum = c.saturating_add.ensures in
           (at.place + f.length, all, omega (arith, sum), λ less. omega (arith, sum, less));
@@ -123,7 +124,8 @@ loop-at-preserved-else-done-count g c =
       rises = λ none.
           let front = c.loop-at.invariant.rises none in
           let here : front.0 ≡ at.place = front.3 (omega (arith, c.loop-at-test.true, c.len.type_inv)) in
-          let behind = frame_behind log.format log.number at.place f recs c.records_of-records.ensures lies front.0 at.done (omega (arith, here)) in
+          let behind = frame_behind log.format log.number at.place f recs c.records_of-records.ensures lies front.0
+          at.done (omega (arith, here)) in
           let all = c.in_ok-done.ensures.rises front.0 (at.place + f.length) front.1 behind in
           let sum = c.saturating_add.ensures in
           (at.place + f.length, all, omega (arith, sum), λ less. omega (arith, sum, less));
@@ -169,7 +171,8 @@ returns-then-done-count-clause-batch g c = λ none.
     let lies : IsFrameAt log.format log.number at.place f = rw c.in-Some.is at c.in_ok-frame.ensures.place in
     let front = c.loop-at.invariant.rises none in
     let here : front.0 ≡ at.place = front.3 (omega (arith, c.loop-at-test.true, c.len.type_inv)) in
-    let behind = frame_behind log.format log.number at.place f recs c.records_of-records.ensures lies front.0 at.done (omega (arith, here)) in
+    let behind = frame_behind log.format log.number at.place f recs c.records_of-records.ensures lies front.0 at.done
+    (omega (arith, here)) in
     let may = frame_moves log.format log.number at.place f recs c.records_of-records.ensures
     (rw c.in-Some.is at c.in_ok-frame.ensures.lawful) lies in
     record {
