@@ -1,5 +1,5 @@
 -- What a frame that is lawful and lies at its place gives of its records.
-use Rattle.std.proofs.Common.{◌≡◌, ℕ, ◌+◌, ◌<◌, ◌≤◌, ◌^◌, Bool, true, false, List, [], ◌∷◌, map, length, drop, refl, ap, sym, ◌∙◌}
+use Rattle.std.proofs.Common.{◌≡◌, ℕ, ◌+◌, ◌<◌, ◌≤◌, ◌^◌, Bool, true, false, List, [], ◌∷◌, map, length, drop, refl, sym}
 use Rattle.std.proofs.Common.{subst, arith}
 use Rattle.std.proofs.lemmas.Bool.Decides.{nat_tests}
 use Rattle.std.proofs.lemmas.List.Elements.{All-from_recursion}
@@ -10,12 +10,11 @@ use Rattle.vl_collect.specs.Batches.{MayMove, Rise, read_place}
 use Rattle.vl_model.specs.Formats.{log_format}
 use Rattle.vl_model.specs.Frames.{record_length}
 use Rattle.vl_model.specs.Keys.{Stored}
-use Rattle.vl_model.specs.declared.change.Change.{Change}
 use Rattle.vl_model.specs.declared.change.Change.TheVariants.{Set}
 use Rattle.vl_seglog.specs.Bodies.{IsFrame}
 use Rattle.vl_seglog.specs.Moves.{IsMoved}
 use Rattle.vl_seglog.specs.Placed.{AreMovedFrom, AreRecordsFrom, IsFrameAt, RecordsLie, records_of}
-use Rattle.vl_seglog.specs.Reading.{frame_of, moved_of, said_of, value_of, write_of}
+use Rattle.vl_seglog.specs.Reading.{frame_of, moved_of, said_of, write_of}
 use Rattle.vl_seglog.specs.Record.{IsRecord}
 use Rattle.vl_seglog.specs.declared.frame.Frame.{Frame}
 use Rattle.vl_seglog.specs.declared.frame.ReadRecord.{ReadRecord}

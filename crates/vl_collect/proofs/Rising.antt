@@ -7,9 +7,9 @@ use Rattle.std.proofs.lemmas.List.{drop_more}
 use Rattle.std.proofs.lemmas.List.Sums.{sum_by-cons}
 use Rattle.std.proofs.lemmas.List.Elements.{All-get_or}
 use Rattle.std.specs.List.{All, AllByRecursion, sum_by}
-use Rattle.std.specs.Prelude.{Bool, true, false, ◌&&◌, nat_le, if◌then◌else◌}
+use Rattle.std.specs.Prelude.{Bool, true, false, nat_le, if◌then◌else◌}
 use Rattle.vl_collect.specs.Batches.{IsLawful, IsOf, MayMove, Rise, found_place, read_place, rise_from}
-use Rattle.vl_collect.specs.Taking.{candidate_of, candidates}
+use Rattle.vl_collect.specs.Taking.{candidates}
 use Rattle.vl_collect.specs.declared.batch.Found.{Found}
 use Rattle.vl_layout.specs.Relocation.{Candidate}
 use Rattle.vl_model.specs.Formats.{log_format, record_head}
@@ -17,7 +17,7 @@ use Rattle.vl_model.specs.Frames.{frame_length, moved_length, record_length}
 use Rattle.vl_model.specs.declared.change.Change.{Change}
 use Rattle.vl_seglog.specs.Moves.{IsMoved}
 use Rattle.vl_seglog.specs.Placed.{AreMovedFrom, AreRecordsFrom, IsFrameAt, RecordsLie, records_of}
-use Rattle.vl_seglog.specs.Reading.{frame_of, moved_of, said_of, write_of}
+use Rattle.vl_seglog.specs.Reading.{moved_of, said_of, write_of}
 use Rattle.vl_seglog.specs.declared.frame.Frame.{Frame}
 use Rattle.vl_seglog.specs.declared.frame.ReadRecord.{ReadRecord}
 use Rattle.vl_seglog.specs.declared.frame.Said.{Said}

@@ -1,12 +1,11 @@
-use Rattle.std.proofs.Common.{◌≡◌, ℕ, ◌+◌, ◌-◌, ◌^◌, List, length, drop, Option, Some, refl, ap, sym, subst, ◌∙◌, arith}
+use Rattle.std.proofs.Common.{◌≡◌, ℕ, ◌+◌, List, length, drop, Option, Some, refl, ap, sym, subst, ◌∙◌, arith}
 use Rattle.vl_collect.proofs.Failing.{log_behind, passed_on}
 use Rattle.vl_collect.proofs.Frames.{frame_behind, frame_moves}
 use Rattle.vl_collect.proofs.Rising.{test_of}
 use Rattle.vl_collect.proofs.Walking.{at_end, ends_on, ends_torn, frame_within, walks_on, walks_to}
 use Rattle.vl_collect.specs.Passing.{EndAt, IsTornAt}
 use Rattle.vl_collect.specs.Taking.{Passes, candidates, records_as}
-use Rattle.vl_disk.specs.Faults.{HasCause}
-use Rattle.vl_seglog.specs.Placed.{IsFrameAt, records_of}
+use Rattle.vl_seglog.specs.Placed.{IsFrameAt}
 use Rattle.vl_seglog.specs.Sealed.{IsFound, IsTorn}
 use Rattle.vl_seglog.specs.declared.frame.Frame.{Frame}
 use Rattle.vl_seglog.specs.declared.frame.ReadRecord.{ReadRecord}
