@@ -7,6 +7,7 @@
 
 mod laws;
 mod live_bytes;
+mod logs;
 mod shares;
 mod sums;
 mod tally;
@@ -14,7 +15,6 @@ mod tally_laws;
 
 pub use laws::tables_come_and_go;
 pub use live_bytes::LiveBytes;
-pub use shares::best;
 pub use tally::Tally;
 pub use tally_laws::{other_calls_leave_a_tally, switches_of_an_engine};
 
@@ -23,7 +23,6 @@ mod tests {
     use super::*;
     use std::test::Fail;
     use vl_block::{Footer, Point};
-    use vl_layout::SegmentStat;
     use vl_model::Key;
 
     #[test]
@@ -49,23 +48,6 @@ mod tests {
         assert_eq!(rt; one.live(1), 73);
         let again = one.with(&[], &[&footer])?;
         assert_eq!(rt; again.live(1), 0);
-        Ok(())
-    }
-
-    #[test]
-    fn the_greatest_share_is_the_best(rt: HostRuntime) -> Result<(), Fail> {
-        let first = SegmentStat {
-            segment: 1,
-            bytes: 1000,
-            live: 891,
-        };
-        let second = SegmentStat {
-            segment: 2,
-            bytes: 1000,
-            live: 895,
-        };
-        assert_eq!(rt; best(10, &[second, first]), Some(first));
-        assert_eq!(rt; best(11, &[second, first]), None);
         Ok(())
     }
 }

@@ -237,8 +237,8 @@ module _ (greatest : HasGreatest) (stat : Segment → SegmentStat) (percent : �
       each [] = tt
       each (t ∷ ts) = (
         (λ worth.
-        let some = (and_parts (nat_lt 0 (stat t).bytes) (nat_le (percent * (stat t).bytes) (discard (stat t) * 100)) worth).0 in
-        grind (arith, nat_tests, some)),
+            let some = (and_parts (nat_lt 0 (stat t).bytes) (nat_le (percent * (stat t).bytes) (discard (stat t) * 100)) worth).0 in
+            grind (arith, nat_tests, some)),
         each ts,
       )
 
