@@ -1,5 +1,6 @@
 ghost use Rattle.std.specs.Prelude.{◌≡◌, ◌&&◌, nat_lt, if◌then◌else◌, map};
 ghost use Rattle.std.specs.List.{filter};
+ghost use Rattle.std.specs.Option.{option_map};
 ghost use Rattle.vl_layout.specs.Garbage.{best_of, better_of, is_worth};
 ghost use Rattle.vl_stats.specs.Tallies.{share_by};
 
@@ -53,5 +54,14 @@ fn better(stat: SegmentStat, best: Option<SegmentStat>) -> SegmentStat
     match best {
         Some(other) if !stat.is_better(&other) => other,
         _ => stat,
+    }
+}
+
+pub fn segment_of(best: Option<SegmentStat>) -> Option<u32>
+    ensures { result ≡ option_map (λ x. x.segment) best }
+{
+    match best {
+        Some(stat) => Some(stat.segment),
+        None => None,
     }
 }

@@ -22,7 +22,7 @@ ghost use Rattle.vl_stats.specs.Tallies.{IsOfLayout, IsTally, length_of, lengths
 
 use crate::LiveBytes;
 use crate::logs::{Logs, put_log, retain, stats_of};
-use crate::shares::best_below;
+use crate::shares::{best_below, segment_of};
 use std::alloc::{AllocError, Global};
 use std::marker::Model;
 use vl_block::Footer;
@@ -125,6 +125,6 @@ impl Tally {
     {
         // The law that the best of logs in any order has the greatest share.
         best_has_the_greatest_share();
-        best_below(&self.live, &self.logs, percent, head).map(|stat| stat.segment)
+        segment_of(best_below(&self.live, &self.logs, percent, head))
     }
 }

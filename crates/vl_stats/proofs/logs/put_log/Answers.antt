@@ -13,7 +13,7 @@ place xs ys n at same there = subst (λ (zs : List (ℕ × ℕ)). IsPlaceOf zs n
 pub returns-then-index-log-clause-logs : goal.returns-then-index-log-clause-logs
 returns-then-index-log-clause-logs c =
     let within = c.if-at-len.true in
-    let len = c.len.ensures in
+    let len = c.len.ensures ∙ sym c.deref.ensures.len ∙ ap (λ (xs : List (ℕ × ℕ)). length xs) c.deref.ensures.value in
     put_same c.args.logs.now.items c.args.log c.place_of-at.result
     (place c.args.logs.now.items c.deref.result.now c.args.log.0 c.place_of-at.result c.deref.ensures.value c.place_of-at.ensures)
     c.index.result.now (subst (λ (n : ℕ). c.place_of-at.result < n) len within) c.index.ensures c.if-index-log.true
@@ -23,7 +23,7 @@ returns-else-at-len-clause-logs c =
     let fine = c.insert.ensures.succeeds c.requires in
     let there =
     place c.args.logs.now.items c.deref.result.now c.args.log.0 c.place_of-at.result c.deref.ensures.value c.place_of-at.ensures in
-    let len = c.len.ensures in
+    let len = c.len.ensures ∙ sym c.deref.ensures.len ∙ ap (λ (xs : List (ℕ × ℕ)). length xs) c.deref.ensures.value in
     c.insert.ensures.items
     ∙ ap (λ (b : Bool). cond b (insert c.args.logs.now.items c.place_of-at.result c.args.log) c.args.logs.now.items) fine
     ∙ elim c.else-at-len.branch [
