@@ -137,14 +137,14 @@ module _ {D : Type 0} (g : Ghosts D) (watched : IsWatched g) where
       (opens : (now : DiskState)
       → WhileWriting (names.Log l.active.number) (frame_behind l.active.format l.active.number l.active.frames f) held.state now
       → MayOpen now) where
-    abbrev name : Name
-    name = names.Log l.active.number
+    abbrev active_name : Name
+    active_name = names.Log l.active.number
 
-    abbrev whole : List ℕ
-    whole = frame_behind l.active.format l.active.number l.active.frames f
+    abbrev behind : List ℕ
+    behind = frame_behind l.active.format l.active.number l.active.frames f
 
     -- it stands where the log's frames end
-    frame_whole : frame ≡ whole
+    frame_whole : frame ≡ behind
     frame_whole =
         frame_is
         ∙ ap (λ (n : ℕ). frame_at n l.active.number l.active.length f) (sym held.is_base.format)
@@ -153,13 +153,13 @@ module _ {D : Type 0} (g : Ghosts D) (watched : IsWatched g) where
     told_mid : g.told mid ≡ Some held.state
     told_mid = no_change.told ∙ held.told_is
 
-    during_whole : (now : DiskState) → WhileWriting name frame held.state now → WhileWriting name whole held.state now
-    during_whole now = subst (λ (piece : List ℕ). WhileWriting name piece held.state now) frame_whole
+    during_whole : (now : DiskState) → WhileWriting active_name frame held.state now → WhileWriting active_name behind held.state now
+    during_whole now = subst (λ (piece : List ℕ). WhileWriting active_name piece held.state now) frame_whole
 
     -- What a crash leaves meanwhile shows the history, or the one with the frame.
     pub frame_goes : CrashesShow g old new h longer
     frame_goes =
-        goes_by g (LeavesBetween h longer) old mid new held.state (WhileWriting name frame) told_mid
+        goes_by g (LeavesBetween h longer) old mid new held.state (WhileWriting active_name frame) told_mid
         (shows_wider old mid h longer extends (looked h l tidy back old mid failed no_change held))
         time (λ now during. shows now (during_whole now during))
 
@@ -168,14 +168,14 @@ module _ {D : Type 0} (g : Ghosts D) (watched : IsWatched g) where
         (λ (before : g.states_since mid (g.moment mid) now).
         subst MayOpen (sym (watched.only_now mid held.state now told_mid before))
         (held_opens_again held.base l h held.is_base held.state tidy.levels held.holds))
-        (λ (during : While (g.told mid) (WhileWriting name frame) now). opens now (during_whole now (during held.state told_mid)))
+        (λ (during : While (g.told mid) (WhileWriting active_name frame) now). opens now (during_whole now (during held.state told_mid)))
         (time.nothing_else (g.moment mid) now (omega arith) (watched.counts_now new now (g.moment mid) told time.later))
 
     -- Where it was written, all of it stands.
-    pub frame_told : IsChangedBy (written name frame) (g.told mid) (g.told new)
-        → g.told new ≡ Some (written name whole held.state)
-    frame_told changed = changed ∙ ap (option_map (written name frame)) told_mid
-        ∙ ap (λ (piece : List ℕ). Some (written name piece held.state)) frame_whole
+    pub frame_told : IsChangedBy (written active_name frame) (g.told mid) (g.told new)
+        → g.told new ≡ Some (written active_name behind held.state)
+    frame_told changed = changed ∙ ap (option_map (written active_name frame)) told_mid
+        ∙ ap (λ (piece : List ℕ). Some (written active_name piece held.state)) frame_whole
 
   -- ---- a commit is written
 

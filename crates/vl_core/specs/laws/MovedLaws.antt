@@ -114,13 +114,18 @@ all_new : (es : List Entry) (format segment place : ℕ) (moved : List Moved)
     → IsNewTo es (frame_entries format segment place (Relocated moved))
 all_new es format segment place moved = entries_have (λ key version. exact es key version ≡ None) format segment (place + 9) moved
 
--- So the records' entries are new to the active memtable.
+-- The active memtable has none of what is moved,
+pub moved_apart : (l : Layout) (segment last : ℕ) (batch : List Candidate)
+    → HaveEach (λ key version. exact (memtable l.active) key version ≡ None) (moved_of (sources l) segment last batch)
+moved_apart l segment last =
+    moved_have (λ key version. exact (memtable l.active) key version ≡ None) (sources l) segment last (λ c is.
+    new_one segment c.place c.moved.key c.moved.version (memtable l.active) (behind_active l)
+    (memtable_near (λ n. ⊥) l.active)
+    (both (wins_exactly (sources l) segment c.moved.key c.moved.version c.place) (nat_le c.moved.version last) is).0)
+
+-- so the records' entries are new to it.
 pub moved_is_new : (l : Layout) (segment last : ℕ) (batch : List Candidate) (format number place : ℕ)
     → IsNewTo (memtable l.active)
     (frame_entries format number place (Relocated (moved_of (sources l) segment last batch)))
 moved_is_new l segment last batch format number place =
-    all_new (memtable l.active) format number place (moved_of (sources l) segment last batch)
-    (moved_have (λ key version. exact (memtable l.active) key version ≡ None) (sources l) segment last (λ c is.
-    new_one segment c.place c.moved.key c.moved.version (memtable l.active) (behind_active l)
-    (memtable_near (λ n. ⊥) l.active)
-    (both (wins_exactly (sources l) segment c.moved.key c.moved.version c.place) (nat_le c.moved.version last) is).0) batch)
+    all_new (memtable l.active) format number place (moved_of (sources l) segment last batch) (moved_apart l segment last batch)

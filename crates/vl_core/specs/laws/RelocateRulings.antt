@@ -161,6 +161,26 @@ module _ (l : Layout) (h : History) (pass : Pass) (batch : List Candidate) where
 
   -- ---- what it leaves
 
+  -- the history
+  history_of : (moved : List Moved) → (relocate_of l h moved).history ≡ h
+  history_of [] = refl
+  history_of (m ∷ ms) =
+      by (has_no_version l) (nat_le (l.active.length + frame_length l.active.format (Relocated (m ∷ ms))) l.room)
+    where
+      by : (used fits : Bool) → (if used then leaving (answers.Exhausted counters.Version) h l
+          else (if fits then moving l h (m ∷ ms)
+          else leaving (answers.Full l.active.length (frame_length l.active.format (Relocated (m ∷ ms)))) h l)).history ≡ h
+      by true fits = refl
+      by false true = refl
+      by false false = refl
+
+  pub history_is : (relocate_ruling l h pass batch).history ≡ h
+  history_is = by l.halted
+    where
+      by : (o : Option FileName) → (relocate_unless o l h pass batch).history ≡ h
+      by (Some name) = refl
+      by None = history_of (moved_of (sources l) pass.segment (last_number h) batch)
+
   pub tidy_moving : (tidy : IsTidy (layout_logs l) l h) (moved : List Moved) → IsMoving l h pass batch moved
       → AllByRecursion (IsThere (layout_logs l) pass.segment) batch → IsTidy (layout_logs l) (relocated l moved) h
   tidy_moving tidy moved is there =

@@ -6,7 +6,7 @@ use Rattle.std.specs.Option.{option_map}
 use Rattle.std.proofs.Common.{sym, ap, subst, ◌∙◌, arith}
 use Rattle.vl_back.specs.declared.back.Back.{Back}
 use Rattle.vl_core.specs.Laid.{AreLevelsOf, HasLayout, HasLog, IsMemtableOf}
-use Rattle.vl_core.specs.MoveFacts.{move_entries, move_length}
+use Rattle.vl_core.specs.MoveFacts.{HasMoved, move_entries, move_length}
 use Rattle.vl_core.specs.Pointed.{layout_logs}
 use Rattle.vl_core.specs.Represents.{Fronts, IsFront, StandsFor, file_of}
 use Rattle.vl_core.specs.Spared.{Spares, SparesRuled}
@@ -14,11 +14,14 @@ use Rattle.vl_core.specs.declared.kept.Core.{Core}
 use Rattle.vl_core.specs.laws.MemtableLaws.{memtable_more}
 use Rattle.vl_core.specs.laws.RelocateRulings.{IsMoving, tidy_moving}
 use Rattle.vl_core.specs.laws.SparedLaws.{spared_later}
+use Rattle.vl_core.specs.laws.Standing.{fronts_halted, stands_halted}
+use Rattle.vl_disk.specs.declared.name.Name.{Name}
+use Rattle.vl_disk.specs.declared.watched.Watched.{Ghosts}
 use Rattle.vl_front.specs.declared.front.Front.{Front}
 use Rattle.vl_layout.specs.Logs.{frame_entries, logged_entries, memtable}
 use Rattle.vl_layout.specs.Garbage.{best}
 use Rattle.vl_layout.specs.Relocation.{Candidate, Pass, moved_of}
-use Rattle.vl_layout.specs.Ruling.{Ruling, has_no_version, logged}
+use Rattle.vl_layout.specs.Ruling.{Ruling, halted_at, has_no_version, logged}
 use Rattle.vl_layout.specs.Rulings.EndPass.{end_pass_ruling}
 use Rattle.vl_layout.specs.Rulings.Pick.{pick_best, pick_ruling, pick_unless}
 use Rattle.vl_layout.specs.Rulings.Relocate.{relocate_of, relocate_ruling, relocate_unless, relocated}
@@ -197,3 +200,29 @@ stands_relocated bytes core after h l is pass batch moved moving there front bac
   tidy = tidy_moving l h pass batch is.tidy moved moving there;
   spared = relocated_spares l h moved is.spared;
 }
+
+-- so of what the raw facts say
+module _ {D H : Type 0} (g : Ghosts D) (bytes : H → Option (List ℕ)) (core after : Core H) (old new : D) (h : History) (l : Layout) where
+  pub fronts_moved : Fronts core h l → (moved : List Moved) → HasMoved g old new core after moved → Fronts after h (relocated l moved)
+  fronts_moved is moved did = fronts_relocated core after h l is moved did.front did.back
+
+  pub stands_moved : StandsFor bytes core h l → (pass : Pass) (batch : List Candidate) (moved : List Moved)
+      → IsMoving l h pass batch moved → AllByRecursion (IsThere (layout_logs l) pass.segment) batch
+      → HasMoved g old new core after moved → StandsFor bytes after h (relocated l moved)
+  stands_moved is pass batch moved moving there did =
+      stands_relocated bytes core after h l is pass batch moved moving there did.front did.back did.behind did.more
+
+-- ---- behind a halt
+
+module _ {H : Type 0} (bytes : H → Option (List ℕ)) (core after : Core H) (h : History) (l : Layout) (name : Name)
+    (stopped : after ≡ record core { front = record core.front { halted = Some name } }) where
+  abbrev halts : Core H
+  halts = record core { front = record core.front { halted = Some name } }
+
+  pub fronts_stopped : Fronts core h l → Fronts after h (halted_at (file_of name) l)
+  fronts_stopped is = subst (λ (c : Core H). Fronts c h (halted_at (file_of name) l)) (sym stopped)
+      (fronts_halted core halts h l name is refl refl refl refl refl refl)
+
+  pub stands_stopped : StandsFor bytes core h l → StandsFor bytes after h (halted_at (file_of name) l)
+  stands_stopped is = subst (λ (c : Core H). StandsFor bytes c h (halted_at (file_of name) l)) (sym stopped)
+      (stands_halted bytes core halts h l is refl name (fronts_halted core halts h l name is.fronts refl refl refl refl refl refl))
