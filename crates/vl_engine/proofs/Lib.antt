@@ -28,6 +28,8 @@ pub mod LendsNew
 pub mod Planning
 pub mod PutIn
 pub mod ReadingPast
+pub mod RelocatingExits
+pub mod RelocatingStaged
 pub mod Rotated
 pub mod RotateSteps
 pub mod Ruled

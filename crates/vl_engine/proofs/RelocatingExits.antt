@@ -1,6 +1,6 @@
 -- What a relocation comes to, at each of its exits, by the ruling on it.
 use Rattle.std.specs.Prelude.{◌≡◌, ◌≤◌, ℕ, zero, suc, ◌+◌, ◌&&◌, nat_le, is_none, Bool, true, List, [], ◌∷◌, ◌++◌, length}
-use Rattle.std.specs.Prelude.{Option, None, Some, Result, Ok, Err, refl}
+use Rattle.std.specs.Prelude.{Option, None, Some, Result, Ok, Err, OnOk, refl}
 use Rattle.std.specs.List.{AllByRecursion, filter}
 use Rattle.std.specs.Option.{ForSome, option_map}
 use Rattle.std.proofs.Common.{sym, ap, subst, ◌∙◌, cond, arith, inl, inr}
@@ -13,6 +13,7 @@ use Rattle.vl_core.specs.Represents.{Fronts, Represents, StandsFor, file_of}
 use Rattle.vl_core.specs.declared.kept.Core.{Core}
 use Rattle.vl_core.specs.laws.Carrying.{IsWatched}
 use Rattle.vl_core.specs.laws.MovedLaws.{HaveEach, moved_apart, moved_up_to}
+use Rattle.vl_core.specs.laws.MovedSettled.{settled_moved, settled_none}
 use Rattle.vl_core.specs.laws.RelocateCarrying.{carries_damaged_move, carries_failed_move, carries_moved, carries_refused_move}
 use Rattle.vl_core.specs.laws.RelocateCarrying.{carries_short_move, carries_unread_move}
 use Rattle.vl_core.specs.laws.RelocateFits.{fits_relocated}
@@ -49,6 +50,7 @@ use Rattle.vl_layout.specs.Sources.{sources}
 use Rattle.vl_layout.specs.declared.file_name.FileName.{FileName}
 use Rattle.vl_layout.specs.declared.job.OpenJob.{OpenJob}
 use Rattle.vl_layout.specs.declared.layout.Layout.{Layout}
+use Rattle.vl_layout_laws.specs.Passes.{IsSettled}
 use Rattle.vl_model.specs.Conflicts.{Named}
 use Rattle.vl_model.specs.History.{History, last_number}
 use Rattle.vl_model.specs.Winners.{exact}
@@ -256,6 +258,19 @@ module _ {D H R : Type 0} (g : Ghosts D) (bytes : H → Option (List ℕ)) (faul
       (subst (λ (o : Option DiskState). Fits o old.core h l) (sym same.told) fits))
       (λ name core merging. record { running = λ runs. absurd cc })
       (λ moved may did notes. fits_relocated g bytes old.core new.core old.disk new.disk h l moved of.stands did may.running stood fits)
+
+  -- ---- right behind it
+
+  -- no record of the batch wins exactly from inside the pass's log
+  pub settled_by : (result : Result ℕ MoveFail) → RelocatesAs g bytes faults_of old new log.number batch result
+      → OnOk result (AllByRecursion (IsSettled p.segment (sources ruling.layout)) batch)
+  settled_by (Ok zero) did =
+      subst (λ (r : Ruling MoveAnswer). AllByRecursion (IsSettled p.segment (sources r.layout)) batch) (none_moved did.0)
+      (settled_none l h of.stands.tidy p.segment batch (found_is [] did.0.finds))
+  settled_by (Ok (suc n)) did =
+      subst (λ (r : Ruling MoveAnswer). AllByRecursion (IsSettled p.segment (sources r.layout)) batch) (moves did.moved did.hands).ruling
+      (settled_moved l h of.stands.tidy p.segment batch did.moved (found_is did.moved did.hands.has.found.finds))
+  settled_by (Err why) did = tt
 
   -- ---- the disk
 

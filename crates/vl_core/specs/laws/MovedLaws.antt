@@ -1,10 +1,11 @@
 -- Entries of records that are moved: in order in memory, of no key and version that the active memtable has, and of versions
 -- that are known.
 use Rattle.std.specs.Prelude.{◌≡◌, ◌≤◌, ℕ, ◌+◌, ◌&&◌, nat_le, if◌then◌else◌, Bool, true, false, List, [], ◌∷◌, ◌++◌, map}
-use Rattle.std.specs.Prelude.{Option, None, Some, refl}
+use Rattle.std.specs.Prelude.{length, suc, Option, None, Some, refl}
 use Rattle.std.specs.List.{AllByRecursion, filter}
 use Rattle.std.proofs.Common.{sym, ap, subst, ◌∙◌, cond, arith}
 use Rattle.std.proofs.lemmas.Bool.Decides.{nat_tests}
+use Rattle.std.specs.declared.cmp.Ordering.TheVariants.{Equal, Greater, Less}
 use Rattle.vl_core.specs.Known.{are_known}
 use Rattle.vl_core.specs.laws.KnownLaws.{known_up_to, up_to_known}
 use Rattle.vl_core.specs.laws.LaidLaws.{memtable_near}
@@ -18,7 +19,7 @@ use Rattle.vl_layout.specs.declared.segment.Segment.{Segment}
 use Rattle.vl_layout.specs.laws.OrderShows.{all-in_order}
 use Rattle.vl_layout.specs.laws.ShowsLaws.{all_both}
 use Rattle.vl_memtable.specs.Contents.{IsNewTo}
-use Rattle.vl_model.specs.Entries.{in_order, is_at}
+use Rattle.vl_model.specs.Entries.{by_order, entry_cmp, in_order, is_at, put}
 use Rattle.vl_model.specs.Frames.{moved_length}
 use Rattle.vl_model.specs.Winners.{exact, is_far_to, leads_to, wins_exactly}
 use Rattle.vl_model.specs.declared.entry.Body.TheVariants.{Far, Gone, Inline, Logged}
@@ -129,3 +130,31 @@ pub moved_is_new : (l : Layout) (segment last : ℕ) (batch : List Candidate) (f
     (frame_entries format number place (Relocated (moved_of (sources l) segment last batch)))
 moved_is_new l segment last batch format number place =
     all_new (memtable l.active) format number place (moved_of (sources l) segment last batch) (moved_apart l segment last batch)
+
+-- ---- in order
+
+-- So they are once they are put in order,
+pub sorted_new : (es run : List Entry) → IsNewTo es run → IsNewTo es (in_order run)
+sorted_new es = all-in_order (λ (e : Entry). exact es e.key e.version ≡ None)
+
+some_put : (e : Entry) (es : List Entry) → 1 ≤ length (put e es)
+some_put e [] = omega arith
+some_put e (f ∷ fs) = elim (entry_cmp e f) as (λ r. 1 ≤ length (by_order r (e ∷ f ∷ fs) (e ∷ fs) (f ∷ put e fs))) [
+  | Less ↦ omega arith
+  | Equal ↦ omega arith
+  | Greater ↦ omega arith
+]
+
+-- some stay,
+pub sorted_some : (run : List Entry) → 1 ≤ length run → 1 ≤ length (in_order run)
+sorted_some [] some = absurd (omega arith)
+sorted_some (e ∷ es) some = some_put e (in_order es)
+
+-- and there is one of each record.
+pub entries_count : (format segment place : ℕ) (moved : List Moved)
+    → length (frame_entries format segment place (Relocated moved)) ≡ length moved
+entries_count format segment place moved = by (place + 9) moved
+  where
+    by : (at : ℕ) (ms : List Moved) → length (map (record_entry format segment) (relocated_records format at ms)) ≡ length ms
+    by at [] = refl
+    by at (m ∷ ms) = ap suc (by (at + moved_length format m) ms)
