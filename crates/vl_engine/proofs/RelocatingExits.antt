@@ -1,15 +1,15 @@
 -- What a relocation comes to, at each of its exits, by the ruling on it.
-use Rattle.std.specs.Prelude.{◌≡◌, ◌≤◌, ℕ, zero, suc, ◌+◌, ◌&&◌, nat_le, is_none, Bool, true, List, [], ◌∷◌, ◌++◌, length}
+use Rattle.std.specs.Prelude.{◌≡◌, ◌≤◌, ℕ, zero, suc, ◌+◌, ◌&&◌, nat_le, is_none, Bool, true, List, [], ◌∷◌, ◌++◌}
 use Rattle.std.specs.Prelude.{Option, None, Some, Result, Ok, Err, OnOk, refl}
 use Rattle.std.specs.List.{AllByRecursion, filter}
-use Rattle.std.specs.Option.{ForSome, option_map}
+use Rattle.std.specs.Option.{option_map}
 use Rattle.std.proofs.Common.{sym, ap, subst, ◌∙◌, cond, arith, inl, inr}
 use Rattle.std.proofs.lemmas.Bool.Decides.{nat_tests}
 use Rattle.vl_core.specs.Carries.{Carries}
 use Rattle.vl_core.specs.MayStep.{Fits}
-use Rattle.vl_core.specs.MoveFacts.{CanMove, HasFailedToMove, HasMoved, move_length, move_log}
+use Rattle.vl_core.specs.MoveFacts.{HasMoved, move_log}
 use Rattle.vl_core.specs.Pointed.{layout_logs}
-use Rattle.vl_core.specs.Represents.{Fronts, Represents, StandsFor, file_of}
+use Rattle.vl_core.specs.Represents.{Fronts, Represents, file_of}
 use Rattle.vl_core.specs.declared.kept.Core.{Core}
 use Rattle.vl_core.specs.laws.Carrying.{IsWatched}
 use Rattle.vl_core.specs.laws.MovedLaws.{HaveEach, moved_apart, moved_up_to}
@@ -21,7 +21,6 @@ use Rattle.vl_core.specs.laws.RelocateRulings.{IsMoving, can_move, halted_ruled,
 use Rattle.vl_core.specs.laws.RelocateStanding.{fronts_moved, fronts_stopped, stands_moved, stands_stopped}
 use Rattle.vl_core.specs.laws.SourcedLaws.{laid_marked}
 use Rattle.vl_core.specs.laws.StillLaws.{there_now}
-use Rattle.vl_collect.specs.Passing.{HasEntries}
 use Rattle.vl_disk.specs.Calls.{ChangesNothing}
 use Rattle.vl_disk.specs.Disk.{Stands}
 use Rattle.vl_disk.specs.DiskState.{DiskState}
@@ -30,15 +29,15 @@ use Rattle.vl_disk.specs.declared.name.Name.{Name}
 use Rattle.vl_disk.specs.declared.watched.Watched.{Ghosts}
 use Rattle.vl_engine.proofs.Committing.{decides_answered, decides_failed, decides_leaving, decides_short}
 use Rattle.vl_engine.proofs.Ruled.{looked_none}
-use Rattle.vl_engine.specs.Lent.{IsOpenAs, Opens}
+use Rattle.vl_engine.specs.Lent.{Opens}
 use Rattle.vl_engine.specs.Merging.{StandsOpen}
-use Rattle.vl_engine.specs.Relocating.{At, Finds, HandsOver, HasFailedToRead, HasFailedToWrite, HasFound, HasRelocated, HasRunOut}
-use Rattle.vl_engine.specs.Relocating.{HasSome, IsFull, IsOfPass, IsUsedUp, LeavesAll, NotesMoves, RelocatesAs, may_add}
+use Rattle.vl_engine.specs.Relocating.{At, Finds, HandsOver, HasFailedToRead, HasFound}
+use Rattle.vl_engine.specs.Relocating.{IsFull, IsOfPass, IsUsedUp, LeavesAll, NotesMoves, RelocatesAs, may_add}
 use Rattle.vl_engine.specs.Relocating.{move_effects, move_outcome}
 use Rattle.vl_engine.specs.declared.fails.MoveFail.TheVariants as fails
 use Rattle.vl_engine.specs.declared.fails.MoveFail.{MoveFail}
 use Rattle.vl_engine.specs.declared.open.OpenMerge.{OpenMerge}
-use Rattle.vl_layout.specs.Decides.{Answered, Damaged, Decides, Effects, Failed, NoMemory, Otherwise, as_before, effects_of, no_effects}
+use Rattle.vl_layout.specs.Decides.{Answered, Damaged, Decides, Failed, NoMemory, Otherwise, as_before, effects_of, no_effects}
 use Rattle.vl_layout.specs.Logs.{memtable}
 use Rattle.vl_layout.specs.Relocation as layout
 use Rattle.vl_layout.specs.Relocation.{Candidate, moved_of}
@@ -47,7 +46,6 @@ use Rattle.vl_layout.specs.Rulings.Relocate as answers
 use Rattle.vl_layout.specs.Rulings.Relocate.{MoveAnswer, Moves, moves_at, relocate_ruling, relocated, with_moves}
 use Rattle.vl_layout.specs.Shown.{IsThere}
 use Rattle.vl_layout.specs.Sources.{sources}
-use Rattle.vl_layout.specs.declared.file_name.FileName.{FileName}
 use Rattle.vl_layout.specs.declared.job.OpenJob.{OpenJob}
 use Rattle.vl_layout.specs.declared.layout.Layout.{Layout}
 use Rattle.vl_layout_laws.specs.Passes.{IsSettled}
@@ -58,8 +56,6 @@ use Rattle.vl_model.specs.declared.counter.Counter.{Counter}
 use Rattle.vl_model.specs.declared.entry.Entry.{Entry}
 use Rattle.vl_model.specs.declared.log_frame.Moved.{Moved}
 use Rattle.vl_seglog.specs.declared.sealed.SealedLog.{SealedLog}
-use Rattle.vl_version.specs.Bases.{HasSources}
-use Rattle.vl_version.specs.declared.version.Version.{Version}
 
 -- ---- what is moved
 
@@ -122,13 +118,13 @@ module _ {D H R : Type 0} (g : Ghosts D) (bytes : H → Option (List ℕ)) (faul
 
   pub found_is : (moved : List Moved) → Finds bytes old.core log.number batch old.looks moved → ruled ≡ moved
   found_is moved finds = sym (
-    finds.moved_are
-    ∙ ap (filter (may_add old.core.version.active.entries old.core.front.oracle.last)) (found_ruled moved finds)
-    ∙ ap (λ (es : List Entry). filter (may_add es old.core.front.oracle.last) ruled) of.stands.has.active
-    ∙ ap (λ (n : ℕ). filter (may_add (memtable l.active) n) ruled) fronts.front.last
-    ∙ all_kept (memtable l.active) (last_number h) ruled (moved_apart l p.segment (last_number h) batch)
-    (moved_up_to (sources l) p.segment (last_number h) batch)
-  )
+      finds.moved_are
+      ∙ ap (filter (may_add old.core.version.active.entries old.core.front.oracle.last)) (found_ruled moved finds)
+      ∙ ap (λ (es : List Entry). filter (may_add es old.core.front.oracle.last) ruled) of.stands.has.active
+      ∙ ap (λ (n : ℕ). filter (may_add (memtable l.active) n) ruled) fronts.front.last
+      ∙ all_kept (memtable l.active) (last_number h) ruled (moved_apart l p.segment (last_number h) batch)
+      (moved_up_to (sources l) p.segment (last_number h) batch)
+      )
 
   -- ---- exit by exit
 

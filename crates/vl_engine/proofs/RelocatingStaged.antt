@@ -1,7 +1,6 @@
 -- The entries of moved records that are staged are those of their frame.
 use Rattle.std.specs.Prelude.{◌≡◌, ◌≤◌, ℕ, ◌+◌, ◌++◌, true, List, [], ◌∷◌, map, length, None, refl}
-use Rattle.std.specs.List.{AllByRecursion}
-use Rattle.std.proofs.Common.{sym, ap, subst, ◌∙◌, arith}
+use Rattle.std.proofs.Common.{ap, arith}
 use Rattle.vl_core.specs.Known.{are_known}
 use Rattle.vl_core.specs.MoveFacts.{move_entries}
 use Rattle.vl_core.specs.declared.kept.Core.{Core}

@@ -16,7 +16,6 @@ use Rattle.vl_disk.specs.declared.watched.Watched.{Ghosts}
 use Rattle.vl_core.specs.laws.Represented.{represents_committed, represents_halted, represents_same}
 use Rattle.vl_core.specs.laws.Standing.{tidy_then}
 use Rattle.vl_core.specs.Carries.{Carries, CrashesShow, Tells}
-use Rattle.vl_core.specs.Held.{IsBase}
 use Rattle.vl_core.specs.Pointed.{layout_logs}
 use Rattle.vl_core.specs.Represents.{IsHeld, Represents, StandsFor, file_of}
 use Rattle.vl_core.specs.Shown.{LeavesBetween}

@@ -1,6 +1,6 @@
 -- A commit's frame behind the active log of a disk that holds a layout: what a crash leaves meanwhile, and what is held
 -- then.
-use Rattle.std.specs.Prelude.{◌≡◌, ◌≤◌, ℕ, ◌+◌, List, [], ◌∷◌, length, Ok}
+use Rattle.std.specs.Prelude.{◌≡◌, ◌≤◌, ℕ, ◌+◌, List, [], ◌∷◌, Ok}
 use Rattle.std.specs.FinMap.{from_sorted}
 use Rattle.std.proofs.Common.{sym, subst, length-append, arith}
 use Rattle.vl_disk.specs.DiskState.{DiskState}

@@ -10,12 +10,10 @@ use Rattle.vl_core.specs.Known.{are_known}
 use Rattle.vl_core.specs.laws.KnownLaws.{known_up_to, up_to_known}
 use Rattle.vl_core.specs.laws.LaidLaws.{memtable_near}
 use Rattle.vl_core.specs.laws.LedLaws.{AreFarTo, IsFarTo}
-use Rattle.vl_layout.specs.Logs.{frame_entries, logged_body, memtable, pointer_to, record_entry, relocated_records}
+use Rattle.vl_layout.specs.Logs.{frame_entries, memtable, record_entry, relocated_records}
 use Rattle.vl_layout.specs.Relocation.{Candidate, is_moved, moved_of}
-use Rattle.vl_layout.specs.Shows.{AreUpTo}
 use Rattle.vl_layout.specs.Sources.{behind_active, sources}
 use Rattle.vl_layout.specs.declared.layout.Layout.{Layout}
-use Rattle.vl_layout.specs.declared.segment.Segment.{Segment}
 use Rattle.vl_layout.specs.laws.OrderShows.{all-in_order}
 use Rattle.vl_layout.specs.laws.ShowsLaws.{all_both}
 use Rattle.vl_memtable.specs.Contents.{IsNewTo}

@@ -7,8 +7,7 @@ use Rattle.std.proofs.Common.{sym, ap, subst, ◌∙◌, cond, arith}
 use Rattle.std.proofs.lemmas.Bool.Decides.{nat_tests}
 use Rattle.vl_core.specs.Pointed.{layout_logs}
 use Rattle.vl_core.specs.laws.HeldLaws.{of_up_to}
-use Rattle.vl_core.specs.laws.RelocateRulings.{IsMoving}
-use Rattle.vl_layout.specs.Relocation.{Candidate, Pass, is_moved, moved_of}
+use Rattle.vl_layout.specs.Relocation.{Candidate, is_moved, moved_of}
 use Rattle.vl_layout.specs.Rulings.Relocate.{relocated}
 use Rattle.vl_layout.specs.Shows.{AreUpTo}
 use Rattle.vl_layout.specs.Sources.{sources}

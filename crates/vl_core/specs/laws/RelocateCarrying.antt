@@ -1,7 +1,6 @@
 -- What a relocation carries out over a disk that holds the engine's layout, by each of its exits.
 use Rattle.std.specs.Prelude.{◌≡◌, ℕ, ◌+◌, List, length, Option, None, Some, refl}
 use Rattle.std.specs.List.{AllByRecursion}
-use Rattle.std.specs.Option.{option_map}
 use Rattle.std.proofs.Common.{sym, ap, subst, ◌∙◌}
 use Rattle.vl_back.specs.declared.back.Back.{Back}
 use Rattle.vl_core.specs.Carries.{Carries, CrashesShow}
@@ -21,7 +20,6 @@ use Rattle.vl_core.specs.laws.RelocateRulings.{IsMoving, history_is, moving, tid
 use Rattle.vl_core.specs.laws.RelocateStanding.{relocated_spares, stands_moved, stands_stopped}
 use Rattle.vl_core.specs.laws.Represented.{represents_halted}
 use Rattle.vl_disk.specs.Calls.{ChangesNothing}
-use Rattle.vl_disk.specs.Crash.{Unchanged}
 use Rattle.vl_disk.specs.Disk.{IsChangedBy}
 use Rattle.vl_disk.specs.DiskState.{DiskState}
 use Rattle.vl_disk.specs.Faults.{after_calls}
@@ -30,18 +28,16 @@ use Rattle.vl_disk.specs.declared.name.Name.TheVariants as names
 use Rattle.vl_disk.specs.declared.name.Name.{Name}
 use Rattle.vl_disk.specs.declared.watched.Watched.{Ghosts}
 use Rattle.vl_frame.specs.Runs.{HasFrame}
-use Rattle.vl_front.specs.declared.front.Front.{Front}
 use Rattle.vl_layout.specs.Decides.{Answered, Damaged, Effects, Failed, NoMemory, as_before, no_effects}
-use Rattle.vl_layout.specs.Relocation.{Candidate, Pass, moved_of}
-use Rattle.vl_layout.specs.Ruling.{Ruling, halted_at, has_no_version, leaving}
-use Rattle.vl_layout.specs.Rulings.Relocate.{MoveAnswer, Moves, relocate_of, relocate_ruling, relocate_unless, relocated}
+use Rattle.vl_layout.specs.Relocation.{Candidate, Pass}
+use Rattle.vl_layout.specs.Ruling.{Ruling, halted_at, leaving}
+use Rattle.vl_layout.specs.Rulings.Relocate.{MoveAnswer, Moves, relocate_ruling, relocated}
 use Rattle.vl_layout.specs.Shown.{IsThere}
-use Rattle.vl_layout.specs.Sources.{sources}
 use Rattle.vl_layout.specs.Tidy.{IsTidy}
 use Rattle.vl_layout.specs.declared.file_name.FileName.{FileName}
 use Rattle.vl_layout.specs.declared.layout.Layout.{Layout}
 use Rattle.vl_model.specs.Formats.{log_format}
-use Rattle.vl_model.specs.History.{Extends, History, last_number}
+use Rattle.vl_model.specs.History.{Extends, History}
 use Rattle.vl_model.specs.declared.log_frame.LogFrame.TheVariants.{Relocated}
 use Rattle.vl_model.specs.declared.log_frame.Moved.{Moved}
 use Rattle.vl_recover.specs.crash.Starts.{MayOpen}
@@ -95,49 +91,49 @@ module _ {D : Type 0} (g : Ghosts D) (watched : IsWatched g) {H : Type 0} (bytes
 
   module _ (old new : D) (failed : Type 0) (no_change : ChangesNothing g old new failed) (is : Represents bytes core (g.told old) h l)
     where
-    -- memory ran out before the disk was changed
-    pub carries_short_move : Carries g bytes old new core h l ruling (as_before l l) NoMemory no_effects
-    carries_short_move = carries_no_memory g watched bytes core core h l old new failed ruling l no_change extends refl is is.stands
+      -- memory ran out before the disk was changed
+      pub carries_short_move : Carries g bytes old new core h l ruling (as_before l l) NoMemory no_effects
+      carries_short_move = carries_no_memory g watched bytes core core h l old new failed ruling l no_change extends refl is is.stands
 
-    -- what is read was damaged, and nothing was changed
-    pub carries_damaged_move : (name : FileName) (place : ℕ)
-        → Carries g bytes old new core h l ruling (as_before l l) (Damaged name place) no_effects
-    carries_damaged_move name place = record {
-      decides = record {
-        answered = λ a said. absurd cc;
-        did = λ a said. absurd cc;
-        no_memory = λ said. absurd cc;
-        failed = λ other said. absurd cc;
-        damaged = λ other at said. (subst (λ (o : Option DiskState). Represents bytes core o h l) (sym no_change.told) is, refl);
-      };
-      called = λ a said. absurd cc;
-      through = λ running. shows_ruled old new (looked g watched h l is.stands.tidy core.back old new failed no_change (is.held running));
-      again = λ running.
-          let before = opens_again g watched h l is.stands.tidy core.back old (is.held running) in
-          (before.0, no_change.told ∙ before.1, before.2);
-    }
+      -- what is read was damaged, and nothing was changed
+      pub carries_damaged_move : (name : FileName) (place : ℕ)
+          → Carries g bytes old new core h l ruling (as_before l l) (Damaged name place) no_effects
+      carries_damaged_move name place = record {
+        decides = record {
+          answered = λ a said. absurd cc;
+          did = λ a said. absurd cc;
+          no_memory = λ said. absurd cc;
+          failed = λ other said. absurd cc;
+          damaged = λ other at said. (subst (λ (o : Option DiskState). Represents bytes core o h l) (sym no_change.told) is, refl);
+        };
+        called = λ a said. absurd cc;
+        through = λ running. shows_ruled old new (looked g watched h l is.stands.tidy core.back old new failed no_change (is.held running));
+        again = λ running.
+            let before = opens_again g watched h l is.stands.tidy core.back old (is.held running) in
+            (before.0, no_change.told ∙ before.1, before.2);
+      }
 
-    -- reading failed at a file, which halts
-    pub carries_unread_move : (after : Core H) (name : Name) → l.halted ≡ None
-        → after ≡ record core { front = record core.front { halted = Some name } } → (effects : Effects)
-        → Carries g bytes old new after h l ruling (as_before l l) (Failed (file_of name)) effects
-    carries_unread_move after name running stopped effects = record {
-      decides = record {
-        answered = λ a said. absurd cc;
-        did = λ a said. absurd cc;
-        no_memory = λ said. absurd cc;
-        failed = λ other said.
-            let same : file_of name ≡ other = cc in
-            subst (λ (file : FileName). (l.halted ≡ None) × Represents bytes after (g.told new) h (halted_at file l)) same
-            (running, represents_halted bytes after (g.told new) h l name (stands_stopped bytes core after h l name stopped is.stands));
-        damaged = λ other place said. absurd cc;
-      };
-      called = λ a said. absurd cc;
-      through = λ runs. shows_ruled old new (looked g watched h l is.stands.tidy core.back old new failed no_change (is.held runs));
-      again = λ runs.
-          let before = opens_again g watched h l is.stands.tidy core.back old (is.held runs) in
-          (before.0, no_change.told ∙ before.1, before.2);
-    }
+      -- reading failed at a file, which halts
+      pub carries_unread_move : (after : Core H) (name : Name) → l.halted ≡ None
+          → after ≡ record core { front = record core.front { halted = Some name } } → (effects : Effects)
+          → Carries g bytes old new after h l ruling (as_before l l) (Failed (file_of name)) effects
+      carries_unread_move after name running stopped effects = record {
+        decides = record {
+          answered = λ a said. absurd cc;
+          did = λ a said. absurd cc;
+          no_memory = λ said. absurd cc;
+          failed = λ other said.
+              let same : file_of name ≡ other = cc in
+              subst (λ (file : FileName). (l.halted ≡ None) × Represents bytes after (g.told new) h (halted_at file l)) same
+              (running, represents_halted bytes after (g.told new) h l name (stands_stopped bytes core after h l name stopped is.stands));
+          damaged = λ other place said. absurd cc;
+        };
+        called = λ a said. absurd cc;
+        through = λ runs. shows_ruled old new (looked g watched h l is.stands.tidy core.back old new failed no_change (is.held runs));
+        again = λ runs.
+            let before = opens_again g watched h l is.stands.tidy core.back old (is.held runs) in
+            (before.0, no_change.told ∙ before.1, before.2);
+      }
 
   -- ---- the frame was handed to the disk
 
@@ -199,11 +195,13 @@ module _ {D : Type 0} (g : Ghosts D) (watched : IsWatched g) {H : Type 0} (bytes
         no_memory = λ said. absurd cc;
         failed = λ other said.
             let same : file_of name ≡ other = cc in
-            subst (λ (file : FileName). (l.halted ≡ None) × Represents bytes after (g.told new) h (halted_at file l)) same
-            (may.running, represents_halted bytes after (g.told new) h l name
-            (stands_stopped bytes core after h l name
-            (subst (λ (n : ℕ). after ≡ record core { front = record core.front { halted = Some (names.Log n) } })
-            is.stands.fronts.number failed.core) is.stands));
+            subst (λ (file : FileName). (l.halted ≡ None) × Represents bytes after (g.told new) h (halted_at file l)) same (
+              may.running,
+              represents_halted bytes after (g.told new) h l name
+                  (stands_stopped bytes core after h l name
+                  (subst (λ (n : ℕ). after ≡ record core { front = record core.front { halted = Some (names.Log n) } })
+                  is.stands.fronts.number failed.core) is.stands),
+            );
         damaged = λ other place said. absurd cc;
       };
       called = λ a said. absurd cc;

@@ -1,6 +1,6 @@
 -- A relocation's frame behind the active log of a disk that holds a layout: what a crash leaves meanwhile, and what is held
 -- then. The history is the same.
-use Rattle.std.specs.Prelude.{◌≤◌, ℕ, ◌+◌, List, [], ◌∷◌, Option, refl}
+use Rattle.std.specs.Prelude.{◌≤◌, ℕ, ◌+◌, List, [], Option, refl}
 use Rattle.std.proofs.Common.{sym, append-nil, arith}
 use Rattle.vl_disk.specs.DiskState.{DiskState}
 use Rattle.vl_disk.specs.declared.name.Name.TheVariants.{Log}

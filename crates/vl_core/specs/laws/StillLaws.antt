@@ -51,10 +51,10 @@ module _ {H : Type 0} (bytes : H → Option (List ℕ)) (log : SealedLog H) (l :
   none_there none [] = tt
   none_there none (c ∷ cs) = (
     λ p value into place has. absurd (
-      let nothing : None ≡ Some value =
-      sym (ap (λ (o : Option Segment). stored_of o p c.moved.key) none)
-      ∙ subst (λ (n : ℕ). stored_of (segment_at (sealed l) n) p c.moved.key ≡ Some value) into has in cc
-    ),
+        let nothing : None ≡ Some value =
+        sym (ap (λ (o : Option Segment). stored_of o p c.moved.key) none)
+        ∙ subst (λ (n : ℕ). stored_of (segment_at (sealed l) n) p c.moved.key ≡ Some value) into has in cc
+        ),
     none_there none cs,
   )
 
