@@ -8,6 +8,7 @@ pub mod Held
 pub mod KeepFacts
 pub mod Known
 pub mod Laid
+pub mod Lasts
 pub mod laws
 pub mod LiesOver
 pub mod MayStep

@@ -1,4 +1,4 @@
--- The entries of moved records that are staged are those of their frame.
+-- The entries of moved records, as they are put in order in front of the active memtable's.
 use Rattle.std.specs.Prelude.{◌≡◌, ◌≤◌, ℕ, ◌+◌, ◌++◌, true, List, [], ◌∷◌, map, length, None, refl}
 use Rattle.std.proofs.Common.{ap, arith}
 use Rattle.vl_core.specs.Known.{are_known}
@@ -18,20 +18,6 @@ use Rattle.vl_model.specs.declared.entry.Entry.{Entry}
 use Rattle.vl_model.specs.declared.log_frame.Moved.{Moved}
 use Rattle.vl_run.specs.laws.OrderLaws.{in_order-front}
 use Rattle.vl_seglog.specs.Stored.{moved_pointers}
-
-entries_spelled : (segment place : ℕ) (moved : List Moved)
-    → move_entries_of moved (moved_pointers log_format segment place moved)
-    ≡ map (record_entry log_format segment) (relocated_records log_format place moved)
-entries_spelled segment place [] = refl
-entries_spelled segment place (m ∷ ms) =
-    ap (λ (es : List Entry). record_entry log_format segment
-    (record { key = m.key; version = m.version; change = Set m.value; place = place + 8 }) ∷ es)
-    (entries_spelled segment (place + moved_length log_format m) ms)
-
--- as they are staged for a front's log's end
-pub staged_entries : (front : Front) (moved : List Moved)
-    → move_entries_of moved (moved_pointers log_format front.log.number (front.log.length + 9) moved) ≡ move_entries front moved
-staged_entries front moved = entries_spelled front.log.number (front.log.length + 9) moved
 
 module _ {H : Type 0} (core : Core H) (moved : List Moved) (may : MayMove core moved) where
   -- In order they are new to the active memtable,

@@ -3,7 +3,7 @@ use Rattle.std.specs.Prelude.{◌≡◌, ◌<◌, ℕ, ◌+◌, ◌==◌, ◌||�
 use Rattle.std.specs.Prelude.{List, [], ◌∷◌, length, Option, None, Some, refl}
 use Rattle.std.proofs.Common.{sym, ap, subst, ◌∙◌, arith}
 use Rattle.std.proofs.lemmas.Bool.Decides.{nat_tests}
-use Rattle.vl_core.specs.Passing.{Lasts}
+use Rattle.vl_core.specs.Lasts.{Lasts}
 use Rattle.vl_core.specs.Pointed.{layout_logs, segment_at}
 use Rattle.vl_core.specs.laws.FlushTidy.{IsWider}
 use Rattle.vl_core.specs.laws.SegmentLaws.{segment_wider}
