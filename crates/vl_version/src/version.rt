@@ -17,6 +17,7 @@ ghost use Rattle.vl_version.specs.Sources.{AreTold, HasEntries, in_memory, store
 ghost use Rattle.vl_version.specs.declared.fault.ReadFault.TheVariants as why;
 ghost use Rattle.vl_version.specs.levels.LevelsLooked.{AreLaidOut};
 
+mod logs;
 mod outside;
 mod past;
 
@@ -80,6 +81,13 @@ impl<H: HeldFile> Version<H> {
             active: self.active.share()?,
             behind: self.behind.share()?,
         })
+    }
+
+    /// The memtable that takes commits.
+    pub fn active(&self) -> &Memtable
+        ensures { result.now ≡ self.now.active }
+    {
+        &self.active
     }
 
     /// Its tables by their levels.
