@@ -14,7 +14,9 @@ use Rattle.vl_core.specs.declared.kept.Core.{Core}
 use Rattle.vl_core.specs.laws.MemtableLaws.{memtable_more}
 use Rattle.vl_core.specs.laws.RelocateRulings.{IsMoving, tidy_moving}
 use Rattle.vl_core.specs.laws.SparedLaws.{spared_later}
+use Rattle.vl_core.specs.laws.SparedSteps.{has_logged}
 use Rattle.vl_core.specs.laws.Standing.{fronts_halted, stands_halted}
+use Rattle.vl_core.specs.laws.VersionLaws.{laid_relocated}
 use Rattle.vl_disk.specs.declared.name.Name.{Name}
 use Rattle.vl_disk.specs.declared.watched.Watched.{Ghosts}
 use Rattle.vl_front.specs.declared.front.Front.{Front}
@@ -53,36 +55,11 @@ use Rattle.vl_version.specs.levels.LevelsLooked.{AreInOrder}
 
 -- ---- versions that are spared
 
-module _ (l : Layout) (f : LogFrame) (key : List ℕ) (n : ℕ) where
-  -- with a frame more the sources have its versions and what they had
-  any_logged : list_any (is_at key n) (sources (logged f l)) ≡ (list_any (is_at key n) (added l f) || list_any (is_at key n) (sources l))
-  any_logged =
-      let p = is_at key n in
-      let old = logged_entries l.active.format l.active.number 16 l.active.frames in
-      any-append p (memtable (logged f l).active) (behind_active l)
-      ∙ ap (λ b. b || list_any p (behind_active l))
-      (any-in_order key n (logged_entries l.active.format l.active.number 16 (logged f l).active.frames)
-      ∙ ap (list_any p) (logged_entries-more l.active.format l.active.number 16 l.active.frames f)
-      ∙ any-append p (added l f) old
-      ∙ ap (λ b. list_any p (added l f) || b) (sym (any-in_order key n old)))
-      ∙ assoc (list_any p (added l f)) (list_any p (memtable l.active)) (list_any p (behind_active l))
-      ∙ ap (λ b. list_any p (added l f) || b) (sym (any-append p (memtable l.active) (behind_active l)))
-    where
-      assoc : (a b c : Bool) → ((a || b) || c) ≡ (a || (b || c))
-      assoc true b c = refl
-      assoc false b c = refl
-
-  has_logged : has n (versions_in (sources l) key) ≡ true → has n (versions_in (sources (logged f l)) key) ≡ true
-  has_logged there =
-      has-versions_in key n (sources (logged f l)) ∙ any_logged
-      ∙ or_right (list_any (is_at key n) (added l f)) (list_any (is_at key n) (sources l))
-      (sym (has-versions_in key n (sources l)) ∙ there)
-
 -- A relocation takes no version away,
 pub relocated_spares : (l : Layout) (h : History) (moved : List Moved) → Spares l h → Spares (relocated l moved) h
 relocated_spares l h moved =
     spared_later h h (sources l) (sources (relocated l moved)) (last_number h) (last_number h) (floor l h)
-    (floor (relocated l moved) h) l.keep l.since (omega arith) (λ key n there. has_logged l (Relocated moved) key n there)
+    (floor (relocated l moved) h) l.keep l.since (omega arith) (has_logged l (Relocated moved))
     (λ key n le there missing. (le, there))
 
 -- so neither does the ruling on one,
@@ -120,28 +97,6 @@ module _ (l : Layout) (h : History) (spares : Spares l h) where
 
   pub end_pass_spares : (pass : Pass) → SparesRuled (end_pass_ruling l h pass)
   end_pass_spares pass = spares
-
--- ---- what is read
-
-module _ {H : Type 0} (bytes : H → Option (List ℕ)) (version : Version H) (l : Layout) (has : HasLayout bytes version l) where
-  -- With the records' entries over it the memtable is that of the log with its frame, and nothing else changed.
-  pub laid_relocated : (after : Version H) (moved : List Moved) → IsTrueLog l.active → after.behind ≡ version.behind
-      → after.active.entries
-      ≡ in_order (frame_entries l.active.format l.active.number l.active.length (Relocated moved) ++ version.active.entries)
-      → HasLayout bytes after (relocated l moved)
-  laid_relocated after moved true_log behind more = record {
-    active = more
-        ∙ ap (λ (es : List Entry).
-        in_order (frame_entries l.active.format l.active.number l.active.length (Relocated moved) ++ es)) has.active
-        ∙ memtable_more l (Relocated moved) true_log;
-    frozen = subst (λ (b : Behind H). AllZip IsMemtableOf b.frozen.items l.frozen) (sym behind) has.frozen;
-    levels = subst (λ (b : Behind H). AreLevelsOf bytes b.levels l.levels) (sym behind) has.levels;
-    in_order = subst (λ (b : Behind H). AreInOrder b.levels) (sym behind) has.in_order;
-    logs = λ n s at. subst (λ (b : Behind H). HasLog bytes b.logs.items n s) (sym behind) (has.logs n s at);
-    told = subst (λ (b : Behind H). AreTold bytes b.logs.items) (sym behind) has.told;
-    below = subst (λ (b : Behind H). AllByRecursion (λ (log : SealedLog H). log.number < l.active.number) b.logs.items) (sym behind)
-        has.below;
-  }
 
 -- ---- what decides
 
