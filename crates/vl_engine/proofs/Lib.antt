@@ -30,6 +30,8 @@ pub mod PutIn
 pub mod ReadingPast
 pub mod RelocatingExits
 pub mod RelocatingStaged
+pub mod RelocatingTotals
+pub mod RelocatingWritten
 pub mod Rotated
 pub mod RotateSteps
 pub mod Ruled
