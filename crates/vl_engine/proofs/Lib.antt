@@ -29,6 +29,7 @@ pub mod Planning
 pub mod PutIn
 pub mod ReadingPast
 pub mod RelocatingExits
+pub mod RelocatingReads
 pub mod RelocatingStaged
 pub mod RelocatingTotals
 pub mod RelocatingWritten

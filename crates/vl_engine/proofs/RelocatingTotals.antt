@@ -1,31 +1,29 @@
 -- What is so of a relocation whatever the engine stands for, at each of its exits; and of one that failed.
-use Rattle.std.specs.Prelude.{◌≡◌, ◌≤◌, ℕ, zero, suc, ◌+◌, List, [], ◌∷◌, map, length, Option, None, Some, Result, Ok, Err, OnOk}
+use Rattle.std.specs.Prelude.{◌≡◌, ◌≤◌, ℕ, zero, suc, ◌+◌, List, [], ◌∷◌, map, length, Option, Some, Result, Ok, Err, OnOk}
 use Rattle.std.specs.Prelude.{IsTrue, refl}
 use Rattle.std.specs.Option.{option_map}
 use Rattle.std.proofs.Common.{sym, ap, subst, ◌∙◌, arith, ⊎_elim}
-use Rattle.vl_back.specs.declared.back.Back.{Back}
 use Rattle.vl_core.specs.Carries.{HasSameFiles, SameFiles, StaysUntold}
-use Rattle.vl_core.specs.MoveFacts.{HandsMove, HasMoved, move_frame, move_log}
+use Rattle.vl_core.specs.MoveFacts.{HandsMove, move_frame, move_log}
 use Rattle.vl_core.specs.Writing.{StopsWriting, WhileWriting, at_append, at_sync, written}
 use Rattle.vl_core.specs.declared.kept.Core.{Core}
 use Rattle.vl_core.specs.laws.Carrying.{IsWatched}
 use Rattle.vl_disk.specs.Calls.{ChangesNothing}
 use Rattle.vl_disk.specs.Crash.{WhileAppending, WhileSyncing}
-use Rattle.vl_disk.specs.DiskState.{DiskState, appended, lengthened, synced, synced_file}
+use Rattle.vl_disk.specs.DiskState.{DiskState, appended, lengthened, synced}
 use Rattle.vl_disk.specs.Faults.{after_calls}
 use Rattle.vl_disk.specs.Moments.{While}
 use Rattle.vl_disk.specs.declared.name.Name.TheVariants as names
 use Rattle.vl_disk.specs.declared.name.Name.{Name}
 use Rattle.vl_disk.specs.declared.watched.Watched.{Ghosts}
 use Rattle.vl_engine.proofs.Filing.{files_changed, files_written}
-use Rattle.vl_engine.proofs.RelocatingExits.{found_is, moves}
+use Rattle.vl_engine.proofs.RelocatingExits.{moves}
 use Rattle.vl_engine.proofs.Ruled.{looked_none}
 use Rattle.vl_engine.proofs.Untold.{untold_by}
 use Rattle.vl_engine.specs.Relocating.{At, IsMovable, IsOfPass, LeavesAll, MoveLeavesDisk, MoveNotes, NotesMoves}
 use Rattle.vl_engine.specs.Relocating.{RelocatesAs, batch_back, move_effects, moved_version}
 use Rattle.vl_engine.specs.declared.fails.MoveFail.TheVariants as fails
 use Rattle.vl_engine.specs.declared.fails.MoveFail.{MoveFail}
-use Rattle.vl_engine.specs.declared.open.OpenMerge.{OpenMerge}
 use Rattle.vl_layout.specs.Relocation as layout
 use Rattle.vl_layout.specs.Relocation.{Candidate, moved_of}
 use Rattle.vl_layout.specs.Rulings.Relocate.{moves_at}
@@ -37,7 +35,6 @@ use Rattle.vl_model.specs.declared.log_frame.LogFrame.TheVariants.{Relocated}
 use Rattle.vl_model.specs.declared.log_frame.Moved.{Moved}
 use Rattle.vl_seglog.specs.Frames.{frame_at}
 use Rattle.vl_seglog.specs.declared.sealed.SealedLog.{SealedLog}
-use Rattle.vl_version.specs.declared.version.Version.{Version}
 
 -- ---- which files stand
 

@@ -4,7 +4,7 @@ use Rattle.std.specs.Option.{ForSome}
 use Rattle.std.proofs.Common.{ap, arith, subst, sym, ◌∙◌}
 use Rattle.vl_back.specs.declared.back.Back.{Back}
 use Rattle.vl_core.specs.Fit.{IsFitFor, IsFitForSteps}
-use Rattle.vl_core.specs.MoveFacts.{HandsMove, HasMoved, move_frame, move_length, move_log}
+use Rattle.vl_core.specs.MoveFacts.{HandsMove, move_frame, move_length, move_log}
 use Rattle.vl_core.specs.Writing.{StopsWriting, WhileWriting, written}
 use Rattle.vl_core.specs.declared.kept.Core.{Core}
 use Rattle.vl_disk.specs.Calls.{ChangesNothing}

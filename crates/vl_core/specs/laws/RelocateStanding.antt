@@ -1,17 +1,15 @@
 -- What an engine stands for in memory behind a relocation.
-use Rattle.std.specs.Prelude.{◌≡◌, ◌<◌, ℕ, ◌+◌, ◌==◌, ◌||◌, nat_le, nat_lt, if◌then◌else◌, Bool, true, false}
+use Rattle.std.specs.Prelude.{◌≡◌, ℕ, ◌+◌, ◌==◌, ◌||◌, nat_le, nat_lt, if◌then◌else◌, Bool, true, false}
 use Rattle.std.specs.Prelude.{List, [], ◌∷◌, ◌++◌, Option, None, Some, refl}
-use Rattle.std.specs.List.{AllByRecursion, AllZip, list_any}
+use Rattle.std.specs.List.{AllByRecursion}
 use Rattle.std.specs.Option.{option_map}
 use Rattle.std.proofs.Common.{sym, ap, subst, ◌∙◌, arith}
 use Rattle.vl_back.specs.declared.back.Back.{Back}
-use Rattle.vl_core.specs.Laid.{AreLevelsOf, HasLayout, HasLog, IsMemtableOf}
 use Rattle.vl_core.specs.MoveFacts.{HasMoved, move_entries, move_length}
 use Rattle.vl_core.specs.Pointed.{layout_logs}
 use Rattle.vl_core.specs.Represents.{Fronts, IsFront, StandsFor, file_of}
 use Rattle.vl_core.specs.Spared.{Spares, SparesRuled}
 use Rattle.vl_core.specs.declared.kept.Core.{Core}
-use Rattle.vl_core.specs.laws.MemtableLaws.{memtable_more}
 use Rattle.vl_core.specs.laws.RelocateRulings.{IsMoving, tidy_moving}
 use Rattle.vl_core.specs.laws.SparedLaws.{spared_later}
 use Rattle.vl_core.specs.laws.SparedSteps.{has_logged}
@@ -20,38 +18,26 @@ use Rattle.vl_core.specs.laws.VersionLaws.{laid_relocated}
 use Rattle.vl_disk.specs.declared.name.Name.{Name}
 use Rattle.vl_disk.specs.declared.watched.Watched.{Ghosts}
 use Rattle.vl_front.specs.declared.front.Front.{Front}
-use Rattle.vl_layout.specs.Logs.{frame_entries, logged_entries, memtable}
+use Rattle.vl_layout.specs.Logs.{frame_entries}
 use Rattle.vl_layout.specs.Garbage.{best}
 use Rattle.vl_layout.specs.Relocation.{Candidate, Pass, moved_of}
-use Rattle.vl_layout.specs.Ruling.{Ruling, halted_at, has_no_version, logged}
+use Rattle.vl_layout.specs.Ruling.{Ruling, halted_at, has_no_version}
 use Rattle.vl_layout.specs.Rulings.EndPass.{end_pass_ruling}
 use Rattle.vl_layout.specs.Rulings.Pick.{pick_best, pick_ruling, pick_unless}
 use Rattle.vl_layout.specs.Rulings.Relocate.{relocate_of, relocate_ruling, relocate_unless, relocated}
 use Rattle.vl_layout.specs.Shown.{IsThere}
-use Rattle.vl_layout.specs.Sources.{behind_active, floor, sources}
-use Rattle.vl_layout.specs.Tidy.{IsTrueLog}
+use Rattle.vl_layout.specs.Sources.{floor, sources}
 use Rattle.vl_layout.specs.declared.file_name.FileName.{FileName}
 use Rattle.vl_layout.specs.declared.job.OpenPass.{OpenPass}
 use Rattle.vl_layout.specs.declared.layout.Layout.{Layout}
 use Rattle.vl_layout.specs.declared.segment.SegmentStat.{SegmentStat}
-use Rattle.vl_layout.specs.laws.FromLow.{has-versions_in}
-use Rattle.vl_layout.specs.laws.LayoutShows.{added, logged_entries-more}
-use Rattle.vl_layout_laws.specs.laws.Lists.{any-append, any-in_order, or_right}
-use Rattle.vl_model.specs.Entries.{in_order, is_at}
+use Rattle.vl_model.specs.Entries.{in_order}
 use Rattle.vl_model.specs.Formats.{log_format}
 use Rattle.vl_model.specs.Frames.{frame_length}
 use Rattle.vl_model.specs.History.{History, last_number}
-use Rattle.vl_model.specs.Numbers.{has}
-use Rattle.vl_model.specs.Versions.{versions_in}
 use Rattle.vl_model.specs.declared.entry.Entry.{Entry}
 use Rattle.vl_model.specs.declared.log_frame.LogFrame.TheVariants.{Relocated}
-use Rattle.vl_model.specs.declared.log_frame.LogFrame.{LogFrame}
 use Rattle.vl_model.specs.declared.log_frame.Moved.{Moved}
-use Rattle.vl_seglog.specs.declared.sealed.SealedLog.{SealedLog}
-use Rattle.vl_version.specs.Sources.{AreTold}
-use Rattle.vl_version.specs.declared.behind.Behind.{Behind}
-use Rattle.vl_version.specs.declared.version.Version.{Version}
-use Rattle.vl_version.specs.levels.LevelsLooked.{AreInOrder}
 
 -- ---- versions that are spared
 

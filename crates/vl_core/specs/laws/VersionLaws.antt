@@ -1,5 +1,5 @@
--- A version that has a layout has the one behind a begin, an end, a halt, a commit and a relocation; and where the layout has no tables, all
--- that is read of it is in memory.
+-- A version that has a layout has the one behind a begin, an end, a halt, a commit and a relocation; and where the layout has no
+-- tables, all that is read of it is in memory.
 use Rattle.std.specs.Prelude.{◌≡◌, ◌<◌, ℕ, ◌+◌, List, [], ◌∷◌, ◌++◌, Option, refl}
 use Rattle.std.specs.List.{AllByRecursion, AllZip}
 use Rattle.std.proofs.Common.{sym, ap, subst, ◌∙◌}
