@@ -1,5 +1,5 @@
 //! What of a batch is moved, and what that wants of memory, the disk's too: all of it is taken before the disk is changed.
-ghost use Rattle.std.specs.Prelude.{◌≡◌, ◌≤◌, ◌<◌, ◌^◌, ◌+◌, ◌++◌, length, nat_le, IfErr, IfOk, IfSome, IsTrue, OnOk};
+ghost use Rattle.std.specs.Prelude.{◌≡◌, ◌≤◌, ◌<◌, ◌^◌, ◌+◌, [], ◌∷◌, length, IfErr, IfOk, IfSome, IsTrue, OnOk};
 ghost use Rattle.std.specs.Prelude.{◌↔◌, None};
 ghost use Rattle.std.specs.List.{filter};
 ghost use Rattle.std.specs.Option.{ForSome};
@@ -22,7 +22,7 @@ use vl_collect::{Batch, PassFault, still_moved};
 use vl_core::Core;
 use vl_disk::{Disk, HeldFile, NoMemory, Reader};
 use vl_memtable::Memtable;
-use vl_model::{Body, Entry, Key, Moved, Pointer, entry_order};
+use vl_model::{Body, Entry, Key, Moved, Pointer};
 use vl_run::Run;
 use vl_seglog::Staged;
 use vl_table::BlockReader;
@@ -138,16 +138,25 @@ pub fn stage_move<D: Disk>(
     })
 }
 
-// The entries that moved records have in memory, in order.
+// The entries that moved records have in memory, as one run. A batch has few records, so they are put in one by one.
 fn run_of(alloc: Global, moved: &[Moved], pointers: &[Pointer]) -> Result<Run, AllocError>
     requires { length pointers.now ≡ length moved.now }
     ensures { IfOk result (λ run. run ≡ order.in_order (move_entries_of moved.now pointers.now)) }
 {
-    let mut all = Vec::with_capacity(alloc, moved.len())?;
+    let mut run = Run::from_writes(Vec::new(alloc))?;
     for (i, one) in moved.iter().enumerate() {
-        all.push(entry_of(one, pointers[i])?)?;
+        let next = run_of_one(alloc, entry_of(one, pointers[i])?)?;
+        run = run.over(alloc, &next)?;
     }
-    Run::from_writes(sorted(all)?)
+    Ok(run)
+}
+
+fn run_of_one(alloc: Global, entry: Entry) -> Result<Run, AllocError>
+    ensures { IfOk result (λ run. run ≡ entry ∷ []) }
+{
+    let mut entries = Vec::new(alloc);
+    entries.push(entry)?;
+    Run::from_writes(entries)
 }
 
 // The entry of a moved record that lies at this pointer. Key and value are shared.
@@ -159,16 +168,6 @@ fn entry_of(moved: &Moved, pointer: Pointer) -> Result<Entry, AllocError>
         version: moved.version,
         body: Body::Logged(moved.value.share()?, pointer),
     })
-}
-
-// The entries in order; of those of one key and version the first alone.
-fn sorted(entries: Vec<Entry>) -> Result<Vec<Entry>, AllocError>
-    ensures { IfOk result (λ sorted. sorted.items ≡ order.in_order entries.items) }
-{
-    let mut sorted = entries;
-    sorted.sort_by(|a, b| entry_order(a, b))?;
-    sorted.dedup_by(|later, first| entry_order(later, first).is_eq());
-    Ok(sorted)
 }
 
 // The keys of moved records with the version number that their move makes, where a merge is open: with room behind them for
