@@ -202,8 +202,8 @@ fn read_far_into<H: HeldFile, R: Reader<Held = H>>(
     }
 }
 
-// The log with this number, found by halving.
-fn log_of<H: HeldFile>(logs: &[SealedLog<H>], number: u32) -> Option<&SealedLog<H>>
+/// The log with this number, found by halving.
+pub fn log_of<H: HeldFile>(logs: &[SealedLog<H>], number: u32) -> Option<&SealedLog<H>>
     ensures found { AreRising logs.now → option_copied result ≡ log_in logs.now number }
     ensures number { IfSome result (λ log. log.now.number ≡ number) }
 {

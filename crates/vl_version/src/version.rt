@@ -17,6 +17,7 @@ ghost use Rattle.vl_version.specs.Sources.{AreTold, HasEntries, in_memory, store
 ghost use Rattle.vl_version.specs.declared.fault.ReadFault.TheVariants as why;
 ghost use Rattle.vl_version.specs.levels.LevelsLooked.{AreLaidOut};
 
+mod logs;
 mod outside;
 mod past;
 
