@@ -60,6 +60,8 @@ impl<D: Disk> Engine<D> {
         requires { IsUnderWay D.Watched D.Writer.Writer self.old.disk self.old.core.front.halted self.old.merging job.old }
         ensures handed { OnOk result (IsHandedIn D.Watched D.Writer.Writer self.new.disk self.new.core.front.halted
             self.new.merging job.new) }
+        ensures collecting { self.new.collecting ≡ self.old.collecting }
+        ensures logs { self.new.core.version.behind.logs ≡ self.old.core.version.behind.logs }
 
         // Of a job that does what the layout's open one says, as `plan` gives it: whatever it answers, the engine stands for the same
         // history, as where a whole merge is done, with that job open yet. Where it is done, the job has all of its merge, which is
@@ -88,6 +90,7 @@ impl<D: Disk> Engine<D> {
         fail: InstallFail<Base<D::Held, D::Reader>, D::Held, D::Writer>,
     ) -> MergeFail
         ensures merging { self.new.merging ≡ None }
+        ensures collecting { self.new.collecting ≡ self.old.collecting }
         ensures core { self.new.core ≡ self.old.core }
         ensures disk { self.new.disk ≡ self.old.disk }
     {
