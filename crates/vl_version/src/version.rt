@@ -83,6 +83,13 @@ impl<H: HeldFile> Version<H> {
         })
     }
 
+    /// The memtable that takes commits.
+    pub fn active(&self) -> &Memtable
+        ensures { result.now ≡ self.now.active }
+    {
+        &self.active
+    }
+
     /// Its tables by their levels.
     pub fn levels(&self) -> &Levels<H>
         ensures { result.now ≡ self.now.behind.levels }

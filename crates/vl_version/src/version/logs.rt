@@ -10,14 +10,14 @@ use vl_disk::HeldFile;
 use vl_seglog::SealedLog;
 
 impl<H: HeldFile> Version<H> {
-    /// The sealed logs that it has, their numbers rising.
+    /// Those that are sealed, by rising numbers.
     pub fn logs(&self) -> &[SealedLog<H>]
         ensures { result.now ≡ self.now.behind.logs.items }
     {
         &self.behind.as_ref().logs
     }
 
-    /// The one with this number, found by halving.
+    /// The sealed log with this number, found by halving.
     pub fn log(&self, number: u32) -> Option<&SealedLog<H>>
         ensures found { AreRising self.now.behind.logs.items → option_copied result ≡ log_in self.now.behind.logs.items number }
         ensures number { IfSome result (λ log. log.now.number ≡ number) }
