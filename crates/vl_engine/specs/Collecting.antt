@@ -1,6 +1,7 @@
 -- What an engine keeps of where space comes back from, and what the calls of a pass come to as the rulings on them have it.
-use Rattle.std.specs.Prelude.{◌≡◌, ◌<◌, ℕ, List, map, Option, None, Some, IsSome, Result, Ok, Err}
+use Rattle.std.specs.Prelude.{◌≡◌, ◌<◌, ℕ, true, List, map, Option, None, Some, IsSome, Result, Ok, Err}
 use Rattle.std.specs.Arc.{arc_value}
+use Rattle.std.specs.List.{AllByRecursion}
 use Rattle.std.specs.Option.{ForSome, option_map}
 use Rattle.vl_block.specs.declared.points.Point.{Point}
 use Rattle.vl_collect.specs.Passing.{Begins, IsPass}
@@ -26,13 +27,13 @@ use Rattle.vl_layout.specs.Rulings.Install.{Installed, install_ruling}
 use Rattle.vl_layout.specs.Rulings.Pick.{PickAnswer, Picked}
 use Rattle.vl_layout.specs.Rulings.Pick as pick
 use Rattle.vl_layout.specs.Rulings.Rotate.{rotate_ruling}
-use Rattle.vl_layout.specs.Sources.{rising}
 use Rattle.vl_layout.specs.Tidy.{log_numbers, sealed}
 use Rattle.vl_layout.specs.declared.job.OpenJob.{OpenJob}
 use Rattle.vl_layout.specs.declared.job.OpenPass.{OpenPass}
 use Rattle.vl_layout.specs.declared.layout.Layout.{Layout}
 use Rattle.vl_memtable.specs.declared.frozen_log.FrozenLog.{FrozenLog}
 use Rattle.vl_model.specs.History.{History}
+use Rattle.vl_model.specs.Numbers.{has}
 use Rattle.vl_seglog.specs.declared.sealed.SealedLog.{SealedLog}
 use Rattle.vl_stats.specs.Live.{Switches}
 use Rattle.vl_stats.specs.Tallies.{IsTally, Tallied}
@@ -50,12 +51,12 @@ use Rattle.vl_version.specs.declared.base.Base.{Base}
 
 -- ---- what is kept
 
--- these logs are the layout's sealed ones that aren't retired, and no others
+-- each of these logs is a sealed one of the layout, which isn't retired
 abbrev pub AreSealed : {H : Type 0} → List (SealedLog H) → Layout → Type 0
-AreSealed {H} logs l = map (λ (log : SealedLog H). log.number) logs ≡ log_numbers (rising (sealed l))
+AreSealed {H} logs l = AllByRecursion (λ (log : SealedLog H). has log.number (log_numbers (sealed l)) ≡ true) logs
 
--- What is kept of live bytes is the layout's. Before it is made for the first time nothing was sealed or retired since the store
--- was opened, so that the version's logs tell which there are.
+-- What is kept of live bytes is the layout's. Until it is made for the first time no log is retired, so that the version, which has
+-- each sealed log, has no other.
 abbrev pub Tallies : {H : Type 0} → List (SealedLog H) → Option Tallied → Layout → Type 0
 Tallies logs None l = AreSealed logs l
 Tallies logs (Some tally) l = IsTally tally l
