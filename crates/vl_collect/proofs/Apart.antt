@@ -4,14 +4,20 @@ use Rattle.std.proofs.lemmas.Bool.{and_parts}
 use Rattle.std.proofs.lemmas.Bool.Decides.{nat_tests}
 use Rattle.std.specs.List.{AllByRecursion, filter}
 use Rattle.std.specs.Prelude.{Bool, true, false, ◌&&◌, ◌==◌, nat_le, Option, Some, None, if◌then◌else◌}
-use Rattle.vl_collect.proofs.Rising.{AreBelow}
+use Rattle.std.proofs.Common.{get_or, take}
+use Rattle.std.proofs.lemmas.List.Elements.{All-get_or}
+use Rattle.vl_collect.proofs.Rising.{AreBelow, before_one}
+use Rattle.vl_collect.specs.Batches.{IsBatch, IsLawful}
+use Rattle.vl_collect.specs.Taking.{candidate_of, candidates}
+use Rattle.vl_collect.specs.declared.batch.Found.{Found}
+use Rattle.vl_model.specs.Formats.{log_format}
 use Rattle.vl_layout.specs.Relocation.{Candidate, is_moved, moved_of}
 use Rattle.vl_model.specs.Winners.{exact, is_far_to, leads_to, wins_exactly}
 use Rattle.vl_model.specs.declared.entry.Body.{Body}
 use Rattle.vl_model.specs.declared.entry.Body.TheVariants.{Inline, Gone, Far, Logged}
 use Rattle.vl_model.specs.declared.entry.Entry.{Entry}
 use Rattle.vl_model.specs.declared.log_frame.Moved.{Moved}
-use Rattle.vl_seglog.specs.Moves.{AreOnce, IsElsewhere}
+use Rattle.vl_seglog.specs.Moves.{AreOnce, IsElsewhere, IsMoved}
 
 -- ---- one more
 
@@ -56,13 +62,32 @@ module _ (es : List Entry) (segment last : ℕ) (c : Candidate) (moves : is_move
   -- of those before it none is of its key and version
   pub apart_from : (cs : List Candidate) → AreBelow c.place cs → IsElsewhere c.moved (moved_of es segment last cs)
   apart_from [] below = tt
-  apart_from (d ∷ cs) below = by (is_moved es segment last d) refl
+  apart_from (d ∷ cs) below = by (is_moved es segment last d) refl (apart_from cs below.1)
     where
-      rest : IsElsewhere c.moved (moved_of es segment last cs)
-      rest = apart_from cs below.1
-
-      by : (b : Bool) → is_moved es segment last d ≡ b
+      by : (b : Bool) → is_moved es segment last d ≡ b → IsElsewhere c.moved (moved_of es segment last cs)
           → IsElsewhere c.moved (map (λ (x : Candidate). x.moved)
           (if b then d ∷ filter (is_moved es segment last) cs else filter (is_moved es segment last) cs))
-      by true is = (not_this d below.0 is, rest)
-      by false is = rest
+      by true is rest = (not_this d below.0 is, rest)
+      by false is rest = rest
+
+-- ---- of a batch
+
+module _ (es : List Entry) (segment last : ℕ) (xs : List Found) (is_batch : IsBatch xs) (batch : List Candidate)
+    (are : candidates xs ≡ batch) (i : ℕ) (x : Found) (within : i < length xs) (is : x ≡ get_or xs i x) where
+  -- what is moved of those before it has none of its key and version
+  pub is_apart : is_moved es segment last (candidate_of x) ≡ true → (moved : List Moved) → moved ≡ moved_of es segment last (take i batch)
+      → IsElsewhere x.moved moved
+  is_apart moves moved so_far =
+      let below : AreBelow x.place (take i batch) =
+      subst (λ (cs : List Candidate). AreBelow x.place (take i cs)) are (before_one 0 xs i x is_batch.rising within is) in
+      subst (λ (ms : List Moved). IsElsewhere x.moved ms) (sym so_far)
+      (apart_from es segment last (candidate_of x) moves (take i batch) below)
+
+  pub is_lawful : IsMoved log_format x.moved
+  is_lawful = subst IsLawful (sym is) (All-get_or IsLawful xs i x within is_batch.lawful)
+
+-- one more that is lawful
+pub all_more : (ms : List Moved) (m : Moved) → AllByRecursion (IsMoved log_format) ms → IsMoved log_format m
+    → AllByRecursion (IsMoved log_format) (ms ++ m ∷ [])
+all_more [] m all one = (one, tt)
+all_more (a ∷ ms) m all one = (all.0, all_more ms m all.1 one)

@@ -1,5 +1,6 @@
 mod Apart
 mod Failing
+mod Frames
 mod Outcomes
 mod Rising
 mod Rooms

@@ -5,15 +5,17 @@ use Rattle.std.proofs.lemmas.Bool.{and_parts, and_from}
 use Rattle.std.proofs.lemmas.Bool.Decides.{nat_tests}
 use Rattle.std.proofs.lemmas.List.{drop_more}
 use Rattle.std.proofs.lemmas.List.Sums.{sum_by-cons}
-use Rattle.std.specs.List.{AllByRecursion, sum_by}
+use Rattle.std.proofs.lemmas.List.Elements.{All-get_or}
+use Rattle.std.specs.List.{All, AllByRecursion, sum_by}
 use Rattle.std.specs.Prelude.{Bool, true, false, ◌&&◌, nat_le, if◌then◌else◌}
-use Rattle.vl_collect.specs.Batches.{Rise, found_place, read_place, rise_from}
+use Rattle.vl_collect.specs.Batches.{IsLawful, IsOf, MayMove, Rise, found_place, read_place, rise_from}
 use Rattle.vl_collect.specs.Taking.{candidate_of, candidates}
 use Rattle.vl_collect.specs.declared.batch.Found.{Found}
 use Rattle.vl_layout.specs.Relocation.{Candidate}
-use Rattle.vl_model.specs.Formats.{record_head}
+use Rattle.vl_model.specs.Formats.{log_format, record_head}
 use Rattle.vl_model.specs.Frames.{frame_length, moved_length, record_length}
 use Rattle.vl_model.specs.declared.change.Change.{Change}
+use Rattle.vl_seglog.specs.Moves.{IsMoved}
 use Rattle.vl_seglog.specs.Placed.{AreMovedFrom, AreRecordsFrom, IsFrameAt, RecordsLie, records_of}
 use Rattle.vl_seglog.specs.Reading.{frame_of, moved_of, said_of, write_of}
 use Rattle.vl_seglog.specs.declared.frame.Frame.{Frame}
@@ -60,6 +62,44 @@ pub test_of : (low : ℕ) (fs : List Found) (high : ℕ) → Rise found_place lo
 test_of low [] high rise = refl
 test_of low (f ∷ fs) high (here, rise) =
     and_from (nat_le low f.place) (rise_from (f.place + 1) fs) (grind (arith, nat_tests, here)) (test_of (f.place + 1) fs high rise)
+
+-- ---- a batch, and the records behind it
+
+-- The records that are left stand behind those of the batch.
+abbrev pub InFront : List Found → List ReadRecord → ℕ → Type 0
+InFront batch rest high = (mid : ℕ) × Rise found_place 0 batch mid × Rise read_place mid rest high
+
+pub all_rise : (batch : List Found) (rest : List ReadRecord) (high : ℕ) → InFront batch rest high → Rise found_place 0 batch high
+all_rise batch rest high front =
+    higher found_place 0 batch front.0 high (bounds read_place front.0 rest high front.2) front.1
+
+module _ (batch : List Found) (rs : List ReadRecord) (i : ℕ) (r : ReadRecord) (within : i < length rs) (is : r ≡ get_or rs i r) where
+  -- so it is behind a record that isn't taken
+  pub passes_on : (high : ℕ) → InFront batch (drop i rs) high → InFront batch (drop (i + 1) rs) high
+  passes_on high front =
+      let next = next_at read_place front.0 rs i r high within is front.2 in
+      (
+        front.0,
+        front.1,
+        lower read_place front.0 (r.pointer.place + 1) (drop (i + 1) rs) high (let here = next.here in omega (arith, here)) next.rest,
+      )
+
+  -- and behind one that is
+  pub takes_on : (high : ℕ) (x : Found) → IsOf r x → InFront batch (drop i rs) high → InFront (batch ++ x ∷ []) (drop (i + 1) rs) high
+  takes_on high x of front =
+      let next = next_at read_place front.0 rs i r high within is front.2 in
+      let place : x.place ≡ r.pointer.place = ap (λ (c : Candidate). c.place) of.is in
+      (
+        x.place + 1,
+        one_more found_place 0 batch front.0 x front.1 (let here = next.here in omega (arith, here, place)),
+        subst (λ (n : ℕ). Rise read_place (n + 1) (drop (i + 1) rs) high) (sym place) next.rest,
+      )
+
+  -- one that may be moved is a lawful one
+  pub lawful_one : All MayMove rs → (x : Found) → IsOf r x → IsLawful x
+  lawful_one all x of =
+      let may : MayMove r = subst MayMove (sym is) (All-get_or MayMove rs i r within all) in
+      subst (IsMoved log_format) (sym (ap (λ (c : Candidate). c.moved) of.is)) (may of.value of.sets)
 
 -- ---- the records of a frame
 

@@ -11,6 +11,7 @@ pub mod Laid
 pub mod laws
 pub mod LiesOver
 pub mod MayStep
+pub mod Passing
 pub mod Pointed
 pub mod Reopened
 pub mod Represents

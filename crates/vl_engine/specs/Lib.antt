@@ -1,4 +1,5 @@
 pub mod Answers
+pub mod Collecting
 pub mod Drawing
 pub mod Flushing
 pub mod Installing

@@ -7,6 +7,7 @@
 //! docs/API.md tells what each call answers, and what it costs.
 #![tactic(auto)]
 
+mod collecting;
 mod engine;
 mod fails;
 mod flushing;
@@ -23,7 +24,8 @@ mod writing;
 
 pub use engine::{Done, Engine};
 pub use fails::{
-    AtFail, CommitFail, InstallFail, KeepFail, MergeFail, ReadFail, ReadFault, StepFail,
+    AtFail, CommitFail, InstallFail, KeepFail, MergeFail, MoveFail, PickFail, ReadFail, ReadFault,
+    StepFail,
 };
 pub use laws::what_is_seen_stays;
 pub use txn::Txn;

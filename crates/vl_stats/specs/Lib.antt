@@ -1,2 +1,4 @@
 pub mod Live
 pub mod Sums
+pub mod Tallies
+pub mod laws

@@ -9,10 +9,14 @@ mod laws;
 mod live_bytes;
 mod shares;
 mod sums;
+mod tally;
+mod tally_laws;
 
 pub use laws::tables_come_and_go;
 pub use live_bytes::LiveBytes;
 pub use shares::best;
+pub use tally::Tally;
+pub use tally_laws::{other_calls_leave_a_tally, switches_of_an_engine};
 
 #[cfg(test)]
 mod tests {

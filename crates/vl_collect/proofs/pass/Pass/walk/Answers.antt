@@ -1,5 +1,7 @@
 use Rattle.std.proofs.Common.{◌≡◌, ℕ, ◌+◌, ◌-◌, ◌^◌, List, length, drop, Option, Some, refl, ap, sym, subst, ◌∙◌, arith}
 use Rattle.vl_collect.proofs.Failing.{log_behind, passed_on}
+use Rattle.vl_collect.proofs.Frames.{frame_behind, frame_moves}
+use Rattle.vl_collect.proofs.Rising.{test_of}
 use Rattle.vl_collect.proofs.Walking.{at_end, ends_on, ends_torn, frame_within, walks_on, walks_to}
 use Rattle.vl_collect.specs.Passing.{EndAt, IsTornAt}
 use Rattle.vl_collect.specs.Taking.{Passes, candidates, records_as}
@@ -72,6 +74,17 @@ loop-at-preserved g c =
       ends = λ told tells end ends.
           subst (λ (n : ℕ). EndAt log.format log.number told n end) (sym (next told tells))
           (ends_on log.format log.number told at.place f (found told tells) lies end (c.loop-at.invariant.ends told tells end ends));
+      rises = λ none.
+          let front = c.loop-at.invariant.rises none in
+          let here : front.0 ≡ at.place = front.3 (omega (arith, c.loop-at-test.true, c.len.type_inv)) in
+          let behind = frame_behind log.format log.number at.place f recs c.records_of-records.ensures lies front.0 at.done (omega (arith, here)) in
+          let all = c.in_ok-done.ensures.rises front.0 (at.place + f.length) front.1 behind in
+          let sum = c.saturating_add.ensures in
+          (at.place + f.length, all, omega (arith, sum), λ less. omega (arith, sum, less));
+      lawful = λ none.
+          let may = frame_moves log.format log.number at.place f recs c.records_of-records.ensures
+          (rw c.in-Some.is at c.in_ok-frame.ensures.lawful) lies in
+          c.in_ok-done.ensures.lawful may (c.loop-at.invariant.lawful none);
       fits = λ fits. c.take_found.ensures.fits (c.loop-at.invariant.fits fits);
       steady = record {
         sources = c.in_ok-done.ensures.steady ∙ c.loop-at.invariant.steady.sources;
@@ -107,6 +120,17 @@ loop-at-preserved-else-done-count g c =
       ends = λ told tells end ends.
           subst (λ (n : ℕ). EndAt log.format log.number told n end) (sym (next told tells))
           (ends_on log.format log.number told at.place f (found told tells) lies end (c.loop-at.invariant.ends told tells end ends));
+      rises = λ none.
+          let front = c.loop-at.invariant.rises none in
+          let here : front.0 ≡ at.place = front.3 (omega (arith, c.loop-at-test.true, c.len.type_inv)) in
+          let behind = frame_behind log.format log.number at.place f recs c.records_of-records.ensures lies front.0 at.done (omega (arith, here)) in
+          let all = c.in_ok-done.ensures.rises front.0 (at.place + f.length) front.1 behind in
+          let sum = c.saturating_add.ensures in
+          (at.place + f.length, all, omega (arith, sum), λ less. omega (arith, sum, less));
+      lawful = λ none.
+          let may = frame_moves log.format log.number at.place f recs c.records_of-records.ensures
+          (rw c.in-Some.is at c.in_ok-frame.ensures.lawful) lies in
+          c.in_ok-done.ensures.lawful may (c.loop-at.invariant.lawful none);
       fits = λ fits. c.take_found.ensures.fits (c.loop-at.invariant.fits fits);
       steady = record {
         sources = c.in_ok-done.ensures.steady ∙ c.loop-at.invariant.steady.sources;
@@ -119,3 +143,37 @@ returns-clause-walks g c = λ p fits is.
     let w = c.loop-at.invariant.walked p fits is in
     at_end g.H.HeldFile.bytes c.args.self.now.log p c.args.batch.now.items c.loop-at.batch.items c.loop-at.at w
     (let size = g.met.H.HeldFile.sized c.args.self.now.log.held w.told w.tells in omega (arith, size, c.len.ensures, c.loop-at-test.false))
+
+pub returns-in_default-clause-batch : goal.returns-in_default-clause-batch
+returns-in_default-clause-batch g c = λ none.
+    let front = c.loop-at.invariant.rises none in
+    record {
+      lawful = c.loop-at.invariant.lawful none;
+      rising = test_of 0 c.loop-at.batch.items front.0 front.1;
+    }
+
+pub returns-clause-batch : goal.returns-clause-batch
+returns-clause-batch g c = λ none.
+    let front = c.loop-at.invariant.rises none in
+    record {
+      lawful = c.loop-at.invariant.lawful none;
+      rising = test_of 0 c.loop-at.batch.items front.0 front.1;
+    }
+
+pub returns-then-done-count-clause-batch : goal.returns-then-done-count-clause-batch
+returns-then-done-count-clause-batch g c = λ none.
+    let log = c.args.self.now.log in
+    let at = c.loop-at.at in
+    let f = c.in-Some.frame in
+    let recs = c.records_of-records.result.now in
+    let lies : IsFrameAt log.format log.number at.place f = rw c.in-Some.is at c.in_ok-frame.ensures.place in
+    let front = c.loop-at.invariant.rises none in
+    let here : front.0 ≡ at.place = front.3 (omega (arith, c.loop-at-test.true, c.len.type_inv)) in
+    let behind = frame_behind log.format log.number at.place f recs c.records_of-records.ensures lies front.0 at.done (omega (arith, here)) in
+    let may = frame_moves log.format log.number at.place f recs c.records_of-records.ensures
+    (rw c.in-Some.is at c.in_ok-frame.ensures.lawful) lies in
+    record {
+      lawful = c.in_ok-done.ensures.lawful may (c.loop-at.invariant.lawful none);
+      rising = test_of 0 c.take_found.new.batch.items (at.place + f.length)
+          (c.in_ok-done.ensures.rises front.0 (at.place + f.length) front.1 behind);
+    }
