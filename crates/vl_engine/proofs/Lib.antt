@@ -28,6 +28,8 @@ pub mod LendsNew
 pub mod Planning
 pub mod PutIn
 pub mod ReadingPast
+pub mod RelocateFound
+pub mod RelocateStaged
 pub mod Rotated
 pub mod RotateSteps
 pub mod Ruled

@@ -11,6 +11,7 @@ pub mod Opening
 pub mod Past
 pub mod Reading
 pub mod Refusing
+pub mod Relocating
 pub mod Rotating
 pub mod Sees
 pub mod Staging
