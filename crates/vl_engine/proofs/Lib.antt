@@ -30,6 +30,8 @@ pub mod PutIn
 pub mod ReadingPast
 pub mod RelocateFound
 pub mod RelocateStaged
+pub mod RelocatingExits
+pub mod RelocatingStaged
 pub mod Rotated
 pub mod RotateSteps
 pub mod Ruled
