@@ -1,19 +1,25 @@
 -- What of a batch is moved may stand in one frame, and the active memtable may take it; and over told sources it is all that the
 -- ruling moves.
-use Rattle.std.specs.List.{AllByRecursion, filter}
+use Rattle.std.specs.List.{All, AllByRecursion, filter}
 use Rattle.std.specs.Prelude.{true, false, Bool, ◌≡◌, ◌&&◌, ◌≤◌, ℕ, ◌+◌, List, [], ◌∷◌, length, refl, None, Option, Some, is_none, nat_le}
-use Rattle.std.specs.Prelude.{if◌then◌else◌}
+use Rattle.std.specs.Prelude.{Contains, if◌then◌else◌, map}
 use Rattle.std.proofs.Common.{ap, arith, subst, sym, ◌∙◌}
 use Rattle.std.proofs.lemmas.Bool.Decides.{nat_tests}
 use Rattle.vl_collect.specs.Batches.{MayBeMoved}
 use Rattle.vl_core.specs.declared.kept.Core.{Core}
-use Rattle.vl_engine.specs.Relocating.{MayMove, may_add}
+use Rattle.vl_collect.specs.Passing.{HasEntries}
+use Rattle.vl_engine.specs.Relocating.{Finds, MayMove, may_add}
+use Rattle.vl_layout.specs.Relocation.{Candidate, moved_of}
 use Rattle.vl_model.specs.Formats.{log_format}
 use Rattle.vl_model.specs.Winners.{exact}
 use Rattle.vl_model.specs.declared.entry.Entry.{Entry}
 use Rattle.vl_model.specs.declared.log_frame.Moved.{Moved}
 use Rattle.vl_seglog.specs.Moves.{AreOnce, IsElsewhere, IsMoved}
 use Rattle.vl_seglog.specs.Relocation.{IsRelocation}
+use Rattle.vl_table.specs.declared.block_reader.BlockReader.{BlockReader}
+use Rattle.vl_version.specs.Bases.{Fits, HasSources}
+use Rattle.vl_version.specs.declared.base.Base.{Base}
+use Rattle.vl_version.specs.declared.version.Version.{Version}
 
 -- ---- what is kept of a list
 
@@ -38,7 +44,7 @@ module _ {A : Type 0} (p : A → Bool) where
   fewer_filtered [] = omega arith
   fewer_filtered (x ∷ xs) = by (p x) (fewer_filtered xs)
     where
-      by : (b : Bool) → length (filter p xs) ≤ length xs → length (if b then x ∷ filter p xs else filter p xs) ≤ length xs + 1
+      by : (b : Bool) → length (filter p xs) ≤ length xs → length (if b then x ∷ filter p xs else filter p xs) ≤ length (x ∷ xs)
       by true rest = omega (arith, rest)
       by false rest = omega (arith, rest)
 
@@ -99,3 +105,24 @@ may_move core found moved may is some =
           (λ m takes. let low = (both (nat_le m.version last) (is_none (exact es m.key m.version)) takes).0 in
           grind (arith, nat_tests, low)) found;
     }
+
+-- what was found in the sources of a version is what `Finds` says
+pub finds_by : {H R : Type 0} (bytes : H → Option (List ℕ)) (core : Core H) (base : Base H R) (segment : ℕ) (batch : List Candidate)
+    (looks : BlockReader R) (found moved : List Moved) → base.version ≡ core.version
+    → ((entries : List Entry) → Fits bytes base.version looks
+    → HasEntries (λ (b : Base H R) inputs ms. HasSources bytes b.version inputs ms) base entries
+    → found ≡ moved_of entries segment core.front.oracle.last batch)
+    → All (λ (m : Moved). Contains (map (λ (c : Candidate). c.moved) batch) m) found
+    → moved ≡ filter (may_add core.version.active.entries core.front.oracle.last) found
+    → Finds bytes core segment batch looks moved
+finds_by bytes core base segment batch looks found moved same told among kept = record {
+  found = found;
+  found_are = λ entries fits has. told entries (subst (λ (v : Version _). Fits bytes v looks) (sym same) fits) (record {
+    inputs = has.inputs;
+    marked = has.marked;
+    had = subst (λ (v : Version _). HasSources bytes v has.inputs has.marked) (sym same) has.had;
+    are = has.are;
+  });
+  among = among;
+  moved_are = kept;
+}

@@ -1,9 +1,9 @@
 -- What moving the records of a batch does, whatever the engine stands for: to the disk, and in memory. And what it comes to, as the
 -- ruling on it has it.
 use Rattle.std.specs.Prelude.{◌≡◌, ◌≤◌, ◌<◌, ℕ, zero, suc, ◌+◌, ◌&&◌, nat_le, Bool, List, [], ◌∷◌, ◌++◌, map, length}
-use Rattle.std.specs.Prelude.{◌⊎◌, Option, None, Some, Result, Ok, Err, Vec, is_none, vec_capacity, vec_len, Contains}
+use Rattle.std.specs.Prelude.{Option, None, Some, Result, Ok, Err, Vec, is_none, vec_capacity, vec_len, Contains}
 use Rattle.std.specs.Global.{Global}
-use Rattle.std.specs.List.{AllByRecursion, filter}
+use Rattle.std.specs.List.{All, AllByRecursion, filter}
 use Rattle.std.specs.Option.{ForSome}
 use Rattle.vl_back.specs.declared.back.Back.{Back}
 use Rattle.vl_collect.specs.Faults.{FailsLooking, MayWhere, of_sources}
@@ -11,7 +11,7 @@ use Rattle.vl_collect.specs.Passing.{HasEntries}
 use Rattle.vl_collect.specs.declared.fault.PassFault.{PassFault}
 use Rattle.vl_collect.specs.declared.fault.PassFault.TheVariants as faults
 use Rattle.vl_core.specs.MoveFacts.{AreThere, HasFailedToMove, HasMoved, move_entries, move_length, move_log}
-use Rattle.vl_core.specs.Passing.{IsStillIn}
+use Rattle.vl_core.specs.Lasts.{Lasts}
 use Rattle.vl_core.specs.Represents.{StandsFor, file_of}
 use Rattle.vl_core.specs.declared.kept.Core.{Core}
 use Rattle.vl_disk.specs.Calls.{ChangesNothing}
@@ -25,18 +25,21 @@ use Rattle.vl_engine.specs.declared.fails.MoveFail.TheVariants as fails
 use Rattle.vl_engine.specs.declared.fails.MoveFail.{MoveFail}
 use Rattle.vl_engine.specs.declared.open.OpenMerge.{OpenMerge}
 use Rattle.vl_engine.specs.declared.relocating.StagedMove.{StagedMove}
+use Rattle.vl_frame.specs.Runs.{HasFrame}
 use Rattle.vl_layout.specs.Decides.{Answered, Damaged, Effects, Failed, NoMemory, Outcome, no_effects}
 use Rattle.vl_layout.specs.Logs.{logged_body}
 use Rattle.vl_layout.specs.Relocation as layout
 use Rattle.vl_layout.specs.Relocation.{Candidate, moved_of}
 use Rattle.vl_layout.specs.Rulings.Relocate as ruling
-use Rattle.vl_layout.specs.Rulings.Relocate.{MoveAnswer, Moves, moves_at}
+use Rattle.vl_layout.specs.Rulings.Relocate.{MoveAnswer, Moves, moves_at, relocate_ruling, relocated}
+use Rattle.vl_layout.specs.Ruling.{Ruling}
+use Rattle.vl_layout.specs.Sources.{sources}
 use Rattle.vl_layout.specs.declared.layout.Layout.{Layout}
 use Rattle.vl_model.specs.Conflicts.{Named}
 use Rattle.vl_model.specs.Cursors.{HasRisen}
 use Rattle.vl_model.specs.Entries.{in_order}
 use Rattle.vl_model.specs.Formats.{log_format}
-use Rattle.vl_model.specs.History.{History}
+use Rattle.vl_model.specs.History.{History, last_number}
 use Rattle.vl_model.specs.Limits.{max_version_number}
 use Rattle.vl_model.specs.Winners.{exact}
 use Rattle.vl_model.specs.declared.change.Change.TheVariants.{Set}
@@ -47,6 +50,7 @@ use Rattle.vl_model.specs.declared.entry.Entry.{Entry}
 use Rattle.vl_model.specs.declared.log_frame.LogFrame.TheVariants.{Relocated}
 use Rattle.vl_model.specs.declared.log_frame.Moved.{Moved}
 use Rattle.vl_model.specs.declared.pointer.Pointer.{Pointer}
+use Rattle.vl_seglog.specs.Frames.{frames_grammar}
 use Rattle.vl_seglog.specs.Relocation.{IsRelocation}
 use Rattle.vl_seglog.specs.Staging.{IsStaged, IsStagedFor}
 use Rattle.vl_seglog.specs.declared.sealed.SealedLog.{SealedLog}
@@ -70,12 +74,13 @@ HasSourced {H} bytes version entries =
     HasEntries (λ (v : Version H) inputs ms. HasSources bytes v inputs ms) version entries
 
 -- Of a batch these records are moved: those that still win exactly from inside the segment, where the sources are told, and that
--- the active memtable may take.
+-- the active memtable may take. Each is one of the batch's, whatever is told.
 pub record Finds {H R : Type 0} (bytes : H → Option (List ℕ)) (core : Core H) (segment : ℕ) (batch : List Candidate)
     (looks : BlockReader R) (moved : List Moved) : Type 0 where
   pub found : List Moved
   pub found_are : (entries : List Entry) → Fits bytes core.version looks → HasSourced bytes core.version entries
       → found ≡ moved_of entries segment core.front.oracle.last batch
+  pub among : All (λ (m : Moved). Contains (map (λ (c : Candidate). c.moved) batch) m) found
   pub moved_are : moved ≡ filter (may_add core.version.active.entries core.front.oracle.last) found
 
 -- A frame of the log may have these records, and the active memtable may take them.
@@ -235,7 +240,8 @@ module _ {D H R : Type 0} (g : Ghosts D) (bytes : H → Option (List ℕ)) (faul
   RelocatesAs (Err (fails.Exhausted back counter)) = (back ≡ batch) × IsUsedUp counter × LeavesAll old new
   RelocatesAs (Err (fails.Full back length frame)) = (back ≡ batch) × IsFull length frame × LeavesAll old new
   RelocatesAs (Err (fails.NoMemory back)) = (back ≡ batch) × HasRunOut
-  RelocatesAs (Err (fails.Disk name)) = HasFailedToRead name ⊎ HasFailedToWrite name
+  RelocatesAs (Err (fails.Read name)) = HasFailedToRead name
+  RelocatesAs (Err (fails.Disk name)) = HasFailedToWrite name
   RelocatesAs (Err (fails.Damaged back name place)) = (back ≡ batch) × FailsAt (faults.Damaged name place) × LeavesAll old new
 
 -- ---- as the ruling has it
@@ -246,6 +252,7 @@ move_outcome (Err (fails.Halted name)) = Answered (ruling.Halted (file_of name))
 move_outcome (Err (fails.Exhausted batch counter)) = Answered (ruling.Exhausted counter)
 move_outcome (Err (fails.Full batch length frame)) = Answered (ruling.Full length frame)
 move_outcome (Err (fails.NoMemory batch)) = NoMemory
+move_outcome (Err (fails.Read name)) = Failed (file_of name)
 move_outcome (Err (fails.Disk name)) = Failed (file_of name)
 move_outcome (Err (fails.Damaged batch name place)) = Damaged (file_of name) place
 
@@ -262,10 +269,11 @@ batch_back (Err (fails.Halted name)) = None
 batch_back (Err (fails.Exhausted batch counter)) = Some batch
 batch_back (Err (fails.Full batch length frame)) = Some batch
 batch_back (Err (fails.NoMemory batch)) = Some batch
+batch_back (Err (fails.Read name)) = None
 batch_back (Err (fails.Disk name)) = None
 batch_back (Err (fails.Damaged batch name place)) = Some batch
 
--- nothing was written, and the engine isn't halted by it: all answers but a fault's, and that something was moved
+-- nothing was written: all answers but that something was moved, and a fault of the log
 abbrev pub MoveLeavesDisk : Result ℕ MoveFail → Type 0
 MoveLeavesDisk (Ok zero) = Unit {0}
 MoveLeavesDisk (Ok (suc n)) = ⊥
@@ -273,6 +281,7 @@ MoveLeavesDisk (Err (fails.Halted name)) = Unit {0}
 MoveLeavesDisk (Err (fails.Exhausted batch counter)) = Unit {0}
 MoveLeavesDisk (Err (fails.Full batch length frame)) = Unit {0}
 MoveLeavesDisk (Err (fails.NoMemory batch)) = Unit {0}
+MoveLeavesDisk (Err (fails.Read name)) = Unit {0}
 MoveLeavesDisk (Err (fails.Disk name)) = ⊥
 MoveLeavesDisk (Err (fails.Damaged batch name place)) = Unit {0}
 
@@ -283,21 +292,33 @@ IsDamaged (Err (fails.Halted name)) = ⊥
 IsDamaged (Err (fails.Exhausted batch counter)) = ⊥
 IsDamaged (Err (fails.Full batch length frame)) = ⊥
 IsDamaged (Err (fails.NoMemory batch)) = ⊥
+IsDamaged (Err (fails.Read name)) = ⊥
 IsDamaged (Err (fails.Disk name)) = ⊥
 IsDamaged (Err (fails.Damaged batch name place)) = Unit {0}
 
 -- ---- whose log it is
 
--- The engine stands for them, the pass's log is the layout's if it still has one of that number, where the batch was found its log
--- has nothing else, and what is read with keeps blocks of the version's tables alone. So it is of a batch that a pass of this
--- engine gave, whatever was done since.
+-- The engine stands for them, the pass's log lasts, where the batch was found its log has nothing else, and what is read with keeps
+-- blocks of the version's tables alone. So it is of a batch that a pass of this engine gave, whatever was done since.
 pub record IsOfPass {H R : Type 0} (bytes : H → Option (List ℕ)) (core : Core H) (log : SealedLog H) (batch : List Candidate)
     (looks : BlockReader R) (h : History) (l : Layout) (p : layout.Pass) : Type 0 where
   pub stands : StandsFor bytes core h l
   pub segment : p.segment ≡ log.number
-  pub still : IsStillIn bytes log l
+  pub lasts : Lasts bytes log l
   pub there : AreThere bytes log batch
   pub fits : Fits bytes core.version looks
+
+-- the ruling where these records are moved
+abbrev pub moving : Layout → History → List Moved → Ruling MoveAnswer
+moving l h moved =
+    record { answer = Moves (length moved); history = h; layout = relocated l moved; calls = 2; gone = [] }
+
+-- A relocation of the batch is one that the ruling accepts, and its frame fits the log's format.
+pub record IsMovable (h : History) (l : Layout) (p : layout.Pass) (batch : List Candidate) : Type 0 where
+  pub moved : List Moved
+  pub moved_is : moved ≡ moved_of (sources l) p.segment (last_number h) batch
+  pub accepted : relocate_ruling l h p batch ≡ moving l h moved
+  pub fits : HasFrame (frames_grammar log_format) (Relocated moved)
 
 -- ---- faults
 
@@ -306,22 +327,27 @@ pub record NeitherRose (disk disk_now looks looks_now : ℕ) : Type 0 where
   pub disk_steady : disk_now ≡ disk
   pub looks_steady : looks_now ≡ looks
 
--- Why the disk failed at this file: a call on the log with this number was counted, or a look-up; and the other count is where
--- it was.
-pub data IsCounted (log disk disk_now looks looks_now : ℕ) (name : Name) : Type 0 where
-  at_log : name ≡ names.Log log → disk ≤ disk_now → Rose disk disk_now → looks_now ≡ looks
-      → IsCounted log disk disk_now looks looks_now name
-  at_look : HasRisen looks looks_now → disk_now ≡ disk → IsCounted log disk disk_now looks looks_now name
+-- The look-ups failed, and were counted by the reader that they were made with.
+pub record ReadRose (disk disk_now looks looks_now : ℕ) : Type 0 where
+  pub looks_rose : HasRisen looks looks_now
+  pub disk_steady : disk_now ≡ disk
 
--- A fault of the disk comes only where one of two counts of faults rose, that of the engine's disk or that of what is read with.
--- No count rises otherwise.
+-- A call on the log with this number failed, which is the file that is named, and the disk counted it.
+pub record WriteRose (log disk disk_now looks looks_now : ℕ) (name : Name) : Type 0 where
+  pub named : name ≡ names.Log log
+  pub later : disk ≤ disk_now
+  pub disk_rose : Rose disk disk_now
+  pub looks_steady : looks_now ≡ looks
+
+-- A fault comes only where a count of faults rose: that of what is read with, or that of the engine's disk. No count rises otherwise.
 abbrev pub MoveCounts : (log disk disk_now looks looks_now : ℕ) → Result ℕ MoveFail → Type 0
 MoveCounts log disk disk_now looks looks_now (Ok count) = NeitherRose disk disk_now looks looks_now
 MoveCounts log disk disk_now looks looks_now (Err (fails.Halted name)) = NeitherRose disk disk_now looks looks_now
 MoveCounts log disk disk_now looks looks_now (Err (fails.Exhausted batch counter)) = NeitherRose disk disk_now looks looks_now
 MoveCounts log disk disk_now looks looks_now (Err (fails.Full batch length frame)) = NeitherRose disk disk_now looks looks_now
 MoveCounts log disk disk_now looks looks_now (Err (fails.NoMemory batch)) = NeitherRose disk disk_now looks looks_now
-MoveCounts log disk disk_now looks looks_now (Err (fails.Disk name)) = IsCounted log disk disk_now looks looks_now name
+MoveCounts log disk disk_now looks looks_now (Err (fails.Read name)) = ReadRose disk disk_now looks looks_now
+MoveCounts log disk disk_now looks looks_now (Err (fails.Disk name)) = WriteRose log disk disk_now looks looks_now name
 MoveCounts log disk disk_now looks looks_now (Err (fails.Damaged batch name place)) = NeitherRose disk disk_now looks looks_now
 
 -- the file of one of these tables

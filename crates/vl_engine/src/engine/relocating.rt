@@ -1,18 +1,16 @@
-ghost use Rattle.std.specs.Prelude.{◌≡◌, ◌≤◌, ◌<◌, ◌⊎◌, IfOk, IsErrOf, IsTrue, Err, OnOk};
+ghost use Rattle.std.specs.Prelude.{◌≡◌, ◌≤◌, ◌<◌, List, Some, IfOk, IsErrOf, IsTrue, Err, OnOk};
 ghost use Rattle.std.specs.List.{AllByRecursion};
 ghost use Rattle.vl_core.specs.Carries.{Carries, SameFiles, StaysUntold};
 ghost use Rattle.vl_core.specs.MayStep.{Fits};
-ghost use Rattle.vl_core.specs.MoveFacts.{AreThere, move_frame};
-ghost use Rattle.vl_core.specs.Passing.{IsStillIn};
 ghost use Rattle.vl_core.specs.Represents.{Represents};
 ghost use Rattle.vl_core.specs.Writing.{StopsWriting};
 ghost use Rattle.vl_disk.specs.Calls.{ChangesNothing};
-ghost use Rattle.vl_disk.specs.Faults.{HasCause};
+ghost use Rattle.vl_disk.specs.Faults.{HasCause, after_calls};
 ghost use Rattle.vl_disk.specs.declared.errors.DiskFail.TheVariants as why;
 ghost use Rattle.vl_disk.specs.declared.name.Name.{Name};
 ghost use Rattle.vl_disk.specs.declared.name.Name.TheVariants as names;
 ghost use Rattle.vl_engine.specs.Merging.{StandsOpen};
-ghost use Rattle.vl_engine.specs.Relocating.{IsDamaged, IsOfPass, IsTableAmong, MayMove, MoveCounts, MoveLeavesDisk, MoveNotes};
+ghost use Rattle.vl_engine.specs.Relocating.{IsDamaged, IsMovable, IsOfPass, IsTableAmong, MayMove, MoveCounts, MoveLeavesDisk, MoveNotes};
 ghost use Rattle.vl_engine.specs.Relocating.{RelocatesAs, WritesMove, at, batch_back, move_effects, move_outcome, moved_version};
 ghost use Rattle.vl_engine.specs.declared.fails.MoveFail.TheVariants as fails;
 ghost use Rattle.vl_layout.specs.Decides.{Decides, as_before};
@@ -45,8 +43,10 @@ use vl_version::Base;
 impl<D: Disk> Engine<D> {
     /// Writes again, at the end of the active log, the records of a batch that still win exactly from inside the pass's log, and
     /// answers with how many these are. Each keeps its key, its version and its value. They are synced before that, by one append
-    /// and one sync; all memory is taken before these, and all look-ups are made with the reader that is handed in. Where nothing
-    /// is left to move, nothing is written.
+    /// and one sync, and all memory is taken before these. Where nothing is left to move, nothing is written.
+    ///
+    /// Whether a record still wins is looked up with the reader that is handed in: one that `reader` gave since the last rotation,
+    /// flush or install, and that read for no other call than this one.
     pub fn relocate(
         &mut self,
         pass: &Pass<Base<D::Held, D::Reader>, D::Held>,
@@ -83,8 +83,15 @@ impl<D: Disk> Engine<D> {
         ensures undamaged { (h : History) (l : Layout) (p : layout.Pass)
             → IsOfPass D.Held.bytes self.old.core pass.now.log batch looks.old h l p → IsDamaged result → ⊥ }
 
-        // Where nothing was moved and the disk didn't fail, the disk was left alone, at each moment.
+        // Whatever is told: what it answers has its cause, and what it leaves is said of each answer. Halted comes of a halted engine
+        // alone. A fault halts it, and what was acknowledged stays in memory.
+        ensures as_moved { RelocatesAs D.Watched D.Held.bytes (λ r. D.Reader.faults r)
+            (at self.old.disk self.old.core self.old.merging looks.old)
+            (at self.new.disk self.new.core self.new.merging looks.new) pass.now.log.number batch result }
+
+        // Where nothing was moved and writing didn't fail, the disk was left alone, at each moment. Else two calls changed it.
         ensures untouched { MoveLeavesDisk result → ChangesNothing D.Watched self.old.disk self.new.disk ⊥ }
+        ensures calls { OnOk result (D.calls self.new.disk ≡ after_calls (move_effects result).calls (D.calls self.old.disk)) }
 
         // A disk that told nothing tells nothing then.
         ensures untold { OnOk result (StaysUntold (D.told self.old.disk) (D.told self.new.disk)) }
@@ -92,17 +99,21 @@ impl<D: Disk> Engine<D> {
         // A batch that is handed back is the one that was given.
         ensures back { (back : List Candidate) → batch_back result ≡ Some back → back ≡ batch }
 
-        // A fault of the disk is counted by it or by what is read with, and nothing else raises these counts. It is named by the file:
-        // that of a table that was read, or that of the active log.
+        // A fault is counted, by the disk or by what is read with, and nothing else raises these counts. One of the disk is named by
+        // the active log, and one of a look-up by a table.
         ensures cause { MoveCounts self.old.core.front.log.number (D.faults self.old.disk) (D.faults self.new.disk)
             (D.Reader.faults looks.old.reader) (D.Reader.faults looks.new.reader) result }
-        ensures named { (name : Name) → bases.Fits D.Held.bytes self.old.core.version looks.old → result ≡ Err (fails.Disk name)
-            → IsTableAmong (tables_in self.old.core.version) name ⊎ (name ≡ names.Log self.old.core.front.log.number) }
+        ensures named { (name : Name) → bases.Fits D.Held.bytes self.old.core.version looks.old → result ≡ Err (fails.Read name)
+            → IsTableAmong (tables_in self.old.core.version) name }
 
-        // A disk that fails cleanly was stopped within the append or the sync of the frame of what was to be moved.
-        ensures stopped { (h : History) (l : Layout) (p : layout.Pass)
+        // The disk fails only at a relocation that is accepted. One that fails cleanly was stopped within the append or the sync of
+        // the frame of what was to be moved.
+        ensures failed { (h : History) (l : Layout) (p : layout.Pass) (name : Name)
+            → IsOfPass D.Held.bytes self.old.core pass.now.log batch looks.old h l p → result ≡ Err (fails.Disk name)
+            → IsMovable h l p batch }
+        ensures stopped { (h : History) (l : Layout) (p : layout.Pass) (name : Name)
             → IsOfPass D.Held.bytes self.old.core pass.now.log batch looks.old h l p → IsTrue D.fails_cleanly
-            → result ≡ Err (fails.Disk (names.Log l.active.number))
+            → result ≡ Err (fails.Disk name)
             → StopsWriting D.Watched (names.Log l.active.number) (frame_at log_format l.active.number l.active.length
             (Relocated (moved_of (sources l) p.segment (last_number h) batch))) self.old.disk self.new.disk }
 
@@ -146,7 +157,7 @@ impl<D: Disk> Engine<D> {
             Err(PassFault::NoMemory) => return Err(MoveFail::NoMemory(batch)),
             Err(PassFault::Disk { name }) => {
                 self.core.front.halted = Some(name);
-                return Err(MoveFail::Disk { name });
+                return Err(MoveFail::Read { name });
             }
             Err(PassFault::Damaged { name, place }) => {
                 return Err(MoveFail::Damaged { batch, name, place });

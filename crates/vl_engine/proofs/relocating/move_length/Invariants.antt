@@ -6,4 +6,4 @@ use Rattle.vl_engine.proofs.relocating.move_length.Given as goal
 
 -- the bytes in front of the records, and those of the records so far
 abbrev pub invariant-loop-one : goal.invariant-loop-one
-invariant-loop-one l = l.bytes ≡ 17 + sum_by (moved_length log_format) (take l.one-index l.one-items)
+invariant-loop-one l = l.bytes ≡ 17 + sum_by (moved_length log_format) (take l.one-index l.moved)

@@ -4,4 +4,4 @@ use Rattle.vl_engine.proofs.relocating.notes_of.Given as goal
 
 -- the keys of the records so far
 abbrev pub invariant-loop-one : goal.invariant-loop-one
-invariant-loop-one l = l.notes.items ≡ moves_at l.number (take l.one-index l.one-items)
+invariant-loop-one l = l.notes.items ≡ moves_at l.number (take l.one-index l.moved)

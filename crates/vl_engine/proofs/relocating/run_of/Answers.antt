@@ -14,9 +14,9 @@ loop-i-preserved c =
     let so_far = move_entries_of (take c.loop-i.i ms) ps in
     let e = c.in_ok-entry_of.field-0 in
     rw add-one
-    (c.in_ok-over.ensures
-    ∙ ap (λ (es : List Entry). in_order (es ++ c.in_ok-run_of_one.field-0)) c.loop-i.invariant
-    ∙ ap (λ (es : List Entry). in_order (in_order so_far ++ es)) c.in_ok-run_of_one.ensures
+    (c.in_ok-run-2.ensures
+    ∙ ap (λ (es : List Entry). in_order (es ++ c.in_ok-next.next)) c.loop-i.invariant
+    ∙ ap (λ (es : List Entry). in_order (in_order so_far ++ es)) c.in_ok-next.ensures
     ∙ in_order-front so_far (e ∷ [])
     ∙ ap (λ (x : Entry). in_order (so_far ++ x ∷ [])) c.in_ok-entry_of.ensures
     ∙ ap in_order (sym (one_move_more ms ps c.loop-i.i c.index-moved-i.result _ (record { segment = 0; place = 0; length = 0 })
