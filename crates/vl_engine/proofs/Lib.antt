@@ -28,6 +28,8 @@ pub mod LendsNew
 pub mod Planning
 pub mod PutIn
 pub mod ReadingPast
+pub mod RelocateFound
+pub mod RelocateStaged
 pub mod RelocatingExits
 pub mod RelocatingReads
 pub mod RelocatingStaged

@@ -3,7 +3,7 @@ use Rattle.std.specs.Prelude.{◌≡◌, ◌≤◌, ℕ, zero, suc, ◌+◌, ◌
 use Rattle.std.specs.Prelude.{Option, None, Some, Result, Ok, Err, OnOk, refl}
 use Rattle.std.specs.List.{AllByRecursion, filter}
 use Rattle.std.specs.Option.{option_map}
-use Rattle.std.proofs.Common.{sym, ap, subst, ◌∙◌, cond, arith, inl, inr}
+use Rattle.std.proofs.Common.{sym, ap, subst, ◌∙◌, cond, arith}
 use Rattle.std.proofs.lemmas.Bool.Decides.{nat_tests}
 use Rattle.vl_core.specs.Carries.{Carries}
 use Rattle.vl_core.specs.MayStep.{Fits}
@@ -103,7 +103,7 @@ module _ {D H R : Type 0} (g : Ghosts D) (bytes : H → Option (List ℕ)) (faul
 
   there : AllByRecursion (IsThere (layout_logs l) p.segment) batch
   there = subst (λ (n : ℕ). AllByRecursion (IsThere (layout_logs l) n) batch) (sym of.segment)
-      (there_now bytes log l of.still batch of.there)
+      (there_now bytes log l of.lasts.still batch of.there)
 
   -- what is moved is what the ruling moves
   abbrev ruled : List Moved
@@ -203,9 +203,9 @@ module _ {D H R : Type 0} (g : Ghosts D) (bytes : H → Option (List ℕ)) (faul
     decides_by (Err (fails.NoMemory back)) did =
         let out = did.1 in
         decides_short S h l ruling l (kept (record { core = out.core; merging = out.merging; told = out.disk.told }))
-    decides_by (Err (fails.Disk name)) (inl read) =
+    decides_by (Err (fails.Read name)) read =
         decides_failed S h l ruling l (file_of name) no_effects (read_runs name read) (stopped name read.core read.merging)
-    decides_by (Err (fails.Disk name)) (inr wrote) =
+    decides_by (Err (fails.Disk name)) wrote =
         decides_failed S h l ruling l (file_of name) no_effects (moves wrote.moved wrote.hands).running
         (stopped name (subst (λ (n : Name). new.core ≡ record old.core { front = record old.core.front { halted = Some n } })
         (sym wrote.named) wrote.failed.core) wrote.merging)
@@ -297,10 +297,10 @@ module _ {D H R : Type 0} (g : Ghosts D) (bytes : H → Option (List ℕ)) (faul
         let out = did.1 in
         subst (λ (c : Core H). Carries g bytes old.disk new.disk c h l ruling otherwise NoMemory no_effects) (sym out.core)
         (carries_short_move g watched bytes old.core h l p batch old.disk new.disk ⊥ out.disk is)
-    carries_by (Err (fails.Disk name)) (inl read) =
+    carries_by (Err (fails.Read name)) read =
         carries_unread_move g watched bytes old.core h l p batch old.disk new.disk ⊥ (nothing read.disk) is new.core name
         (read_runs name read) read.core no_effects
-    carries_by (Err (fails.Disk name)) (inr wrote) =
+    carries_by (Err (fails.Disk name)) wrote =
         subst (λ (n : Name). Carries g bytes old.disk new.disk new.core h l ruling otherwise (Failed (file_of n)) no_effects)
         (ap (λ (n : ℕ). names.Log n) (sym fronts.number) ∙ sym wrote.named)
         (carries_failed_move g watched bytes old.core h l p batch old.disk new.disk is wrote.moved (moves wrote.moved wrote.hands)
