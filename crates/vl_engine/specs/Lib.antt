@@ -1,4 +1,5 @@
 pub mod Answers
+pub mod Collecting
 pub mod Drawing
 pub mod Flushing
 pub mod Installing
@@ -10,6 +11,7 @@ pub mod Opening
 pub mod Past
 pub mod Reading
 pub mod Refusing
+pub mod Relocating
 pub mod Rotating
 pub mod Sees
 pub mod Staging

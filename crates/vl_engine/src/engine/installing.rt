@@ -6,6 +6,7 @@ ghost use Rattle.vl_disk.specs.DiskState.{DiskState};
 ghost use Rattle.vl_disk.specs.Faults.{HasCause, after_calls};
 ghost use Rattle.vl_disk.specs.declared.name.Name.{Name};
 ghost use Rattle.vl_core.specs.Carries.{Carries, StaysUntold};
+ghost use Rattle.vl_engine.specs.Collecting.{Collects, InstallsFor};
 ghost use Rattle.vl_engine.specs.Installing.{HandsBack, InstallFailed, InstallLeavesDisk, InstallsAs, InstallsCore};
 ghost use Rattle.vl_engine.specs.Installing.{InstallsUnraced, IsHandedIn, IsInstallWritten, KeepsAllBut, MayInstall};
 ghost use Rattle.vl_engine.specs.Installing.{StopsInstall, WritesInstall, install_otherwise};
@@ -22,6 +23,7 @@ ghost use Rattle.vl_layout.specs.declared.layout.Layout.{Layout};
 ghost use Rattle.vl_model.specs.History.{History};
 ghost use Rattle.vl_model.specs.Limits.{max_version_number};
 
+use crate::collecting::head_of;
 use crate::installing::{ReadyInstall, ready_install, write_install};
 use crate::{Engine, InstallFail};
 use std::alloc::AllocError;
@@ -104,6 +106,14 @@ impl<D: Disk> Engine<D> {
         ensures within { (InstallFailed result → ⊥) → self.old.core.back.state.next_log ≤ self.old.core.back.next_log
             → self.new.core.back.state.next_log ≤ self.new.core.back.next_log }
 
+        // What is kept of live bytes is that of the tables then.
+        ensures collects { (state : DiskState) (h : History) (l : Layout) (o : OpenJob) → D.told self.old.disk ≡ Some state
+            → StandsOpen D.Held.bytes self.old.core self.old.merging h l → l.job ≡ Some o → (l.halted ≡ None → AreLogFiles l)
+            → HasAllMerge D.Writer.Writer D.Held.bytes job o.job → AreLent o.lent (made_of job o.job)
+            → Collects self.old.core self.old.collecting l
+            → Decides (λ _ l. Collects self.new.core self.new.collecting l) h l (install_ruling l h o.job (made_of job o.job))
+            (install_otherwise l (made_of job o.job)) (install_outcome result) (install_effects result) }
+
         // In memory a version is made, or nothing changes beside the open merge, unless a fault halts. A halted engine does nothing.
         ensures core { InstallsCore self.old.core self.new.core result }
         ensures halted { (name : Name) → self.old.core.front.halted ≡ Some name → result ≡ Err (fails.Halted name) }
@@ -154,6 +164,8 @@ impl<D: Disk> Engine<D> {
             self.old.core self.new.core result }
         ensures handed { HandsBack job self.old.merging self.new.merging result }
         ensures cause { HasCause (D.faults self.old.disk) (D.faults self.new.disk) (InstallFailed result) }
+        ensures collected { InstallsFor D.Held.bytes self.old.core self.old.collecting self.new.collecting D.Writer.Writer job
+            self.new.core result }
     {
         if self.core.back.has_no_version() {
             self.merging = None;
@@ -174,7 +186,12 @@ impl<D: Disk> Engine<D> {
             self.old.core self.new.core result }
         ensures handed { HandsBack job self.old.merging self.new.merging result }
         ensures cause { HasCause (D.faults self.old.disk) (D.faults self.new.disk) (InstallFailed result) }
+        ensures collected { InstallsFor D.Held.bytes self.old.core self.old.collecting self.new.collecting D.Writer.Writer job
+            self.new.core result }
     {
+        let Ok(live) = self.collecting.live_installed(self.alloc, &self.core, &job) else {
+            return Err(InstallFail::NoMemory(job));
+        };
         let Ok(ready) = ready_install(self.alloc, &mut self.disk, &self.core, &job) else {
             return Err(InstallFail::NoMemory(job));
         };
@@ -196,6 +213,7 @@ impl<D: Disk> Engine<D> {
             Ok(()) => {
                 self.core.version = version.with_levels(levels.into_levels());
                 self.core.back.apply_install(staged.state);
+                self.collecting.switch(live, head_of(&self.core));
                 Ok(())
             }
             Err(name) => {

@@ -60,6 +60,7 @@ impl<D: Disk> Engine<D> {
         ensures merging { OpensMerge self.old.merging self.new.merging result }
         ensures core { self.new.core ≡ self.old.core }
         ensures disk { self.new.disk ≡ self.old.disk }
+        ensures collecting { self.new.collecting ≡ self.old.collecting }
     {
         if self.merging.is_some() {
             return Ok(None);
@@ -84,6 +85,7 @@ impl<D: Disk> Engine<D> {
         ensures core { self.new.core ≡ self.old.core }
         ensures disk { self.new.disk ≡ self.old.disk }
         ensures refused { OnErr result (self.new.merging ≡ self.old.merging) }
+        ensures collecting { self.new.collecting ≡ self.old.collecting }
     {
         let version = self.core.version.share()?;
         let floor = self.core.front.oracle.floor();
@@ -122,6 +124,7 @@ impl<D: Disk> Engine<D> {
         ensures core { self.new.core ≡ self.old.core }
         ensures disk { self.new.disk ≡ self.old.disk }
         ensures merging { self.new.merging ≡ None }
+        ensures collecting { self.new.collecting ≡ self.old.collecting }
     {
         let _ = job;
         self.merging = None;
