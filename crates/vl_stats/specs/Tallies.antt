@@ -1,11 +1,11 @@
 -- What is kept of the logs that are sealed and not retired, and that it is so of a layout.
-use Rattle.std.specs.Prelude.{◌≡◌, ℕ, Bool, not, ◌&&◌, ◌==◌, nat_lt, List, map}
-use Rattle.vl_layout.specs.Garbage.{live_bytes}
+use Rattle.std.specs.Prelude.{◌≡◌, ℕ, ◌-◌, min, Bool, not, ◌&&◌, ◌==◌, nat_lt, List, map}
 use Rattle.vl_layout.specs.Ruling.{Ruling}
 use Rattle.vl_layout.specs.Sources.{head, rising, tables}
 use Rattle.vl_layout.specs.Tidy.{sealed}
 use Rattle.vl_layout.specs.declared.layout.Layout.{Layout}
 use Rattle.vl_layout.specs.declared.segment.Segment.{Segment}
+use Rattle.vl_layout.specs.declared.segment.SegmentStat.{SegmentStat}
 use Rattle.vl_stats.specs.Live.{AreOf, bytes_of}
 
 -- each log with its length in bytes; how many bytes of each segment are live; and how many more logs may be sealed without
@@ -39,3 +39,16 @@ stays head live log = not (nat_lt log.0 head && (bytes_of live log.0 == 0))
 pub record IsOfLayout (live : List (ℕ × ℕ)) (number : ℕ) (l : Layout) : Type 0 where
   pub live_is : AreOf (tables l) live
   pub head_is : number ≡ head l
+
+-- ---- what there is of a log
+
+-- by its number and its length, where these are the live bytes
+abbrev pub stat_by : List (ℕ × ℕ) → ℕ × ℕ → SegmentStat
+stat_by live log = record { segment = log.0; bytes = log.1 - 16; live = bytes_of live log.0 }
+
+-- with no more live than there is, which leaves as much garbage
+abbrev pub capped : SegmentStat → SegmentStat
+capped x = record x { live = min x.live x.bytes }
+
+abbrev pub share_by : List (ℕ × ℕ) → ℕ × ℕ → SegmentStat
+share_by live log = capped (stat_by live log)

@@ -12,8 +12,8 @@ use vl_block::{Footer, Point};
 
 pub type Sums = BTreeMap<u32, u128>;
 
-// With a point's bytes more. A sum that 128 bits don't hold is refused as what memory doesn't hold: 2^32 tables would have
-// to lead to 2^96 bytes each.
+// With a point's bytes more. A sum that 128 bits don't hold is refused as want of memory: it takes 2^32 tables with 2^32
+// points each.
 fn add_point(sums: &mut Sums, point: Point) -> Result<(), AllocError>
     ensures adds { OnOk result (Adds (get nat_cmp sums.old) (get nat_cmp sums.new) (λ s. pointed_bytes s (point ∷ []))) }
     ensures empty { OnOk result (HasNoEmpty (get nat_cmp sums.old) → HasNoEmpty (get nat_cmp sums.new)) }

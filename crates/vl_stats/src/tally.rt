@@ -21,17 +21,19 @@ ghost use Rattle.vl_stats.specs.Live.{Switches, points_of_tables};
 ghost use Rattle.vl_stats.specs.Tallies.{IsOfLayout, IsTally, length_of, lengths_of, stays};
 
 use crate::LiveBytes;
+use crate::logs::{Logs, put_log, retain, stats_of};
+use crate::shares::{best_below, segment_of};
 use std::alloc::{AllocError, Global};
 use std::marker::Model;
 use vl_block::Footer;
-use vl_layout::SegmentStat;
+use vl_layout::{SegmentStat, best_has_the_greatest_share};
 
 /// What is kept of each log that is sealed and not retired: how long it is, and how much of it is live.
 #[derive(Drop)]
 pub struct Tally {
     live: LiveBytes,
     // The logs by rising numbers, each with its length in bytes.
-    logs: Vec<(u32, u64)>,
+    logs: Logs,
 }
 
 impl Model for Tally {
@@ -45,7 +47,11 @@ impl Model for Tally {
 
 impl Tally {
     /// Of the tables with these footers, and of logs by rising numbers, each with its length.
-    pub fn new(alloc: Global, footers: &[&Footer], logs: Vec<(u32, u64)>) -> Result<Self, AllocError>
+    pub fn new(
+        alloc: Global,
+        footers: &[&Footer],
+        logs: Vec<(u32, u64)>,
+    ) -> Result<Self, AllocError>
         ensures { IfOk result (λ tally. (l : Layout) → map (λ f. f.now.points.items) footers.now ≡ points_of_tables (tables l)
             → logs.items ≡ lengths_of (rising (sealed l)) → IsTally tally l) }
     {
@@ -72,7 +78,7 @@ impl Tally {
         ensures rotate { (l : Layout) (h : History) (n : ℕ) → IsTally self.old l → log ≡ length_of l.active
             → (rotate_ruling l h).answer ≡ Stepped n → IsTally self.new (rotate_ruling l h).layout }
     {
-        let _ = self.logs.insert(0, log);
+        put_log(&mut self.logs, log);
     }
 
     /// The live bytes behind a switch that adds and drops tables with these footers.
@@ -96,6 +102,7 @@ impl Tally {
             → IsOfLayout live head (install_ruling l h job made).layout
             → IsTally self.new (install_ruling l h job made).layout }
     {
+        retain(&mut self.logs, &live, head);
         self.live = live;
     }
 
@@ -104,7 +111,10 @@ impl Tally {
         ensures { IfOk result (λ stats. (l : Layout) (h : History) → IsTally self.now l → active ≡ length_of l.active
             → stats.items ≡ (stats_ruling l h).answer) }
     {
-        Ok(Vec::new(alloc))
+        let mut logs = Vec::from_slice(alloc, &self.logs)?;
+        logs.reserve(1)?;
+        put_log(&mut logs, active);
+        stats_of(alloc, &self.live, &logs)
     }
 
     /// Of the logs below head with at least so many per cent of garbage the one with the greatest share of it, of several
@@ -113,6 +123,8 @@ impl Tally {
         ensures { (logs : Logs) (l : Layout) (h : History) → IsTidy logs l h → IsTally self.now l → head ≡ head_of l
             → result ≡ option_map (λ (x : stat.SegmentStat). x.segment) (best_of_layout l percent) }
     {
-        None
+        // The law that the best of logs in any order has the greatest share.
+        best_has_the_greatest_share();
+        segment_of(best_below(&self.live, &self.logs, percent, head))
     }
 }
