@@ -1,5 +1,5 @@
 -- What a frame that is lawful and lies at its place gives of its records.
-use Rattle.std.proofs.Common.{◌≡◌, ℕ, ◌+◌, ◌<◌, ◌≤◌, ◌^◌, Bool, true, false, List, [], ◌∷◌, map, length, drop, refl, ap, sym, ◌∙◌}
+use Rattle.std.proofs.Common.{◌≡◌, ℕ, ◌+◌, ◌<◌, ◌≤◌, ◌^◌, Bool, true, false, List, [], ◌∷◌, map, length, drop, refl, sym}
 use Rattle.std.proofs.Common.{subst, arith}
 use Rattle.std.proofs.lemmas.Bool.Decides.{nat_tests}
 use Rattle.std.proofs.lemmas.List.Elements.{All-from_recursion}
@@ -8,14 +8,13 @@ use Rattle.std.specs.Prelude.{if◌then◌else◌, nat_le}
 use Rattle.vl_collect.proofs.Rising.{but_first, frame_rises, lower}
 use Rattle.vl_collect.specs.Batches.{MayMove, Rise, read_place}
 use Rattle.vl_model.specs.Formats.{log_format}
+use Rattle.vl_model.specs.Frames.{record_length}
 use Rattle.vl_model.specs.Keys.{Stored}
-use Rattle.vl_model.specs.Limits.{max_value_bytes}
-use Rattle.vl_model.specs.declared.change.Change.{Change}
 use Rattle.vl_model.specs.declared.change.Change.TheVariants.{Set}
 use Rattle.vl_seglog.specs.Bodies.{IsFrame}
 use Rattle.vl_seglog.specs.Moves.{IsMoved}
 use Rattle.vl_seglog.specs.Placed.{AreMovedFrom, AreRecordsFrom, IsFrameAt, RecordsLie, records_of}
-use Rattle.vl_seglog.specs.Reading.{frame_of, moved_of, said_of, value_of, write_of}
+use Rattle.vl_seglog.specs.Reading.{frame_of, moved_of, said_of, write_of}
 use Rattle.vl_seglog.specs.Record.{IsRecord}
 use Rattle.vl_seglog.specs.declared.frame.Frame.{Frame}
 use Rattle.vl_seglog.specs.declared.frame.ReadRecord.{ReadRecord}
@@ -45,7 +44,7 @@ committed_move : (format log number place : ℕ) → number < 2 ^ 64 → (rs : L
 committed_move format log number place fits [] all lie = tt
 committed_move format log number place fits (r ∷ rs) all lie = (
   of_set format r (let is = lie.0.version_is in omega (arith, is, fits)) all.0,
-  committed_move format log number _ fits rs all.1 lie.1,
+  committed_move format log number (place + record_length format r.key r.change) fits rs all.1 lie.1,
 )
 
 moved_move : (format log place : ℕ) (rs : List ReadRecord) → AllByRecursion (IsMoved format) (map moved_of rs)
@@ -53,15 +52,15 @@ moved_move : (format log place : ℕ) (rs : List ReadRecord) → AllByRecursion 
 moved_move format log place [] all lie = tt
 moved_move format log place (r ∷ rs) all lie = (
   of_set format r all.0.version (subst (IsRecord format r.key) (sym lie.0.sets) all.0.lawful),
-  moved_move format log _ rs all.1 lie.1,
+  moved_move format log (place + (8 + record_length format r.key r.change)) rs all.1 lie.1,
 )
 
 said_moves : (format log place : ℕ) (s : Said) → IsFrame format (said_of s) → RecordsLie format log place s
     → AllByRecursion MayMove (records_of s)
 said_moves format log place (says.Commit c) lawful lie =
     let last = lawful.last in
-    committed_move format log c.number _ (omega (arith, last)) c.records.items lawful.lawful lie
-said_moves format log place (says.Moves rs) lawful lie = moved_move format log _ rs.items lawful.lawful lie
+    committed_move format log c.number (place + 12) (omega (arith, last)) c.records.items lawful.lawful lie
+said_moves format log place (says.Moves rs) lawful lie = moved_move format log (place + 4) rs.items lawful.lawful lie
 
 -- Each that sets its key may be moved.
 pub frame_moves : (format log place : ℕ) (f : Frame) (recs : List ReadRecord) → recs ≡ records_of f.said

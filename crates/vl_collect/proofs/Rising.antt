@@ -7,9 +7,9 @@ use Rattle.std.proofs.lemmas.List.{drop_more}
 use Rattle.std.proofs.lemmas.List.Sums.{sum_by-cons}
 use Rattle.std.proofs.lemmas.List.Elements.{All-get_or}
 use Rattle.std.specs.List.{All, AllByRecursion, sum_by}
-use Rattle.std.specs.Prelude.{Bool, true, false, ◌&&◌, nat_le, if◌then◌else◌}
+use Rattle.std.specs.Prelude.{Bool, true, false, nat_le, if◌then◌else◌}
 use Rattle.vl_collect.specs.Batches.{IsLawful, IsOf, MayMove, Rise, found_place, read_place, rise_from}
-use Rattle.vl_collect.specs.Taking.{candidate_of, candidates}
+use Rattle.vl_collect.specs.Taking.{candidates}
 use Rattle.vl_collect.specs.declared.batch.Found.{Found}
 use Rattle.vl_layout.specs.Relocation.{Candidate}
 use Rattle.vl_model.specs.Formats.{log_format, record_head}
@@ -17,7 +17,7 @@ use Rattle.vl_model.specs.Frames.{frame_length, moved_length, record_length}
 use Rattle.vl_model.specs.declared.change.Change.{Change}
 use Rattle.vl_seglog.specs.Moves.{IsMoved}
 use Rattle.vl_seglog.specs.Placed.{AreMovedFrom, AreRecordsFrom, IsFrameAt, RecordsLie, records_of}
-use Rattle.vl_seglog.specs.Reading.{frame_of, moved_of, said_of, write_of}
+use Rattle.vl_seglog.specs.Reading.{moved_of, said_of, write_of}
 use Rattle.vl_seglog.specs.declared.frame.Frame.{Frame}
 use Rattle.vl_seglog.specs.declared.frame.ReadRecord.{ReadRecord}
 use Rattle.vl_seglog.specs.declared.frame.Said.{Said}
@@ -77,8 +77,7 @@ module _ (batch : List Found) (rs : List ReadRecord) (i : ℕ) (r : ReadRecord) 
   -- so it is behind a record that isn't taken
   pub passes_on : (high : ℕ) → InFront batch (drop i rs) high → InFront batch (drop (i + 1) rs) high
   passes_on high front =
-      let next = next_at read_place front.0 rs i r high within is front.2 in
-      (
+      let next = next_at read_place front.0 rs i r high within is front.2 in (
         front.0,
         front.1,
         lower read_place front.0 (r.pointer.place + 1) (drop (i + 1) rs) high (let here = next.here in omega (arith, here)) next.rest,
@@ -88,8 +87,7 @@ module _ (batch : List Found) (rs : List ReadRecord) (i : ℕ) (r : ReadRecord) 
   pub takes_on : (high : ℕ) (x : Found) → IsOf r x → InFront batch (drop i rs) high → InFront (batch ++ x ∷ []) (drop (i + 1) rs) high
   takes_on high x of front =
       let next = next_at read_place front.0 rs i r high within is front.2 in
-      let place : x.place ≡ r.pointer.place = ap (λ (c : Candidate). c.place) of.is in
-      (
+      let place : x.place ≡ r.pointer.place = ap (λ (c : Candidate). c.place) of.is in (
         x.place + 1,
         one_more found_place 0 batch front.0 x front.1 (let here = next.here in omega (arith, here, place)),
         subst (λ (n : ℕ). Rise read_place (n + 1) (drop (i + 1) rs) high) (sym place) next.rest,

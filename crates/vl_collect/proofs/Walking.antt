@@ -1,5 +1,5 @@
 -- How a pass goes over its log, frame by frame.
-use Rattle.std.proofs.Common.{◌≡◌, ◌⊎◌, inl, inr, ℕ, zero, suc, ◌+◌, ◌-◌, ◌<◌, ◌≤◌, List, [], ◌∷◌, ◌++◌, length, map}
+use Rattle.std.proofs.Common.{◌≡◌, ◌⊎◌, inl, inr, ℕ, zero, suc, ◌+◌, ◌<◌, ◌≤◌, List, [], ◌∷◌, ◌++◌, length, map}
 use Rattle.std.proofs.Common.{drop, refl, ap, sym, ◌∙◌, subst, arith, length-append}
 use Rattle.std.proofs.Math.Seq.{drop-drop, drop-nil}
 use Rattle.std.proofs.lemmas.List.{drop_at, length-drop, length-map}
@@ -7,23 +7,21 @@ use Rattle.std.proofs.lemmas.List.Sums.{sum_by-cons}
 use Rattle.std.specs.List.{sum_by}
 use Rattle.std.specs.Prelude.{Option, Some}
 use Rattle.vl_collect.proofs.Outcomes.{ended, records_end}
-use Rattle.vl_collect.specs.Passing.{AreLeft, EndAt, IsPass, Walks, records_behind}
+use Rattle.vl_collect.specs.Passing.{AreLeft, EndAt, Walks, records_behind}
 use Rattle.vl_collect.specs.Taking.{Passes, candidates, outcome, record_of, records_as}
 use Rattle.vl_collect.specs.declared.batch.Found.{Found}
 use Rattle.vl_collect.specs.declared.pass.At.{At}
-use Rattle.vl_frame.specs.Runs.{Grammar, ReadsAs, StandsAt, StandsNone, item_frame}
+use Rattle.vl_frame.specs.Runs.{Grammar, ReadsAs, StandsNone, item_frame}
 use Rattle.vl_frame.specs.laws.RunLaws as runs
 use Rattle.vl_layout.specs.Logs.{LogRecord, committed_records, frame_records, records_from, relocated_records}
 use Rattle.vl_layout.specs.Relocation as layout
 use Rattle.vl_layout.specs.Relocation.{Batched, Candidate}
 use Rattle.vl_model.specs.Frames.{frame_length, moved_length, record_length}
 use Rattle.vl_model.specs.declared.change.Change.{Change}
-use Rattle.vl_model.specs.declared.change.Change.TheVariants.{Set}
-use Rattle.vl_model.specs.declared.entry.Entry.{Entry}
 use Rattle.vl_model.specs.declared.log_frame.LogFrame.{LogFrame}
 use Rattle.vl_seglog.specs.Frames.{frames_grammar}
 use Rattle.vl_seglog.specs.Placed.{AreMovedFrom, AreRecordsFrom, IsFrameAt, RecordsLie, records_of}
-use Rattle.vl_seglog.specs.Reading.{frame_of, moved_of, said_of, value_of, write_of}
+use Rattle.vl_seglog.specs.Reading.{frame_of, moved_of, said_of, write_of}
 use Rattle.vl_seglog.specs.Sealed.{IsFound, IsTorn}
 use Rattle.vl_seglog.specs.declared.frame.Frame.{Frame}
 use Rattle.vl_seglog.specs.declared.frame.ReadRecord.{ReadRecord}

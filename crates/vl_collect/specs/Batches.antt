@@ -1,13 +1,13 @@
 -- What is so of a batch whatever is told: its records stand in their order in the log, and a log that is written may have them.
 use Rattle.std.specs.Prelude.{◌≡◌, ◌≤◌, ℕ, ◌+◌, Bool, true, ◌&&◌, nat_le, List, [], ◌∷◌, length}
-use Rattle.std.specs.List.{All, AllByRecursion}
+use Rattle.std.specs.List.{All}
 use Rattle.vl_collect.specs.Taking.{candidate_of}
 use Rattle.vl_collect.specs.declared.batch.Found.{Found}
 use Rattle.vl_model.specs.Formats.{log_format}
 use Rattle.vl_model.specs.Keys.{Stored}
 use Rattle.vl_model.specs.declared.change.Change.TheVariants.{Set}
 use Rattle.vl_model.specs.declared.log_frame.Moved.{Moved}
-use Rattle.vl_seglog.specs.Moves.{AreOnce, IsMoved}
+use Rattle.vl_seglog.specs.Moves.{IsMoved}
 use Rattle.vl_seglog.specs.Relocation.{IsRelocation}
 use Rattle.vl_seglog.specs.declared.frame.ReadRecord.{ReadRecord}
 

@@ -9,7 +9,7 @@ use vl_merge::Sources;
 use vl_seglog::SealedLog;
 use vl_table::TableFault;
 
-/// The place in bytes at which the first log's frame stands.
+/// In bytes: where the first frame of a log stands.
 const FIRST_FRAME: u64 = vl_seglog::LOG_HEADER_BYTES as u64;
 
 /// A pass that is under way.

@@ -1,6 +1,6 @@
 -- What a pass gives stands in its log, and goes on doing so.
-use Rattle.std.proofs.Common.{◌≡◌, ℕ, zero, suc, ◌+◌, ◌≤◌, Bool, true, false, cond, List, [], ◌∷◌, ◌++◌, map, length, drop, Option}
-use Rattle.std.proofs.Common.{Some, None, refl, ap, sym, ◌∙◌, subst, arith}
+use Rattle.std.proofs.Common.{◌≡◌, ℕ, zero, suc, ◌+◌, ◌≤◌, Bool, true, false, cond, List, [], ◌∷◌, ◌++◌, map, drop}
+use Rattle.std.proofs.Common.{Some, refl, ap, sym, ◌∙◌, subst, arith}
 use Rattle.std.proofs.Math.Seq.{drop-drop}
 use Rattle.std.proofs.lemmas.Bool.{and_parts}
 use Rattle.std.proofs.lemmas.Bool.Decides.{nat_tests}
@@ -29,7 +29,6 @@ use Rattle.vl_model.specs.declared.entry.Entry.{Entry}
 use Rattle.vl_model.specs.declared.log_frame.LogFrame.{LogFrame}
 use Rattle.vl_model.specs.declared.log_frame.LogFrame.TheVariants.{Committed, Relocated}
 use Rattle.vl_model.specs.declared.log_frame.Moved.{Moved}
-use Rattle.vl_model.specs.declared.pointer.Pointer.{Pointer}
 use Rattle.vl_seglog.specs.Frames.{frames_grammar, log_bytes, log_header}
 use Rattle.vl_seglog.specs.Record.{IsSpelled}
 use Rattle.vl_seglog.specs.Stored.{LeadToAll, frame_pointers, frame_writes, moved_pointers, moved_write, pointers_from, stored_at}
@@ -119,7 +118,8 @@ module _ (format number : ℕ) (bytes : List ℕ) where
   records_stand place rest (f ∷ frames) here (after, stands, reads) =
       let G = frames_grammar format in
       let size = length-item_frame format number place f in
-      let at : StandsAt G number place (drop place bytes) f after = subst (λ (l : List ℕ). StandsAt G number place l f after) (sym here) stands in
+      let at : StandsAt G number place (drop place bytes) f after = subst
+      (λ (l : List ℕ). StandsAt G number place l f after) (sym here) stands in
       let behind : drop (place + frame_length format f) bytes ≡ after = sym (drop-drop (frame_length format f) place bytes)
       ∙ ap (drop (frame_length format f)) at.spelled ∙ drop_at (item_frame G number place f) after (frame_length format f) size in
       both Stands (frame_records format place f) (records_from format (place + frame_length format f) frames)
@@ -147,7 +147,8 @@ module _ (format number : ℕ) (bytes : List ℕ) where
 
   -- where a record is spelled no other value of its key stands
   there : (segment : ℕ) (r : LogRecord) (value : Stored) → Stands r → r.change ≡ Set value
-      → IsThere (stored_at format bytes) segment (record { moved = record { key = r.key; version = r.version; value = value }; place = r.place })
+      → IsThere (stored_at format bytes) segment
+      (record { moved = record { key = r.key; version = r.version; value = value }; place = r.place })
   there segment r value stands sets p other into place found =
       let leads = stored_leads format bytes p r.key other found in
       let one : IsSpelled format (drop r.place bytes) r.key (Set other) =
@@ -178,7 +179,8 @@ module _ (last : ℕ) where
           → (leads_to segment place (exact es key version) ≡ true → version ≤ last) → version ≤ last
       by false is leads later = later leads
       by true is leads later =
-          let same : e.version ≡ version = grind (arith, nat_tests, (and_parts (eq_by_cmp key_cmp key e.key) (e.version == version) is).1) in
+          let same : e.version ≡ version = grind
+          (arith, nat_tests, (and_parts (eq_by_cmp key_cmp key e.key) (e.version == version) is).1) in
           omega (arith, same, all.0)
 
   all_up_to : (base : List Entry) (segment : ℕ) (rs : List LogRecord) → AreUpTo last base

@@ -18,7 +18,7 @@ returns-in_err-is_moved-clause-cause g c =
     c.loop-found.invariant.steady _ c.in_err-is_moved.ensures.cause))
 
 not_both : (b : Bool) → b ≡ true → b ≡ false → ⊥
-not_both b yes no = cc
+not_both b is isnt = cc
 
 pub loop-found-preserved : goal.loop-found-preserved
 loop-found-preserved g c =
@@ -58,7 +58,8 @@ loop-found-preserved g c =
             (all_more moved x.moved c.loop-found.invariant.lawful
             (is_lawful [] 0 0 xs is_batch c.args.batch.now are i x c.loop-found-test.true c.found-item.is))
         | else-branch w ↦
-            subst (λ (ms : List Moved). AllByRecursion (IsMoved log_format) ms) (sym (ap (λ v. v.items) w.moved-is)) c.loop-found.invariant.lawful
+            subst (λ (ms : List Moved). AllByRecursion (IsMoved log_format) ms) (sym (ap (λ v. v.items) w.moved-is))
+            c.loop-found.invariant.lawful
       ];
       once = elim c.if-branch.branch [
         | then-branch+then-is_elsewhere+in_ok-put w ↦

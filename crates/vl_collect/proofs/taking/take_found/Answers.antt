@@ -1,10 +1,9 @@
-use Rattle.std.proofs.Common.{◌≡◌, ◌+◌, Bool, List, ap, sym, subst, ◌∙◌, inl, inr, drop, length, ◌++◌, arith}
+use Rattle.std.proofs.Common.{◌≡◌, ◌+◌, List, ap, sym, subst, ◌∙◌, inl, inr, drop, length, ◌++◌, arith}
 use Rattle.std.proofs.Common.{Option}
-use Rattle.std.proofs.Common.{drop_of_length-le}
 use Rattle.vl_collect.proofs.Failing.{passed_on, looks_later}
 use Rattle.std.proofs.lemmas.List.Elements.{All-push}
 use Rattle.std.specs.List.{All}
-use Rattle.std.specs.Prelude.{IfSome, ◌∷◌, []}
+use Rattle.std.specs.Prelude.{IfSome}
 use Rattle.vl_collect.proofs.Outcomes.{left_out, passed_by, records_end, taken_in}
 use Rattle.vl_collect.proofs.Rising.{InFront, all_rise, lawful_one, passes_on, takes_on}
 use Rattle.vl_collect.proofs.taking.take_found.Goals.{in-None, in-Some+else-not-has_room+in_ok-put-in-Some}
@@ -13,7 +12,6 @@ use Rattle.vl_collect.specs.Taking.{candidates, one_of, outcome, record_of, reco
 use Rattle.vl_collect.specs.declared.batch.Found.{Found}
 use Rattle.vl_layout.specs.Logs.{LogRecord}
 use Rattle.vl_layout.specs.Relocation.{found_in, has_room, value_lengths}
-use Rattle.vl_model.specs.Keys.{value_length}
 use Rattle.vl_collect.proofs.taking.take_found.Goals as goal
 
 pub returns-in_err-found_in-clause-cause : goal.returns-in_err-found_in-clause-cause
@@ -76,11 +74,13 @@ loop-at-preserved g c =
                 ∙ ap (λ (xs : List Found). outcome entries segment (candidates xs) rest) (sym (ap (λ v. v.items) w.batch-is))
             | in-Some+else-not-has_room+in_ok-put-in-Some w ↦
                 let one = subst (λ (o : Option Found). one_of o ≡ found_in entries segment (record_of r)) w.in-Some.is found in
-                let room = subst (λ (xs : List Found). w.has_room.result ≡ has_room (length xs) (value_lengths (candidates xs)) w.len.result)
+                let room = subst (λ (xs : List Found). w.has_room.result ≡ has_room (length xs)
+                (value_lengths (candidates xs)) w.len.result)
                 w.deref.ensures.value w.has_room.ensures in
                 so_far
                 ∙ taken_in entries segment recs at r c.loop-at-test.true c.index-records-at.is taken w.in-Some.found one
-                (sym (room ∙ ap (has_room (length taken) (value_lengths (candidates taken))) w.len.ensures) ∙ w.if-not-has_room.false) others
+                (sym (room ∙ ap (has_room (length taken) (value_lengths (candidates taken))) w.len.ensures)
+                ∙ w.if-not-has_room.false) others
                 ∙ ap (λ (xs : List Found). outcome entries segment (candidates xs) rest)
                 (sym (ap (λ v. v.items) w.batch-is ∙ w.in_ok-put-in-Some.ensures))
           ];

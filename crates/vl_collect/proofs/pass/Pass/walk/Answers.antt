@@ -1,12 +1,11 @@
-use Rattle.std.proofs.Common.{◌≡◌, ℕ, ◌+◌, ◌-◌, ◌^◌, List, length, drop, Option, Some, refl, ap, sym, subst, ◌∙◌, arith}
+use Rattle.std.proofs.Common.{◌≡◌, ℕ, ◌+◌, List, length, drop, Option, Some, refl, ap, sym, subst, ◌∙◌, arith}
 use Rattle.vl_collect.proofs.Failing.{log_behind, passed_on}
 use Rattle.vl_collect.proofs.Frames.{frame_behind, frame_moves}
 use Rattle.vl_collect.proofs.Rising.{test_of}
 use Rattle.vl_collect.proofs.Walking.{at_end, ends_on, ends_torn, frame_within, walks_on, walks_to}
 use Rattle.vl_collect.specs.Passing.{EndAt, IsTornAt}
 use Rattle.vl_collect.specs.Taking.{Passes, candidates, records_as}
-use Rattle.vl_disk.specs.Faults.{HasCause}
-use Rattle.vl_seglog.specs.Placed.{IsFrameAt, records_of}
+use Rattle.vl_seglog.specs.Placed.{IsFrameAt}
 use Rattle.vl_seglog.specs.Sealed.{IsFound, IsTorn}
 use Rattle.vl_seglog.specs.declared.frame.Frame.{Frame}
 use Rattle.vl_seglog.specs.declared.frame.ReadRecord.{ReadRecord}
@@ -77,7 +76,8 @@ loop-at-preserved g c =
       rises = λ none.
           let front = c.loop-at.invariant.rises none in
           let here : front.0 ≡ at.place = front.3 (omega (arith, c.loop-at-test.true, c.len.type_inv)) in
-          let behind = frame_behind log.format log.number at.place f recs c.records_of-records.ensures lies front.0 at.done (omega (arith, here)) in
+          let behind = frame_behind log.format log.number at.place f recs c.records_of-records.ensures lies front.0
+          at.done (omega (arith, here)) in
           let all = c.in_ok-done.ensures.rises front.0 (at.place + f.length) front.1 behind in
           let sum = c.saturating_add.ensures in
           (at.place + f.length, all, omega (arith, sum), λ less. omega (arith, sum, less));
@@ -123,7 +123,8 @@ loop-at-preserved-else-done-count g c =
       rises = λ none.
           let front = c.loop-at.invariant.rises none in
           let here : front.0 ≡ at.place = front.3 (omega (arith, c.loop-at-test.true, c.len.type_inv)) in
-          let behind = frame_behind log.format log.number at.place f recs c.records_of-records.ensures lies front.0 at.done (omega (arith, here)) in
+          let behind = frame_behind log.format log.number at.place f recs c.records_of-records.ensures lies front.0
+          at.done (omega (arith, here)) in
           let all = c.in_ok-done.ensures.rises front.0 (at.place + f.length) front.1 behind in
           let sum = c.saturating_add.ensures in
           (at.place + f.length, all, omega (arith, sum), λ less. omega (arith, sum, less));
@@ -169,7 +170,8 @@ returns-then-done-count-clause-batch g c = λ none.
     let lies : IsFrameAt log.format log.number at.place f = rw c.in-Some.is at c.in_ok-frame.ensures.place in
     let front = c.loop-at.invariant.rises none in
     let here : front.0 ≡ at.place = front.3 (omega (arith, c.loop-at-test.true, c.len.type_inv)) in
-    let behind = frame_behind log.format log.number at.place f recs c.records_of-records.ensures lies front.0 at.done (omega (arith, here)) in
+    let behind = frame_behind log.format log.number at.place f recs c.records_of-records.ensures lies front.0 at.done
+    (omega (arith, here)) in
     let may = frame_moves log.format log.number at.place f recs c.records_of-records.ensures
     (rw c.in-Some.is at c.in_ok-frame.ensures.lawful) lies in
     record {
