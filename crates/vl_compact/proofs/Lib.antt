@@ -1,4 +1,5 @@
 mod Adding
+mod Causes
 mod Choices
 mod DueLaws
 mod Failing

@@ -196,6 +196,34 @@ module _ {V H W : Type 0} (writer : Ghosts W) (bytes : H → Option (List ℕ)) 
     all = λ not. absurd (let no_such : true ≡ false = not in cc);
   }
 
+  -- where it has ended nothing is left
+  pub ended_already : {g : _} (job : Job V H W g) (j : laid_job.Job) → Has writer bytes has job j → job.ended ≡ true
+      → Answers writer bytes has (record job { waits = false }) j false
+  ended_already {g} job j h ended =
+      let state : Has writer bytes has (record job { waits = false }) j = record {
+        is = record {
+          tables = h.is.tables;
+          inputs = h.is.inputs;
+          numbers = h.is.numbers;
+          base = h.is.base;
+          entries = h.is.entries;
+          target = h.is.target;
+          floor = h.is.floor;
+          keep = h.is.keep;
+          some = h.is.some;
+        };
+        made = h.made;
+        others = h.others;
+        needless_are = h.needless_are;
+        waits = λ no. absurd (let no_such : false ≡ true = no in cc);
+        ended = h.ended;
+      } in
+      record {
+        state = state;
+        waits = refl;
+        all = λ _. has_all (record job { waits = false }) j state ended;
+      }
+
   pub ends_with : {g : _} (job : Job V H W g) (j : laid_job.Job) → Has writer bytes has job j → job.ended ≡ false
       → walk j None (left_of job.after j) ≡ [] → (deletions : Vec Named Global)
       → deletions.items ≡ job.needless.items ++ all_named (spent j None (left_of job.after j))
@@ -303,10 +331,6 @@ module _ {V H W : Type 0} (writer : Ghosts W) (bytes : H → Option (List ℕ)) 
         last = f.last;
         found_are = f.found_are;
       }
-
-  pub is_settled : {g : _} (lent : Lent W g) (all : List ℕ) → ForSome (writer.file lent.writer) (λ x. x ≡ settled all)
-      → IsSettled writer lent
-  is_settled lent all file = λ x told. file x told ∙ ap settled (sym (ap (λ (y : File). y.bytes) (file x told)))
 
   -- nothing stands in a fresh file
   pub fresh_bytes : {g : _} (lent : Lent W g) → IsFresh writer lent → ForSome (writer.file lent.writer) (λ x. x.bytes ≡ [])

@@ -138,6 +138,8 @@ module _ {V H W : Type 0} (writer : Ghosts W) where
     pub kept : new ≡ record old { after = new.after; made = new.made; needless = new.needless; waits = new.waits }
     -- a writer that told its file tells it
     pub tells : IsSome (writer.file fresh.writer) → IsSome (writer.file table.writer)
+    -- and each byte of it is durable
+    pub durable : ForSome (writer.file table.writer) (λ f. f ≡ settled f.bytes)
 
   -- A call that reads and writes failed: reading did, by what a fault of that is, or writing the file, which is a leaving.
   abbrev pub FailsWith : {g : _} → (Counts → TableFault → Type 0) → Counts → Lent W g → (old new : Job V H W g) → TableFault → Type 0

@@ -51,11 +51,12 @@ impl<W: Writer> Lent<W> {
     }
 
     // Makes the file durable.
-    #[tactic(auto, using(crate::proofs::Telling::tells_settled))]
+    #[tactic(auto, using(crate::proofs::Telling::tells_settled, crate::proofs::Telling::durable_settled))]
     pub fn sync(&mut self) -> Result<(), TableFault>
         ensures number { self.new.number ≡ self.old.number }
         ensures settled { (bytes : List ℕ) → ForSome (W.file self.old.writer) (λ f. f.bytes ≡ bytes)
             → OnOk result (ForSome (W.file self.new.writer) (λ f. f ≡ settled bytes)) }
+        ensures durable { OnOk result (ForSome (W.file self.new.writer) (λ f. f ≡ settled f.bytes)) }
         ensures tells { IsSome (W.file self.old.writer) → IsSome (W.file self.new.writer) }
         ensures steady { OnOk result (IsSteady W.Writer self.old self.new) }
         ensures fails { IfErr result (FailsWriting W.Writer self.old self.new) }

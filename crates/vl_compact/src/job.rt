@@ -106,9 +106,10 @@ impl<V: Drop, H: Drop, W: Writer + Drop> Job<V, H, W> {
 }
 
 impl<V: Sources, H: HeldFile, W: Writer> Job<V, H, W> {
-    ghost use Rattle.std.specs.Prelude.{◌≡◌, ◌-◌, ◌^◌, min, length};
+    ghost use Rattle.std.specs.Prelude.{◌≡◌, ◌-◌, ◌^◌, ◌↔◌, All, IfSome, None, min, length};
     ghost use Rattle.std.specs.Option.{option_map};
     ghost use Rattle.vl_compact.specs.Progress.{Has, HasAll, IsJobOf, IsNew, made_of};
+    ghost use Rattle.vl_compact.specs.Racing.{IsMoved, IsUnmoved};
     ghost use Rattle.vl_layout.specs.Jobs.{AreOutputs};
     ghost use Rattle.vl_layout.specs.Merging.{gone_after, merged_entries, needless};
     ghost use Rattle.vl_layout.specs.Rulings.Install.{race};
@@ -141,8 +142,11 @@ impl<V: Sources, H: HeldFile, W: Writer> Job<V, H, W> {
     /// The least of the keys of needless deletions that was moved, with the number of its last move, of moves of which the
     /// latest comes first.
     pub fn race<'a>(&'a self, moved: &[(Key, u64)]) -> Option<(&'a Key, u64)>
-        ensures { (j : laid.Job) → HasAll W.Writer H.bytes V.has self.now j
+        ensures as_ruled { (j : laid.Job) → HasAll W.Writer H.bytes V.has self.now j
             → option_map (λ r. (r.0.now, r.1)) result ≡ race j moved.now }
+        // Whatever is told: it answers a key only for cause, and none only where no key has one.
+        ensures cause { IfSome result (λ r. IsMoved moved.now self.now.needless.items (r.0.now, r.1)) }
+        ensures none { (result ≡ None) ↔ All (λ n. IsUnmoved moved.now n) self.now.needless.items }
     {
         self.first_moved(moved)
     }
@@ -197,8 +201,9 @@ impl<V: Sources<Fault = TableFault>, H: HeldFile, W: Writer> Job<V, H, W> {
     ) -> Result<bool, TableFault>
         ensures answers { (j : laid.Job) → V.fits self.old.base reader.old.looks → Has W.Writer H.bytes V.has self.old j
             → IfOk result (Answers W.Writer H.bytes V.has self.new j) }
-        // Whatever is told: where more is kept it waits for a file, and where nothing is it has ended.
+        // Whatever is told: where more is kept it waits for a file, and where nothing is it has ended, and waits for none.
         ensures asked { IfOk result (λ more. (more ≡ true → self.new.waits ≡ true) × (more ≡ false → self.new.ended ≡ true)) }
+        ensures cleared { IfOk result (λ more. more ≡ false → self.new.waits ≡ false) }
         ensures kept { KeepsAll self.old self.new }
         ensures refused { OnErr result ((self.new.needless.items ≡ self.old.needless.items) × (self.new.waits ≡ self.old.waits)
             × (self.new.ended ≡ self.old.ended)) }
@@ -211,6 +216,7 @@ impl<V: Sources<Fault = TableFault>, H: HeldFile, W: Writer> Job<V, H, W> {
             (counts (λ l. V.faults l) (λ r. R.faults r) reader.old reader.new)) }
     {
         if self.ended {
+            self.waits = false;
             return Ok(false);
         }
         let mut keeping = self.keeping(alloc)?;
@@ -271,8 +277,7 @@ impl<V: Sources<Fault = TableFault>, H: HeldFile, W: Writer> Job<V, H, W> {
         ensures fills { (j : laid.Job) → V.fits self.old.base reader.old.looks → IsFresh W.Writer lent.old
             → Has W.Writer H.bytes V.has self.old j
             → IfOk result (Fills W.Writer j (merged Up (behind self.old.after (inputs_of j.base))) lent.new) }
-        ensures settled { (j : laid.Job) → V.fits self.old.base reader.old.looks → IsFresh W.Writer lent.old
-            → Has W.Writer H.bytes V.has self.old j → OnOk result (IsSettled W.Writer lent.new) }
+        ensures settled { OnOk result (IsSettled W.Writer lent.new) }
         ensures same { self.new ≡ record self.old { needless = self.new.needless } }
         ensures items { self.new.needless.items ≡ self.old.needless.items }
         ensures room { IfOk result (λ filled. vec_len self.new.needless + vec_len filled.found ≤ vec_capacity self.new.needless) }

@@ -1,9 +1,11 @@
-use Rattle.std.proofs.Common.{ℕ, Bool, List, [], ◌∷◌, Option, Some, false, ◌++◌, ap, subst, sym, ◌∙◌}
+use Rattle.std.proofs.Common.{◌≡◌, ℕ, Bool, List, [], ◌∷◌, Option, Some, false, ◌++◌, ap, subst, sym, ◌∙◌}
+use Rattle.std.specs.Option.{ForSome}
 use Rattle.std.specs.Prelude.{IsSome}
 use Rattle.vl_compact.proofs.Making.{makes_one}
 use Rattle.vl_compact.specs.Progress.{Has, HasTaken}
 use Rattle.vl_compact.specs.declared.files.Synced.{Synced}
 use Rattle.vl_compact.specs.declared.job.Job.{Job}
+use Rattle.vl_disk.specs.DiskState.{File, settled}
 use Rattle.vl_compact.proofs.job.Job.fill.Goals as goal
 
 pub returns-in-Ok-clause-next : goal.returns-in-Ok-clause-next
@@ -21,7 +23,7 @@ returns-in-Ok-clause-next g c = λ j fits fresh h.
     c.write.ensures.same in
     subst (λ (s : Job g.row.V.Denot g.row.H.Denot g.row.W.Denot W). Has W bytes has s j) (sym same)
     (makes_one W bytes has old j h c.requires.waits c.write.new.lent filled (c.in-Ok.ensures.fills j fits fresh h)
-    (c.in-Ok.ensures.settled j fits fresh h)
+    c.in-Ok.ensures.settled
     new.made
     (subst (λ (l : List (Synced g.row.W.Denot W)). HasTaken c.write.new.lent filled l new.made.items)
     (ap (λ (s : Job g.row.V.Denot g.row.H.Denot g.row.W.Denot W). s.made.items) c.write.ensures.same) c.take.ensures.made)
@@ -60,6 +62,8 @@ returns-in-Ok-clause-takes g c =
           })
           (sym (ap (λ (s : Job g.row.V.Denot g.row.H.Denot g.row.W.Denot W). s.waits) c.take.ensures.same));
       tells = λ told. subst (λ (w : g.row.W.Denot). IsSome (W.file w)) (sym t.writer) (c.write.ensures.tells told);
+      durable = subst (λ (w : g.row.W.Denot). ForSome (W.file w) (λ (f : File). f ≡ settled f.bytes)) (sym t.writer)
+          c.in-Ok.ensures.settled;
     }
 
 pub returns-in-Err-clause-refused : goal.returns-in-Err-clause-refused

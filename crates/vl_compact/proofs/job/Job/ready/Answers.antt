@@ -1,6 +1,10 @@
 use Rattle.std.proofs.Common.{sym, ◌∙◌}
-use Rattle.vl_compact.proofs.Making.{left_told, ready_more, ready_none, rules_of}
+use Rattle.vl_compact.proofs.Making.{ended_already, left_told, ready_more, ready_none, rules_of}
 use Rattle.vl_compact.proofs.job.Job.ready.Goals as goal
+
+pub returns-then-self-clause-answers : goal.returns-then-self-clause-answers
+returns-then-self-clause-answers g c = λ j fits h.
+    ended_already g.W.Writer g.H.HeldFile.bytes g.V.Sources.has c.args.self.now j h c.if-self.true
 
 pub returns-then-is_some-clause-answers : goal.returns-then-is_some-clause-answers
 returns-then-is_some-clause-answers g c = λ j fits h.

@@ -1,4 +1,4 @@
-use Rattle.vl_compact.proofs.Making.{fresh_bytes, is_settled, left_told, rules_of, synced_fills}
+use Rattle.vl_compact.proofs.Making.{fresh_bytes, left_told, rules_of, synced_fills}
 use Rattle.vl_compact.specs.Keys.{behind}
 use Rattle.vl_compact.specs.laws.BehindLaws.{along-merged}
 use Rattle.vl_layout.specs.Merging.{inputs_of}
@@ -18,13 +18,4 @@ returns-clause-fills g c = λ j fits fresh h.
     (c.in_ok-sync.ensures.settled _ f.whole.file)
 
 pub returns-clause-settled : goal.returns-clause-settled
-returns-clause-settled g c = λ j fits fresh h.
-    let W = g.W.Writer in
-    let bytes = g.H.HeldFile.bytes in
-    let has = g.V.Sources.has in
-    let job = c.args.self.now in
-    let k = c.in_ok-keeping.ensures in
-    let rules = rules_of W bytes has job j h.is c.in_ok-keeping.keeping.rules k.inputs k.floor k.keep in
-    let f = c.in_ok-filled.ensures.fills j _ rules h.is.base fits (left_told W bytes has job j h.is _ k.left) k.first
-    (along-merged (behind job.after (inputs_of j.base))) (fresh_bytes W bytes has c.args.lent.now fresh) in
-    is_settled W bytes has c.sync.new.self _ (c.in_ok-sync.ensures.settled _ f.whole.file)
+returns-clause-settled g c = c.in_ok-sync.ensures.durable
