@@ -15,12 +15,6 @@ use Rattle.vl_version.specs.Bases.{is_input}
 use Rattle.vl_version.specs.declared.levels.Levels.{Levels}
 use Rattle.vl_version.specs.levels.LevelsLooked.{tables_of}
 
-pub made-requires : goal.made-requires
-made-requires g c = ?
-
-pub inputs-requires : goal.inputs-requires
-inputs-requires g c = ?
-
 pub returns-clause-live : goal.returns-clause-live
 returns-clause-live g c =
     IfOk-weaker c.live_with.result _ _

@@ -2,9 +2,6 @@ use Rattle.std.proofs.lemmas.Result.{IfOk-weaker}
 use Rattle.vl_engine.proofs.Collected.{keeps_readied, leads_some, on_err}
 use Rattle.vl_engine.proofs.open.Collecting.live_with.Goals as goal
 
-pub with-requires : goal.with-requires
-with-requires g c = ?
-
 pub returns-in-Some-clause-live : goal.returns-in-Some-clause-live
 returns-in-Some-clause-live g c =
     IfOk-weaker c.with.result _ _ (λ live is. leads_some c.ready.new.self.tally c.in-Some.tally live _ _ c.in-Some.is is) c.with.ensures

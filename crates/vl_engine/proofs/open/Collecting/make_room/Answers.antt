@@ -1,9 +1,6 @@
 use Rattle.vl_engine.proofs.Collected.{keeps_reserved, on_err}
 use Rattle.vl_engine.proofs.open.Collecting.make_room.Goals as goal
 
-pub reserve-requires : goal.reserve-requires
-reserve-requires g c = ?
-
 pub returns-in-Some-clause-refused : goal.returns-in-Some-clause-refused
 returns-in-Some-clause-refused g c =
     on_err c.reserve.result _

@@ -3,9 +3,6 @@ use Rattle.vl_engine.specs.Collecting.{IsTallied}
 use Rattle.vl_stats.specs.Tallies.{Tallied}
 use Rattle.vl_engine.proofs.open.Collecting.switch.Goals as goal
 
-pub switch-requires : goal.switch-requires
-switch-requires c = ?
-
 pub returns-in-Some-clause-flush : goal.returns-in-Some-clause-flush
 returns-in-Some-clause-flush c logs l h n tidy is stepped of =
     c.switch.ensures.flush logs l h n tidy (subst (λ (o : Option Tallied). IsTallied o l) c.in-Some.is is) stepped of
