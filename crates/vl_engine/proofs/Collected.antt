@@ -5,7 +5,7 @@ use Rattle.std.specs.List.{AllByRecursion, filter}
 use Rattle.std.specs.Option.{option_map}
 use Rattle.std.proofs.Common.{sym, ap, subst, ◌∙◌}
 use Rattle.vl_block.specs.declared.points.Point.{Point}
-use Rattle.vl_core.specs.Represents.{Fronts, StandsFor}
+use Rattle.vl_core.specs.Represents.{Fronts, Represents, StandsFor}
 use Rattle.vl_core.specs.declared.kept.Core.{Core}
 use Rattle.vl_core.specs.laws.LaidTables.{tables_are}
 use Rattle.vl_disk.specs.declared.watched.Watched.{Ghosts}
@@ -355,17 +355,17 @@ pub flush_collects : {D H : Type 0} (g : Ghosts D) (bytes : H → Option (List �
     (was now : Collecting) (h : History) (l : Layout) → StandsFor bytes before h l → Collects before was l
     → (result : Result (Option ℕ) StepFail) → FlushesAs g bytes old new before after result
     → FlushesFor bytes before was now after result → (effects : Effects)
-    → Decides (StandsFor bytes after) h l (flush_ruling l h) (as_before l l) (step_outcome result) effects
+    → Decides (Represents bytes after (g.told new)) h l (flush_ruling l h) (as_before l l) (step_outcome result) effects
     → Decides (λ k x. Collects after now x) h l (flush_ruling l h) (as_before l l) (step_outcome result) effects
 flush_collects {D} {H} g bytes before after old new was now h l is has (Ok (Some n)) did flushes effects decides =
-    step_done after now (StandsFor bytes after) h l (flush_ruling l h) (flush_leaves l h) effects n
+    step_done after now (Represents bytes after (g.told new)) h l (flush_ruling l h) (flush_leaves l h) effects n
     (λ stepped. flushes.tallied h l n is has.tally stepped
     (subst (λ (k : History). StandsFor bytes after k (flush_ruling l h).layout) (flush_history l h)
-    (decides.answered (Stepped n) refl).1))
+    (decides.answered (Stepped n) refl).1.stands))
     (flushes.passing ∙ has.passing) decides
 flush_collects g bytes before after old new was now h l is has (Ok None) did flushes effects decides = absurd did
 flush_collects {D} {H} g bytes before after old new was now h l is has (Err why) did flushes effects decides =
-    step_left after now (StandsFor bytes after) h l (flush_ruling l h) (flush_leaves l h) effects
+    step_left after now (Represents bytes after (g.told new)) h l (flush_ruling l h) (flush_leaves l h) effects
     (collects_kept bytes before after was now h l is
     (ap (λ (v : Version H). v.behind.logs.items) (flush_same g bytes before after old new why did)) flushes has)
     (Err why) (err_undone why (Err why) refl) decides

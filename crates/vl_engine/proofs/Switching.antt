@@ -12,9 +12,10 @@ use Rattle.vl_compact.specs.declared.files.Synced.{Synced}
 use Rattle.vl_compact.specs.declared.job.Job.{Job}
 use Rattle.vl_core.specs.Laid.{IsTableOf}
 use Rattle.vl_core.specs.Pointed.{layout_logs}
-use Rattle.vl_core.specs.Represents.{StandsFor}
+use Rattle.vl_core.specs.Represents.{Represents, StandsFor}
 use Rattle.vl_core.specs.declared.kept.Core.{Core}
 use Rattle.vl_core.specs.laws.LaidTables.{tables_are}
+use Rattle.vl_disk.specs.DiskState.{DiskState}
 use Rattle.vl_disk.specs.declared.writer.Writer.{Ghosts as Writers}
 use Rattle.vl_engine.proofs.Collected.{IsAlike, collects_alike, collects_kept, decides_too, flush_by, head_is_laid, inputs_are_laid}
 use Rattle.vl_engine.proofs.Collected.{passed_alike, tallies_made}
@@ -22,11 +23,10 @@ use Rattle.vl_engine.proofs.Tallying.{points_are}
 use Rattle.vl_engine.specs.Collecting.{Collects, HasFlushed, HasPutIn, InstallsFor, IsReadied, IsTallied, LeadsFrom, Tallies}
 use Rattle.vl_engine.specs.Collecting.{head_in, passed_in, points_in, points_made}
 use Rattle.vl_engine.specs.Installing.{InstallsCore, install_otherwise}
-use Rattle.vl_engine.specs.Merging.{HasAllMerge, StandsOpen, install_outcome}
+use Rattle.vl_engine.specs.Merging.{HasAllMerge, install_outcome}
 use Rattle.vl_engine.specs.declared.fails.InstallFail.TheVariants as fails
 use Rattle.vl_engine.specs.declared.fails.InstallFail.{InstallFail}
 use Rattle.vl_engine.specs.declared.open.Collecting.{Collecting}
-use Rattle.vl_engine.specs.declared.open.OpenMerge.{OpenMerge}
 use Rattle.vl_layout.specs.Decides.{Answered, Damaged, Decides, Effects, Failed, NoMemory}
 use Rattle.vl_layout.specs.Jobs.{Made, tables_made}
 use Rattle.vl_layout.specs.Levels.{in_front, is_among}
@@ -258,22 +258,22 @@ install_same {V} {H} {W} {g} before after why (Err (fails.NoMemory job)) is did 
 install_same {V} {H} {W} {g} before after why (Err (fails.Disk name)) is did = did.version
 
 pub install_collects : {H R W : Type 0} (bytes : H → Option (List ℕ)) (writers : Writers W) {g : _} (job : Job (Base H R) H W g)
-    (before after : Core H) (was now : Collecting) (merging : Option OpenMerge) (h : History) (l : Layout) (o : OpenJob)
+    (before after : Core H) (was now : Collecting) (told : Option DiskState) (h : History) (l : Layout) (o : OpenJob)
     → StandsFor bytes before h l → l.job ≡ Some o → HasAllMerge writers bytes job o.job → Collects before was l
     → (result : Result (Unit {0}) (InstallFail (Base H R) H W g)) → InstallsCore before after result
     → InstallsFor bytes before was now writers job after result → (effects : Effects)
-    → Decides (StandsOpen bytes after merging) h l (install_ruling l h o.job (made_of job o.job)) (install_otherwise l (made_of job o.job))
+    → Decides (Represents bytes after told) h l (install_ruling l h o.job (made_of job o.job)) (install_otherwise l (made_of job o.job))
     (install_outcome result) effects
     → Decides (λ k x. Collects after now x) h l (install_ruling l h o.job (made_of job o.job)) (install_otherwise l (made_of job o.job))
     (install_outcome result) effects
-install_collects {H} {R} {W} bytes writers {g} job before after was now merging h l o is open_is all has (Ok done) did puts effects decides =
-    install_done after now (StandsOpen bytes after merging) h l o.job (made_of job o.job) effects
+install_collects {H} {R} {W} bytes writers {g} job before after was now told h l o is open_is all has (Ok done) did puts effects decides =
+    install_done after now (Represents bytes after told) h l o.job (made_of job o.job) effects
     (λ answered. puts.tallied h l o is open_is all has.tally answered
     (subst (λ (k : History). StandsFor bytes after k (install_ruling l h o.job (made_of job o.job)).layout)
     (install_history l h o.job (made_of job o.job)) (decides.answered Installed refl).1.stands))
     (puts.passing ∙ has.passing) decides
-install_collects {H} {R} {W} bytes writers {g} job before after was now merging h l o is open_is all has (Err why) did puts effects decides =
-    install_left after now (StandsOpen bytes after merging) h l o.job (made_of job o.job) effects
+install_collects {H} {R} {W} bytes writers {g} job before after was now told h l o is open_is all has (Err why) did puts effects decides =
+    install_left after now (Represents bytes after told) h l o.job (made_of job o.job) effects
     (collects_kept bytes before after was now h l is
     (ap (λ (v : Version H). v.behind.logs.items) (install_same before after why (Err why) refl did)) puts has)
     (Err why) (no_ok why) decides

@@ -399,23 +399,23 @@ returns-in-Ok-None-clause-within g c fine within =
 -- what is kept of live bytes
 
 pub returns-in-Some-clause-collects : goal.returns-in-Some-clause-collects
-returns-in-Some-clause-collects g c state h l o told is opened files whole lent has =
+returns-in-Some-clause-collects g c h l o represents is opened whole lent has =
     install_left c.args.self.now.core c.args.self.now.collecting _ h l o.job (made_of c.args.job o.job) no_effects has _ (λ e. cc)
-    (returns-in-Some-clause-stands g c state h l o told is opened files whole lent)
+    (returns-in-Some-clause-carries g c h l o represents is opened whole lent).decides
 
 pub returns-in-Ok-Some-clause-collects : goal.returns-in-Ok-Some-clause-collects
-returns-in-Ok-Some-clause-collects g c state h l o told is opened files whole lent has =
+returns-in-Ok-Some-clause-collects g c h l o represents is opened whole lent has =
     install_left c.args.self.now.core c.args.self.now.collecting _ h l o.job (made_of c.args.job o.job) no_effects has _ (λ e. cc)
-    (returns-in-Ok-Some-clause-stands g c state h l o told is opened files whole lent)
+    (returns-in-Ok-Some-clause-carries g c h l o represents is opened whole lent).decides
 
 pub returns-in-Err-clause-collects : goal.returns-in-Err-clause-collects
-returns-in-Err-clause-collects g c state h l o told is opened files whole lent has =
+returns-in-Err-clause-collects g c h l o represents is opened whole lent has =
     install_left c.args.self.now.core c.args.self.now.collecting _ h l o.job (made_of c.args.job o.job) no_effects has _ (λ e. cc)
-    (returns-in-Err-clause-stands g c state h l o told is opened files whole lent)
+    (returns-in-Err-clause-carries g c h l o represents is opened whole lent).decides
 
 pub returns-in-Ok-None-clause-collects : goal.returns-in-Ok-None-clause-collects
-returns-in-Ok-None-clause-collects g c state h l o told is opened files whole lent has =
+returns-in-Ok-None-clause-collects g c h l o represents is opened whole lent has =
     install_collects g.D.Held.HeldFile.bytes g.D.Writer.Writer c.args.job c.args.self.now.core c.install_unraced.new.self.core
-    c.args.self.now.collecting c.install_unraced.new.self.collecting c.install_unraced.new.self.merging h l o is.stands opened whole has
-    c.install_unraced.result (returns-in-Ok-None-clause-core g c) c.install_unraced.ensures.collected
-    (install_effects c.install_unraced.result) (returns-in-Ok-None-clause-stands g c state h l o told is opened files whole lent)
+    c.args.self.now.collecting c.install_unraced.new.self.collecting (g.D.Watched.told c.install_unraced.new.self.disk) h l o is.stands
+    opened whole has c.install_unraced.result (returns-in-Ok-None-clause-core g c) c.install_unraced.ensures.collected
+    (install_effects c.install_unraced.result) (returns-in-Ok-None-clause-carries g c h l o represents is opened whole lent).decides
