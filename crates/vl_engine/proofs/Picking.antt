@@ -1,6 +1,6 @@
 -- What a pick comes to: why none is begun, and what the pass that is begun goes over.
 use Rattle.std.specs.Prelude.{◌≡◌, ◌<◌, ℕ, Bool, true, false, ◌==◌, ◌||◌, nat_lt, if◌then◌else◌, drop, List, [], ◌∷◌, ◌++◌, map}
-use Rattle.std.specs.Prelude.{Option, None, Some, refl}
+use Rattle.std.specs.Prelude.{Option, None, Some, Result, Ok, Err, IfErr, IfOk, refl}
 use Rattle.std.specs.List.{AllByRecursion, filter}
 use Rattle.std.specs.Option.{ForSome, option_map}
 use Rattle.std.proofs.Common.{sym, ap, subst, ◌∙◌, arith}
@@ -11,11 +11,19 @@ use Rattle.vl_core.specs.Passing.{AreReadable, IsStillIn}
 use Rattle.vl_core.specs.Pointed.{bytes_of_log, layout_logs, segment_at}
 use Rattle.vl_core.specs.Represents.{StandsFor}
 use Rattle.vl_core.specs.declared.kept.Core.{Core}
+use Rattle.vl_engine.proofs.Beginning.{looks_told}
+use Rattle.vl_engine.proofs.Collected.{tallies_alike, tallies_made}
+use Rattle.vl_engine.proofs.Committing.{decides_answered, decides_short}
 use Rattle.vl_engine.proofs.Tallying.{each_there}
-use Rattle.vl_engine.specs.Collecting.{BeginsOver, GoesOver, IsPicked}
+use Rattle.vl_engine.specs.Collecting.{BeginsOver, BeginsPass, Collects, FitsLooks, IsPicked, IsTallied, LacksLog, Passes, Tallies}
+use Rattle.vl_engine.specs.Collecting.{passed_in, pick_outcome}
+use Rattle.vl_engine.specs.declared.fails.PickFail.TheVariants as fails
+use Rattle.vl_engine.specs.declared.fails.PickFail.{PickFail}
+use Rattle.vl_engine.specs.declared.open.Collecting.{Collecting}
 use Rattle.vl_engine.specs.laws.PlannedJobs.{has_sources}
 use Rattle.vl_frame.specs.Runs.{ReadsAs, run_bytes}
 use Rattle.vl_frame.specs.laws.RunLaws.{reads_whole}
+use Rattle.vl_layout.specs.Decides.{Decides, as_before, effects_of, no_effects}
 use Rattle.vl_layout.specs.Garbage.{best, best_of, better_of, is_better, is_worth, stat_of}
 use Rattle.vl_layout.specs.Jobs.{AreDistinct}
 use Rattle.vl_layout.specs.Logs.{LogRecord, records, records_from}
@@ -25,7 +33,8 @@ use Rattle.vl_layout.specs.Ruling.{Ruling, leaving}
 use Rattle.vl_layout.specs.Rulings.Pick.{InvalidRequest, NoRewrite, PickAnswer, Picked, Rejected, pass_over, pick_best, pick_ruling}
 use Rattle.vl_layout.specs.Rulings.Pick.{pick_unless, records_in, with_pass}
 use Rattle.vl_layout.specs.Sources.{head, sources, tables}
-use Rattle.vl_layout.specs.Tidy.{log_numbers, sealed}
+use Rattle.vl_layout.specs.Tidy.{IsTidy, log_numbers, sealed}
+use Rattle.vl_layout_laws.specs.laws.TidyRulings.{pick_tidy}
 use Rattle.vl_layout.specs.declared.job.OpenPass.{OpenPass}
 use Rattle.vl_layout.specs.declared.layout.Layout.{Layout}
 use Rattle.vl_layout.specs.declared.segment.Segment.{Segment}
@@ -38,6 +47,7 @@ use Rattle.vl_model.specs.declared.entry.Entry.{Entry}
 use Rattle.vl_seglog.specs.Frames.{frames_grammar, log_header}
 use Rattle.vl_seglog.specs.declared.sealed.SealedLog.{SealedLog}
 use Rattle.vl_collect.specs.declared.pass.Pass.{Pass}
+use Rattle.vl_version.specs.Bases as bases
 use Rattle.vl_version.specs.Bases.{HasSources}
 use Rattle.vl_version.specs.Shared.{IsSameLog}
 use Rattle.vl_version.specs.Sources.{log_in}
@@ -254,3 +264,112 @@ module _ {H : Type 0} (bytes : H → Option (List ℕ)) where
 
         some_one : (a b : Segment) → Some a ≡ Some b → a ≡ b
         some_one a b e = cc
+
+-- ---- what a pick came to
+
+module _ (l : Layout) (h : History) (percent : ℕ) (fair : IsUnfair l h percent ≡ false)
+    (none : None ≡ option_map (λ (p : OpenPass). p.segment) l.pass) where
+  pub is_none : None ≡ option_map (λ (x : SegmentStat). x.segment) (best l percent) → leaving NoRewrite h l ≡ pick_ruling l h percent
+  is_none picked = by (best l percent) picked ∙ is_best l h percent fair none
+    where
+      by : (o : Option SegmentStat) → None ≡ option_map (λ (x : SegmentStat). x.segment) o → leaving NoRewrite h l ≡ pick_best l h o
+      by None e = refl
+      by (Some x) e = absurd cc
+
+  -- the segment that is picked
+  pub record IsBest (n : ℕ) : Type 0 where
+    pub stat : SegmentStat
+    pub is : best l percent ≡ Some stat
+    pub number : n ≡ stat.segment
+    pub ruled : leaving (Picked (pass_over l n)) h (with_pass n l) ≡ pick_ruling l h percent
+
+  pub is_some : (n : ℕ) → Some n ≡ option_map (λ (x : SegmentStat). x.segment) (best l percent) → IsBest n
+  is_some n picked = by (best l percent) refl picked
+    where
+      one : (k : ℕ) → Some n ≡ Some k → n ≡ k
+      one k e = cc
+
+      by : (o : Option SegmentStat) → best l percent ≡ o → Some n ≡ option_map (λ (x : SegmentStat). x.segment) o → IsBest n
+      by None is e = absurd cc
+      by (Some x) is e = record {
+        stat = x;
+        is = is;
+        number = one x.segment e;
+        ruled = ap (λ (k : ℕ). leaving (Picked (pass_over l k)) h (with_pass k l)) (one x.segment e)
+            ∙ sym (ap (pick_best l h) is) ∙ is_best l h percent fair none;
+      }
+
+  module _ {H : Type 0} (bytes : H → Option (List ℕ)) (core : Core H) (is : StandsFor bytes core h l) (n : ℕ) (b : IsBest n) where
+    pub tidy_then : IsTidy (layout_logs l) (with_pass n l) h
+    tidy_then = subst (λ (r : Ruling PickAnswer). IsTidy (layout_logs l) r.layout r.history) (sym b.ruled)
+        (pick_tidy (layout_logs l) l h is.tidy percent)
+
+    there : IsLogAt l n
+    there = subst (IsLogAt l) (sym b.number) (best_at l is.tidy.distinct.1 percent b.stat b.is)
+
+    had : HasLog bytes core.version.behind.logs.items n there.log
+    had = subst (λ (k : ℕ). HasLog bytes core.version.behind.logs.items k there.log) there.number
+        (is.has.logs there.log.number there.log there.at)
+
+    -- A pass was begun over it, or memory was wanting.
+    pub decides_begun : {P : Type 0} (S : History → Layout → Type 0) (result : Result P PickFail) → IfErr result (LacksLog core n)
+        → ((pass : P) → result ≡ Ok pass → S h (with_pass n l)) → ((why : PickFail) → result ≡ Err why → S h l)
+        → Decides S h l (pick_ruling l h percent) (as_before l l) (pick_outcome (pick_ruling l h percent).answer result) no_effects
+    decides_begun S (Ok pass) lacks then kept =
+        decides_answered S h l (pick_ruling l h percent) (as_before l l) (pick_ruling l h percent).answer no_effects refl
+        (ap (λ (r : Ruling PickAnswer). effects_of r) b.ruled)
+        (subst (λ (r : Ruling PickAnswer). S r.history r.layout) b.ruled (then pass refl))
+    decides_begun S (Err fails.InvalidRequest) lacks then kept = absurd lacks
+    decides_begun S (Err (fails.Rejected segment)) lacks then kept = absurd lacks
+    decides_begun S (Err fails.NoRewrite) lacks then kept =
+        absurd (no had.log (sym (lacks is.has.told.rising) ∙ had.at))
+      where
+        no : (log : SealedLog H) → None ≡ Some log → ⊥
+        no log e = cc
+    decides_begun S (Err fails.NoMemory) lacks then kept =
+        decides_short S h l (pick_ruling l h percent) l (kept fails.NoMemory refl)
+
+    pub picked_pass : {R : Type 0} (result : Result (Pass (Base H R) H) PickFail) → IfOk result (BeginsOver bytes core n) → AreReadable l
+        → IfOk result (λ pass. IsPicked bytes pass (pick_ruling l h percent).layout (pick_ruling l h percent).answer)
+    picked_pass {R} (Ok pass) begins files =
+        subst (λ (r : Ruling PickAnswer). IsPicked bytes pass r.layout r.answer) b.ruled
+        (subst (λ (k : ℕ). IsPicked bytes pass (with_pass k l) (Picked (pass_over l k))) (sym b.number)
+        (is_picked bytes {R = R} core h l is percent b.stat b.is pass
+        (subst (λ (k : ℕ). BeginsOver bytes core k pass) b.number begins) files))
+    picked_pass (Err why) begins files = tt
+
+    -- what is kept of where space comes back from
+    pub collects_begun : {P : Type 0} (then : Core H) (was now : Collecting) → then ≡ core → IsTallied was.tally l
+        → was.passing ≡ passed_in l → (result : Result P PickFail) → BeginsPass was now n result → IfErr result (LacksLog core n)
+        → Decides (λ k x. Collects then now x) h l (pick_ruling l h percent) (as_before l l)
+        (pick_outcome (pick_ruling l h percent).answer result) no_effects
+    collects_begun {P} then was now same tallied passing result begins lacks =
+        decides_begun (λ k x. Collects then now x) result lacks (λ pass ok. after pass (subst (BeginsPass was now n) ok begins))
+        (λ why err. before why (subst (BeginsPass was now n) err begins))
+      where
+        tallies : (x : Layout) → x.frozen ≡ l.frozen → x.flushed ≡ l.flushed → x.levels ≡ l.levels
+            → Tallies then.version.behind.logs.items was.tally x
+        tallies x a b c = tallies_alike then.version.behind.logs.items was.tally l x a b c
+            (tallies_made then.version.behind.logs.items was.tally l tallied)
+
+        after : (pass : P) → now ≡ record was { passing = Some n } → Collects then now (with_pass n l)
+        after pass e = subst (λ (k : Collecting). Collects then k (with_pass n l)) (sym e)
+            (record { tally = tallies (with_pass n l) refl refl refl; passing = refl })
+
+        before : (why : PickFail) → now ≡ was → Collects then now l
+        before why e = subst (λ (k : Collecting). Collects then k l) (sym e)
+            (record { tally = tallies l refl refl refl; passing = passing })
+
+pub pass_fits : {H R : Type 0} (bytes : H → Option (List ℕ)) (core : Core H) (h : History) (l : Layout) → StandsFor bytes core h l
+    → (n : ℕ) (result : Result (Pass (Base H R) H) PickFail) → IfOk result (BeginsOver bytes core n) → IfOk result (FitsLooks bytes)
+pass_fits {H} {R} bytes core h l is n (Ok pass) begins = λ reader kept.
+    subst (λ (v : Version H). bases.Fits bytes v reader) (sym begins.version) (looks_told bytes core h l is reader kept)
+pass_fits bytes core h l is n (Err why) begins = tt
+
+-- where it begins, it is the one that is open then
+pub passes_by : {H R : Type 0} (bytes : H → Option (List ℕ)) (core : Core H) (old mid new : Collecting) (n : ℕ)
+    → mid.passing ≡ old.passing → (result : Result (Pass (Base H R) H) PickFail) → IfOk result (BeginsOver bytes core n)
+    → BeginsPass mid new n result → Passes old.passing new.passing result
+passes_by bytes core old mid new n same (Ok pass) begins is =
+    ap (λ (k : Collecting). k.passing) is ∙ sym (ap (λ (k : ℕ). Some k) begins.number_is)
+passes_by bytes core old mid new n same (Err why) begins is = ap (λ (k : Collecting). k.passing) is ∙ same
