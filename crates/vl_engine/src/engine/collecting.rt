@@ -1,4 +1,4 @@
-ghost use Rattle.std.specs.Prelude.{◌≡◌, None, IfErr, IfOk};
+ghost use Rattle.std.specs.Prelude.{◌≡◌, ◌==◌, ◌||◌, nat_lt, None, IfErr, IfOk};
 ghost use Rattle.vl_core.specs.MayStep.{Fits};
 ghost use Rattle.vl_core.specs.Passing.{AreReadable};
 ghost use Rattle.vl_core.specs.Represents.{Represents, StandsFor};
@@ -78,7 +78,7 @@ impl<D: Disk> Engine<D> {
         ensures disk { self.new.disk ≡ self.old.disk }
         ensures merging { self.new.merging ≡ self.old.merging }
     {
-        if percent == 0 || percent > 99 {
+        if is_unfair(percent) {
             return Err(PickFail::InvalidRequest);
         }
         if let Some(segment) = self.collecting.passing {
@@ -140,4 +140,11 @@ impl<D: Disk> Engine<D> {
         let _ = pass;
         self.collecting.passing = None;
     }
+}
+
+// Whether no log may be asked for with so many per cent of garbage.
+fn is_unfair(percent: u8) -> bool
+    ensures { result ≡ ((percent == 0) || nat_lt 99 percent) }
+{
+    percent == 0 || percent > 99
 }
