@@ -5,12 +5,15 @@ use Rattle.std.specs.List.{AllByRecursion, filter}
 use Rattle.std.specs.Option.{option_map}
 use Rattle.std.proofs.Common.{sym, ap, subst, ◌∙◌}
 use Rattle.vl_block.specs.declared.points.Point.{Point}
-use Rattle.vl_core.specs.Represents.{StandsFor}
+use Rattle.vl_core.specs.Represents.{Fronts, Represents, StandsFor}
 use Rattle.vl_core.specs.declared.kept.Core.{Core}
 use Rattle.vl_core.specs.laws.LaidTables.{tables_are}
+use Rattle.vl_disk.specs.declared.watched.Watched.{Ghosts}
 use Rattle.vl_engine.proofs.Tallying.{head_held, inputs_held, lengths_held, points_held}
-use Rattle.vl_engine.specs.Collecting.{AreSealed, Collects, IsReadied, IsTallied, Keeps, LeadsFrom, Tallies}
+use Rattle.vl_engine.specs.Collecting.{AreSealed, Collects, FlushesFor, IsReadied, IsTallied, Keeps, LeadsFrom, SealsFor, Tallies}
 use Rattle.vl_engine.specs.Collecting.{head_in, lengths_in, passed_in, points_in}
+use Rattle.vl_engine.specs.Flushing.{FlushesAs}
+use Rattle.vl_engine.specs.Rotating.{IsRefusedSo, RotatesAs}
 use Rattle.vl_engine.specs.Stepping.{step_outcome}
 use Rattle.vl_engine.specs.declared.fails.StepFail.TheVariants as fails
 use Rattle.vl_engine.specs.declared.fails.StepFail.{StepFail}
@@ -33,9 +36,11 @@ use Rattle.vl_model.specs.declared.counter.Counter.TheVariants as counters
 use Rattle.vl_model.specs.declared.log_frame.LogFrame.{LogFrame}
 use Rattle.vl_seglog.specs.declared.sealed.SealedLog.{SealedLog}
 use Rattle.vl_stats.specs.Live.{AreOf, Switches, points_of_tables}
-use Rattle.vl_stats.specs.Tallies.{IsTally, Tallied, lengths_of}
+use Rattle.vl_stats.specs.Tallies.{IsTally, Tallied, length_of, lengths_of}
 use Rattle.vl_version.specs.Bases.{is_input}
+use Rattle.vl_version.specs.Shared.{IsSameLog}
 use Rattle.vl_version.specs.Sources.{tables_in}
+use Rattle.vl_version.specs.declared.version.Version.{Version}
 
 -- ---- what a version says
 
@@ -216,37 +221,41 @@ rotate_by l h P left step = by l.halted
     by None = framed l.active.frames
     by (Some name) = left (Halted name)
 
-flush_by : (l : Layout) (h : History) (P : Ruling StepAnswer → Type 0) → ((a : StepAnswer) → P (leaving a h l))
+pub flush_by : (l : Layout) (h : History) (P : Ruling StepAnswer → Type 0)
+    → ((a : StepAnswer) → ((n : ℕ) → a ≡ Stepped n → ⊥) → P (leaving a h l))
     → ((s : Segment) → P (record { answer = Stepped l.next_table; history = h; layout = flushed l s; calls = 5; gone = [] }))
     → P (flush_ruling l h)
 flush_by l h P left step = by l.halted
   where
     versioned : (s : Segment) (b : Bool) → P (if b then leaving (Exhausted counters.Version) h l
         else record { answer = Stepped l.next_table; history = h; layout = flushed l s; calls = 5; gone = [] })
-    versioned s true = left (Exhausted counters.Version)
+    versioned s true = left (Exhausted counters.Version) (λ n e. cc)
     versioned s false = step s
 
     numbered : (s : Segment) (b : Bool) → P (if b then leaving (Exhausted counters.Table) h l
         else (if has_no_version l then leaving (Exhausted counters.Version) h l
         else record { answer = Stepped l.next_table; history = h; layout = flushed l s; calls = 5; gone = [] }))
-    numbered s true = left (Exhausted counters.Table)
+    numbered s true = left (Exhausted counters.Table) (λ n e. cc)
     numbered s false = versioned s (has_no_version l)
 
     waiting : (o : Option Segment) → P (flush_of l h o)
-    waiting None = left Idle
+    waiting None = left Idle (λ n e. cc)
     waiting (Some s) = numbered s (has_no_number l.next_table 1)
 
     by : (o : Option FileName) → P (flush_unless o l h)
     by None = waiting (oldest l.frozen)
-    by (Some name) = left (Halted name)
+    by (Some name) = left (Halted name) (λ n e. cc)
 
 pub rotate_leaves : (l : Layout) (h : History) → LeavesAll l (rotate_ruling l h)
 rotate_leaves l h = rotate_by l h (LeavesAll l) (λ a. record { alike = λ no. alike_same l; pass = refl })
     (record { alike = λ no. absurd (no l.active.number refl); pass = refl })
 
 pub flush_leaves : (l : Layout) (h : History) → LeavesAll l (flush_ruling l h)
-flush_leaves l h = flush_by l h (LeavesAll l) (λ a. record { alike = λ no. alike_same l; pass = refl })
+flush_leaves l h = flush_by l h (LeavesAll l) (λ a other. record { alike = λ no. alike_same l; pass = refl })
     (λ s. record { alike = λ no. absurd (no l.next_table refl); pass = refl })
+
+pub flush_history : (l : Layout) (h : History) → (flush_ruling l h).history ≡ h
+flush_history l h = flush_by l h (λ r. r.history ≡ h) (λ a other. refl) (λ s. refl)
 
 module _ {H : Type 0} (core : Core H) (kept : Collecting) (S : History → Layout → Type 0) (h : History) (l : Layout)
     (ruling : Ruling StepAnswer) (leaves : LeavesAll l ruling) (effects : Effects) where
@@ -298,3 +307,79 @@ module _ {H : Type 0} (core : Core H) (kept : Collecting) (S : History → Layou
 
       no_damage : (name : FileName) (place : ℕ) → Answered (Stepped n) ≡ Damaged name place → ⊥
       no_damage name place e = cc
+
+-- ---- rotations
+
+pub refused_undone : {H : Type 0} (core : Core H) (result : Result (Option ℕ) StepFail) → IsRefusedSo core result
+    → (n : ℕ) → result ≡ Ok (Some n) → ⊥
+refused_undone core (Ok (Some m)) is n e = is
+refused_undone core (Ok None) is n e = cc
+refused_undone core (Err why) is n e = cc
+
+err_undone : (why : StepFail) (result : Result (Option ℕ) StepFail) → result ≡ Err why → (n : ℕ) → result ≡ Ok (Some n) → ⊥
+err_undone why result is n e = cc
+
+rotate_same : {D H : Type 0} (g : Ghosts D) (bytes : H → Option (List ℕ)) (before after : Core H) (old new : D) (why : StepFail)
+    → RotatesAs g bytes old new before after (Err why) → after.version ≡ before.version
+rotate_same g bytes before after old new (fails.Halted name) did = absurd did
+rotate_same g bytes before after old new (fails.Exhausted counter) did = absurd did
+rotate_same g bytes before after old new fails.NoMemory did = did.0.version
+rotate_same g bytes before after old new (fails.Disk name) did = did.version
+
+pub rotate_collects : {D H : Type 0} (g : Ghosts D) (bytes : H → Option (List ℕ)) (before after : Core H) (old new : D)
+    (was now : Collecting) (h : History) (l : Layout) → StandsFor bytes before h l → Collects before was l
+    → (result : Result (Option ℕ) StepFail) → RotatesAs g bytes old new before after result → SealsFor bytes before was now result
+    → (S : History → Layout → Type 0) (effects : Effects)
+    → Decides S h l (rotate_ruling l h) (as_before l l) (step_outcome result) effects
+    → Decides (λ k x. Collects after now x) h l (rotate_ruling l h) (as_before l l) (step_outcome result) effects
+rotate_collects g bytes before after old new was now h l is has (Ok (Some n)) did seals S effects decides =
+    step_done after now S h l (rotate_ruling l h) (rotate_leaves l h) effects n
+    (λ stepped. seals.tallied h l n is has.tally stepped) (seals.passing ∙ has.passing) decides
+rotate_collects g bytes before after old new was now h l is has (Ok None) did seals S effects decides = absurd did
+rotate_collects {D} {H} g bytes before after old new was now h l is has (Err why) did seals S effects decides =
+    step_left after now S h l (rotate_ruling l h) (rotate_leaves l h) effects
+    (collects_kept bytes before after was now h l is
+    (ap (λ (v : Version H). v.behind.logs.items) (rotate_same g bytes before after old new why did)) seals has)
+    (Err why) (err_undone why (Err why) refl) decides
+
+-- ---- flushes
+
+flush_same : {D H : Type 0} (g : Ghosts D) (bytes : H → Option (List ℕ)) (before after : Core H) (old new : D) (why : StepFail)
+    → FlushesAs g bytes old new before after (Err why) → after.version ≡ before.version
+flush_same g bytes before after old new (fails.Halted name) did = absurd did
+flush_same g bytes before after old new (fails.Exhausted counter) did = absurd did
+flush_same {D} {H} g bytes before after old new fails.NoMemory did = ap (λ (c : Core H). c.version) did.0
+flush_same g bytes before after old new (fails.Disk name) did = did.version
+
+pub flush_collects : {D H : Type 0} (g : Ghosts D) (bytes : H → Option (List ℕ)) (before after : Core H) (old new : D)
+    (was now : Collecting) (h : History) (l : Layout) → StandsFor bytes before h l → Collects before was l
+    → (result : Result (Option ℕ) StepFail) → FlushesAs g bytes old new before after result
+    → FlushesFor bytes before was now after result → (effects : Effects)
+    → Decides (Represents bytes after (g.told new)) h l (flush_ruling l h) (as_before l l) (step_outcome result) effects
+    → Decides (λ k x. Collects after now x) h l (flush_ruling l h) (as_before l l) (step_outcome result) effects
+flush_collects {D} {H} g bytes before after old new was now h l is has (Ok (Some n)) did flushes effects decides =
+    step_done after now (Represents bytes after (g.told new)) h l (flush_ruling l h) (flush_leaves l h) effects n
+    (λ stepped. flushes.tallied h l n is has.tally stepped
+    (subst (λ (k : History). StandsFor bytes after k (flush_ruling l h).layout) (flush_history l h)
+    (decides.answered (Stepped n) refl).1.stands))
+    (flushes.passing ∙ has.passing) decides
+flush_collects g bytes before after old new was now h l is has (Ok None) did flushes effects decides = absurd did
+flush_collects {D} {H} g bytes before after old new was now h l is has (Err why) did flushes effects decides =
+    step_left after now (Represents bytes after (g.told new)) h l (flush_ruling l h) (flush_leaves l h) effects
+    (collects_kept bytes before after was now h l is
+    (ap (λ (v : Version H). v.behind.logs.items) (flush_same g bytes before after old new why did)) flushes has)
+    (Err why) (err_undone why (Err why) refl) decides
+
+-- ---- the active log, and the one that is found
+
+pub active_is : {H : Type 0} (core : Core H) (h : History) (l : Layout) → Fronts core h l
+    → (core.front.log.number, core.front.log.length) ≡ length_of l.active
+active_is core h l is =
+    ap (λ (n : ℕ). (n, core.front.log.length)) is.number ∙ ap (λ (n : ℕ). (l.active.number, n)) is.length_is
+
+pub found_same : {H : Type 0} (bytes : H → Option (List ℕ)) (a b x : SealedLog H) (o : Option (SealedLog H)) → Some a ≡ o → o ≡ Some b
+    → IsSameLog bytes a x → IsSameLog bytes b x
+found_same {H} bytes a b x o there at is = subst (λ (y : SealedLog H). IsSameLog bytes y x) (one (there ∙ at)) is
+  where
+    one : Some a ≡ Some b → a ≡ b
+    one e = cc

@@ -138,4 +138,3 @@ module _ {H : Type 0} (bytes : H → Option (List ℕ)) {read : Image} (found : 
       (subst (AllByRecursion (λ (n : ℕ). has n numbers ≡ true)) (below_numbers head led shown.led)
       (numbers_in below (all_back (λ (s : Segment). has s.number numbers ≡ true) others below rest))))
       (upper_in are.upper before are.upper_are before_in))
-
