@@ -31,7 +31,10 @@ pub mod ReadingPast
 pub mod RelocateFound
 pub mod RelocateStaged
 pub mod RelocatingExits
+pub mod RelocatingReads
 pub mod RelocatingStaged
+pub mod RelocatingTotals
+pub mod RelocatingWritten
 pub mod Rotated
 pub mod RotateSteps
 pub mod Ruled

@@ -1,23 +1,19 @@
 -- The entries of moved records, as they are put in order in front of the active memtable's.
-use Rattle.std.specs.Prelude.{◌≡◌, ◌≤◌, ℕ, ◌+◌, ◌++◌, true, List, [], ◌∷◌, map, length, None, refl}
-use Rattle.std.proofs.Common.{ap, arith}
+use Rattle.std.specs.Prelude.{◌≡◌, ◌≤◌, ◌+◌, ◌++◌, true, List, length, None}
+use Rattle.std.proofs.Common.{arith}
 use Rattle.vl_core.specs.Known.{are_known}
 use Rattle.vl_core.specs.MoveFacts.{move_entries}
 use Rattle.vl_core.specs.declared.kept.Core.{Core}
 use Rattle.vl_core.specs.laws.MovedLaws.{entries_count, entries_have, moved_known, sorted_new, sorted_some}
-use Rattle.vl_engine.specs.Relocating.{MayMove, move_entries_of}
+use Rattle.vl_engine.specs.Relocating.{MayMove}
 use Rattle.vl_front.specs.declared.front.Front.{Front}
-use Rattle.vl_layout.specs.Logs.{record_entry, relocated_records}
 use Rattle.vl_memtable.specs.Contents.{IsNewTo}
 use Rattle.vl_model.specs.Entries.{in_order}
 use Rattle.vl_model.specs.Formats.{log_format}
-use Rattle.vl_model.specs.Frames.{moved_length}
 use Rattle.vl_model.specs.Winners.{exact}
-use Rattle.vl_model.specs.declared.change.Change.TheVariants.{Set}
 use Rattle.vl_model.specs.declared.entry.Entry.{Entry}
 use Rattle.vl_model.specs.declared.log_frame.Moved.{Moved}
 use Rattle.vl_run.specs.laws.OrderLaws.{in_order-front}
-use Rattle.vl_seglog.specs.Stored.{moved_pointers}
 
 module _ {H : Type 0} (core : Core H) (moved : List Moved) (may : MayMove core moved) where
   -- In order they are new to the active memtable,

@@ -1,88 +1,51 @@
 -- What an engine stands for in memory behind a relocation.
-use Rattle.std.specs.Prelude.{◌≡◌, ◌<◌, ℕ, ◌+◌, ◌==◌, ◌||◌, nat_le, nat_lt, if◌then◌else◌, Bool, true, false}
+use Rattle.std.specs.Prelude.{◌≡◌, ℕ, ◌+◌, ◌==◌, ◌||◌, nat_le, nat_lt, if◌then◌else◌, Bool, true, false}
 use Rattle.std.specs.Prelude.{List, [], ◌∷◌, ◌++◌, Option, None, Some, refl}
-use Rattle.std.specs.List.{AllByRecursion, AllZip, list_any}
+use Rattle.std.specs.List.{AllByRecursion}
 use Rattle.std.specs.Option.{option_map}
 use Rattle.std.proofs.Common.{sym, ap, subst, ◌∙◌, arith}
 use Rattle.vl_back.specs.declared.back.Back.{Back}
-use Rattle.vl_core.specs.Laid.{AreLevelsOf, HasLayout, HasLog, IsMemtableOf}
 use Rattle.vl_core.specs.MoveFacts.{HasMoved, move_entries, move_length}
 use Rattle.vl_core.specs.Pointed.{layout_logs}
 use Rattle.vl_core.specs.Represents.{Fronts, IsFront, StandsFor, file_of}
 use Rattle.vl_core.specs.Spared.{Spares, SparesRuled}
 use Rattle.vl_core.specs.declared.kept.Core.{Core}
-use Rattle.vl_core.specs.laws.MemtableLaws.{memtable_more}
 use Rattle.vl_core.specs.laws.RelocateRulings.{IsMoving, tidy_moving}
 use Rattle.vl_core.specs.laws.SparedLaws.{spared_later}
+use Rattle.vl_core.specs.laws.SparedSteps.{has_logged}
 use Rattle.vl_core.specs.laws.Standing.{fronts_halted, stands_halted}
+use Rattle.vl_core.specs.laws.VersionLaws.{laid_relocated}
 use Rattle.vl_disk.specs.declared.name.Name.{Name}
 use Rattle.vl_disk.specs.declared.watched.Watched.{Ghosts}
 use Rattle.vl_front.specs.declared.front.Front.{Front}
-use Rattle.vl_layout.specs.Logs.{frame_entries, logged_entries, memtable}
+use Rattle.vl_layout.specs.Logs.{frame_entries}
 use Rattle.vl_layout.specs.Garbage.{best}
 use Rattle.vl_layout.specs.Relocation.{Candidate, Pass, moved_of}
-use Rattle.vl_layout.specs.Ruling.{Ruling, halted_at, has_no_version, logged}
+use Rattle.vl_layout.specs.Ruling.{Ruling, halted_at, has_no_version}
 use Rattle.vl_layout.specs.Rulings.EndPass.{end_pass_ruling}
 use Rattle.vl_layout.specs.Rulings.Pick.{pick_best, pick_ruling, pick_unless}
 use Rattle.vl_layout.specs.Rulings.Relocate.{relocate_of, relocate_ruling, relocate_unless, relocated}
 use Rattle.vl_layout.specs.Shown.{IsThere}
-use Rattle.vl_layout.specs.Sources.{behind_active, floor, sources}
-use Rattle.vl_layout.specs.Tidy.{IsTrueLog}
+use Rattle.vl_layout.specs.Sources.{floor, sources}
 use Rattle.vl_layout.specs.declared.file_name.FileName.{FileName}
 use Rattle.vl_layout.specs.declared.job.OpenPass.{OpenPass}
 use Rattle.vl_layout.specs.declared.layout.Layout.{Layout}
 use Rattle.vl_layout.specs.declared.segment.SegmentStat.{SegmentStat}
-use Rattle.vl_layout.specs.laws.FromLow.{has-versions_in}
-use Rattle.vl_layout.specs.laws.LayoutShows.{added, logged_entries-more}
-use Rattle.vl_layout_laws.specs.laws.Lists.{any-append, any-in_order, or_right}
-use Rattle.vl_model.specs.Entries.{in_order, is_at}
+use Rattle.vl_model.specs.Entries.{in_order}
 use Rattle.vl_model.specs.Formats.{log_format}
 use Rattle.vl_model.specs.Frames.{frame_length}
 use Rattle.vl_model.specs.History.{History, last_number}
-use Rattle.vl_model.specs.Numbers.{has}
-use Rattle.vl_model.specs.Versions.{versions_in}
 use Rattle.vl_model.specs.declared.entry.Entry.{Entry}
 use Rattle.vl_model.specs.declared.log_frame.LogFrame.TheVariants.{Relocated}
-use Rattle.vl_model.specs.declared.log_frame.LogFrame.{LogFrame}
 use Rattle.vl_model.specs.declared.log_frame.Moved.{Moved}
-use Rattle.vl_seglog.specs.declared.sealed.SealedLog.{SealedLog}
-use Rattle.vl_version.specs.Sources.{AreTold}
-use Rattle.vl_version.specs.declared.behind.Behind.{Behind}
-use Rattle.vl_version.specs.declared.version.Version.{Version}
-use Rattle.vl_version.specs.levels.LevelsLooked.{AreInOrder}
 
 -- ---- versions that are spared
-
-module _ (l : Layout) (f : LogFrame) (key : List ℕ) (n : ℕ) where
-  -- with a frame more the sources have its versions and what they had
-  any_logged : list_any (is_at key n) (sources (logged f l)) ≡ (list_any (is_at key n) (added l f) || list_any (is_at key n) (sources l))
-  any_logged =
-      let p = is_at key n in
-      let old = logged_entries l.active.format l.active.number 16 l.active.frames in
-      any-append p (memtable (logged f l).active) (behind_active l)
-      ∙ ap (λ b. b || list_any p (behind_active l))
-      (any-in_order key n (logged_entries l.active.format l.active.number 16 (logged f l).active.frames)
-      ∙ ap (list_any p) (logged_entries-more l.active.format l.active.number 16 l.active.frames f)
-      ∙ any-append p (added l f) old
-      ∙ ap (λ b. list_any p (added l f) || b) (sym (any-in_order key n old)))
-      ∙ assoc (list_any p (added l f)) (list_any p (memtable l.active)) (list_any p (behind_active l))
-      ∙ ap (λ b. list_any p (added l f) || b) (sym (any-append p (memtable l.active) (behind_active l)))
-    where
-      assoc : (a b c : Bool) → ((a || b) || c) ≡ (a || (b || c))
-      assoc true b c = refl
-      assoc false b c = refl
-
-  has_logged : has n (versions_in (sources l) key) ≡ true → has n (versions_in (sources (logged f l)) key) ≡ true
-  has_logged there =
-      has-versions_in key n (sources (logged f l)) ∙ any_logged
-      ∙ or_right (list_any (is_at key n) (added l f)) (list_any (is_at key n) (sources l))
-      (sym (has-versions_in key n (sources l)) ∙ there)
 
 -- A relocation takes no version away,
 pub relocated_spares : (l : Layout) (h : History) (moved : List Moved) → Spares l h → Spares (relocated l moved) h
 relocated_spares l h moved =
     spared_later h h (sources l) (sources (relocated l moved)) (last_number h) (last_number h) (floor l h)
-    (floor (relocated l moved) h) l.keep l.since (omega arith) (λ key n there. has_logged l (Relocated moved) key n there)
+    (floor (relocated l moved) h) l.keep l.since (omega arith) (has_logged l (Relocated moved))
     (λ key n le there missing. (le, there))
 
 -- so neither does the ruling on one,
@@ -120,28 +83,6 @@ module _ (l : Layout) (h : History) (spares : Spares l h) where
 
   pub end_pass_spares : (pass : Pass) → SparesRuled (end_pass_ruling l h pass)
   end_pass_spares pass = spares
-
--- ---- what is read
-
-module _ {H : Type 0} (bytes : H → Option (List ℕ)) (version : Version H) (l : Layout) (has : HasLayout bytes version l) where
-  -- With the records' entries over it the memtable is that of the log with its frame, and nothing else changed.
-  pub laid_relocated : (after : Version H) (moved : List Moved) → IsTrueLog l.active → after.behind ≡ version.behind
-      → after.active.entries
-      ≡ in_order (frame_entries l.active.format l.active.number l.active.length (Relocated moved) ++ version.active.entries)
-      → HasLayout bytes after (relocated l moved)
-  laid_relocated after moved true_log behind more = record {
-    active = more
-        ∙ ap (λ (es : List Entry).
-        in_order (frame_entries l.active.format l.active.number l.active.length (Relocated moved) ++ es)) has.active
-        ∙ memtable_more l (Relocated moved) true_log;
-    frozen = subst (λ (b : Behind H). AllZip IsMemtableOf b.frozen.items l.frozen) (sym behind) has.frozen;
-    levels = subst (λ (b : Behind H). AreLevelsOf bytes b.levels l.levels) (sym behind) has.levels;
-    in_order = subst (λ (b : Behind H). AreInOrder b.levels) (sym behind) has.in_order;
-    logs = λ n s at. subst (λ (b : Behind H). HasLog bytes b.logs.items n s) (sym behind) (has.logs n s at);
-    told = subst (λ (b : Behind H). AreTold bytes b.logs.items) (sym behind) has.told;
-    below = subst (λ (b : Behind H). AllByRecursion (λ (log : SealedLog H). log.number < l.active.number) b.logs.items) (sym behind)
-        has.below;
-  }
 
 -- ---- what decides
 
