@@ -1,7 +1,8 @@
 -- What writing records again leaves, from what its calls do.
-use Rattle.std.specs.Prelude.{◌≡◌, ℕ, ◌+◌, ◌-◌, ◌^◌, ◌++◌, min, List, length, Option, None, Some, Ok, All, ◌≤◌, ◌<◌, zero, suc, refl}
+use Rattle.std.specs.Prelude.{◌≡◌, ℕ, ◌+◌, ◌-◌, ◌^◌, ◌++◌, min, List, length, Option, None, Some, Ok, All, Bool, false, ◌==◌, ◌≤◌, ◌<◌, zero, suc, refl}
 use Rattle.std.specs.Option.{ForSome}
 use Rattle.std.proofs.Common.{ap, arith, subst, sym, ◌∙◌}
+use Rattle.std.proofs.lemmas.Bool.Decides.{nat_tests}
 use Rattle.vl_core.specs.Fit.{IsFitFor}
 use Rattle.vl_core.specs.MoveFacts.{HandsMove, move_frame, move_length, move_log}
 use Rattle.vl_core.specs.Writing.{StopsWriting, WhileWriting, written}
@@ -152,3 +153,9 @@ relocated_by {D} {H} g bytes faults_of old new segment batch core same moved giv
 pub no_name : {A : Type 0} (o : Option A) → ((x : A) → o ≡ Some x → ⊥) → o ≡ None
 no_name None none = refl
 no_name (Some x) none = absurd (none x refl)
+
+-- what isn't empty has some
+pub some_left : (empty : Bool) (n count : ℕ) → empty ≡ (n == 0) → empty ≡ false → count ≡ n → 1 ≤ count
+some_left empty n count is some same =
+    let test : (n == 0) ≡ false = sym is ∙ some in
+    grind (arith, nat_tests, test, same)
