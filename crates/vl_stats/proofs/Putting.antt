@@ -1,5 +1,6 @@
 -- A log put at its place among others, and the best of logs that are looked at from the last on.
-use Rattle.std.proofs.Common.{◌≡◌, ℕ, suc, ◌+◌, ◌-◌, ◌<◌, ◌≤◌, Bool, true, false, cond, ◌&&◌, List, [], ◌∷◌, ◌++◌, map, length, take, drop, set, get_or}
+use Rattle.std.proofs.Common.{◌≡◌, ℕ, suc, ◌+◌, ◌-◌, ◌<◌, ◌≤◌, Bool, true, false, cond, ◌&&◌, List, [], ◌∷◌, ◌++◌}
+use Rattle.std.proofs.Common.{map, length, take, drop, set, get_or}
 use Rattle.std.proofs.Common.{refl, ap, sym, ◌∙◌, subst, arith}
 use Rattle.std.proofs.lemmas.Bool.Decides.{nat_tests}
 use Rattle.std.proofs.lemmas.List.{take-append-drop, drop_more, drop_all, set_split}
@@ -7,7 +8,6 @@ use Rattle.std.specs.Prelude.{Option, ◌==◌, nat_lt, if◌then◌else◌}
 use Rattle.std.specs.FinMap.{put}
 use Rattle.std.specs.List.{AllByRecursion, filter, insert}
 use Rattle.std.specs.Ordering.{nat_cmp}
-use Rattle.std.specs.declared.cmp.Ordering.{Ordering}
 use Rattle.std.specs.declared.cmp.Ordering.TheVariants.{Less, Equal, Greater}
 use Rattle.vl_model.specs.Entries.{by_order}
 use Rattle.vl_layout.specs.Garbage.{best_of, better_of, is_worth}

@@ -1,5 +1,5 @@
 -- Laws of the best log: the order in which logs are looked at doesn't change it, nor does what is live past the log's bytes.
-use Rattle.std.proofs.Common.{◌≡◌, ◌≢◌, ℕ, ◌-◌, ◌*◌, min, ◌≤◌, ◌<◌, Bool, true, false, cond, not, ◌&&◌, ◌||◌, List, [], ◌∷◌, ◌++◌, map}
+use Rattle.std.proofs.Common.{◌≡◌, ◌≢◌, ℕ, ◌-◌, ◌*◌, ◌≤◌, ◌<◌, Bool, true, false, cond, ◌&&◌, ◌||◌, List, [], ◌∷◌, ◌++◌, map}
 use Rattle.std.proofs.Common.{refl, ap, sym, ◌∙◌, subst, arith}
 use Rattle.std.proofs.lemmas.Bool.{and_parts}
 use Rattle.std.proofs.lemmas.Bool.Decides.{nat_tests}
@@ -25,7 +25,7 @@ use Rattle.vl_layout.specs.laws.RisingLaws.{map-filter}
 use Rattle.vl_layout_laws.specs.laws.Files.{all_filtered, all_weaker, or_false, true_false}
 use Rattle.vl_layout_laws.specs.laws.Steps.{all_rising}
 use Rattle.vl_layout_laws.specs.laws.Stock.{head_least}
-use Rattle.vl_stats.specs.Live.{AreOf, bytes_of}
+use Rattle.vl_stats.specs.Live.{AreOf}
 use Rattle.vl_stats.specs.Tallies.{capped, lengths_of, share_by, stat_by}
 use Rattle.vl_stats.specs.laws.TallyLaws.{none_pass, rising-filter}
 

@@ -1,17 +1,17 @@
 -- What a rotation, a flush and an install leave of a tally, and what a tally tells of its layout.
-use Rattle.std.proofs.Common.{◌≡◌, ℕ, ◌+◌, ◌-◌, ◌^◌, min, ◌<◌, Bool, true, false, cond, List, [], ◌∷◌, ◌++◌, map, length}
+use Rattle.std.proofs.Common.{◌≡◌, ℕ, ◌+◌, ◌-◌, ◌^◌, min, Bool, true, false, cond, List, [], ◌∷◌, ◌++◌, map, length}
 use Rattle.std.proofs.Common.{refl, ap, sym, ◌∙◌, subst, arith}
 use Rattle.std.proofs.lemmas.List.Sums.{sum_by-cons}
 use Rattle.std.specs.Prelude.{Option, Some, None, if◌then◌else◌}
 use Rattle.std.specs.FinMap.{put}
-use Rattle.std.specs.List.{AllByRecursion, filter}
+use Rattle.std.specs.List.{filter}
 use Rattle.std.specs.Ordering.{nat_cmp}
 use Rattle.vl_model.specs.Conflicts.{Named}
 use Rattle.vl_model.specs.History.{History}
 use Rattle.vl_model.specs.Limits.{max_level}
 use Rattle.vl_model.specs.Winners.{Logs}
 use Rattle.vl_model.specs.declared.log_frame.LogFrame.{LogFrame}
-use Rattle.vl_layout.specs.Garbage.{live_bytes, pointed_bytes, stat_of}
+use Rattle.vl_layout.specs.Garbage.{pointed_bytes, stat_of}
 use Rattle.vl_layout.specs.Jobs.{Made}
 use Rattle.vl_layout.specs.Levels.{in_front, is_among}
 use Rattle.vl_layout.specs.OpenJobs.{IsFitted, IsIdle, IsRoomy}
@@ -31,11 +31,10 @@ use Rattle.vl_layout.specs.declared.job.Target.{Target}
 use Rattle.vl_layout.specs.declared.job.Target.TheVariants.{Level, InPlace}
 use Rattle.vl_layout.specs.declared.layout.Layout.{Layout}
 use Rattle.vl_layout.specs.declared.segment.Segment.{Segment}
-use Rattle.vl_layout.specs.declared.segment.SegmentStat.{SegmentStat}
 use Rattle.vl_layout.specs.declared.table.Table.{Table}
 use Rattle.vl_layout_laws.specs.laws.LiveBytes.{live-flushed, live-installed_level, live-installed_in_place}
 use Rattle.vl_layout_laws.specs.laws.TidyLogs.{sealed_same}
-use Rattle.vl_stats.specs.Live.{AreOf, IsSwitch, bytes_of}
+use Rattle.vl_stats.specs.Live.{AreOf, IsSwitch}
 use Rattle.vl_stats.specs.Tallies.{IsOfLayout, IsTally, Tallied, length_of, lengths_of, stat_by, stays}
 use Rattle.vl_stats.specs.laws.TallyLaws.{falling_less, lengths_put, switched_logs}
 

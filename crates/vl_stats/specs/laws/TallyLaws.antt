@@ -1,32 +1,27 @@
 -- Laws of tallies: a rotation puts a log more at its place, and a switch leaves those that a test of their numbers leaves.
-use Rattle.std.proofs.Common.{◌≡◌, ℕ, ◌≤◌, ◌<◌, Bool, true, false, cond, not, ◌&&◌, List, [], ◌∷◌, ◌++◌, map}
+use Rattle.std.proofs.Common.{◌≡◌, ℕ, ◌≤◌, ◌<◌, Bool, true, false, cond, not, ◌&&◌, List, [], ◌∷◌, ◌++◌}
 use Rattle.std.proofs.Common.{refl, ap, sym, ◌∙◌, subst, arith}
 use Rattle.std.proofs.lemmas.Bool.Decides.{nat_tests}
 use Rattle.std.proofs.lemmas.Cmp.{ranked}
-use Rattle.std.specs.Prelude.{Option, Some, None, ◌==◌, nat_lt}
+use Rattle.std.specs.Prelude.{◌==◌, nat_lt}
 use Rattle.std.specs.FinMap.{put}
 use Rattle.std.specs.List.{AllByRecursion, filter}
 use Rattle.std.specs.Ordering.{nat_cmp}
 use Rattle.std.specs.declared.cmp.Ordering.{Ordering}
 use Rattle.std.specs.declared.cmp.Ordering.TheVariants.{Less, Equal, Greater}
 use Rattle.vl_model.specs.Entries.{by_order}
-use Rattle.vl_model.specs.History.{History}
 use Rattle.vl_layout.specs.Garbage.{live_bytes}
-use Rattle.vl_layout.specs.Jobs.{Made}
-use Rattle.vl_layout.specs.Ruling.{Ruling, StepAnswer, Stepped, is_idle, switched}
-use Rattle.vl_layout.specs.Rulings.Rotate.{rotated}
-use Rattle.vl_layout.specs.Sources.{but_oldest, head, oldest, put_segment, rising, tables}
+use Rattle.vl_layout.specs.Ruling.{switched}
+use Rattle.vl_layout.specs.Sources.{but_oldest, head, put_segment, rising, tables}
 use Rattle.vl_layout.specs.Stock.{IsFalling}
 use Rattle.vl_layout.specs.Tidy.{sealed}
 use Rattle.vl_layout.specs.declared.layout.Layout.{Layout}
 use Rattle.vl_layout.specs.declared.segment.Segment.{Segment}
 use Rattle.vl_layout.specs.declared.table.Table.{Table}
 use Rattle.vl_layout.specs.laws.RisingLaws.{map-filter}
-use Rattle.vl_layout_laws.specs.laws.Files.{all_filtered, all_parts, all_weaker, true_false}
+use Rattle.vl_layout_laws.specs.laws.Files.{all_filtered, all_weaker, true_false}
 use Rattle.vl_layout_laws.specs.laws.Once.{IsUp}
 use Rattle.vl_layout_laws.specs.laws.Stock.{head_least}
-use Rattle.vl_layout_laws.specs.laws.TidyLogs.{sealed_same}
-use Rattle.vl_stats.specs.Live.{AreOf, bytes_of}
 use Rattle.vl_stats.specs.Tallies.{IsOfLayout, lengths_of, stays}
 
 -- ---- a log more

@@ -1,7 +1,5 @@
-use Rattle.std.proofs.Common.{◌≡◌, ℕ, ◌≤◌, ◌<◌, Bool, cond, List, length, subst, sym, ap, ◌∙◌, arith}
-use Rattle.std.specs.FinMap.{put}
+use Rattle.std.proofs.Common.{◌≡◌, ℕ, ◌≤◌, ◌<◌, Bool, cond, List, length, subst, sym, ap, ◌∙◌}
 use Rattle.std.specs.List.{insert}
-use Rattle.std.specs.Ordering.{nat_cmp}
 use Rattle.vl_stats.specs.Places.{IsPlaceOf}
 use Rattle.vl_stats.proofs.Putting.{put_same, put_before, put_last}
 use Rattle.vl_stats.proofs.logs.put_log.Goals as goal

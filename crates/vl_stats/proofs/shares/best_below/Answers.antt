@@ -1,4 +1,4 @@
-use Rattle.std.proofs.Common.{◌-◌, ◌∙◌, arith, nat_lt}
+use Rattle.std.proofs.Common.{◌∙◌, arith, nat_lt}
 use Rattle.vl_stats.specs.Tallies.{share_by}
 use Rattle.vl_stats.proofs.Putting.{best_step}
 use Rattle.vl_stats.proofs.shares.best_below.Goals as goal

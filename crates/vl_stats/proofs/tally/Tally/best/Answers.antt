@@ -1,4 +1,4 @@
-use Rattle.std.proofs.Common.{◌≡◌, ℕ, List, map, nat_lt, subst, sym, ap, ◌∙◌}
+use Rattle.std.proofs.Common.{ℕ, List, map, nat_lt, subst, sym, ap, ◌∙◌}
 use Rattle.std.specs.List.{filter}
 use Rattle.vl_layout.specs.Garbage.{best_of, is_worth}
 use Rattle.vl_layout.specs.Sources.{rising}

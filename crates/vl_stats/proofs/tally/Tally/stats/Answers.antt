@@ -1,4 +1,4 @@
-use Rattle.std.proofs.Common.{◌≡◌, ℕ, List, Result, Ok, Err, IfOk, map, sym, ap, ◌∙◌}
+use Rattle.std.proofs.Common.{◌≡◌, ℕ, Result, Ok, Err, IfOk, map, ap, ◌∙◌}
 use Rattle.std.specs.FinMap.{put}
 use Rattle.std.specs.Ordering.{nat_cmp}
 use Rattle.vl_layout.specs.Rulings.Stats.{told}

@@ -1,4 +1,4 @@
-use Rattle.std.proofs.Common.{ap, IfOk, map, subst}
+use Rattle.std.proofs.Common.{IfOk, map, subst}
 use Rattle.vl_stats.specs.Live.{Switches}
 use Rattle.vl_stats.specs.Tallies.{Tallied}
 use Rattle.vl_stats.proofs.tally.Tally.with.Goals as goal
