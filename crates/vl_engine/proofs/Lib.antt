@@ -33,6 +33,8 @@ pub mod Planning
 pub mod PutIn
 pub mod ReadingPast
 pub mod RelocateFound
+pub mod RelocateRaw
+pub mod RelocateSo
 pub mod RelocateStaged
 pub mod RelocatingExits
 pub mod RelocatingReads

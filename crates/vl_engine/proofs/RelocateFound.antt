@@ -2,7 +2,10 @@
 -- ruling moves.
 use Rattle.std.specs.List.{All, AllByRecursion, filter}
 use Rattle.std.specs.Prelude.{true, false, Bool, ◌≡◌, ◌&&◌, ◌≤◌, ℕ, ◌+◌, List, [], ◌∷◌, length, refl, None, Option, Some, is_none, nat_le}
-use Rattle.std.specs.Prelude.{Contains, if◌then◌else◌, map}
+use Rattle.std.specs.Prelude.{Contains, IfErr, Result, Ok, Err, if◌then◌else◌, map}
+use Rattle.std.specs.Result.{IsErrAnd}
+use Rattle.vl_collect.specs.declared.fault.PassFault.{PassFault}
+use Rattle.vl_memtable.specs.Contents.{Contents}
 use Rattle.std.proofs.Common.{ap, arith, subst, sym, ◌∙◌}
 use Rattle.std.proofs.lemmas.Bool.Decides.{nat_tests}
 use Rattle.vl_collect.specs.Batches.{MayBeMoved}
@@ -126,3 +129,20 @@ finds_by bytes core base segment batch looks found moved same told among kept = 
   among = among;
   moved_are = kept;
 }
+
+-- whatever names the memtable and the last number have
+pub kept_by : {H : Type 0} (core : Core H) (version : Version H) → version ≡ core.version → (active : Contents)
+    → active ≡ version.active → (last : ℕ) → last ≡ core.front.oracle.last → (found moved : List Moved)
+    → moved ≡ filter (may_add active.entries last) found
+    → moved ≡ filter (may_add core.version.active.entries core.front.oracle.last) found
+kept_by {H} core version same active is last last_is found moved kept =
+    kept
+    ∙ ap (λ (a : Contents). filter (may_add a.entries last) found) is
+    ∙ ap (λ (v : Version H). filter (may_add v.active.entries last) found) same
+    ∙ ap (λ (n : ℕ). filter (may_add core.version.active.entries n) found) last_is
+
+-- a fault that is passed on
+pub passed_on : {T : Type 0} (P : PassFault → Type 0) (result : Result T PassFault) (fault : PassFault)
+    → IsErrAnd result (λ e. e ≡ fault) → P fault → IfErr result P
+passed_on P (Ok answer) fault failed holds = absurd failed
+passed_on P (Err e) fault failed holds = subst P (sym failed) holds
