@@ -99,7 +99,7 @@ tallies_alike {H} logs None l x frozen flushed levels is =
     (ap (λ (ss : List Segment). ss ++ l.flushed) (sym frozen) ∙ ap (λ (ss : List Segment). x.frozen ++ ss) (sym flushed)) is
 tallies_alike logs (Some tally) l x frozen flushed levels is = tally_alike tally l x frozen flushed levels is
 
-passed_alike : (p q : Option OpenPass) → q ≡ p
+pub passed_alike : (p q : Option OpenPass) → q ≡ p
     → option_map (λ (o : OpenPass). o.segment) p ≡ option_map (λ (o : OpenPass). o.segment) q
 passed_alike p q same = ap (λ (o : Option OpenPass). option_map (λ (x : OpenPass). x.segment) o) (sym same)
 

@@ -315,18 +315,18 @@ module _ (l : Layout) (h : History) (percent : ℕ) (fair : IsUnfair l h percent
     pub decides_begun : {P : Type 0} (S : History → Layout → Type 0) (result : Result P PickFail) → IfErr result (LacksLog core n)
         → ((pass : P) → result ≡ Ok pass → S h (with_pass n l)) → ((why : PickFail) → result ≡ Err why → S h l)
         → Decides S h l (pick_ruling l h percent) (as_before l l) (pick_outcome (pick_ruling l h percent).answer result) no_effects
-    decides_begun S (Ok pass) lacks then kept =
+    decides_begun S (Ok pass) lacks done kept =
         decides_answered S h l (pick_ruling l h percent) (as_before l l) (pick_ruling l h percent).answer no_effects refl
         (ap (λ (r : Ruling PickAnswer). effects_of r) b.ruled)
-        (subst (λ (r : Ruling PickAnswer). S r.history r.layout) b.ruled (then pass refl))
-    decides_begun S (Err fails.InvalidRequest) lacks then kept = absurd lacks
-    decides_begun S (Err (fails.Rejected segment)) lacks then kept = absurd lacks
-    decides_begun S (Err fails.NoRewrite) lacks then kept =
+        (subst (λ (r : Ruling PickAnswer). S r.history r.layout) b.ruled (done pass refl))
+    decides_begun S (Err fails.InvalidRequest) lacks done kept = absurd lacks
+    decides_begun S (Err (fails.Rejected segment)) lacks done kept = absurd lacks
+    decides_begun S (Err fails.NoRewrite) lacks done kept =
         absurd (no had.log (sym (lacks is.has.told.rising) ∙ had.at))
       where
         no : (log : SealedLog H) → None ≡ Some log → ⊥
         no log e = cc
-    decides_begun S (Err fails.NoMemory) lacks then kept =
+    decides_begun S (Err fails.NoMemory) lacks done kept =
         decides_short S h l (pick_ruling l h percent) l (kept fails.NoMemory refl)
 
     pub picked_pass : {R : Type 0} (result : Result (Pass (Base H R) H) PickFail) → IfOk result (BeginsOver bytes core n) → AreReadable l
@@ -339,25 +339,25 @@ module _ (l : Layout) (h : History) (percent : ℕ) (fair : IsUnfair l h percent
     picked_pass (Err why) begins files = tt
 
     -- what is kept of where space comes back from
-    pub collects_begun : {P : Type 0} (then : Core H) (was now : Collecting) → then ≡ core → IsTallied was.tally l
+    pub collects_begun : {P : Type 0} (done : Core H) (was now : Collecting) → done ≡ core → IsTallied was.tally l
         → was.passing ≡ passed_in l → (result : Result P PickFail) → BeginsPass was now n result → IfErr result (LacksLog core n)
-        → Decides (λ k x. Collects then now x) h l (pick_ruling l h percent) (as_before l l)
+        → Decides (λ k x. Collects done now x) h l (pick_ruling l h percent) (as_before l l)
         (pick_outcome (pick_ruling l h percent).answer result) no_effects
-    collects_begun {P} then was now same tallied passing result begins lacks =
-        decides_begun (λ k x. Collects then now x) result lacks (λ pass ok. after pass (subst (BeginsPass was now n) ok begins))
+    collects_begun {P} done was now same tallied passing result begins lacks =
+        decides_begun (λ k x. Collects done now x) result lacks (λ pass ok. after pass (subst (BeginsPass was now n) ok begins))
         (λ why err. before why (subst (BeginsPass was now n) err begins))
       where
         tallies : (x : Layout) → x.frozen ≡ l.frozen → x.flushed ≡ l.flushed → x.levels ≡ l.levels
-            → Tallies then.version.behind.logs.items was.tally x
-        tallies x a b c = tallies_alike then.version.behind.logs.items was.tally l x a b c
-            (tallies_made then.version.behind.logs.items was.tally l tallied)
+            → Tallies done.version.behind.logs.items was.tally x
+        tallies x a b c = tallies_alike done.version.behind.logs.items was.tally l x a b c
+            (tallies_made done.version.behind.logs.items was.tally l tallied)
 
-        after : (pass : P) → now ≡ record was { passing = Some n } → Collects then now (with_pass n l)
-        after pass e = subst (λ (k : Collecting). Collects then k (with_pass n l)) (sym e)
+        after : (pass : P) → now ≡ record was { passing = Some n } → Collects done now (with_pass n l)
+        after pass e = subst (λ (k : Collecting). Collects done k (with_pass n l)) (sym e)
             (record { tally = tallies (with_pass n l) refl refl refl; passing = refl })
 
-        before : (why : PickFail) → now ≡ was → Collects then now l
-        before why e = subst (λ (k : Collecting). Collects then k l) (sym e)
+        before : (why : PickFail) → now ≡ was → Collects done now l
+        before why e = subst (λ (k : Collecting). Collects done k l) (sym e)
             (record { tally = tallies l refl refl refl; passing = passing })
 
 pub pass_fits : {H R : Type 0} (bytes : H → Option (List ℕ)) (core : Core H) (h : History) (l : Layout) → StandsFor bytes core h l
@@ -366,7 +366,7 @@ pass_fits {H} {R} bytes core h l is n (Ok pass) begins = λ reader kept.
     subst (λ (v : Version H). bases.Fits bytes v reader) (sym begins.version) (looks_told bytes core h l is reader kept)
 pass_fits bytes core h l is n (Err why) begins = tt
 
--- where it begins, it is the one that is open then
+-- where it begins, it is the one that is open done
 pub passes_by : {H R : Type 0} (bytes : H → Option (List ℕ)) (core : Core H) (old mid new : Collecting) (n : ℕ)
     → mid.passing ≡ old.passing → (result : Result (Pass (Base H R) H) PickFail) → IfOk result (BeginsOver bytes core n)
     → BeginsPass mid new n result → Passes old.passing new.passing result

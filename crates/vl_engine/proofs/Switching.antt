@@ -91,7 +91,7 @@ pub has_flushed : {H : Type 0} (bytes : H → Option (List ℕ)) (before after :
     → HasFlushed bytes before was now after
 has_flushed {H} bytes before after was mid now table rest live n readied leads front number passing switch = record {
   passing = passing ∙ readied.passing;
-  tallied = λ h l k is has stepped then.
+  tallied = λ h l k is has stepped after_is.
       let tallied = readied.tallied h l is has in
       let (s, same) = flush_layout l h k stepped in
       switch (layout_logs l) l h k is.tidy tallied stepped (record {
@@ -100,9 +100,9 @@ has_flushed {H} bytes before after was mid now table rest live n readied leads f
             (flushed_points bytes l.levels (flushed_table l s) table rest
             (subst (λ (ts : List (Table H)). AllZip (IsTableOf bytes) ts (tables (flushed l s))) front
             (subst (λ (x : Layout). AllZip (IsTableOf bytes) (tables_in after.version) (tables x)) same
-            (tables_are bytes after.version (flush_ruling l h).layout then.has))) refl)
+            (tables_are bytes after.version (flush_ruling l h).layout after_is.has))) refl)
             refl (switch_flushed (layout_logs l) l h s is.tidy));
-        head_is = number ∙ head_is_laid bytes after h (flush_ruling l h).layout then;
+        head_is = number ∙ head_is_laid bytes after h (flush_ruling l h).layout after_is;
       });
 }
 
@@ -162,7 +162,7 @@ pub has_put_in : {H R W : Type 0} (bytes : H → Option (List ℕ)) (writers : W
     → HasPutIn bytes before was now writers job after
 has_put_in {H} {R} {W} bytes writers {g} job before after was mid now live n readied leads number passing switch = record {
   passing = passing ∙ readied.passing;
-  tallied = λ h l o is open_is all has answered then.
+  tallied = λ h l o is open_is all has answered after_is.
       let tallied = readied.tallied h l is has in
       let made = made_of job o.job in
       let same = install_layout l h o.job made answered in
@@ -176,7 +176,7 @@ has_put_in {H} {R} {W} bytes writers {g} job before after was mid now live n rea
             (numbers_zip bytes job.inputs.tables.items all.is.tables all.is.inputs ∙ sym all.is.numbers)
             ∙ inputs_are_laid bytes before h l is o.job.inputs)
             (switch_installed (layout_logs l) l h o made is.tidy open_is));
-        head_is = number ∙ head_is_laid bytes after h (install_ruling l h o.job made).layout then;
+        head_is = number ∙ head_is_laid bytes after h (install_ruling l h o.job made).layout after_is;
       });
 }
 
@@ -302,12 +302,17 @@ pub installs_then : {H R W : Type 0} (bytes : H → Option (List ℕ)) (writers 
     → InstallsFor bytes before was now writers job after result
 installs_then bytes writers job before after was mid now readied (Ok done) puts = record {
   passing = puts.passing ∙ readied.passing;
-  tallied = λ h l o is open_is all has answered then.
+  tallied = λ h l o is open_is all has answered after_is.
       puts.tallied h l o is open_is all
-      (tallies_made before.version.behind.logs.items mid.tally l (readied.tallied h l is has)) answered then;
+      (tallies_made before.version.behind.logs.items mid.tally l (readied.tallied h l is has)) answered after_is;
 }
 installs_then bytes writers job before after was mid now readied (Err why) keeps = record {
   passing = keeps.passing ∙ readied.passing;
   tallies = λ h l is has. keeps.tallies h l is
       (tallies_made before.version.behind.logs.items mid.tally l (readied.tallied h l is has));
 }
+
+-- what failed isn't done
+pub install_undone : {V H W : Type 0} {g : _} (why : InstallFail V H W g) (result : Result (Unit {0}) (InstallFail V H W g))
+    → result ≡ Err why → result ≡ Ok tt → ⊥
+install_undone {V} {H} {W} {g} why result is e = cc

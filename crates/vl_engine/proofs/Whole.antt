@@ -387,14 +387,14 @@ module _ {D H : Type 0} (g : Ghosts D) (bytes : H → Option (List ℕ)) where
       (untouched watched old before was h l is stands fits)))
 
   -- and what is kept of where space comes back from
-  pub untouched_collecting : IsWatched g → (old new : D) (before after : Core H) (was now : Option OpenMerge) (kept then : Collecting)
-      (h : History) (l : Layout) → new ≡ old → after ≡ before → now ≡ was → then ≡ kept
+  pub untouched_collecting : IsWatched g → (old new : D) (before after : Core H) (was now : Option OpenMerge) (kept kept_now : Collecting)
+      (h : History) (l : Layout) → new ≡ old → after ≡ before → now ≡ was → kept_now ≡ kept
       → Represents bytes before (g.told old) h l → StandsOpen bytes before was h l → Fits (g.told old) before h l
-      → Collects before kept l → StaysCollecting g bytes old new after now then h l
-  untouched_collecting watched old new before after was now kept then h l disk core merging collecting is stands fits has =
-      subst (λ (d : D). StaysCollecting g bytes old d after now then h l) (sym disk)
-      (subst (λ (c : Core H). StaysCollecting g bytes old old c now then h l) (sym core)
-      (subst (λ (m : Option OpenMerge). StaysCollecting g bytes old old before m then h l) (sym merging)
+      → Collects before kept l → StaysCollecting g bytes old new after now kept_now h l
+  untouched_collecting watched old new before after was now kept kept_now h l disk core merging collecting is stands fits has =
+      subst (λ (d : D). StaysCollecting g bytes old d after now kept_now h l) (sym disk)
+      (subst (λ (c : Core H). StaysCollecting g bytes old old c now kept_now h l) (sym core)
+      (subst (λ (m : Option OpenMerge). StaysCollecting g bytes old old before m kept_now h l) (sym merging)
       (subst (λ (k : Collecting). StaysCollecting g bytes old old before was k h l) (sym collecting)
       (record { stays = untouched watched old before was h l is stands fits; collects = has }))))
 
@@ -438,13 +438,13 @@ module _ {D H : Type 0} (g : Ghosts D) (bytes : H → Option (List ℕ)) where
       (closes old new core h l s.layout s.same s.represents s.fits s.through s.again).0))
 
   -- and what is kept of where space comes back from stays that of the layout
-  pub given_up_collecting : (old new last : D) (core after : Core H) (was now : Option OpenMerge) (kept then : Collecting) (h : History)
+  pub given_up_collecting : (old new last : D) (core after : Core H) (was now : Option OpenMerge) (kept kept_now : Collecting) (h : History)
       (l : Layout) (s : StaysFor g bytes old new core was h l) → Collects core kept s.layout → last ≡ new → after ≡ core → now ≡ None
-      → then ≡ kept → StaysCollecting g bytes old last after now then h l
-  given_up_collecting old new last core after was now kept then h l s has disk same none kept_is =
-      subst (λ (d : D). StaysCollecting g bytes old d after now then h l) (sym disk)
-      (subst (λ (c : Core H). StaysCollecting g bytes old new c now then h l) (sym same)
-      (subst (λ (m : Option OpenMerge). StaysCollecting g bytes old new core m then h l) (sym none)
+      → kept_now ≡ kept → StaysCollecting g bytes old last after now kept_now h l
+  given_up_collecting old new last core after was now kept kept_now h l s has disk same none kept_is =
+      subst (λ (d : D). StaysCollecting g bytes old d after now kept_now h l) (sym disk)
+      (subst (λ (c : Core H). StaysCollecting g bytes old new c now kept_now h l) (sym same)
+      (subst (λ (m : Option OpenMerge). StaysCollecting g bytes old new core m kept_now h l) (sym none)
       (subst (λ (k : Collecting). StaysCollecting g bytes old new core None k h l) (sym kept_is)
       (build (closes old new core h l s.layout s.same s.represents s.fits s.through s.again)))))
     where

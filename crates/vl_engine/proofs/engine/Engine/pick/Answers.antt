@@ -1,13 +1,12 @@
-use Rattle.std.proofs.Common.{List, None, Option, Some, ap, refl, subst, sym, ◌≡◌, ◌∙◌}
-use Rattle.std.specs.Prelude.{false}
+use Rattle.std.proofs.Common.{Option, Some, ap, refl, subst, sym, ◌∙◌}
 use Rattle.vl_core.specs.MayStep.{Fits}
 use Rattle.vl_core.specs.Pointed.{layout_logs}
-use Rattle.vl_core.specs.Represents.{Represents, StandsFor}
+use Rattle.vl_core.specs.Represents.{Represents}
 use Rattle.vl_core.specs.declared.kept.Core.{Core}
-use Rattle.vl_engine.proofs.Collected.{collects_kept, head_is_laid, keeps_readied, keeps_same}
-use Rattle.vl_engine.proofs.Committing.{decides_leaving, decides_short}
+use Rattle.vl_engine.proofs.Collected.{collects_kept, head_is_laid, keeps_readied}
+use Rattle.vl_engine.proofs.Committing.{decides_leaving}
 use Rattle.vl_engine.proofs.PassLaws.{fits_passing, represents_passing, stands_passing}
-use Rattle.vl_engine.proofs.Picking.{collects_begun, decides_begun, is_invalid, is_none, is_rejected, is_some, pass_fits, passes_by, picked_pass}
+use Rattle.vl_engine.proofs.Picking.{collects_begun, decides_begun, is_none, is_some, pass_fits, picked_pass}
 use Rattle.vl_engine.proofs.Picking.{tidy_then}
 use Rattle.vl_engine.proofs.engine.Engine.pick.Goals as goal
 use Rattle.vl_engine.specs.Collecting.{Collects, pick_outcome}
@@ -16,51 +15,7 @@ use Rattle.vl_disk.specs.DiskState.{DiskState}
 use Rattle.vl_engine.specs.declared.open.OpenMerge.{OpenMerge}
 use Rattle.vl_layout.specs.Decides.{Decides, as_before, no_effects}
 use Rattle.vl_layout.specs.Ruling.{pin_of}
-use Rattle.vl_layout.specs.Rulings.Pick.{InvalidRequest, NoRewrite, Rejected, pick_ruling, with_pass}
-
-pub returns-then-is_unfair-clause-stands : goal.returns-then-is_unfair-clause-stands
-returns-then-is_unfair-clause-stands g c h l is has =
-    decides_leaving (StandsOpen g.D.Held.HeldFile.bytes c.args.self.now.core c.args.self.now.merging) h l (pick_ruling l h c.args.percent) (as_before l l) InvalidRequest l
-    (is_invalid l h c.args.percent (sym c.is_unfair.ensures ∙ c.if-is_unfair.true)) is
-
-pub returns-then-is_unfair-clause-represents : goal.returns-then-is_unfair-clause-represents
-returns-then-is_unfair-clause-represents g c h l is has =
-    decides_leaving (Represents g.D.Held.HeldFile.bytes c.args.self.now.core (g.D.Watched.told c.args.self.now.disk)) h l (pick_ruling l h c.args.percent) (as_before l l) InvalidRequest l
-    (is_invalid l h c.args.percent (sym c.is_unfair.ensures ∙ c.if-is_unfair.true)) is
-
-pub returns-then-is_unfair-clause-fits : goal.returns-then-is_unfair-clause-fits
-returns-then-is_unfair-clause-fits g c h l is has fits =
-    decides_leaving (Fits (g.D.Watched.told c.args.self.now.disk) c.args.self.now.core) h l (pick_ruling l h c.args.percent) (as_before l l) InvalidRequest l
-    (is_invalid l h c.args.percent (sym c.is_unfair.ensures ∙ c.if-is_unfair.true)) fits
-
-pub returns-then-is_unfair-clause-collects : goal.returns-then-is_unfair-clause-collects
-returns-then-is_unfair-clause-collects g c h l is has =
-    decides_leaving (λ k x. Collects c.args.self.now.core c.args.self.now.collecting x) h l (pick_ruling l h c.args.percent) (as_before l l) InvalidRequest l
-    (is_invalid l h c.args.percent (sym c.is_unfair.ensures ∙ c.if-is_unfair.true)) has
-
-pub returns-in-Some-clause-stands : goal.returns-in-Some-clause-stands
-returns-in-Some-clause-stands g c h l is has =
-    decides_leaving (StandsOpen g.D.Held.HeldFile.bytes c.args.self.now.core c.args.self.now.merging) h l (pick_ruling l h c.args.percent) (as_before l l) (Rejected c.in-Some.segment) l
-    (is_rejected l h c.args.percent (sym c.is_unfair.ensures ∙ c.if-is_unfair.false) c.in-Some.segment
-    (sym c.in-Some.is ∙ has.passing)) is
-
-pub returns-in-Some-clause-represents : goal.returns-in-Some-clause-represents
-returns-in-Some-clause-represents g c h l is has =
-    decides_leaving (Represents g.D.Held.HeldFile.bytes c.args.self.now.core (g.D.Watched.told c.args.self.now.disk)) h l (pick_ruling l h c.args.percent) (as_before l l) (Rejected c.in-Some.segment) l
-    (is_rejected l h c.args.percent (sym c.is_unfair.ensures ∙ c.if-is_unfair.false) c.in-Some.segment
-    (sym c.in-Some.is ∙ has.passing)) is
-
-pub returns-in-Some-clause-fits : goal.returns-in-Some-clause-fits
-returns-in-Some-clause-fits g c h l is has fits =
-    decides_leaving (Fits (g.D.Watched.told c.args.self.now.disk) c.args.self.now.core) h l (pick_ruling l h c.args.percent) (as_before l l) (Rejected c.in-Some.segment) l
-    (is_rejected l h c.args.percent (sym c.is_unfair.ensures ∙ c.if-is_unfair.false) c.in-Some.segment
-    (sym c.in-Some.is ∙ has.passing)) fits
-
-pub returns-in-Some-clause-collects : goal.returns-in-Some-clause-collects
-returns-in-Some-clause-collects g c h l is has =
-    decides_leaving (λ k x. Collects c.args.self.now.core c.args.self.now.collecting x) h l (pick_ruling l h c.args.percent) (as_before l l) (Rejected c.in-Some.segment) l
-    (is_rejected l h c.args.percent (sym c.is_unfair.ensures ∙ c.if-is_unfair.false) c.in-Some.segment
-    (sym c.in-Some.is ∙ has.passing)) has
+use Rattle.vl_layout.specs.Rulings.Pick.{NoRewrite, pick_ruling}
 
 pub returns-in-None-clause-stands : goal.returns-in-None-clause-stands
 returns-in-None-clause-stands g c h l is has =
@@ -94,24 +49,6 @@ returns-in-None-clause-collects g c h l is has =
     (c.in-Ok.ensures.readied.tallied h l is has.tally)
     (c.head_of.ensures ∙ head_is_laid g.D.Held.HeldFile.bytes c.args.self.now.core h l is))) (collects_kept g.D.Held.HeldFile.bytes c.args.self.now.core c.args.self.now.core c.args.self.now.collecting c.ready.new.self h l is refl
     (keeps_readied g.D.Held.HeldFile.bytes c.args.self.now.core c.args.self.now.collecting c.ready.new.self c.in-Ok.ensures.readied) has)
-
-pub returns-in_default-ready-clause-stands : goal.returns-in_default-ready-clause-stands
-returns-in_default-ready-clause-stands g c h l is has =
-    decides_short (StandsOpen g.D.Held.HeldFile.bytes c.args.self.now.core c.args.self.now.merging) h l (pick_ruling l h c.args.percent) l is
-
-pub returns-in_default-ready-clause-represents : goal.returns-in_default-ready-clause-represents
-returns-in_default-ready-clause-represents g c h l is has =
-    decides_short (Represents g.D.Held.HeldFile.bytes c.args.self.now.core (g.D.Watched.told c.args.self.now.disk)) h l (pick_ruling l h c.args.percent) l is
-
-pub returns-in_default-ready-clause-fits : goal.returns-in_default-ready-clause-fits
-returns-in_default-ready-clause-fits g c h l is has fits =
-    decides_short (Fits (g.D.Watched.told c.args.self.now.disk) c.args.self.now.core) h l (pick_ruling l h c.args.percent) l fits
-
-pub returns-in_default-ready-clause-collects : goal.returns-in_default-ready-clause-collects
-returns-in_default-ready-clause-collects g c h l is has =
-    decides_short (λ k x. Collects c.args.self.now.core c.ready.new.self x) h l (pick_ruling l h c.args.percent) l 
-    (collects_kept g.D.Held.HeldFile.bytes c.args.self.now.core c.args.self.now.core c.args.self.now.collecting c.ready.new.self h l is refl
-    (keeps_same g.D.Held.HeldFile.bytes c.args.self.now.core c.args.self.now.collecting c.ready.new.self c.in_default-ready.ensures.refused) has)
 
 pub returns-in-Some-best-clause-stands : goal.returns-in-Some-best-clause-stands
 returns-in-Some-best-clause-stands g c h l is has =
@@ -182,8 +119,3 @@ returns-in-Some-best-clause-pass g c h l is has files =
 pub returns-in-Some-best-clause-looks : goal.returns-in-Some-best-clause-looks
 returns-in-Some-best-clause-looks g c h l is =
     pass_fits g.D.Held.HeldFile.bytes c.args.self.now.core h l is c.in-Some-best.number c.begin_pass.result c.begin_pass.ensures.begins
-
-pub returns-in-Some-best-clause-passing : goal.returns-in-Some-best-clause-passing
-returns-in-Some-best-clause-passing g c =
-    passes_by g.D.Held.HeldFile.bytes c.args.self.now.core c.args.self.now.collecting c.ready.new.self c.begin_pass.new.self.collecting c.in-Some-best.number
-    c.in-Ok.ensures.readied.passing c.begin_pass.result c.begin_pass.ensures.begins c.begin_pass.ensures.collecting
