@@ -32,11 +32,10 @@ mod Picking
 pub mod Planning
 pub mod PutIn
 pub mod ReadingPast
-pub mod RelocateFound
-pub mod RelocateRaw
-pub mod RelocateSo
-pub mod RelocateStaged
+pub mod RelocatingAnswers
+pub mod RelocatingEntries
 pub mod RelocatingExits
+pub mod RelocatingFound
 pub mod RelocatingReads
 pub mod RelocatingStaged
 pub mod RelocatingTotals

@@ -5,8 +5,7 @@ use Rattle.std.specs.Prelude.{Option, None, Some, Result, Ok, Err, Vec, is_none,
 use Rattle.std.specs.Global.{Global}
 use Rattle.std.specs.List.{All, AllByRecursion, filter}
 use Rattle.std.specs.Option.{ForSome}
-use Rattle.vl_back.specs.declared.back.Back.{Back}
-use Rattle.vl_collect.specs.Faults.{FailsLooking, MayWhere, of_sources}
+use Rattle.vl_collect.specs.Faults.{FailsLooking, MayWhere}
 use Rattle.vl_collect.specs.Passing.{HasEntries}
 use Rattle.vl_collect.specs.declared.fault.PassFault.{PassFault}
 use Rattle.vl_collect.specs.declared.fault.PassFault.TheVariants as faults
@@ -27,7 +26,6 @@ use Rattle.vl_engine.specs.declared.open.OpenMerge.{OpenMerge}
 use Rattle.vl_engine.specs.declared.relocating.StagedMove.{StagedMove}
 use Rattle.vl_frame.specs.Runs.{HasFrame}
 use Rattle.vl_layout.specs.Decides.{Answered, Damaged, Effects, Failed, NoMemory, Outcome, no_effects}
-use Rattle.vl_layout.specs.Logs.{logged_body}
 use Rattle.vl_layout.specs.Relocation as layout
 use Rattle.vl_layout.specs.Relocation.{Candidate, moved_of}
 use Rattle.vl_layout.specs.Rulings.Relocate as ruling
@@ -42,7 +40,6 @@ use Rattle.vl_model.specs.Formats.{log_format}
 use Rattle.vl_model.specs.History.{History, last_number}
 use Rattle.vl_model.specs.Limits.{max_version_number}
 use Rattle.vl_model.specs.Winners.{exact}
-use Rattle.vl_model.specs.declared.change.Change.TheVariants.{Set}
 use Rattle.vl_model.specs.declared.counter.Counter.TheVariants as counters
 use Rattle.vl_model.specs.declared.counter.Counter.{Counter}
 use Rattle.vl_model.specs.declared.entry.Body.TheVariants.{Logged}

@@ -1,6 +1,6 @@
 //! What of a batch is moved, and what that wants of memory, the disk's too: all of it is taken before the disk is changed.
 ghost use Rattle.std.specs.Prelude.{◌≡◌, ◌≤◌, ◌<◌, ◌^◌, ◌+◌, [], ◌∷◌, length, IfErr, IfOk, IfSome, IsTrue, OnOk};
-ghost use Rattle.std.specs.Prelude.{◌↔◌, None};
+ghost use Rattle.std.specs.Prelude.{◌↔◌};
 ghost use Rattle.std.specs.List.{filter};
 ghost use Rattle.std.specs.Option.{ForSome};
 ghost use Rattle.vl_collect.specs.Faults.{FailsLooking, MayWhere};
@@ -8,10 +8,10 @@ ghost use Rattle.vl_disk.specs.Calls.{ChangesNothing};
 ghost use Rattle.vl_disk.specs.Spare.{CanAppend};
 ghost use Rattle.vl_disk.specs.declared.name.Name.TheVariants as names;
 ghost use Rattle.vl_engine.specs.Lent.{LeavesTables};
-ghost use Rattle.vl_engine.specs.Relocating.{Finds, HasRoomBehind, IsNotes, IsStagedMove, MayMove, NotesMoves, may_add, move_entries_of, moved_entry};
+ghost use Rattle.vl_engine.specs.Relocating.{Finds, HasRoomBehind, IsNotes, IsStagedMove};
+ghost use Rattle.vl_engine.specs.Relocating.{MayMove, NotesMoves, may_add, move_entries_of, moved_entry};
 ghost use Rattle.vl_core.specs.MoveFacts.{move_length};
 ghost use Rattle.vl_model.specs.Entries as order;
-ghost use Rattle.vl_seglog.specs.Stored.{moved_pointers};
 ghost use Rattle.vl_table.specs.CursorParts.{MayFailOn, is_disk_fault};
 ghost use Rattle.vl_version.specs.Bases.{Fits};
 ghost use Rattle.vl_version.specs.Sources.{tables_in};
@@ -79,10 +79,7 @@ fn only_new(active: &Memtable, last: u64, found: Vec<Moved>) -> Vec<Moved>
 fn may_add(active: &Memtable, last: u64, moved: &Moved) -> bool
     ensures { result ≡ may_add active.now.entries last moved.now }
 {
-    moved.version <= last
-        && active
-            .exact(moved.key.as_slice(), moved.version)
-            .is_none()
+    moved.version <= last && active.exact(moved.key.as_slice(), moved.version).is_none()
 }
 
 /// How many bytes the frame of a relocation of these records has; none where 64 bits don't hold their number.

@@ -1,4 +1,4 @@
-ghost use Rattle.std.specs.Prelude.{◌≡◌, ◌≤◌, ◌<◌, List, Some, IfOk, IsErrOf, IsTrue, Err, OnOk};
+ghost use Rattle.std.specs.Prelude.{◌≡◌, ◌<◌, List, Some, IsErrOf, IsTrue, Err, OnOk};
 ghost use Rattle.std.specs.List.{AllByRecursion};
 ghost use Rattle.vl_core.specs.Carries.{Carries, SameFiles, StaysUntold};
 ghost use Rattle.vl_core.specs.MayStep.{Fits};

@@ -1,10 +1,7 @@
-use Rattle.std.specs.List.{filter}
-use Rattle.std.proofs.Common.{◌≡◌, List, ap, subst, sym, ◌∙◌, ℕ}
+use Rattle.std.proofs.Common.{ap, subst, ◌∙◌, ℕ}
 use Rattle.vl_collect.specs.Faults.{FailsLooking, MayWhere}
-use Rattle.vl_engine.proofs.RelocateFound.{finds_by, kept_by, may_move, passed_on}
-use Rattle.vl_engine.specs.Relocating.{may_add}
+use Rattle.vl_engine.proofs.RelocatingFound.{finds_by, kept_by, may_move, passed_on}
 use Rattle.vl_layout.specs.Relocation.{moved_of}
-use Rattle.vl_model.specs.declared.log_frame.Moved.{Moved}
 use Rattle.vl_table.specs.CursorParts.{MayFailOn, is_disk_fault}
 use Rattle.vl_version.specs.Bases.{Fits}
 use Rattle.vl_version.specs.Sources.{tables_in}

@@ -1,5 +1,5 @@
-use Rattle.std.proofs.Common.{◌≡◌, ◌++◌, ◌∷◌, [], List, add-one, ap, arith, length, refl, subst, sym, take, ◌∙◌}
-use Rattle.vl_engine.proofs.RelocateStaged.{all_moves, one_move_more}
+use Rattle.std.proofs.Common.{◌≡◌, ◌++◌, ◌∷◌, [], List, add-one, ap, arith, length, refl, sym, take, ◌∙◌}
+use Rattle.vl_engine.proofs.RelocatingEntries.{all_moves, one_move_more}
 use Rattle.vl_engine.specs.Relocating.{move_entries_of}
 use Rattle.vl_model.specs.Entries.{in_order}
 use Rattle.vl_model.specs.declared.entry.Entry.{Entry}

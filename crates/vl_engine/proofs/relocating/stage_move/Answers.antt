@@ -1,7 +1,6 @@
-use Rattle.std.proofs.Common.{◌≡◌, ◌+◌, ◌++◌, ◌<◌, ap, arith, length, refl, subst, sym, ◌∙◌, ℕ, List}
-use Rattle.vl_engine.proofs.RelocateStaged.{staged_count, staged_entries, staged_pointers}
+use Rattle.std.proofs.Common.{◌+◌, ◌++◌, ap, arith, length, refl, subst, sym, ◌∙◌, List}
+use Rattle.vl_engine.proofs.RelocatingEntries.{staged_count, staged_entries, staged_pointers}
 use Rattle.vl_engine.proofs.RelocatingStaged.{staged_more, staged_new, staged_some}
-use Rattle.vl_core.specs.MoveFacts.{move_entries}
 use Rattle.vl_memtable.specs.Contents.{IsNewTo}
 use Rattle.vl_model.specs.Entries.{in_order}
 use Rattle.vl_model.specs.declared.entry.Entry.{Entry}

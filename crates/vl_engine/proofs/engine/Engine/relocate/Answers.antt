@@ -1,4 +1,4 @@
-use Rattle.vl_engine.proofs.RelocateSo.{as_segment, failed_so, fits_behind, read_so, stopped_so, undamaged_so}
+use Rattle.vl_engine.proofs.RelocatingAnswers.{as_segment, failed_so, fits_behind, read_so, stopped_so, undamaged_so}
 use Rattle.vl_engine.proofs.RelocatingExits.{carries_by, fits_by, settled_by, stands_by}
 use Rattle.vl_engine.proofs.RelocatingTotals.{back_by, calls_by, files_by, logs_by, merging_by, steps_by, untold_then, untouched_by}
 use Rattle.vl_engine.specs.Relocating.{at}
@@ -18,7 +18,8 @@ returns-clause-stands g c h l p of is =
     (at c.move_again.new.self.disk c.move_again.new.self.core c.move_again.new.self.merging c.move_again.new.looks)
     c.args.pass.now.log c.args.batch h l p of is c.move_again.result
     (as_segment g.D.Watched g.D.Held.HeldFile.bytes (λ r. g.D.Reader.Reader.faults r)
-    (at c.args.self.now.disk c.args.self.now.core c.args.self.now.merging c.args.looks.now) (at c.move_again.new.self.disk c.move_again.new.self.core c.move_again.new.self.merging c.move_again.new.looks)
+    (at c.args.self.now.disk c.args.self.now.core c.args.self.now.merging c.args.looks.now)
+    (at c.move_again.new.self.disk c.move_again.new.self.core c.move_again.new.self.merging c.move_again.new.looks)
     c.segment.result c.args.pass.now.log.number c.segment.ensures c.args.batch c.move_again.result c.move_again.ensures.as_moved)
 
 pub returns-clause-carries : goal.returns-clause-carries
@@ -26,9 +27,11 @@ returns-clause-carries g c h l p of is =
     carries_by g.D.Watched g.D.Held.HeldFile.bytes (λ r. g.D.Reader.Reader.faults r)
     (at c.args.self.now.disk c.args.self.now.core c.args.self.now.merging c.args.looks.now)
     (at c.move_again.new.self.disk c.move_again.new.self.core c.move_again.new.self.merging c.move_again.new.looks)
-    c.args.pass.now.log c.args.batch h l p of (record { only_now = g.met.D.Disk.only_now; counts_now = g.met.D.Disk.counts_now }) is c.move_again.result
+    c.args.pass.now.log c.args.batch h l p of
+    (record { only_now = g.met.D.Disk.only_now; counts_now = g.met.D.Disk.counts_now }) is c.move_again.result
     (as_segment g.D.Watched g.D.Held.HeldFile.bytes (λ r. g.D.Reader.Reader.faults r)
-    (at c.args.self.now.disk c.args.self.now.core c.args.self.now.merging c.args.looks.now) (at c.move_again.new.self.disk c.move_again.new.self.core c.move_again.new.self.merging c.move_again.new.looks)
+    (at c.args.self.now.disk c.args.self.now.core c.args.self.now.merging c.args.looks.now)
+    (at c.move_again.new.self.disk c.move_again.new.self.core c.move_again.new.self.merging c.move_again.new.looks)
     c.segment.result c.args.pass.now.log.number c.segment.ensures c.args.batch c.move_again.result c.move_again.ensures.as_moved)
 
 pub returns-clause-fits : goal.returns-clause-fits
@@ -38,7 +41,8 @@ returns-clause-fits g c h l p of fits =
     (at c.move_again.new.self.disk c.move_again.new.self.core c.move_again.new.self.merging c.move_again.new.looks)
     c.args.pass.now.log c.args.batch h l p of (λ state told. (c.args.self.now.ready state told).log) fits c.move_again.result
     (as_segment g.D.Watched g.D.Held.HeldFile.bytes (λ r. g.D.Reader.Reader.faults r)
-    (at c.args.self.now.disk c.args.self.now.core c.args.self.now.merging c.args.looks.now) (at c.move_again.new.self.disk c.move_again.new.self.core c.move_again.new.self.merging c.move_again.new.looks)
+    (at c.args.self.now.disk c.args.self.now.core c.args.self.now.merging c.args.looks.now)
+    (at c.move_again.new.self.disk c.move_again.new.self.core c.move_again.new.self.merging c.move_again.new.looks)
     c.segment.result c.args.pass.now.log.number c.segment.ensures c.args.batch c.move_again.result c.move_again.ensures.as_moved)
 
 pub returns-clause-settled : goal.returns-clause-settled
@@ -48,7 +52,8 @@ returns-clause-settled g c h l p of =
     (at c.move_again.new.self.disk c.move_again.new.self.core c.move_again.new.self.merging c.move_again.new.looks)
     c.args.pass.now.log c.args.batch h l p of c.move_again.result
     (as_segment g.D.Watched g.D.Held.HeldFile.bytes (λ r. g.D.Reader.Reader.faults r)
-    (at c.args.self.now.disk c.args.self.now.core c.args.self.now.merging c.args.looks.now) (at c.move_again.new.self.disk c.move_again.new.self.core c.move_again.new.self.merging c.move_again.new.looks)
+    (at c.args.self.now.disk c.args.self.now.core c.args.self.now.merging c.args.looks.now)
+    (at c.move_again.new.self.disk c.move_again.new.self.core c.move_again.new.self.merging c.move_again.new.looks)
     c.segment.result c.args.pass.now.log.number c.segment.ensures c.args.batch c.move_again.result c.move_again.ensures.as_moved)
 
 pub returns-clause-undamaged : goal.returns-clause-undamaged
@@ -58,7 +63,8 @@ returns-clause-undamaged g c h l p of =
     (at c.move_again.new.self.disk c.move_again.new.self.core c.move_again.new.self.merging c.move_again.new.looks)
     c.args.pass.now.log c.args.batch h l p of c.move_again.result
     (as_segment g.D.Watched g.D.Held.HeldFile.bytes (λ r. g.D.Reader.Reader.faults r)
-    (at c.args.self.now.disk c.args.self.now.core c.args.self.now.merging c.args.looks.now) (at c.move_again.new.self.disk c.move_again.new.self.core c.move_again.new.self.merging c.move_again.new.looks)
+    (at c.args.self.now.disk c.args.self.now.core c.args.self.now.merging c.args.looks.now)
+    (at c.move_again.new.self.disk c.move_again.new.self.core c.move_again.new.self.merging c.move_again.new.looks)
     c.segment.result c.args.pass.now.log.number c.segment.ensures c.args.batch c.move_again.result c.move_again.ensures.as_moved)
 
 pub returns-clause-untouched : goal.returns-clause-untouched
@@ -68,7 +74,8 @@ returns-clause-untouched g c =
     (at c.move_again.new.self.disk c.move_again.new.self.core c.move_again.new.self.merging c.move_again.new.looks)
     c.args.pass.now.log.number c.args.batch c.move_again.result
     (as_segment g.D.Watched g.D.Held.HeldFile.bytes (λ r. g.D.Reader.Reader.faults r)
-    (at c.args.self.now.disk c.args.self.now.core c.args.self.now.merging c.args.looks.now) (at c.move_again.new.self.disk c.move_again.new.self.core c.move_again.new.self.merging c.move_again.new.looks)
+    (at c.args.self.now.disk c.args.self.now.core c.args.self.now.merging c.args.looks.now)
+    (at c.move_again.new.self.disk c.move_again.new.self.core c.move_again.new.self.merging c.move_again.new.looks)
     c.segment.result c.args.pass.now.log.number c.segment.ensures c.args.batch c.move_again.result c.move_again.ensures.as_moved)
 
 pub returns-clause-calls : goal.returns-clause-calls
@@ -78,7 +85,8 @@ returns-clause-calls g c =
     (at c.move_again.new.self.disk c.move_again.new.self.core c.move_again.new.self.merging c.move_again.new.looks)
     c.args.pass.now.log.number c.args.batch c.move_again.result
     (as_segment g.D.Watched g.D.Held.HeldFile.bytes (λ r. g.D.Reader.Reader.faults r)
-    (at c.args.self.now.disk c.args.self.now.core c.args.self.now.merging c.args.looks.now) (at c.move_again.new.self.disk c.move_again.new.self.core c.move_again.new.self.merging c.move_again.new.looks)
+    (at c.args.self.now.disk c.args.self.now.core c.args.self.now.merging c.args.looks.now)
+    (at c.move_again.new.self.disk c.move_again.new.self.core c.move_again.new.self.merging c.move_again.new.looks)
     c.segment.result c.args.pass.now.log.number c.segment.ensures c.args.batch c.move_again.result c.move_again.ensures.as_moved)
 
 pub returns-clause-untold : goal.returns-clause-untold
@@ -88,7 +96,8 @@ returns-clause-untold g c =
     (at c.move_again.new.self.disk c.move_again.new.self.core c.move_again.new.self.merging c.move_again.new.looks)
     c.args.pass.now.log.number c.args.batch c.move_again.result
     (as_segment g.D.Watched g.D.Held.HeldFile.bytes (λ r. g.D.Reader.Reader.faults r)
-    (at c.args.self.now.disk c.args.self.now.core c.args.self.now.merging c.args.looks.now) (at c.move_again.new.self.disk c.move_again.new.self.core c.move_again.new.self.merging c.move_again.new.looks)
+    (at c.args.self.now.disk c.args.self.now.core c.args.self.now.merging c.args.looks.now)
+    (at c.move_again.new.self.disk c.move_again.new.self.core c.move_again.new.self.merging c.move_again.new.looks)
     c.segment.result c.args.pass.now.log.number c.segment.ensures c.args.batch c.move_again.result c.move_again.ensures.as_moved)
 
 pub returns-clause-back : goal.returns-clause-back
@@ -98,7 +107,8 @@ returns-clause-back g c =
     (at c.move_again.new.self.disk c.move_again.new.self.core c.move_again.new.self.merging c.move_again.new.looks)
     c.args.pass.now.log.number c.args.batch c.move_again.result
     (as_segment g.D.Watched g.D.Held.HeldFile.bytes (λ r. g.D.Reader.Reader.faults r)
-    (at c.args.self.now.disk c.args.self.now.core c.args.self.now.merging c.args.looks.now) (at c.move_again.new.self.disk c.move_again.new.self.core c.move_again.new.self.merging c.move_again.new.looks)
+    (at c.args.self.now.disk c.args.self.now.core c.args.self.now.merging c.args.looks.now)
+    (at c.move_again.new.self.disk c.move_again.new.self.core c.move_again.new.self.merging c.move_again.new.looks)
     c.segment.result c.args.pass.now.log.number c.segment.ensures c.args.batch c.move_again.result c.move_again.ensures.as_moved)
 
 pub returns-clause-steps : goal.returns-clause-steps
@@ -108,7 +118,8 @@ returns-clause-steps g c =
     (at c.move_again.new.self.disk c.move_again.new.self.core c.move_again.new.self.merging c.move_again.new.looks)
     c.args.pass.now.log.number c.args.batch c.move_again.result
     (as_segment g.D.Watched g.D.Held.HeldFile.bytes (λ r. g.D.Reader.Reader.faults r)
-    (at c.args.self.now.disk c.args.self.now.core c.args.self.now.merging c.args.looks.now) (at c.move_again.new.self.disk c.move_again.new.self.core c.move_again.new.self.merging c.move_again.new.looks)
+    (at c.args.self.now.disk c.args.self.now.core c.args.self.now.merging c.args.looks.now)
+    (at c.move_again.new.self.disk c.move_again.new.self.core c.move_again.new.self.merging c.move_again.new.looks)
     c.segment.result c.args.pass.now.log.number c.segment.ensures c.args.batch c.move_again.result c.move_again.ensures.as_moved)
 
 pub returns-clause-logs : goal.returns-clause-logs
@@ -118,7 +129,8 @@ returns-clause-logs g c =
     (at c.move_again.new.self.disk c.move_again.new.self.core c.move_again.new.self.merging c.move_again.new.looks)
     c.args.pass.now.log.number c.args.batch c.move_again.result
     (as_segment g.D.Watched g.D.Held.HeldFile.bytes (λ r. g.D.Reader.Reader.faults r)
-    (at c.args.self.now.disk c.args.self.now.core c.args.self.now.merging c.args.looks.now) (at c.move_again.new.self.disk c.move_again.new.self.core c.move_again.new.self.merging c.move_again.new.looks)
+    (at c.args.self.now.disk c.args.self.now.core c.args.self.now.merging c.args.looks.now)
+    (at c.move_again.new.self.disk c.move_again.new.self.core c.move_again.new.self.merging c.move_again.new.looks)
     c.segment.result c.args.pass.now.log.number c.segment.ensures c.args.batch c.move_again.result c.move_again.ensures.as_moved)
 
 pub returns-clause-merging : goal.returns-clause-merging
@@ -128,7 +140,8 @@ returns-clause-merging g c =
     (at c.move_again.new.self.disk c.move_again.new.self.core c.move_again.new.self.merging c.move_again.new.looks)
     c.args.pass.now.log.number c.args.batch c.move_again.result
     (as_segment g.D.Watched g.D.Held.HeldFile.bytes (λ r. g.D.Reader.Reader.faults r)
-    (at c.args.self.now.disk c.args.self.now.core c.args.self.now.merging c.args.looks.now) (at c.move_again.new.self.disk c.move_again.new.self.core c.move_again.new.self.merging c.move_again.new.looks)
+    (at c.args.self.now.disk c.args.self.now.core c.args.self.now.merging c.args.looks.now)
+    (at c.move_again.new.self.disk c.move_again.new.self.core c.move_again.new.self.merging c.move_again.new.looks)
     c.segment.result c.args.pass.now.log.number c.segment.ensures c.args.batch c.move_again.result c.move_again.ensures.as_moved)
 
 pub returns-clause-files : goal.returns-clause-files
@@ -136,9 +149,11 @@ returns-clause-files g c =
     files_by g.D.Watched g.D.Held.HeldFile.bytes (λ r. g.D.Reader.Reader.faults r)
     (at c.args.self.now.disk c.args.self.now.core c.args.self.now.merging c.args.looks.now)
     (at c.move_again.new.self.disk c.move_again.new.self.core c.move_again.new.self.merging c.move_again.new.looks)
-    c.args.pass.now.log.number c.args.batch (record { only_now = g.met.D.Disk.only_now; counts_now = g.met.D.Disk.counts_now }) c.move_again.result
+    c.args.pass.now.log.number c.args.batch
+    (record { only_now = g.met.D.Disk.only_now; counts_now = g.met.D.Disk.counts_now }) c.move_again.result
     (as_segment g.D.Watched g.D.Held.HeldFile.bytes (λ r. g.D.Reader.Reader.faults r)
-    (at c.args.self.now.disk c.args.self.now.core c.args.self.now.merging c.args.looks.now) (at c.move_again.new.self.disk c.move_again.new.self.core c.move_again.new.self.merging c.move_again.new.looks)
+    (at c.args.self.now.disk c.args.self.now.core c.args.self.now.merging c.args.looks.now)
+    (at c.move_again.new.self.disk c.move_again.new.self.core c.move_again.new.self.merging c.move_again.new.looks)
     c.segment.result c.args.pass.now.log.number c.segment.ensures c.args.batch c.move_again.result c.move_again.ensures.as_moved)
 
 pub returns-clause-named : goal.returns-clause-named
@@ -148,7 +163,8 @@ returns-clause-named g c name fits is =
     (at c.move_again.new.self.disk c.move_again.new.self.core c.move_again.new.self.merging c.move_again.new.looks)
     c.args.pass.now.log.number c.args.batch c.move_again.result
     (as_segment g.D.Watched g.D.Held.HeldFile.bytes (λ r. g.D.Reader.Reader.faults r)
-    (at c.args.self.now.disk c.args.self.now.core c.args.self.now.merging c.args.looks.now) (at c.move_again.new.self.disk c.move_again.new.self.core c.move_again.new.self.merging c.move_again.new.looks)
+    (at c.args.self.now.disk c.args.self.now.core c.args.self.now.merging c.args.looks.now)
+    (at c.move_again.new.self.disk c.move_again.new.self.core c.move_again.new.self.merging c.move_again.new.looks)
     c.segment.result c.args.pass.now.log.number c.segment.ensures c.args.batch c.move_again.result c.move_again.ensures.as_moved)
     name fits is
 
@@ -159,7 +175,8 @@ returns-clause-failed g c h l p name of is =
     (at c.move_again.new.self.disk c.move_again.new.self.core c.move_again.new.self.merging c.move_again.new.looks)
     c.args.pass.now.log c.args.batch h l p of c.move_again.result
     (as_segment g.D.Watched g.D.Held.HeldFile.bytes (λ r. g.D.Reader.Reader.faults r)
-    (at c.args.self.now.disk c.args.self.now.core c.args.self.now.merging c.args.looks.now) (at c.move_again.new.self.disk c.move_again.new.self.core c.move_again.new.self.merging c.move_again.new.looks)
+    (at c.args.self.now.disk c.args.self.now.core c.args.self.now.merging c.args.looks.now)
+    (at c.move_again.new.self.disk c.move_again.new.self.core c.move_again.new.self.merging c.move_again.new.looks)
     c.segment.result c.args.pass.now.log.number c.segment.ensures c.args.batch c.move_again.result c.move_again.ensures.as_moved)
     name is
 
@@ -170,7 +187,8 @@ returns-clause-stopped g c h l p name of clean is =
     (at c.move_again.new.self.disk c.move_again.new.self.core c.move_again.new.self.merging c.move_again.new.looks)
     c.args.pass.now.log c.args.batch h l p of c.move_again.result
     (as_segment g.D.Watched g.D.Held.HeldFile.bytes (λ r. g.D.Reader.Reader.faults r)
-    (at c.args.self.now.disk c.args.self.now.core c.args.self.now.merging c.args.looks.now) (at c.move_again.new.self.disk c.move_again.new.self.core c.move_again.new.self.merging c.move_again.new.looks)
+    (at c.args.self.now.disk c.args.self.now.core c.args.self.now.merging c.args.looks.now)
+    (at c.move_again.new.self.disk c.move_again.new.self.core c.move_again.new.self.merging c.move_again.new.looks)
     c.segment.result c.args.pass.now.log.number c.segment.ensures c.args.batch c.move_again.result c.move_again.ensures.as_moved)
     name is clean
 
@@ -182,6 +200,7 @@ returns-clause-fits_looks g c fits =
     (at c.move_again.new.self.disk c.move_again.new.self.core c.move_again.new.self.merging c.move_again.new.looks)
     c.args.pass.now.log.number c.args.batch c.move_again.result
     (as_segment g.D.Watched g.D.Held.HeldFile.bytes (λ r. g.D.Reader.Reader.faults r)
-    (at c.args.self.now.disk c.args.self.now.core c.args.self.now.merging c.args.looks.now) (at c.move_again.new.self.disk c.move_again.new.self.core c.move_again.new.self.merging c.move_again.new.looks)
+    (at c.args.self.now.disk c.args.self.now.core c.args.self.now.merging c.args.looks.now)
+    (at c.move_again.new.self.disk c.move_again.new.self.core c.move_again.new.self.merging c.move_again.new.looks)
     c.segment.result c.args.pass.now.log.number c.segment.ensures c.args.batch c.move_again.result c.move_again.ensures.as_moved))
     c.move_again.new.looks (c.move_again.ensures.fits fits)

@@ -8,9 +8,8 @@ use Rattle.vl_disk.specs.DiskState.{DiskState}
 use Rattle.vl_disk.specs.declared.name.Name.TheVariants as names
 use Rattle.vl_engine.proofs.Fitting.{fit_halted}
 use Rattle.vl_engine.proofs.Lending.{leaves_then, still_lent}
-use Rattle.vl_engine.proofs.RelocateRaw.{fit_moved, lent_moved, move_changed, move_handed, move_longer, move_stopped, notes_then}
+use Rattle.vl_engine.proofs.RelocatingWritten.{fit_moved, lent_moved, move_changed, move_handed, move_longer, move_stopped, notes_then}
 use Rattle.vl_engine.proofs.RelocatingStaged.{staged_known}
-use Rattle.vl_front.specs.declared.front.Front.{Front}
 use Rattle.vl_model.specs.declared.entry.Entry.{Entry}
 use Rattle.vl_seglog.specs.declared.active.ActiveLog.{ActiveLog}
 use Rattle.vl_version.specs.declared.version.Version.{Version}

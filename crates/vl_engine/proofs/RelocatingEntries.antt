@@ -1,7 +1,7 @@
 -- A relocation that is staged: the entries that it has in memory, one after the other, are its frame's.
 use Rattle.std.specs.List.{sum_by}
-use Rattle.std.specs.Prelude.{true, ◌≡◌, ℕ, zero, suc, ◌+◌, ◌++◌, List, [], ◌∷◌, length, map, take, refl, ◌^◌}
-use Rattle.std.proofs.Common.{◌<◌, ◌≤◌, ap, arith, get_or, subst, sym, ◌∙◌}
+use Rattle.std.specs.Prelude.{◌≡◌, ℕ, zero, suc, ◌+◌, ◌++◌, List, [], ◌∷◌, length, map, take, refl, ◌^◌}
+use Rattle.std.proofs.Common.{◌<◌, ◌≤◌, ap, arith, get_or, sym, ◌∙◌}
 use Rattle.std.proofs.lemmas.List.Sums.{sum_by-cons}
 use Rattle.vl_engine.specs.Relocating.{move_entries_of, moved_entry}
 use Rattle.vl_core.specs.MoveFacts.{move_entries}
@@ -43,7 +43,8 @@ pub moves_lead : (format segment place : ℕ) (ms : List Moved)
     ≡ map (record_entry format segment) (relocated_records format place ms)
 moves_lead format segment place [] = refl
 moves_lead format segment place (m ∷ ms) =
-    ap (λ (es : List Entry). record_entry format segment (record { key = m.key; version = m.version; change = Set m.value; place = place + 8 }) ∷ es)
+    ap (λ (es : List Entry).
+    record_entry format segment (record { key = m.key; version = m.version; change = Set m.value; place = place + 8 }) ∷ es)
     (moves_lead format segment (place + moved_length format m) ms)
 
 pub as_many_pointers : (format segment place : ℕ) (ms : List Moved) → length (moved_pointers format segment place ms) ≡ length ms

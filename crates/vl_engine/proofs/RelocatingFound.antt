@@ -1,7 +1,7 @@
 -- What of a batch is moved may stand in one frame, and the active memtable may take it; and over told sources it is all that the
 -- ruling moves.
 use Rattle.std.specs.List.{All, AllByRecursion, filter}
-use Rattle.std.specs.Prelude.{true, false, Bool, ◌≡◌, ◌&&◌, ◌≤◌, ℕ, ◌+◌, List, [], ◌∷◌, length, refl, None, Option, Some, is_none, nat_le}
+use Rattle.std.specs.Prelude.{true, false, Bool, ◌≡◌, ◌&&◌, ◌≤◌, ℕ, List, [], ◌∷◌, length, refl, None, Option, Some, is_none, nat_le}
 use Rattle.std.specs.Prelude.{Contains, IfErr, Result, Ok, Err, if◌then◌else◌, map}
 use Rattle.std.specs.Result.{IsErrAnd}
 use Rattle.vl_collect.specs.declared.fault.PassFault.{PassFault}
@@ -17,7 +17,7 @@ use Rattle.vl_model.specs.Formats.{log_format}
 use Rattle.vl_model.specs.Winners.{exact}
 use Rattle.vl_model.specs.declared.entry.Entry.{Entry}
 use Rattle.vl_model.specs.declared.log_frame.Moved.{Moved}
-use Rattle.vl_seglog.specs.Moves.{AreOnce, IsElsewhere, IsMoved}
+use Rattle.vl_seglog.specs.Moves.{AreOnce, IsMoved}
 use Rattle.vl_seglog.specs.Relocation.{IsRelocation}
 use Rattle.vl_table.specs.declared.block_reader.BlockReader.{BlockReader}
 use Rattle.vl_version.specs.Bases.{Fits, HasSources}
