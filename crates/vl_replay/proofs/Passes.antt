@@ -1,3 +1,5 @@
+pub mod Batching
+pub mod Moving
 pub mod Picking
 pub mod Standing
 pub mod Used
