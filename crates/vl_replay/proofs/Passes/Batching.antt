@@ -235,29 +235,27 @@ module _ {H R : Type 0} (bytes : H → Option (List ℕ)) (core : Core H) (colle
   abbrev p : Pass
   p = before.is_open.pass
 
-  there : thing_of s name ≡ Some (APass p None)
-  there = ap (thing_in s.things) name_is ∙ before.is_open.there ∙ ap (λ (b : Option (List Candidate)). Some (APass p b)) none
+  pub there_is : thing_of s name ≡ Some (APass p None)
+  there_is = ap (thing_in s.things) name_is ∙ before.is_open.there ∙ ap (λ (b : Option (List Candidate)). Some (APass p b)) none
 
-  pub passes_then : (batch : Option (List Candidate)) → new.batch ≡ batch
-      → Gives bytes (λ (b : Base H R) inputs ms. HasSources bytes b.version inputs ms) new.pass p batch
+  pub passes_then : (batch : Option (List Candidate)) → new.batch ≡ batch → batch ≡ (next_batch p).0
+      → GoesOver bytes new.pass (next_batch p).1
       → Passes bytes core collecting (Some new) (batch_by s name (thing_of s name)).state.things
       (batch_by s name (thing_of s name)).state.layout
-  passes_then batch is gives =
+  passes_then batch is gave goes =
       subst (λ (y : Step). Passes bytes core collecting (Some new) y.state.things y.state.layout)
-      (sym (ap (batch_by s name) there ∙ ap (found_by s name (next_batch p)) (sym gives.batch_is))) (of batch is gives)
+      (sym (ap (batch_by s name) there_is ∙ ap (found_by s name (next_batch p)) (sym gave))) (of batch is gave)
     where
-      of : (batch : Option (List Candidate)) → new.batch ≡ batch
-          → Gives bytes (λ (b : Base H R) inputs ms. HasSources bytes b.version inputs ms) new.pass p batch
+      of : (batch : Option (List Candidate)) → new.batch ≡ batch → batch ≡ (next_batch p).0
           → Passes bytes core collecting (Some new) (found_by s name (next_batch p) batch).state.things
           (found_by s name (next_batch p) batch).state.layout
-      of None is gives = record {
+      of None is gave = record {
         collects = before.collects;
         is_open = goes_on bytes s.things s.layout name old new before.is_open name_is keeps_name
-            (ap (λ (x : ThePass (Base H R) H). x.log) kept) (ap (λ (x : ThePass (Base H R) H). x.base) kept) None gives.batch_is is gives.now;
+            (ap (λ (x : ThePass (Base H R) H). x.log) kept) (ap (λ (x : ThePass (Base H R) H). x.base) kept) None gave is goes;
       }
-      of (Some batch) is gives = record {
+      of (Some batch) is gave = record {
         collects = before.collects;
         is_open = goes_on bytes s.things s.layout name old new before.is_open name_is keeps_name
-            (ap (λ (x : ThePass (Base H R) H). x.log) kept) (ap (λ (x : ThePass (Base H R) H). x.base) kept) (Some batch) gives.batch_is
-            is gives.now;
+            (ap (λ (x : ThePass (Base H R) H). x.log) kept) (ap (λ (x : ThePass (Base H R) H). x.base) kept) (Some batch) gave is goes;
       }
