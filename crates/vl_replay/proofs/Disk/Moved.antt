@@ -70,17 +70,17 @@ module _ {D H R : Type 0} (g : Ghosts D) (bytes : H → Option (List ℕ)) (befo
   abbrev l : Layout
   l = s.store.layout
 
-  abbrev r : Ruling MoveAnswer
+  abbrev pub r : Ruling MoveAnswer
   r = relocate_ruling l h p batch
 
-  abbrev moving : Step
+  abbrev pub moving : Step
   moving = moves.moving bytes (g.told old) (g.told new) before after os s stands name p batch there
 
   keeps : KeepsLogs l r.layout
   keeps = keeps_logs l h p batch
 
   -- the step leaves what the ruling leaves
-  abbrev LeavesAs : Step → Type 0
+  abbrev pub LeavesAs : Step → Type 0
   LeavesAs x = (x.state.layout ≡ r.layout) × (x.state.commits ≡ s.store.commits) × (x.calls ≡ r.calls)
 
   refused : (a : MoveAnswer) → a ≡ r.answer → IsRefusal l h a → LeavesAs moving
@@ -96,7 +96,7 @@ module _ {D H R : Type 0} (g : Ghosts D) (bytes : H → Option (List ℕ)) (befo
   leaves_by (move.Exhausted c) same = refused (move.Exhausted c) same tt
   leaves_by (move.Full long frame) same = refused (move.Full long frame) same tt
 
-  leaves : LeavesAs moving
+  pub leaves : LeavesAs moving
   leaves = leaves_by r.answer refl
 
   its_history : history_in moving.state.commits ≡ h

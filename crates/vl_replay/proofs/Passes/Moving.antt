@@ -15,7 +15,7 @@ use Rattle.vl_engine.specs.Lent.{Opens}
 use Rattle.vl_engine.specs.Merging.{StandsOpen}
 use Rattle.vl_engine.specs.declared.open.Collecting.{Collecting}
 use Rattle.vl_engine.specs.declared.open.OpenMerge.{OpenMerge}
-use Rattle.vl_layout.specs.Decides.{Answered, Decides, Effects, Otherwise}
+use Rattle.vl_layout.specs.Decides.{Answered, Decides, Effects, Otherwise, Outcome}
 use Rattle.vl_layout.specs.Relocation.{Candidate, Pass, moved_of}
 use Rattle.vl_layout.specs.Ruling.{Ruling, has_no_version, leaving}
 use Rattle.vl_layout.specs.Rulings.Relocate as move
@@ -178,6 +178,25 @@ keeps_logs l h p batch = leaves_so l h (KeepsLogs l)
       next_log = refl;
       next_table = refl;
     }) p batch
+
+-- what is decided of something is decided of what follows from it
+pub decides_weaker : {A : Type 0} (P Q : History → Layout → Type 0) → ((k : History) (m : Layout) → P k m → Q k m) → (h : History) (l : Layout)
+    (ruling : Ruling A) (otherwise : Otherwise) (outcome : Outcome A) (effects : Effects)
+    → Decides P h l ruling otherwise outcome effects → Decides Q h l ruling otherwise outcome effects
+decides_weaker P Q weaker h l ruling otherwise outcome effects d = record {
+  answered = λ a is. ((d.answered a is).0, weaker _ _ (d.answered a is).1);
+  did = d.did;
+  no_memory = λ is. (weaker _ _ (d.no_memory is).0, (d.no_memory is).1);
+  failed = λ name is. ((d.failed name is).0, weaker _ _ (d.failed name is).1);
+  damaged = λ name place is. (weaker _ _ (d.damaged name place is).0, (d.damaged name place is).1);
+}
+
+-- where a batch waits its name stands for it
+pub waits_there : {H R : Type 0} (bytes : H → Option (List ℕ)) (core : Core H) (collecting : Collecting) (s : things.State) (name : Name)
+    (going : Passing (Base H R) H) (passes : Passes bytes core collecting (Some going) s.things s.layout) → name ≡ going.name
+    → (batch : List Candidate) → going.batch ≡ Some batch → thing_of s name ≡ Some (APass passes.is_open.pass (Some batch))
+waits_there bytes core collecting s name going passes name_is batch waits =
+    ap (thing_in s.things) name_is ∙ passes.is_open.there ∙ ap (λ (b : Option (List Candidate)). Some (APass passes.is_open.pass b)) waits
 
 -- ---- steps
 
