@@ -15,10 +15,9 @@ use Rattle.vl_replay.specs.laws.Growing.{begin_keeps, get_at_keeps, get_keeps, s
 use Rattle.vl_script.specs.declared.line.Line.{Line}
 use Rattle.vl_script.specs.declared.line.Line.TheVariants as lines
 use Rattle.vl_replay.proofs.Disk.Carried.{quiet_carries}
-use Rattle.vl_replay.proofs.Merges.Keeping.{commit_keeps_merges, flush_keeps_merges, get_at_keeps_merges}
-use Rattle.vl_replay.proofs.Merges.Keeping.{get_keeps_merges, keep_keeps_merges, rotate_keeps_merges}
-use Rattle.vl_replay.proofs.Merges.Keeping.{scan_keeps_merges, transaction_keeps_merges, view_keeps_merges}
-use Rattle.vl_replay.proofs.Merges.Keeping.{write_keeps_merges}
+use Rattle.vl_replay.proofs.Merges.Keeping.{commit_keeps_work, flush_keeps_merges, flush_keeps_passes, get_at_keeps_work}
+use Rattle.vl_replay.proofs.Merges.Keeping.{get_keeps_work, keep_keeps_work, merges_kept, rotate_keeps_merges, rotate_keeps_passes}
+use Rattle.vl_replay.proofs.Merges.Keeping.{scan_keeps_work, transaction_keeps_work, view_keeps_work, write_keeps_work}
 use Rattle.vl_replay.proofs.Merges.Handing.{can_answered, can_same}
 use Rattle.vl_replay.proofs.Merges.Waiting.{merges_behind, on_ok_of}
 use Rattle.vl_replay.proofs.Disk.Halting.{not_by_disk}
@@ -28,9 +27,9 @@ use Rattle.vl_replay.proofs.replayer.lines.carry_out.Goals as goal
 
 pub returns-in-Begin-clause-makes : goal.returns-in-Begin-clause-makes
 returns-in-Begin-clause-makes g c s stands =
-    subst (λ (line : Line). MakesStep g.D.Held.HeldFile.bytes (g.D.Watched.told c.begin.new.served.engine.disk)
-    c.begin.new.served.engine.core
-    c.begin.new.served.opens.items s (step_to s line) c.begin.result)
+    subst (λ (line : Line). MakesStep g.D.Held.HeldFile.bytes (g.D.Watched.told c.begin.new.self.engine.disk)
+    c.begin.new.self.engine.core
+    c.begin.new.self.opens.items s (step_to s line) c.begin.result)
     (sym c.in-Begin.is) (c.begin.ensures.makes s stands)
 
 pub returns-in-Begin-clause-sound : goal.returns-in-Begin-clause-sound
@@ -49,20 +48,20 @@ returns-in-Begin-clause-cause g c = no_cause _ _ _ (ap (λ disk. g.D.Watched.fau
 pub returns-in-Begin-clause-carries : goal.returns-in-Begin-clause-carries
 returns-in-Begin-clause-carries g c s stands =
     subst (λ (line : Line). CarriesOut g.D.Watched IsStored Shown IsStopped c.args.served.now.engine.disk
-    c.begin.new.served.engine.disk s (state_after s line) c.begin.result) (sym c.in-Begin.is)
+    c.begin.new.self.engine.disk s (state_after s line) c.begin.result) (sym c.in-Begin.is)
     (quiet_carries g.D.Watched (record { only_now = g.met.D.Disk.only_now; counts_now = g.met.D.Disk.counts_now })
     g.D.Held.HeldFile.bytes
-    (g.D.Watched.told c.begin.new.served.engine.disk) c.begin.new.served.engine.core c.begin.new.served.opens.items s
+    (g.D.Watched.told c.begin.new.self.engine.disk) c.begin.new.self.engine.core c.begin.new.self.opens.items s
     (step_to s (lines.Begin c.in-Begin.name))
     (begin_keeps s.store c.in-Begin.name a_transaction (thing_of s.store c.in-Begin.name)) c.begin.result
     (c.begin.ensures.makes s stands) (not_by_disk c.begin.result c.begin.ensures.fails) c.args.served.now.engine.disk
-    c.begin.new.served.engine.disk
+    c.begin.new.self.engine.disk
     c.begin.ensures.disk)
 
 pub returns-in-View-clause-makes : goal.returns-in-View-clause-makes
 returns-in-View-clause-makes g c s stands =
-    subst (λ (line : Line). MakesStep g.D.Held.HeldFile.bytes (g.D.Watched.told c.view.new.served.engine.disk)
-    c.view.new.served.engine.core c.view.new.served.opens.items
+    subst (λ (line : Line). MakesStep g.D.Held.HeldFile.bytes (g.D.Watched.told c.view.new.self.engine.disk)
+    c.view.new.self.engine.core c.view.new.self.opens.items
     s (step_to s line) c.view.result)
     (sym c.in-View.is) (c.view.ensures.makes s stands)
 
@@ -82,14 +81,14 @@ returns-in-View-clause-cause g c = no_cause _ _ _ (ap (λ disk. g.D.Watched.faul
 pub returns-in-View-clause-carries : goal.returns-in-View-clause-carries
 returns-in-View-clause-carries g c s stands =
     subst (λ (line : Line). CarriesOut g.D.Watched IsStored Shown IsStopped c.args.served.now.engine.disk
-    c.view.new.served.engine.disk s (state_after s line) c.view.result) (sym c.in-View.is)
+    c.view.new.self.engine.disk s (state_after s line) c.view.result) (sym c.in-View.is)
     (quiet_carries g.D.Watched (record { only_now = g.met.D.Disk.only_now; counts_now = g.met.D.Disk.counts_now })
     g.D.Held.HeldFile.bytes
-    (g.D.Watched.told c.view.new.served.engine.disk) c.view.new.served.engine.core c.view.new.served.opens.items s
+    (g.D.Watched.told c.view.new.self.engine.disk) c.view.new.self.engine.core c.view.new.self.opens.items s
     (step_to s (lines.View c.in-View.name)) (begin_keeps
     s.store c.in-View.name a_view (thing_of s.store c.in-View.name)) c.view.result
     (c.view.ensures.makes s stands) (not_by_disk c.view.result c.view.ensures.fails) c.args.served.now.engine.disk
-    c.view.new.served.engine.disk c.view.ensures.disk)
+    c.view.new.self.engine.disk c.view.ensures.disk)
 
 pub returns-in-Get-clause-makes : goal.returns-in-Get-clause-makes
 returns-in-Get-clause-makes g c s stands =
@@ -493,34 +492,34 @@ returns-in-Keep-clause-named g c s file stands is =
 pub returns-in-Begin-clause-merges : goal.returns-in-Begin-clause-merges
 returns-in-Begin-clause-merges g c s stands =
     subst (λ (line : Line). OnOk c.begin.result
-    (MergesIn g.D.Writer.Writer g.D.Held.HeldFile.bytes c.begin.new.served.engine.merging c.args.planned.now
+    (MergesIn g.D.Writer.Writer g.D.Held.HeldFile.bytes c.begin.new.self.engine.merging c.args.planned.now
     (step_to s line).state)) (sym c.in-Begin.is)
     (on_ok_of c.begin.result _
     (merges_behind g.D.Writer.Writer g.D.Held.HeldFile.bytes c.args.served.now.engine.merging
-    c.begin.new.served.engine.merging c.args.planned.now c.args.planned.now
+    c.begin.new.self.engine.merging c.args.planned.now c.args.planned.now
     c.begin.ensures.merging refl s.store (step_to s (lines.Begin c.in-Begin.name))
-    (transaction_keeps_merges s.store c.in-Begin.name) stands.merges))
+    (merges_kept s.store _ (transaction_keeps_work s.store c.in-Begin.name)) stands.merges))
 
 pub returns-in-Begin-clause-handed : goal.returns-in-Begin-clause-handed
 returns-in-Begin-clause-handed g c =
-    can_same g.D.Watched g.D.Writer.Writer c.args.served.now.engine.disk c.begin.new.served.engine.disk
-    c.args.served.now.engine.merging c.begin.new.served.engine.merging c.args.planned.now
+    can_same g.D.Watched g.D.Writer.Writer c.args.served.now.engine.disk c.begin.new.self.engine.disk
+    c.args.served.now.engine.merging c.begin.new.self.engine.merging c.args.planned.now
     c.begin.ensures.merging c.begin.result c.begin.ensures.disk c.requires.handed
 
 pub returns-in-View-clause-merges : goal.returns-in-View-clause-merges
 returns-in-View-clause-merges g c s stands =
     subst (λ (line : Line). OnOk c.view.result
-    (MergesIn g.D.Writer.Writer g.D.Held.HeldFile.bytes c.view.new.served.engine.merging c.args.planned.now
+    (MergesIn g.D.Writer.Writer g.D.Held.HeldFile.bytes c.view.new.self.engine.merging c.args.planned.now
     (step_to s line).state)) (sym c.in-View.is)
     (on_ok_of c.view.result _
     (merges_behind g.D.Writer.Writer g.D.Held.HeldFile.bytes c.args.served.now.engine.merging
-    c.view.new.served.engine.merging c.args.planned.now c.args.planned.now
-    c.view.ensures.merging refl s.store (step_to s (lines.View c.in-View.name)) (view_keeps_merges s.store c.in-View.name) stands.merges))
+    c.view.new.self.engine.merging c.args.planned.now c.args.planned.now
+    c.view.ensures.merging refl s.store (step_to s (lines.View c.in-View.name)) (merges_kept s.store _ (view_keeps_work s.store c.in-View.name)) stands.merges))
 
 pub returns-in-View-clause-handed : goal.returns-in-View-clause-handed
 returns-in-View-clause-handed g c =
-    can_same g.D.Watched g.D.Writer.Writer c.args.served.now.engine.disk c.view.new.served.engine.disk
-    c.args.served.now.engine.merging c.view.new.served.engine.merging c.args.planned.now
+    can_same g.D.Watched g.D.Writer.Writer c.args.served.now.engine.disk c.view.new.self.engine.disk
+    c.args.served.now.engine.merging c.view.new.self.engine.merging c.args.planned.now
     c.view.ensures.merging c.view.result c.view.ensures.disk c.requires.handed
 
 pub returns-in-Get-clause-merges : goal.returns-in-Get-clause-merges
@@ -532,7 +531,7 @@ returns-in-Get-clause-merges g c s stands =
     (merges_behind g.D.Writer.Writer g.D.Held.HeldFile.bytes c.args.served.now.engine.merging
     c.read.new.self.engine.merging c.args.planned.now c.args.planned.now
     (ap (λ e. e.merging) c.read.ensures.engine) refl s.store (step_to s (lines.Get c.in-Get.name c.in-Get.key))
-    (get_keeps_merges s.store c.in-Get.name answer_of c.in-Get.key (thing_of s.store c.in-Get.name) refl) stands.merges))
+    (merges_kept s.store _ (get_keeps_work s.store c.in-Get.name answer_of c.in-Get.key (thing_of s.store c.in-Get.name) refl)) stands.merges))
 
 pub returns-in-Get-clause-handed : goal.returns-in-Get-clause-handed
 returns-in-Get-clause-handed g c =
@@ -550,8 +549,8 @@ returns-in-GetTagged-clause-merges g c s stands =
     c.read-in-GetTagged.new.self.engine.merging c.args.planned.now c.args.planned.now
     (ap (λ e. e.merging) c.read-in-GetTagged.ensures.engine) refl s.store
     (step_to s (lines.GetTagged c.in-GetTagged.name c.in-GetTagged.key))
-    (get_keeps_merges s.store c.in-GetTagged.name answer_with_tag c.in-GetTagged.key
-    (thing_of s.store c.in-GetTagged.name) refl) stands.merges))
+    (merges_kept s.store _ (get_keeps_work s.store c.in-GetTagged.name answer_with_tag c.in-GetTagged.key
+    (thing_of s.store c.in-GetTagged.name) refl)) stands.merges))
 
 pub returns-in-GetTagged-clause-handed : goal.returns-in-GetTagged-clause-handed
 returns-in-GetTagged-clause-handed g c =
@@ -570,7 +569,7 @@ returns-in-GetAt-clause-merges g c s stands =
     c.get_at.new.self.engine.merging c.args.planned.now c.args.planned.now
     (ap (λ e. e.merging) c.get_at.ensures.engine) refl s.store
     (step_to s (lines.GetAt c.in-GetAt.name c.in-GetAt.key c.in-GetAt.number))
-    (get_at_keeps_merges s.store c.in-GetAt.name c.in-GetAt.key c.in-GetAt.number (thing_of s.store c.in-GetAt.name)) stands.merges))
+    (merges_kept s.store _ (get_at_keeps_work s.store c.in-GetAt.name c.in-GetAt.key c.in-GetAt.number (thing_of s.store c.in-GetAt.name))) stands.merges))
 
 pub returns-in-GetAt-clause-handed : goal.returns-in-GetAt-clause-handed
 returns-in-GetAt-clause-handed g c =
@@ -588,8 +587,8 @@ returns-in-Set-clause-merges g c s stands =
     c.write.new.self.engine.merging c.args.planned.now c.args.planned.now
     (ap (λ e. e.merging) c.write.ensures.engine) refl s.store
     (step_to s (lines.Set c.in-Set.name c.in-Set.key c.in-Set.value))
-    (write_keeps_merges s.store c.in-Set.name c.in-Set.key (changes.Set (untagged c.in-Set.value))
-    (thing_of s.store c.in-Set.name) refl) stands.merges))
+    (merges_kept s.store _ (write_keeps_work s.store c.in-Set.name c.in-Set.key (changes.Set (untagged c.in-Set.value))
+    (thing_of s.store c.in-Set.name) refl)) stands.merges))
 
 pub returns-in-Set-clause-handed : goal.returns-in-Set-clause-handed
 returns-in-Set-clause-handed g c =
@@ -607,8 +606,8 @@ returns-in-SetTagged-clause-merges g c s stands =
     c.write-in-SetTagged.new.self.engine.merging c.args.planned.now c.args.planned.now
     (ap (λ e. e.merging) c.write-in-SetTagged.ensures.engine) refl s.store
     (step_to s (lines.SetTagged c.in-SetTagged.name c.in-SetTagged.key c.in-SetTagged.value c.in-SetTagged.tag))
-    (write_keeps_merges s.store c.in-SetTagged.name c.in-SetTagged.key
-    (changes.Set (tagged c.in-SetTagged.value c.in-SetTagged.tag)) (thing_of s.store c.in-SetTagged.name) refl) stands.merges))
+    (merges_kept s.store _ (write_keeps_work s.store c.in-SetTagged.name c.in-SetTagged.key
+    (changes.Set (tagged c.in-SetTagged.value c.in-SetTagged.tag)) (thing_of s.store c.in-SetTagged.name) refl)) stands.merges))
 
 pub returns-in-SetTagged-clause-handed : goal.returns-in-SetTagged-clause-handed
 returns-in-SetTagged-clause-handed g c =
@@ -627,7 +626,7 @@ returns-in-Delete-clause-merges g c s stands =
     c.write-in-Delete.new.self.engine.merging c.args.planned.now c.args.planned.now
     (ap (λ e. e.merging) c.write-in-Delete.ensures.engine) refl s.store
     (step_to s (lines.Delete c.in-Delete.name c.in-Delete.key))
-    (write_keeps_merges s.store c.in-Delete.name c.in-Delete.key changes.Delete (thing_of s.store c.in-Delete.name) refl) stands.merges))
+    (merges_kept s.store _ (write_keeps_work s.store c.in-Delete.name c.in-Delete.key changes.Delete (thing_of s.store c.in-Delete.name) refl)) stands.merges))
 
 pub returns-in-Delete-clause-handed : goal.returns-in-Delete-clause-handed
 returns-in-Delete-clause-handed g c =
@@ -646,8 +645,8 @@ returns-in-Scan-clause-merges g c s stands =
     c.scan.new.self.engine.merging c.args.planned.now c.args.planned.now
     (ap (λ e. e.merging) c.scan.ensures.engine) refl s.store
     (step_to s (lines.Scan c.in-Scan.name c.in-Scan.low c.in-Scan.high c.in-Scan.limit c.in-Scan.way))
-    (scan_keeps_merges s.store c.in-Scan.way c.in-Scan.name c.in-Scan.low c.in-Scan.high c.in-Scan.limit
-    (thing_of s.store c.in-Scan.name) refl) stands.merges))
+    (merges_kept s.store _ (scan_keeps_work s.store c.in-Scan.way c.in-Scan.name c.in-Scan.low c.in-Scan.high c.in-Scan.limit
+    (thing_of s.store c.in-Scan.name) refl)) stands.merges))
 
 pub returns-in-Scan-clause-handed : goal.returns-in-Scan-clause-handed
 returns-in-Scan-clause-handed g c =
@@ -664,7 +663,7 @@ returns-in-Commit-clause-merges g c s stands =
     (merges_behind g.D.Writer.Writer g.D.Held.HeldFile.bytes c.args.served.now.engine.merging
     c.commit.new.self.engine.merging c.args.planned.now c.args.planned.now
     c.commit.ensures.merging refl s.store (step_to s (lines.Commit c.in-Commit.name))
-    (commit_keeps_merges s.store c.in-Commit.name (thing_of s.store c.in-Commit.name) refl) stands.merges))
+    (merges_kept s.store _ (commit_keeps_work s.store c.in-Commit.name (thing_of s.store c.in-Commit.name) refl)) stands.merges))
 
 pub returns-in-Commit-clause-handed : goal.returns-in-Commit-clause-handed
 returns-in-Commit-clause-handed g c =
@@ -713,7 +712,7 @@ returns-in-Keep-clause-merges g c s stands =
     (merges_behind g.D.Writer.Writer g.D.Held.HeldFile.bytes c.args.served.now.engine.merging
     c.keep.new.self.engine.merging c.args.planned.now c.args.planned.now
     c.keep.ensures.merging refl s.store (step_to s (lines.Keep c.in-Keep.versions))
-    (keep_keeps_merges s.store c.in-Keep.versions) stands.merges))
+    (merges_kept s.store _ (keep_keeps_work s.store c.in-Keep.versions)) stands.merges))
 
 pub returns-in-Keep-clause-handed : goal.returns-in-Keep-clause-handed
 returns-in-Keep-clause-handed g c =
