@@ -1,8 +1,11 @@
 -- What a batch line makes of a state, by what the pass is said to have given.
-use Rattle.std.proofs.Common.{◌≡◌, ◌⊎◌, ⊎_elim, ℕ, List, [], ◌∷◌, length, refl, ap, sym, ◌∙◌, subst}
+use Rattle.std.proofs.Common.{◌≡◌, ◌⊎◌, ⊎_elim, ℕ, ◌≤◌, ◌+◌, arith, List, [], ◌∷◌, length, refl, ap, sym, ◌∙◌, subst}
 use Rattle.std.specs.Prelude.{Option, None, Some, Ok}
 use Rattle.std.specs.Option.{ForSome}
-use Rattle.vl_collect.specs.Passing.{Gives}
+use Rattle.std.specs.List.{All, AllByRecursion}
+use Rattle.std.proofs.lemmas.List.Elements.{recursion_from_All}
+use Rattle.vl_collect.specs.Passing.{AreLeft, Gives}
+use Rattle.vl_collect.specs.laws.StandingLaws.{given}
 use Rattle.vl_collect.specs.declared.pass.Pass.{Pass as ThePass}
 use Rattle.vl_core.specs.Lasts.{Lasts}
 use Rattle.vl_core.specs.MoveFacts.{AreThere}
@@ -12,6 +15,8 @@ use Rattle.vl_disk.specs.DiskState.{DiskState}
 use Rattle.vl_engine.specs.Collecting.{Collects, FitsLooks, GoesOver}
 use Rattle.vl_engine.specs.declared.open.Collecting.{Collecting}
 use Rattle.vl_layout.specs.Relocation.{Candidate, Pass, next_batch}
+use Rattle.vl_layout.specs.Shown.{IsThere}
+use Rattle.vl_layout.specs.Shows.{AreUpTo}
 use Rattle.vl_layout.specs.Store.Dispatch.{batch_by, found_by}
 use Rattle.vl_layout.specs.Store.Lines as store_lines
 use Rattle.vl_layout.specs.Store.Lines.{Name}
@@ -19,6 +24,8 @@ use Rattle.vl_layout.specs.Store.Things as things
 use Rattle.vl_layout.specs.Store.Things.{AJob, APass, ATransaction, AView, Step, Thing, named, only, thing_in, thing_of, with_thing}
 use Rattle.vl_layout.specs.declared.layout.Layout.{Layout}
 use Rattle.vl_model.specs.History.{History}
+use Rattle.vl_model.specs.declared.entry.Entry.{Entry}
+use Rattle.vl_seglog.specs.Stored.{stored_at}
 use Rattle.vl_seglog.specs.declared.sealed.SealedLog.{SealedLog}
 use Rattle.vl_version.specs.Bases as bases
 use Rattle.vl_version.specs.Bases.{HasSources}
@@ -182,3 +189,32 @@ module _ {H R : Type 0} (bytes : H → Option (List ℕ)) (told : Option DiskSta
             batch = are;
           };
         }
+
+-- ---- where the records of a batch were found
+
+up_to_more : (n m : ℕ) → n ≤ m → (es : List Entry) → AreUpTo n es → AreUpTo m es
+up_to_more n m le [] all = tt
+up_to_more n m le (e ∷ es) all = let first = all.0 in (omega (arith, le, first), up_to_more n m le es all.1)
+
+-- some number is above all of them
+bounded : (es : List Entry) → (n : ℕ) × AreUpTo n es
+bounded [] = (0, tt)
+bounded (e ∷ es) = let (n, all) = bounded es in
+    (n + e.version, (omega arith, up_to_more n (n + e.version) (omega arith) es all))
+
+all_there : (P : Candidate → Type 0) (batch : List Candidate) → All P batch → AllByRecursion P batch
+all_there P batch all = recursion_from_All P batch all
+
+-- nothing else stands there in its log
+pub batch_there : {H R : Type 0} (bytes : H → Option (List ℕ)) (pass : ThePass (Base H R) H) (p : Pass) → GoesOver bytes pass p
+    → (batch : List Candidate) → (next_batch p).0 ≡ Some batch → AreThere bytes pass.log batch
+batch_there bytes pass p goes batch is = λ told tells.
+    let (last, up_to) = bounded p.base in
+    let left = subst (λ (bs : List ℕ). AreLeft pass.log.format pass.log.number bs pass.at p.left) (some_same goes.told told (sym goes.tells ∙ tells))
+        goes.left in
+    subst (λ (n : ℕ). AllByRecursion (IsThere (stored_at pass.log.format told) n) batch) (sym goes.segment)
+    (all_there (IsThere (stored_at pass.log.format told) p.segment) batch
+    (given pass.log.format pass.log.number told pass.at p last batch left up_to is).there)
+  where
+    some_same : (a b : List ℕ) → Some a ≡ Some b → a ≡ b
+    some_same a b e = cc

@@ -1,5 +1,5 @@
 //! Lines that have to do with where space comes back from: statistics, and those of passes.
-ghost use Rattle.std.specs.Prelude.{◌≡◌, Err, false, IfOk, map, None, Ok, OnOk};
+ghost use Rattle.std.specs.Prelude.{◌≡◌, Err, false, IfOk, map, None, Ok, OnOk, Option};
 ghost use Rattle.std.specs.Option.{option_map_or};
 ghost use Rattle.std.specs.Str.{bytes_eq};
 ghost use Rattle.vl_core.specs.Carries.{StaysUntold};
