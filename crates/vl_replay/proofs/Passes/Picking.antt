@@ -164,6 +164,7 @@ module _ {H R : Type 0} (bytes : H → Option (List ℕ)) (told : Option DiskSta
                 (sym (thing_beside name other apart (APass picked.of None) s.store.things) ∙ is)))
                 (same_or_not other name);
             lasts = subst (λ (q : Ruling PickAnswer). Lasts bytes pass.log q.layout) ruled picked.lasts;
+            whole = picked.whole;
             batch = λ batch e. absurd (none_some batch e);
           };
         })

@@ -123,6 +123,7 @@ module _ {H R : Type 0} (bytes : H → Option (List ℕ)) where
     there = keeps.names.still _ _ _ going.there;
     only = λ name p batch is. going.only name p batch (keeps.names.ours name p batch is);
     lasts = lasts passing.pass.log going.lasts;
+    whole = going.whole;
     batch = going.batch;
   }
 
