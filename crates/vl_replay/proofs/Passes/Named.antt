@@ -20,7 +20,7 @@ IsNoPass o = (p : Pass) (batch : Option (List Candidate)) → o ≡ Some (APass 
 none_some : {T : Type 0} (x : T) → None ≡ Some x → ⊥
 none_some x e = cc
 
-pass_no_job : (p : Pass) (batch : Option (List Candidate)) → IsNoJob (Some (APass p batch))
+pub pass_no_job : (p : Pass) (batch : Option (List Candidate)) → IsNoJob (Some (APass p batch))
 pass_no_job p batch job made e = cc
 
 job_no_pass : (job : Job) (made : Made) → IsNoPass (Some (AJob job made))
