@@ -132,7 +132,7 @@ returns-in-Err-InvalidRequest-clause-makes g c s stands bare =
       held = λ openable running. subst (λ (k : Core _). IsHeld k.back now h l) (sym did.core) (serves.held openable);
     } in
     refused_makes bytes now old.core new.core os s serves back name bare percent rulings.InvalidRequest store_lines.Invalid refl same
-    _ refl there
+    answers.Invalid refl there
 
 pub returns-in-Err-InvalidRequest-clause-passes : goal.returns-in-Err-InvalidRequest-clause-passes
 returns-in-Err-InvalidRequest-clause-passes g c s stands bare =
@@ -185,7 +185,7 @@ returns-in-Err-InvalidRequest-clause-carries g c s stands bare =
     } in
     quiet_carries g.D.Watched (record { only_now = g.met.D.Disk.only_now; counts_now = g.met.D.Disk.counts_now }) bytes now new.core os s (pick_as s.store name percent (thing_of s.store name))
     (refused_keeps bytes now old.core new.core os s serves back name bare percent rulings.InvalidRequest store_lines.Invalid refl same) _
-    (refused_makes bytes now old.core new.core os s serves back name bare percent rulings.InvalidRequest store_lines.Invalid refl same _ refl there)
+    (refused_makes bytes now old.core new.core os s serves back name bare percent rulings.InvalidRequest store_lines.Invalid refl same answers.Invalid refl there)
     (λ halts. halts) old.disk new.disk did.disk
 
 pub returns-in-Err-Rejected-clause-makes : goal.returns-in-Err-Rejected-clause-makes
@@ -213,7 +213,7 @@ returns-in-Err-Rejected-clause-makes g c s stands bare =
       held = λ openable running. subst (λ (k : Core _). IsHeld k.back now h l) (sym did.core) (serves.held openable);
     } in
     refused_makes bytes now old.core new.core os s serves back name bare percent (rulings.Rejected c.in-Err-Rejected.segment) (store_lines.Rejected c.in-Err-Rejected.segment) refl same
-    _ (ap store_lines.Rejected (sym c.in-Err-Rejected.segment-is)) there
+    (answers.Rejected _) (ap store_lines.Rejected c.in-Err-Rejected.segment-is) there
 
 pub returns-in-Err-Rejected-clause-passes : goal.returns-in-Err-Rejected-clause-passes
 returns-in-Err-Rejected-clause-passes g c s stands bare =
@@ -266,7 +266,7 @@ returns-in-Err-Rejected-clause-carries g c s stands bare =
     } in
     quiet_carries g.D.Watched (record { only_now = g.met.D.Disk.only_now; counts_now = g.met.D.Disk.counts_now }) bytes now new.core os s (pick_as s.store name percent (thing_of s.store name))
     (refused_keeps bytes now old.core new.core os s serves back name bare percent (rulings.Rejected c.in-Err-Rejected.segment) (store_lines.Rejected c.in-Err-Rejected.segment) refl same) _
-    (refused_makes bytes now old.core new.core os s serves back name bare percent (rulings.Rejected c.in-Err-Rejected.segment) (store_lines.Rejected c.in-Err-Rejected.segment) refl same _ (ap store_lines.Rejected (sym c.in-Err-Rejected.segment-is)) there)
+    (refused_makes bytes now old.core new.core os s serves back name bare percent (rulings.Rejected c.in-Err-Rejected.segment) (store_lines.Rejected c.in-Err-Rejected.segment) refl same (answers.Rejected _) (ap store_lines.Rejected c.in-Err-Rejected.segment-is) there)
     (λ halts. halts) old.disk new.disk did.disk
 
 pub returns-in-Err-NoRewrite-clause-makes : goal.returns-in-Err-NoRewrite-clause-makes
@@ -294,7 +294,7 @@ returns-in-Err-NoRewrite-clause-makes g c s stands bare =
       held = λ openable running. subst (λ (k : Core _). IsHeld k.back now h l) (sym did.core) (serves.held openable);
     } in
     refused_makes bytes now old.core new.core os s serves back name bare percent rulings.NoRewrite store_lines.NoRewrite refl same
-    _ refl there
+    answers.NoRewrite refl there
 
 pub returns-in-Err-NoRewrite-clause-passes : goal.returns-in-Err-NoRewrite-clause-passes
 returns-in-Err-NoRewrite-clause-passes g c s stands bare =
@@ -347,7 +347,7 @@ returns-in-Err-NoRewrite-clause-carries g c s stands bare =
     } in
     quiet_carries g.D.Watched (record { only_now = g.met.D.Disk.only_now; counts_now = g.met.D.Disk.counts_now }) bytes now new.core os s (pick_as s.store name percent (thing_of s.store name))
     (refused_keeps bytes now old.core new.core os s serves back name bare percent rulings.NoRewrite store_lines.NoRewrite refl same) _
-    (refused_makes bytes now old.core new.core os s serves back name bare percent rulings.NoRewrite store_lines.NoRewrite refl same _ refl there)
+    (refused_makes bytes now old.core new.core os s serves back name bare percent rulings.NoRewrite store_lines.NoRewrite refl same answers.NoRewrite refl there)
     (λ halts. halts) old.disk new.disk did.disk
 
 pub returns-clause-carries : goal.returns-clause-carries
