@@ -1,6 +1,6 @@
 -- The lines of passes.
 pub mod Ending
-mod Named
+pub mod Named
 pub mod Picking
 pub mod Standing
 pub mod Used
