@@ -3,4 +3,5 @@ pub mod Ending
 pub mod Named
 pub mod Picking
 pub mod Standing
+pub mod Stepping
 pub mod Used
