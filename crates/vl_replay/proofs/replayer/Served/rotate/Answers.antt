@@ -133,4 +133,4 @@ returns-clause-collects g c s stands collects =
     let fits = stands.fits.running stands.running in
     subst (λ (x : Result Answer Halt). OnOk x (Collects new.core new.collecting (rotate_ruling l h).layout)) (sym c.told.ensures)
     (step_leaves (λ _ m. Collects new.core new.collecting m) h l (rotate_ruling l h) _ _ c.rotate.result
-    (c.rotate.ensures.collects h l stands.engine collects))
+    (c.rotate.ensures.collects h l stands.engine (λ running. fits.numbers) collects))
