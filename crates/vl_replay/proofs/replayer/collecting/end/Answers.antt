@@ -1,19 +1,19 @@
 -- The pass that is open is ended where it has the name; else what waits or reads is.
-use Rattle.std.proofs.Common.{ℕ, ◌≤◌, ap, sym, subst}
+use Rattle.std.proofs.Common.{◌∙◌, ap, sym, subst}
 use Rattle.std.specs.Prelude.{Ok, Option}
 use Rattle.vl_core.specs.MayStep.{Fits}
 use Rattle.vl_core.specs.Represents as engine
 use Rattle.vl_core.specs.Shown.{Shown}
-use Rattle.vl_core.specs.declared.kept.Core.{Core}
 use Rattle.vl_layout.specs.Rulings.EndPass.{without_pass}
 use Rattle.vl_layout.specs.Store.Dispatch.{drop_by}
 use Rattle.vl_layout.specs.Store.Things.{thing_of}
 use Rattle.vl_replay.specs.Durable.{CarriesOut}
-use Rattle.vl_replay.specs.Passing.{Passes, PassesIn}
+use Rattle.vl_replay.specs.Passing.{PassesIn}
 use Rattle.vl_replay.specs.Replaying.{MakesStep, state_by}
 use Rattle.vl_replay.specs.Sequential.{history_of}
 use Rattle.vl_replay.specs.Stored.{IsStopped, IsStored}
 use Rattle.vl_script.specs.declared.answer.Answer.TheVariants as answers
+use Rattle.vl_replay.proofs.Merges.Handing.{can_still}
 use Rattle.vl_replay.proofs.Names.Serving.{represents}
 use Rattle.vl_replay.proofs.Passes.Ending.{drop_passes, end_carries, end_makes, end_merges, end_passes, took_no_pass, took_pass}
 use Rattle.vl_replay.proofs.Passes.Used.{going_as, other_named}
@@ -125,3 +125,8 @@ returns-in-None-clause-passes g c s stands =
     (drop_passes bytes old.core new.core old.collecting new.collecting c.args.passing.now s.store c.args.name
     (other_named bytes s.store.things s.store.layout c.args.name c.args.passing.now stands.passes.is_open other)
     c.end.ensures.logs c.end.ensures.collecting stands.passes)
+
+pub returns-in-Some-clause-handed : goal.returns-in-Some-clause-handed
+returns-in-Some-clause-handed g c = can_still g.D.Watched g.D.Writer.Writer c.args.served.now.engine.disk c.end_pass.new.self.disk
+    c.args.served.now.engine.merging c.end_pass.new.self.merging c.args.planned.now c.end_pass.ensures.merging
+    (λ none. ap (λ (d : _). g.D.Watched.told d) c.end_pass.ensures.disk ∙ none) c.requires
