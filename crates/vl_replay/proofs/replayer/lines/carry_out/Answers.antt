@@ -23,6 +23,8 @@ use Rattle.vl_replay.proofs.Merges.Waiting.{merges_behind, on_ok_of}
 use Rattle.vl_replay.proofs.Disk.Halting.{not_by_disk}
 use Rattle.vl_replay.proofs.Names.Halts.{by_the_reader, damage_is_read, no_cause, not_at, not_by_damage, not_by_read}
 use Rattle.vl_replay.proofs.Names.Halts.{not_by_reader, reader_is_read}
+use Rattle.vl_replay.proofs.Passes.Standing.{passes_behind}
+use Rattle.vl_replay.specs.Passing.{PassesIn}
 use Rattle.vl_replay.proofs.replayer.lines.carry_out.Goals as goal
 
 pub returns-in-Begin-clause-makes : goal.returns-in-Begin-clause-makes
@@ -791,3 +793,134 @@ returns-in-Install-clause-undamaged g c s stands halts = c.install.ensures.sound
 
 pub returns-in-Install-clause-fault : goal.returns-in-Install-clause-fault
 returns-in-Install-clause-fault g c s stands halts = absurd (c.install.ensures.sound s stands (reader_is_read c.install.result halts))
+
+pub returns-in-Begin-clause-passes : goal.returns-in-Begin-clause-passes
+returns-in-Begin-clause-passes g c s stands =
+    subst (λ (line : Line). OnOk c.begin.result
+    (PassesIn g.D.Held.HeldFile.bytes c.begin.new.self.engine.core c.begin.new.self.engine.collecting c.args.passing.now
+    (step_to s line).state)) (sym c.in-Begin.is)
+    (on_ok_of c.begin.result _
+    (passes_behind g.D.Held.HeldFile.bytes c.args.served.now.engine.core c.begin.new.self.engine.core
+    c.args.served.now.engine.collecting c.begin.new.self.engine.collecting c.args.passing.now s.store
+    (step_to s (lines.Begin c.in-Begin.name)) c.begin.ensures.logs c.begin.ensures.collecting
+    (transaction_keeps_work s.store c.in-Begin.name) stands.passes))
+
+pub returns-in-View-clause-passes : goal.returns-in-View-clause-passes
+returns-in-View-clause-passes g c s stands =
+    subst (λ (line : Line). OnOk c.view.result
+    (PassesIn g.D.Held.HeldFile.bytes c.view.new.self.engine.core c.view.new.self.engine.collecting c.args.passing.now
+    (step_to s line).state)) (sym c.in-View.is)
+    (on_ok_of c.view.result _
+    (passes_behind g.D.Held.HeldFile.bytes c.args.served.now.engine.core c.view.new.self.engine.core
+    c.args.served.now.engine.collecting c.view.new.self.engine.collecting c.args.passing.now s.store
+    (step_to s (lines.View c.in-View.name)) c.view.ensures.logs c.view.ensures.collecting
+    (view_keeps_work s.store c.in-View.name) stands.passes))
+
+pub returns-in-Get-clause-passes : goal.returns-in-Get-clause-passes
+returns-in-Get-clause-passes g c s stands =
+    subst (λ (line : Line). OnOk c.read.result
+    (PassesIn g.D.Held.HeldFile.bytes c.read.new.self.engine.core c.read.new.self.engine.collecting c.args.passing.now
+    (step_to s line).state)) (sym c.in-Get.is)
+    (on_ok_of c.read.result _
+    (passes_behind g.D.Held.HeldFile.bytes c.args.served.now.engine.core c.read.new.self.engine.core
+    c.args.served.now.engine.collecting c.read.new.self.engine.collecting c.args.passing.now s.store
+    (step_to s (lines.Get c.in-Get.name c.in-Get.key)) (ap (λ e. e.core.version.behind.logs) c.read.ensures.engine) (ap (λ e. e.collecting) c.read.ensures.engine)
+    (get_keeps_work s.store c.in-Get.name answer_of c.in-Get.key (thing_of s.store c.in-Get.name) refl) stands.passes))
+
+pub returns-in-GetTagged-clause-passes : goal.returns-in-GetTagged-clause-passes
+returns-in-GetTagged-clause-passes g c s stands =
+    subst (λ (line : Line). OnOk c.read-in-GetTagged.result
+    (PassesIn g.D.Held.HeldFile.bytes c.read-in-GetTagged.new.self.engine.core c.read-in-GetTagged.new.self.engine.collecting c.args.passing.now
+    (step_to s line).state)) (sym c.in-GetTagged.is)
+    (on_ok_of c.read-in-GetTagged.result _
+    (passes_behind g.D.Held.HeldFile.bytes c.args.served.now.engine.core c.read-in-GetTagged.new.self.engine.core
+    c.args.served.now.engine.collecting c.read-in-GetTagged.new.self.engine.collecting c.args.passing.now s.store
+    (step_to s (lines.GetTagged c.in-GetTagged.name c.in-GetTagged.key)) (ap (λ e. e.core.version.behind.logs) c.read-in-GetTagged.ensures.engine) (ap (λ e. e.collecting) c.read-in-GetTagged.ensures.engine)
+    (get_keeps_work s.store c.in-GetTagged.name answer_with_tag c.in-GetTagged.key
+    (thing_of s.store c.in-GetTagged.name) refl) stands.passes))
+
+pub returns-in-GetAt-clause-passes : goal.returns-in-GetAt-clause-passes
+returns-in-GetAt-clause-passes g c s stands =
+    subst (λ (line : Line). OnOk c.get_at.result
+    (PassesIn g.D.Held.HeldFile.bytes c.get_at.new.self.engine.core c.get_at.new.self.engine.collecting c.args.passing.now
+    (step_to s line).state)) (sym c.in-GetAt.is)
+    (on_ok_of c.get_at.result _
+    (passes_behind g.D.Held.HeldFile.bytes c.args.served.now.engine.core c.get_at.new.self.engine.core
+    c.args.served.now.engine.collecting c.get_at.new.self.engine.collecting c.args.passing.now s.store
+    (step_to s (lines.GetAt c.in-GetAt.name c.in-GetAt.key c.in-GetAt.number)) (ap (λ e. e.core.version.behind.logs) c.get_at.ensures.engine) (ap (λ e. e.collecting) c.get_at.ensures.engine)
+    (get_at_keeps_work s.store c.in-GetAt.name c.in-GetAt.key c.in-GetAt.number (thing_of s.store c.in-GetAt.name)) stands.passes))
+
+pub returns-in-Set-clause-passes : goal.returns-in-Set-clause-passes
+returns-in-Set-clause-passes g c s stands =
+    subst (λ (line : Line). OnOk c.write.result
+    (PassesIn g.D.Held.HeldFile.bytes c.write.new.self.engine.core c.write.new.self.engine.collecting c.args.passing.now
+    (step_to s line).state)) (sym c.in-Set.is)
+    (on_ok_of c.write.result _
+    (passes_behind g.D.Held.HeldFile.bytes c.args.served.now.engine.core c.write.new.self.engine.core
+    c.args.served.now.engine.collecting c.write.new.self.engine.collecting c.args.passing.now s.store
+    (step_to s (lines.Set c.in-Set.name c.in-Set.key c.in-Set.value)) (ap (λ e. e.core.version.behind.logs) c.write.ensures.engine) (ap (λ e. e.collecting) c.write.ensures.engine)
+    (write_keeps_work s.store c.in-Set.name c.in-Set.key (changes.Set (untagged c.in-Set.value))
+    (thing_of s.store c.in-Set.name) refl) stands.passes))
+
+pub returns-in-SetTagged-clause-passes : goal.returns-in-SetTagged-clause-passes
+returns-in-SetTagged-clause-passes g c s stands =
+    subst (λ (line : Line). OnOk c.write-in-SetTagged.result
+    (PassesIn g.D.Held.HeldFile.bytes c.write-in-SetTagged.new.self.engine.core c.write-in-SetTagged.new.self.engine.collecting c.args.passing.now
+    (step_to s line).state)) (sym c.in-SetTagged.is)
+    (on_ok_of c.write-in-SetTagged.result _
+    (passes_behind g.D.Held.HeldFile.bytes c.args.served.now.engine.core c.write-in-SetTagged.new.self.engine.core
+    c.args.served.now.engine.collecting c.write-in-SetTagged.new.self.engine.collecting c.args.passing.now s.store
+    (step_to s (lines.SetTagged c.in-SetTagged.name c.in-SetTagged.key c.in-SetTagged.value c.in-SetTagged.tag)) (ap (λ e. e.core.version.behind.logs) c.write-in-SetTagged.ensures.engine) (ap (λ e. e.collecting) c.write-in-SetTagged.ensures.engine)
+    (write_keeps_work s.store c.in-SetTagged.name c.in-SetTagged.key
+    (changes.Set (tagged c.in-SetTagged.value c.in-SetTagged.tag)) (thing_of s.store c.in-SetTagged.name) refl) stands.passes))
+
+pub returns-in-Delete-clause-passes : goal.returns-in-Delete-clause-passes
+returns-in-Delete-clause-passes g c s stands =
+    subst (λ (line : Line). OnOk c.write-in-Delete.result
+    (PassesIn g.D.Held.HeldFile.bytes c.write-in-Delete.new.self.engine.core c.write-in-Delete.new.self.engine.collecting c.args.passing.now
+    (step_to s line).state)) (sym c.in-Delete.is)
+    (on_ok_of c.write-in-Delete.result _
+    (passes_behind g.D.Held.HeldFile.bytes c.args.served.now.engine.core c.write-in-Delete.new.self.engine.core
+    c.args.served.now.engine.collecting c.write-in-Delete.new.self.engine.collecting c.args.passing.now s.store
+    (step_to s (lines.Delete c.in-Delete.name c.in-Delete.key)) (ap (λ e. e.core.version.behind.logs) c.write-in-Delete.ensures.engine) (ap (λ e. e.collecting) c.write-in-Delete.ensures.engine)
+    (write_keeps_work s.store c.in-Delete.name c.in-Delete.key changes.Delete (thing_of s.store c.in-Delete.name) refl) stands.passes))
+
+pub returns-in-Scan-clause-passes : goal.returns-in-Scan-clause-passes
+returns-in-Scan-clause-passes g c s stands =
+    subst (λ (line : Line). OnOk c.scan.result
+    (PassesIn g.D.Held.HeldFile.bytes c.scan.new.self.engine.core c.scan.new.self.engine.collecting c.args.passing.now
+    (step_to s line).state)) (sym c.in-Scan.is)
+    (on_ok_of c.scan.result _
+    (passes_behind g.D.Held.HeldFile.bytes c.args.served.now.engine.core c.scan.new.self.engine.core
+    c.args.served.now.engine.collecting c.scan.new.self.engine.collecting c.args.passing.now s.store
+    (step_to s (lines.Scan c.in-Scan.name c.in-Scan.low c.in-Scan.high c.in-Scan.limit c.in-Scan.way)) (ap (λ e. e.core.version.behind.logs) c.scan.ensures.engine) (ap (λ e. e.collecting) c.scan.ensures.engine)
+    (scan_keeps_work s.store c.in-Scan.way c.in-Scan.name c.in-Scan.low c.in-Scan.high c.in-Scan.limit
+    (thing_of s.store c.in-Scan.name) refl) stands.passes))
+
+pub returns-in-Commit-clause-passes : goal.returns-in-Commit-clause-passes
+returns-in-Commit-clause-passes g c s stands =
+    subst (λ (line : Line). OnOk c.commit.result
+    (PassesIn g.D.Held.HeldFile.bytes c.commit.new.self.engine.core c.commit.new.self.engine.collecting c.args.passing.now
+    (step_to s line).state)) (sym c.in-Commit.is)
+    (on_ok_of c.commit.result _
+    (passes_behind g.D.Held.HeldFile.bytes c.args.served.now.engine.core c.commit.new.self.engine.core
+    c.args.served.now.engine.collecting c.commit.new.self.engine.collecting c.args.passing.now s.store
+    (step_to s (lines.Commit c.in-Commit.name)) c.commit.ensures.logs c.commit.ensures.collecting
+    (commit_keeps_work s.store c.in-Commit.name (thing_of s.store c.in-Commit.name) refl) stands.passes))
+
+pub returns-in-Keep-clause-passes : goal.returns-in-Keep-clause-passes
+returns-in-Keep-clause-passes g c s stands =
+    subst (λ (line : Line). OnOk c.keep.result
+    (PassesIn g.D.Held.HeldFile.bytes c.keep.new.self.engine.core c.keep.new.self.engine.collecting c.args.passing.now
+    (step_to s line).state)) (sym c.in-Keep.is)
+    (on_ok_of c.keep.result _
+    (passes_behind g.D.Held.HeldFile.bytes c.args.served.now.engine.core c.keep.new.self.engine.core
+    c.args.served.now.engine.collecting c.keep.new.self.engine.collecting c.args.passing.now s.store
+    (step_to s (lines.Keep c.in-Keep.versions)) c.keep.ensures.logs c.keep.ensures.collecting
+    (keep_keeps_work s.store c.in-Keep.versions) stands.passes))
+
+pub returns-in-Drop-clause-passes : goal.returns-in-Drop-clause-passes
+returns-in-Drop-clause-passes g c s stands =
+    subst (λ (line : Line). PassesIn g.D.Held.HeldFile.bytes c.end.new.served.engine.core c.end.new.served.engine.collecting
+    c.end.new.passing (step_to s line).state) (sym c.in-Drop.is)
+    (c.end.ensures.passes s stands)
