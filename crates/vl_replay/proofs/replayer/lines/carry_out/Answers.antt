@@ -733,66 +733,66 @@ returns-in-Drop-clause-merges g c s stands =
 pub returns-in-Plan-clause-makes : goal.returns-in-Plan-clause-makes
 returns-in-Plan-clause-makes g c s stands =
     subst (λ (line : Line). MakesStep g.D.Held.HeldFile.bytes (g.D.Watched.told c.plan.new.served.engine.disk) c.plan.new.served.engine.core
-    c.plan.new.served.opens.items s (step_to s line) c.plan.result) (sym c.in-Plan.is) (c.plan.ensures.makes s stands)
+    c.plan.new.served.opens.items s (step_to s line) c.plan.result) (sym c.in-Plan.is) (c.plan.ensures.makes s (record { serves = stands.serves; merges = stands.merges }) ?)
 
 pub returns-in-Plan-clause-merges : goal.returns-in-Plan-clause-merges
 returns-in-Plan-clause-merges g c s stands =
     subst (λ (line : Line). OnOk c.plan.result
     (MergesIn g.D.Writer.Writer g.D.Held.HeldFile.bytes c.plan.new.served.engine.merging c.plan.new.planned
     (step_to s line).state)) (sym c.in-Plan.is)
-    (c.plan.ensures.merges s stands)
+    (c.plan.ensures.merges s (record { serves = stands.serves; merges = stands.merges }) ?)
 
 pub returns-in-Plan-clause-carries : goal.returns-in-Plan-clause-carries
 returns-in-Plan-clause-carries g c s stands =
     subst (λ (line : Line). CarriesOut g.D.Watched IsStored Shown IsStopped c.args.served.now.engine.disk
-    c.plan.new.served.engine.disk s (state_after s line) c.plan.result) (sym c.in-Plan.is) (c.plan.ensures.carries s stands)
+    c.plan.new.served.engine.disk s (state_after s line) c.plan.result) (sym c.in-Plan.is) (c.plan.ensures.carries s (record { serves = stands.serves; merges = stands.merges }) ?)
 
 pub returns-in-Plan-clause-named : goal.returns-in-Plan-clause-named
 returns-in-Plan-clause-named g c s file stands is =
     subst (λ (line : Line). FailsAt c.args.served.now.engine.core.back.manifest.number line s file) (sym c.in-Plan.is)
-    (c.plan.ensures.named s file stands is)
+    (c.plan.ensures.named s file (record { serves = stands.serves; merges = stands.merges }) ? is)
 
 pub returns-in-Plan-clause-sound : goal.returns-in-Plan-clause-sound
 returns-in-Plan-clause-sound g c s stands halts =
-    subst (λ (line : Line). ReadsTables line s) (sym c.in-Plan.is) (c.plan.ensures.sound s stands halts)
+    subst (λ (line : Line). ReadsTables line s) (sym c.in-Plan.is) (c.plan.ensures.sound s (record { serves = stands.serves; merges = stands.merges }) ? halts)
 
 pub returns-in-Plan-clause-undamaged : goal.returns-in-Plan-clause-undamaged
-returns-in-Plan-clause-undamaged g c s stands = c.plan.ensures.undamaged s stands
+returns-in-Plan-clause-undamaged g c s stands = c.plan.ensures.undamaged s (record { serves = stands.serves; merges = stands.merges }) ?
 
 pub returns-in-Plan-clause-fault : goal.returns-in-Plan-clause-fault
-returns-in-Plan-clause-fault g c s stands = c.plan.ensures.fault s stands
+returns-in-Plan-clause-fault g c s stands = c.plan.ensures.fault s (record { serves = stands.serves; merges = stands.merges })
 
 pub returns-in-Install-clause-makes : goal.returns-in-Install-clause-makes
 returns-in-Install-clause-makes g c s stands =
     subst (λ (line : Line). MakesStep g.D.Held.HeldFile.bytes (g.D.Watched.told c.install.new.served.engine.disk)
     c.install.new.served.engine.core
-    c.install.new.served.opens.items s (step_to s line) c.install.result) (sym c.in-Install.is) (c.install.ensures.makes s stands)
+    c.install.new.served.opens.items s (step_to s line) c.install.result) (sym c.in-Install.is) (c.install.ensures.makes s (record { serves = stands.serves; merges = stands.merges }))
 
 pub returns-in-Install-clause-merges : goal.returns-in-Install-clause-merges
 returns-in-Install-clause-merges g c s stands =
     subst (λ (line : Line). OnOk c.install.result
     (MergesIn g.D.Writer.Writer g.D.Held.HeldFile.bytes c.install.new.served.engine.merging c.install.new.planned
     (step_to s line).state)) (sym c.in-Install.is)
-    (c.install.ensures.merges s stands)
+    (c.install.ensures.merges s (record { serves = stands.serves; merges = stands.merges }))
 
 pub returns-in-Install-clause-carries : goal.returns-in-Install-clause-carries
 returns-in-Install-clause-carries g c s stands =
     subst (λ (line : Line). CarriesOut g.D.Watched IsStored Shown IsStopped c.args.served.now.engine.disk
-    c.install.new.served.engine.disk s (state_after s line) c.install.result) (sym c.in-Install.is) (c.install.ensures.carries s stands)
+    c.install.new.served.engine.disk s (state_after s line) c.install.result) (sym c.in-Install.is) (c.install.ensures.carries s (record { serves = stands.serves; merges = stands.merges }))
 
 pub returns-in-Install-clause-named : goal.returns-in-Install-clause-named
 returns-in-Install-clause-named g c s file stands is =
     subst (λ (line : Line). FailsAt c.args.served.now.engine.core.back.manifest.number line s file) (sym c.in-Install.is)
-    (c.install.ensures.named s file stands is)
+    (c.install.ensures.named s file (record { serves = stands.serves; merges = stands.merges }) is)
 
 pub returns-in-Install-clause-sound : goal.returns-in-Install-clause-sound
-returns-in-Install-clause-sound g c s stands halts = absurd (c.install.ensures.sound s stands halts)
+returns-in-Install-clause-sound g c s stands halts = absurd (c.install.ensures.sound s (record { serves = stands.serves; merges = stands.merges }) halts)
 
 pub returns-in-Install-clause-undamaged : goal.returns-in-Install-clause-undamaged
-returns-in-Install-clause-undamaged g c s stands halts = c.install.ensures.sound s stands (damage_is_read c.install.result halts)
+returns-in-Install-clause-undamaged g c s stands halts = c.install.ensures.sound s (record { serves = stands.serves; merges = stands.merges }) (damage_is_read c.install.result halts)
 
 pub returns-in-Install-clause-fault : goal.returns-in-Install-clause-fault
-returns-in-Install-clause-fault g c s stands halts = absurd (c.install.ensures.sound s stands (reader_is_read c.install.result halts))
+returns-in-Install-clause-fault g c s stands halts = absurd (c.install.ensures.sound s (record { serves = stands.serves; merges = stands.merges }) (reader_is_read c.install.result halts))
 
 pub returns-in-Begin-clause-passes : goal.returns-in-Begin-clause-passes
 returns-in-Begin-clause-passes g c s stands =
