@@ -9,7 +9,7 @@ use Rattle.vl_model.specs.declared.change.Change.TheVariants as changes
 use Rattle.vl_replay.specs.Durable.{CarriesOut}
 use Rattle.vl_replay.specs.Failing.{FailsAt, ReadsTables}
 use Rattle.vl_replay.specs.Replaying.{MakesStep, MergesIn}
-use Rattle.vl_replay.specs.Sequential.{state_after, step_to}
+use Rattle.vl_replay.specs.Sequential.{history_of, state_after, step_to}
 use Rattle.vl_replay.specs.Stored.{IsStopped, IsStored}
 use Rattle.vl_replay.specs.laws.Growing.{begin_keeps, get_at_keeps, get_keeps, scan_keeps, write_keeps}
 use Rattle.vl_script.specs.declared.line.Line.{Line}
@@ -24,6 +24,8 @@ use Rattle.vl_replay.proofs.Disk.Halting.{not_by_disk}
 use Rattle.vl_replay.proofs.Names.Halts.{by_the_reader, damage_is_read, no_cause, not_at, not_by_damage, not_by_read}
 use Rattle.vl_replay.proofs.Names.Halts.{not_by_reader, reader_is_read}
 use Rattle.vl_replay.proofs.Passes.Standing.{passes_behind}
+use Rattle.vl_replay.proofs.Passes.Stepping.{passes_stepped}
+use Rattle.vl_core.specs.laws.Lasting.{flush_lasts, rotate_lasts}
 use Rattle.vl_replay.specs.Passing.{PassesIn}
 use Rattle.vl_replay.proofs.replayer.lines.carry_out.Goals as goal
 
@@ -924,3 +926,23 @@ returns-in-Drop-clause-passes g c s stands =
     subst (λ (line : Line). PassesIn g.D.Held.HeldFile.bytes c.end.new.served.engine.core c.end.new.served.engine.collecting
     c.end.new.passing (step_to s line).state) (sym c.in-Drop.is)
     (c.end.ensures.passes s stands)
+
+pub returns-in-Rotate-clause-passes : goal.returns-in-Rotate-clause-passes
+returns-in-Rotate-clause-passes g c s stands =
+    let bytes = g.D.Held.HeldFile.bytes in
+    subst (λ (line : Line). OnOk c.rotate.result (PassesIn bytes c.rotate.new.self.engine.core c.rotate.new.self.engine.collecting c.args.passing.now (step_to s line).state))
+    (sym c.in-Rotate.is)
+    (passes_stepped bytes c.args.served.now.engine.core c.rotate.new.self.engine.core c.args.served.now.engine.collecting c.rotate.new.self.engine.collecting
+    c.args.passing.now s.store (step_to s lines.Rotate) c.rotate.result (rotate_keeps_passes s.store)
+    (λ log lasts. rotate_lasts bytes log s.store.layout (history_of s) lasts stands.serves.engine.tidy)
+    (c.rotate.ensures.collects s stands.serves stands.passes.collects) stands.passes)
+
+pub returns-in-Flush-clause-passes : goal.returns-in-Flush-clause-passes
+returns-in-Flush-clause-passes g c s stands =
+    let bytes = g.D.Held.HeldFile.bytes in
+    subst (λ (line : Line). OnOk c.flush.result (PassesIn bytes c.flush.new.self.engine.core c.flush.new.self.engine.collecting c.args.passing.now (step_to s line).state))
+    (sym c.in-Flush.is)
+    (passes_stepped bytes c.args.served.now.engine.core c.flush.new.self.engine.core c.args.served.now.engine.collecting c.flush.new.self.engine.collecting
+    c.args.passing.now s.store (step_to s lines.Flush) c.flush.result (flush_keeps_passes s.store)
+    (λ log lasts. flush_lasts bytes log s.store.layout (history_of s) lasts stands.serves.engine.tidy)
+    (c.flush.ensures.collects s stands.serves stands.passes.collects) stands.passes)
