@@ -1,6 +1,7 @@
 -- The pass that is open: what a script's state has of it, and what its lines come to.
 use Rattle.std.specs.Prelude.{◌≡◌, ℕ, List, Option, None, Some, Result, Ok, Err, is_some, true}
 use Rattle.std.specs.Option.{ForSome}
+use Rattle.vl_collect.specs.Passing.{IsWholeFrom}
 use Rattle.vl_collect.specs.declared.fault.PassFault.{PassFault}
 use Rattle.vl_collect.specs.declared.fault.PassFault.TheVariants as faults
 use Rattle.vl_collect.specs.declared.pass.Pass.{Pass as ThePass}
@@ -50,8 +51,8 @@ NamesNoPass name s = (pass : Pass) (batch : Option (List Candidate)) → thing_i
 -- ---- the pass that is open
 
 -- It is the open one, and goes over what the layout's does. Its name stands for it in the state, with the batch that waits, and no
--- other name stands for a pass. Where the layout has its log yet it is the same log; and where the records of the batch were found
--- nothing but their values stands.
+-- other name stands for a pass. Where the layout has its log yet it is the same log, whose frames reach to its end; and where the records of
+-- the batch were found nothing but their values stands.
 pub record IsPassing {H R : Type 0} (bytes : H → Option (List ℕ)) (passing : Passing (Base H R) H) (ts : List (Name × Thing))
     (l : Layout) : Type 0 where
   pub pass : Pass
@@ -61,6 +62,7 @@ pub record IsPassing {H R : Type 0} (bytes : H → Option (List ℕ)) (passing :
   pub there : thing_in ts passing.name ≡ Some (APass pass passing.batch)
   pub only : (name : Name) (p : Pass) (batch : Option (List Candidate)) → thing_in ts name ≡ Some (APass p batch) → name ≡ passing.name
   pub lasts : Lasts bytes passing.pass.log l
+  pub whole : IsWholeFrom bytes passing.pass.log passing.pass.at.place
   pub batch : ForSome passing.batch (AreThere bytes passing.pass.log)
 
 -- so it is with the one that is open; and where none is, the layout has none, and no name stands for one

@@ -106,12 +106,13 @@ pub record StandsMerging {D Held Reader Writer : Type 0} {watched : _} {held : _
   pub serves : ServesFor g bytes served s
   pub merges : MergesIn writers bytes served.engine.merging planned s.store
 
--- So do a store and the pass that is open.
+-- So do a store and the pass that is open, and what the engine keeps of the open merge is the layout's job.
 pub record StandsPassing {D Held Reader Writer : Type 0} {watched : _} {held : _} {cloned : _} {read : _} {write : _}
     (g : Ghosts D) (bytes : Held → Option (List ℕ))
     (served : Served D Held Reader Writer watched held cloned read write) (passing : Option (Passing (Base Held Reader) Held))
     (s : State) : Type 0 where
   pub serves : ServesFor g bytes served s
+  pub opens : Opens served.engine.merging s.store.layout.job
   pub passes : PassesIn bytes served.engine.core served.engine.collecting passing s.store
 
 -- And so all of them do.

@@ -1,8 +1,10 @@
 -- The open pass behind lines that leave it alone, and what a line makes that changes what a name stands for which doesn't read.
-use Rattle.std.proofs.Common.{◌≡◌, ◌⊎◌, ⊎_elim, ℕ, ◌≤◌, ◌+◌, List, [], ◌∷◌, ◌++◌, map, refl, ap, sym, ◌∙◌, subst}
+use Rattle.std.proofs.Common.{◌≡◌, ◌⊎◌, ⊎_elim, true, ℕ, ◌≤◌, ◌+◌, List, [], ◌∷◌, ◌++◌, map, refl, ap, sym, ◌∙◌, subst}
 use Rattle.std.specs.Prelude.{Option, None, Some, IsTrue, Ok, Err, Vec}
 use Rattle.std.specs.Global.{Global}
+use Rattle.std.specs.List.{AllByRecursion}
 use Rattle.std.specs.Option.{option_map}
+use Rattle.vl_model.specs.Numbers.{has}
 use Rattle.vl_back.specs.declared.back.Back.{Back}
 use Rattle.vl_core.specs.Lasts.{Lasts}
 use Rattle.vl_core.specs.Passing.{AreReadable}
@@ -88,8 +90,10 @@ module _ {H : Type 0} (before after : Core H) (old new : Collecting) (logs : aft
     where
       tallies : (tally : Option Tallied) → Tallies before.version.behind.logs.items tally l → Tallies after.version.behind.logs.items tally m
       tallies None is =
-          ap (λ (v : Vec (SealedLog H) Global). map (λ (log : SealedLog H). log.number) v.items) logs ∙ is
-          ∙ ap (λ (ss : List Segment). log_numbers (rising ss)) (sym sealed_is)
+          subst (λ (v : Vec (SealedLog H) Global). AllByRecursion (λ (log : SealedLog H). has log.number (log_numbers (sealed m)) ≡ true) v.items)
+          (sym logs)
+          (subst (λ (ss : List Segment). AllByRecursion (λ (log : SealedLog H). has log.number (log_numbers ss) ≡ true)
+          before.version.behind.logs.items) (sym sealed_is) is)
       tallies (Some tally) is = record {
         logs = is.logs ∙ ap (λ (ss : List Segment). lengths_of (rising ss)) (sym sealed_is);
         live = subst (λ (ts : List Table). AreOf ts tally.live) (sym tables_is) is.live;
@@ -119,6 +123,7 @@ module _ {H R : Type 0} (bytes : H → Option (List ℕ)) where
     there = keeps.names.still _ _ _ going.there;
     only = λ name p batch is. going.only name p batch (keeps.names.ours name p batch is);
     lasts = lasts passing.pass.log going.lasts;
+    whole = going.whole;
     batch = going.batch;
   }
 
@@ -202,6 +207,8 @@ module _ {D H R : Type 0} (g : Ghosts D) (watched : IsWatched g) (bytes : H → 
       some_same : (a b : DiskState) → Some a ≡ Some b → a ≡ b
       some_same a b e = cc
 
+module _ {D : Type 0} (g : Ghosts D) (watched : IsWatched g) (disk : D) (s : State) (x : Step)
+    (commits : x.state.commits ≡ s.store.commits) where
   -- Where memory ran out nothing was done.
   pub out_carries : CarriesOut {T = Answer} g IsStored Shown IsStopped disk disk s (state_by s x) (Err why.NoMemory)
   out_carries held = record {

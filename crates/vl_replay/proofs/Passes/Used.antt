@@ -17,7 +17,7 @@ use Rattle.vl_layout.specs.declared.job.Job.{Job}
 use Rattle.vl_layout.specs.declared.layout.Layout.{Layout}
 use Rattle.vl_model.specs.History.{History}
 use Rattle.vl_version.specs.declared.base.Base.{Base}
-use Rattle.vl_replay.specs.Passing.{IsOpenPass, name_made}
+use Rattle.vl_replay.specs.Passing.{IsOpenPass, IsPassing, name_made}
 use Rattle.vl_replay.specs.Replaying.{Waits}
 use Rattle.vl_replay.specs.Sequential.{State, counted, history_of, step_to}
 use Rattle.vl_replay.specs.Standing.{Corresponds, Stand, open_in}
@@ -54,6 +54,32 @@ module _ {H R : Type 0} (bytes : H → Option (List ℕ)) where
     open_free None (none, free) is p batch there = free name p batch there
     open_free (Some passing) going is p batch there =
         true_false (sym ((bytes_eq-Decides name passing.name).1 (going.only name p batch there)) ∙ is)
+
+    -- so it is where it isn't that of the open one
+    pub other_named : (passing : Option (Passing (Base H R) H)) → IsOpenPass bytes passing ts l
+        → ((p : Passing (Base H R) H) → passing ≡ Some p → p.name ≡ name → ⊥)
+        → (p : Pass) (batch : Option (List Candidate)) → thing_in ts name ≡ Some (APass p batch) → ⊥
+    other_named None (none, free) other p batch there = free name p batch there
+    other_named (Some passing) going other p batch there = other passing refl (sym (going.only name p batch there))
+
+  -- it goes on as it is said of it
+  pub going_as : (passing : Option (Passing (Base H R) H)) (p : Passing (Base H R) H) (ts : List (Name × Thing)) (l : Layout)
+      → passing ≡ Some p → IsOpenPass bytes passing ts l → IsPassing bytes p ts l
+  going_as passing p ts l is going = subst (λ (o : Option (Passing (Base H R) H)). IsOpenPass bytes o ts l) is going
+
+-- the name as the call had it is its own, or it isn't
+pub named_as : (q name own : Name) → q ≡ name → (test : Bool) → test ≡ bytes_eq q own → test ≡ true → own ≡ name
+named_as q name own same test is it = sym ((bytes_eq-Decides q own).0 (sym is ∙ it)) ∙ same
+
+pub open_named : {V H : Type 0} (passing : Option (Passing V H)) (going : Passing V H) → passing ≡ Some going → (q name : Name)
+    → q ≡ name → (test : Bool) → test ≡ bytes_eq q going.name → test ≡ false
+    → (p : Passing V H) → passing ≡ Some p → p.name ≡ name → ⊥
+open_named passing going is q name same test test_is it p there named =
+    true_false (sym ((bytes_eq-Decides q going.name).1
+    (same ∙ sym named ∙ ap (λ (x : Passing _ _). x.name) (one p going (sym there ∙ is)))) ∙ sym test_is ∙ it)
+  where
+    one : {T : Type 0} (a b : T) → Some a ≡ Some b → a ≡ b
+    one a b e = cc
 
 -- ---- names in use
 

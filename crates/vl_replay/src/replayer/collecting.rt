@@ -1,10 +1,11 @@
 //! Lines that have to do with where space comes back from: statistics, and those of passes.
-ghost use Rattle.std.specs.Prelude.{◌≡◌, Err, false, IfOk, map, None, Ok, OnOk};
+ghost use Rattle.std.specs.Prelude.{◌≡◌, Err, false, IfOk, map, None, Ok, OnOk, Option};
 ghost use Rattle.std.specs.Option.{option_map_or};
 ghost use Rattle.std.specs.Str.{bytes_eq};
 ghost use Rattle.vl_core.specs.Carries.{StaysUntold};
 ghost use Rattle.vl_core.specs.Shown.{Shown};
 ghost use Rattle.vl_disk.specs.Faults.{HasCause};
+ghost use Rattle.vl_engine.specs.Lent.{Opens};
 ghost use Rattle.vl_disk.specs.declared.name.Name.{Name};
 ghost use Rattle.vl_disk.specs.declared.name.Name.TheVariants as names;
 ghost use Rattle.vl_layout.specs.Store.Dispatch.{batch_by, drop_by, move_by, pick_as, step_of};
@@ -190,6 +191,8 @@ pub(super) fn move_batch<D: Disk>(
     ensures carries { (s : State) → StandsPassing D.Watched D.Held.bytes served.old passing.old s
         → CarriesOut D.Watched IsStored Shown IsStopped served.old.engine.disk served.new.engine.disk s
         (state_by s (move_by s.store name (thing_of s.store name))) result }
+    ensures opens { (s : State) → StandsPassing D.Watched D.Held.bytes served.old passing.old s
+        → OnOk result (Opens served.new.engine.merging (move_by s.store name (thing_of s.store name)).state.layout.job) }
     ensures sound { (s : State) → StandsPassing D.Watched D.Held.bytes served.old passing.old s → HaltsByRead result
         → IsPass (thing_of s.store name) }
     ensures undamaged { (s : State) → StandsPassing D.Watched D.Held.bytes served.old passing.old s → HaltsByDamage result → ⊥ }

@@ -1,7 +1,8 @@
 -- A rotation is answered as its ruling has it, and carried out so.
 use Rattle.std.proofs.Common.{◌≡◌, ◌⊎◌, ap, sym, ◌∙◌, subst, arith}
-use Rattle.std.specs.Prelude.{ℕ, Result}
+use Rattle.std.specs.Prelude.{ℕ, Result, OnOk}
 use Rattle.vl_disk.specs.declared.name.Name.TheVariants as names
+use Rattle.vl_engine.specs.Collecting.{Collects}
 use Rattle.vl_engine.specs.Stepping.{step_outcome}
 use Rattle.vl_layout.specs.Ruling.{Ruling, StepAnswer}
 use Rattle.vl_layout.specs.Rulings.Rotate.{rotate_ruling}
@@ -18,6 +19,7 @@ use Rattle.vl_replay.proofs.Names.Serving.{decides_all, represents}
 use Rattle.vl_replay.proofs.Names.StepMaking.{rotate_leaves, step_cause, step_makes, step_sound}
 use Rattle.vl_core.specs.laws.RotateRulings.{made_ruled, rotate_made as rotate_ruled}
 use Rattle.vl_replay.proofs.Disk.Torn.{rotate_torn}
+use Rattle.vl_replay.proofs.Passes.Stepping.{step_leaves}
 use Rattle.vl_replay.proofs.replayer.Served.rotate.Goals as goal
 
 pub returns-clause-makes : goal.returns-clause-makes
@@ -122,3 +124,13 @@ returns-clause-carries g c s stands =
           };
     })
     c.told.result c.told.ensures
+
+pub returns-clause-collects : goal.returns-clause-collects
+returns-clause-collects g c s stands collects =
+    let new = c.rotate.new.self in
+    let h = history_of s in
+    let l = s.store.layout in
+    let fits = stands.fits.running stands.running in
+    subst (λ (x : Result Answer Halt). OnOk x (Collects new.core new.collecting (rotate_ruling l h).layout)) (sym c.told.ensures)
+    (step_leaves (λ _ m. Collects new.core new.collecting m) h l (rotate_ruling l h) _ _ c.rotate.result
+    (c.rotate.ensures.collects h l stands.engine (λ running. fits.numbers) collects))

@@ -11,7 +11,7 @@ use Rattle.vl_replay.specs.Replaying.{Merges, state_by}
 use Rattle.vl_replay.specs.Stored.{IsStopped, IsStored}
 use Rattle.vl_script.specs.declared.answer.Answer.TheVariants as answers
 use Rattle.vl_replay.proofs.Merges.Handing.{can_still}
-use Rattle.vl_replay.proofs.Merges.Keeping.{drop_keeps_merges}
+use Rattle.vl_replay.proofs.Merges.Keeping.{drop_keeps_work, merges_kept}
 use Rattle.vl_replay.specs.laws.Explained.{only_reader}
 use Rattle.vl_replay.specs.laws.Growing.{drop_keeps}
 use Rattle.vl_layout.specs.Store.Dispatch.{drop_by}
@@ -111,8 +111,9 @@ returns-in-None-clause-merges g c s stands no_pass =
     merges_behind g.D.Writer.Writer g.D.Held.HeldFile.bytes c.args.served.now.engine.merging
     c.end.new.self.engine.merging c.args.planned.now c.take_planned.new.planned
     c.end.ensures.merging still s.store (drop_by s.store c.args.name (thing_of s.store c.args.name))
-    (drop_keeps_merges s.store c.args.name (thing_of s.store c.args.name) refl
-    (only_reader s.store c.args.name none no_pass)) stands.merges
+    (merges_kept s.store (drop_by s.store c.args.name (thing_of s.store c.args.name))
+    (drop_keeps_work s.store c.args.name (thing_of s.store c.args.name) refl
+    (only_reader s.store c.args.name none no_pass))) stands.merges
 
 pub returns-in-None-clause-carries : goal.returns-in-None-clause-carries
 returns-in-None-clause-carries g c s stands no_pass =
