@@ -15,7 +15,7 @@ use Rattle.vl_engine.proofs.Beginning.{looks_told}
 use Rattle.vl_engine.proofs.Collected.{tallies_alike, tallies_made}
 use Rattle.vl_engine.proofs.Committing.{decides_answered, decides_short}
 use Rattle.vl_engine.proofs.Tallying.{each_there}
-use Rattle.vl_engine.specs.Collecting.{BeginsOver, BeginsPass, Collects, FitsLooks, IsPicked, IsTallied, LacksLog, Passes, Tallies}
+use Rattle.vl_engine.specs.Collecting.{BeginsOver, BeginsPass, Collects, FitsLooks, IsPicked, IsTallied, LacksLog, Tallies}
 use Rattle.vl_engine.specs.Collecting.{passed_in, pick_outcome}
 use Rattle.vl_engine.specs.declared.fails.PickFail.TheVariants as fails
 use Rattle.vl_engine.specs.declared.fails.PickFail.{PickFail}
@@ -365,11 +365,3 @@ pub pass_fits : {H R : Type 0} (bytes : H → Option (List ℕ)) (core : Core H)
 pass_fits {H} {R} bytes core h l is n (Ok pass) begins = λ reader kept.
     subst (λ (v : Version H). bases.Fits bytes v reader) (sym begins.version) (looks_told bytes core h l is reader kept)
 pass_fits bytes core h l is n (Err why) begins = tt
-
--- where it begins, it is the one that is open done
-pub passes_by : {H R : Type 0} (bytes : H → Option (List ℕ)) (core : Core H) (old mid new : Collecting) (n : ℕ)
-    → mid.passing ≡ old.passing → (result : Result (Pass (Base H R) H) PickFail) → IfOk result (BeginsOver bytes core n)
-    → BeginsPass mid new n result → Passes old.passing new.passing result
-passes_by bytes core old mid new n same (Ok pass) begins is =
-    ap (λ (k : Collecting). k.passing) is ∙ sym (ap (λ (k : ℕ). Some k) begins.number_is)
-passes_by bytes core old mid new n same (Err why) begins is = ap (λ (k : Collecting). k.passing) is ∙ same
