@@ -27,7 +27,9 @@ use Rattle.vl_layout.specs.Decides.{Decides, as_before, effects_of, no_effects}
 use Rattle.vl_layout.specs.Garbage.{best, best_of, better_of, is_better, is_worth, stat_of}
 use Rattle.vl_layout.specs.Jobs.{AreDistinct}
 use Rattle.vl_layout.specs.Logs.{LogRecord, records, records_from}
-use Rattle.vl_layout.specs.Merging.{Sourced, plain, sourced}
+use Rattle.vl_layout.specs.Marks.{plain}
+use Rattle.vl_layout.specs.Merging.{Sourced}
+use Rattle.vl_layout.specs.Rulings.Plan.{sourced}
 use Rattle.vl_layout.specs.Relocation as layout
 use Rattle.vl_layout.specs.Ruling.{Ruling, leaving}
 use Rattle.vl_layout.specs.Rulings.Pick.{InvalidRequest, NoRewrite, PickAnswer, Picked, Rejected, pass_over, pick_best, pick_ruling}
@@ -182,6 +184,9 @@ file_at n (t ∷ ss) s is all = by (t.number == n) is (λ later. file_at n ss s 
     by true e later = subst IsLogFile (one e) all.0
     by false e later = later e
 
+one_segment : (a b : Segment) → Some a ≡ Some b → a ≡ b
+one_segment a b e = cc
+
 -- ---- the pass
 
 module _ {H : Type 0} (bytes : H → Option (List ℕ)) where
@@ -260,10 +265,7 @@ module _ {H : Type 0} (bytes : H → Option (List ℕ)) where
     }
       where
         one : (s : Segment) → segment_at (sealed l) pass.log.number ≡ Some s → at.log ≡ s
-        one s there = some_one at.log s (sym at.at ∙ ap (segment_at (sealed l)) (sym log_is.number) ∙ there)
-
-        some_one : (a b : Segment) → Some a ≡ Some b → a ≡ b
-        some_one a b e = cc
+        one s there = one_segment at.log s (sym at.at ∙ ap (segment_at (sealed l)) (sym log_is.number) ∙ there)
 
 -- ---- what a pick came to
 
