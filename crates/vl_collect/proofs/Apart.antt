@@ -1,11 +1,12 @@
 -- Moved records of which no two are of one key and version.
-use Rattle.std.proofs.Common.{◌≡◌, ◌≢◌, ℕ, ◌<◌, List, [], ◌∷◌, ◌++◌, length, map, refl, sym, subst, arith}
+use Rattle.std.proofs.Common.{◌≡◌, ◌≢◌, ℕ, ◌<◌, List, [], ◌∷◌, ◌++◌, length, map, refl, ap, sym, subst, ◌∙◌, arith}
 use Rattle.std.proofs.lemmas.Bool.{and_parts}
 use Rattle.std.proofs.lemmas.Bool.Decides.{nat_tests}
-use Rattle.std.specs.List.{AllByRecursion, filter}
+use Rattle.std.specs.List.{AllByRecursion, Contains, filter}
 use Rattle.std.specs.Prelude.{Bool, true, false, ◌==◌, nat_le, Option, Some, None, if◌then◌else◌}
 use Rattle.std.proofs.Common.{get_or, take}
-use Rattle.std.proofs.lemmas.List.Elements.{All-get_or}
+use Rattle.std.proofs.lemmas.List.{get_or-map, length-map}
+use Rattle.std.proofs.lemmas.List.Elements.{All-get_or, Contains-get_or}
 use Rattle.vl_collect.proofs.Rising.{AreBelow, before_one}
 use Rattle.vl_collect.specs.Batches.{IsBatch, IsLawful}
 use Rattle.vl_collect.specs.Taking.{candidate_of, candidates}
@@ -82,6 +83,20 @@ module _ (es : List Entry) (segment last : ℕ) (xs : List Found) (is_batch : Is
       subst (λ (cs : List Candidate). AreBelow x.place (take i cs)) are (before_one 0 xs i x is_batch.rising within is) in
       subst (λ (ms : List Moved). IsElsewhere x.moved ms) (sym so_far)
       (apart_from es segment last (candidate_of x) moves (take i batch) below)
+
+  -- it is one of the batch's
+  pub is_among : Contains (map (λ (c : Candidate). c.moved) batch) x.moved
+  is_among =
+      let ms : List Moved = map (λ (c : Candidate). c.moved) (candidates xs) in
+      let long : length ms ≡ length xs =
+      length-map (candidates xs) (λ (c : Candidate). c.moved) ∙ length-map xs candidate_of in
+      let placed : i < length (candidates xs) = omega (arith, within, length-map xs candidate_of) in
+      let found : get_or ms i x.moved ≡ x.moved =
+      get_or-map (λ (c : Candidate). c.moved) (candidates xs) i (candidate_of x) x.moved placed
+      ∙ ap (λ (c : Candidate). c.moved) (get_or-map candidate_of xs i x (candidate_of x) within)
+      ∙ ap (λ (f : Found). f.moved) (sym is) in
+      subst (λ (cs : List Candidate). Contains (map (λ (c : Candidate). c.moved) cs) x.moved) are
+      (subst (Contains ms) found (Contains-get_or ms i x.moved (omega (arith, within, long))))
 
   pub is_lawful : IsMoved log_format x.moved
   is_lawful = subst IsLawful (sym is) (All-get_or IsLawful xs i x within is_batch.lawful)

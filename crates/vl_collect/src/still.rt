@@ -1,6 +1,6 @@
 //! What of a batch is still to be moved.
 
-ghost use Rattle.std.specs.Prelude.{◌≡◌, ◌↔◌, ◌++◌, ◌∷◌, [], List, IfErr, IfOk, IsTrue, OnOk};
+ghost use Rattle.std.specs.Prelude.{◌≡◌, ◌↔◌, ◌++◌, ◌∷◌, [], List, map, All, Contains, IfErr, IfOk, IsTrue, OnOk};
 ghost use Rattle.vl_collect.specs.Batches.{MayBeMoved};
 ghost use Rattle.vl_collect.specs.Faults.{FailsLooking, IsTheirs, MayWhere};
 ghost use Rattle.vl_collect.specs.Passing.{HasEntries};
@@ -30,8 +30,9 @@ pub fn still_moved<V: Sources<Fault = TableFault>>(
 ) -> Result<Vec<Moved>, PassFault>
     ensures moved { (entries : List Entry) → V.fits sources.now looks.old → HasEntries V.has sources.now entries
         → IfOk result (λ moved. moved.items ≡ moved_of entries segment last batch.now) }
-    // Whatever is told, these may stand in one frame of a log.
+    // Whatever is told, these are the batch's, and may stand in one frame of a log.
     ensures relocation { IfOk result (λ moved. MayBeMoved moved.items) }
+    ensures among { IfOk result (λ moved. All (λ m. Contains (map (λ c. c.moved) batch.now) m) moved.items) }
     ensures fits { V.fits sources.now looks.old → V.fits sources.now looks.new }
     ensures steady { OnOk result (V.faults looks.new ≡ V.faults looks.old) }
     ensures cause { IfErr result (FailsLooking (λ f. V.is_read_fault f)

@@ -32,6 +32,14 @@ mod Picking
 pub mod Planning
 pub mod PutIn
 pub mod ReadingPast
+pub mod RelocatingAnswers
+pub mod RelocatingEntries
+pub mod RelocatingExits
+pub mod RelocatingFound
+pub mod RelocatingReads
+pub mod RelocatingStaged
+pub mod RelocatingTotals
+pub mod RelocatingWritten
 pub mod RotateSteps
 pub mod Rotated
 pub mod Ruled

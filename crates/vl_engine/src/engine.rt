@@ -16,6 +16,7 @@ mod keeping;
 mod merging;
 mod opening;
 mod planning;
+mod relocating;
 mod rotating;
 
 use crate::open::{Collecting, OpenMerge};

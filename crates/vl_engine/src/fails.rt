@@ -263,7 +263,8 @@ pub enum PickFail {
     NoMemory,
 }
 
-/// Why nothing of a batch was moved. Where the batch is handed back it is as it was, and may be moved later.
+/// Why no answer can be given on how much of a batch was moved. Where the batch is handed back nothing of it was: it is as it was,
+/// and may be moved later.
 #[derive(Drop)]
 pub enum MoveFail {
     /// An earlier step failed at this file, and nothing is changed any more. Open the store again.
@@ -283,8 +284,12 @@ pub enum MoveFail {
     },
     /// Nothing was changed. Move the batch again, when there is memory.
     NoMemory(Batch),
-    /// A read failed at this file, or writing the active log, and the engine is halted. Whether the records were moved is open
-    /// until the store is opened again, with the same contents either way.
+    /// A look-up failed at this file, and the engine is halted. Nothing was moved. Open the store again, and begin another pass.
+    Read {
+        name: Name,
+    },
+    /// Writing the active log failed, which is this file, and the engine is halted. Whether the records were moved is open until the
+    /// store is opened again, with the same contents either way.
     Disk {
         name: Name,
     },

@@ -16,6 +16,7 @@ mod laws;
 mod making;
 mod open;
 mod past;
+mod relocating;
 mod rotating;
 mod staging;
 mod txn;

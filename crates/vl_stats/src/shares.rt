@@ -57,6 +57,7 @@ fn better(stat: SegmentStat, best: Option<SegmentStat>) -> SegmentStat
     }
 }
 
+/// Its number.
 pub fn segment_of(best: Option<SegmentStat>) -> Option<u32>
     ensures { result ≡ option_map (λ x. x.segment) best }
 {

@@ -123,7 +123,7 @@ impl Tally {
         ensures { (logs : Logs) (l : Layout) (h : History) → IsTidy logs l h → IsTally self.now l → head ≡ head_of l
             → result ≡ option_map (λ (x : stat.SegmentStat). x.segment) (best_of_layout l percent) }
     {
-        // The law that the best of logs in any order has the greatest share.
+        // A law: in whatever order logs stand, none has a greater share than the best of them.
         best_has_the_greatest_share();
         segment_of(best_below(&self.live, &self.logs, percent, head))
     }

@@ -1,11 +1,13 @@
-use Rattle.std.proofs.Common.{◌≡◌, Bool, List, [], ap, sym, subst, ◌∙◌, inr, true, false}
-use Rattle.std.specs.List.{AllByRecursion}
-use Rattle.vl_collect.proofs.Apart.{all_more, is_apart, is_lawful, once_more}
+use Rattle.std.proofs.Common.{◌≡◌, Bool, List, [], map, ap, sym, subst, ◌∙◌, inr, true, false}
+use Rattle.std.proofs.lemmas.List.Elements.{All-push}
+use Rattle.std.specs.List.{All, AllByRecursion, Contains}
+use Rattle.vl_collect.proofs.Apart.{all_more, is_among, is_apart, is_lawful, once_more}
 use Rattle.vl_collect.proofs.Failing.{passed_on, theirs_later}
 use Rattle.vl_collect.proofs.Stills.{one_moved, one_stays}
 use Rattle.vl_collect.proofs.still.still_moved.Goals as goal
 use Rattle.vl_collect.proofs.still.still_moved.Goals.{then-branch+then-is_elsewhere+in_ok-put, else-branch}
 use Rattle.vl_collect.proofs.still.still_moved.Goals.{else-branch-via-then-branch+else-is_elsewhere, else-branch-via-else-branch}
+use Rattle.vl_layout.specs.Relocation.{Candidate}
 use Rattle.vl_model.specs.Formats.{log_format}
 use Rattle.vl_model.specs.declared.log_frame.Moved.{Moved}
 use Rattle.vl_seglog.specs.Moves.{AreOnce, IsElsewhere, IsMoved}
@@ -68,6 +70,15 @@ loop-found-preserved g c =
             (subst (λ (ms : List Moved). IsElsewhere x.moved ms) w.deref.ensures.value (w.is_elsewhere.ensures.0 w.if-is_elsewhere.true)))
         | else-branch w ↦ subst (λ (ms : List Moved). AreOnce ms) (sym (ap (λ v. v.items) w.moved-is)) c.loop-found.invariant.once
       ];
+      among =
+          let IsAmong : Moved → Type 0 = λ m. Contains (map (λ (c : Candidate). c.moved) c.args.batch.now) m in
+          elim c.if-branch.branch [
+            | then-branch+then-is_elsewhere+in_ok-put w ↦
+                subst (All IsAmong) (sym (ap (λ v. v.items) w.moved-is ∙ w.in_ok-put.ensures))
+                (All-push IsAmong moved x.moved c.loop-found.invariant.among
+                (is_among [] 0 0 xs is_batch c.args.batch.now are i x c.loop-found-test.true c.found-item.is))
+            | else-branch w ↦ subst (All IsAmong) (sym (ap (λ v. v.items) w.moved-is)) c.loop-found.invariant.among
+          ];
       fits = λ fits. c.is_moved.ensures.fits (c.loop-found.invariant.fits fits);
       steady = c.in_ok-is_moved.ensures.steady ∙ c.loop-found.invariant.steady;
     }
