@@ -178,9 +178,13 @@ impl<D: Disk> Engine<D> {
         Ok(Job::new(self.alloc, Base::new(version), inputs, floor, keep))
     }
 
-    /// What a merge is read with. It keeps no block yet.
+    /// What a merge is read with. It keeps no block yet. A reader is good for what the engine has at this moment: behind a rotation,
+    /// a flush or an install take another.
     pub fn reader(&self) -> Result<JobReader<D::Reader, BlockReader<D::Reader>>, NoMemory>
         ensures blocks { (files : Files) → IfOk result (λ reader. AreKept files reader.looks) }
+        // So look-ups by it in what the engine has now are told.
+        ensures fits { (h : History) (l : Layout) → StandsFor D.Held.bytes self.now.core h l
+            → IfOk result (λ reader. bases.Fits D.Held.bytes self.now.core.version reader.looks) }
         ensures faults { IfOk result (λ reader. (D.Reader.faults reader.files ≡ 0) × (D.Reader.faults reader.looks.reader ≡ 0)) }
     {
         let files = self.disk.reader(self.alloc)?;
