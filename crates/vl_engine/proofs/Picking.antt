@@ -7,7 +7,7 @@ use Rattle.std.proofs.Common.{sym, ap, subst, ◌∙◌, arith}
 use Rattle.std.proofs.lemmas.List.{drop_at}
 use Rattle.vl_core.specs.Files.{IsLogFile}
 use Rattle.vl_core.specs.Laid.{HasLayout, HasLog, IsLogOf}
-use Rattle.vl_core.specs.Passing.{AreReadable, IsStillIn}
+use Rattle.vl_core.specs.Passing.{AreReadable}
 use Rattle.vl_core.specs.Pointed.{bytes_of_log, layout_logs, segment_at}
 use Rattle.vl_core.specs.Represents.{StandsFor}
 use Rattle.vl_core.specs.declared.kept.Core.{Core}
@@ -259,9 +259,11 @@ module _ {H : Type 0} (bytes : H → Option (List ℕ)) where
             (records_at at.log.number l.flushed at.log at.flushed
             ∙ ap (λ (f : ℕ). records_from f 16 at.log.frames) (sym log_is.format));
       });
-      still = λ s there. subst (IsLogOf bytes pass.log) (one s there) log_is;
-      below = subst (λ (n : ℕ). n < l.active.number) (sym same.number)
-          (below_in x.segment l.active.number core.version.behind.logs.items has.log found is.has.below);
+      lasts = record {
+        still = λ s there. subst (IsLogOf bytes pass.log) (one s there) log_is;
+        below = subst (λ (n : ℕ). n < l.active.number) (sym same.number)
+            (below_in x.segment l.active.number core.version.behind.logs.items has.log found is.has.below);
+      };
     }
       where
         one : (s : Segment) → segment_at (sealed l) pass.log.number ≡ Some s → at.log ≡ s
@@ -342,10 +344,10 @@ module _ (l : Layout) (h : History) (percent : ℕ) (fair : IsUnfair l h percent
 
     -- what is kept of where space comes back from
     pub collects_begun : {P : Type 0} (done : Core H) (was now : Collecting) → done ≡ core → IsTallied was.tally l
-        → was.passing ≡ passed_in l → (result : Result P PickFail) → BeginsPass was now n result → IfErr result (LacksLog core n)
+        → was.passing ≡ passed_in l → AreReadable l → (result : Result P PickFail) → BeginsPass was now n result → IfErr result (LacksLog core n)
         → Decides (λ k x. Collects done now x) h l (pick_ruling l h percent) (as_before l l)
         (pick_outcome (pick_ruling l h percent).answer result) no_effects
-    collects_begun {P} done was now same tallied passing result begins lacks =
+    collects_begun {P} done was now same tallied passing readable result begins lacks =
         decides_begun (λ k x. Collects done now x) result lacks (λ pass ok. after pass (subst (BeginsPass was now n) ok begins))
         (λ why err. before why (subst (BeginsPass was now n) err begins))
       where
@@ -356,11 +358,11 @@ module _ (l : Layout) (h : History) (percent : ℕ) (fair : IsUnfair l h percent
 
         after : (pass : P) → now ≡ record was { passing = Some n } → Collects done now (with_pass n l)
         after pass e = subst (λ (k : Collecting). Collects done k (with_pass n l)) (sym e)
-            (record { tally = tallies (with_pass n l) refl refl refl; passing = refl })
+            (record { tally = tallies (with_pass n l) refl refl refl; passing = refl; readable = readable })
 
         before : (why : PickFail) → now ≡ was → Collects done now l
         before why e = subst (λ (k : Collecting). Collects done k l) (sym e)
-            (record { tally = tallies l refl refl refl; passing = passing })
+            (record { tally = tallies l refl refl refl; passing = passing; readable = readable })
 
 pub pass_fits : {H R : Type 0} (bytes : H → Option (List ℕ)) (core : Core H) (h : History) (l : Layout) → StandsFor bytes core h l
     → (n : ℕ) (result : Result (Pass (Base H R) H) PickFail) → IfOk result (BeginsOver bytes core n) → IfOk result (FitsLooks bytes)

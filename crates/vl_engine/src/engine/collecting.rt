@@ -1,4 +1,4 @@
-ghost use Rattle.std.specs.Prelude.{◌≡◌, ◌<◌, ◌↔◌, ◌⊎◌, ◌==◌, ◌||◌, nat_lt, None, Some, Err, IfErr, IfOk};
+ghost use Rattle.std.specs.Prelude.{◌≡◌, ◌<◌, ℕ, ◌↔◌, ◌⊎◌, ◌==◌, ◌||◌, nat_lt, None, Some, Err, IfErr, IfOk};
 ghost use Rattle.vl_core.specs.MayStep.{Fits};
 ghost use Rattle.vl_core.specs.Represents.{Represents, StandsFor};
 ghost use Rattle.vl_engine.specs.Collecting.{BeginsOver, BeginsPass, Collects, FitsLooks, IsPicked, LacksLog, Passes};

@@ -123,6 +123,7 @@ impl<D: Disk> Engine<D> {
         // In memory a version is made, or nothing changes beside the open merge, unless a fault halts. A halted engine does nothing.
         ensures core { InstallsCore self.old.core self.new.core result }
         ensures halted { (name : Name) → self.old.core.front.halted ≡ Some name → result ≡ Err (fails.Halted name) }
+        ensures idle { (name : Name) → self.old.core.front.halted ≡ Some name → self.new.collecting ≡ self.old.collecting }
     {
         if let Some(name) = self.core.front.halted {
             self.merging = None;

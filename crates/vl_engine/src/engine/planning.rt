@@ -18,6 +18,7 @@ ghost use Rattle.vl_layout.specs.declared.layout.Layout.{Layout};
 ghost use Rattle.vl_model.specs.History.{History};
 ghost use Rattle.vl_table.specs.Kept.{Files};
 ghost use Rattle.vl_table.specs.KeptBlocks.{AreKept};
+ghost use Rattle.vl_version.specs.Bases as bases;
 
 use crate::Engine;
 use crate::open::OpenMerge;

@@ -106,15 +106,15 @@ returns-in-Some-best-clause-collects g c h l is has =
     c.in-Some-best.number (sym c.in-Some-best.is ∙ c.best.ensures (layout_logs l) l h is.tidy (c.in-Ok.ensures.readied.tallied h l is has.tally)
     (c.head_of.ensures ∙ head_is_laid g.D.Held.HeldFile.bytes c.args.self.now.core h l is)) in
     collects_begun l h c.args.percent (sym c.is_unfair.ensures ∙ c.if-is_unfair.false) (sym c.in_default.is ∙ has.passing) g.D.Held.HeldFile.bytes c.args.self.now.core is c.in-Some-best.number b c.begin_pass.new.self.core c.ready.new.self c.begin_pass.new.self.collecting
-    c.begin_pass.ensures.core (c.in-Ok.ensures.readied.tallied h l is has.tally) (c.in-Ok.ensures.readied.passing ∙ has.passing)
+    c.begin_pass.ensures.core (c.in-Ok.ensures.readied.tallied h l is has.tally) (c.in-Ok.ensures.readied.passing ∙ has.passing) has.readable
     c.begin_pass.result c.begin_pass.ensures.collecting c.begin_pass.ensures.failed
 
 pub returns-in-Some-best-clause-pass : goal.returns-in-Some-best-clause-pass
-returns-in-Some-best-clause-pass g c h l is has files =
+returns-in-Some-best-clause-pass g c h l is has =
     let b = is_some l h c.args.percent (sym c.is_unfair.ensures ∙ c.if-is_unfair.false) (sym c.in_default.is ∙ has.passing)
     c.in-Some-best.number (sym c.in-Some-best.is ∙ c.best.ensures (layout_logs l) l h is.tidy (c.in-Ok.ensures.readied.tallied h l is has.tally)
     (c.head_of.ensures ∙ head_is_laid g.D.Held.HeldFile.bytes c.args.self.now.core h l is)) in
-    picked_pass l h c.args.percent (sym c.is_unfair.ensures ∙ c.if-is_unfair.false) (sym c.in_default.is ∙ has.passing) g.D.Held.HeldFile.bytes c.args.self.now.core is c.in-Some-best.number b c.begin_pass.result c.begin_pass.ensures.begins files
+    picked_pass l h c.args.percent (sym c.is_unfair.ensures ∙ c.if-is_unfair.false) (sym c.in_default.is ∙ has.passing) g.D.Held.HeldFile.bytes c.args.self.now.core is c.in-Some-best.number b c.begin_pass.result c.begin_pass.ensures.begins has.readable
 
 pub returns-in-Some-best-clause-looks : goal.returns-in-Some-best-clause-looks
 returns-in-Some-best-clause-looks g c h l is =
