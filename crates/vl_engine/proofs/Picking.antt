@@ -1,7 +1,10 @@
 -- What a pick comes to: why none is begun, and what the pass that is begun goes over.
-use Rattle.std.specs.Prelude.{◌≡◌, ◌<◌, ℕ, Bool, true, false, ◌==◌, ◌||◌, nat_lt, if◌then◌else◌, drop, List, [], ◌∷◌, ◌++◌, map}
+use Rattle.std.specs.Prelude.{◌≡◌, ◌<◌, ℕ, ◌+◌, Bool, true, false, ◌==◌, ◌||◌, nat_lt, if◌then◌else◌, drop, List, [], ◌∷◌, ◌++◌, length, map}
 use Rattle.std.specs.Prelude.{Option, None, Some, Result, Ok, Err, IfErr, IfOk, refl}
-use Rattle.std.specs.List.{AllByRecursion, filter}
+use Rattle.std.specs.List.{AllByRecursion, filter, sum_by}
+use Rattle.vl_collect.specs.Passing.{EndAt}
+use Rattle.vl_model.specs.Frames.{frame_length}
+use Rattle.vl_seglog.specs.laws.FrameLaws.{length-log_bytes}
 use Rattle.std.specs.Option.{ForSome, option_map}
 use Rattle.std.proofs.Common.{sym, ap, subst, ◌∙◌, arith}
 use Rattle.std.proofs.lemmas.List.{drop_at}
@@ -259,6 +262,17 @@ module _ {H : Type 0} (bytes : H → Option (List ℕ)) where
             (records_at at.log.number l.flushed at.log at.flushed
             ∙ ap (λ (f : ℕ). records_from f 16 at.log.frames) (sym log_is.format));
       });
+      whole = λ told tells.
+          let end : EndAt pass.log.format pass.log.number (bytes_of_log at.log) 16 (length (bytes_of_log at.log)) = record {
+            frames = at.log.frames;
+            reads = reads_so files;
+            is = length-log_bytes at.log.format at.log.number at.log.frames
+                ∙ ap (λ (f : ℕ). 16 + sum_by (frame_length f) at.log.frames) (sym log_is.format);
+          } in
+          subst (λ (bs : List ℕ). EndAt pass.log.format pass.log.number bs pass.at.place (length bs))
+          (same_bytes (bytes_of_log at.log) told (sym log_is.told ∙ tells))
+          (subst (λ (n : ℕ). EndAt pass.log.format pass.log.number (bytes_of_log at.log) n (length (bytes_of_log at.log)))
+          (sym begins.start) end);
       lasts = record {
         still = λ s there. subst (IsLogOf bytes pass.log) (one s there) log_is;
         below = subst (λ (n : ℕ). n < l.active.number) (sym same.number)
@@ -266,6 +280,9 @@ module _ {H : Type 0} (bytes : H → Option (List ℕ)) where
       };
     }
       where
+        same_bytes : (a b : List ℕ) → Some a ≡ Some b → a ≡ b
+        same_bytes a b e = cc
+
         one : (s : Segment) → segment_at (sealed l) pass.log.number ≡ Some s → at.log ≡ s
         one s there = one_segment at.log s (sym at.at ∙ ap (segment_at (sealed l)) (sym log_is.number) ∙ there)
 

@@ -4,7 +4,7 @@ use Rattle.std.specs.Arc.{arc_value}
 use Rattle.std.specs.List.{AllByRecursion}
 use Rattle.std.specs.Option.{ForSome, option_map}
 use Rattle.vl_block.specs.declared.points.Point.{Point}
-use Rattle.vl_collect.specs.Passing.{Begins, IsPass}
+use Rattle.vl_collect.specs.Passing.{Begins, IsPass, IsWholeFrom}
 use Rattle.vl_collect.specs.declared.pass.Pass.{Pass}
 use Rattle.vl_compact.specs.Progress.{made_of}
 use Rattle.vl_compact.specs.declared.files.Synced.{Synced}
@@ -176,6 +176,8 @@ pub record IsPicked {H R : Type 0} (bytes : H → Option (List ℕ)) (pass : Pas
   pub answer_is : answer ≡ Picked of
   pub goes : GoesOver bytes pass of
   pub lasts : Lasts bytes pass.log l
+  -- its frames reach to its end
+  pub whole : IsWholeFrom bytes pass.log pass.at.place
 
 -- Whatever keeps no block that doesn't stand, as a reader that has kept none yet, fits its sources: look-ups by it are told.
 abbrev pub FitsLooks : {H R : Type 0} → (H → Option (List ℕ)) → Pass (Base H R) H → Type 0
@@ -196,6 +198,7 @@ pub record BeginsOver {H R : Type 0} (bytes : H → Option (List ℕ)) (core : C
     : Type 0 where
   pub version : pass.base.version ≡ core.version
   pub number_is : pass.log.number ≡ number
+  pub start : pass.at.place ≡ 16
   pub log : AreRising core.version.behind.logs.items
       → ForSome (log_in core.version.behind.logs.items number) (λ log. IsSameLog bytes log pass.log)
   pub goes : (p : layout.Pass)
