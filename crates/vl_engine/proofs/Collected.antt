@@ -25,7 +25,8 @@ use Rattle.vl_engine.specs.declared.fails.StepFail.{StepFail}
 use Rattle.vl_engine.specs.declared.open.Collecting.{Collecting}
 use Rattle.vl_layout.specs.Decides.{Answered, Damaged, Decides, Effects, Failed, NoMemory, Otherwise, Outcome, as_before}
 use Rattle.vl_layout.specs.Levels.{in_front, is_among}
-use Rattle.vl_layout.specs.Ruling.{Exhausted, Halted, Idle, Ruling, StepAnswer, Stepped, halted_at, has_no_number, has_no_version, is_idle, leaving}
+use Rattle.vl_layout.specs.Ruling.{Exhausted, Halted, Idle, Ruling, StepAnswer, Stepped, halted_at, has_no_number}
+use Rattle.vl_layout.specs.Ruling.{has_no_version, is_idle, leaving}
 use Rattle.vl_layout.specs.Rulings.Flush.{covered_by, flush_of, flush_ruling, flush_unless, flushed, flushed_table}
 use Rattle.vl_layout.specs.Rulings.Rotate.{rotate_of, rotate_ruling, rotate_unless, rotated}
 use Rattle.vl_layout.specs.Sources.{but_oldest, head, oldest, rising, tables}
@@ -300,7 +301,8 @@ module _ {H : Type 0} (core : Core H) (kept : Collecting) (S : History → Layou
       (λ a same answer. collects_alike core kept l ruling.layout
       (leaves.alike (λ n stepped. no result undone n (same ∙ ap Answered (sym answer ∙ stepped)))) has)
       (λ same. has)
-      (λ name same. collects_alike core kept l (halted_at name l) (record { frozen = refl; flushed = refl; levels = refl; pass = refl }) has)
+      (λ name same. collects_alike core kept l (halted_at name l)
+      (record { frozen = refl; flushed = refl; levels = refl; pass = refl }) has)
       (λ name place same. has)
     where
       no : (r : Result (Option ℕ) StepFail) → ((n : ℕ) → r ≡ Ok (Some n) → ⊥) → (n : ℕ) → step_outcome r ≡ Answered (Stepped n) → ⊥

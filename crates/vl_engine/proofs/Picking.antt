@@ -1,5 +1,6 @@
 -- What a pick comes to: why none is begun, and what the pass that is begun goes over.
-use Rattle.std.specs.Prelude.{◌≡◌, ◌<◌, ℕ, ◌+◌, Bool, true, false, ◌==◌, ◌||◌, nat_lt, if◌then◌else◌, drop, List, [], ◌∷◌, ◌++◌, length, map}
+use Rattle.std.specs.Prelude.{◌≡◌, ◌<◌, ℕ, ◌+◌, Bool, true, false, ◌==◌, ◌||◌, nat_lt, if◌then◌else◌, drop, List, []}
+use Rattle.std.specs.Prelude.{◌∷◌, ◌++◌, length, map}
 use Rattle.std.specs.Prelude.{Option, None, Some, Result, Ok, Err, IfErr, IfOk, refl}
 use Rattle.std.specs.List.{AllByRecursion, filter, sum_by}
 use Rattle.vl_collect.specs.Passing.{EndAt}
@@ -361,7 +362,8 @@ module _ (l : Layout) (h : History) (percent : ℕ) (fair : IsUnfair l h percent
 
     -- what is kept of where space comes back from
     pub collects_begun : {P : Type 0} (done : Core H) (was now : Collecting) → done ≡ core → IsTallied was.tally l
-        → was.passing ≡ passed_in l → AreReadable l → (result : Result P PickFail) → BeginsPass was now n result → IfErr result (LacksLog core n)
+        → was.passing ≡ passed_in l → AreReadable l → (result : Result P PickFail) → BeginsPass was now n result
+        → IfErr result (LacksLog core n)
         → Decides (λ k x. Collects done now x) h l (pick_ruling l h percent) (as_before l l)
         (pick_outcome (pick_ruling l h percent).answer result) no_effects
     collects_begun {P} done was now same tallied passing readable result begins lacks =

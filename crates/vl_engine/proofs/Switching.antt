@@ -1,5 +1,6 @@
 -- What is kept of live bytes behind a flush and an install.
-use Rattle.std.specs.Prelude.{◌≡◌, ℕ, Bool, true, false, not, if◌then◌else◌, List, [], ◌∷◌, ◌++◌, map, Option, None, Some, IsSome, Result, Ok, Err, refl}
+use Rattle.std.specs.Prelude.{◌≡◌, ℕ, Bool, true, false, not, if◌then◌else◌, List, [], ◌∷◌, ◌++◌, map, Option, None}
+use Rattle.std.specs.Prelude.{Some, IsSome, Result, Ok, Err, refl}
 use Rattle.std.specs.Arc.{arc_value}
 use Rattle.std.specs.List.{AllZip, filter, flat_map}
 use Rattle.std.proofs.Common.{sym, ap, subst, ◌∙◌}
@@ -63,7 +64,8 @@ use Rattle.vl_version.specs.declared.version.Version.{Version}
 
 -- ---- live bytes
 
-leads_to : (l : Layout) (came gone after : List laid.Table) (kept : Option Tallied) (live : List (ℕ × ℕ)) (added dropped : List (List Point))
+leads_to : (l : Layout) (came gone after : List laid.Table) (kept : Option Tallied) (live : List (ℕ × ℕ))
+    (added dropped : List (List Point))
     → IsTallied kept l → LeadsFrom kept live added dropped → added ≡ points_of_tables came → dropped ≡ points_of_tables gone
     → IsSwitch (tables l) came gone after → AreOf after live
 leads_to l came gone after None live added dropped is leads first second switch = absurd is
@@ -271,7 +273,8 @@ pub install_err : {H : Type 0} (R W : Type 0) (writers : Writers W) (core : Core
 install_err R W writers core kept S h l job made effects has why is =
     install_left core kept S h l job made effects has (Err why) (install_undone why (Err why) refl) is
 
-install_same : {V H W : Type 0} {g : _} (before after : Core H) (why : InstallFail V H W g) (result : Result (Unit {0}) (InstallFail V H W g))
+install_same : {V H W : Type 0} {g : _} (before after : Core H) (why : InstallFail V H W g)
+    (result : Result (Unit {0}) (InstallFail V H W g))
     → result ≡ Err why → InstallsCore before after result → after.version ≡ before.version
 install_same {V} {H} {W} {g} before after why (Ok done) is did = absurd cc
 install_same {V} {H} {W} {g} before after why (Err (fails.Halted name)) is did = ap (λ (c : Core H). c.version) did.1
@@ -290,13 +293,15 @@ pub install_collects : {H R W : Type 0} (bytes : H → Option (List ℕ)) (write
     (install_outcome result) effects
     → Decides (λ k x. Collects after now x) h l (install_ruling l h o.job (made_of job o.job)) (install_otherwise l (made_of job o.job))
     (install_outcome result) effects
-install_collects {H} {R} {W} bytes writers {g} job before after was now h l o is open_is all has (Ok done) did puts effects S stood decides =
+install_collects {H} {R} {W} bytes writers {g} job before after was now h l o is open_is all has (Ok done) did puts
+    effects S stood decides =
     install_done after now S h l o.job (made_of job o.job) effects
     (λ answered. puts.tallied h l o is open_is all has.tally answered
     (subst (λ (k : History). StandsFor bytes after k (install_ruling l h o.job (made_of job o.job)).layout)
     (install_history l h o.job (made_of job o.job)) (stood _ _ (decides.answered Installed refl).1)))
     (puts.passing ∙ has.passing) (install_readable l h o.job (made_of job o.job) has.readable) decides
-install_collects {H} {R} {W} bytes writers {g} job before after was now h l o is open_is all has (Err why) did puts effects S stood decides =
+install_collects {H} {R} {W} bytes writers {g} job before after was now h l o is open_is all has (Err why) did puts
+    effects S stood decides =
     install_left after now S h l o.job (made_of job o.job) effects
     (collects_kept bytes before after was now h l is
     (ap (λ (v : Version H). v.behind.logs.items) (install_same before after why (Err why) refl did)) puts has)
