@@ -8,7 +8,7 @@ use Rattle.vl_engine.proofs.InstallTotal.{core_by, halted_at, none_races, not_ha
 use Rattle.vl_core.specs.laws.Untouched.{alone}
 use Rattle.vl_compact.specs.Progress.{made_of}
 use Rattle.vl_engine.proofs.Switching.{install_collects, install_err, install_passes}
-use Rattle.vl_engine.specs.Merging.{install_effects, made_numbers}
+use Rattle.vl_engine.specs.Merging.{StandsOpen, install_effects, made_numbers}
 use Rattle.vl_engine.specs.declared.fails.InstallFail.TheVariants as fails
 use Rattle.vl_layout.specs.Decides.{no_effects}
 use Rattle.vl_core.specs.Represents.{file_of}

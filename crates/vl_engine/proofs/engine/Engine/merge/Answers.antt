@@ -160,7 +160,7 @@ returns-in-Err-clause-collects g c h l is stands fits has =
     let collects = collects_so c.args.self.now.core c.carry_out.new.self.core c.args.self.now.collecting
     c.carry_out.new.self.collecting l makes.stays.layout s.same (makes.levels ∙ opened.tables.levels)
     (makes.flushed ∙ opened.tables.flushed)
-    (c.carry_out.ensures.logs ∙ ap (λ (k : Core g.row.D-Held.Denot). k.version.behind.logs.items) c.plan.ensures.core)
+    (ap (λ x. x.items) (c.carry_out.ensures.logs ∙ ap (λ (k : Core g.row.D-Held.Denot). k.version.behind.logs) c.plan.ensures.core))
     (c.carry_out.ensures.collecting ∙ c.plan.ensures.collecting) has in
     given_up_collecting g.D.Watched bytes c.args.self.now.disk c.carry_out.new.self.disk c.abandon.new.self.disk
     c.carry_out.new.self.core c.abandon.new.self.core c.carry_out.new.self.merging c.abandon.new.self.merging
@@ -182,7 +182,7 @@ returns-in-Ok-clause-collects g c h l is stands fits has =
     let collects = collects_so c.args.self.now.core c.carry_out.new.self.core c.args.self.now.collecting
     c.carry_out.new.self.collecting l makes.stays.layout s.same (makes.levels ∙ opened.tables.levels)
     (makes.flushed ∙ opened.tables.flushed)
-    (c.carry_out.ensures.logs ∙ ap (λ (k : Core g.row.D-Held.Denot). k.version.behind.logs.items) c.plan.ensures.core)
+    (ap (λ x. x.items) (c.carry_out.ensures.logs ∙ ap (λ (k : Core g.row.D-Held.Denot). k.version.behind.logs) c.plan.ensures.core))
     (c.carry_out.ensures.collecting ∙ c.plan.ensures.collecting) has in
     let whole = subst (λ (j : Job). HasAllMerge g.D.Writer.Writer bytes c.carry_out.new.job j) (sym makes.job_is) makes.whole in
     let lent = subst (λ (j : Job). AreLent makes.open_job.lent (made_of c.carry_out.new.job j)) (sym makes.job_is) makes.lent in
@@ -216,7 +216,7 @@ returns-in-Err-install-clause-collects g c h l is stands fits has =
     let collects = collects_so c.args.self.now.core c.carry_out.new.self.core c.args.self.now.collecting
     c.carry_out.new.self.collecting l makes.stays.layout s.same (makes.levels ∙ opened.tables.levels)
     (makes.flushed ∙ opened.tables.flushed)
-    (c.carry_out.ensures.logs ∙ ap (λ (k : Core g.row.D-Held.Denot). k.version.behind.logs.items) c.plan.ensures.core)
+    (ap (λ x. x.items) (c.carry_out.ensures.logs ∙ ap (λ (k : Core g.row.D-Held.Denot). k.version.behind.logs) c.plan.ensures.core))
     (c.carry_out.ensures.collecting ∙ c.plan.ensures.collecting) has in
     let whole = subst (λ (j : Job). HasAllMerge g.D.Writer.Writer bytes c.carry_out.new.job j) (sym makes.job_is) makes.whole in
     let lent = subst (λ (j : Job). AreLent makes.open_job.lent (made_of c.carry_out.new.job j)) (sym makes.job_is) makes.lent in
@@ -226,8 +226,7 @@ returns-in-Err-install-clause-collects g c h l is stands fits has =
     (c.in-Err-install.ensures.carries h s.layout makes.open_job s.represents s.stands makes.is_open whole lent)
     (c.in-Err-install.ensures.fits h s.layout makes.open_job s.stands makes.is_open whole lent s.fits)
     (unless_halted c.carry_out.new.self.core (g.D.Watched.told c.carry_out.new.self.disk) h s.layout s.stands.stands.fronts s.fits _
-    (λ state told files. c.in-Err-install.ensures.collects state h s.layout makes.open_job told s.stands makes.is_open
-    files whole lent collects)
+    (λ state told files. c.in-Err-install.ensures.collects state h s.layout makes.open_job told s.stands makes.is_open files whole lent collects)
     (λ name halted. install_idle c.carry_out.new.self.core c.install.new.self.core c.carry_out.new.self.collecting
     c.install.new.self.collecting _ h s.layout makes.open_job.job (made_of c.carry_out.new.job makes.open_job.job) _ (fails.Halted name)
     _ (c.in-Err-install.ensures.halted name halted) c.in-Err-install.ensures.core (c.in-Err-install.ensures.idle name halted) collects
