@@ -226,7 +226,8 @@ returns-in-Err-install-clause-collects g c h l is stands fits has =
     (c.in-Err-install.ensures.carries h s.layout makes.open_job s.represents s.stands makes.is_open whole lent)
     (c.in-Err-install.ensures.fits h s.layout makes.open_job s.stands makes.is_open whole lent s.fits)
     (unless_halted c.carry_out.new.self.core (g.D.Watched.told c.carry_out.new.self.disk) h s.layout s.stands.stands.fronts s.fits _
-    (λ state told files. c.in-Err-install.ensures.collects state h s.layout makes.open_job told s.stands makes.is_open files whole lent collects)
+    (λ state told files. c.in-Err-install.ensures.collects state h s.layout makes.open_job told s.stands makes.is_open
+    files whole lent collects)
     (λ name halted. install_idle c.carry_out.new.self.core c.install.new.self.core c.carry_out.new.self.collecting
     c.install.new.self.collecting _ h s.layout makes.open_job.job (made_of c.carry_out.new.job makes.open_job.job) _ (fails.Halted name)
     _ (c.in-Err-install.ensures.halted name halted) c.in-Err-install.ensures.core (c.in-Err-install.ensures.idle name halted) collects
