@@ -15,7 +15,7 @@ use Rattle.vl_engine.proofs.Beginning.{looks_told}
 use Rattle.vl_engine.proofs.Collected.{tallies_alike, tallies_made}
 use Rattle.vl_engine.proofs.Committing.{decides_answered, decides_short}
 use Rattle.vl_engine.proofs.Tallying.{each_there}
-use Rattle.vl_engine.specs.Collecting.{BeginsOver, BeginsPass, Collects, FitsLooks, IsPicked, IsTallied, LacksLog, Passes, Tallies}
+use Rattle.vl_engine.specs.Collecting.{BeginsOver, BeginsPass, Collects, FitsLooks, IsPicked, IsTallied, LacksLog, Tallies}
 use Rattle.vl_engine.specs.Collecting.{passed_in, pick_outcome}
 use Rattle.vl_engine.specs.declared.fails.PickFail.TheVariants as fails
 use Rattle.vl_engine.specs.declared.fails.PickFail.{PickFail}
@@ -27,7 +27,9 @@ use Rattle.vl_layout.specs.Decides.{Decides, as_before, effects_of, no_effects}
 use Rattle.vl_layout.specs.Garbage.{best, best_of, better_of, is_better, is_worth, stat_of}
 use Rattle.vl_layout.specs.Jobs.{AreDistinct}
 use Rattle.vl_layout.specs.Logs.{LogRecord, records, records_from}
-use Rattle.vl_layout.specs.Merging.{Sourced, plain, sourced}
+use Rattle.vl_layout.specs.Marks.{plain}
+use Rattle.vl_layout.specs.Merging.{Sourced}
+use Rattle.vl_layout.specs.Rulings.Plan.{sourced}
 use Rattle.vl_layout.specs.Relocation as layout
 use Rattle.vl_layout.specs.Ruling.{Ruling, leaving}
 use Rattle.vl_layout.specs.Rulings.Pick.{InvalidRequest, NoRewrite, PickAnswer, Picked, Rejected, pass_over, pick_best, pick_ruling}
@@ -182,6 +184,9 @@ file_at n (t ∷ ss) s is all = by (t.number == n) is (λ later. file_at n ss s 
     by true e later = subst IsLogFile (one e) all.0
     by false e later = later e
 
+one_segment : (a b : Segment) → Some a ≡ Some b → a ≡ b
+one_segment a b e = cc
+
 -- ---- the pass
 
 module _ {H : Type 0} (bytes : H → Option (List ℕ)) where
@@ -260,10 +265,7 @@ module _ {H : Type 0} (bytes : H → Option (List ℕ)) where
     }
       where
         one : (s : Segment) → segment_at (sealed l) pass.log.number ≡ Some s → at.log ≡ s
-        one s there = some_one at.log s (sym at.at ∙ ap (segment_at (sealed l)) (sym log_is.number) ∙ there)
-
-        some_one : (a b : Segment) → Some a ≡ Some b → a ≡ b
-        some_one a b e = cc
+        one s there = one_segment at.log s (sym at.at ∙ ap (segment_at (sealed l)) (sym log_is.number) ∙ there)
 
 -- ---- what a pick came to
 
@@ -365,11 +367,3 @@ pub pass_fits : {H R : Type 0} (bytes : H → Option (List ℕ)) (core : Core H)
 pass_fits {H} {R} bytes core h l is n (Ok pass) begins = λ reader kept.
     subst (λ (v : Version H). bases.Fits bytes v reader) (sym begins.version) (looks_told bytes core h l is reader kept)
 pass_fits bytes core h l is n (Err why) begins = tt
-
--- where it begins, it is the one that is open done
-pub passes_by : {H R : Type 0} (bytes : H → Option (List ℕ)) (core : Core H) (old mid new : Collecting) (n : ℕ)
-    → mid.passing ≡ old.passing → (result : Result (Pass (Base H R) H) PickFail) → IfOk result (BeginsOver bytes core n)
-    → BeginsPass mid new n result → Passes old.passing new.passing result
-passes_by bytes core old mid new n same (Ok pass) begins is =
-    ap (λ (k : Collecting). k.passing) is ∙ sym (ap (λ (k : ℕ). Some k) begins.number_is)
-passes_by bytes core old mid new n same (Err why) begins is = ap (λ (k : Collecting). k.passing) is ∙ same

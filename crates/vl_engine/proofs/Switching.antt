@@ -248,6 +248,20 @@ module _ {H : Type 0} (core : Core H) (kept : Collecting) (S : History → Layou
       no_damage : (name : FileName) (place : ℕ) → Answered Installed ≡ Damaged name place → ⊥
       no_damage name place e = cc
 
+-- what failed isn't done
+pub install_undone : {V H W : Type 0} {g : _} (why : InstallFail V H W g) (result : Result (Unit {0}) (InstallFail V H W g))
+    → result ≡ Err why → result ≡ Ok tt → ⊥
+install_undone {V} {H} {W} {g} why result is e = cc
+
+-- the same of why it wasn't
+pub install_err : {H : Type 0} (R W : Type 0) (writers : Writers W) (core : Core H) (kept : Collecting) (S : History → Layout → Type 0)
+    (h : History) (l : Layout) (job : laid_job.Job) (made : Made) (effects : Effects) → Collects core kept l
+    → (why : InstallFail (Base H R) H W writers)
+    → Decides S h l (install_ruling l h job made) (install_otherwise l made) (install_outcome (Err why)) effects
+    → Decides (λ k x. Collects core kept x) h l (install_ruling l h job made) (install_otherwise l made) (install_outcome (Err why)) effects
+install_err R W writers core kept S h l job made effects has why is =
+    install_left core kept S h l job made effects has (Err why) (install_undone why (Err why) refl) is
+
 install_same : {V H W : Type 0} {g : _} (before after : Core H) (why : InstallFail V H W g) (result : Result (Unit {0}) (InstallFail V H W g))
     → result ≡ Err why → InstallsCore before after result → after.version ≡ before.version
 install_same {V} {H} {W} {g} before after why (Ok done) is did = absurd cc
@@ -276,10 +290,7 @@ install_collects {H} {R} {W} bytes writers {g} job before after was now told h l
     install_left after now (Represents bytes after told) h l o.job (made_of job o.job) effects
     (collects_kept bytes before after was now h l is
     (ap (λ (v : Version H). v.behind.logs.items) (install_same before after why (Err why) refl did)) puts has)
-    (Err why) (no_ok why) decides
-  where
-    no_ok : (y : InstallFail (Base H R) H W g) → Err y ≡ Ok tt → ⊥
-    no_ok y e = cc
+    (Err why) (install_undone why (Err why) refl) decides
 
 -- ---- what was made ready before
 
@@ -311,8 +322,3 @@ installs_then bytes writers job before after was mid now readied (Err why) keeps
   tallies = λ h l is has. keeps.tallies h l is
       (tallies_made before.version.behind.logs.items mid.tally l (readied.tallied h l is has));
 }
-
--- what failed isn't done
-pub install_undone : {V H W : Type 0} {g : _} (why : InstallFail V H W g) (result : Result (Unit {0}) (InstallFail V H W g))
-    → result ≡ Err why → result ≡ Ok tt → ⊥
-install_undone {V} {H} {W} {g} why result is e = cc

@@ -407,27 +407,32 @@ module _ {D H : Type 0} (g : Ghosts D) (bytes : H → Option (List ℕ)) where
   closes old new core h l x same is fits through again = by x.job refl
     where
       by : (o : Option OpenJob) → x.job ≡ o → (t : StaysFor g bytes old new core None h l) × IsAlike x t.layout
-      by None is_open = (record {
-        layout = x;
-        same = same;
-        stands = record { stands = is.stands; opens = subst (λ (o : Option OpenJob). Opens None o) (sym is_open) tt };
-        represents = is;
-        fits = fits;
-        through = through;
-        again = again;
-      }, alike_same x)
+      by None is_open = (
+        record {
+          layout = x;
+          same = same;
+          stands = record { stands = is.stands; opens = subst (λ (o : Option OpenJob). Opens None o) (sym is_open) tt };
+          represents = is;
+          fits = fits;
+          through = through;
+          again = again;
+        },
+        alike_same x,
+      )
       by (Some o) is_open =
           let gone : Represents bytes core (g.told new) h (abandon_ruling x h o.job nothing_made).layout =
-          represents_abandoned bytes core h x o nothing_made is_open (record { drawn = tt; distinct = tt }) (g.told new) is in
-          (record {
-            layout = (abandon_ruling x h o.job nothing_made).layout;
-            same = logs_then l x (abandon_ruling x h o.job nothing_made).layout same (ended_logs x h o.job nothing_made);
-            stands = record { stands = gone.stands; opens = tt };
-            represents = gone;
-            fits = fits_abandoned core h x o.job nothing_made (g.told new) fits;
-            through = through;
-            again = again;
-          }, record { frozen = refl; flushed = refl; levels = refl; pass = refl })
+          represents_abandoned bytes core h x o nothing_made is_open (record { drawn = tt; distinct = tt }) (g.told new) is in (
+            record {
+              layout = (abandon_ruling x h o.job nothing_made).layout;
+              same = logs_then l x (abandon_ruling x h o.job nothing_made).layout same (ended_logs x h o.job nothing_made);
+              stands = record { stands = gone.stands; opens = tt };
+              represents = gone;
+              fits = fits_abandoned core h x o.job nothing_made (g.told new) fits;
+              through = through;
+              again = again;
+            },
+            record { frozen = refl; flushed = refl; levels = refl; pass = refl },
+          )
 
   pub given_up : (old new last : D) (core after : Core H) (was now : Option OpenMerge) (h : History) (l : Layout)
       → StaysFor g bytes old new core was h l → last ≡ new → after ≡ core → now ≡ None → StaysFor g bytes old last after now h l

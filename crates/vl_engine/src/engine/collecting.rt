@@ -22,8 +22,8 @@ use vl_layout::SegmentStat;
 use vl_version::Base;
 
 impl<D: Disk> Engine<D> {
-    /// What there is of each log that isn't retired, and how many bytes of it tables lead to, by rising numbers. No file is asked,
-    /// and behind the first step that rotates, flushes or installs no table either.
+    /// What there is of each log that isn't retired, and how many bytes of it tables lead to, by rising numbers. No file is asked.
+    /// Until the first pick, rotation, flush or install of a run it costs a look at the footer of each table, and then none.
     pub fn stats(&self) -> Result<Vec<SegmentStat>, NoMemory>
         ensures { (h : History) (l : Layout) → StandsFor D.Held.bytes self.now.core h l
             → Collects self.now.core self.now.collecting l → IfOk result (λ stats. stats.items ≡ (stats_ruling l h).answer) }
