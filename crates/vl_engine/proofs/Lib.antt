@@ -1,5 +1,6 @@
 pub mod Beginning
 pub mod Begins
+mod Collected
 pub mod Committing
 pub mod DrawFits
 pub mod Drawing
@@ -10,6 +11,7 @@ pub mod Fitting
 pub mod Flushed
 pub mod FlushLawful
 pub mod FlushSteps
+mod Footers
 pub mod HandedIn
 pub mod InstallDisk
 pub mod InstallDiskLeaves
@@ -25,6 +27,8 @@ pub mod KeptBy
 pub mod Leaving
 pub mod Lending
 pub mod LendsNew
+mod PassLaws
+mod Picking
 pub mod Planning
 pub mod PutIn
 pub mod ReadingPast
@@ -42,8 +46,11 @@ pub mod Ruled
 pub mod Seeing
 pub mod Staged
 pub mod Stepped
+mod Switching
 pub mod TakenFiles
 pub mod Taking
+mod TallyBegun
+mod Tallying
 pub mod UnderWay
 pub mod Untold
 pub mod Whole

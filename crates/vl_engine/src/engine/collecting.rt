@@ -1,4 +1,4 @@
-ghost use Rattle.std.specs.Prelude.{◌≡◌, None, IfErr, IfOk};
+ghost use Rattle.std.specs.Prelude.{◌≡◌, ◌==◌, ◌||◌, nat_lt, None, IfErr, IfOk};
 ghost use Rattle.vl_core.specs.MayStep.{Fits};
 ghost use Rattle.vl_core.specs.Passing.{AreReadable};
 ghost use Rattle.vl_core.specs.Represents.{Represents, StandsFor};
@@ -22,8 +22,8 @@ use vl_layout::SegmentStat;
 use vl_version::Base;
 
 impl<D: Disk> Engine<D> {
-    /// What there is of each log that isn't retired, and how many bytes of it tables lead to, by rising numbers. No file is asked,
-    /// and behind the first step that rotates, flushes or installs no table either.
+    /// What there is of each log that isn't retired, and how many bytes of it tables lead to, by rising numbers. No file is asked.
+    /// Until the first pick, rotation, flush or install of a run it costs a look at the footer of each table, and then none.
     pub fn stats(&self) -> Result<Vec<SegmentStat>, NoMemory>
         ensures { (h : History) (l : Layout) → StandsFor D.Held.bytes self.now.core h l
             → Collects self.now.core self.now.collecting l → IfOk result (λ stats. stats.items ≡ (stats_ruling l h).answer) }
@@ -78,7 +78,7 @@ impl<D: Disk> Engine<D> {
         ensures disk { self.new.disk ≡ self.old.disk }
         ensures merging { self.new.merging ≡ self.old.merging }
     {
-        if percent == 0 || percent > 99 {
+        if is_unfair(percent) {
             return Err(PickFail::InvalidRequest);
         }
         if let Some(segment) = self.collecting.passing {
@@ -140,4 +140,11 @@ impl<D: Disk> Engine<D> {
         let _ = pass;
         self.collecting.passing = None;
     }
+}
+
+// Whether no log may be asked for with so many per cent of garbage.
+fn is_unfair(percent: u8) -> bool
+    ensures { result ≡ ((percent == 0) || nat_lt 99 percent) }
+{
+    percent == 0 || percent > 99
 }

@@ -92,8 +92,7 @@ impl<D: Disk> Engine<D> {
         ensures merging { self.new.merging ≡ self.old.merging }
 
         // What is kept of live bytes is that of the tables then.
-        ensures collects { (state : DiskState) (h : History) (l : Layout) → D.told self.old.disk ≡ Some state
-            → StandsFor D.Held.bytes self.old.core h l → (l.halted ≡ None → HasNumbers self.old.core.back l × AreLogFiles l)
+        ensures collects { (h : History) (l : Layout) → Represents D.Held.bytes self.old.core (D.told self.old.disk) h l
             → Collects self.old.core self.old.collecting l
             → Decides (λ _ l. Collects self.new.core self.new.collecting l) h l (flush_ruling l h) (as_before l l)
             (step_outcome result) (flush_effects result) }

@@ -1,4 +1,5 @@
-ghost use Rattle.std.specs.Prelude.{◌≡◌, ◌<◌, ◌≤◌, ℕ, Err, None, Some, IfOk, OnOk};
+ghost use Rattle.std.specs.Prelude.{◌≡◌, ◌<◌, ◌≤◌, ℕ, Err, None, Some, IfOk, IsSome, OnOk, map};
+ghost use Rattle.std.specs.List.{filter};
 ghost use Rattle.std.specs.Option.{ForSome};
 ghost use Rattle.vl_compact.specs.Progress.{made_of};
 ghost use Rattle.vl_disk.specs.Calls.{ChangesNothing};
@@ -6,7 +7,7 @@ ghost use Rattle.vl_disk.specs.DiskState.{DiskState};
 ghost use Rattle.vl_disk.specs.Faults.{HasCause, after_calls};
 ghost use Rattle.vl_disk.specs.declared.name.Name.{Name};
 ghost use Rattle.vl_core.specs.Carries.{Carries, StaysUntold};
-ghost use Rattle.vl_engine.specs.Collecting.{Collects, InstallsFor};
+ghost use Rattle.vl_engine.specs.Collecting.{Collects, InstallsFor, LeadsFrom, points_in, points_made};
 ghost use Rattle.vl_engine.specs.Installing.{HandsBack, InstallFailed, InstallLeavesDisk, InstallsAs, InstallsCore};
 ghost use Rattle.vl_engine.specs.Installing.{InstallsUnraced, IsHandedIn, IsInstallWritten, KeepsAllBut, MayInstall};
 ghost use Rattle.vl_engine.specs.Installing.{StopsInstall, WritesInstall, install_otherwise};
@@ -22,6 +23,9 @@ ghost use Rattle.vl_layout.specs.declared.job.OpenJob.{OpenJob};
 ghost use Rattle.vl_layout.specs.declared.layout.Layout.{Layout};
 ghost use Rattle.vl_model.specs.History.{History};
 ghost use Rattle.vl_model.specs.Limits.{max_version_number};
+ghost use Rattle.vl_table.specs.Tables.{number_of};
+ghost use Rattle.vl_version.specs.Bases.{is_input};
+ghost use Rattle.vl_version.specs.levels.LevelsLooked.{tables_of};
 
 use crate::collecting::head_of;
 use crate::installing::{ReadyInstall, ready_install, write_install};
@@ -30,6 +34,7 @@ use std::alloc::AllocError;
 use vl_compact::{Job, Parts};
 use vl_disk::Disk;
 use vl_model::{Counter, Key};
+use vl_stats::LiveBytes;
 use vl_version::Base;
 
 impl<D: Disk> Engine<D> {
@@ -107,8 +112,9 @@ impl<D: Disk> Engine<D> {
             → self.new.core.back.state.next_log ≤ self.new.core.back.next_log }
 
         // What is kept of live bytes is that of the tables then.
-        ensures collects { (state : DiskState) (h : History) (l : Layout) (o : OpenJob) → D.told self.old.disk ≡ Some state
-            → StandsOpen D.Held.bytes self.old.core self.old.merging h l → l.job ≡ Some o → (l.halted ≡ None → AreLogFiles l)
+        ensures collects { (h : History) (l : Layout) (o : OpenJob)
+            → Represents D.Held.bytes self.old.core (D.told self.old.disk) h l
+            → StandsOpen D.Held.bytes self.old.core self.old.merging h l → l.job ≡ Some o
             → HasAllMerge D.Writer.Writer D.Held.bytes job o.job → AreLent o.lent (made_of job o.job)
             → Collects self.old.core self.old.collecting l
             → Decides (λ _ l. Collects self.new.core self.new.collecting l) h l (install_ruling l h o.job (made_of job o.job))
@@ -171,17 +177,24 @@ impl<D: Disk> Engine<D> {
             self.merging = None;
             return Err(InstallFail::Exhausted(Counter::Version));
         }
-        self.put_in(job)
+        let Ok(live) = self.collecting.live_installed(self.alloc, &self.core, &job) else {
+            return Err(InstallFail::NoMemory(job));
+        };
+        self.put_in(job, live)
     }
 
-    // Nothing stands against it.
+    // Nothing stands against it, and these are the live bytes behind it.
     fn put_in(
         &mut self,
         job: Job<Base<D::Held, D::Reader>, D::Held, D::Writer>,
+        live: LiveBytes,
     ) -> Result<(), InstallFail<Base<D::Held, D::Reader>, D::Held, D::Writer>>
         requires handed { IsHandedIn D.Watched D.Writer.Writer self.old.disk self.old.core.front.halted self.old.merging job }
         requires running { self.old.core.front.halted ≡ None }
         requires version { self.old.core.back.version_number < max_version_number }
+        requires tallied { IsSome self.old.collecting.tally }
+        requires live { LeadsFrom self.old.collecting.tally live (points_made job.made.items) (points_in
+            (filter (is_input (map number_of job.inputs.tables.items)) (tables_of self.old.core.version.behind.levels))) }
         ensures as_installed { InstallsAs D.Watched D.Held.bytes D.Writer.Writer job self.old.disk self.new.disk
             self.old.core self.new.core result }
         ensures handed { HandsBack job self.old.merging self.new.merging result }
@@ -189,9 +202,6 @@ impl<D: Disk> Engine<D> {
         ensures collected { InstallsFor D.Held.bytes self.old.core self.old.collecting self.new.collecting D.Writer.Writer job
             self.new.core result }
     {
-        let Ok(live) = self.collecting.live_installed(self.alloc, &self.core, &job) else {
-            return Err(InstallFail::NoMemory(job));
-        };
         let Ok(ready) = ready_install(self.alloc, &mut self.disk, &self.core, &job) else {
             return Err(InstallFail::NoMemory(job));
         };
