@@ -1,5 +1,5 @@
 -- What is kept of where space comes back from, behind the calls that change it and those that leave it.
-use Rattle.std.specs.Prelude.{◌≡◌, ◌≢◌, ℕ, true, false, Bool, if◌then◌else◌, length, List, [], ◌∷◌, ◌++◌, map, Option, None, Some}
+use Rattle.std.specs.Prelude.{◌≡◌, ℕ, true, false, Bool, if◌then◌else◌, length, List, [], ◌∷◌, ◌++◌, Option, None, Some}
 use Rattle.std.specs.Prelude.{Result, Ok, Err, OnErr, refl}
 use Rattle.std.specs.List.{AllByRecursion, filter}
 use Rattle.std.specs.Option.{option_map}
@@ -271,7 +271,8 @@ module _ {H : Type 0} (core : Core H) (kept : Collecting) (S : History → Layou
       (λ a same answer. collects_alike core kept l ruling.layout
       (leaves.alike (λ n stepped. no result undone n (same ∙ ap Answered (sym answer ∙ stepped)))) has)
       (λ same. has)
-      (λ name same. collects_alike core kept l (halted_at name l) (record { frozen = refl; flushed = refl; levels = refl; pass = refl }) has)
+      (λ name same. collects_alike core kept l (halted_at name l)
+      (record { frozen = refl; flushed = refl; levels = refl; pass = refl }) has)
       (λ name place same. has)
     where
       no : (r : Result (Option ℕ) StepFail) → ((n : ℕ) → r ≡ Ok (Some n) → ⊥) → (n : ℕ) → step_outcome r ≡ Answered (Stepped n) → ⊥

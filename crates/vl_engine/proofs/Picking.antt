@@ -2,12 +2,12 @@
 use Rattle.std.specs.Prelude.{◌≡◌, ◌<◌, ℕ, Bool, true, false, ◌==◌, ◌||◌, nat_lt, if◌then◌else◌, drop, List, [], ◌∷◌, ◌++◌, map}
 use Rattle.std.specs.Prelude.{Option, None, Some, Result, Ok, Err, IfErr, IfOk, refl}
 use Rattle.std.specs.List.{AllByRecursion, filter}
-use Rattle.std.specs.Option.{ForSome, option_map}
-use Rattle.std.proofs.Common.{sym, ap, subst, ◌∙◌, arith}
+use Rattle.std.specs.Option.{option_map}
+use Rattle.std.proofs.Common.{sym, ap, subst, ◌∙◌}
 use Rattle.std.proofs.lemmas.List.{drop_at}
 use Rattle.vl_core.specs.Files.{IsLogFile}
-use Rattle.vl_core.specs.Laid.{HasLayout, HasLog, IsLogOf}
-use Rattle.vl_core.specs.Passing.{AreReadable, IsStillIn}
+use Rattle.vl_core.specs.Laid.{HasLog, IsLogOf}
+use Rattle.vl_core.specs.Passing.{AreReadable}
 use Rattle.vl_core.specs.Pointed.{bytes_of_log, layout_logs, segment_at}
 use Rattle.vl_core.specs.Represents.{StandsFor}
 use Rattle.vl_core.specs.declared.kept.Core.{Core}
@@ -26,7 +26,7 @@ use Rattle.vl_frame.specs.laws.RunLaws.{reads_whole}
 use Rattle.vl_layout.specs.Decides.{Decides, as_before, effects_of, no_effects}
 use Rattle.vl_layout.specs.Garbage.{best, best_of, better_of, is_better, is_worth, stat_of}
 use Rattle.vl_layout.specs.Jobs.{AreDistinct}
-use Rattle.vl_layout.specs.Logs.{LogRecord, records, records_from}
+use Rattle.vl_layout.specs.Logs.{records, records_from}
 use Rattle.vl_layout.specs.Marks.{plain}
 use Rattle.vl_layout.specs.Merging.{Sourced}
 use Rattle.vl_layout.specs.Rulings.Plan.{sourced}
@@ -34,7 +34,7 @@ use Rattle.vl_layout.specs.Relocation as layout
 use Rattle.vl_layout.specs.Ruling.{Ruling, leaving}
 use Rattle.vl_layout.specs.Rulings.Pick.{InvalidRequest, NoRewrite, PickAnswer, Picked, Rejected, pass_over, pick_best, pick_ruling}
 use Rattle.vl_layout.specs.Rulings.Pick.{pick_unless, records_in, with_pass}
-use Rattle.vl_layout.specs.Sources.{head, sources, tables}
+use Rattle.vl_layout.specs.Sources.{head, tables}
 use Rattle.vl_layout.specs.Tidy.{IsTidy, log_numbers, sealed}
 use Rattle.vl_layout_laws.specs.laws.TidyRulings.{pick_tidy}
 use Rattle.vl_layout.specs.declared.job.OpenPass.{OpenPass}

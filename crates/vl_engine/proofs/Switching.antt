@@ -1,6 +1,6 @@
 -- What is kept of live bytes behind a flush and an install.
-use Rattle.std.specs.Prelude.{◌≡◌, ℕ, Bool, true, false, if◌then◌else◌, List, [], ◌∷◌, ◌++◌, map, Option, None, Some, IsSome, Result, Ok, Err, refl}
-use Rattle.std.specs.Arc.{arc_value}
+use Rattle.std.specs.Prelude.{◌≡◌, ℕ, Bool, true, false, if◌then◌else◌, List, [], ◌∷◌, map, Option, None, Some}
+use Rattle.std.specs.Prelude.{IsSome, Result, Ok, Err, refl}
 use Rattle.std.specs.List.{AllZip, filter, flat_map}
 use Rattle.std.proofs.Common.{sym, ap, subst, ◌∙◌}
 use Rattle.vl_block.specs.Cutting.{points_of}
@@ -30,12 +30,12 @@ use Rattle.vl_engine.specs.declared.open.Collecting.{Collecting}
 use Rattle.vl_layout.specs.Decides.{Answered, Damaged, Decides, Effects, Failed, NoMemory}
 use Rattle.vl_layout.specs.Jobs.{Made, tables_made}
 use Rattle.vl_layout.specs.Levels.{in_front, is_among}
-use Rattle.vl_layout.specs.Ruling.{Ruling, StepAnswer, Stepped, halted_at, has_no_version, leaving}
+use Rattle.vl_layout.specs.Ruling.{Ruling, Stepped, halted_at, has_no_version, leaving}
 use Rattle.vl_layout.specs.Rulings.Flush.{flush_ruling, flushed, flushed_table}
 use Rattle.vl_layout.specs.Rulings.Install as install
 use Rattle.vl_layout.specs.Rulings.Install.{InstallAnswer, Installed, install_checked, install_ruling, install_unless, installed}
 use Rattle.vl_layout.specs.Rulings.Install.{moved_since, race}
-use Rattle.vl_layout.specs.Sources.{head, numbers_of, tables}
+use Rattle.vl_layout.specs.Sources.{numbers_of, tables}
 use Rattle.vl_layout.specs.Tidy.{IsTidy, IsTrueTable}
 use Rattle.vl_layout.specs.declared.file_name.FileName.{FileName}
 use Rattle.vl_layout.specs.declared.job.Job as laid_job
@@ -61,7 +61,8 @@ use Rattle.vl_version.specs.declared.version.Version.{Version}
 
 -- ---- live bytes
 
-leads_to : (l : Layout) (came gone after : List laid.Table) (kept : Option Tallied) (live : List (ℕ × ℕ)) (added dropped : List (List Point))
+leads_to : (l : Layout) (came gone after : List laid.Table) (kept : Option Tallied) (live : List (ℕ × ℕ))
+    (added dropped : List (List Point))
     → IsTallied kept l → LeadsFrom kept live added dropped → added ≡ points_of_tables came → dropped ≡ points_of_tables gone
     → IsSwitch (tables l) came gone after → AreOf after live
 leads_to l came gone after None live added dropped is leads first second switch = absurd is
@@ -262,7 +263,8 @@ pub install_err : {H : Type 0} (R W : Type 0) (writers : Writers W) (core : Core
 install_err R W writers core kept S h l job made effects has why is =
     install_left core kept S h l job made effects has (Err why) (install_undone why (Err why) refl) is
 
-install_same : {V H W : Type 0} {g : _} (before after : Core H) (why : InstallFail V H W g) (result : Result (Unit {0}) (InstallFail V H W g))
+install_same : {V H W : Type 0} {g : _} (before after : Core H) (why : InstallFail V H W g)
+    (result : Result (Unit {0}) (InstallFail V H W g))
     → result ≡ Err why → InstallsCore before after result → after.version ≡ before.version
 install_same {V} {H} {W} {g} before after why (Ok done) is did = absurd cc
 install_same {V} {H} {W} {g} before after why (Err (fails.Halted name)) is did = ap (λ (c : Core H). c.version) did.1
