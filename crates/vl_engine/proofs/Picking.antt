@@ -30,7 +30,7 @@ use Rattle.vl_frame.specs.laws.RunLaws.{reads_whole}
 use Rattle.vl_layout.specs.Decides.{Decides, as_before, effects_of, no_effects}
 use Rattle.vl_layout.specs.Garbage.{best, best_of, better_of, is_better, is_worth, stat_of}
 use Rattle.vl_layout.specs.Jobs.{AreDistinct}
-use Rattle.vl_layout.specs.Logs.{LogRecord, records, records_from}
+use Rattle.vl_layout.specs.Logs.{records, records_from}
 use Rattle.vl_layout.specs.Marks.{plain}
 use Rattle.vl_layout.specs.Merging.{Sourced}
 use Rattle.vl_layout.specs.Rulings.Plan.{sourced}
@@ -38,7 +38,7 @@ use Rattle.vl_layout.specs.Relocation as layout
 use Rattle.vl_layout.specs.Ruling.{Ruling, leaving}
 use Rattle.vl_layout.specs.Rulings.Pick.{InvalidRequest, NoRewrite, PickAnswer, Picked, Rejected, pass_over, pick_best, pick_ruling}
 use Rattle.vl_layout.specs.Rulings.Pick.{pick_unless, records_in, with_pass}
-use Rattle.vl_layout.specs.Sources.{head, sources, tables}
+use Rattle.vl_layout.specs.Sources.{head, tables}
 use Rattle.vl_layout.specs.Tidy.{IsTidy, log_numbers, sealed}
 use Rattle.vl_layout_laws.specs.laws.TidyRulings.{pick_tidy}
 use Rattle.vl_layout.specs.declared.job.OpenPass.{OpenPass}

@@ -1,4 +1,5 @@
-use Rattle.std.proofs.Common.{Ok, Option, Some, ap, refl, subst, sym, ◌∙◌}
+use Rattle.std.proofs.Common.{Global, Ok, Option, Some, Vec, ap, refl, subst, sym, ◌∙◌}
+use Rattle.vl_seglog.specs.declared.sealed.SealedLog.{SealedLog}
 use Rattle.vl_compact.specs.Progress.{made_of}
 use Rattle.vl_disk.specs.declared.errors.NoMemory.{NoMemory}
 use Rattle.vl_core.specs.laws.Carrying.{IsWatched}
@@ -160,7 +161,8 @@ returns-in-Err-clause-collects g c h l is stands fits has =
     let collects = collects_so c.args.self.now.core c.carry_out.new.self.core c.args.self.now.collecting
     c.carry_out.new.self.collecting l makes.stays.layout s.same (makes.levels ∙ opened.tables.levels)
     (makes.flushed ∙ opened.tables.flushed)
-    (ap (λ x. x.items) (c.carry_out.ensures.logs ∙ ap (λ (k : Core g.row.D-Held.Denot). k.version.behind.logs) c.plan.ensures.core))
+    (ap (λ (v : Vec (SealedLog g.row.D-Held.Denot) Global). v.items) c.carry_out.ensures.logs
+    ∙ ap (λ (k : Core g.row.D-Held.Denot). k.version.behind.logs.items) c.plan.ensures.core)
     (c.carry_out.ensures.collecting ∙ c.plan.ensures.collecting) has in
     given_up_collecting g.D.Watched bytes c.args.self.now.disk c.carry_out.new.self.disk c.abandon.new.self.disk
     c.carry_out.new.self.core c.abandon.new.self.core c.carry_out.new.self.merging c.abandon.new.self.merging
@@ -182,7 +184,8 @@ returns-in-Ok-clause-collects g c h l is stands fits has =
     let collects = collects_so c.args.self.now.core c.carry_out.new.self.core c.args.self.now.collecting
     c.carry_out.new.self.collecting l makes.stays.layout s.same (makes.levels ∙ opened.tables.levels)
     (makes.flushed ∙ opened.tables.flushed)
-    (ap (λ x. x.items) (c.carry_out.ensures.logs ∙ ap (λ (k : Core g.row.D-Held.Denot). k.version.behind.logs) c.plan.ensures.core))
+    (ap (λ (v : Vec (SealedLog g.row.D-Held.Denot) Global). v.items) c.carry_out.ensures.logs
+    ∙ ap (λ (k : Core g.row.D-Held.Denot). k.version.behind.logs.items) c.plan.ensures.core)
     (c.carry_out.ensures.collecting ∙ c.plan.ensures.collecting) has in
     let whole = subst (λ (j : Job). HasAllMerge g.D.Writer.Writer bytes c.carry_out.new.job j) (sym makes.job_is) makes.whole in
     let lent = subst (λ (j : Job). AreLent makes.open_job.lent (made_of c.carry_out.new.job j)) (sym makes.job_is) makes.lent in
@@ -216,7 +219,8 @@ returns-in-Err-install-clause-collects g c h l is stands fits has =
     let collects = collects_so c.args.self.now.core c.carry_out.new.self.core c.args.self.now.collecting
     c.carry_out.new.self.collecting l makes.stays.layout s.same (makes.levels ∙ opened.tables.levels)
     (makes.flushed ∙ opened.tables.flushed)
-    (ap (λ x. x.items) (c.carry_out.ensures.logs ∙ ap (λ (k : Core g.row.D-Held.Denot). k.version.behind.logs) c.plan.ensures.core))
+    (ap (λ (v : Vec (SealedLog g.row.D-Held.Denot) Global). v.items) c.carry_out.ensures.logs
+    ∙ ap (λ (k : Core g.row.D-Held.Denot). k.version.behind.logs.items) c.plan.ensures.core)
     (c.carry_out.ensures.collecting ∙ c.plan.ensures.collecting) has in
     let whole = subst (λ (j : Job). HasAllMerge g.D.Writer.Writer bytes c.carry_out.new.job j) (sym makes.job_is) makes.whole in
     let lent = subst (λ (j : Job). AreLent makes.open_job.lent (made_of c.carry_out.new.job j)) (sym makes.job_is) makes.lent in
