@@ -5,7 +5,7 @@ use Rattle.std.specs.List.{AllByRecursion}
 use Rattle.std.specs.Option.{ForSome}
 use Rattle.std.specs.Str.{bytes_eq}
 use Rattle.std.proofs.lemmas.Slice.Eq.{bytes_eq-Decides}
-use Rattle.vl_collect.specs.Passing.{AreLeft, Gives, IsPass}
+use Rattle.vl_collect.specs.Passing.{AreLeft, EndsAlike, Gives, IsPass, IsWholeFrom, TornBehind}
 use Rattle.vl_collect.specs.declared.pass.Pass.{Pass as ThePass}
 use Rattle.vl_collect.specs.laws.StandingLaws.{given}
 use Rattle.vl_core.specs.Lasts.{Lasts}
@@ -198,6 +198,19 @@ module _ {H R : Type 0} (bytes : H → Option (List ℕ)) (seen : Option DiskSta
 
 -- ---- the pass behind it
 
+-- a log whose frames from one place on reach to its end: they do from the other, where they end alike,
+pub still_whole : {H : Type 0} (bytes : H → Option (List ℕ)) (log : SealedLog H) (from to : ℕ) → EndsAlike bytes log from to
+    → IsWholeFrom bytes log from → IsWholeFrom bytes log to
+still_whole bytes log from to ends whole = λ told tells. ends told (length told) tells (whole told tells)
+
+-- and nothing of it is torn
+pub whole_not_torn : {H : Type 0} (bytes : H → Option (List ℕ)) (log : SealedLog H) (place found : ℕ) (told : List ℕ)
+    → bytes log.held ≡ Some told → IsWholeFrom bytes log place → TornBehind bytes log place found → ⊥
+whole_not_torn bytes log place found told tells whole torn =
+    let there = torn told tells in
+    let at = there.ends (length told) (whole told tells) in
+    omega (arith, at, there.torn.within)
+
 module _ {H R : Type 0} (bytes : H → Option (List ℕ)) (ts : List (Name × Thing)) (l : Layout) (name : Name)
     (old new : Passing (Base H R) H) (going : IsPassing bytes old ts l) (name_is : name ≡ old.name) (keeps_name : new.name ≡ old.name)
     (log : new.pass.log ≡ old.pass.log) (base : new.pass.base ≡ old.pass.base) where
@@ -206,9 +219,9 @@ module _ {H R : Type 0} (bytes : H → Option (List ℕ)) (ts : List (Name × Th
 
   -- It goes on with what it gave.
   pub goes_on : (batch : Option (List Candidate)) → batch ≡ (next_batch going.pass).0 → new.batch ≡ batch
-      → GoesOver bytes new.pass (next_batch going.pass).1
+      → GoesOver bytes new.pass (next_batch going.pass).1 → IsWholeFrom bytes new.pass.log new.pass.at.place
       → IsPassing bytes new (named name (APass (next_batch going.pass).1 batch) ts) l
-  goes_on batch gave is goes = record {
+  goes_on batch gave is goes whole = record {
     pass = (next_batch going.pass).1;
     is_open = going.is_open;
     goes = goes;
@@ -224,6 +237,7 @@ module _ {H R : Type 0} (bytes : H → Option (List ℕ)) (ts : List (Name × Th
         ∙ sym keeps_name)
         (same_or_not q name);
     lasts = subst (λ (x : SealedLog H). Lasts bytes x l) (sym log) going.lasts;
+    whole = whole;
     batch = λ cs e. subst (λ (x : SealedLog H). AreThere bytes x cs) (sym log)
         (given_there bytes old.pass going.pass going.goes cs (sym gave ∙ sym is ∙ e));
   }
@@ -235,14 +249,19 @@ module _ {H R : Type 0} (bytes : H → Option (List ℕ)) (core : Core H) (colle
   abbrev p : Pass
   p = before.is_open.pass
 
+  whole_then : EndsAlike bytes old.pass.log old.pass.at.place new.pass.at.place → IsWholeFrom bytes new.pass.log new.pass.at.place
+  whole_then ends =
+      subst (λ (x : SealedLog H). IsWholeFrom bytes x new.pass.at.place) (sym (ap (λ (x : ThePass (Base H R) H). x.log) kept))
+      (still_whole bytes old.pass.log old.pass.at.place new.pass.at.place ends before.is_open.whole)
+
   pub there_is : thing_of s name ≡ Some (APass p None)
   there_is = ap (thing_in s.things) name_is ∙ before.is_open.there ∙ ap (λ (b : Option (List Candidate)). Some (APass p b)) none
 
   pub passes_then : (batch : Option (List Candidate)) → new.batch ≡ batch → batch ≡ (next_batch p).0
-      → GoesOver bytes new.pass (next_batch p).1
+      → GoesOver bytes new.pass (next_batch p).1 → EndsAlike bytes old.pass.log old.pass.at.place new.pass.at.place
       → Passes bytes core collecting (Some new) (batch_by s name (thing_of s name)).state.things
       (batch_by s name (thing_of s name)).state.layout
-  passes_then batch is gave goes =
+  passes_then batch is gave goes ends =
       subst (λ (y : Step). Passes bytes core collecting (Some new) y.state.things y.state.layout)
       (sym (ap (batch_by s name) there_is ∙ ap (found_by s name (next_batch p)) (sym gave))) (of batch is gave)
     where
@@ -252,10 +271,10 @@ module _ {H R : Type 0} (bytes : H → Option (List ℕ)) (core : Core H) (colle
       of None is gave = record {
         collects = before.collects;
         is_open = goes_on bytes s.things s.layout name old new before.is_open name_is keeps_name
-            (ap (λ (x : ThePass (Base H R) H). x.log) kept) (ap (λ (x : ThePass (Base H R) H). x.base) kept) None gave is goes;
+            (ap (λ (x : ThePass (Base H R) H). x.log) kept) (ap (λ (x : ThePass (Base H R) H). x.base) kept) None gave is goes (whole_then ends);
       }
       of (Some batch) is gave = record {
         collects = before.collects;
         is_open = goes_on bytes s.things s.layout name old new before.is_open name_is keeps_name
-            (ap (λ (x : ThePass (Base H R) H). x.log) kept) (ap (λ (x : ThePass (Base H R) H). x.base) kept) (Some batch) gave is goes;
+            (ap (λ (x : ThePass (Base H R) H). x.log) kept) (ap (λ (x : ThePass (Base H R) H). x.base) kept) (Some batch) gave is goes (whole_then ends);
       }

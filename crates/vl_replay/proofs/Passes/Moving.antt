@@ -3,6 +3,7 @@ use Rattle.std.proofs.Common.{◌≡◌, ⊎_elim, ℕ, ◌≤◌, ◌+◌, nat_
 use Rattle.std.specs.Prelude.{Option, None, Some, Ok, Err, Result, OnOk, IsTrue}
 use Rattle.std.specs.List.{AllByRecursion, filter}
 use Rattle.std.specs.Option.{ForSome, option_map}
+use Rattle.vl_collect.specs.Passing.{IsWholeFrom}
 use Rattle.vl_collect.specs.declared.pass.Pass.{Pass as ThePass}
 use Rattle.vl_core.specs.Lasts.{Lasts}
 use Rattle.vl_core.specs.Represents as engine
@@ -275,9 +276,12 @@ module _ {H R : Type 0} (bytes : H → Option (List ℕ)) (seen now : Option Dis
           },
         )
 
-    pub refused_makes : (a : MoveAnswer) (told : Answer) → IsRefusal l h a → IsTold told (refused_told a) → AnsweredBy a
+    pub refused_makes : (a : MoveAnswer) (told : Answer) → IsRefusal l h a → IsTold told (refused_told a) → (o : Outcome MoveAnswer)
+        → o ≡ Answered a → Decides (Serves bytes now s.openable after) h l r otherwise o effects
         → MakesStep bytes now after os s moving (Ok told)
-    refused_makes a told refused is decides =
+    refused_makes a told refused is o came decided =
+        let decides : AnsweredBy a =
+            subst (λ (o : Outcome MoveAnswer). Decides (Serves bytes now s.openable after) h l r otherwise o effects) came decided in
         let (same, there_then) = decides.answered a refl in
         let on = subst (λ (q : Ruling MoveAnswer). Serves bytes now s.openable after q.history q.layout)
         (refused_leaves l h p batch a same refused) there_then in
@@ -308,9 +312,11 @@ module _ {H R : Type 0} (bytes : H → Option (List ℕ)) (seen now : Option Dis
         let (same, open_then) = decides.answered (move.Moves n) refl in
         subst (λ (y : Step). Opens merging y.state.layout.job) (sym (step_by (move.Moves n) same)) open_then.opens
 
-    pub refused_opens : (a : MoveAnswer) → IsRefusal l h a → Decides (StandsOpen bytes after merging) h l r otherwise (Answered a) effects
-        → Opens merging moving.state.layout.job
-    refused_opens a refused decides =
+    pub refused_opens : (a : MoveAnswer) → IsRefusal l h a → (o : Outcome MoveAnswer) → o ≡ Answered a
+        → Decides (StandsOpen bytes after merging) h l r otherwise o effects → Opens merging moving.state.layout.job
+    refused_opens a refused o came decided =
+        let decides =
+            subst (λ (o : Outcome MoveAnswer). Decides (StandsOpen bytes after merging) h l r otherwise o effects) came decided in
         let (same, open_then) = decides.answered a refl in
         subst (λ (y : Step). Opens merging y.state.layout.job) (sym (refused_is a same refused))
         (subst (λ (q : Ruling MoveAnswer). Opens merging q.layout.job) (refused_leaves l h p batch a same refused) open_then.opens)
@@ -344,6 +350,7 @@ module _ {H R : Type 0} (bytes : H → Option (List ℕ)) (seen now : Option Dis
                 (same_or_not q name);
             lasts = subst (λ (x : ThePass (Base H R) H). Lasts bytes x.log r.layout) (sym keeps_pass)
                 (lasts_same bytes going.pass.log l passes.is_open.lasts r.layout keeps.sealed keeps.number);
+            whole = subst (λ (x : ThePass (Base H R) H). IsWholeFrom bytes x.log x.at.place) (sym keeps_pass) passes.is_open.whole;
             batch = λ cs e. absurd (none_some cs (sym none ∙ e));
           };
         })

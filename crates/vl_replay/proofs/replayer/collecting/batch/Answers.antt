@@ -59,6 +59,7 @@ returns-in-Ok-Some-clause-passes g c s stands =
     passes_then bytes c.args.served.now.engine.core c.args.served.now.engine.collecting s.store c.args.name c.in-Some.going
     (record { name = c.in-Some.going.name; pass = c.next.new.self; batch = Some c.in-Ok-Some.batch }) before name_is none refl
     c.next.ensures.kept (Some c.in-Ok-Some.batch) refl (sym c.in-Ok-Some.field-0-is ∙ gives.batch_is) gives.now
+    c.in-Ok-Some.ensures.ends
 
 pub returns-in-Ok-None-clause-makes : goal.returns-in-Ok-None-clause-makes
 returns-in-Ok-None-clause-makes g c s stands =
@@ -87,7 +88,7 @@ returns-in-Ok-None-clause-passes g c s stands =
     (before.is_open.looks c.in_ok-reader.reader.looks (λ files. c.in_ok-reader.ensures.blocks files)) before.is_open.goes in
     passes_then bytes c.args.served.now.engine.core c.args.served.now.engine.collecting s.store c.args.name c.in-Some.going
     (record { name = c.in-Some.going.name; pass = c.next.new.self; batch = c.in-Some.going.batch }) before name_is none refl
-    c.next.ensures.kept None none (sym c.in-Ok-None.field-0-is ∙ gives.batch_is) gives.now
+    c.next.ensures.kept None none (sym c.in-Ok-None.field-0-is ∙ gives.batch_is) gives.now c.in-Ok-None.ensures.ends
 
 pub returns-clause-undamaged : goal.returns-clause-undamaged
 returns-clause-undamaged g c = ?

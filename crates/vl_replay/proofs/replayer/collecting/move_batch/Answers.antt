@@ -9,9 +9,7 @@ use Rattle.vl_core.specs.laws.StillLaws.{there_now}
 use Rattle.vl_engine.specs.Merging.{StandsOpen}
 use Rattle.vl_engine.specs.Relocating.{IsDamaged, IsOfPass, MoveLeavesDisk, batch_back, move_outcome}
 use Rattle.vl_engine.specs.declared.fails.MoveFail.{MoveFail}
-use Rattle.vl_layout.specs.Decides.{Answered, Decides, Outcome, as_before}
 use Rattle.vl_layout.specs.Rulings.Relocate as move
-use Rattle.vl_layout.specs.Rulings.Relocate.{MoveAnswer, relocate_ruling}
 use Rattle.vl_layout.specs.Store.Dispatch.{move_by}
 use Rattle.vl_layout.specs.Store.Lines as store_lines
 use Rattle.vl_layout.specs.Shown.{IsThere}
@@ -284,13 +282,12 @@ returns-in-Err-Full-clause-makes g c s stands =
       fits = c.in_ok-reader.ensures.fits h l stands.serves.engine;
     } in
     let within = subst (λ (b : Back). b.state.next_log ≤ b.next_log) (sym c.relocate.ensures.steps) stands.serves.within in
-    refused_makes bytes seen now core then os s stands.serves name p batch there within _ _ (move.Full c.in-Err-Full.field-0-1 c.in-Err-Full.field-0-2) answers.Full tt refl
-    (subst (λ (o : Outcome MoveAnswer). Decides (Serves bytes now s.openable then) h l (relocate_ruling l h p batch) _ o _) (ap (λ (f : MoveFail). move_outcome (Err f)) c.in-Err-Full.field-0-is)
+    refused_makes bytes seen now core then os s stands.serves name p batch there within _ _ (move.Full c.in-Err-Full.field-0-1 c.in-Err-Full.field-0-2) answers.Full tt refl _ (ap (λ (f : MoveFail). move_outcome (Err f)) c.in-Err-Full.field-0-is)
     (decides_all bytes now s.openable then h l _ _ _ _
     (decides_weaker (StandsOpen bytes then c.relocate.new.self.merging) (engine.StandsFor bytes then) (λ k m both. both.stands) h l _ _ _ _
     (c.in-Err-Full.ensures.stands h l p of (record { stands = stands.serves.engine; opens = stands.opens })))
     (c.in-Err-Full.ensures.fits h l p of stands.serves.fits)
-    (λ openable. (c.in-Err-Full.ensures.carries h l p of (represents bytes seen core os s stands.serves openable)).decides)))
+    (λ openable. (c.in-Err-Full.ensures.carries h l p of (represents bytes seen core os s stands.serves openable)).decides))
 
 pub returns-in-Err-Full-clause-passes : goal.returns-in-Err-Full-clause-passes
 returns-in-Err-Full-clause-passes g c s stands =
@@ -383,9 +380,8 @@ returns-in-Err-Full-clause-opens g c s stands =
       fits = c.in_ok-reader.ensures.fits h l stands.serves.engine;
     } in
     let within = subst (λ (b : Back). b.state.next_log ≤ b.next_log) (sym c.relocate.ensures.steps) stands.serves.within in
-    refused_opens bytes seen now core then os s stands.serves name p batch there c.relocate.new.self.merging _ _ (move.Full c.in-Err-Full.field-0-1 c.in-Err-Full.field-0-2) tt
-    (subst (λ (o : Outcome MoveAnswer). Decides (StandsOpen bytes then c.relocate.new.self.merging) h l (relocate_ruling l h p batch) _ o _)
-    (ap (λ (f : MoveFail). move_outcome (Err f)) c.in-Err-Full.field-0-is) (c.in-Err-Full.ensures.stands h l p of (record { stands = stands.serves.engine; opens = stands.opens })))
+    refused_opens bytes seen now core then os s stands.serves name p batch there c.relocate.new.self.merging _ _ (move.Full c.in-Err-Full.field-0-1 c.in-Err-Full.field-0-2) tt _ (ap (λ (f : MoveFail). move_outcome (Err f)) c.in-Err-Full.field-0-is)
+    (c.in-Err-Full.ensures.stands h l p of (record { stands = stands.serves.engine; opens = stands.opens }))
 
 pub returns-in-Err-Exhausted-clause-makes : goal.returns-in-Err-Exhausted-clause-makes
 returns-in-Err-Exhausted-clause-makes g c s stands =
@@ -414,13 +410,12 @@ returns-in-Err-Exhausted-clause-makes g c s stands =
       fits = c.in_ok-reader.ensures.fits h l stands.serves.engine;
     } in
     let within = subst (λ (b : Back). b.state.next_log ≤ b.next_log) (sym c.relocate.ensures.steps) stands.serves.within in
-    refused_makes bytes seen now core then os s stands.serves name p batch there within _ _ (move.Exhausted c.in-Err-Exhausted.counter) (answers.Exhausted c.in-Err-Exhausted.counter) tt refl
-    (subst (λ (o : Outcome MoveAnswer). Decides (Serves bytes now s.openable then) h l (relocate_ruling l h p batch) _ o _) (ap (λ (f : MoveFail). move_outcome (Err f)) c.in-Err-Exhausted.field-0-is)
+    refused_makes bytes seen now core then os s stands.serves name p batch there within _ _ (move.Exhausted c.in-Err-Exhausted.counter) (answers.Exhausted c.in-Err-Exhausted.counter) tt refl _ (ap (λ (f : MoveFail). move_outcome (Err f)) c.in-Err-Exhausted.field-0-is)
     (decides_all bytes now s.openable then h l _ _ _ _
     (decides_weaker (StandsOpen bytes then c.relocate.new.self.merging) (engine.StandsFor bytes then) (λ k m both. both.stands) h l _ _ _ _
     (c.in-Err-Exhausted.ensures.stands h l p of (record { stands = stands.serves.engine; opens = stands.opens })))
     (c.in-Err-Exhausted.ensures.fits h l p of stands.serves.fits)
-    (λ openable. (c.in-Err-Exhausted.ensures.carries h l p of (represents bytes seen core os s stands.serves openable)).decides)))
+    (λ openable. (c.in-Err-Exhausted.ensures.carries h l p of (represents bytes seen core os s stands.serves openable)).decides))
 
 pub returns-in-Err-Exhausted-clause-passes : goal.returns-in-Err-Exhausted-clause-passes
 returns-in-Err-Exhausted-clause-passes g c s stands =
@@ -513,9 +508,8 @@ returns-in-Err-Exhausted-clause-opens g c s stands =
       fits = c.in_ok-reader.ensures.fits h l stands.serves.engine;
     } in
     let within = subst (λ (b : Back). b.state.next_log ≤ b.next_log) (sym c.relocate.ensures.steps) stands.serves.within in
-    refused_opens bytes seen now core then os s stands.serves name p batch there c.relocate.new.self.merging _ _ (move.Exhausted c.in-Err-Exhausted.counter) tt
-    (subst (λ (o : Outcome MoveAnswer). Decides (StandsOpen bytes then c.relocate.new.self.merging) h l (relocate_ruling l h p batch) _ o _)
-    (ap (λ (f : MoveFail). move_outcome (Err f)) c.in-Err-Exhausted.field-0-is) (c.in-Err-Exhausted.ensures.stands h l p of (record { stands = stands.serves.engine; opens = stands.opens })))
+    refused_opens bytes seen now core then os s stands.serves name p batch there c.relocate.new.self.merging _ _ (move.Exhausted c.in-Err-Exhausted.counter) tt _ (ap (λ (f : MoveFail). move_outcome (Err f)) c.in-Err-Exhausted.field-0-is)
+    (c.in-Err-Exhausted.ensures.stands h l p of (record { stands = stands.serves.engine; opens = stands.opens }))
 
 pub returns-in-Err-NoMemory-clause-carries : goal.returns-in-Err-NoMemory-clause-carries
 returns-in-Err-NoMemory-clause-carries g c s stands =
