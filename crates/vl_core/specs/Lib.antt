@@ -8,9 +8,12 @@ pub mod Held
 pub mod KeepFacts
 pub mod Known
 pub mod Laid
+pub mod Lasts
 pub mod laws
 pub mod LiesOver
 pub mod MayStep
+pub mod MoveFacts
+pub mod Passing
 pub mod Pointed
 pub mod Reopened
 pub mod Represents

@@ -1,5 +1,6 @@
 -- Laws of what an engine stands for, by matter, which proofs in other crates cite.
 pub mod AmongLaws
+pub mod AppendedLaws
 pub mod Appending
 pub mod AsideLaws
 pub mod BegunBare
@@ -41,6 +42,7 @@ pub mod LaidFlush
 pub mod LaidLaws
 pub mod LaidRotate
 pub mod LaidTables
+pub mod Lasting
 pub mod LedLaws
 pub mod LiveLaws
 pub mod LogEntries
@@ -48,10 +50,17 @@ pub mod MemtableLaws
 pub mod MemtablePlaces
 pub mod MemtableSpelled
 pub mod Merged
+pub mod MovedLaws
+pub mod MovedSettled
 pub mod Opened
 pub mod OpensAgain
 pub mod PlanSources
 pub mod ReadLaws
+pub mod RelocateCarrying
+pub mod RelocateFits
+pub mod RelocateLaws
+pub mod RelocateRulings
+pub mod RelocateStanding
 pub mod ReopenedLaws
 pub mod ReopenedShown
 pub mod Represented
@@ -63,11 +72,13 @@ pub mod RulingLaws
 pub mod SegmentLaws
 pub mod SharedLaws
 pub mod ShownLaws
+pub mod SourcedLaws
 pub mod SparedLaws
 pub mod SparedRulings
 pub mod SparedSteps
 pub mod Standing
 pub mod StartLaws
+pub mod StillLaws
 pub mod SwitchLaws
 pub mod TableReads
 pub mod Untouched

@@ -1,15 +1,17 @@
 pub mod Beginning
 pub mod Begins
+mod Collected
 pub mod Committing
 pub mod DrawFits
-pub mod Drawing
 pub mod DrawSteps
+pub mod Drawing
 pub mod Filing
 pub mod Fitted
 pub mod Fitting
-pub mod Flushed
 pub mod FlushLawful
 pub mod FlushSteps
+pub mod Flushed
+mod Footers
 pub mod HandedIn
 pub mod InstallDisk
 pub mod InstallDiskLeaves
@@ -25,17 +27,30 @@ pub mod KeptBy
 pub mod Leaving
 pub mod Lending
 pub mod LendsNew
+mod PassLaws
+mod Picking
 pub mod Planning
 pub mod PutIn
 pub mod ReadingPast
-pub mod Rotated
+pub mod RelocatingAnswers
+pub mod RelocatingEntries
+pub mod RelocatingExits
+pub mod RelocatingFound
+pub mod RelocatingReads
+pub mod RelocatingStaged
+pub mod RelocatingTotals
+pub mod RelocatingWritten
 pub mod RotateSteps
+pub mod Rotated
 pub mod Ruled
 pub mod Seeing
 pub mod Staged
 pub mod Stepped
+mod Switching
 pub mod TakenFiles
 pub mod Taking
+mod TallyBegun
+mod Tallying
 pub mod UnderWay
 pub mod Untold
 pub mod Whole

@@ -27,7 +27,10 @@ use Rattle.vl_engine.specs.Merging.{FitsReaders, HasAllMerge, HasMerge, StandsOp
 use Rattle.vl_core.specs.Represents.{Represents}
 use Rattle.vl_core.specs.Shown.{LeavesBetween}
 use Rattle.vl_core.specs.MayStep.{Fits}
-use Rattle.vl_engine.specs.Whole.{HasSameLogs, MakesTables, StaysFor, kept_of}
+use Rattle.vl_engine.proofs.Collected.{IsAlike, alike_same, collects_alike, collects_same}
+use Rattle.vl_engine.specs.Collecting.{Collects}
+use Rattle.vl_engine.specs.Whole.{HasSameLogs, MakesTables, StaysCollecting, StaysFor, kept_of}
+use Rattle.vl_engine.specs.declared.open.Collecting.{Collecting}
 use Rattle.vl_engine.specs.declared.fails.MergeFail.{MergeFail}
 use Rattle.vl_engine.specs.declared.fails.StepFail.{StepFail}
 use Rattle.vl_core.specs.declared.kept.Core.{Core}
@@ -169,12 +172,28 @@ lost_logs name l h job made = record {
   pass = refl;
 }
 
+-- what is kept of where space comes back from is that of a layout with the same logs and tables
+pub collects_so : {H : Type 0} (before after : Core H) (was now : Collecting) (l x : Layout) → HasSameLogs l x → x.levels ≡ l.levels
+    → x.flushed ≡ l.flushed → after.version.behind.logs.items ≡ before.version.behind.logs.items → now ≡ was → Collects before was l
+    → Collects after now x
+collects_so before after was now l x same levels flushed logs kept has =
+    collects_alike after now l x (record { frozen = same.frozen; flushed = flushed; levels = levels; pass = same.pass })
+    (collects_same before after was now l logs kept has)
+
 -- an open job stays open, but for what was lent to it
 abbrev pub KeepsJob : Layout → Layout → Type 0
 KeepsJob l x = (o : OpenJob) → l.job ≡ Some o → (p : OpenJob) × (x.job ≡ Some p) × (p.job ≡ o.job)
 
+-- no table and no log that was flushed comes or goes
+pub record SameTables (l x : Layout) : Type 0 where
+  pub levels : x.levels ≡ l.levels
+  pub flushed : x.flushed ≡ l.flushed
+
+tables_then : (a b c : Layout) → SameTables a b → SameTables b c → SameTables a c
+tables_then a b c one two = record { levels = two.levels ∙ one.levels; flushed = two.flushed ∙ one.flushed }
+
 abbrev pub KeepsBoth : Layout → Layout → Type 0
-KeepsBoth l x = HasSameLogs l x × KeepsJob l x
+KeepsBoth l x = HasSameLogs l x × KeepsJob l x × SameTables l x
 
 -- ---- rulings
 
@@ -194,8 +213,11 @@ fresh_by l h P left drew = by l.halted
 
 fresh_keeps : (l : Layout) (h : History) → KeepsBoth l (fresh_ruling l h).layout
 fresh_keeps l h =
-    fresh_by l h (λ r. KeepsBoth l r.layout) (λ a. (same_logs l, λ o is. (o, is, refl)))
-    (drawn_logs l, λ o is. (record o { lent = o.lent ++ l.next_table ∷ [] }, ap (lent_to l.next_table) is, refl))
+    fresh_by l h (λ r. KeepsBoth l r.layout) (λ a. (same_logs l, λ o is. (o, is, refl), record { levels = refl; flushed = refl })) (
+      drawn_logs l,
+      λ o is. (record o { lent = o.lent ++ l.next_table ∷ [] }, ap (lent_to l.next_table) is, refl),
+      record { levels = refl; flushed = refl },
+    )
 
 fresh_halted : (l : Layout) (h : History) → (fresh_ruling l h).layout.halted ≡ l.halted
 fresh_halted l h = fresh_by l h (λ r. r.layout.halted ≡ l.halted) (λ a. refl) refl
@@ -364,16 +386,28 @@ module _ {D H : Type 0} (g : Ghosts D) (bytes : H → Option (List ℕ)) where
       (subst (λ (m : Option OpenMerge). StaysFor g bytes old old before m h l) (sym merging)
       (untouched watched old before was h l is stands fits)))
 
+  -- and what is kept of where space comes back from
+  pub untouched_collecting : IsWatched g → (old new : D) (before after : Core H) (was now : Option OpenMerge) (kept kept_now : Collecting)
+      (h : History) (l : Layout) → new ≡ old → after ≡ before → now ≡ was → kept_now ≡ kept
+      → Represents bytes before (g.told old) h l → StandsOpen bytes before was h l → Fits (g.told old) before h l
+      → Collects before kept l → StaysCollecting g bytes old new after now kept_now h l
+  untouched_collecting watched old new before after was now kept kept_now h l disk core merging collecting is stands fits has =
+      subst (λ (d : D). StaysCollecting g bytes old d after now kept_now h l) (sym disk)
+      (subst (λ (c : Core H). StaysCollecting g bytes old old c now kept_now h l) (sym core)
+      (subst (λ (m : Option OpenMerge). StaysCollecting g bytes old old before m kept_now h l) (sym merging)
+      (subst (λ (k : Collecting). StaysCollecting g bytes old old before was k h l) (sym collecting)
+      (record { stays = untouched watched old before was h l is stands fits; collects = has }))))
+
   -- ---- no merge is open behind it
 
   -- whatever of it was made is forgotten
   closes : (old new : D) (core : Core H) (h : History) (l x : Layout) → HasSameLogs l x → Represents bytes core (g.told new) h x
       → Fits (g.told new) core h x → (l.halted ≡ None → CrashesShow g old new h h) → (l.halted ≡ None → Tells g new MayOpen)
-      → StaysFor g bytes old new core None h l
+      → (t : StaysFor g bytes old new core None h l) × IsAlike x t.layout
   closes old new core h l x same is fits through again = by x.job refl
     where
-      by : (o : Option OpenJob) → x.job ≡ o → StaysFor g bytes old new core None h l
-      by None is_open = record {
+      by : (o : Option OpenJob) → x.job ≡ o → (t : StaysFor g bytes old new core None h l) × IsAlike x t.layout
+      by None is_open = (record {
         layout = x;
         same = same;
         stands = record { stands = is.stands; opens = subst (λ (o : Option OpenJob). Opens None o) (sym is_open) tt };
@@ -381,11 +415,11 @@ module _ {D H : Type 0} (g : Ghosts D) (bytes : H → Option (List ℕ)) where
         fits = fits;
         through = through;
         again = again;
-      }
+      }, alike_same x)
       by (Some o) is_open =
           let gone : Represents bytes core (g.told new) h (abandon_ruling x h o.job nothing_made).layout =
           represents_abandoned bytes core h x o nothing_made is_open (record { drawn = tt; distinct = tt }) (g.told new) is in
-          record {
+          (record {
             layout = (abandon_ruling x h o.job nothing_made).layout;
             same = logs_then l x (abandon_ruling x h o.job nothing_made).layout same (ended_logs x h o.job nothing_made);
             stands = record { stands = gone.stands; opens = tt };
@@ -393,7 +427,7 @@ module _ {D H : Type 0} (g : Ghosts D) (bytes : H → Option (List ℕ)) where
             fits = fits_abandoned core h x o.job nothing_made (g.told new) fits;
             through = through;
             again = again;
-          }
+          }, record { frozen = refl; flushed = refl; levels = refl; pass = refl })
 
   pub given_up : (old new last : D) (core after : Core H) (was now : Option OpenMerge) (h : History) (l : Layout)
       → StaysFor g bytes old new core was h l → last ≡ new → after ≡ core → now ≡ None → StaysFor g bytes old last after now h l
@@ -401,7 +435,22 @@ module _ {D H : Type 0} (g : Ghosts D) (bytes : H → Option (List ℕ)) where
       subst (λ (d : D). StaysFor g bytes old d after now h l) (sym disk)
       (subst (λ (c : Core H). StaysFor g bytes old new c now h l) (sym same)
       (subst (λ (m : Option OpenMerge). StaysFor g bytes old new core m h l) (sym none)
-      (closes old new core h l s.layout s.same s.represents s.fits s.through s.again)))
+      (closes old new core h l s.layout s.same s.represents s.fits s.through s.again).0))
+
+  -- and what is kept of where space comes back from stays that of the layout
+  pub given_up_collecting : (old new last : D) (core after : Core H) (was now : Option OpenMerge) (kept kept_now : Collecting) (h : History)
+      (l : Layout) (s : StaysFor g bytes old new core was h l) → Collects core kept s.layout → last ≡ new → after ≡ core → now ≡ None
+      → kept_now ≡ kept → StaysCollecting g bytes old last after now kept_now h l
+  given_up_collecting old new last core after was now kept kept_now h l s has disk same none kept_is =
+      subst (λ (d : D). StaysCollecting g bytes old d after now kept_now h l) (sym disk)
+      (subst (λ (c : Core H). StaysCollecting g bytes old new c now kept_now h l) (sym same)
+      (subst (λ (m : Option OpenMerge). StaysCollecting g bytes old new core m kept_now h l) (sym none)
+      (subst (λ (k : Collecting). StaysCollecting g bytes old new core None k h l) (sym kept_is)
+      (build (closes old new core h l s.layout s.same s.represents s.fits s.through s.again)))))
+    where
+      build : (t : StaysFor g bytes old new core None h l) × IsAlike s.layout t.layout
+          → StaysCollecting g bytes old new core None kept h l
+      build (t, alike) = record { stays = t; collects = collects_alike core kept s.layout t.layout alike has }
 
   -- ---- one more call, behind which another layout stands
 
@@ -437,21 +486,22 @@ module _ {D H : Type 0} (g : Ghosts D) (bytes : H → Option (List ℕ)) where
       shown : s.layout.halted ≡ None → CrashesShow g mid new h h
       shown running = subst (λ (k : History). CrashesShow g mid new h k) (fresh_history s.layout h) (carries.through running)
 
-      pub asked : (t : StaysFor g bytes old new after now h l) × KeepsJob s.layout t.layout
+      pub asked : (t : StaysFor g bytes old new after now h l) × KeepsJob s.layout t.layout × SameTables s.layout t.layout
       asked = build (ends (λ x y. InMemory x y × OnDisk x y) (KeepsBoth s.layout) h s.layout (fresh_ruling s.layout h)
           (as_before s.layout s.layout) (fresh_outcome result) (fresh_effects result) (fresh_history s.layout h)
-          (fresh_keeps s.layout h) here (λ name. (halted_logs name s.layout, λ o is. (o, is, refl))) here
+          (fresh_keeps s.layout h) here
+          (λ name. (halted_logs name s.layout, λ o is. (o, is, refl), record { levels = refl; flushed = refl })) here
           (both InMemory OnDisk h s.layout (fresh_ruling s.layout h)
           (as_before s.layout s.layout) (fresh_outcome result) (fresh_effects result)
           (both (StandsOpen bytes after now) (Fits (g.told new) after) h s.layout (fresh_ruling s.layout h)
           (as_before s.layout s.layout) (fresh_outcome result) (fresh_effects result) stands fits) carries.decides))
         where
           here : KeepsBoth s.layout s.layout
-          here = (same_logs s.layout, λ o is. (o, is, refl))
+          here = (same_logs s.layout, λ o is. (o, is, refl), record { levels = refl; flushed = refl })
 
           build : (x : Layout) × (InMemory h x × OnDisk h x) × KeepsBoth s.layout x
-              → (t : StaysFor g bytes old new after now h l) × KeepsJob s.layout t.layout
-          build (x, all, kept) = (joined x kept.0 all.0.0 all.1 all.0.1 shown carries.again, kept.1)
+              → (t : StaysFor g bytes old new after now h l) × KeepsJob s.layout t.layout × SameTables s.layout t.layout
+          build (x, all, kept) = (joined x kept.0 all.0.0 all.1 all.0.1 shown carries.again, kept.1, kept.2)
 
     -- It was lent.
     module _ (n : ℕ) (effects : Effects)
@@ -468,6 +518,7 @@ module _ {D H : Type 0} (g : Ghosts D) (bytes : H → Option (List ℕ)) where
       ruled = (fresh_ruling s.layout h).layout
 
       pub lent : (t : StaysFor g bytes old new after now h l) × KeepsJob s.layout t.layout × (t.layout.halted ≡ l.halted)
+          × SameTables s.layout t.layout
       lent = (
         joined ruled (fresh_keeps s.layout h).0
             (subst (λ (x : History). StandsOpen bytes after now x ruled) (fresh_history s.layout h)
@@ -480,6 +531,7 @@ module _ {D H : Type 0} (g : Ghosts D) (bytes : H → Option (List ℕ)) where
             carries.again,
         (fresh_keeps s.layout h).1,
         fresh_halted s.layout h ∙ alike,
+        (fresh_keeps s.layout h).2,
       )
 
     -- It goes on from there.
@@ -504,10 +556,42 @@ module _ {D H : Type 0} (g : Ghosts D) (bytes : H → Option (List ℕ)) where
       where
         build : (x : Layout) × (Represents bytes after (g.told new) h x × Fits (g.told new) after h x) × HasSameLogs s.layout x
             → StaysFor g bytes old new after None h l
-        build (x, all, same) = closes old new after h l x (logs_then l s.layout x s.same same) all.0 all.1
+        build (x, all, same) = (closes old new after h l x (logs_then l s.layout x s.same same) all.0 all.1
             (λ running. holds_then g (LeavesBetween h h) old mid new (s.through running)
             (subst (λ (k : History). CrashesShow g mid new h k) (install_history s.layout h job made) (carries.through (alike ∙ running))))
-            (λ running. carries.again (alike ∙ running))
+            (λ running. carries.again (alike ∙ running))).0
+
+    -- and what is kept of where space comes back from is that of the layout behind it
+    pub put_in_collecting : (kept : Collecting) (job : Job) (made : Made) (outcome : Outcome InstallAnswer) (effects : Effects)
+        → Carries g bytes mid new after h s.layout (install_ruling s.layout h job made) (install_otherwise s.layout made)
+        outcome effects
+        → Decides (Fits (g.told new) after) h s.layout (install_ruling s.layout h job made) (install_otherwise s.layout made)
+        outcome effects
+        → Decides (λ k x. Collects after kept x) h s.layout (install_ruling s.layout h job made) (install_otherwise s.layout made)
+        outcome effects
+        → StaysCollecting g bytes old new after None kept h l
+    put_in_collecting kept job made outcome effects carries fits collects =
+        build (ends (λ x y. (Represents bytes after (g.told new) x y × Fits (g.told new) after x y) × Collects after kept y)
+        (HasSameLogs s.layout) h s.layout (install_ruling s.layout h job made) (install_otherwise s.layout made) outcome effects
+        (install_history s.layout h job made) (install_keeps s.layout h job made) (same_logs s.layout)
+        (λ name. lost_logs name s.layout h job made) (same_logs s.layout)
+        (both (λ x y. Represents bytes after (g.told new) x y × Fits (g.told new) after x y) (λ k x. Collects after kept x) h s.layout
+        (install_ruling s.layout h job made) (install_otherwise s.layout made) outcome effects
+        (both (Represents bytes after (g.told new)) (Fits (g.told new) after) h s.layout
+        (install_ruling s.layout h job made) (install_otherwise s.layout made) outcome effects
+        carries.decides fits) collects))
+      where
+        build : (x : Layout) × ((Represents bytes after (g.told new) h x × Fits (g.told new) after h x) × Collects after kept x)
+            × HasSameLogs s.layout x → StaysCollecting g bytes old new after None kept h l
+        build (x, all, same) =
+            ended x all.1 (closes old new after h l x (logs_then l s.layout x s.same same) all.0.0 all.0.1
+            (λ running. holds_then g (LeavesBetween h h) old mid new (s.through running)
+            (subst (λ (k : History). CrashesShow g mid new h k) (install_history s.layout h job made) (carries.through (alike ∙ running))))
+            (λ running. carries.again (alike ∙ running)))
+          where
+            ended : (y : Layout) → Collects after kept y → (t : StaysFor g bytes old new after None h l) × IsAlike y t.layout
+                → StaysCollecting g bytes old new after None kept h l
+            ended y has (t, like) = record { stays = t; collects = collects_alike after kept y t.layout like has }
 
 -- ---- a merge that was planned
 
@@ -520,6 +604,7 @@ pub record IsBegun {D H R W : Type 0} (g : Ghosts D) (writers : Writers W) (byte
   pub is_open : stays.layout.job ≡ Some open_job
   pub planned : (plan_ruling l h).answer ≡ Some open_job.job
   pub has : HasMerge writers bytes job open_job.job
+  pub tables : SameTables l stays.layout
 
 module _ {D H R W : Type 0} (g : Ghosts D) (watched : IsWatched g) (writers : Writers W) (bytes : H → Option (List ℕ)) where
   pub begun : (E : Type 0) {k : _} (old new : D) (before after : Core H) (now : Option OpenMerge) (job : Merging (Base H R) H W k)
@@ -570,6 +655,7 @@ module _ {D H R W : Type 0} (g : Ghosts D) (watched : IsWatched g) (writers : Wr
             is_open = refl;
             planned = some;
             has = both;
+            tables = record { levels = refl; flushed = refl };
           }
 
 -- ---- a merge that is carried out
@@ -585,6 +671,7 @@ pub record IsMaking {D H R W : Type 0} (g : Ghosts D) (writers : Writers W) (byt
   pub job_is : open_job.job ≡ j
   pub has : HasMerge writers bytes job j
   pub fits : bases.Fits bytes job.base.version reader.looks
+  pub tables : SameTables l stays.layout
 
 module _ {H R W : Type 0} (bytes : H → Option (List ℕ)) {k : _} (old new : Merging (Base H R) H W k) (reader : BlockReader R) where
   -- its sources stay, so what fits them does
@@ -627,6 +714,7 @@ module _ {D H R W : Type 0} (g : Ghosts D) (writers : Writers W) (bytes : H → 
     job_is = refl;
     has = has;
     fits = looks reader.looks kept;
+    tables = record { levels = refl; flushed = refl };
   }
 
   -- not even a reader was there
@@ -642,6 +730,8 @@ module _ {D H R W : Type 0} (g : Ghosts D) (writers : Writers W) (bytes : H → 
     whole = no_ok _ result failed;
     lent = no_ok _ result failed;
     running = no_ok _ result failed;
+    levels = refl;
+    flushed = refl;
   }
 
   module _ (j : Job) (old mid : D) (before : Core H) (was : Option OpenMerge) (first : Merging (Base H R) H W k)
@@ -657,6 +747,8 @@ module _ {D H R W : Type 0} (g : Ghosts D) (writers : Writers W) (bytes : H → 
       whole = no_ok _ result failed;
       lent = no_ok _ result failed;
       running = no_ok _ result failed;
+      levels = m.tables.levels;
+      flushed = m.tables.flushed;
     }
 
     -- all tables are made
@@ -670,6 +762,8 @@ module _ {D H R W : Type 0} (g : Ghosts D) (writers : Writers W) (bytes : H → 
       whole = all;
       lent = are_lent g writers bytes mid halted was job j m.open_job handed all m.stays.layout.job m.is_open m.stays.stands.opens;
       running = m.alike;
+      levels = m.tables.levels;
+      flushed = m.tables.flushed;
     }
 
     module _ (new : D) (after : Core H) (now : Option OpenMerge) where
@@ -685,9 +779,9 @@ module _ {D H R W : Type 0} (g : Ghosts D) (writers : Writers W) (bytes : H → 
       unlent fail job result failed stands carries fits =
           build (asked g bytes old mid new before after was now h l m.stays m.alike {W = W} {k = k} (Err fail) stands carries fits)
         where
-          build : (t : StaysFor g bytes old new after now h l) × KeepsJob m.stays.layout t.layout
+          build : (t : StaysFor g bytes old new after now h l) × KeepsJob m.stays.layout t.layout × SameTables m.stays.layout t.layout
               → MakesTables g writers bytes old new after now job h l j result
-          build (t, keeps) = let p = keeps m.open_job m.is_open in record {
+          build (t, keeps, same) = let p = keeps m.open_job m.is_open in record {
             stays = t;
             open_job = p.0;
             is_open = p.1;
@@ -695,6 +789,8 @@ module _ {D H R W : Type 0} (g : Ghosts D) (writers : Writers W) (bytes : H → 
             whole = no_ok _ result failed;
             lent = no_ok _ result failed;
             running = no_ok _ result failed;
+            levels = (tables_then l m.stays.layout t.layout m.tables same).levels;
+            flushed = (tables_then l m.stays.layout t.layout m.tables same).flushed;
           }
 
       module _ (n : ℕ) (effects : Effects)
@@ -705,6 +801,7 @@ module _ {D H R W : Type 0} (g : Ghosts D) (writers : Writers W) (bytes : H → 
           (fits : Decides (Fits (g.told new) after) h m.stays.layout (fresh_ruling m.stays.layout h)
           (as_before m.stays.layout m.stays.layout) (Answered (fresh.Drawn n)) effects) where
         behind_it : (t : StaysFor g bytes old new after now h l) × KeepsJob m.stays.layout t.layout × (t.layout.halted ≡ l.halted)
+            × SameTables m.stays.layout t.layout
         behind_it = lent g bytes old mid new before after was now h l m.stays m.alike n effects stands carries fits
 
         -- the table was made
@@ -718,6 +815,7 @@ module _ {D H R W : Type 0} (g : Ghosts D) (writers : Writers W) (bytes : H → 
           job_is = p.2 ∙ m.job_is;
           has = has;
           fits = looks;
+          tables = tables_then l m.stays.layout behind_it.0.layout m.tables behind_it.3;
         }
 
         -- it wasn't
@@ -731,4 +829,6 @@ module _ {D H R W : Type 0} (g : Ghosts D) (writers : Writers W) (bytes : H → 
           whole = no_ok _ result failed;
           lent = no_ok _ result failed;
           running = no_ok _ result failed;
+          levels = (tables_then l m.stays.layout behind_it.0.layout m.tables behind_it.3).levels;
+          flushed = (tables_then l m.stays.layout behind_it.0.layout m.tables behind_it.3).flushed;
         }

@@ -1,4 +1,5 @@
 pub mod Answers
+pub mod Collecting
 pub mod Drawing
 pub mod Flushing
 pub mod Installing
@@ -8,8 +9,10 @@ pub mod Lent
 pub mod Merging
 pub mod Opening
 pub mod Past
+pub mod Planning
 pub mod Reading
 pub mod Refusing
+pub mod Relocating
 pub mod Rotating
 pub mod Sees
 pub mod Staging

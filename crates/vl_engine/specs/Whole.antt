@@ -5,11 +5,13 @@ use Rattle.vl_compact.specs.declared.job.Job.{Job as Merging}
 use Rattle.vl_disk.specs.declared.watched.Watched.{Ghosts}
 use Rattle.vl_disk.specs.declared.writer.Writer.{Ghosts as Writers}
 use Rattle.vl_core.specs.Carries.{CrashesShow, Tells}
+use Rattle.vl_engine.specs.Collecting.{Collects}
 use Rattle.vl_engine.specs.Merging.{HasAllMerge, StandsOpen}
 use Rattle.vl_core.specs.Represents.{Represents}
 use Rattle.vl_core.specs.MayStep.{Fits}
 use Rattle.vl_engine.specs.declared.fails.MergeFail.{MergeFail}
 use Rattle.vl_core.specs.declared.kept.Core.{Core}
+use Rattle.vl_engine.specs.declared.open.Collecting.{Collecting}
 use Rattle.vl_engine.specs.declared.open.OpenMerge.{OpenMerge}
 use Rattle.vl_layout.specs.Jobs.{AreLent}
 use Rattle.vl_layout.specs.Merging.{merged_entries}
@@ -48,6 +50,12 @@ pub record StaysFor {D H : Type 0} (g : Ghosts D) (bytes : H → Option (List �
   -- and a store may be opened on the disk again, also where it failed
   pub again : l.halted ≡ None → Tells g new MayOpen
 
+-- So it does, and what it keeps of where space comes back from is that layout's.
+pub record StaysCollecting {D H : Type 0} (g : Ghosts D) (bytes : H → Option (List ℕ)) (old new : D) (core : Core H)
+    (merging : Option OpenMerge) (collecting : Collecting) (h : History) (l : Layout) : Type 0 where
+  pub stays : StaysFor g bytes old new core merging h l
+  pub collects : Collects core collecting stays.layout
+
 -- So it does while the merge that is open there is carried out. Where this is done, the merge's job has all of it, and its files
 -- are ones that were lent to it; nothing failed.
 pub record MakesTables {D H R W : Type 0} (g : Ghosts D) (writers : Writers W) (bytes : H → Option (List ℕ)) (old new : D)
@@ -61,6 +69,9 @@ pub record MakesTables {D H R W : Type 0} (g : Ghosts D) (writers : Writers W) (
   pub whole : OnOk result (HasAllMerge writers bytes job j)
   pub lent : OnOk result (AreLent open_job.lent (made_of job j))
   pub running : OnOk result (stays.layout.halted ≡ l.halted)
+  -- no table and no log comes or goes before the install
+  pub levels : stays.layout.levels ≡ l.levels
+  pub flushed : stays.layout.flushed ≡ l.flushed
 
 -- how many entries the tables of a merge come to have, where one was planned
 abbrev pub kept_of : Option Job → Option ℕ

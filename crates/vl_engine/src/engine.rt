@@ -6,6 +6,7 @@ ghost use Rattle.vl_core.specs.Known.{are_known};
 ghost use Rattle.vl_engine.specs.Lent.{AreLent};
 
 mod beginning;
+mod collecting;
 mod committing;
 mod drawing;
 mod ending;
@@ -15,9 +16,10 @@ mod keeping;
 mod merging;
 mod opening;
 mod planning;
+mod relocating;
 mod rotating;
 
-use crate::open::OpenMerge;
+use crate::open::{Collecting, OpenMerge};
 use std::alloc::Global;
 use vl_core::Core;
 use vl_disk::Disk;
@@ -30,6 +32,8 @@ pub struct Engine<D: Disk> {
     core: Core<D::Held>,
     // The merge that is open.
     merging: Option<OpenMerge>,
+    // How much of its logs is live, and the pass that is open.
+    collecting: Collecting,
     // What its next calls ask of the disk is so.
     ghost ready: { ForSome (D.told disk) (IsFitFor core) },
     // The next numbers are ones that files may have, if any are left.

@@ -4,6 +4,7 @@ ghost use Rattle.std.specs.Prelude.{◌≡◌};
 use crate::Txn;
 use std::alloc::AllocError;
 use thiserror::Error;
+use vl_collect::Batch;
 use vl_compact::Job;
 use vl_disk::{Name, NoMemory, Writer};
 use vl_model::{Counter, Key};
@@ -244,6 +245,60 @@ pub enum MergeFail {
     /// What stands at this place of a file isn't what was written there.
     #[error("{name:?} is damaged at {place}")]
     Damaged { name: Name, place: u64 },
+}
+
+/// Why no pass was begun. Nothing was changed.
+#[derive(Clone, Copy, Debug, PartialEq, Eq, Error)]
+pub enum PickFail {
+    /// A share of garbage is from 1 to 99 per cent.
+    #[error("no such share is picked")]
+    InvalidRequest,
+    /// A pass over this log is open. End it first.
+    #[error("a pass over log {0} is open")]
+    Rejected(u32),
+    /// No log that may be rewritten has so much garbage. Ask for a lesser share, or again when more was overwritten.
+    #[error("no log has so much garbage")]
+    NoRewrite,
+    #[error("no memory")]
+    NoMemory,
+}
+
+/// Why no answer can be given on how much of a batch was moved. Where the batch is handed back nothing of it was: it is as it was,
+/// and may be moved later.
+#[derive(Drop)]
+pub enum MoveFail {
+    /// An earlier step failed at this file, and nothing is changed any more. Open the store again.
+    Halted {
+        name: Name,
+    },
+    /// No number of this kind is left. Open the store again, and begin another pass.
+    Exhausted {
+        batch: Batch,
+        counter: Counter,
+    },
+    /// The log has no room for what is to be moved: its length, and that of the frame. Begin another log, and move the batch then.
+    Full {
+        batch: Batch,
+        length: u64,
+        frame: u64,
+    },
+    /// Nothing was changed. Move the batch again, when there is memory.
+    NoMemory(Batch),
+    /// A look-up failed at this file, and the engine is halted. Nothing was moved. Open the store again, and begin another pass.
+    Read {
+        name: Name,
+    },
+    /// Writing the active log failed, which is this file, and the engine is halted. Whether the records were moved is open until the
+    /// store is opened again, with the same contents either way.
+    Disk {
+        name: Name,
+    },
+    /// What stands at this place of a file isn't what was written there. Nothing was changed.
+    Damaged {
+        batch: Batch,
+        name: Name,
+        place: u64,
+    },
 }
 
 impl From<NoMemory> for MergeFail {

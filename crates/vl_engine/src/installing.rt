@@ -74,8 +74,8 @@ pub fn ready_install<D: Disk>(
     })
 }
 
-// The numbers of these tables.
-fn numbers_of<H: HeldFile>(alloc: Global, tables: &[Table<H>]) -> Result<Vec<u32>, AllocError>
+/// The numbers of these tables.
+pub fn numbers_of<H: HeldFile>(alloc: Global, tables: &[Table<H>]) -> Result<Vec<u32>, AllocError>
     ensures { IfOk result (λ numbers. numbers.items ≡ map number_of tables.now) }
 {
     let mut numbers = Vec::new(alloc);

@@ -7,6 +7,7 @@
 //! docs/API.md tells what each call answers, and what it costs.
 #![tactic(auto)]
 
+mod collecting;
 mod engine;
 mod fails;
 mod flushing;
@@ -15,6 +16,7 @@ mod laws;
 mod making;
 mod open;
 mod past;
+mod relocating;
 mod rotating;
 mod staging;
 mod txn;
@@ -23,7 +25,8 @@ mod writing;
 
 pub use engine::{Done, Engine};
 pub use fails::{
-    AtFail, CommitFail, InstallFail, KeepFail, MergeFail, ReadFail, ReadFault, StepFail,
+    AtFail, CommitFail, InstallFail, KeepFail, MergeFail, MoveFail, PickFail, ReadFail, ReadFault,
+    StepFail,
 };
 pub use laws::what_is_seen_stays;
 pub use txn::Txn;

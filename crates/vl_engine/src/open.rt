@@ -1,9 +1,10 @@
-//! What an engine keeps of the merge that is open.
+//! What an engine keeps of the merge that is open, and of where space comes back from.
 
 ghost use Rattle.std.specs.Prelude.{◌≡◌, ◌+◌, ◌≤◌, [], OnOk, vec_capacity, vec_len};
 
 use std::alloc::{AllocError, Global};
 use vl_model::Key;
+use vl_stats::Tally;
 
 /// A merge that was planned, and wasn't installed or abandoned yet.
 #[derive(Drop)]
@@ -12,6 +13,15 @@ pub struct OpenMerge {
     pub lent: Vec<u32>,
     /// The keys that were relocated since it was planned, the latest first, each with the version number that this made.
     pub moved: Vec<(Key, u64)>,
+}
+
+/// What is kept of where space comes back from.
+#[derive(Drop)]
+pub struct Collecting {
+    /// The log over which a pass is open.
+    pub passing: Option<u32>,
+    /// How long each sealed log is, and how much of it is live; none until a call first wants it.
+    pub tally: Option<Tally>,
 }
 
 impl OpenMerge {

@@ -3,10 +3,12 @@
 #![tactic(auto)]
 
 mod refusals;
+mod space;
 mod stock;
 
 use crate::refusals::{go_on, not_opened};
-use crate::stock::{add, change, make_room, merge_once, rows};
+use crate::space::collect_once;
+use crate::stock::{add, change, label, make_room, merge_once, rows};
 use anyhow::{Result, bail};
 use std::env;
 use vlstore::{CommitFail, Disk, Engine, FolderDisk, MAX_ROOM};
@@ -43,6 +45,18 @@ fn main(rt: HostRuntime) -> Result<()> {
         make_room(&mut store)?;
     }
     while_due(&rt, &mut store)?;
+
+    // Longer values stand in logs. Where most of a log was overwritten, what still counts moves out of it.
+    label(&rt, &mut store, "~pears", b'p')?;
+    for letter in [b'a', b'b', b'c', b'd'] {
+        label(&rt, &mut store, "~apples", letter)?;
+        make_room(&mut store)?;
+    }
+    while_due(&rt, &mut store)?;
+    match collect_once(alloc, &mut store, 50)? {
+        Some(moved) => println!(rt; "a log is mostly garbage: {moved} of its values were moved")?,
+        None => println!(rt; "no log is mostly garbage")?,
+    }
 
     // The folder is free for the next store once its disk is gone.
     drop(store.close());

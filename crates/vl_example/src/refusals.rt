@@ -2,7 +2,7 @@
 
 use crate::stock::make_room;
 use anyhow::{Error, Result, anyhow};
-use vlstore::{CommitFail, Disk, Engine, MergeFail, OpenError, StepFail};
+use vlstore::{CommitFail, Disk, Engine, MergeFail, MoveFail, OpenError, PickFail, StepFail};
 
 /// Why a store wasn't opened, and what may be done.
 pub fn not_opened(why: OpenError) -> Error {
@@ -64,5 +64,30 @@ pub fn not_merged(fail: MergeFail) -> Error {
         MergeFail::Exhausted(counter) => anyhow!("no number is left: {counter:?}"),
         MergeFail::Raced => anyhow!("a record was moved meanwhile: merge again"),
         MergeFail::NoMemory => anyhow!("no memory: try again"),
+    }
+}
+
+/// Why no pass was begun over a log, and what may be done.
+pub fn not_picked(fail: PickFail) -> Error {
+    match fail {
+        PickFail::InvalidRequest => anyhow!("ask for 1 to 99 per cent"),
+        PickFail::Rejected(log) => anyhow!("a pass over log {log} is open: end it first"),
+        PickFail::NoRewrite => anyhow!("no log has so much garbage: merge first, or ask for less"),
+        PickFail::NoMemory => anyhow!("no memory: try again"),
+    }
+}
+
+/// Why values weren't moved, and what may be done. They stand where they were.
+pub fn not_moved(fail: MoveFail) -> Error {
+    match fail {
+        MoveFail::Halted { name } => anyhow!("the disk failed at {name:?}: open again"),
+        MoveFail::Read { name } => anyhow!("the disk failed at {name:?}: open again"),
+        MoveFail::Disk { name } => anyhow!("the disk failed at {name:?}: open again"),
+        MoveFail::Damaged { name, place, .. } => {
+            anyhow!("{name:?} is damaged at {place}: restore a backup")
+        }
+        MoveFail::Exhausted { counter, .. } => anyhow!("no number is left: {counter:?}"),
+        MoveFail::Full { frame, .. } => anyhow!("no log has room for {frame} bytes"),
+        MoveFail::NoMemory(_) => anyhow!("no memory: try again"),
     }
 }

@@ -50,10 +50,10 @@ pub fn change<D: Disk>(
     bail!("others always came first")
 }
 
-/// All that is there, in the order of the names.
+/// All fruits that are there, in the order of their names. Those of labels begin with `~`, and come behind.
 pub fn rows<D: Disk>(store: &mut Engine<D>) -> Result<Rows> {
     let mut view = store.view()?;
-    let rows = view.scan(b"", b"", 1000, Way::Up);
+    let rows = view.scan(b"", b"~", 1000, Way::Up);
     store.release(view);
     Ok(rows?)
 }
@@ -76,5 +76,25 @@ pub fn merge_once<D: Disk>(store: &mut Engine<D>) -> Result<Option<u64>> {
     match store.merge() {
         Ok(kept) => Ok(kept),
         Err(fail) => Err(not_merged(fail)),
+    }
+}
+
+/// Writes a label anew, which is a longer text.
+pub fn label<D: Disk>(
+    rt: &HostRuntime,
+    store: &mut Engine<D>,
+    name: &str,
+    letter: u8,
+) -> Result<()> {
+    let mut text = Vec::new(rt.alloc());
+    text.resize(200, letter)?;
+    let mut txn = store.begin()?;
+    if let Err(fail) = txn.set(name.as_bytes(), &text) {
+        store.forget(txn);
+        return Err(fail.into());
+    }
+    match store.commit(txn) {
+        Ok(_) => Ok(()),
+        Err(fail) => go_on(store, fail),
     }
 }

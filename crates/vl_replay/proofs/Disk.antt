@@ -6,6 +6,7 @@ pub mod Shown
 pub mod Carried
 pub mod Held
 pub mod Committed
+pub mod Moved
 pub mod Stepped
 pub mod KeptSteps
 pub mod Torn

@@ -1,5 +1,7 @@
 -- The lines of passes.
+pub mod Batching
 pub mod Ending
+pub mod Moving
 pub mod Named
 pub mod Picking
 pub mod Standing

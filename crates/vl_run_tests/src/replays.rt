@@ -16,10 +16,14 @@ const RUNS: &str = "\
     replay .|||fetch a 61;|bad line 1;|1\n\
     replay .|||begin a;begin b;get a 61;set b 61 01;commit b;set a 62 01;commit a;|ok 0;ok 0;none;ok;ok 1;ok;conflict 61 1;|0\n\
     replay .|||begin a;begin b;get a 61;set b 61 01;commit b;commit a;|ok 0;ok 0;none;ok;ok 1;nothing;|0\n\
-    replay .|||begin a;begin b;scan a 60 70 10;scan b 60 70 10;set a 61 01;set b 62 02;commit a;commit b;|ok 0;ok 0;rows 0;rows 0;ok;ok;ok 1;conflict 61 1;|0\n\
-    replay .|||begin t;set t 62 01;commit t;begin a;scan a 60 70 1;begin b;set b 68 02;commit b;set a 6a 03;commit a;|ok 0;ok;ok 1;ok 1;rows 1;62 01;ok 1;ok;ok 2;ok;ok 3;|0\n\
-    replay .|||begin t;set t 62 01;commit t;begin a;scan a 60 70 2;begin b;set b 68 02;commit b;set a 6a 03;commit a;|ok 0;ok;ok 1;ok 1;rows 1;62 01;ok 1;ok;ok 2;ok;conflict 68 2;|0\n\
-    replay .|||begin t;set t 61 01;set t 62 02;commit t;begin a;set a 63 03;del a 61;scan a - - 10;rscan a - - 1;|ok 0;ok;ok;ok 1;ok 1;ok;ok;rows 2;62 02;63 03;rows 1;63 03;|0\n\
+    replay .|||begin a;begin b;scan a 60 70 10;scan b 60 70 10;set a 61 01;set b 62 02;commit a;commit b;|ok 0;ok 0;rows 0;rows 0;\
+        ok;ok;ok 1;conflict 61 1;|0\n\
+    replay .|||begin t;set t 62 01;commit t;begin a;scan a 60 70 1;begin b;set b 68 02;commit b;set a 6a 03;commit a;|ok 0;ok;ok 1;\
+        ok 1;rows 1;62 01;ok 1;ok;ok 2;ok;ok 3;|0\n\
+    replay .|||begin t;set t 62 01;commit t;begin a;scan a 60 70 2;begin b;set b 68 02;commit b;set a 6a 03;commit a;|ok 0;ok;ok 1;\
+        ok 1;rows 1;62 01;ok 1;ok;ok 2;ok;conflict 68 2;|0\n\
+    replay .|||begin t;set t 61 01;set t 62 02;commit t;begin a;set a 63 03;del a 61;scan a - - 10;rscan a - - 1;|ok 0;ok;ok;ok 1;\
+        ok 1;ok;ok;rows 2;62 02;63 03;rows 1;63 03;|0\n\
     replay .|||begin a;begin a;get b 61;view c;set c 61 01;|ok 0;taken a;unknown b;ok 0;readonly;|0\n\
     replay .|||view c;scan c *4097* - 1;scan c 62 61 1;scan q - - 1;|ok 0;invalid;rows 0;unknown q;|0\n\
     replay .|||begin a;get a 61|ok 0;none;|0\n\
@@ -31,28 +35,57 @@ const RUNS: &str = "\
     replay .|||view c;set c 61 01;del c 61;commit c;set c - 01;del c -;|ok 0;readonly;readonly;readonly;readonly;readonly;|0\n\
     replay .|||get q 61;set q 61 01;del q 61;commit q;drop q;|unknown q;unknown q;unknown q;unknown q;unknown q;|0\n\
     replay .|||begin a;get a -;del a -;commit a;commit a;|ok 0;invalid;invalid;nothing;unknown a;|0\n\
-    replay .|||begin t;set t 61 01;commit t;begin a;set a 62 02;del a 61;get a 61;commit a;view v;get v 61;get v 62;|ok 0;ok;ok 1;ok 1;ok;ok;none;ok 2;ok 2;none;value 02;|0\n\
+    replay .|||begin t;set t 61 01;commit t;begin a;set a 62 02;del a 61;get a 61;commit a;view v;get v 61;get v 62;|ok 0;ok;ok 1;\
+        ok 1;ok;ok;none;ok 2;ok 2;none;value 02;|0\n\
     replay .|||begin t;del t 61;commit t;begin t;del t 61;set t 61 02;get t 61;|ok 0;ok;ok 1;ok 1;ok;ok;value 02;|0\n\
-    replay .|||begin a;setb a 61 aa 7;getb a 61;get a 61;set a 62 -;getb a 62;getb a 63;commit a;view b;getb b 61;getb b -;setb b 61 01 0;getb q 61;setb q 61 01 0;|ok 0;ok;value aa byte 7;value aa;ok;value - byte 0;none;ok 1;ok 1;value aa byte 7;invalid;readonly;unknown q;unknown q;|0\n\
+    replay .|||begin a;setb a 61 aa 7;getb a 61;get a 61;set a 62 -;getb a 62;getb a 63;commit a;view b;getb b 61;getb b -;\
+        setb b 61 01 0;getb q 61;setb q 61 01 0;|ok 0;ok;value aa byte 7;value aa;ok;value - byte 0;none;ok 1;ok 1;value aa byte 7;\
+        invalid;readonly;unknown q;unknown q;|0\n\
     replay .|||begin a;drop a;get a 61;view a;drop a;begin a;drop b;|ok 0;ok;unknown a;ok 0;ok;ok 0;unknown b;|0\n\
-    replay .|||begin a;set a *4096* 01;get a *4096*;del a *4096*;set a *4097* 01;get a *4097*;del a *4097*;|ok 0;ok;value 01;ok;invalid;invalid;invalid;|0\n\
-    replay .|||rotate;flush;begin t;set t 61 01;commit t;flush;rotate;rotate;flush;flush;view v;get v 61;|idle;idle;ok 0;ok;ok 1;idle;ok 1;idle;ok 1;idle;ok 1;value 01;|0\n\
-    replay .|||begin t;set t 61 *64*;set t 62 *65*;commit t;rotate;flush;view v;get v 61;get v 62;scan v - - 9;|ok 0;ok;ok;ok 1;ok 1;ok 1;ok 1;value *64*;value *65*;rows 2;61 *64*;62 *65*;|0\n\
+    replay .|||begin a;set a *4096* 01;get a *4096*;del a *4096*;set a *4097* 01;get a *4097*;del a *4097*;|ok 0;ok;value 01;ok;\
+        invalid;invalid;invalid;|0\n\
+    replay .|||rotate;flush;begin t;set t 61 01;commit t;flush;rotate;rotate;flush;flush;view v;get v 61;|idle;idle;ok 0;ok;ok 1;\
+        idle;ok 1;idle;ok 1;idle;ok 1;value 01;|0\n\
+    replay .|||begin t;set t 61 *64*;set t 62 *65*;commit t;rotate;flush;view v;get v 61;get v 62;scan v - - 9;|ok 0;ok;ok;ok 1;\
+        ok 1;ok 1;ok 1;value *64*;value *65*;rows 2;61 *64*;62 *65*;|0\n\
     replay .|||begin t;setb t 61 *65* 7;commit t;rotate;flush;view w;getb w 61;|ok 0;ok;ok 1;ok 1;ok 1;ok 1;value *65* byte 7;|0\n\
-    replay .|||begin t;set t 61 *65*;commit t;rotate;flush;view v;begin t;set t 61 *66*;commit t;rotate;flush;get v 61;view w;get w 61;|ok 0;ok;ok 1;ok 1;ok 1;ok 1;ok 1;ok;ok 2;ok 2;ok 2;value *65*;ok 2;value *66*;|0\n\
-    replay .|||begin t;set t 61 *65*;commit t;rotate;flush;begin t;del t 61;commit t;rotate;flush;begin t;set t 62 01;commit t;rotate;flush;begin t;set t 63 01;commit t;rotate;flush;view v;get v 61;get v 62;scan v - - 9;rscan v - - 1;|ok 0;ok;ok 1;ok 1;ok 1;ok 1;ok;ok 2;ok 2;ok 2;ok 2;ok;ok 3;ok 3;ok 3;ok 3;ok;ok 4;ok 4;ok 4;ok 4;none;value 01;rows 2;62 01;63 01;rows 1;63 01;|0\n\
-    replay .|||begin a;get a 61;begin b;set b 61 01;commit b;rotate;flush;set a 62 01;commit a;|ok 0;none;ok 0;ok;ok 1;ok 1;ok 1;ok;conflict 61 1;|0\n\
-    replay .|||begin a;set a 61 01;rotate;flush;commit a;rotate;begin b;set b 62 02;commit b;view v;flush;scan v - - 9;|ok 0;ok;idle;idle;ok 1;ok 1;ok 1;ok;ok 2;ok 2;ok 1;rows 2;61 01;62 02;|0\n\
+    replay .|||begin t;set t 61 *65*;commit t;rotate;flush;view v;begin t;set t 61 *66*;commit t;rotate;flush;get v 61;view w;\
+        get w 61;|ok 0;ok;ok 1;ok 1;ok 1;ok 1;ok 1;ok;ok 2;ok 2;ok 2;value *65*;ok 2;value *66*;|0\n\
+    replay .|||begin t;set t 61 *65*;commit t;rotate;flush;begin t;del t 61;commit t;rotate;flush;begin t;set t 62 01;commit t;\
+        rotate;flush;begin t;set t 63 01;commit t;rotate;flush;view v;get v 61;get v 62;scan v - - 9;rscan v - - 1;|ok 0;ok;ok 1;\
+        ok 1;ok 1;ok 1;ok;ok 2;ok 2;ok 2;ok 2;ok;ok 3;ok 3;ok 3;ok 3;ok;ok 4;ok 4;ok 4;ok 4;none;value 01;rows 2;62 01;63 01;rows 1;\
+        63 01;|0\n\
+    replay .|||begin a;get a 61;begin b;set b 61 01;commit b;rotate;flush;set a 62 01;commit a;|ok 0;none;ok 0;ok;ok 1;ok 1;ok 1;ok;\
+        conflict 61 1;|0\n\
+    replay .|||begin a;set a 61 01;rotate;flush;commit a;rotate;begin b;set b 62 02;commit b;view v;flush;scan v - - 9;|ok 0;ok;\
+        idle;idle;ok 1;ok 1;ok 1;ok;ok 2;ok 2;ok 1;rows 2;61 01;62 02;|0\n\
     replay .|||keep 0;keep 17;keep 255;keep 16;keep 1;keep 1;|invalid;invalid;invalid;ok;ok;ok;|0\n\
-    replay .|||keep 2;begin t;set t 61 01;commit t;begin t;set t 61 02;commit t;begin t;set t 61 03;commit t;view v;getat v 61 3;getat v 61 2;getat v 61 1;getat v 61 4;getat v 62 0;getat v - 0;getat q 61 0;|ok;ok 0;ok;ok 1;ok 1;ok;ok 2;ok 2;ok;ok 3;ok 3;value 03;value 02;dropped 2;invalid;none;invalid;unknown q;|0\n\
-    replay .|||begin t;set t 61 01;commit t;begin t;set t 61 02;commit t;begin t;set t 61 03;commit t;view v;getat v 61 2;getat v 61 3;|ok 0;ok;ok 1;ok 1;ok;ok 2;ok 2;ok;ok 3;ok 3;dropped 3;value 03;|0\n\
-    replay .|||begin t;set t 61 01;commit t;begin t;set t 61 02;commit t;begin t;set t 61 03;commit t;keep 3;view v;getat v 61 2;begin t;set t 61 04;commit t;view w;getat w 61 4;getat w 61 3;getat w 61 2;getat v 61 3;keep 1;view x;getat x 61 3;drop v;drop w;drop x;view y;getat y 61 3;|ok 0;ok;ok 1;ok 1;ok;ok 2;ok 2;ok;ok 3;ok;ok 3;dropped 3;ok 3;ok;ok 4;ok 4;value 04;value 03;dropped 3;value 03;ok;ok 4;value 03;ok;ok;ok;ok 4;dropped 4;|0\n\
-    replay .|||keep 2;begin t;set t 61 *65*;commit t;rotate;flush;begin t;del t 61;commit t;rotate;flush;begin t;set t 61 02;getat t 61 2;getat t 61 1;getat t 61 0;|ok;ok 0;ok;ok 1;ok 1;ok 1;ok 1;ok;ok 2;ok 2;ok 2;ok 2;ok;none;value *65*;dropped 1;|0\n\
+    replay .|||keep 2;begin t;set t 61 01;commit t;begin t;set t 61 02;commit t;begin t;set t 61 03;commit t;view v;getat v 61 3;\
+        getat v 61 2;getat v 61 1;getat v 61 4;getat v 62 0;getat v - 0;getat q 61 0;|ok;ok 0;ok;ok 1;ok 1;ok;ok 2;ok 2;ok;ok 3;\
+        ok 3;value 03;value 02;dropped 2;invalid;none;invalid;unknown q;|0\n\
+    replay .|||begin t;set t 61 01;commit t;begin t;set t 61 02;commit t;begin t;set t 61 03;commit t;view v;getat v 61 2;\
+        getat v 61 3;|ok 0;ok;ok 1;ok 1;ok;ok 2;ok 2;ok;ok 3;ok 3;dropped 3;value 03;|0\n\
+    replay .|||begin t;set t 61 01;commit t;begin t;set t 61 02;commit t;begin t;set t 61 03;commit t;keep 3;view v;getat v 61 2;\
+        begin t;set t 61 04;commit t;view w;getat w 61 4;getat w 61 3;getat w 61 2;getat v 61 3;keep 1;view x;getat x 61 3;drop v;\
+        drop w;drop x;view y;getat y 61 3;|ok 0;ok;ok 1;ok 1;ok;ok 2;ok 2;ok;ok 3;ok;ok 3;dropped 3;ok 3;ok;ok 4;ok 4;value 04;\
+        value 03;dropped 3;value 03;ok;ok 4;value 03;ok;ok;ok;ok 4;dropped 4;|0\n\
+    replay .|||keep 2;begin t;set t 61 *65*;commit t;rotate;flush;begin t;del t 61;commit t;rotate;flush;begin t;set t 61 02;\
+        getat t 61 2;getat t 61 1;getat t 61 0;|ok;ok 0;ok;ok 1;ok 1;ok 1;ok 1;ok;ok 2;ok 2;ok 2;ok 2;ok;none;value *65*;dropped 1;|0\n\
     replay .|||keep 2;begin a;getat a 61 0;begin b;set b 61 01;commit b;set a 62 01;commit a;|ok;ok 0;none;ok 0;ok;ok 1;ok;ok 2;|0\n\
-    replay .|||begin t;set t 61 *65*;commit t;rotate;flush;begin t;del t 61;commit t;rotate;flush;begin t;set t 62 01;commit t;rotate;flush;begin t;set t 63 01;commit t;rotate;flush;plan j;install j;view w;get w 61;scan w - - 9;plan k;|ok 0;ok;ok 1;ok 1;ok 1;ok 1;ok;ok 2;ok 2;ok 2;ok 2;ok;ok 3;ok 3;ok 3;ok 3;ok;ok 4;ok 4;ok 4;ok 2;ok;ok 4;none;rows 2;62 01;63 01;idle;|0\n\
-    replay .|||begin t;set t 61 *65*;commit t;rotate;flush;view o;begin t;del t 61;commit t;rotate;flush;begin t;set t 62 01;commit t;rotate;flush;begin t;set t 63 01;commit t;rotate;flush;plan j;install j;get o 61;view w;get w 61;|ok 0;ok;ok 1;ok 1;ok 1;ok 1;ok 1;ok;ok 2;ok 2;ok 2;ok 2;ok;ok 3;ok 3;ok 3;ok 3;ok;ok 4;ok 4;ok 4;ok 4;ok;value *65*;ok 4;none;|0\n\
-    replay .|||keep 2;begin t;set t 61 *65*;commit t;rotate;flush;begin t;del t 61;commit t;rotate;flush;begin t;set t 62 01;commit t;rotate;flush;begin t;set t 63 01;commit t;rotate;flush;plan j;install j;view v;getat v 61 1;get v 61;|ok;ok 0;ok;ok 1;ok 1;ok 1;ok 1;ok;ok 2;ok 2;ok 2;ok 2;ok;ok 3;ok 3;ok 3;ok 3;ok;ok 4;ok 4;ok 4;ok 4;ok;ok 4;value *65*;none;|0\n\
-    replay .|||begin t;set t 61 *65*;commit t;rotate;flush;begin t;del t 61;commit t;rotate;flush;begin t;set t 62 01;commit t;rotate;flush;begin t;set t 63 01;commit t;rotate;flush;plan j;plan j;plan k;view j;get j 61;drop j;install j;plan k;begin t;set t 64 01;commit t;rotate;flush;install k;install k;view v;scan v - - 9;|ok 0;ok;ok 1;ok 1;ok 1;ok 1;ok;ok 2;ok 2;ok 2;ok 2;ok;ok 3;ok 3;ok 3;ok 3;ok;ok 4;ok 4;ok 4;ok 2;taken j;idle;taken j;unknown j;ok;unknown j;ok 2;ok 4;ok;ok 5;ok 5;ok 7;ok;unknown k;ok 5;rows 3;62 01;63 01;64 01;|0\n\
+    replay .|||begin t;set t 61 *65*;commit t;rotate;flush;begin t;del t 61;commit t;rotate;flush;begin t;set t 62 01;commit t;\
+        rotate;flush;begin t;set t 63 01;commit t;rotate;flush;plan j;install j;view w;get w 61;scan w - - 9;plan k;|ok 0;ok;ok 1;\
+        ok 1;ok 1;ok 1;ok;ok 2;ok 2;ok 2;ok 2;ok;ok 3;ok 3;ok 3;ok 3;ok;ok 4;ok 4;ok 4;ok 2;ok;ok 4;none;rows 2;62 01;63 01;idle;|0\n\
+    replay .|||begin t;set t 61 *65*;commit t;rotate;flush;view o;begin t;del t 61;commit t;rotate;flush;begin t;set t 62 01;\
+        commit t;rotate;flush;begin t;set t 63 01;commit t;rotate;flush;plan j;install j;get o 61;view w;get w 61;|ok 0;ok;ok 1;\
+        ok 1;ok 1;ok 1;ok 1;ok;ok 2;ok 2;ok 2;ok 2;ok;ok 3;ok 3;ok 3;ok 3;ok;ok 4;ok 4;ok 4;ok 4;ok;value *65*;ok 4;none;|0\n\
+    replay .|||keep 2;begin t;set t 61 *65*;commit t;rotate;flush;begin t;del t 61;commit t;rotate;flush;begin t;set t 62 01;\
+        commit t;rotate;flush;begin t;set t 63 01;commit t;rotate;flush;plan j;install j;view v;getat v 61 1;get v 61;|ok;ok 0;ok;\
+        ok 1;ok 1;ok 1;ok 1;ok;ok 2;ok 2;ok 2;ok 2;ok;ok 3;ok 3;ok 3;ok 3;ok;ok 4;ok 4;ok 4;ok 4;ok;ok 4;value *65*;none;|0\n\
+    replay .|||begin t;set t 61 *65*;commit t;rotate;flush;begin t;del t 61;commit t;rotate;flush;begin t;set t 62 01;commit t;\
+        rotate;flush;begin t;set t 63 01;commit t;rotate;flush;plan j;plan j;plan k;view j;get j 61;drop j;install j;plan k;begin t;\
+        set t 64 01;commit t;rotate;flush;install k;install k;view v;scan v - - 9;|ok 0;ok;ok 1;ok 1;ok 1;ok 1;ok;ok 2;ok 2;ok 2;\
+        ok 2;ok;ok 3;ok 3;ok 3;ok 3;ok;ok 4;ok 4;ok 4;ok 2;taken j;idle;taken j;unknown j;ok;unknown j;ok 2;ok 4;ok;ok 5;ok 5;ok 7;\
+        ok;unknown k;ok 5;rows 3;62 01;63 01;64 01;|0\n\
     replay .|||plan j;install j;begin t;install t;plan t;|idle;unknown j;ok 0;unknown t;taken t;|0\n\
     replay .|3||begin a;get a 61|ok 0;none;|0\n\
     replay .|2||begin a;get a 61|ok 0;read fault;|6\n\
@@ -69,14 +102,66 @@ const RUNS: &str = "\
     trial 5 1|1||begin a;set a 61 01;commit a;|read fault;|6\n\
     trial 6 0|2||begin a;set a 61 01;commit a|ok 0;ok;read fault;|6\n\
     trial 7 1||3|begin a;set a 61 01;commit a;|ok 0;ok;|7\n\
-    trial 46 0|||begin t;set t 61 *65*;commit t;rotate;flush;begin t;del t 61;commit t;rotate;flush;begin t;set t 62 01;commit t;rotate;flush;begin t;set t 63 01;commit t;rotate;flush;plan j;install j;|ok 0;ok;ok 1;ok 1;ok 1;ok 1;ok;ok 2;ok 2;ok 2;ok 2;ok;ok 3;ok 3;ok 3;ok 3;ok;ok 4;ok 4;ok 4;reopened 4;rows 2;62 01;63 01;|0\n\
-    trial 47 0|||begin t;set t 61 *65*;commit t;rotate;flush;begin t;del t 61;commit t;rotate;flush;begin t;set t 62 01;commit t;rotate;flush;begin t;set t 63 01;commit t;rotate;flush;plan j;install j;|ok 0;ok;ok 1;ok 1;ok 1;ok 1;ok;ok 2;ok 2;ok 2;ok 2;ok;ok 3;ok 3;ok 3;ok 3;ok;ok 4;ok 4;ok 4;ok 2;reopened 4;rows 2;62 01;63 01;|0\n\
-    trial 47 1|||begin t;set t 61 *65*;commit t;rotate;flush;begin t;del t 61;commit t;rotate;flush;begin t;set t 62 01;commit t;rotate;flush;begin t;set t 63 01;commit t;rotate;flush;plan j;install j;|ok 0;ok;ok 1;ok 1;ok 1;ok 1;ok;ok 2;ok 2;ok 2;ok 2;ok;ok 3;ok 3;ok 3;ok 3;ok;ok 4;ok 4;ok 4;ok 2;reopened 4;rows 2;62 01;63 01;|0\n\
-    trial 47 2|||begin t;set t 61 *65*;commit t;rotate;flush;begin t;del t 61;commit t;rotate;flush;begin t;set t 62 01;commit t;rotate;flush;begin t;set t 63 01;commit t;rotate;flush;plan j;install j;|ok 0;ok;ok 1;ok 1;ok 1;ok 1;ok;ok 2;ok 2;ok 2;ok 2;ok;ok 3;ok 3;ok 3;ok 3;ok;ok 4;ok 4;ok 4;ok 2;reopened 4;rows 2;62 01;63 01;|0\n\
-    trial 48 0|||begin t;set t 61 *65*;commit t;rotate;flush;begin t;del t 61;commit t;rotate;flush;begin t;set t 62 01;commit t;rotate;flush;begin t;set t 63 01;commit t;rotate;flush;plan j;install j;|ok 0;ok;ok 1;ok 1;ok 1;ok 1;ok;ok 2;ok 2;ok 2;ok 2;ok;ok 3;ok 3;ok 3;ok 3;ok;ok 4;ok 4;ok 4;ok 2;reopened 4;rows 2;62 01;63 01;|0\n\
-    trial 48 1|||begin t;set t 61 *65*;commit t;rotate;flush;begin t;del t 61;commit t;rotate;flush;begin t;set t 62 01;commit t;rotate;flush;begin t;set t 63 01;commit t;rotate;flush;plan j;install j;|ok 0;ok;ok 1;ok 1;ok 1;ok 1;ok;ok 2;ok 2;ok 2;ok 2;ok;ok 3;ok 3;ok 3;ok 3;ok;ok 4;ok 4;ok 4;ok 2;reopened 4;rows 2;62 01;63 01;|0\n\
-    trial 48 2|||begin t;set t 61 *65*;commit t;rotate;flush;begin t;del t 61;commit t;rotate;flush;begin t;set t 62 01;commit t;rotate;flush;begin t;set t 63 01;commit t;rotate;flush;plan j;install j;|ok 0;ok;ok 1;ok 1;ok 1;ok 1;ok;ok 2;ok 2;ok 2;ok 2;ok;ok 3;ok 3;ok 3;ok 3;ok;ok 4;ok 4;ok 4;ok 2;reopened 4;rows 2;62 01;63 01;|0\n\
-    trial 49 0|||begin t;set t 61 *65*;commit t;rotate;flush;begin t;del t 61;commit t;rotate;flush;begin t;set t 62 01;commit t;rotate;flush;begin t;set t 63 01;commit t;rotate;flush;plan j;install j;|ok 0;ok;ok 1;ok 1;ok 1;ok 1;ok;ok 2;ok 2;ok 2;ok 2;ok;ok 3;ok 3;ok 3;ok 3;ok;ok 4;ok 4;ok 4;ok 2;ok;reopened 4;rows 2;62 01;63 01;|0\n\
+    trial 46 0|||begin t;set t 61 *65*;commit t;rotate;flush;begin t;del t 61;commit t;rotate;flush;begin t;set t 62 01;commit t;\
+        rotate;flush;begin t;set t 63 01;commit t;rotate;flush;plan j;install j;|ok 0;ok;ok 1;ok 1;ok 1;ok 1;ok;ok 2;ok 2;ok 2;ok 2;\
+        ok;ok 3;ok 3;ok 3;ok 3;ok;ok 4;ok 4;ok 4;reopened 4;rows 2;62 01;63 01;|0\n\
+    trial 47 0|||begin t;set t 61 *65*;commit t;rotate;flush;begin t;del t 61;commit t;rotate;flush;begin t;set t 62 01;commit t;\
+        rotate;flush;begin t;set t 63 01;commit t;rotate;flush;plan j;install j;|ok 0;ok;ok 1;ok 1;ok 1;ok 1;ok;ok 2;ok 2;ok 2;ok 2;\
+        ok;ok 3;ok 3;ok 3;ok 3;ok;ok 4;ok 4;ok 4;ok 2;reopened 4;rows 2;62 01;63 01;|0\n\
+    trial 47 1|||begin t;set t 61 *65*;commit t;rotate;flush;begin t;del t 61;commit t;rotate;flush;begin t;set t 62 01;commit t;\
+        rotate;flush;begin t;set t 63 01;commit t;rotate;flush;plan j;install j;|ok 0;ok;ok 1;ok 1;ok 1;ok 1;ok;ok 2;ok 2;ok 2;ok 2;\
+        ok;ok 3;ok 3;ok 3;ok 3;ok;ok 4;ok 4;ok 4;ok 2;reopened 4;rows 2;62 01;63 01;|0\n\
+    trial 47 2|||begin t;set t 61 *65*;commit t;rotate;flush;begin t;del t 61;commit t;rotate;flush;begin t;set t 62 01;commit t;\
+        rotate;flush;begin t;set t 63 01;commit t;rotate;flush;plan j;install j;|ok 0;ok;ok 1;ok 1;ok 1;ok 1;ok;ok 2;ok 2;ok 2;ok 2;\
+        ok;ok 3;ok 3;ok 3;ok 3;ok;ok 4;ok 4;ok 4;ok 2;reopened 4;rows 2;62 01;63 01;|0\n\
+    trial 48 0|||begin t;set t 61 *65*;commit t;rotate;flush;begin t;del t 61;commit t;rotate;flush;begin t;set t 62 01;commit t;\
+        rotate;flush;begin t;set t 63 01;commit t;rotate;flush;plan j;install j;|ok 0;ok;ok 1;ok 1;ok 1;ok 1;ok;ok 2;ok 2;ok 2;ok 2;\
+        ok;ok 3;ok 3;ok 3;ok 3;ok;ok 4;ok 4;ok 4;ok 2;reopened 4;rows 2;62 01;63 01;|0\n\
+    trial 48 1|||begin t;set t 61 *65*;commit t;rotate;flush;begin t;del t 61;commit t;rotate;flush;begin t;set t 62 01;commit t;\
+        rotate;flush;begin t;set t 63 01;commit t;rotate;flush;plan j;install j;|ok 0;ok;ok 1;ok 1;ok 1;ok 1;ok;ok 2;ok 2;ok 2;ok 2;\
+        ok;ok 3;ok 3;ok 3;ok 3;ok;ok 4;ok 4;ok 4;ok 2;reopened 4;rows 2;62 01;63 01;|0\n\
+    trial 48 2|||begin t;set t 61 *65*;commit t;rotate;flush;begin t;del t 61;commit t;rotate;flush;begin t;set t 62 01;commit t;\
+        rotate;flush;begin t;set t 63 01;commit t;rotate;flush;plan j;install j;|ok 0;ok;ok 1;ok 1;ok 1;ok 1;ok;ok 2;ok 2;ok 2;ok 2;\
+        ok;ok 3;ok 3;ok 3;ok 3;ok;ok 4;ok 4;ok 4;ok 2;reopened 4;rows 2;62 01;63 01;|0\n\
+    trial 49 0|||begin t;set t 61 *65*;commit t;rotate;flush;begin t;del t 61;commit t;rotate;flush;begin t;set t 62 01;commit t;\
+        rotate;flush;begin t;set t 63 01;commit t;rotate;flush;plan j;install j;|ok 0;ok;ok 1;ok 1;ok 1;ok 1;ok;ok 2;ok 2;ok 2;ok 2;\
+        ok;ok 3;ok 3;ok 3;ok 3;ok;ok 4;ok 4;ok 4;ok 2;ok;reopened 4;rows 2;62 01;63 01;|0\n\
+    replay .|||begin t;set t 61 *64*;set t 62 *65*;commit t;rotate;flush;stats;|ok 0;ok;ok;ok 1;ok 1;ok 1;segments 2;\
+        segment 1 bytes 172 live 74;segment 2 bytes 0 live 0;|0\n\
+    replay .|||begin t;set t 61 *65*;commit t;rotate;flush;view v;begin t;set t 61 *66*;commit t;rotate;flush;pick g 1;batch g;\
+        move g;batch g;drop g;get v 61;view w;get w 61;stats;|ok 0;ok;ok 1;ok 1;ok 1;ok 1;ok 1;ok;ok 2;ok 2;ok 2;ok 1;found 1;\
+        moved 1;end;ok;value *65*;ok 2;value *66*;segments 3;segment 1 bytes 99 live 74;segment 2 bytes 100 live 75;\
+        segment 3 bytes 99 live 0;|0\n\
+    replay .|||begin t;set t 61 *65*;commit t;rotate;flush;begin t;del t 61;commit t;rotate;flush;begin t;set t 62 01;commit t;\
+        rotate;flush;begin t;set t 63 01;commit t;rotate;flush;pick g 1;batch g;plan j;move g;install j;view v;get v 61;plan k;\
+        install k;get v 61;drop v;drop g;|ok 0;ok;ok 1;ok 1;ok 1;ok 1;ok;ok 2;ok 2;ok 2;ok 2;ok;ok 3;ok 3;ok 3;ok 3;ok;ok 4;ok 4;\
+        ok 4;ok 1;found 1;ok 2;moved 1;raced 61;ok 4;none;ok 3;ok;none;ok;ok;|0\n\
+    replay .|||begin t;set t 61 *65*;commit t;rotate;flush;begin t;del t 61;commit t;rotate;flush;begin t;set t 62 01;commit t;\
+        rotate;flush;begin t;set t 63 01;commit t;rotate;flush;pick g 1;batch g;plan j;install j;move g;batch g;drop g;view v;\
+        get v 61;get v 62;|ok 0;ok;ok 1;ok 1;ok 1;ok 1;ok;ok 2;ok 2;ok 2;ok 2;ok;ok 3;ok 3;ok 3;ok 3;ok;ok 4;ok 4;ok 4;ok 1;found 1;\
+        ok 2;ok;moved 0;end;ok;ok 4;none;value 01;|0\n\
+    replay .|||pick g 0;pick g 100;pick g 50;batch g;move g;drop g;|invalid;invalid;norewrite;unknown g;unknown g;unknown g;|0\n\
+    replay .|||begin t;set t 61 *65*;commit t;rotate;flush;pick g 1;pick h 1;pick h 0;pick g 1;begin g;view g;plan g;get g 61;\
+        move g;batch g;batch g;drop g;pick g 25;drop g;pick g 26;|ok 0;ok;ok 1;ok 1;ok 1;ok 1;rejected 1;invalid;taken g;taken g;\
+        taken g;taken g;unknown g;idle;found 1;taken g;ok;ok 1;ok;norewrite;|0\n\
+    trial 16 0|||begin t;set t 61 *65*;commit t;rotate;flush;pick g 1;batch g;move g;|ok 0;ok;ok 1;ok 1;ok 1;ok 1;found 1;\
+        reopened 1;rows 1;61 *65*;|0\n\
+    trial 16 1|||begin t;set t 61 *65*;commit t;rotate;flush;pick g 1;batch g;move g;|ok 0;ok;ok 1;ok 1;ok 1;ok 1;found 1;\
+        reopened 1;rows 1;61 *65*;|0\n\
+    trial 16 2|||begin t;set t 61 *65*;commit t;rotate;flush;pick g 1;batch g;move g;|ok 0;ok;ok 1;ok 1;ok 1;ok 1;found 1;\
+        reopened 1;rows 1;61 *65*;|0\n\
+    trial 17 0|||begin t;set t 61 *65*;commit t;rotate;flush;pick g 1;batch g;move g;|ok 0;ok;ok 1;ok 1;ok 1;ok 1;found 1;\
+        reopened 1;rows 1;61 *65*;|0\n\
+    trial 17 1|||begin t;set t 61 *65*;commit t;rotate;flush;pick g 1;batch g;move g;|ok 0;ok;ok 1;ok 1;ok 1;ok 1;found 1;\
+        reopened 1;rows 1;61 *65*;|0\n\
+    trial 17 2|||begin t;set t 61 *65*;commit t;rotate;flush;pick g 1;batch g;move g;|ok 0;ok;ok 1;ok 1;ok 1;ok 1;found 1;\
+        reopened 1;rows 1;61 *65*;|0\n\
+    trial 18 0|||begin t;set t 61 *65*;commit t;rotate;flush;pick g 1;batch g;move g;|ok 0;ok;ok 1;ok 1;ok 1;ok 1;found 1;moved 1;\
+        reopened 1;rows 1;61 *65*;|0\n\
+    trial 18 1|||begin t;set t 61 *65*;commit t;rotate;flush;pick g 1;batch g;move g;|ok 0;ok;ok 1;ok 1;ok 1;ok 1;found 1;moved 1;\
+        reopened 1;rows 1;61 *65*;|0\n\
+    trial 18 2|||begin t;set t 61 *65*;commit t;rotate;flush;pick g 1;batch g;move g;|ok 0;ok;ok 1;ok 1;ok 1;ok 1;found 1;moved 1;\
+        reopened 1;rows 1;61 *65*;|0\n\
     trial 1000000 0|||begin a;set a 61 01;commit a;|ok 0;ok;ok 1;reopened 1;rows 1;61 01;|0";
 
 /// Three commits: of two keys, of a deletion, and of an empty value. They make the calls 7 and 8, 9 and 10, 11 and 12.

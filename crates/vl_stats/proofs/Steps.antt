@@ -13,14 +13,14 @@ use Rattle.vl_stats.specs.Sums.{Adds, Takes, bytes_at}
 -- ---- one change behind another
 
 pub adds_none : (old : ℕ → Option ℕ) (more : ℕ → ℕ) → ((s : ℕ) → more s ≡ 0) → Adds old old more
-adds_none old more none = λ s fits. let e = none s in omega (arith, e)
+adds_none old more none = λ s. let e = none s in omega (arith, e)
 
 adds_then : (old mid new : ℕ → Option ℕ) (a b both : ℕ → ℕ) → Adds old mid a → Adds mid new b
     → ((s : ℕ) → both s ≡ a s + b s) → Adds old new both
-adds_then old mid new a b both f g is = λ s fits.
+adds_then old mid new a b both f g is = λ s.
     let e = is s in
-    let one = f s (omega (arith, fits, e)) in
-    let two = g s (omega (arith, fits, e, one)) in
+    let one = f s in
+    let two = g s in
     omega (arith, one, two, e)
 
 pub takes_none : (old : ℕ → Option ℕ) (fewer : ℕ → ℕ) → ((s : ℕ) → fewer s ≡ 0) → Takes old old fewer
@@ -139,8 +139,7 @@ switched was copy mid new a d before came gone after same adds takes of_before c
     let e = same s in
     let x = came_is s in
     let y = gone_is s in
-    let counts = switch.counts s in
-    let fits = switch.fits s in
-    let one = adds s (omega (arith, b, e, x, fits)) in
+    let counts = switch s in
+    let one = adds s in
     let two = takes s (omega (arith, b, e, x, y, counts, one)) in
     omega (arith, b, e, x, y, counts, one, two)

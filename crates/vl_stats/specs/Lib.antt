@@ -1,2 +1,5 @@
 pub mod Live
+pub mod Places
 pub mod Sums
+pub mod Tallies
+pub mod laws

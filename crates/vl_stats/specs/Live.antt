@@ -1,5 +1,5 @@
 -- What is kept of live bytes, and what a switch of tables does to them.
-use Rattle.std.specs.Prelude.{◌≡◌, ◌<◌, ◌+◌, ◌^◌, ℕ, List, map, unwrap_or}
+use Rattle.std.specs.Prelude.{◌≡◌, ◌+◌, ℕ, List, map, unwrap_or}
 use Rattle.std.specs.BTreeMap.{is_at}
 use Rattle.std.specs.Map.{lookup}
 use Rattle.std.specs.Ordering.{nat_cmp}
@@ -19,8 +19,13 @@ abbrev pub points_of_tables : List Table → List (List Point)
 points_of_tables ts = map (λ (t : Table). t.points) ts
 
 -- The tables after a switch lead, with those that it drops, to as many bytes of each segment as the tables before it with
--- those that it adds; and 128 bits hold so many.
-pub record IsSwitch (before added dropped after : List Table) : Type 0 where
-  pub counts : (segment : ℕ)
-      → live_bytes after segment + live_bytes dropped segment ≡ live_bytes added segment + live_bytes before segment
-  pub fits : (segment : ℕ) → live_bytes added segment + live_bytes before segment < 2 ^ 128
+-- those that it adds.
+abbrev pub IsSwitch : (before added dropped after : List Table) → Type 0
+IsSwitch before added dropped after = (segment : ℕ)
+    → live_bytes after segment + live_bytes dropped segment ≡ live_bytes added segment + live_bytes before segment
+
+-- Whatever tables the first are the live bytes of, the second are those of the tables after a switch that adds and drops
+-- tables with these points.
+abbrev pub Switches : (was now : List (ℕ × ℕ)) (added dropped : List (List Point)) → Type 0
+Switches was now added dropped = (before came gone after : List Table) → AreOf before was
+    → added ≡ points_of_tables came → dropped ≡ points_of_tables gone → IsSwitch before came gone after → AreOf after now

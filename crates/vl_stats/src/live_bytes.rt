@@ -1,6 +1,5 @@
-ghost use Rattle.std.specs.Prelude.{◌≡◌, List, IfOk, [], map};
-ghost use Rattle.vl_stats.specs.Live.{AreOf, IsSwitch, bytes_of, points_of_tables};
-ghost use Rattle.vl_layout.specs.declared.table.Table.{Table};
+ghost use Rattle.std.specs.Prelude.{◌≡◌, IfOk, [], map};
+ghost use Rattle.vl_stats.specs.Live.{AreOf, Switches, bytes_of};
 
 use crate::sums::{self, Sums};
 use std::alloc::{AllocError, Global};
@@ -39,10 +38,8 @@ impl LiveBytes {
 
     /// Those of the tables after a switch that adds and drops tables with these footers.
     pub fn with(&self, added: &[&Footer], dropped: &[&Footer]) -> Result<LiveBytes, AllocError>
-        ensures { IfOk result (λ live. (before came gone after : List Table) → AreOf before self.now
-            → map (λ f. f.now.points.items) added.now ≡ points_of_tables came
-            → map (λ f. f.now.points.items) dropped.now ≡ points_of_tables gone
-            → IsSwitch before came gone after → AreOf after live) }
+        ensures { IfOk result (λ live. Switches self.now live (map (λ f. f.now.points.items) added.now)
+            (map (λ f. f.now.points.items) dropped.now)) }
     {
         let mut sums = self.sums.clone()?;
         sums::add_footers(&mut sums, added)?;

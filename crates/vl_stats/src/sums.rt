@@ -12,7 +12,8 @@ use vl_block::{Footer, Point};
 
 pub type Sums = BTreeMap<u32, u128>;
 
-// With a point's bytes more. A sum that 128 bits don't hold stays at the last that they do.
+// With a point's bytes more. A sum that 128 bits don't hold is refused as want of memory: it takes 2^32 tables with 2^32
+// points each.
 fn add_point(sums: &mut Sums, point: Point) -> Result<(), AllocError>
     ensures adds { OnOk result (Adds (get nat_cmp sums.old) (get nat_cmp sums.new) (λ s. pointed_bytes s (point ∷ []))) }
     ensures empty { OnOk result (HasNoEmpty (get nat_cmp sums.old) → HasNoEmpty (get nat_cmp sums.new)) }
@@ -21,11 +22,13 @@ fn add_point(sums: &mut Sums, point: Point) -> Result<(), AllocError>
         return Ok(());
     }
     let before = sums.get(&point.segment).copied().unwrap_or(0);
-    sums.insert(
-        point.segment,
-        before.saturating_add(u128::from(point.bytes)),
-    )?;
-    Ok(())
+    match before.checked_add(u128::from(point.bytes)) {
+        Some(after) => {
+            sums.insert(point.segment, after)?;
+            Ok(())
+        }
+        None => Err(AllocError),
+    }
 }
 
 // With a point's bytes fewer.

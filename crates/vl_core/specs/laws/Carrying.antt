@@ -1,13 +1,13 @@
 -- What a commit carries out over a disk that holds the engine's layout, by each of its exits.
-use Rattle.std.specs.Prelude.{◌≡◌, ◌≤◌, ℕ, ◌+◌, T, List, [], length, Option, None, Some, refl}
+use Rattle.std.specs.Prelude.{◌≡◌, ◌≤◌, ℕ, ◌+◌, T, List, [], Option, None, Some, refl}
 use Rattle.std.specs.FinMap.{from_sorted, is_sorted}
 use Rattle.std.specs.Option.{option_map}
 use Rattle.std.proofs.Common.{sym, ap, subst, ◌∙◌, append-nil, arith, ⊎_elim}
 use Rattle.vl_back.specs.declared.back.Back.{Back}
 use Rattle.vl_disk.specs.Calls.{ChangesNothing}
-use Rattle.vl_disk.specs.Crash.{Unchanged, WhileAppending, WhileSyncing}
+use Rattle.vl_disk.specs.Crash.{Unchanged}
 use Rattle.vl_disk.specs.Disk.{IsChangedBy}
-use Rattle.vl_disk.specs.DiskState.{DiskState, appended}
+use Rattle.vl_disk.specs.DiskState.{DiskState}
 use Rattle.vl_disk.specs.Faults.{after_calls}
 use Rattle.vl_disk.specs.Moments.{Elapses, While, goes_by, holds_weaker, waits}
 use Rattle.vl_disk.specs.declared.name.Name.TheVariants as names
@@ -16,14 +16,13 @@ use Rattle.vl_disk.specs.declared.watched.Watched.{Ghosts}
 use Rattle.vl_core.specs.laws.Represented.{represents_committed, represents_halted, represents_same}
 use Rattle.vl_core.specs.laws.Standing.{tidy_then}
 use Rattle.vl_core.specs.Carries.{Carries, CrashesShow, Tells}
-use Rattle.vl_core.specs.Held.{IsBase}
 use Rattle.vl_core.specs.Pointed.{layout_logs}
 use Rattle.vl_core.specs.Represents.{IsHeld, Represents, StandsFor, file_of}
 use Rattle.vl_core.specs.Shown.{LeavesBetween}
 use Rattle.vl_core.specs.Spared.{at_rest, Spares}
 use Rattle.vl_core.specs.Writing.{WhileWriting, written}
 use Rattle.vl_core.specs.declared.kept.Core.{Core}
-use Rattle.vl_core.specs.laws.CommitLaws.{append_opens_again, append_shows, commit_base, commit_holds, sync_opens_again, sync_shows}
+use Rattle.vl_core.specs.laws.CommitLaws.{commit_base, commit_holds, commit_opens_again, commit_shows}
 use Rattle.vl_core.specs.laws.HeldLaws.{held_opens_again, held_shown}
 use Rattle.vl_core.specs.laws.KeptLaws.{begun_kept, table_log, written_elsewhere}
 use Rattle.vl_core.specs.laws.RulingLaws.{IsAccepted}
@@ -38,6 +37,7 @@ use Rattle.vl_layout.specs.declared.layout.Layout.{Layout}
 use Rattle.vl_model.specs.Formats.{log_format}
 use Rattle.vl_model.specs.History.{Extends, History, last_number, with_commit}
 use Rattle.vl_model.specs.Keys.{key_cmp}
+use Rattle.vl_model.specs.declared.log_frame.LogFrame.{LogFrame}
 use Rattle.vl_model.specs.laws.HistoryLaws.{with_commit-extends}
 use Rattle.vl_recover.specs.crash.Starts.{MayOpen}
 use Rattle.vl_recover.specs.laws.crash.TornFrames.{frame_behind}
@@ -124,6 +124,60 @@ module _ {D : Type 0} (g : Ghosts D) (watched : IsWatched g) where
 
   -- ---- a frame is written
 
+  -- behind a log of which a disk holds all frames: what a crash leaves while it is written shows one of two histories, and a store
+  -- may be opened then
+  module _ (h longer : History) (extends : Extends h longer) (l : Layout) (tidy : IsTidy (layout_logs l) l h) (back : Back)
+      (old mid new : D) (held : IsHeld back (g.told old) h l) (failed : Type 0) (no_change : ChangesNothing g old mid failed)
+      (f : LogFrame) (frame : List ℕ) (frame_is : frame ≡ frame_at log_format l.active.number l.active.length f)
+      (time : Elapses g mid new (WhileWriting (names.Log l.active.number) frame))
+      (shows : (now : DiskState)
+      → WhileWriting (names.Log l.active.number) (frame_behind l.active.format l.active.number l.active.frames f) held.state now
+      → LeavesBetween h longer now)
+      (opens : (now : DiskState)
+      → WhileWriting (names.Log l.active.number) (frame_behind l.active.format l.active.number l.active.frames f) held.state now
+      → MayOpen now) where
+    abbrev active_name : Name
+    active_name = names.Log l.active.number
+
+    abbrev behind : List ℕ
+    behind = frame_behind l.active.format l.active.number l.active.frames f
+
+    -- it stands where the log's frames end
+    frame_whole : frame ≡ behind
+    frame_whole =
+        frame_is
+        ∙ ap (λ (n : ℕ). frame_at n l.active.number l.active.length f) (sym held.is_base.format)
+        ∙ ap (λ (n : ℕ). frame_at l.active.format l.active.number n f) tidy.true_logs.0
+
+    told_mid : g.told mid ≡ Some held.state
+    told_mid = no_change.told ∙ held.told_is
+
+    during_whole : (now : DiskState) → WhileWriting active_name frame held.state now → WhileWriting active_name behind held.state now
+    during_whole now = subst (λ (piece : List ℕ). WhileWriting active_name piece held.state now) frame_whole
+
+    -- What a crash leaves meanwhile shows the history, or the one with the frame.
+    pub frame_goes : CrashesShow g old new h longer
+    frame_goes =
+        goes_by g (LeavesBetween h longer) old mid new held.state (WhileWriting active_name frame) told_mid
+        (shows_wider old mid h longer extends (looked h l tidy back old mid failed no_change held))
+        time (λ now during. shows now (during_whole now during))
+
+    pub frame_may_open : (now : DiskState) → g.told new ≡ Some now → MayOpen now
+    frame_may_open now told = ⊎_elim
+        (λ (before : g.states_since mid (g.moment mid) now).
+        subst MayOpen (sym (watched.only_now mid held.state now told_mid before))
+        (held_opens_again held.base l h held.is_base held.state tidy.levels held.holds))
+        (λ (during : While (g.told mid) (WhileWriting active_name frame) now). opens now (during_whole now (during held.state told_mid)))
+        (time.nothing_else (g.moment mid) now (omega arith) (watched.counts_now new now (g.moment mid) told time.later))
+
+    -- Where it was written, all of it stands.
+    pub frame_told : IsChangedBy (written active_name frame) (g.told mid) (g.told new)
+        → g.told new ≡ Some (written active_name behind held.state)
+    frame_told changed = changed ∙ ap (option_map (written active_name frame)) told_mid
+        ∙ ap (λ (piece : List ℕ). Some (written active_name piece held.state)) frame_whole
+
+  -- ---- a commit is written
+
   module _ {H : Type 0} (bytes : H → Option (List ℕ)) (core after : Core H) (h : History) (l : Layout) (t : Transaction)
       (old mid new : D) (is : Represents bytes core (g.told old) h l) (rising : T (is_sorted key_cmp t.writes))
       (accepted : IsAccepted l h t) (failed : Type 0) (no_change : ChangesNothing g old mid failed) (frame : List ℕ)
@@ -139,11 +193,14 @@ module _ {D : Type 0} (g : Ghosts D) (watched : IsWatched g) where
     abbrev whole : List ℕ
     whole = frame_behind l.active.format l.active.number l.active.frames (commit_frame h t.writes)
 
-    held : IsHeld core.back (g.told old) h l
+    abbrev held : IsHeld core.back (g.told old) h l
     held = is.held accepted.running
 
     abbrev tidy : IsTidy (layout_logs l) l h
     tidy = is.stands.tidy
+
+    extends : Extends h longer
+    extends = with_commit-extends h (from_sorted t.writes)
 
     tidy_longer : IsTidy (layout_logs l) (committed l h t).layout (with_commit h (from_sorted t.writes))
     tidy_longer = tidy_then bytes core core h l is.stands t rising accepted
@@ -151,54 +208,23 @@ module _ {D : Type 0} (g : Ghosts D) (watched : IsWatched g) where
     spared_longer : Spares (at_rest (committed l h t).layout) (with_commit h (from_sorted t.writes))
     spared_longer = committed_spares (at_rest l) h held.is_base.spared t rising
 
-    has_so : (base : IsBase held.base l h) → HasFrame (frames_grammar l.active.format) (commit_frame h t.writes)
-    has_so base = subst (λ (n : ℕ). HasFrame (frames_grammar n) (commit_frame h t.writes)) (sym base.format) has
+    has_so : HasFrame (frames_grammar l.active.format) (commit_frame h t.writes)
+    has_so = subst (λ (n : ℕ). HasFrame (frames_grammar n) (commit_frame h t.writes)) (sym held.is_base.format) has
 
-    frame_whole : (base : IsBase held.base l h) → frame ≡ whole
-    frame_whole base =
-        frame_is
-        ∙ ap (λ (n : ℕ). frame_at n l.active.number l.active.length (commit_frame h t.writes)) (sym base.format)
-        ∙ ap (λ (n : ℕ). frame_at l.active.format l.active.number n (commit_frame h t.writes)) tidy.true_logs.0
+    shows : (now : DiskState) → WhileWriting name whole held.state now → LeavesBetween h longer now
+    shows = commit_shows held.base l h t held.is_base tidy held.state held.holds has_so tidy_longer spared_longer
 
-    told_mid : g.told mid ≡ Some held.state
-    told_mid = no_change.told ∙ held.told_is
-
-    writing_leaves : (now : DiskState) → WhileWriting name whole held.state now → LeavesBetween h longer now
-    writing_leaves now during image left = ⊎_elim
-        (λ (appending : WhileAppending name whole held.state now).
-        append_shows held.base l h t held.is_base tidy held.state held.holds (has_so held.is_base) tidy_longer
-        spared_longer now appending image left)
-        (λ (syncing : WhileSyncing name (appended name whole (length whole) held.state) now).
-        sync_shows held.base l h t held.is_base tidy held.state held.holds (has_so held.is_base) tidy_longer
-        spared_longer now syncing image left)
-        during
-
-    writing_may_open : (now : DiskState) → WhileWriting name whole held.state now → MayOpen now
-    writing_may_open now during = ⊎_elim
-        (λ (appending : WhileAppending name whole held.state now).
-        append_opens_again held.base l h t held.is_base tidy held.state held.holds (has_so held.is_base) now appending)
-        (λ (syncing : WhileSyncing name (appended name whole (length whole) held.state) now).
-        sync_opens_again held.base l h t held.is_base tidy held.state held.holds (has_so held.is_base) now syncing)
-        during
+    opens : (now : DiskState) → WhileWriting name whole held.state now → MayOpen now
+    opens = commit_opens_again held.base l h t held.is_base tidy held.state held.holds has_so
 
     -- What a crash leaves meanwhile shows the history, or the one with the commit.
-    pub goes_written : CrashesShow g old new h (with_commit h (from_sorted t.writes))
-    goes_written =
-        goes_by g (LeavesBetween h longer) old mid new held.state (WhileWriting name frame) told_mid
-        (shows_wider old mid h longer (with_commit-extends h (from_sorted t.writes))
-        (looked h l tidy core.back old mid failed no_change held))
-        time (λ now during. writing_leaves now
-        (subst (λ (piece : List ℕ). WhileWriting name piece held.state now) (frame_whole held.is_base) during))
+    goes_written : CrashesShow g old new h (with_commit h (from_sorted t.writes))
+    goes_written = frame_goes h longer extends l tidy core.back old mid new held failed no_change (commit_frame h t.writes) frame
+        frame_is time shows opens
 
     now_may_open : (now : DiskState) → g.told new ≡ Some now → MayOpen now
-    now_may_open now told = ⊎_elim
-        (λ (before : g.states_since mid (g.moment mid) now).
-        subst MayOpen (sym (watched.only_now mid held.state now told_mid before))
-        (held_opens_again held.base l h held.is_base held.state tidy.levels held.holds))
-        (λ (during : While (g.told mid) (WhileWriting name frame) now).
-        writing_may_open now
-        (subst (λ (piece : List ℕ). WhileWriting name piece held.state now) (frame_whole held.is_base) (during held.state told_mid)))
-        (time.nothing_else (g.moment mid) now (omega arith) (watched.counts_now new now (g.moment mid) told time.later))
+    now_may_open = frame_may_open h longer extends l tidy core.back old mid new held failed no_change (commit_frame h t.writes) frame
+        frame_is time shows opens
 
     -- The disk failed while it was written.
     pub carries_failed : (now : DiskState) × (g.told new ≡ Some now) → (effects : Effects)
@@ -240,12 +266,12 @@ module _ {D : Type 0} (g : Ghosts D) (watched : IsWatched g) where
     }
       where
         told : g.told new ≡ Some (written name whole held.state)
-        told = changed ∙ ap (option_map (written name frame)) told_mid
-            ∙ ap (λ (piece : List ℕ). Some (written name piece held.state)) (frame_whole held.is_base)
+        told = frame_told h longer extends l tidy core.back old mid new held failed no_change (commit_frame h t.writes) frame
+            frame_is time shows opens changed
 
         then : Represents bytes after (g.told new) (with_commit h (from_sorted t.writes)) (committed l h t).layout
         then = represents_committed bytes core after h l back t (g.told new) (written name whole held.state) held.base
             held.back_is told (commit_base held.base l h t held.is_base tidy spared_longer)
-            (commit_holds held.base l h t held.is_base tidy held.state held.holds (has_so held.is_base))
+            (commit_holds held.base l h t held.is_base tidy held.state held.holds has_so)
             (begun_kept name held.state (written name whole held.state) (written_elsewhere name whole held.state)
             (λ n. table_log n l.active.number) held.base.state.next_table l.next_table held.begun) stands

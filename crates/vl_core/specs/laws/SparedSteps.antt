@@ -35,6 +35,7 @@ use Rattle.vl_model.specs.Placement.{placed}
 use Rattle.vl_model.specs.Versions.{Numbered, naming, versions, versions_in}
 use Rattle.vl_model.specs.declared.change.Change.{Change}
 use Rattle.vl_model.specs.declared.entry.Entry.{Entry}
+use Rattle.vl_model.specs.declared.log_frame.LogFrame.{LogFrame}
 use Rattle.vl_model.specs.laws.HistoryLaws.{with_commit-extends}
 use Rattle.vl_model.specs.laws.VersionLaws.{has-append, versions-up, versions-with_commit}
 use Rattle.vl_core.specs.Spared.{IsSpared, Spares}
@@ -79,6 +80,35 @@ spares_rotated l h = spares_floor l (rotated l) h (sources-rotated l) refl refl 
 pub spares_keeping : (l : Layout) (h : History) (v : ℕ) → Spares l h → Spares (keeping v h l) h
 spares_keeping l h v = spared_keep h (sources l) (last_number h) (floor l h) l.keep l.since v
 
+-- ---- a frame
+
+module _ (l : Layout) (f : LogFrame) (key : List ℕ) (n : ℕ) where
+  -- with a frame more the sources have its versions and what they had,
+  pub any_logged : list_any (is_at key n) (sources (logged f l))
+      ≡ (list_any (is_at key n) (added l f) || list_any (is_at key n) (sources l))
+  any_logged =
+      let p = is_at key n in
+      let old = logged_entries l.active.format l.active.number 16 l.active.frames in
+      any-append p (memtable (logged f l).active) (behind_active l)
+      ∙ ap (λ b. b || list_any p (behind_active l))
+      (any-in_order key n (logged_entries l.active.format l.active.number 16 (logged f l).active.frames)
+      ∙ ap (list_any p) (logged_entries-more l.active.format l.active.number 16 l.active.frames f)
+      ∙ any-append p (added l f) old
+      ∙ ap (λ b. list_any p (added l f) || b) (sym (any-in_order key n old)))
+      ∙ assoc (list_any p (added l f)) (list_any p (memtable l.active)) (list_any p (behind_active l))
+      ∙ ap (λ b. list_any p (added l f) || b) (sym (any-append p (memtable l.active) (behind_active l)))
+    where
+      assoc : (a b c : Bool) → ((a || b) || c) ≡ (a || (b || c))
+      assoc true b c = refl
+      assoc false b c = refl
+
+  -- so it takes none away
+  pub has_logged : has n (versions_in (sources l) key) ≡ true → has n (versions_in (sources (logged f l)) key) ≡ true
+  has_logged there =
+      has-versions_in key n (sources (logged f l)) ∙ any_logged
+      ∙ or_right (list_any (is_at key n) (added l f)) (list_any (is_at key n) (sources l))
+      (sym (has-versions_in key n (sources l)) ∙ there)
+
 -- ---- a commit
 
 module _ (format segment number : ℕ) (key : List ℕ) (n : ℕ) where
@@ -106,24 +136,10 @@ module _ (l : Layout) (h : History) (ticket : ℕ) (writes : Writes) where
   any_then : (key : List ℕ) (n : ℕ) → list_any (is_at key n) (sources then)
       ≡ ((is_some (get writes key) && (last_number h + 1 == n)) || list_any (is_at key n) (sources l))
   any_then key n =
-      let p = is_at key n in
-      let old = logged_entries l.active.format l.active.number 16 l.active.frames in
-      let new = added l (commit_frame h (entries writes)) in
-      any-append p (memtable then.active) (behind_active l)
-      ∙ ap (λ b. b || list_any p (behind_active l))
-      (any-in_order key n (logged_entries l.active.format l.active.number 16 then.active.frames)
-      ∙ ap (list_any p) (logged_entries-more l.active.format l.active.number 16 l.active.frames (commit_frame h (entries writes)))
-      ∙ any-append p new old
-      ∙ ap (λ b. list_any p new || b) (sym (any-in_order key n old)))
-      ∙ assoc (list_any p new) (list_any p (memtable l.active)) (list_any p (behind_active l))
-      ∙ ap (λ b. list_any p new || b) (sym (any-append p (memtable l.active) (behind_active l)))
-      ∙ ap (λ b. b || list_any p (sources l))
+      any_logged l (commit_frame h (entries writes)) key n
+      ∙ ap (λ b. b || list_any (is_at key n) (sources l))
       (any_committed l.active.format l.active.number (last_number h + 1) key n (place_behind l.active.format 16 l.active.frames + 17)
       (entries writes) ∙ ap (λ o. is_some o && (last_number h + 1 == n)) (sym (get-entries writes key)))
-    where
-      assoc : (a b c : Bool) → ((a || b) || c) ≡ (a || (b || c))
-      assoc true b c = refl
-      assoc false b c = refl
 
   has_then : (key : List ℕ) (n : ℕ) → has n (versions_in (sources then) key)
       ≡ ((is_some (get writes key) && (last_number h + 1 == n)) || has n (versions_in (sources l) key))

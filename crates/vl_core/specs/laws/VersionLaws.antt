@@ -1,10 +1,11 @@
--- A version that has a layout has the one behind a begin, an end, a halt and a commit; and where the layout has no tables, all
--- that is read of it is in memory.
-use Rattle.std.specs.Prelude.{◌≡◌, ◌<◌, ℕ, List, [], ◌∷◌, ◌++◌, Option, refl}
+-- A version that has a layout has the one behind a begin, an end, a halt, a commit and a relocation; and where the layout has no
+-- tables, all that is read of it is in memory.
+use Rattle.std.specs.Prelude.{◌≡◌, ◌<◌, ℕ, ◌+◌, List, [], ◌∷◌, ◌++◌, Option, refl}
 use Rattle.std.specs.List.{AllByRecursion, AllZip}
 use Rattle.std.proofs.Common.{sym, ap, subst, ◌∙◌}
 use Rattle.vl_core.specs.Laid.{AreLevelsOf, HasLayout, HasLog, IsMemtableOf, IsTableOf}
 use Rattle.vl_core.specs.LiesOver.{IsInMemory}
+use Rattle.vl_core.specs.laws.AppendedLaws.{with_more}
 use Rattle.vl_core.specs.laws.LaidLaws.{memtable_near}
 use Rattle.vl_core.specs.laws.LaidTables.{tables_are}
 use Rattle.vl_core.specs.laws.LedLaws.{AreFarTo, IsFarTo}
@@ -12,9 +13,11 @@ use Rattle.vl_core.specs.laws.MemtableLaws.{memtable_more}
 use Rattle.vl_layout.specs.Logs.{frame_entries, memtable}
 use Rattle.vl_layout.specs.Ruling.{ended, halted_at}
 use Rattle.vl_layout.specs.Rulings.Commit.{Transaction, commit_frame, committed}
+use Rattle.vl_layout.specs.Rulings.Relocate.{relocated, with_moves}
 use Rattle.vl_layout.specs.Sources.{tables}
 use Rattle.vl_layout.specs.Tidy.{IsTrueLog}
 use Rattle.vl_layout.specs.declared.file_name.FileName.{FileName}
+use Rattle.vl_layout.specs.declared.job.OpenJob.{OpenJob}
 use Rattle.vl_layout.specs.declared.layout.Layout.{Layout}
 use Rattle.vl_layout.specs.declared.live.Live.{Live}
 use Rattle.vl_layout.specs.declared.segment.Segment.{Segment}
@@ -26,6 +29,9 @@ use Rattle.vl_model.specs.History.{History}
 use Rattle.vl_model.specs.declared.entry.Body.TheVariants.{Inline, Gone, Far, Logged}
 use Rattle.vl_model.specs.declared.entry.Body.{Body}
 use Rattle.vl_model.specs.declared.entry.Entry.{Entry}
+use Rattle.vl_model.specs.declared.log_frame.LogFrame.TheVariants.{Relocated}
+use Rattle.vl_model.specs.declared.log_frame.LogFrame.{LogFrame}
+use Rattle.vl_model.specs.declared.log_frame.Moved.{Moved}
 use Rattle.vl_seglog.specs.declared.sealed.SealedLog.{SealedLog}
 use Rattle.vl_table.specs.declared.table.Table.{Table}
 use Rattle.vl_version.specs.Near.{AreNear, IsNear}
@@ -63,16 +69,18 @@ module _ {H : Type 0} (bytes : H → Option (List ℕ)) (version : Version H) (l
     below = has.below;
   }
 
-  -- ---- behind a commit
+  -- ---- behind a frame
 
-  -- With the commit's entries over it the memtable is that of the log with its frame, and nothing else changed.
-  pub laid_committed : (after : Version H) (h : History) (t : Transaction) → IsTrueLog l.active
-      → after.behind ≡ version.behind → after.active.entries ≡ in_order (next_entries l h t ++ version.active.entries)
-      → HasLayout bytes after (committed l h t).layout
-  laid_committed after h t true_log behind more = record {
+  -- With the frame's entries over it the memtable is that of the log with its frame, and nothing else changed.
+  pub laid_appended : (after : Version H) (f : LogFrame) (live : List Live) (number : ℕ) (job : Option OpenJob) → IsTrueLog l.active
+      → after.behind ≡ version.behind
+      → after.active.entries
+      ≡ in_order (frame_entries l.active.format l.active.number l.active.length f ++ version.active.entries)
+      → HasLayout bytes after (with_more f live number job l)
+  laid_appended after f live number job true_log behind more = record {
     active = more
-        ∙ ap (λ (es : List Entry). in_order (next_entries l h t ++ es)) has.active
-        ∙ memtable_more (ended t.ticket l) (commit_frame h t.writes) true_log;
+        ∙ ap (λ (es : List Entry). in_order (frame_entries l.active.format l.active.number l.active.length f ++ es)) has.active
+        ∙ memtable_more l f true_log;
     frozen = subst (λ (b : Behind H). AllZip IsMemtableOf b.frozen.items l.frozen) (sym behind) has.frozen;
     levels = subst (λ (b : Behind H). AreLevelsOf bytes b.levels l.levels) (sym behind) has.levels;
     in_order = subst (λ (b : Behind H). AreInOrder b.levels) (sym behind) has.in_order;
@@ -81,6 +89,21 @@ module _ {H : Type 0} (bytes : H → Option (List ℕ)) (version : Version H) (l
     below = subst (λ (b : Behind H). AllByRecursion (λ (log : SealedLog H). log.number < l.active.number) b.logs.items) (sym behind)
         has.below;
   }
+
+  -- So behind a commit,
+  pub laid_committed : (after : Version H) (h : History) (t : Transaction) → IsTrueLog l.active
+      → after.behind ≡ version.behind → after.active.entries ≡ in_order (next_entries l h t ++ version.active.entries)
+      → HasLayout bytes after (committed l h t).layout
+  laid_committed after h t =
+      laid_appended after (commit_frame h t.writes) (ended t.ticket l).live l.version_number l.job
+
+  -- and behind a relocation.
+  pub laid_relocated : (after : Version H) (moved : List Moved) → IsTrueLog l.active → after.behind ≡ version.behind
+      → after.active.entries
+      ≡ in_order (frame_entries l.active.format l.active.number l.active.length (Relocated moved) ++ version.active.entries)
+      → HasLayout bytes after (relocated l moved)
+  laid_relocated after moved =
+      laid_appended after (Relocated moved) l.live (l.version_number + 1) (with_moves (l.version_number + 1) moved l.job)
 
   -- ---- without tables
 

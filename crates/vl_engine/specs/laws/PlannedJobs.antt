@@ -1,5 +1,5 @@
 -- A merge that is planned of a version that has a layout does what the ruling's job says.
-use Rattle.std.specs.Prelude.{◌≡◌, ℕ, ◌+◌, ◌==◌, false, List, [], ◌∷◌, ◌++◌, map, Option, refl}
+use Rattle.std.specs.Prelude.{◌≡◌, ℕ, ◌==◌, false, List, [], ◌∷◌, ◌++◌, map, Option, refl}
 use Rattle.std.specs.List.{AllByRecursion, AllZip, flat_map, list_any}
 use Rattle.std.proofs.Common.{sym, ap, subst, ◌∙◌}
 use Rattle.vl_compact.specs.Laid as compact
@@ -13,13 +13,13 @@ use Rattle.vl_core.specs.Represents.{StandsFor}
 use Rattle.vl_core.specs.declared.kept.Core.{Core}
 use Rattle.vl_core.specs.laws.LaidTables.{tables_are}
 use Rattle.vl_core.specs.laws.LiveLaws.{same_floor}
-use Rattle.vl_core.specs.laws.PlanSources.{sourced_level}
-use Rattle.vl_layout.specs.Levels.{inputs_at, is_among}
+use Rattle.vl_core.specs.laws.PlanSources.{IsPart, sourced_part}
+use Rattle.vl_layout.specs.Levels.{is_among}
 use Rattle.vl_layout.specs.Logs.{memtable}
 use Rattle.vl_layout.specs.Rulings.Plan.{job_of, sourced}
 use Rattle.vl_layout.specs.Sources.{floor, numbers_of, table_entries, tables}
 use Rattle.vl_layout.specs.Tidy.{IsTidy, IsTrueTable}
-use Rattle.vl_layout.specs.declared.job.Target.TheVariants.{Level}
+use Rattle.vl_layout.specs.declared.job.Target.{Target}
 use Rattle.vl_layout.specs.declared.layout.Layout.{Layout}
 use Rattle.vl_layout.specs.declared.segment.Segment.{Segment}
 use Rattle.vl_layout.specs.declared.table.Table as laid
@@ -114,25 +114,24 @@ module _ {H : Type 0} (bytes : H → Option (List ℕ)) where
 
   -- ---- the job
 
-  -- The merge of the inputs of a level does the job that is planned of that level.
+  -- The merge of some of all tables, in their order, does the job that is planned of them.
   module _ (core : Core H) (h : History) (l : Layout) (is : StandsFor bytes core h l) where
     pub floor_is : floor_of core.front.oracle ≡ floor l h
     floor_is = same_floor core.front.oracle l h is.fronts.front.last is.fronts.front.live_are is.fronts.front.lived
 
-    pub job_is : {W R : Type 0} (writers : Writers W) {g : _} (job : Job (Base H R) H W g) (n : ℕ)
-        → compact.AreTablesOf bytes job.inputs.tables.items (inputs_at n l.levels) → job.inputs.target ≡ Level (n + 1)
+    pub job_is : {W R : Type 0} (writers : Writers W) {g : _} (job : Job (Base H R) H W g) (ts : List laid.Table) (target : Target)
+        → IsPart ts (tables l) → compact.AreTablesOf bytes job.inputs.tables.items ts → job.inputs.target ≡ target
         → job.base.version ≡ core.version → job.floor ≡ floor_of core.front.oracle → job.keep ≡ core.back.state.keep
-        → IsJobOf writers bytes (λ base inputs ms. HasSources bytes base.version inputs ms) job
-        (job_of l h (inputs_at n l.levels) (Level (n + 1)))
-    job_is writers job n inputs target version floor_so keep_so = record {
-      tables = inputs_at n l.levels;
+        → IsJobOf writers bytes (λ base inputs ms. HasSources bytes base.version inputs ms) job (job_of l h ts target)
+    job_is writers job ts target part inputs target_is version floor_so keep_so = record {
+      tables = ts;
       inputs = inputs;
       numbers = refl;
-      base = let inputs_so = numbers_of (inputs_at n l.levels) in
+      base = let inputs_so = numbers_of ts in
           subst (λ (v : Version H). HasSources bytes v inputs_so (sourced l inputs_so)) (sym version)
           (has_sources core.version l is.has inputs_so);
-      entries = sourced_level l n is.tidy.levels;
-      target = target;
+      entries = sourced_part l ts is.tidy.levels.distinct part;
+      target = target_is;
       floor = floor_so ∙ floor_is;
       keep = keep_so ∙ is.fronts.keep;
       some = is.tidy.some;

@@ -58,6 +58,8 @@ impl<D: Disk> Engine<D> {
         ensures disk { self.new.disk ≡ self.old.disk }
         ensures back { self.new.core.back ≡ self.old.core.back }
         ensures merging { self.new.merging ≡ self.old.merging }
+        ensures collecting { self.new.collecting ≡ self.old.collecting }
+        ensures logs { self.new.core.version.behind.logs ≡ self.old.core.version.behind.logs }
     {
         let View {
             alloc,
@@ -106,6 +108,8 @@ impl<D: Disk> Engine<D> {
         ensures disk { self.new.disk ≡ self.old.disk }
         ensures back { self.new.core.back ≡ self.old.core.back }
         ensures merging { self.new.merging ≡ self.old.merging }
+        ensures collecting { self.new.collecting ≡ self.old.collecting }
+        ensures logs { self.new.core.version.behind.logs ≡ self.old.core.version.behind.logs }
     {
         let Ok(reader) = self.disk.reader(self.alloc) else {
             return Err(BeginFail::NoMemory);

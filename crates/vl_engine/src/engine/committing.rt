@@ -98,6 +98,8 @@ impl<D: Disk> Engine<D> {
         ensures files { SameFiles (D.told self.old.disk) (D.told self.new.disk) }
         ensures steps { self.new.core.back ≡ self.old.core.back }
         ensures merging { self.new.merging ≡ self.old.merging }
+        ensures collecting { self.new.collecting ≡ self.old.collecting }
+        ensures logs { self.new.core.version.behind.logs ≡ self.old.core.version.behind.logs }
     {
         let Ok(decision) = self.core.front.decide(txn.number, &txn.reads, &txn.writes) else {
             return Err(CommitFail::NoMemory(txn));
@@ -134,6 +136,8 @@ impl<D: Disk> Engine<D> {
         ensures cause { HasCause (D.faults self.old.disk) (D.faults self.new.disk) (CommitFailed result) }
         ensures steps { self.new.core.back ≡ self.old.core.back }
         ensures merging { self.new.merging ≡ self.old.merging }
+        ensures collecting { self.new.collecting ≡ self.old.collecting }
+        ensures logs { self.new.core.version.behind.logs ≡ self.old.core.version.behind.logs }
         ensures untouched { LeavesDisk result → ChangesNothing D.Watched self.old.disk self.new.disk ⊥ }
         ensures as_written { WritesAs D.Watched self.old.disk self.new.disk self.old.core self.new.core txn.ticket txn.writes result }
     {

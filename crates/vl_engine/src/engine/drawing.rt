@@ -65,6 +65,8 @@ impl<D: Disk> Engine<D> {
         ensures merging { IfOk result (λ file. IsLentMore self.old.merging self.new.merging file.number) }
         ensures fresh { IfOk result (λ file. IsNewTo self.old.merging file.number) }
         ensures refused { OnErr result (IsSameMerge self.old.merging self.new.merging) }
+        ensures collecting { self.new.collecting ≡ self.old.collecting }
+        ensures logs { self.new.core.version.behind.logs ≡ self.old.core.version.behind.logs }
 
         // What carries out the merge is as before, with room for one table more.
         ensures job { IsSameJob job.old job.new }

@@ -22,6 +22,8 @@ impl<D: Disk> Engine<D> {
         ensures disk { self.new.disk ≡ self.old.disk }
         ensures back { self.new.core.back ≡ self.old.core.back }
         ensures merging { self.new.merging ≡ self.old.merging }
+        ensures collecting { self.new.collecting ≡ self.old.collecting }
+        ensures logs { self.new.core.version.behind.logs ≡ self.old.core.version.behind.logs }
     {
         self.end(txn.ticket);
     }
@@ -38,6 +40,8 @@ impl<D: Disk> Engine<D> {
         ensures disk { self.new.disk ≡ self.old.disk }
         ensures back { self.new.core.back ≡ self.old.core.back }
         ensures merging { self.new.merging ≡ self.old.merging }
+        ensures collecting { self.new.collecting ≡ self.old.collecting }
+        ensures logs { self.new.core.version.behind.logs ≡ self.old.core.version.behind.logs }
     {
         self.end(view.ticket);
     }
@@ -54,6 +58,8 @@ impl<D: Disk> Engine<D> {
         ensures disk { self.new.disk ≡ self.old.disk }
         ensures back { self.new.core.back ≡ self.old.core.back }
         ensures merging { self.new.merging ≡ self.old.merging }
+        ensures collecting { self.new.collecting ≡ self.old.collecting }
+        ensures logs { self.new.core.version.behind.logs ≡ self.old.core.version.behind.logs }
     {
         self.core.front.end(ticket);
     }

@@ -8,6 +8,7 @@ ghost use Rattle.vl_disk.specs.declared.name.Name.TheVariants as names;
 ghost use Rattle.vl_disk.specs.declared.name.Name.{Name};
 ghost use Rattle.vl_core.specs.Carries.{Carries, StaysUntold};
 ghost use Rattle.vl_back.specs.declared.staging.StagedFlush.{StagedFlush};
+ghost use Rattle.vl_engine.specs.Collecting.{Collects, FlushesFor};
 ghost use Rattle.vl_engine.specs.Flushing.{FlushesAs, flush_effects};
 ghost use Rattle.vl_core.specs.FlushFacts.{IsFlushWritten, StopsFlushing, WritesFlush};
 ghost use Rattle.vl_core.specs.Represents.{Fronts, Represents, StandsFor};
@@ -19,6 +20,7 @@ ghost use Rattle.vl_layout.specs.Rulings.Flush.{flush_ruling};
 ghost use Rattle.vl_layout.specs.declared.layout.Layout.{Layout};
 ghost use Rattle.vl_model.specs.History.{History};
 
+use crate::collecting::head_of;
 use crate::flushing::{ReadyFlush, ready_flush};
 use crate::{Engine, StepFail};
 use vl_back::{Decision, StagedFlush, StagedTable, write_and_switch};
@@ -88,6 +90,12 @@ impl<D: Disk> Engine<D> {
 
         // What is kept of the open merge stays.
         ensures merging { self.new.merging ≡ self.old.merging }
+
+        // What is kept of live bytes is that of the tables then.
+        ensures collects { (h : History) (l : Layout) → Represents D.Held.bytes self.old.core (D.told self.old.disk) h l
+            → Collects self.old.core self.old.collecting l
+            → Decides (λ _ l. Collects self.new.core self.new.collecting l) h l (flush_ruling l h) (as_before l l)
+            (step_outcome result) (flush_effects result) }
     {
         if let Some(name) = self.core.front.halted {
             return Err(StepFail::Halted { name });
@@ -108,6 +116,7 @@ impl<D: Disk> Engine<D> {
         ensures files { KeepsOthers (names.Table self.old.core.back.state.next_table) (D.told self.old.disk) (D.told self.new.disk) }
         ensures as_flushed { FlushesAs D.Watched D.Held.bytes self.old.disk self.new.disk self.old.core self.new.core result }
         ensures merging { self.new.merging ≡ self.old.merging }
+        ensures collected { FlushesFor D.Held.bytes self.old.core self.old.collecting self.new.collecting self.new.core result }
     {
         let Ok(ready) = ready_flush(self.alloc, &mut self.disk, &self.core) else {
             return Err(StepFail::NoMemory);
@@ -119,6 +128,12 @@ impl<D: Disk> Engine<D> {
             state,
         } = staged;
         let StagedTable { bytes, shape } = table;
+        let Ok(live) = self
+            .collecting
+            .live_with(self.alloc, &self.core, &[&shape.footer], &[])
+        else {
+            return Err(StepFail::NoMemory);
+        };
         let number = self.core.back.state.next_table;
         match write_and_switch(
             &mut self.disk,
@@ -130,6 +145,7 @@ impl<D: Disk> Engine<D> {
             Ok(held) => {
                 self.core.version = version.with_table(Table::of(held, shape));
                 self.core.back.apply_flush(state);
+                self.collecting.switch(live, head_of(&self.core));
                 Ok(Some(number))
             }
             Err(name) => {

@@ -1,4 +1,5 @@
-ghost use Rattle.std.specs.Prelude.{◌≡◌, ◌<◌, ◌≤◌, ℕ, Err, None, Some, IfOk, OnOk};
+ghost use Rattle.std.specs.Prelude.{◌≡◌, ◌<◌, ◌≤◌, ℕ, Err, None, Some, IfOk, IsSome, OnOk, map};
+ghost use Rattle.std.specs.List.{filter};
 ghost use Rattle.std.specs.Option.{ForSome};
 ghost use Rattle.vl_compact.specs.Progress.{made_of};
 ghost use Rattle.vl_disk.specs.Calls.{ChangesNothing};
@@ -6,6 +7,7 @@ ghost use Rattle.vl_disk.specs.DiskState.{DiskState};
 ghost use Rattle.vl_disk.specs.Faults.{HasCause, after_calls};
 ghost use Rattle.vl_disk.specs.declared.name.Name.{Name};
 ghost use Rattle.vl_core.specs.Carries.{Carries, StaysUntold};
+ghost use Rattle.vl_engine.specs.Collecting.{Collects, InstallsFor, LeadsFrom, points_in, points_made};
 ghost use Rattle.vl_engine.specs.Installing.{HandsBack, InstallFailed, InstallLeavesDisk, InstallsAs, InstallsCore};
 ghost use Rattle.vl_engine.specs.Installing.{InstallsUnraced, IsHandedIn, IsInstallWritten, KeepsAllBut, MayInstall};
 ghost use Rattle.vl_engine.specs.Installing.{StopsInstall, WritesInstall, install_otherwise};
@@ -21,13 +23,18 @@ ghost use Rattle.vl_layout.specs.declared.job.OpenJob.{OpenJob};
 ghost use Rattle.vl_layout.specs.declared.layout.Layout.{Layout};
 ghost use Rattle.vl_model.specs.History.{History};
 ghost use Rattle.vl_model.specs.Limits.{max_version_number};
+ghost use Rattle.vl_table.specs.Tables.{number_of};
+ghost use Rattle.vl_version.specs.Bases.{is_input};
+ghost use Rattle.vl_version.specs.levels.LevelsLooked.{tables_of};
 
+use crate::collecting::head_of;
 use crate::installing::{ReadyInstall, ready_install, write_install};
 use crate::{Engine, InstallFail};
 use std::alloc::AllocError;
 use vl_compact::{Job, Parts};
 use vl_disk::Disk;
 use vl_model::{Counter, Key};
+use vl_stats::LiveBytes;
 use vl_version::Base;
 
 impl<D: Disk> Engine<D> {
@@ -104,6 +111,15 @@ impl<D: Disk> Engine<D> {
         ensures within { (InstallFailed result → ⊥) → self.old.core.back.state.next_log ≤ self.old.core.back.next_log
             → self.new.core.back.state.next_log ≤ self.new.core.back.next_log }
 
+        // What is kept of live bytes is that of the tables then.
+        ensures collects { (h : History) (l : Layout) (o : OpenJob)
+            → Represents D.Held.bytes self.old.core (D.told self.old.disk) h l
+            → StandsOpen D.Held.bytes self.old.core self.old.merging h l → l.job ≡ Some o
+            → HasAllMerge D.Writer.Writer D.Held.bytes job o.job → AreLent o.lent (made_of job o.job)
+            → Collects self.old.core self.old.collecting l
+            → Decides (λ _ l. Collects self.new.core self.new.collecting l) h l (install_ruling l h o.job (made_of job o.job))
+            (install_otherwise l (made_of job o.job)) (install_outcome result) (install_effects result) }
+
         // In memory a version is made, or nothing changes beside the open merge, unless a fault halts. A halted engine does nothing.
         ensures core { InstallsCore self.old.core self.new.core result }
         ensures halted { (name : Name) → self.old.core.front.halted ≡ Some name → result ≡ Err (fails.Halted name) }
@@ -154,26 +170,37 @@ impl<D: Disk> Engine<D> {
             self.old.core self.new.core result }
         ensures handed { HandsBack job self.old.merging self.new.merging result }
         ensures cause { HasCause (D.faults self.old.disk) (D.faults self.new.disk) (InstallFailed result) }
+        ensures collected { InstallsFor D.Held.bytes self.old.core self.old.collecting self.new.collecting D.Writer.Writer job
+            self.new.core result }
     {
         if self.core.back.has_no_version() {
             self.merging = None;
             return Err(InstallFail::Exhausted(Counter::Version));
         }
-        self.put_in(job)
+        let Ok(live) = self.collecting.live_installed(self.alloc, &self.core, &job) else {
+            return Err(InstallFail::NoMemory(job));
+        };
+        self.put_in(job, live)
     }
 
-    // Nothing stands against it.
+    // Nothing stands against it, and these are the live bytes behind it.
     fn put_in(
         &mut self,
         job: Job<Base<D::Held, D::Reader>, D::Held, D::Writer>,
+        live: LiveBytes,
     ) -> Result<(), InstallFail<Base<D::Held, D::Reader>, D::Held, D::Writer>>
         requires handed { IsHandedIn D.Watched D.Writer.Writer self.old.disk self.old.core.front.halted self.old.merging job }
         requires running { self.old.core.front.halted ≡ None }
         requires version { self.old.core.back.version_number < max_version_number }
+        requires tallied { IsSome self.old.collecting.tally }
+        requires live { LeadsFrom self.old.collecting.tally live (points_made job.made.items) (points_in
+            (filter (is_input (map number_of job.inputs.tables.items)) (tables_of self.old.core.version.behind.levels))) }
         ensures as_installed { InstallsAs D.Watched D.Held.bytes D.Writer.Writer job self.old.disk self.new.disk
             self.old.core self.new.core result }
         ensures handed { HandsBack job self.old.merging self.new.merging result }
         ensures cause { HasCause (D.faults self.old.disk) (D.faults self.new.disk) (InstallFailed result) }
+        ensures collected { InstallsFor D.Held.bytes self.old.core self.old.collecting self.new.collecting D.Writer.Writer job
+            self.new.core result }
     {
         let Ok(ready) = ready_install(self.alloc, &mut self.disk, &self.core, &job) else {
             return Err(InstallFail::NoMemory(job));
@@ -196,6 +223,7 @@ impl<D: Disk> Engine<D> {
             Ok(()) => {
                 self.core.version = version.with_levels(levels.into_levels());
                 self.core.back.apply_install(staged.state);
+                self.collecting.switch(live, head_of(&self.core));
                 Ok(())
             }
             Err(name) => {

@@ -86,6 +86,8 @@ impl<D: Disk> Engine<D> {
 
         // What is kept of the open merge stays.
         ensures merging { self.new.merging ≡ self.old.merging }
+        ensures collecting { self.new.collecting ≡ self.old.collecting }
+        ensures logs { self.new.core.version.behind.logs ≡ self.old.core.version.behind.logs }
     {
         if let Some(name) = self.core.front.halted {
             return Err(KeepFail::Halted { name });
@@ -106,6 +108,8 @@ impl<D: Disk> Engine<D> {
         ensures files { SameFiles (D.told self.old.disk) (D.told self.new.disk) }
         ensures as_kept { KeepsAs D.Watched self.old.disk self.new.disk self.old.core self.new.core versions result }
         ensures merging { self.new.merging ≡ self.old.merging }
+        ensures collecting { self.new.collecting ≡ self.old.collecting }
+        ensures logs { self.new.core.version.behind.logs ≡ self.old.core.version.behind.logs }
     {
         let since = next_since(&self.core, versions);
         let edits = [Edit::Keep { versions, since }];

@@ -1,10 +1,11 @@
 ghost use Rattle.std.specs.Prelude.{◌≡◌, IfOk, None, Ok, OnOk, Some};
+ghost use Rattle.vl_engine.specs.Collecting.{Collects};
 ghost use Rattle.vl_engine.specs.Installing.{IsHandedIn};
 ghost use Rattle.vl_engine.specs.Merging.{FitsReaders, HasMerge, StandsOpen};
 ghost use Rattle.vl_core.specs.Represents.{Represents};
 ghost use Rattle.vl_core.specs.MayStep.{Fits};
 ghost use Rattle.vl_engine.specs.UnderWay.{IsUnderWay};
-ghost use Rattle.vl_engine.specs.Whole.{MakesTables, StaysFor, kept_of};
+ghost use Rattle.vl_engine.specs.Whole.{MakesTables, StaysCollecting, StaysFor, kept_of};
 ghost use Rattle.vl_layout.specs.Rulings.Plan.{plan_ruling};
 ghost use Rattle.vl_layout.specs.declared.job.OpenJob.{OpenJob};
 ghost use Rattle.vl_layout.specs.declared.layout.Layout.{Layout};
@@ -26,6 +27,13 @@ impl<D: Disk> Engine<D> {
         ensures stays { (h : History) (l : Layout) → Represents D.Held.bytes self.old.core (D.told self.old.disk) h l
             → StandsOpen D.Held.bytes self.old.core self.old.merging h l → Fits (D.told self.old.disk) self.old.core h l
             → StaysFor D.Watched D.Held.bytes self.old.disk self.new.disk self.new.core self.new.merging h l }
+
+        // What it keeps of where space comes back from is that layout's.
+        ensures collects { (h : History) (l : Layout) → Represents D.Held.bytes self.old.core (D.told self.old.disk) h l
+            → StandsOpen D.Held.bytes self.old.core self.old.merging h l → Fits (D.told self.old.disk) self.old.core h l
+            → Collects self.old.core self.old.collecting l
+            → StaysCollecting D.Watched D.Held.bytes self.old.disk self.new.disk self.new.core self.new.merging
+            self.new.collecting h l }
 
         // The merge is the one that the ruling on plans has: it answers how many entries that merge keeps, and none where none is due.
         ensures counts { (h : History) (l : Layout) → Represents D.Held.bytes self.old.core (D.told self.old.disk) h l
@@ -60,6 +68,8 @@ impl<D: Disk> Engine<D> {
         requires { IsUnderWay D.Watched D.Writer.Writer self.old.disk self.old.core.front.halted self.old.merging job.old }
         ensures handed { OnOk result (IsHandedIn D.Watched D.Writer.Writer self.new.disk self.new.core.front.halted
             self.new.merging job.new) }
+        ensures collecting { self.new.collecting ≡ self.old.collecting }
+        ensures logs { self.new.core.version.behind.logs ≡ self.old.core.version.behind.logs }
 
         // Of a job that does what the layout's open one says, as `plan` gives it: whatever it answers, the engine stands for the same
         // history, as where a whole merge is done, with that job open yet. Where it is done, the job has all of its merge, which is
@@ -88,6 +98,7 @@ impl<D: Disk> Engine<D> {
         fail: InstallFail<Base<D::Held, D::Reader>, D::Held, D::Writer>,
     ) -> MergeFail
         ensures merging { self.new.merging ≡ None }
+        ensures collecting { self.new.collecting ≡ self.old.collecting }
         ensures core { self.new.core ≡ self.old.core }
         ensures disk { self.new.disk ≡ self.old.disk }
     {

@@ -7,6 +7,7 @@ ghost use Rattle.vl_disk.specs.Moments.{HoldsThroughout};
 ghost use Rattle.vl_disk.specs.Started.{IsRead};
 ghost use Rattle.vl_disk.specs.declared.name.Name.{Name};
 ghost use Rattle.vl_core.specs.Carries.{CrashesShow, Tells};
+ghost use Rattle.vl_engine.specs.Collecting.{Collects, nothing_collected};
 ghost use Rattle.vl_engine.specs.Opening.{AnswersOpening, IsAsBefore};
 ghost use Rattle.vl_core.specs.Found.{AreLeveled, IsBackAtStart, IsCoreOf};
 ghost use Rattle.vl_engine.specs.Opening.{IsDiskFault, IsFault, disk_behind, reader_faults};
@@ -27,6 +28,7 @@ ghost use Rattle.vl_recover.specs.opening.Opening.{NamesNoTable};
 ghost use Rattle.vl_recover.specs.opening.Results.{recovery_by};
 ghost use Rattle.vl_recover.specs.repairing.Steps.{MakesSome};
 
+use crate::open::Collecting;
 use crate::{Engine, OpenError, OpenFail};
 use std::alloc::Global;
 use vl_back::Back;
@@ -66,8 +68,12 @@ impl<D: Disk> Engine<D> {
         ensures back { (state : DiskState) (read : Image) (found : Finds read) → D.told disk ≡ Some state → IsRead read state
             → IfOk result (λ engine. IsBackAtStart found engine.core.back) }
 
-        // No merge is open.
+        // No merge is open, and no pass. How much is live isn't known yet, but which logs there are.
         ensures merging { IfOk result (λ engine. engine.merging ≡ None) }
+        ensures collecting { IfOk result (λ engine. engine.collecting ≡ nothing_collected) }
+        ensures collects { (state : DiskState) (read : Image) (found : Finds read) (h : History) → D.told disk ≡ Some state
+            → IsRead read state → (shown : Shown read h (last_number h))
+            → IfOk result (λ engine. Collects engine.core engine.collecting (layout_at_start room (recovered found shown))) }
 
         // What a crash leaves meanwhile shows what was opened; and opens as something that one could have left before.
         ensures through { (state : DiskState) (read : Image) (h : History) → D.told disk ≡ Some state → IsDurable state
@@ -165,6 +171,10 @@ impl<D: Disk> Engine<D> {
                 },
             },
             merging: None,
+            collecting: Collecting {
+                passing: None,
+                tally: None,
+            },
         })
     }
 }

@@ -1,12 +1,15 @@
-ghost use Rattle.std.specs.Prelude.{◌≡◌, None, Some, IfOk, OnErr, OnOk};
+ghost use Rattle.std.specs.Prelude.{◌≡◌, None, Option, Some, IfOk, OnErr, OnOk};
 ghost use Rattle.std.specs.Option.{ForSome};
 ghost use Rattle.vl_compact.specs.Laid.{AreBoth};
 ghost use Rattle.vl_compact.specs.Progress.{IsNew};
 ghost use Rattle.vl_engine.specs.Merging.{FitsReaders, HasMerge, IsJustOpen, IsMergeFor, IsMergeOf, OpensMerge, StandsOpen, plan_outcome};
+ghost use Rattle.vl_engine.specs.Planning.{IsChosen};
 ghost use Rattle.vl_core.specs.Represents.{Represents, StandsFor};
 ghost use Rattle.vl_core.specs.MayStep.{Fits};
 ghost use Rattle.vl_layout.specs.Decides.{Decides, as_before, no_effects};
+ghost use Rattle.vl_layout.specs.Rulings.Drain.{drain_ruling};
 ghost use Rattle.vl_layout.specs.Rulings.Plan.{plan_ruling};
+ghost use Rattle.vl_layout.specs.Ruling.{Ruling};
 ghost use Rattle.vl_layout.specs.Jobs.{AreLent, Made};
 ghost use Rattle.vl_layout.specs.Rulings.Abandon.{abandon_ruling};
 ghost use Rattle.vl_layout.specs.declared.job.Job as laid_job;
@@ -19,7 +22,7 @@ ghost use Rattle.vl_table.specs.KeptBlocks.{AreKept};
 use crate::Engine;
 use crate::open::OpenMerge;
 use std::alloc::AllocError;
-use vl_compact::{Inputs, Job, JobReader, planned};
+use vl_compact::{Inputs, Job, JobReader, drained, planned};
 use vl_disk::{Disk, NoMemory};
 use vl_table::{BlockReader, KEPT_BLOCKS};
 use vl_version::Base;
@@ -60,14 +63,96 @@ impl<D: Disk> Engine<D> {
         ensures merging { OpensMerge self.old.merging self.new.merging result }
         ensures core { self.new.core ≡ self.old.core }
         ensures disk { self.new.disk ≡ self.old.disk }
+        ensures collecting { self.new.collecting ≡ self.old.collecting }
     {
         if self.merging.is_some() {
             return Ok(None);
         }
         match planned(self.alloc, self.core.version.levels()) {
-            Ok(None) => Ok(None),
-            Ok(Some(inputs)) => Ok(Some(self.begin_merge(inputs)?)),
+            Ok(inputs) => self.begin_chosen(inputs),
             Err(_) => Err(NoMemory),
+        }
+    }
+
+    /// Plans a merge of one table alone, whose outputs take its place: of the first one, in the order of the sources, that leads
+    /// into a segment. Where a pass has moved the records of a log, this drops the entries that led to them, so that the log can
+    /// go. None where a merge is open, or no table leads there. Each of its blocks is read and written, however few entries lead
+    /// there; and what is read from the log yet is kept, so that a loop of drains may not end. Else it is as with `plan`.
+    pub fn drain(
+        &mut self,
+        segment: u32,
+    ) -> Result<Option<Job<Base<D::Held, D::Reader>, D::Held, D::Writer>>, NoMemory>
+        // It is planned as the ruling has it.
+        ensures stands { (h : History) (l : Layout) → StandsOpen D.Held.bytes self.old.core self.old.merging h l
+            → Decides (StandsOpen D.Held.bytes self.new.core self.new.merging) h l (drain_ruling l h segment) (as_before l l)
+            (plan_outcome (drain_ruling l h segment).answer result) no_effects }
+        ensures represents { (h : History) (l : Layout) → Represents D.Held.bytes self.old.core (D.told self.old.disk) h l
+            → StandsOpen D.Held.bytes self.old.core self.old.merging h l
+            → Decides (Represents D.Held.bytes self.new.core (D.told self.new.disk)) h l (drain_ruling l h segment) (as_before l l)
+            (plan_outcome (drain_ruling l h segment).answer result) no_effects }
+
+        // What steps on files ask stays.
+        ensures fits { (h : History) (l : Layout) → StandsOpen D.Held.bytes self.old.core self.old.merging h l
+            → Fits (D.told self.old.disk) self.old.core h l
+            → Decides (Fits (D.told self.new.disk) self.new.core) h l (drain_ruling l h segment) (as_before l l)
+            (plan_outcome (drain_ruling l h segment).answer result) no_effects }
+
+        // The merge does what the ruling's job says, and has made nothing yet.
+        ensures job { (h : History) (l : Layout) → StandsOpen D.Held.bytes self.old.core self.old.merging h l
+            → IfOk result (λ job. AreBoth (HasMerge D.Writer.Writer D.Held.bytes) job (drain_ruling l h segment).answer) }
+        ensures new { IfOk result (λ job. ForSome job IsNew) }
+
+        // A reader that keeps no block that doesn't stand, as `reader` gives, fits its sources: look-ups by it are told.
+        ensures looks { (h : History) (l : Layout) → StandsOpen D.Held.bytes self.old.core self.old.merging h l
+            → IfOk result (λ job. ForSome job (FitsReaders D.Held.bytes)) }
+
+        // It is open then, and nothing was lent to it. In memory nothing else changes, and the disk isn't asked.
+        ensures merging { OpensMerge self.old.merging self.new.merging result }
+        ensures core { self.new.core ≡ self.old.core }
+        ensures disk { self.new.disk ≡ self.old.disk }
+        ensures collecting { self.new.collecting ≡ self.old.collecting }
+    {
+        if self.merging.is_some() {
+            return Ok(None);
+        }
+        match drained(self.alloc, self.core.version.levels(), segment) {
+            Ok(inputs) => self.begin_chosen(inputs),
+            Err(_) => Err(NoMemory),
+        }
+    }
+
+    // Begins a merge of the inputs that were chosen, where some were. It is said for whatever ruling begins that merge, as the one
+    // on plans and the one on drains do.
+    fn begin_chosen(
+        &mut self,
+        inputs: Option<Inputs<D::Held>>,
+    ) -> Result<Option<Job<Base<D::Held, D::Reader>, D::Held, D::Writer>>, NoMemory>
+        ensures stands { (h : History) (l : Layout) (ruling : Ruling (Option laid_job.Job))
+            → StandsOpen D.Held.bytes self.old.core self.old.merging h l → IsChosen D.Held.bytes inputs h l ruling
+            → Decides (StandsOpen D.Held.bytes self.new.core self.new.merging) h l ruling (as_before l l)
+            (plan_outcome ruling.answer result) no_effects }
+        ensures represents { (h : History) (l : Layout) (ruling : Ruling (Option laid_job.Job))
+            → Represents D.Held.bytes self.old.core (D.told self.old.disk) h l → IsChosen D.Held.bytes inputs h l ruling
+            → Decides (Represents D.Held.bytes self.new.core (D.told self.new.disk)) h l ruling (as_before l l)
+            (plan_outcome ruling.answer result) no_effects }
+        ensures fits { (h : History) (l : Layout) (ruling : Ruling (Option laid_job.Job))
+            → Fits (D.told self.old.disk) self.old.core h l → IsChosen D.Held.bytes inputs h l ruling
+            → Decides (Fits (D.told self.new.disk) self.new.core) h l ruling (as_before l l)
+            (plan_outcome ruling.answer result) no_effects }
+        ensures job { (h : History) (l : Layout) (ruling : Ruling (Option laid_job.Job))
+            → StandsFor D.Held.bytes self.old.core h l → IsChosen D.Held.bytes inputs h l ruling
+            → IfOk result (λ job. AreBoth (HasMerge D.Writer.Writer D.Held.bytes) job ruling.answer) }
+        ensures new { IfOk result (λ job. ForSome job IsNew) }
+        ensures looks { (h : History) (l : Layout) → StandsFor D.Held.bytes self.old.core h l
+            → IfOk result (λ job. ForSome job (FitsReaders D.Held.bytes)) }
+        ensures merging { OpensMerge self.old.merging self.new.merging result }
+        ensures core { self.new.core ≡ self.old.core }
+        ensures disk { self.new.disk ≡ self.old.disk }
+        ensures collecting { self.new.collecting ≡ self.old.collecting }
+    {
+        match inputs {
+            None => Ok(None),
+            Some(inputs) => Ok(Some(self.begin_merge(inputs)?)),
         }
     }
 
@@ -84,6 +169,7 @@ impl<D: Disk> Engine<D> {
         ensures core { self.new.core ≡ self.old.core }
         ensures disk { self.new.disk ≡ self.old.disk }
         ensures refused { OnErr result (self.new.merging ≡ self.old.merging) }
+        ensures collecting { self.new.collecting ≡ self.old.collecting }
     {
         let version = self.core.version.share()?;
         let floor = self.core.front.oracle.floor();
@@ -122,6 +208,7 @@ impl<D: Disk> Engine<D> {
         ensures core { self.new.core ≡ self.old.core }
         ensures disk { self.new.disk ≡ self.old.disk }
         ensures merging { self.new.merging ≡ None }
+        ensures collecting { self.new.collecting ≡ self.old.collecting }
     {
         let _ = job;
         self.merging = None;

@@ -7,6 +7,7 @@ ghost use Rattle.vl_disk.specs.declared.name.Name.{Name};
 ghost use Rattle.vl_disk.specs.declared.name.Name.TheVariants as names;
 ghost use Rattle.vl_core.specs.Carries.{Carries, StaysUntold};
 ghost use Rattle.vl_core.specs.Represents.{Fronts, Represents, StandsFor};
+ghost use Rattle.vl_engine.specs.Collecting.{Collects, SealsFor};
 ghost use Rattle.vl_engine.specs.Rotating.{RotatesAs, rotate_calls, rotate_effects};
 ghost use Rattle.vl_core.specs.RotateFacts.{BeginsLog, HasActive, MayBegin, StopsRotating};
 ghost use Rattle.vl_engine.specs.Stepping.{StepFailed, StepLeavesDisk, step_outcome};
@@ -85,10 +86,38 @@ impl<D: Disk> Engine<D> {
 
         // What is kept of the open merge stays.
         ensures merging { self.new.merging ≡ self.old.merging }
+
+        // What is kept of live bytes has the sealed log then.
+        ensures collects { (h : History) (l : Layout) → StandsFor D.Held.bytes self.old.core h l
+            → (l.halted ≡ None → HasNumbers self.old.core.back l) → Collects self.old.core self.old.collecting l
+            → Decides (λ _ l. Collects self.new.core self.new.collecting l) h l (rotate_ruling l h) (as_before l l)
+            (step_outcome result) (rotate_effects result) }
     {
         match refusal(&self.core) {
             Some(answer) => answer,
-            None => self.begin_log(),
+            None => self.seal_active(),
+        }
+    }
+
+    // Begins the next log, with room in memory for what is kept of the one that is sealed by that, and gives its number.
+    fn seal_active(&mut self) -> Result<Option<u32>, StepFail>
+        requires { MayBegin self.old.core }
+        ensures cause { HasCause (D.faults self.old.disk) (D.faults self.new.disk) (StepFailed result) }
+        ensures as_rotated { RotatesAs D.Watched D.Held.bytes self.old.disk self.new.disk self.old.core self.new.core result }
+        ensures files { KeepsOthers (names.Log self.old.core.back.next_log) (D.told self.old.disk) (D.told self.new.disk) }
+        ensures merging { self.new.merging ≡ self.old.merging }
+        ensures collected { SealsFor D.Held.bytes self.old.core self.old.collecting self.new.collecting result }
+    {
+        let Ok(()) = self.collecting.make_room(self.alloc, &self.core) else {
+            return Err(StepFail::NoMemory);
+        };
+        let length = self.core.front.log.length;
+        match self.begin_log() {
+            Ok(Some(number)) => {
+                self.collecting.seal((number, length));
+                Ok(Some(number))
+            }
+            answer => answer,
         }
     }
 
@@ -99,6 +128,7 @@ impl<D: Disk> Engine<D> {
         ensures as_rotated { RotatesAs D.Watched D.Held.bytes self.old.disk self.new.disk self.old.core self.new.core result }
         ensures files { KeepsOthers (names.Log self.old.core.back.next_log) (D.told self.old.disk) (D.told self.new.disk) }
         ensures merging { self.new.merging ≡ self.old.merging }
+        ensures collecting { self.new.collecting ≡ self.old.collecting }
     {
         let Ok(()) = self.core.back.make_room() else {
             return Err(StepFail::NoMemory);

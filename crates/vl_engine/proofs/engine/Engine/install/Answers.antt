@@ -6,7 +6,10 @@ use Rattle.vl_engine.proofs.InstallExits.{raced_so, ruled_halted, ruled_raced, s
 use Rattle.vl_engine.proofs.InstallExits.{stopped_by, untold_by, untouched_by, within_by}
 use Rattle.vl_engine.proofs.InstallTotal.{core_by, halted_at, none_races, not_halted, written_by}
 use Rattle.vl_core.specs.laws.Untouched.{alone}
-use Rattle.vl_engine.specs.Merging.{made_numbers}
+use Rattle.vl_compact.specs.Progress.{made_of}
+use Rattle.vl_engine.proofs.Switching.{install_collects, install_left, install_undone}
+use Rattle.vl_engine.specs.Merging.{install_effects, made_numbers}
+use Rattle.vl_layout.specs.Decides.{no_effects}
 use Rattle.vl_core.specs.Represents.{file_of}
 use Rattle.vl_layout.specs.Rulings.Install as ruling
 use Rattle.vl_engine.proofs.engine.Engine.install.Goals as goal
@@ -392,3 +395,30 @@ pub returns-in-Ok-None-clause-within : goal.returns-in-Ok-None-clause-within
 returns-in-Ok-None-clause-within g c fine within =
     within_by g.D.Watched g.D.Held.HeldFile.bytes g.D.Writer.Writer c.args.job c.args.self.now.disk c.install_unraced.new.self.disk
     c.args.self.now.core c.install_unraced.new.self.core c.install_unraced.result c.install_unraced.ensures.as_unraced fine within
+
+-- what is kept of live bytes
+
+pub returns-in-Some-clause-collects : goal.returns-in-Some-clause-collects
+returns-in-Some-clause-collects g c h l o represents is opened whole lent has =
+    install_left c.args.self.now.core c.args.self.now.collecting _ h l o.job (made_of c.args.job o.job) no_effects has _
+    (install_undone _ _ refl)
+    (returns-in-Some-clause-carries g c h l o represents is opened whole lent).decides
+
+pub returns-in-Ok-Some-clause-collects : goal.returns-in-Ok-Some-clause-collects
+returns-in-Ok-Some-clause-collects g c h l o represents is opened whole lent has =
+    install_left c.args.self.now.core c.args.self.now.collecting _ h l o.job (made_of c.args.job o.job) no_effects has _
+    (install_undone _ _ refl)
+    (returns-in-Ok-Some-clause-carries g c h l o represents is opened whole lent).decides
+
+pub returns-in-Err-clause-collects : goal.returns-in-Err-clause-collects
+returns-in-Err-clause-collects g c h l o represents is opened whole lent has =
+    install_left c.args.self.now.core c.args.self.now.collecting _ h l o.job (made_of c.args.job o.job) no_effects has _
+    (install_undone _ _ refl)
+    (returns-in-Err-clause-carries g c h l o represents is opened whole lent).decides
+
+pub returns-in-Ok-None-clause-collects : goal.returns-in-Ok-None-clause-collects
+returns-in-Ok-None-clause-collects g c h l o represents is opened whole lent has =
+    install_collects g.D.Held.HeldFile.bytes g.D.Writer.Writer c.args.job c.args.self.now.core c.install_unraced.new.self.core
+    c.args.self.now.collecting c.install_unraced.new.self.collecting (g.D.Watched.told c.install_unraced.new.self.disk) h l o is.stands
+    opened whole has c.install_unraced.result (returns-in-Ok-None-clause-core g c) c.install_unraced.ensures.collected
+    (install_effects c.install_unraced.result) (returns-in-Ok-None-clause-carries g c h l o represents is opened whole lent).decides

@@ -1,4 +1,10 @@
-use Rattle.std.proofs.Common.{List, ap, arith, refl, sym, ◌∙◌, ℕ}
+use Rattle.std.proofs.Common.{Global, List, Vec, [], ap, arith, refl, sym, ◌++◌, ◌∙◌, ◌∷◌, ℕ}
+use Rattle.vl_block.specs.declared.shape.TableShape.{TableShape}
+use Rattle.vl_engine.proofs.Collected.{leads_same}
+use Rattle.vl_engine.proofs.Switching.{has_flushed}
+use Rattle.vl_engine.specs.Collecting.{points_in}
+use Rattle.vl_table.specs.declared.table.Table.{Table}
+use Rattle.vl_version.specs.levels.LevelTables.{all_tables}
 use Rattle.std.specs.Prelude.{Some}
 use Rattle.vl_disk.specs.declared.name.Name.TheVariants as names
 use Rattle.vl_core.specs.laws.FlushKeeps.{changed_by, failed_then, fit_flushed, fit_unflushed, kept_from, next_then}
@@ -69,15 +75,15 @@ returns-in-Ok-write_and_switch-clause-as_flushed g c =
         staged = ready.staged;
         of = c.in-Ok.ensures.of;
         writes = writes_by g.D.Watched core ready.staged c.args.self.now.disk c.ready_flush.new.disk c.write_and_switch.new.disk _
-            c.deref.ensures.value c.in-Ok.ensures.no_change _ wrote.writes;
+            c.deref-2.ensures.value c.in-Ok.ensures.no_change _ wrote.writes;
         changed = changed_by g.D.Watched core ready.staged c.args.self.now.disk c.ready_flush.new.disk c.write_and_switch.new.disk _
-            c.deref.ensures.value c.in-Ok.ensures.no_change _ wrote.writes;
+            c.deref-2.ensures.value c.in-Ok.ensures.no_change _ wrote.writes;
         calls = wrote.writes.calls;
         table = c.of.result;
         held = record {
           shape = c.of.ensures.shape;
           held = λ state told. ap g.D.Held.HeldFile.bytes c.of.ensures.held ∙ wrote.held state told
-              ∙ ap (λ (bs : List ℕ). Some bs) c.deref.ensures.value;
+              ∙ ap (λ (bs : List ℕ). Some bs) c.deref-2.ensures.value;
         };
         front = refl;
         back = record {
@@ -133,11 +139,27 @@ returns-in-Err-clause-as_flushed g c =
       staged = ready.staged;
       of = c.in-Ok.ensures.of;
       writes = writes_by g.D.Watched core ready.staged c.args.self.now.disk c.ready_flush.new.disk c.write_and_switch.new.disk _
-          c.deref.ensures.value c.in-Ok.ensures.no_change _ c.in-Err.ensures.writes;
+          c.deref-2.ensures.value c.in-Ok.ensures.no_change _ c.in-Err.ensures.writes;
       stops = stops_by g.D.Watched core ready.staged c.args.self.now.disk c.ready_flush.new.disk c.write_and_switch.new.disk _
-          c.deref.ensures.value c.in-Ok.ensures.no_change c.in-Err.name c.in-Err.ensures.at;
+          c.deref-2.ensures.value c.in-Ok.ensures.no_change c.in-Err.name c.in-Err.ensures.at;
       front = refl;
       version_number = refl;
       state = refl;
       version = refl;
     }
+
+-- what is kept of live bytes
+
+pub returns-in-Ok-write_and_switch-clause-collected : goal.returns-in-Ok-write_and_switch-clause-collected
+returns-in-Ok-write_and_switch-clause-collected g c =
+    let ready = c.in-Ok.ready in
+    has_flushed g.D.Held.HeldFile.bytes c.args.self.now.core _ c.args.self.now.collecting c.live_with.new.self c.switch.new.self
+    c.of.result (ready.version.levels.newest.items ++ all_tables ready.version.levels.deeper.items) c.in-Ok-live_with.live
+    c.head_of.result c.in-Ok-live_with.ensures.readied
+    (leads_same c.live_with.new.self.tally c.in-Ok-live_with.live _ _ (points_in (c.of.result ∷ [])) []
+    (ap (λ (s : TableShape). s.footer.points.items ∷ []) (c.deref.ensures ∙ sym c.of.ensures.shape)) refl c.in-Ok-live_with.ensures.live)
+    (ap (λ (ts : List (Table g.row.D-Held.Denot)). ts ++ all_tables c.with_table.result.behind.levels.deeper.items)
+    c.with_table.ensures.newest
+    ∙ ap (λ (ls : Vec (List (Table g.row.D-Held.Denot)) Global).
+    (c.of.result ∷ ready.version.levels.newest.items) ++ all_tables ls.items) c.with_table.ensures.deeper)
+    c.head_of.ensures c.switch.ensures.passing c.switch.ensures.flush

@@ -3,7 +3,9 @@ use Rattle.vl_compact.specs.Progress.{made_of}
 use Rattle.vl_disk.specs.declared.errors.NoMemory.{NoMemory}
 use Rattle.vl_core.specs.laws.Carrying.{IsWatched}
 use Rattle.vl_engine.proofs.UnderWay.{just_planned}
-use Rattle.vl_engine.proofs.Whole.{begun, given_up, goes_on, put_in, none_kept, untouched_by}
+use Rattle.vl_core.specs.declared.kept.Core.{Core}
+use Rattle.vl_engine.proofs.Whole.{begun, collects_so, given_up, given_up_collecting, goes_on, none_kept, put_in}
+use Rattle.vl_engine.proofs.Whole.{put_in_collecting, untouched_by, untouched_collecting}
 use Rattle.vl_engine.specs.Merging.{HasAllMerge, OpensMerge}
 use Rattle.vl_engine.specs.Whole.{kept_of}
 use Rattle.vl_layout.specs.Jobs.{AreLent}
@@ -121,3 +123,102 @@ returns-in-Ok-clause-counts g c h l is stands fits =
     let makes = c.in_default-carry_out.ensures.makes h opened.stays.layout opened.open_job opened.stays.represents opened.stays.stands
     opened.stays.fits opened.is_open opened.has (c.in_ok-job.ensures.looks h l stands c.in-Some.job c.in-Some.is) in
     ap Some (c.kept_count-kept.ensures opened.open_job.job makes.whole) ∙ ap kept_of (sym opened.planned)
+
+-- what is kept of where space comes back from
+
+pub returns-in_err-job-clause-collects : goal.returns-in_err-job-clause-collects
+returns-in_err-job-clause-collects g c h l is stands fits has =
+    let watched : IsWatched g.D.Watched = record { only_now = g.met.D.Disk.only_now; counts_now = g.met.D.Disk.counts_now } in
+    untouched_collecting g.D.Watched g.D.Held.HeldFile.bytes watched c.args.self.now.disk c.plan.new.self.disk c.args.self.now.core
+    c.plan.new.self.core c.args.self.now.merging c.plan.new.self.merging c.args.self.now.collecting c.plan.new.self.collecting h l
+    c.plan.ensures.disk c.plan.ensures.core c.in_err-job.ensures.merging c.plan.ensures.collecting is stands fits has
+
+pub returns-in_default-clause-collects : goal.returns-in_default-clause-collects
+returns-in_default-clause-collects g c h l is stands fits has =
+    let watched : IsWatched g.D.Watched = record { only_now = g.met.D.Disk.only_now; counts_now = g.met.D.Disk.counts_now } in
+    untouched_collecting g.D.Watched g.D.Held.HeldFile.bytes watched c.args.self.now.disk c.plan.new.self.disk c.args.self.now.core
+    c.plan.new.self.core c.args.self.now.merging c.plan.new.self.merging c.args.self.now.collecting c.plan.new.self.collecting h l
+    c.plan.ensures.disk c.plan.ensures.core
+    (subst (λ (o : Option _). OpensMerge {E = NoMemory} c.args.self.now.merging c.plan.new.self.merging (Ok o)) c.in_default.is
+    c.in_ok-job.ensures.merging) c.plan.ensures.collecting is stands fits has
+
+pub returns-in-Err-clause-collects : goal.returns-in-Err-clause-collects
+returns-in-Err-clause-collects g c h l is stands fits has =
+    let watched : IsWatched g.D.Watched = record { only_now = g.met.D.Disk.only_now; counts_now = g.met.D.Disk.counts_now } in
+    let bytes = g.D.Held.HeldFile.bytes in
+    let opened = begun g.D.Watched watched g.D.Writer.Writer bytes NoMemory c.args.self.now.disk c.plan.new.self.disk c.args.self.now.core
+    c.plan.new.self.core c.plan.new.self.merging c.in-Some.job h l c.plan.ensures.disk is c.in_ok-job.field-0 c.in-Some.is
+    (c.in_ok-job.ensures.stands h l stands) (c.in_ok-job.ensures.represents h l is stands) (c.in_ok-job.ensures.fits h l stands fits)
+    (c.in_ok-job.ensures.job h l stands) in
+    let makes = c.in-Err.ensures.makes h opened.stays.layout opened.open_job opened.stays.represents opened.stays.stands
+    opened.stays.fits opened.is_open opened.has (c.in_ok-job.ensures.looks h l stands c.in-Some.job c.in-Some.is) in
+    let s = goes_on g.D.Watched bytes c.args.self.now.disk c.plan.new.self.disk c.carry_out.new.self.disk c.plan.new.self.core
+    c.carry_out.new.self.core c.plan.new.self.merging c.carry_out.new.self.merging h l opened.stays opened.alike makes.stays in
+    let collects = collects_so c.args.self.now.core c.carry_out.new.self.core c.args.self.now.collecting
+    c.carry_out.new.self.collecting l makes.stays.layout s.same (makes.levels ∙ opened.tables.levels)
+    (makes.flushed ∙ opened.tables.flushed)
+    (c.carry_out.ensures.logs ∙ ap (λ (k : Core g.row.D-Held.Denot). k.version.behind.logs.items) c.plan.ensures.core)
+    (c.carry_out.ensures.collecting ∙ c.plan.ensures.collecting) has in
+    given_up_collecting g.D.Watched bytes c.args.self.now.disk c.carry_out.new.self.disk c.abandon.new.self.disk
+    c.carry_out.new.self.core c.abandon.new.self.core c.carry_out.new.self.merging c.abandon.new.self.merging
+    c.carry_out.new.self.collecting c.abandon.new.self.collecting h l s collects c.abandon.ensures.disk c.abandon.ensures.core
+    c.abandon.ensures.merging c.abandon.ensures.collecting
+
+pub returns-in-Ok-clause-collects : goal.returns-in-Ok-clause-collects
+returns-in-Ok-clause-collects g c h l is stands fits has =
+    let watched : IsWatched g.D.Watched = record { only_now = g.met.D.Disk.only_now; counts_now = g.met.D.Disk.counts_now } in
+    let bytes = g.D.Held.HeldFile.bytes in
+    let opened = begun g.D.Watched watched g.D.Writer.Writer bytes NoMemory c.args.self.now.disk c.plan.new.self.disk c.args.self.now.core
+    c.plan.new.self.core c.plan.new.self.merging c.in-Some.job h l c.plan.ensures.disk is c.in_ok-job.field-0 c.in-Some.is
+    (c.in_ok-job.ensures.stands h l stands) (c.in_ok-job.ensures.represents h l is stands) (c.in_ok-job.ensures.fits h l stands fits)
+    (c.in_ok-job.ensures.job h l stands) in
+    let makes = c.in_default-carry_out.ensures.makes h opened.stays.layout opened.open_job opened.stays.represents opened.stays.stands
+    opened.stays.fits opened.is_open opened.has (c.in_ok-job.ensures.looks h l stands c.in-Some.job c.in-Some.is) in
+    let s = goes_on g.D.Watched bytes c.args.self.now.disk c.plan.new.self.disk c.carry_out.new.self.disk c.plan.new.self.core
+    c.carry_out.new.self.core c.plan.new.self.merging c.carry_out.new.self.merging h l opened.stays opened.alike makes.stays in
+    let collects = collects_so c.args.self.now.core c.carry_out.new.self.core c.args.self.now.collecting
+    c.carry_out.new.self.collecting l makes.stays.layout s.same (makes.levels ∙ opened.tables.levels)
+    (makes.flushed ∙ opened.tables.flushed)
+    (c.carry_out.ensures.logs ∙ ap (λ (k : Core g.row.D-Held.Denot). k.version.behind.logs.items) c.plan.ensures.core)
+    (c.carry_out.ensures.collecting ∙ c.plan.ensures.collecting) has in
+    let whole = subst (λ (j : Job). HasAllMerge g.D.Writer.Writer bytes c.carry_out.new.job j) (sym makes.job_is) makes.whole in
+    let lent = subst (λ (j : Job). AreLent makes.open_job.lent (made_of c.carry_out.new.job j)) (sym makes.job_is) makes.lent in
+    let put = put_in_collecting g.D.Watched bytes c.args.self.now.disk c.carry_out.new.self.disk c.install.new.self.disk
+    c.carry_out.new.self.core c.install.new.self.core c.carry_out.new.self.merging c.install.new.self.merging h l s
+    (makes.running ∙ opened.alike) c.install.new.self.collecting makes.open_job.job (made_of c.carry_out.new.job makes.open_job.job) _ _
+    (c.in-Ok.ensures.carries h s.layout makes.open_job s.represents s.stands makes.is_open whole lent)
+    (c.in-Ok.ensures.fits h s.layout makes.open_job s.stands makes.is_open whole lent s.fits)
+    (c.in-Ok.ensures.collects h s.layout makes.open_job s.represents s.stands makes.is_open whole lent collects) in
+    given_up_collecting g.D.Watched bytes c.args.self.now.disk c.install.new.self.disk c.install.new.self.disk
+    c.install.new.self.core c.install.new.self.core _ c.install.new.self.merging c.install.new.self.collecting
+    c.install.new.self.collecting h l put.stays put.collects refl refl c.in-Ok.ensures.handed refl
+
+pub returns-in-Err-install-clause-collects : goal.returns-in-Err-install-clause-collects
+returns-in-Err-install-clause-collects g c h l is stands fits has =
+    let watched : IsWatched g.D.Watched = record { only_now = g.met.D.Disk.only_now; counts_now = g.met.D.Disk.counts_now } in
+    let bytes = g.D.Held.HeldFile.bytes in
+    let opened = begun g.D.Watched watched g.D.Writer.Writer bytes NoMemory c.args.self.now.disk c.plan.new.self.disk c.args.self.now.core
+    c.plan.new.self.core c.plan.new.self.merging c.in-Some.job h l c.plan.ensures.disk is c.in_ok-job.field-0 c.in-Some.is
+    (c.in_ok-job.ensures.stands h l stands) (c.in_ok-job.ensures.represents h l is stands) (c.in_ok-job.ensures.fits h l stands fits)
+    (c.in_ok-job.ensures.job h l stands) in
+    let makes = c.in_default-carry_out.ensures.makes h opened.stays.layout opened.open_job opened.stays.represents opened.stays.stands
+    opened.stays.fits opened.is_open opened.has (c.in_ok-job.ensures.looks h l stands c.in-Some.job c.in-Some.is) in
+    let s = goes_on g.D.Watched bytes c.args.self.now.disk c.plan.new.self.disk c.carry_out.new.self.disk c.plan.new.self.core
+    c.carry_out.new.self.core c.plan.new.self.merging c.carry_out.new.self.merging h l opened.stays opened.alike makes.stays in
+    let collects = collects_so c.args.self.now.core c.carry_out.new.self.core c.args.self.now.collecting
+    c.carry_out.new.self.collecting l makes.stays.layout s.same (makes.levels ∙ opened.tables.levels)
+    (makes.flushed ∙ opened.tables.flushed)
+    (c.carry_out.ensures.logs ∙ ap (λ (k : Core g.row.D-Held.Denot). k.version.behind.logs.items) c.plan.ensures.core)
+    (c.carry_out.ensures.collecting ∙ c.plan.ensures.collecting) has in
+    let whole = subst (λ (j : Job). HasAllMerge g.D.Writer.Writer bytes c.carry_out.new.job j) (sym makes.job_is) makes.whole in
+    let lent = subst (λ (j : Job). AreLent makes.open_job.lent (made_of c.carry_out.new.job j)) (sym makes.job_is) makes.lent in
+    let put = put_in_collecting g.D.Watched bytes c.args.self.now.disk c.carry_out.new.self.disk c.install.new.self.disk
+    c.carry_out.new.self.core c.install.new.self.core c.carry_out.new.self.merging c.install.new.self.merging h l s
+    (makes.running ∙ opened.alike) c.install.new.self.collecting makes.open_job.job (made_of c.carry_out.new.job makes.open_job.job) _ _
+    (c.in-Err-install.ensures.carries h s.layout makes.open_job s.represents s.stands makes.is_open whole lent)
+    (c.in-Err-install.ensures.fits h s.layout makes.open_job s.stands makes.is_open whole lent s.fits)
+    (c.in-Err-install.ensures.collects h s.layout makes.open_job s.represents s.stands makes.is_open whole lent collects) in
+    given_up_collecting g.D.Watched bytes c.args.self.now.disk c.install.new.self.disk c.given_up.new.self.disk
+    c.install.new.self.core c.given_up.new.self.core _ c.given_up.new.self.merging c.install.new.self.collecting
+    c.given_up.new.self.collecting h l put.stays put.collects c.given_up.ensures.disk c.given_up.ensures.core
+    c.given_up.ensures.merging c.given_up.ensures.collecting

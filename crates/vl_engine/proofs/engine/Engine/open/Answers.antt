@@ -1,11 +1,16 @@
 use Rattle.std.proofs.Common.{refl, ap, subst, sym, ◌∙◌}
-use Rattle.std.specs.Prelude.{max}
+use Rattle.std.specs.Prelude.{List, max}
 use Rattle.vl_disk.specs.Moments.{waits}
 use Rattle.vl_core.specs.laws.FitsAtStart.{opened_fits}
 use Rattle.vl_core.specs.laws.Opened.{opened_back, opened_core, opened_fit, opened_numbered, opened_represents}
 use Rattle.vl_core.specs.laws.Opened.{opened_stands, opening_through, opens_still}
 use Rattle.vl_engine.proofs.engine.Engine.open.Goals as goal
+use Rattle.vl_core.specs.Found.{recovered}
 use Rattle.vl_core.specs.Known.{are_known}
+use Rattle.vl_engine.proofs.TallyBegun.{sealed_begun}
+use Rattle.vl_engine.specs.Collecting.{AreSealed}
+use Rattle.vl_layout.specs.Start.{layout_at_start}
+use Rattle.vl_seglog.specs.declared.sealed.SealedLog.{SealedLog}
 use Rattle.vl_core.specs.Found.{AreLeveled}
 use Rattle.vl_memtable.specs.Contents.{Contents}
 use Rattle.vl_recover.specs.opening.Intact.{LeavesIntact}
@@ -257,3 +262,12 @@ returns-clause-through g c state read h told durable is_read shown =
 pub returns-clause-answer : goal.returns-clause-answer
 returns-clause-answer g c state read told is_read =
     let (found, unused, opened) = c.in-Ok-recover.ensures.answer state read told is_read in (found, unused)
+
+pub returns-clause-collects : goal.returns-clause-collects
+returns-clause-collects g c state read found h told is_read shown = record {
+  tally = subst (λ (logs : List (SealedLog g.row.D-Held.Denot)). AreSealed logs (layout_at_start c.args.room (recovered found shown)))
+      (sym c.new.ensures.logs)
+      (sealed_begun g.D.Held.HeldFile.bytes found h shown c.args.room c.in-Ok-recover.parts.sealed.items
+      (c.in-Ok-recover.ensures.logs state read found told is_read));
+  passing = refl;
+}

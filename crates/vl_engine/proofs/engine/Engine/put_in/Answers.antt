@@ -4,6 +4,7 @@ use Rattle.vl_disk.specs.declared.name.Name.TheVariants as names
 use Rattle.vl_engine.proofs.HandedIn.{made_given, may_take_all}
 use Rattle.vl_core.specs.laws.InstallDiskEdits.{install_next}
 use Rattle.vl_engine.proofs.Lending.{leaves_told, no_manifest, still_lent}
+use Rattle.vl_engine.proofs.Switching.{has_put_in, readied_self}
 use Rattle.vl_engine.proofs.PutIn.{fit_installed, fit_uninstalled, none_open, quiet_then}
 use Rattle.vl_engine.specs.Installing.{InstallsAll, StopsInstalling}
 use Rattle.vl_core.specs.Known.{are_known}
@@ -148,3 +149,12 @@ returns-in-Err-clause-as_installed g c =
 pub returns-in-Err-clause-cause : goal.returns-in-Err-clause-cause
 returns-in-Err-clause-cause g c =
     quiet_then _ _ _ _ (Unit {0}) c.in-Ok.ensures.no_change.cause c.in-Err.ensures.cause (λ _. tt) (λ _. refl)
+
+-- what is kept of live bytes
+
+pub returns-in-Ok-write_install-clause-collected : goal.returns-in-Ok-write_install-clause-collected
+returns-in-Ok-write_install-clause-collected g c =
+    has_put_in g.D.Held.HeldFile.bytes g.D.Writer.Writer c.args.job c.args.self.now.core _ c.args.self.now.collecting
+    c.args.self.now.collecting c.switch.new.self c.args.live c.head_of.result
+    (readied_self g.D.Held.HeldFile.bytes c.args.self.now.core c.args.self.now.collecting c.requires.tallied) c.requires.live
+    c.head_of.ensures c.switch.ensures.passing c.switch.ensures.install

@@ -1,5 +1,7 @@
 use Rattle.std.proofs.Common.{arith, refl, subst, sym}
+use Rattle.vl_core.specs.Represents.{Fronts}
 use Rattle.vl_engine.proofs.Begins.{keeps_told}
+use Rattle.vl_engine.proofs.Collected.{refused_undone, rotate_collects, rotate_leaves, step_left}
 use Rattle.vl_engine.proofs.Fitted.{rotate_refused, rotated_by}
 use Rattle.vl_engine.proofs.Leaving.{rotate_within}
 use Rattle.vl_engine.proofs.RotateSteps.{leaves_numbers, running_so}
@@ -7,7 +9,9 @@ use Rattle.vl_engine.proofs.Rotated.{begins_by, calls_by, can_by, carries_as_ref
 use Rattle.vl_engine.proofs.Rotated.{fronts_by, numbers_held, refused_calls, refused_no_disk, stands_as_refused}
 use Rattle.vl_engine.proofs.Rotated.{stands_by, stopped_by, untouched_by}
 use Rattle.vl_core.specs.laws.Untouched.{alone}
+use Rattle.vl_engine.specs.Rotating.{rotate_effects}
 use Rattle.vl_engine.specs.Stepping.{StepFailed}
+use Rattle.vl_layout.specs.Rulings.Rotate.{rotate_ruling}
 use Rattle.vl_engine.proofs.Untold.{rotate_untold, untold_same}
 use Rattle.vl_engine.proofs.engine.Engine.rotate.Goals as goal
 
@@ -71,68 +75,75 @@ returns-in-Some-clause-leaves g c h l now is within failed =
 pub returns-in-Some-clause-within : goal.returns-in-Some-clause-within
 returns-in-Some-clause-within g c fine within = within
 
+pub returns-in-Some-clause-collects : goal.returns-in-Some-clause-collects
+returns-in-Some-clause-collects g c h l is has collects =
+    let core = c.args.self.now.core in
+    step_left core c.args.self.now.collecting (Fronts core) h l (rotate_ruling l h) (rotate_leaves l h) (rotate_effects c.in-Some.answer)
+    collects c.in-Some.answer (refused_undone core c.in-Some.answer c.in-Some.ensures.refused)
+    (returns-in-Some-clause-decides g c h l is.fronts has is.tidy.true_logs.0)
+
 -- the next log is begun
 
-pub begin_log-requires : goal.begin_log-requires
-begin_log-requires g c = c.in-None.ensures.may refl
+pub seal_active-requires : goal.seal_active-requires
+seal_active-requires g c = c.in-None.ensures.may refl
 
 pub returns-in-None-clause-decides : goal.returns-in-None-clause-decides
 returns-in-None-clause-decides g c h l is has true_log =
     let core = c.args.self.now.core in
     let may = c.in-None.ensures.may refl in
-    fronts_by g.D.Watched g.D.Held.HeldFile.bytes core c.begin_log.new.self.core c.args.self.now.disk
-    c.begin_log.new.self.disk h l (can_by core h l is has may) is (has (running_so core h l is may.running)).next_log true_log
-    c.begin_log.result c.begin_log.ensures.as_rotated
+    fronts_by g.D.Watched g.D.Held.HeldFile.bytes core c.seal_active.new.self.core c.args.self.now.disk
+    c.seal_active.new.self.disk h l (can_by core h l is has may) is (has (running_so core h l is may.running)).next_log true_log
+    c.seal_active.result c.seal_active.ensures.as_rotated
 
 pub returns-in-None-clause-stands : goal.returns-in-None-clause-stands
 returns-in-None-clause-stands g c state h l told is has =
     let core = c.args.self.now.core in
     let may = c.in-None.ensures.may refl in
     let (numbers, active) = has (running_so core h l is.fronts may.running) in
-    stands_by g.D.Watched g.D.Held.HeldFile.bytes core c.begin_log.new.self.core c.args.self.now.disk
-    c.begin_log.new.self.disk h l (can_by core h l is.fronts (λ running. numbers) may) state told is numbers.next_log active
-    c.begin_log.result c.begin_log.ensures.as_rotated
+    stands_by g.D.Watched g.D.Held.HeldFile.bytes core c.seal_active.new.self.core c.args.self.now.disk
+    c.seal_active.new.self.disk h l (can_by core h l is.fronts (λ running. numbers) may) state told is numbers.next_log active
+    c.seal_active.result c.seal_active.ensures.as_rotated
 
 pub returns-in-None-clause-carries : goal.returns-in-None-clause-carries
 returns-in-None-clause-carries g c h l is =
     let core = c.args.self.now.core in
-    carries_by g.D.Watched g.D.Held.HeldFile.bytes core c.begin_log.new.self.core c.args.self.now.disk
-    c.begin_log.new.self.disk h l
+    carries_by g.D.Watched g.D.Held.HeldFile.bytes core c.seal_active.new.self.core c.args.self.now.disk
+    c.seal_active.new.self.disk h l
     (can_by core h l is.stands.fronts (numbers_held core.back (g.D.Watched.told c.args.self.now.disk) h l is.held)
     (c.in-None.ensures.may refl))
     (record { only_now = g.met.D.Disk.only_now; counts_now = g.met.D.Disk.counts_now }) is
-    c.begin_log.result c.begin_log.ensures.as_rotated
+    c.seal_active.result c.seal_active.ensures.as_rotated
 
 pub returns-in-None-clause-fits : goal.returns-in-None-clause-fits
 returns-in-None-clause-fits g c h l is fits =
     let core = c.args.self.now.core in
     let may = c.in-None.ensures.may refl in
-    rotated_by g.D.Watched g.D.Held.HeldFile.bytes core c.begin_log.new.self.core c.args.self.now.disk c.begin_log.new.self.disk
+    rotated_by g.D.Watched g.D.Held.HeldFile.bytes core c.seal_active.new.self.core c.args.self.now.disk c.seal_active.new.self.disk
     h l is fits (can_by core h l is.fronts (λ running. (fits.running running).numbers) may)
-    c.begin_log.result c.begin_log.ensures.as_rotated
+    c.seal_active.result c.seal_active.ensures.as_rotated
 
 pub returns-in-None-clause-untouched : goal.returns-in-None-clause-untouched
 returns-in-None-clause-untouched g c leaves =
-    untouched_by g.D.Watched g.D.Held.HeldFile.bytes c.args.self.now.core c.begin_log.new.self.core c.args.self.now.disk
-    c.begin_log.new.self.disk c.begin_log.result c.begin_log.ensures.as_rotated leaves
+    untouched_by g.D.Watched g.D.Held.HeldFile.bytes c.args.self.now.core c.seal_active.new.self.core c.args.self.now.disk
+    c.seal_active.new.self.disk c.seal_active.result c.seal_active.ensures.as_rotated leaves
 
 pub returns-in-None-clause-stopped : goal.returns-in-None-clause-stopped
 returns-in-None-clause-stopped g c name failed =
-    stopped_by g.D.Watched g.D.Held.HeldFile.bytes c.args.self.now.core c.begin_log.new.self.core c.args.self.now.disk
-    c.begin_log.new.self.disk c.begin_log.result c.begin_log.ensures.as_rotated name failed
+    stopped_by g.D.Watched g.D.Held.HeldFile.bytes c.args.self.now.core c.seal_active.new.self.core c.args.self.now.disk
+    c.seal_active.new.self.disk c.seal_active.result c.seal_active.ensures.as_rotated name failed
 
 pub returns-in-None-clause-calls : goal.returns-in-None-clause-calls
 returns-in-None-clause-calls g c =
-    calls_by g.D.Watched g.D.Held.HeldFile.bytes c.args.self.now.core c.begin_log.new.self.core c.args.self.now.disk
-    c.begin_log.new.self.disk c.begin_log.result c.begin_log.ensures.as_rotated
+    calls_by g.D.Watched g.D.Held.HeldFile.bytes c.args.self.now.core c.seal_active.new.self.core c.args.self.now.disk
+    c.seal_active.new.self.disk c.seal_active.result c.seal_active.ensures.as_rotated
 
 pub returns-in-None-clause-failed : goal.returns-in-None-clause-failed
 returns-in-None-clause-failed g c failed = c.in-None.ensures.may refl
 
 pub returns-in-None-clause-meanwhile : goal.returns-in-None-clause-meanwhile
 returns-in-None-clause-meanwhile g c failed =
-    begins_by g.D.Watched g.D.Held.HeldFile.bytes c.args.self.now.core c.begin_log.new.self.core c.args.self.now.disk
-    c.begin_log.new.self.disk c.begin_log.result c.begin_log.ensures.as_rotated failed
+    begins_by g.D.Watched g.D.Held.HeldFile.bytes c.args.self.now.core c.seal_active.new.self.core c.args.self.now.disk
+    c.seal_active.new.self.disk c.seal_active.result c.seal_active.ensures.as_rotated failed
 
 pub returns-in-None-clause-leaves : goal.returns-in-None-clause-leaves
 returns-in-None-clause-leaves g c h l now is within failed told =
@@ -141,19 +152,26 @@ returns-in-None-clause-leaves g c h l now is within failed told =
     let can = can_by core h l is.stands.fronts (numbers_held core.back (g.D.Watched.told c.args.self.now.disk) h l is.held)
     (c.in-None.ensures.may refl) in
     leaves_numbers g.D.Watched (record { only_now = g.met.D.Disk.only_now; counts_now = g.met.D.Disk.counts_now }) bytes core
-    c.begin_log.new.self.core h l c.args.self.now.disk c.begin_log.new.self.disk is can
-    (begins_by g.D.Watched bytes core c.begin_log.new.self.core c.args.self.now.disk c.begin_log.new.self.disk c.begin_log.result
-    c.begin_log.ensures.as_rotated failed) within now told
+    c.seal_active.new.self.core h l c.args.self.now.disk c.seal_active.new.self.disk is can
+    (begins_by g.D.Watched bytes core c.seal_active.new.self.core c.args.self.now.disk c.seal_active.new.self.disk c.seal_active.result
+    c.seal_active.ensures.as_rotated failed) within now told
 
 pub returns-in-None-clause-within : goal.returns-in-None-clause-within
 returns-in-None-clause-within g c fine within =
-    rotate_within g.D.Watched g.D.Held.HeldFile.bytes c.args.self.now.core c.begin_log.new.self.core c.args.self.now.disk
-    c.begin_log.new.self.disk within c.begin_log.result c.begin_log.ensures.as_rotated fine
+    rotate_within g.D.Watched g.D.Held.HeldFile.bytes c.args.self.now.core c.seal_active.new.self.core c.args.self.now.disk
+    c.seal_active.new.self.disk within c.seal_active.result c.seal_active.ensures.as_rotated fine
 
 pub returns-in-Some-clause-untold : goal.returns-in-Some-clause-untold
 returns-in-Some-clause-untold g c = untold_same (g.D.Watched.told c.args.self.now.disk) c.in-Some.answer
 
 pub returns-in-None-clause-untold : goal.returns-in-None-clause-untold
 returns-in-None-clause-untold g c =
-    rotate_untold g.D.Watched c.args.self.now.core c.begin_log.new.self.core c.args.self.now.disk c.begin_log.new.self.disk
-    g.D.Held.HeldFile.bytes c.begin_log.result c.begin_log.ensures.as_rotated
+    rotate_untold g.D.Watched c.args.self.now.core c.seal_active.new.self.core c.args.self.now.disk c.seal_active.new.self.disk
+    g.D.Held.HeldFile.bytes c.seal_active.result c.seal_active.ensures.as_rotated
+
+pub returns-in-None-clause-collects : goal.returns-in-None-clause-collects
+returns-in-None-clause-collects g c h l is has collects =
+    rotate_collects g.D.Watched g.D.Held.HeldFile.bytes c.args.self.now.core c.seal_active.new.self.core c.args.self.now.disk
+    c.seal_active.new.self.disk c.args.self.now.collecting c.seal_active.new.self.collecting h l is collects c.seal_active.result
+    c.seal_active.ensures.as_rotated c.seal_active.ensures.collected (Fronts c.seal_active.new.self.core)
+    (rotate_effects c.seal_active.result) (returns-in-None-clause-decides g c h l is.fronts has is.tidy.true_logs.0)

@@ -1,0 +1,385 @@
+-- What is kept of where space comes back from, behind the calls that change it and those that leave it.
+use Rattle.std.specs.Prelude.{◌≡◌, ◌≢◌, ℕ, true, false, Bool, if◌then◌else◌, length, List, [], ◌∷◌, ◌++◌, map, Option, None, Some}
+use Rattle.std.specs.Prelude.{Result, Ok, Err, OnErr, refl}
+use Rattle.std.specs.List.{AllByRecursion, filter}
+use Rattle.std.specs.Option.{option_map}
+use Rattle.std.proofs.Common.{sym, ap, subst, ◌∙◌}
+use Rattle.vl_block.specs.declared.points.Point.{Point}
+use Rattle.vl_core.specs.Represents.{Fronts, Represents, StandsFor}
+use Rattle.vl_core.specs.declared.kept.Core.{Core}
+use Rattle.vl_core.specs.laws.LaidTables.{tables_are}
+use Rattle.vl_disk.specs.declared.watched.Watched.{Ghosts}
+use Rattle.vl_engine.proofs.Tallying.{head_held, inputs_held, lengths_held, points_held}
+use Rattle.vl_engine.specs.Collecting.{AreSealed, Collects, FlushesFor, IsReadied, IsTallied, Keeps, LeadsFrom, SealsFor, Tallies}
+use Rattle.vl_engine.specs.Collecting.{head_in, lengths_in, passed_in, points_in}
+use Rattle.vl_engine.specs.Flushing.{FlushesAs}
+use Rattle.vl_engine.specs.Rotating.{IsRefusedSo, RotatesAs}
+use Rattle.vl_engine.specs.Stepping.{step_outcome}
+use Rattle.vl_engine.specs.declared.fails.StepFail.TheVariants as fails
+use Rattle.vl_engine.specs.declared.fails.StepFail.{StepFail}
+use Rattle.vl_engine.specs.declared.open.Collecting.{Collecting}
+use Rattle.vl_layout.specs.Decides.{Answered, Damaged, Decides, Effects, Failed, NoMemory, Otherwise, Outcome, as_before}
+use Rattle.vl_layout.specs.Levels.{is_among}
+use Rattle.vl_layout.specs.Ruling.{Exhausted, Halted, Idle, Ruling, StepAnswer, Stepped, halted_at, has_no_number, has_no_version, leaving}
+use Rattle.vl_layout.specs.Rulings.Flush.{flush_of, flush_ruling, flush_unless, flushed}
+use Rattle.vl_layout.specs.Rulings.Rotate.{rotate_of, rotate_ruling, rotate_unless, rotated}
+use Rattle.vl_layout.specs.Sources.{head, oldest, rising, tables}
+use Rattle.vl_layout.specs.Tidy.{log_numbers, sealed}
+use Rattle.vl_layout.specs.declared.file_name.FileName.{FileName}
+use Rattle.vl_layout.specs.declared.job.OpenPass.{OpenPass}
+use Rattle.vl_layout.specs.declared.layout.Layout.{Layout}
+use Rattle.vl_layout.specs.declared.segment.Segment.{Segment}
+use Rattle.vl_layout.specs.declared.table.Table as laid
+use Rattle.vl_model.specs.History.{History}
+use Rattle.vl_model.specs.Numbers.{has}
+use Rattle.vl_model.specs.declared.counter.Counter.TheVariants as counters
+use Rattle.vl_model.specs.declared.log_frame.LogFrame.{LogFrame}
+use Rattle.vl_seglog.specs.declared.sealed.SealedLog.{SealedLog}
+use Rattle.vl_stats.specs.Live.{AreOf, Switches, points_of_tables}
+use Rattle.vl_stats.specs.Tallies.{IsTally, Tallied, length_of, lengths_of}
+use Rattle.vl_version.specs.Bases.{is_input}
+use Rattle.vl_version.specs.Shared.{IsSameLog}
+use Rattle.vl_version.specs.Sources.{tables_in}
+use Rattle.vl_version.specs.declared.version.Version.{Version}
+
+-- ---- what a version says
+
+module _ {H : Type 0} (bytes : H → Option (List ℕ)) (core : Core H) (h : History) (l : Layout) (is : StandsFor bytes core h l) where
+  pub points_are_laid : points_in (tables_in core.version) ≡ points_of_tables (tables l)
+  points_are_laid = points_held bytes (tables_in core.version) (tables l) (tables_are bytes core.version l is.has) is.tidy.true_tables
+
+  pub inputs_are_laid : (ns : List ℕ)
+      → points_in (filter (is_input ns) (tables_in core.version)) ≡ points_of_tables (filter (is_among ns) (tables l))
+  inputs_are_laid ns =
+      inputs_held bytes ns (tables_in core.version) (tables l) (tables_are bytes core.version l is.has) is.tidy.true_tables
+
+  pub lengths_are_laid : (size : H → ℕ) → ((held : H) (told : List ℕ) → bytes held ≡ Some told → length told ≡ size held)
+      → AreSealed core.version.behind.logs.items l
+      → lengths_in size core.version.behind.logs.items ≡ lengths_of (rising (sealed l))
+  lengths_are_laid size sized are =
+      lengths_held bytes size sized core.version.behind.logs.items (sealed l) is.has.told.rising is.tidy.distinct.1
+      is.tidy.true_logs.1 is.has.logs are
+
+  pub head_is_laid : head_in core ≡ head l
+  head_is_laid = head_held l.active core.front.log.number is.fronts.number core.version.behind.frozen.items l.frozen is.has.frozen
+
+-- ---- layouts of the same logs, tables and pass
+
+pub record IsAlike (l x : Layout) : Type 0 where
+  pub frozen : x.frozen ≡ l.frozen
+  pub flushed : x.flushed ≡ l.flushed
+  pub levels : x.levels ≡ l.levels
+  pub pass : x.pass ≡ l.pass
+
+pub alike_same : (l : Layout) → IsAlike l l
+alike_same l = record { frozen = refl; flushed = refl; levels = refl; pass = refl }
+
+pub alike_then : (l m n : Layout) → IsAlike l m → IsAlike m n → IsAlike l n
+alike_then l m n a b = record {
+  frozen = b.frozen ∙ a.frozen;
+  flushed = b.flushed ∙ a.flushed;
+  levels = b.levels ∙ a.levels;
+  pass = b.pass ∙ a.pass;
+}
+
+tally_alike : (tally : Tallied) (l x : Layout) → x.frozen ≡ l.frozen → x.flushed ≡ l.flushed → x.levels ≡ l.levels
+    → IsTally tally l → IsTally tally x
+tally_alike tally l x frozen flushed levels is = record {
+  logs = is.logs
+      ∙ ap (λ (ss : List Segment). lengths_of (rising (ss ++ l.flushed))) (sym frozen)
+      ∙ ap (λ (ss : List Segment). lengths_of (rising (x.frozen ++ ss))) (sym flushed);
+  live = subst (λ (ts : List laid.Table). AreOf ts tally.live)
+      (ap (λ (ls : List (List laid.Table)). tables (record l { levels = ls })) (sym levels)) is.live;
+}
+
+pub tallies_alike : {H : Type 0} (logs : List (SealedLog H)) (kept : Option Tallied) (l x : Layout) → x.frozen ≡ l.frozen
+    → x.flushed ≡ l.flushed → x.levels ≡ l.levels → Tallies logs kept l → Tallies logs kept x
+tallies_alike {H} logs None l x frozen flushed levels is =
+    subst (λ (ss : List Segment). AllByRecursion (λ (log : SealedLog H). has log.number (log_numbers ss) ≡ true) logs)
+    (ap (λ (ss : List Segment). ss ++ l.flushed) (sym frozen) ∙ ap (λ (ss : List Segment). x.frozen ++ ss) (sym flushed)) is
+tallies_alike logs (Some tally) l x frozen flushed levels is = tally_alike tally l x frozen flushed levels is
+
+pub passed_alike : (p q : Option OpenPass) → q ≡ p
+    → option_map (λ (o : OpenPass). o.segment) p ≡ option_map (λ (o : OpenPass). o.segment) q
+passed_alike p q same = ap (λ (o : Option OpenPass). option_map (λ (x : OpenPass). x.segment) o) (sym same)
+
+pub collects_alike : {H : Type 0} (core : Core H) (kept : Collecting) (l x : Layout) → IsAlike l x → Collects core kept l
+    → Collects core kept x
+collects_alike core kept l x alike is = record {
+  tally = tallies_alike core.version.behind.logs.items kept.tally l x alike.frozen alike.flushed alike.levels is.tally;
+  passing = is.passing ∙ passed_alike l.pass x.pass alike.pass;
+}
+
+-- What is kept stays the layout's in memory where its logs stay.
+pub collects_kept : {H : Type 0} (bytes : H → Option (List ℕ)) (before after : Core H) (old new : Collecting) (h : History) (l : Layout)
+    → StandsFor bytes before h l → after.version.behind.logs.items ≡ before.version.behind.logs.items → Keeps bytes before old new
+    → Collects before old l → Collects after new l
+collects_kept {H} bytes before after old new h l is logs keeps has = record {
+  tally = subst (λ (ls : List (SealedLog H)). Tallies ls new.tally l) (sym logs) (keeps.tallies h l is has.tally);
+  passing = keeps.passing ∙ has.passing;
+}
+
+-- where nothing changes
+pub collects_same : {H : Type 0} (before after : Core H) (old new : Collecting) (l : Layout)
+    → after.version.behind.logs.items ≡ before.version.behind.logs.items → new ≡ old → Collects before old l → Collects after new l
+collects_same {H} before after old new l logs same has = record {
+  tally = subst (λ (ls : List (SealedLog H)). Tallies ls new.tally l) (sym logs)
+      (subst (λ (c : Collecting). Tallies before.version.behind.logs.items c.tally l) (sym same) has.tally);
+  passing = ap (λ (c : Collecting). c.passing) same ∙ has.passing;
+}
+
+-- what is made is
+pub tallies_made : {H : Type 0} (logs : List (SealedLog H)) (kept : Option Tallied) (l : Layout) → IsTallied kept l → Tallies logs kept l
+tallies_made logs None l is = absurd is
+tallies_made logs (Some tally) l is = is
+
+-- it keeps what is kept
+pub keeps_readied : {H : Type 0} (bytes : H → Option (List ℕ)) (core : Core H) (old new : Collecting) → IsReadied bytes core old new
+    → Keeps bytes core old new
+keeps_readied bytes core old new is = record {
+  passing = is.passing;
+  tallies = λ h l stands has. tallies_made core.version.behind.logs.items new.tally l (is.tallied h l stands has);
+}
+
+pub keeps_same : {H : Type 0} (bytes : H → Option (List ℕ)) (core : Core H) (old new : Collecting) → new ≡ old
+    → Keeps bytes core old new
+keeps_same bytes core old new same = subst (Keeps bytes core old) (sym same) (record { passing = refl; tallies = λ h l stands has. has })
+
+-- where room was made for a log more
+pub keeps_reserved : {H : Type 0} (bytes : H → Option (List ℕ)) (core : Core H) (old mid : Collecting) (t u : Tallied)
+    → IsReadied bytes core old mid → mid.tally ≡ Some t → u.logs ≡ t.logs → u.live ≡ t.live
+    → Keeps bytes core old (record { passing = mid.passing; tally = Some u })
+keeps_reserved bytes core old mid t u is made logs live = record {
+  passing = is.passing;
+  tallies = λ h l stands has.
+      let was = subst (λ (o : Option Tallied). IsTallied o l) made (is.tallied h l stands has) in
+      record { logs = logs ∙ was.logs; live = subst (AreOf (tables l)) (sym live) was.live };
+}
+
+-- what is led to is the same by other names of what comes and goes
+pub leads_same : (kept : Option Tallied) (live : List (ℕ × ℕ)) (a b x y : List (List Point)) → a ≡ x → b ≡ y
+    → LeadsFrom kept live a b → LeadsFrom kept live x y
+leads_same kept live a b x y first second is =
+    subst (λ (ps : List (List Point)). LeadsFrom kept live ps y) first (subst (LeadsFrom kept live a) second is)
+
+pub leads_some : (kept : Option Tallied) (t : Tallied) (live : List (ℕ × ℕ)) (a b : List (List Point)) → kept ≡ Some t
+    → Switches t.live live a b → LeadsFrom kept live a b
+leads_some kept t live a b some is u same = subst (λ (x : Tallied). Switches x.live live a b) one is
+  where
+    one : t ≡ u
+    one = cc
+
+pub on_err : {X Y : Type 0} (r : Result X Y) (P : Type 0) → P → OnErr r P
+on_err (Ok x) P is = tt
+on_err (Err y) P is = is
+
+-- ---- what a call came to
+
+-- by what it came to in another respect
+pub decides_too : {A : Type 0} (S T : History → Layout → Type 0) (h : History) (l : Layout) (ruling : Ruling A) (otherwise : Otherwise)
+    (outcome : Outcome A) (effects : Effects) → Decides S h l ruling otherwise outcome effects
+    → ((a : A) → outcome ≡ Answered a → ruling.answer ≡ a → T ruling.history ruling.layout)
+    → (outcome ≡ NoMemory → T h otherwise.short)
+    → ((name : FileName) → outcome ≡ Failed name → T h (halted_at name otherwise.lost))
+    → ((name : FileName) (place : ℕ) → outcome ≡ Damaged name place → T h l)
+    → Decides T h l ruling otherwise outcome effects
+decides_too S T h l ruling otherwise outcome effects is done short lost left = record {
+  answered = λ a same. let so = is.answered a same in (so.0, done a same (sym so.0));
+  did = is.did;
+  no_memory = λ same. (short same, (is.no_memory same).1);
+  failed = λ name same. ((is.failed name same).0, lost name same);
+  damaged = λ name place same. (left name place same, (is.damaged name place same).1);
+}
+
+-- ---- steps
+
+-- What a step leaves that isn't done, and that it leaves the pass.
+pub record LeavesAll (l : Layout) (ruling : Ruling StepAnswer) : Type 0 where
+  pub alike : ((n : ℕ) → ruling.answer ≡ Stepped n → ⊥) → IsAlike l ruling.layout
+  pub pass : ruling.layout.pass ≡ l.pass
+
+rotate_by : (l : Layout) (h : History) (P : Ruling StepAnswer → Type 0) → ((a : StepAnswer) → P (leaving a h l))
+    → P (record { answer = Stepped l.active.number; history = h; layout = rotated l; calls = 3; gone = [] }) → P (rotate_ruling l h)
+rotate_by l h P left step = by l.halted
+  where
+    versioned : (b : Bool) → P (if b then leaving (Exhausted counters.Version) h l
+        else record { answer = Stepped l.active.number; history = h; layout = rotated l; calls = 3; gone = [] })
+    versioned true = left (Exhausted counters.Version)
+    versioned false = step
+
+    numbered : (b : Bool) → P (if b then leaving (Exhausted counters.Log) h l
+        else (if has_no_version l then leaving (Exhausted counters.Version) h l
+        else record { answer = Stepped l.active.number; history = h; layout = rotated l; calls = 3; gone = [] }))
+    numbered true = left (Exhausted counters.Log)
+    numbered false = versioned (has_no_version l)
+
+    framed : (fs : List LogFrame) → P (rotate_of fs l h)
+    framed [] = left Idle
+    framed (f ∷ fs) = numbered (has_no_number l.next_log 1)
+
+    by : (o : Option FileName) → P (rotate_unless o l h)
+    by None = framed l.active.frames
+    by (Some name) = left (Halted name)
+
+pub flush_by : (l : Layout) (h : History) (P : Ruling StepAnswer → Type 0)
+    → ((a : StepAnswer) → ((n : ℕ) → a ≡ Stepped n → ⊥) → P (leaving a h l))
+    → ((s : Segment) → P (record { answer = Stepped l.next_table; history = h; layout = flushed l s; calls = 5; gone = [] }))
+    → P (flush_ruling l h)
+flush_by l h P left step = by l.halted
+  where
+    versioned : (s : Segment) (b : Bool) → P (if b then leaving (Exhausted counters.Version) h l
+        else record { answer = Stepped l.next_table; history = h; layout = flushed l s; calls = 5; gone = [] })
+    versioned s true = left (Exhausted counters.Version) (λ n e. cc)
+    versioned s false = step s
+
+    numbered : (s : Segment) (b : Bool) → P (if b then leaving (Exhausted counters.Table) h l
+        else (if has_no_version l then leaving (Exhausted counters.Version) h l
+        else record { answer = Stepped l.next_table; history = h; layout = flushed l s; calls = 5; gone = [] }))
+    numbered s true = left (Exhausted counters.Table) (λ n e. cc)
+    numbered s false = versioned s (has_no_version l)
+
+    waiting : (o : Option Segment) → P (flush_of l h o)
+    waiting None = left Idle (λ n e. cc)
+    waiting (Some s) = numbered s (has_no_number l.next_table 1)
+
+    by : (o : Option FileName) → P (flush_unless o l h)
+    by None = waiting (oldest l.frozen)
+    by (Some name) = left (Halted name) (λ n e. cc)
+
+pub rotate_leaves : (l : Layout) (h : History) → LeavesAll l (rotate_ruling l h)
+rotate_leaves l h = rotate_by l h (LeavesAll l) (λ a. record { alike = λ no. alike_same l; pass = refl })
+    (record { alike = λ no. absurd (no l.active.number refl); pass = refl })
+
+pub flush_leaves : (l : Layout) (h : History) → LeavesAll l (flush_ruling l h)
+flush_leaves l h = flush_by l h (LeavesAll l) (λ a other. record { alike = λ no. alike_same l; pass = refl })
+    (λ s. record { alike = λ no. absurd (no l.next_table refl); pass = refl })
+
+pub flush_history : (l : Layout) (h : History) → (flush_ruling l h).history ≡ h
+flush_history l h = flush_by l h (λ r. r.history ≡ h) (λ a other. refl) (λ s. refl)
+
+module _ {H : Type 0} (core : Core H) (kept : Collecting) (S : History → Layout → Type 0) (h : History) (l : Layout)
+    (ruling : Ruling StepAnswer) (leaves : LeavesAll l ruling) (effects : Effects) where
+  abbrev So : History → Layout → Type 0
+  So k x = Collects core kept x
+
+  -- it wasn't done, and what is kept is still the layout's
+  pub step_left : Collects core kept l → (result : Result (Option ℕ) StepFail) → ((n : ℕ) → result ≡ Ok (Some n) → ⊥)
+      → Decides S h l ruling (as_before l l) (step_outcome result) effects
+      → Decides So h l ruling (as_before l l) (step_outcome result) effects
+  step_left has result undone is =
+      decides_too S So h l ruling (as_before l l) (step_outcome result) effects is
+      (λ a same answer. collects_alike core kept l ruling.layout
+      (leaves.alike (λ n stepped. no result undone n (same ∙ ap Answered (sym answer ∙ stepped)))) has)
+      (λ same. has)
+      (λ name same. collects_alike core kept l (halted_at name l) (record { frozen = refl; flushed = refl; levels = refl; pass = refl }) has)
+      (λ name place same. has)
+    where
+      no : (r : Result (Option ℕ) StepFail) → ((n : ℕ) → r ≡ Ok (Some n) → ⊥) → (n : ℕ) → step_outcome r ≡ Answered (Stepped n) → ⊥
+      no (Ok (Some m)) other n e = other m refl
+      no (Ok None) other n e = cc
+      no (Err (fails.Halted name)) other n e = cc
+      no (Err (fails.Exhausted counter)) other n e = cc
+      no (Err fails.NoMemory) other n e = cc
+      no (Err (fails.Disk name)) other n e = cc
+
+  -- it was done, and what is kept is that of the layout behind it
+  pub step_done : (n : ℕ) → (ruling.answer ≡ Stepped n → IsTallied kept.tally ruling.layout) → kept.passing ≡ passed_in l
+      → Decides S h l ruling (as_before l l) (step_outcome (Ok (Some n))) effects
+      → Decides So h l ruling (as_before l l) (step_outcome (Ok (Some n))) effects
+  step_done n tallied passing is =
+      decides_too S So h l ruling (as_before l l) (Answered (Stepped n)) effects is
+      (λ a same answer. record {
+        tally = tallies_made core.version.behind.logs.items kept.tally ruling.layout (tallied (answer ∙ sym (one a same)));
+        passing = passing ∙ passed_alike l.pass ruling.layout.pass leaves.pass;
+      })
+      (λ same. absurd (none same))
+      (λ name same. absurd (no_fail name same))
+      (λ name place same. absurd (no_damage name place same))
+    where
+      one : (a : StepAnswer) → Answered (Stepped n) ≡ Answered a → Stepped n ≡ a
+      one a e = cc
+
+      none : Answered (Stepped n) ≡ NoMemory → ⊥
+      none e = cc
+
+      no_fail : (name : FileName) → Answered (Stepped n) ≡ Failed name → ⊥
+      no_fail name e = cc
+
+      no_damage : (name : FileName) (place : ℕ) → Answered (Stepped n) ≡ Damaged name place → ⊥
+      no_damage name place e = cc
+
+-- ---- rotations
+
+pub refused_undone : {H : Type 0} (core : Core H) (result : Result (Option ℕ) StepFail) → IsRefusedSo core result
+    → (n : ℕ) → result ≡ Ok (Some n) → ⊥
+refused_undone core (Ok (Some m)) is n e = is
+refused_undone core (Ok None) is n e = cc
+refused_undone core (Err why) is n e = cc
+
+err_undone : (why : StepFail) (result : Result (Option ℕ) StepFail) → result ≡ Err why → (n : ℕ) → result ≡ Ok (Some n) → ⊥
+err_undone why result is n e = cc
+
+rotate_same : {D H : Type 0} (g : Ghosts D) (bytes : H → Option (List ℕ)) (before after : Core H) (old new : D) (why : StepFail)
+    → RotatesAs g bytes old new before after (Err why) → after.version ≡ before.version
+rotate_same g bytes before after old new (fails.Halted name) did = absurd did
+rotate_same g bytes before after old new (fails.Exhausted counter) did = absurd did
+rotate_same g bytes before after old new fails.NoMemory did = did.0.version
+rotate_same g bytes before after old new (fails.Disk name) did = did.version
+
+pub rotate_collects : {D H : Type 0} (g : Ghosts D) (bytes : H → Option (List ℕ)) (before after : Core H) (old new : D)
+    (was now : Collecting) (h : History) (l : Layout) → StandsFor bytes before h l → Collects before was l
+    → (result : Result (Option ℕ) StepFail) → RotatesAs g bytes old new before after result → SealsFor bytes before was now result
+    → (S : History → Layout → Type 0) (effects : Effects)
+    → Decides S h l (rotate_ruling l h) (as_before l l) (step_outcome result) effects
+    → Decides (λ k x. Collects after now x) h l (rotate_ruling l h) (as_before l l) (step_outcome result) effects
+rotate_collects g bytes before after old new was now h l is has (Ok (Some n)) did seals S effects decides =
+    step_done after now S h l (rotate_ruling l h) (rotate_leaves l h) effects n
+    (λ stepped. seals.tallied h l n is has.tally stepped) (seals.passing ∙ has.passing) decides
+rotate_collects g bytes before after old new was now h l is has (Ok None) did seals S effects decides = absurd did
+rotate_collects {D} {H} g bytes before after old new was now h l is has (Err why) did seals S effects decides =
+    step_left after now S h l (rotate_ruling l h) (rotate_leaves l h) effects
+    (collects_kept bytes before after was now h l is
+    (ap (λ (v : Version H). v.behind.logs.items) (rotate_same g bytes before after old new why did)) seals has)
+    (Err why) (err_undone why (Err why) refl) decides
+
+-- ---- flushes
+
+flush_same : {D H : Type 0} (g : Ghosts D) (bytes : H → Option (List ℕ)) (before after : Core H) (old new : D) (why : StepFail)
+    → FlushesAs g bytes old new before after (Err why) → after.version ≡ before.version
+flush_same g bytes before after old new (fails.Halted name) did = absurd did
+flush_same g bytes before after old new (fails.Exhausted counter) did = absurd did
+flush_same {D} {H} g bytes before after old new fails.NoMemory did = ap (λ (c : Core H). c.version) did.0
+flush_same g bytes before after old new (fails.Disk name) did = did.version
+
+pub flush_collects : {D H : Type 0} (g : Ghosts D) (bytes : H → Option (List ℕ)) (before after : Core H) (old new : D)
+    (was now : Collecting) (h : History) (l : Layout) → StandsFor bytes before h l → Collects before was l
+    → (result : Result (Option ℕ) StepFail) → FlushesAs g bytes old new before after result
+    → FlushesFor bytes before was now after result → (effects : Effects)
+    → Decides (Represents bytes after (g.told new)) h l (flush_ruling l h) (as_before l l) (step_outcome result) effects
+    → Decides (λ k x. Collects after now x) h l (flush_ruling l h) (as_before l l) (step_outcome result) effects
+flush_collects {D} {H} g bytes before after old new was now h l is has (Ok (Some n)) did flushes effects decides =
+    step_done after now (Represents bytes after (g.told new)) h l (flush_ruling l h) (flush_leaves l h) effects n
+    (λ stepped. flushes.tallied h l n is has.tally stepped
+    (subst (λ (k : History). StandsFor bytes after k (flush_ruling l h).layout) (flush_history l h)
+    (decides.answered (Stepped n) refl).1.stands))
+    (flushes.passing ∙ has.passing) decides
+flush_collects g bytes before after old new was now h l is has (Ok None) did flushes effects decides = absurd did
+flush_collects {D} {H} g bytes before after old new was now h l is has (Err why) did flushes effects decides =
+    step_left after now (Represents bytes after (g.told new)) h l (flush_ruling l h) (flush_leaves l h) effects
+    (collects_kept bytes before after was now h l is
+    (ap (λ (v : Version H). v.behind.logs.items) (flush_same g bytes before after old new why did)) flushes has)
+    (Err why) (err_undone why (Err why) refl) decides
+
+-- ---- the active log, and the one that is found
+
+pub active_is : {H : Type 0} (core : Core H) (h : History) (l : Layout) → Fronts core h l
+    → (core.front.log.number, core.front.log.length) ≡ length_of l.active
+active_is core h l is =
+    ap (λ (n : ℕ). (n, core.front.log.length)) is.number ∙ ap (λ (n : ℕ). (l.active.number, n)) is.length_is
+
+pub found_same : {H : Type 0} (bytes : H → Option (List ℕ)) (a b x : SealedLog H) (o : Option (SealedLog H)) → Some a ≡ o → o ≡ Some b
+    → IsSameLog bytes a x → IsSameLog bytes b x
+found_same {H} bytes a b x o there at is = subst (λ (y : SealedLog H). IsSameLog bytes y x) (one (there ∙ at)) is
+  where
+    one : Some a ≡ Some b → a ≡ b
+    one e = cc

@@ -1,0 +1,28 @@
+use Rattle.std.proofs.Common.{sym, ◌∙◌}
+use Rattle.vl_engine.proofs.Planning.{drain_chosen}
+use Rattle.vl_engine.proofs.engine.Engine.drain.Goals as goal
+use Rattle.vl_layout.specs.Rulings.Drain.{drain_ruling}
+
+pub returns-in-Ok-clause-stands : goal.returns-in-Ok-clause-stands
+returns-in-Ok-clause-stands g c h l is =
+    c.begin_chosen.ensures.stands h l (drain_ruling l h c.args.segment) is
+    (drain_chosen g.D.Held.HeldFile.bytes c.args.self.now.core c.args.self.now.merging h l (sym c.is_some.ensures ∙ c.if-is_some.false)
+    is c.levels.result.now c.levels.ensures c.in-Ok.inputs c.args.segment c.in-Ok.ensures)
+
+pub returns-in-Ok-clause-represents : goal.returns-in-Ok-clause-represents
+returns-in-Ok-clause-represents g c h l represents is =
+    c.begin_chosen.ensures.represents h l (drain_ruling l h c.args.segment) represents
+    (drain_chosen g.D.Held.HeldFile.bytes c.args.self.now.core c.args.self.now.merging h l (sym c.is_some.ensures ∙ c.if-is_some.false)
+    is c.levels.result.now c.levels.ensures c.in-Ok.inputs c.args.segment c.in-Ok.ensures)
+
+pub returns-in-Ok-clause-fits : goal.returns-in-Ok-clause-fits
+returns-in-Ok-clause-fits g c h l is fits =
+    c.begin_chosen.ensures.fits h l (drain_ruling l h c.args.segment) fits
+    (drain_chosen g.D.Held.HeldFile.bytes c.args.self.now.core c.args.self.now.merging h l (sym c.is_some.ensures ∙ c.if-is_some.false)
+    is c.levels.result.now c.levels.ensures c.in-Ok.inputs c.args.segment c.in-Ok.ensures)
+
+pub returns-in-Ok-clause-job : goal.returns-in-Ok-clause-job
+returns-in-Ok-clause-job g c h l is =
+    c.begin_chosen.ensures.job h l (drain_ruling l h c.args.segment) is.stands
+    (drain_chosen g.D.Held.HeldFile.bytes c.args.self.now.core c.args.self.now.merging h l (sym c.is_some.ensures ∙ c.if-is_some.false)
+    is c.levels.result.now c.levels.ensures c.in-Ok.inputs c.args.segment c.in-Ok.ensures)

@@ -1,0 +1,28 @@
+-- Which merge is begun of inputs that were chosen.
+use Rattle.std.specs.Prelude.{◌≡◌, ℕ, List, Option, None, Some}
+use Rattle.vl_compact.specs.Merges.{IsMerge, Merge}
+use Rattle.vl_compact.specs.declared.inputs.Inputs.{Inputs}
+use Rattle.vl_core.specs.Pointed.{layout_logs}
+use Rattle.vl_core.specs.laws.PlanSources.{IsPart}
+use Rattle.vl_layout.specs.Ruling.{Ruling, leaving}
+use Rattle.vl_layout.specs.Rulings.Plan.{job_of, planned}
+use Rattle.vl_layout.specs.Sources.{tables}
+use Rattle.vl_layout.specs.Tidy.{IsRuledTidy, IsTidy}
+use Rattle.vl_layout.specs.declared.job.Job.{Job}
+use Rattle.vl_layout.specs.declared.layout.Layout.{Layout}
+use Rattle.vl_model.specs.History.{History}
+
+-- the ruling that begins a merge, where there is one
+abbrev pub begins : Layout → History → Option Merge → Ruling (Option Job)
+begins l h None = leaving None h l
+begins l h (Some m) = planned l h (job_of l h m.tables m.target)
+
+-- The inputs are those of a merge that a ruling begins, of some of all tables in the order of the sources, and there are none
+-- where it begins none. What is tidy stays so.
+pub record IsChosen {H : Type 0} (bytes : H → Option (List ℕ)) (inputs : Option (Inputs H)) (h : History) (l : Layout)
+    (ruling : Ruling (Option Job)) : Type 0 where
+  pub merge : Option Merge
+  pub inputs_are : IsMerge bytes inputs merge
+  pub part : (m : Merge) → merge ≡ Some m → IsPart m.tables (tables l)
+  pub ruled : begins l h merge ≡ ruling
+  pub tidy : IsTidy (layout_logs l) l h → IsRuledTidy (layout_logs l) ruling

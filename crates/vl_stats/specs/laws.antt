@@ -1,0 +1,3 @@
+pub mod BestLaws
+pub mod RulingLaws
+pub mod TallyLaws
