@@ -1,5 +1,5 @@
 -- What a pass stands for, by the entries of its sources and the bytes of its log, where these are told.
-use Rattle.std.specs.Prelude.{◌≡◌, ℕ, ◌+◌, List, [], ◌∷◌, ◌++◌, drop, Option, Some}
+use Rattle.std.specs.Prelude.{◌≡◌, ℕ, ◌+◌, List, [], ◌∷◌, ◌++◌, drop, length, Option, Some}
 use Rattle.std.specs.List.{sum_by}
 use Rattle.std.specs.Option.{ForSome}
 use Rattle.vl_collect.specs.Taking.{candidates, outcome}
@@ -47,6 +47,15 @@ pub record IsTornAt (format number : ℕ) (bytes : List ℕ) (place found : ℕ)
 abbrev pub TornBehind : {H : Type 0} → (H → Option (List ℕ)) → SealedLog H → ℕ → ℕ → Type 0
 TornBehind bytes log place found =
     ForSome (bytes log.held) (λ told. IsTornAt log.format log.number told place found)
+
+-- where the log's frames from one place on end, those from the other place on end too
+abbrev pub EndsAlike : {H : Type 0} → (H → Option (List ℕ)) → SealedLog H → (from to : ℕ) → Type 0
+EndsAlike bytes log from to = (told : List ℕ) (end : ℕ) → bytes log.held ≡ Some told
+    → EndAt log.format log.number told from end → EndAt log.format log.number told to end
+
+-- its frames from a place on reach to its end, where it tells its bytes
+abbrev pub IsWholeFrom : {H : Type 0} → (H → Option (List ℕ)) → SealedLog H → ℕ → Type 0
+IsWholeFrom bytes log place = ForSome (bytes log.held) (λ told. EndAt log.format log.number told place (length told))
 
 -- ---- the pass
 

@@ -45,7 +45,7 @@ impl<V: Sources<Fault = TableFault>, H: HeldFile> Pass<V, H> {
     ghost use Rattle.std.specs.Prelude.{◌≡◌, [], IfErr, IfOk, OnErr, OnOk};
     ghost use Rattle.vl_collect.specs.Batches.{IsBatch};
     ghost use Rattle.vl_collect.specs.Faults.{FailsPassing, MayWhere, NoneRose, counted};
-    ghost use Rattle.vl_collect.specs.Passing.{Begins, Gives, IsPass, TornBehind, Walks};
+    ghost use Rattle.vl_collect.specs.Passing.{Begins, EndsAlike, Gives, IsPass, TornBehind, Walks};
     ghost use Rattle.vl_layout.specs.Relocation as layout;
 
     /// A pass over this log that has given nothing yet, with the sources by which it is told what wins.
@@ -53,6 +53,7 @@ impl<V: Sources<Fault = TableFault>, H: HeldFile> Pass<V, H> {
         ensures begins { (p : layout.Pass) → Begins H.bytes V.has base log p → IsPass H.bytes V.has result p }
         ensures base { result.base ≡ base }
         ensures log { result.log ≡ log }
+        ensures start { result.at.place ≡ 16 }
     {
         Pass {
             base,
@@ -76,6 +77,7 @@ impl<V: Sources<Fault = TableFault>, H: HeldFile> Pass<V, H> {
         ensures gives { (p : layout.Pass) → V.fits self.old.base looks.old → IsPass H.bytes V.has self.old p
             → IfOk result (Gives H.bytes V.has self.new p) }
         ensures kept { self.new ≡ record self.old { at = self.new.at } }
+        ensures ends { OnOk result (EndsAlike H.bytes self.old.log self.old.at.place self.new.at.place) }
         ensures refused { OnErr result (self.new ≡ self.old) }
         ensures fits { V.fits self.old.base looks.old → V.fits self.old.base looks.new }
         ensures steady { OnOk result (NoneRose
@@ -104,6 +106,7 @@ impl<V: Sources<Fault = TableFault>, H: HeldFile> Pass<V, H> {
         ensures walks { (p : layout.Pass) → V.fits self.now.base looks.old → IsPass H.bytes V.has self.now p
             → IfOk result (Walks H.bytes self.now.log p batch.old.items batch.new.items) }
         ensures batch { batch.old.items ≡ [] → OnOk result (IsBatch batch.new.items) }
+        ensures ends { IfOk result (λ at. EndsAlike H.bytes self.now.log self.now.at.place at.place) }
         ensures fits { V.fits self.now.base looks.old → V.fits self.now.base looks.new }
         ensures steady { OnOk result (NoneRose
             (counted (V.faults looks.old) (V.faults looks.new) (R.faults files.old) (R.faults files.new))) }

@@ -1,14 +1,19 @@
 -- What is kept of where space comes back from, behind the calls that change it and those that leave it.
-use Rattle.std.specs.Prelude.{◌≡◌, ◌≢◌, ℕ, true, false, Bool, if◌then◌else◌, length, List, [], ◌∷◌, ◌++◌, map, Option, None, Some}
+use Rattle.std.specs.Prelude.{◌≡◌, ◌≢◌, ℕ, ◌+◌, true, false, not, Bool, if◌then◌else◌, length, List, [], ◌∷◌, ◌++◌, map, Option, None, Some}
 use Rattle.std.specs.Prelude.{Result, Ok, Err, OnErr, refl}
 use Rattle.std.specs.List.{AllByRecursion, filter}
 use Rattle.std.specs.Option.{option_map}
 use Rattle.std.proofs.Common.{sym, ap, subst, ◌∙◌}
 use Rattle.vl_block.specs.declared.points.Point.{Point}
-use Rattle.vl_core.specs.Represents.{Fronts, Represents, StandsFor}
+use Rattle.vl_core.specs.Files.{IsLogFile}
+use Rattle.vl_core.specs.MayStep.{AreLogFiles}
+use Rattle.vl_core.specs.Passing.{AreReadable}
+use Rattle.vl_core.specs.Represents.{Fronts, StandsFor}
 use Rattle.vl_core.specs.declared.kept.Core.{Core}
+use Rattle.vl_core.specs.laws.FileLaws.{all_filtered}
 use Rattle.vl_core.specs.laws.LaidTables.{tables_are}
 use Rattle.vl_disk.specs.declared.watched.Watched.{Ghosts}
+use Rattle.vl_engine.proofs.Readable.{oldest_readable}
 use Rattle.vl_engine.proofs.Tallying.{head_held, inputs_held, lengths_held, points_held}
 use Rattle.vl_engine.specs.Collecting.{AreSealed, Collects, FlushesFor, IsReadied, IsTallied, Keeps, LeadsFrom, SealsFor, Tallies}
 use Rattle.vl_engine.specs.Collecting.{head_in, lengths_in, passed_in, points_in}
@@ -19,11 +24,12 @@ use Rattle.vl_engine.specs.declared.fails.StepFail.TheVariants as fails
 use Rattle.vl_engine.specs.declared.fails.StepFail.{StepFail}
 use Rattle.vl_engine.specs.declared.open.Collecting.{Collecting}
 use Rattle.vl_layout.specs.Decides.{Answered, Damaged, Decides, Effects, Failed, NoMemory, Otherwise, Outcome, as_before}
-use Rattle.vl_layout.specs.Levels.{is_among}
-use Rattle.vl_layout.specs.Ruling.{Exhausted, Halted, Idle, Ruling, StepAnswer, Stepped, halted_at, has_no_number, has_no_version, leaving}
-use Rattle.vl_layout.specs.Rulings.Flush.{flush_of, flush_ruling, flush_unless, flushed}
+use Rattle.vl_layout.specs.Levels.{in_front, is_among}
+use Rattle.vl_layout.specs.Ruling.{Exhausted, Halted, Idle, Ruling, StepAnswer, Stepped, halted_at, has_no_number}
+use Rattle.vl_layout.specs.Ruling.{has_no_version, is_idle, leaving}
+use Rattle.vl_layout.specs.Rulings.Flush.{covered_by, flush_of, flush_ruling, flush_unless, flushed, flushed_table}
 use Rattle.vl_layout.specs.Rulings.Rotate.{rotate_of, rotate_ruling, rotate_unless, rotated}
-use Rattle.vl_layout.specs.Sources.{head, oldest, rising, tables}
+use Rattle.vl_layout.specs.Sources.{but_oldest, head, oldest, rising, tables}
 use Rattle.vl_layout.specs.Tidy.{log_numbers, sealed}
 use Rattle.vl_layout.specs.declared.file_name.FileName.{FileName}
 use Rattle.vl_layout.specs.declared.job.OpenPass.{OpenPass}
@@ -108,6 +114,7 @@ pub collects_alike : {H : Type 0} (core : Core H) (kept : Collecting) (l x : Lay
 collects_alike core kept l x alike is = record {
   tally = tallies_alike core.version.behind.logs.items kept.tally l x alike.frozen alike.flushed alike.levels is.tally;
   passing = is.passing ∙ passed_alike l.pass x.pass alike.pass;
+  readable = subst (AllByRecursion IsLogFile) (sym alike.flushed) is.readable;
 }
 
 -- What is kept stays the layout's in memory where its logs stay.
@@ -117,6 +124,7 @@ pub collects_kept : {H : Type 0} (bytes : H → Option (List ℕ)) (before after
 collects_kept {H} bytes before after old new h l is logs keeps has = record {
   tally = subst (λ (ls : List (SealedLog H)). Tallies ls new.tally l) (sym logs) (keeps.tallies h l is has.tally);
   passing = keeps.passing ∙ has.passing;
+  readable = has.readable;
 }
 
 -- where nothing changes
@@ -126,6 +134,7 @@ collects_same {H} before after old new l logs same has = record {
   tally = subst (λ (ls : List (SealedLog H)). Tallies ls new.tally l) (sym logs)
       (subst (λ (c : Collecting). Tallies before.version.behind.logs.items c.tally l) (sym same) has.tally);
   passing = ap (λ (c : Collecting). c.passing) same ∙ has.passing;
+  readable = has.readable;
 }
 
 -- what is made is
@@ -223,28 +232,30 @@ rotate_by l h P left step = by l.halted
 
 pub flush_by : (l : Layout) (h : History) (P : Ruling StepAnswer → Type 0)
     → ((a : StepAnswer) → ((n : ℕ) → a ≡ Stepped n → ⊥) → P (leaving a h l))
-    → ((s : Segment) → P (record { answer = Stepped l.next_table; history = h; layout = flushed l s; calls = 5; gone = [] }))
+    → ((s : Segment) → l.halted ≡ None → oldest l.frozen ≡ Some s
+    → P (record { answer = Stepped l.next_table; history = h; layout = flushed l s; calls = 5; gone = [] }))
     → P (flush_ruling l h)
-flush_by l h P left step = by l.halted
+flush_by l h P left step = by l.halted refl
   where
-    versioned : (s : Segment) (b : Bool) → P (if b then leaving (Exhausted counters.Version) h l
-        else record { answer = Stepped l.next_table; history = h; layout = flushed l s; calls = 5; gone = [] })
-    versioned s true = left (Exhausted counters.Version) (λ n e. cc)
-    versioned s false = step s
+    Made : Segment → Ruling StepAnswer
+    Made s = record { answer = Stepped l.next_table; history = h; layout = flushed l s; calls = 5; gone = [] }
 
-    numbered : (s : Segment) (b : Bool) → P (if b then leaving (Exhausted counters.Table) h l
-        else (if has_no_version l then leaving (Exhausted counters.Version) h l
-        else record { answer = Stepped l.next_table; history = h; layout = flushed l s; calls = 5; gone = [] }))
-    numbered s true = left (Exhausted counters.Table) (λ n e. cc)
-    numbered s false = versioned s (has_no_version l)
+    versioned : (s : Segment) (b : Bool) → P (Made s) → P (if b then leaving (Exhausted counters.Version) h l else Made s)
+    versioned s true done = left (Exhausted counters.Version) (λ n e. cc)
+    versioned s false done = done
 
-    waiting : (o : Option Segment) → P (flush_of l h o)
-    waiting None = left Idle (λ n e. cc)
-    waiting (Some s) = numbered s (has_no_number l.next_table 1)
+    numbered : (s : Segment) (b : Bool) → P (Made s) → P (if b then leaving (Exhausted counters.Table) h l
+        else (if has_no_version l then leaving (Exhausted counters.Version) h l else Made s))
+    numbered s true done = left (Exhausted counters.Table) (λ n e. cc)
+    numbered s false done = versioned s (has_no_version l) done
 
-    by : (o : Option FileName) → P (flush_unless o l h)
-    by None = waiting (oldest l.frozen)
-    by (Some name) = left (Halted name) (λ n e. cc)
+    waiting : l.halted ≡ None → (o : Option Segment) → oldest l.frozen ≡ o → P (flush_of l h o)
+    waiting runs None at = left Idle (λ n e. cc)
+    waiting runs (Some s) at = numbered s (has_no_number l.next_table 1) (step s runs at)
+
+    by : (o : Option FileName) → l.halted ≡ o → P (flush_unless o l h)
+    by None runs = waiting runs (oldest l.frozen) refl
+    by (Some name) fails = left (Halted name) (λ n e. cc)
 
 pub rotate_leaves : (l : Layout) (h : History) → LeavesAll l (rotate_ruling l h)
 rotate_leaves l h = rotate_by l h (LeavesAll l) (λ a. record { alike = λ no. alike_same l; pass = refl })
@@ -252,10 +263,29 @@ rotate_leaves l h = rotate_by l h (LeavesAll l) (λ a. record { alike = λ no. a
 
 pub flush_leaves : (l : Layout) (h : History) → LeavesAll l (flush_ruling l h)
 flush_leaves l h = flush_by l h (LeavesAll l) (λ a other. record { alike = λ no. alike_same l; pass = refl })
-    (λ s. record { alike = λ no. absurd (no l.next_table refl); pass = refl })
+    (λ s runs at. record { alike = λ no. absurd (no l.next_table refl); pass = refl })
+
+abbrev switching : Layout → Segment → Layout
+switching l s = record l {
+  frozen = but_oldest l.frozen;
+  flushed = s ∷ l.flushed;
+  levels = in_front (flushed_table l s) l.levels;
+  covered = covered_by s.frames l.covered;
+  next_table = l.next_table + 1;
+  version_number = l.version_number + 1;
+}
+
+-- The log that a flush takes can be read, as those whose memtables are kept.
+pub flush_readable : (l : Layout) (h : History) → AreReadable l → (l.halted ≡ None → AreLogFiles l) → AreReadable (flush_ruling l h).layout
+flush_readable l h is files = flush_by l h (λ r. AreReadable r.layout) (λ a other. is)
+    (λ s runs at. all_filtered IsLogFile (λ (x : Segment). not (is_idle (switching l s) x)) (s ∷ l.flushed)
+    (oldest_readable l.frozen s at (files runs).1, is))
+
+pub rotate_readable : (l : Layout) (h : History) → AreReadable l → AreReadable (rotate_ruling l h).layout
+rotate_readable l h is = rotate_by l h (λ r. AreReadable r.layout) (λ a. is) is
 
 pub flush_history : (l : Layout) (h : History) → (flush_ruling l h).history ≡ h
-flush_history l h = flush_by l h (λ r. r.history ≡ h) (λ a other. refl) (λ s. refl)
+flush_history l h = flush_by l h (λ r. r.history ≡ h) (λ a other. refl) (λ s runs at. refl)
 
 module _ {H : Type 0} (core : Core H) (kept : Collecting) (S : History → Layout → Type 0) (h : History) (l : Layout)
     (ruling : Ruling StepAnswer) (leaves : LeavesAll l ruling) (effects : Effects) where
@@ -271,7 +301,8 @@ module _ {H : Type 0} (core : Core H) (kept : Collecting) (S : History → Layou
       (λ a same answer. collects_alike core kept l ruling.layout
       (leaves.alike (λ n stepped. no result undone n (same ∙ ap Answered (sym answer ∙ stepped)))) has)
       (λ same. has)
-      (λ name same. collects_alike core kept l (halted_at name l) (record { frozen = refl; flushed = refl; levels = refl; pass = refl }) has)
+      (λ name same. collects_alike core kept l (halted_at name l)
+      (record { frozen = refl; flushed = refl; levels = refl; pass = refl }) has)
       (λ name place same. has)
     where
       no : (r : Result (Option ℕ) StepFail) → ((n : ℕ) → r ≡ Ok (Some n) → ⊥) → (n : ℕ) → step_outcome r ≡ Answered (Stepped n) → ⊥
@@ -284,13 +315,14 @@ module _ {H : Type 0} (core : Core H) (kept : Collecting) (S : History → Layou
 
   -- it was done, and what is kept is that of the layout behind it
   pub step_done : (n : ℕ) → (ruling.answer ≡ Stepped n → IsTallied kept.tally ruling.layout) → kept.passing ≡ passed_in l
-      → Decides S h l ruling (as_before l l) (step_outcome (Ok (Some n))) effects
+      → AreReadable ruling.layout → Decides S h l ruling (as_before l l) (step_outcome (Ok (Some n))) effects
       → Decides So h l ruling (as_before l l) (step_outcome (Ok (Some n))) effects
-  step_done n tallied passing is =
+  step_done n tallied passing readable is =
       decides_too S So h l ruling (as_before l l) (Answered (Stepped n)) effects is
       (λ a same answer. record {
         tally = tallies_made core.version.behind.logs.items kept.tally ruling.layout (tallied (answer ∙ sym (one a same)));
         passing = passing ∙ passed_alike l.pass ruling.layout.pass leaves.pass;
+        readable = readable;
       })
       (λ same. absurd (none same))
       (λ name same. absurd (no_fail name same))
@@ -334,7 +366,7 @@ pub rotate_collects : {D H : Type 0} (g : Ghosts D) (bytes : H → Option (List 
     → Decides (λ k x. Collects after now x) h l (rotate_ruling l h) (as_before l l) (step_outcome result) effects
 rotate_collects g bytes before after old new was now h l is has (Ok (Some n)) did seals S effects decides =
     step_done after now S h l (rotate_ruling l h) (rotate_leaves l h) effects n
-    (λ stepped. seals.tallied h l n is has.tally stepped) (seals.passing ∙ has.passing) decides
+    (λ stepped. seals.tallied h l n is has.tally stepped) (seals.passing ∙ has.passing) (rotate_readable l h has.readable) decides
 rotate_collects g bytes before after old new was now h l is has (Ok None) did seals S effects decides = absurd did
 rotate_collects {D} {H} g bytes before after old new was now h l is has (Err why) did seals S effects decides =
     step_left after now S h l (rotate_ruling l h) (rotate_leaves l h) effects
@@ -352,23 +384,38 @@ flush_same {D} {H} g bytes before after old new fails.NoMemory did = ap (λ (c :
 flush_same g bytes before after old new (fails.Disk name) did = did.version
 
 pub flush_collects : {D H : Type 0} (g : Ghosts D) (bytes : H → Option (List ℕ)) (before after : Core H) (old new : D)
-    (was now : Collecting) (h : History) (l : Layout) → StandsFor bytes before h l → Collects before was l
+    (was now : Collecting) (h : History) (l : Layout) → StandsFor bytes before h l → (l.halted ≡ None → AreLogFiles l)
+    → Collects before was l
     → (result : Result (Option ℕ) StepFail) → FlushesAs g bytes old new before after result
     → FlushesFor bytes before was now after result → (effects : Effects)
-    → Decides (Represents bytes after (g.told new)) h l (flush_ruling l h) (as_before l l) (step_outcome result) effects
+    → Decides (StandsFor bytes after) h l (flush_ruling l h) (as_before l l) (step_outcome result) effects
     → Decides (λ k x. Collects after now x) h l (flush_ruling l h) (as_before l l) (step_outcome result) effects
-flush_collects {D} {H} g bytes before after old new was now h l is has (Ok (Some n)) did flushes effects decides =
-    step_done after now (Represents bytes after (g.told new)) h l (flush_ruling l h) (flush_leaves l h) effects n
+flush_collects {D} {H} g bytes before after old new was now h l is files has (Ok (Some n)) did flushes effects decides =
+    step_done after now (StandsFor bytes after) h l (flush_ruling l h) (flush_leaves l h) effects n
     (λ stepped. flushes.tallied h l n is has.tally stepped
     (subst (λ (k : History). StandsFor bytes after k (flush_ruling l h).layout) (flush_history l h)
-    (decides.answered (Stepped n) refl).1.stands))
-    (flushes.passing ∙ has.passing) decides
-flush_collects g bytes before after old new was now h l is has (Ok None) did flushes effects decides = absurd did
-flush_collects {D} {H} g bytes before after old new was now h l is has (Err why) did flushes effects decides =
-    step_left after now (Represents bytes after (g.told new)) h l (flush_ruling l h) (flush_leaves l h) effects
+    (decides.answered (Stepped n) refl).1))
+    (flushes.passing ∙ has.passing) (flush_readable l h has.readable files) decides
+flush_collects g bytes before after old new was now h l is files has (Ok None) did flushes effects decides = absurd did
+flush_collects {D} {H} g bytes before after old new was now h l is files has (Err why) did flushes effects decides =
+    step_left after now (StandsFor bytes after) h l (flush_ruling l h) (flush_leaves l h) effects
     (collects_kept bytes before after was now h l is
     (ap (λ (v : Version H). v.behind.logs.items) (flush_same g bytes before after old new why did)) flushes has)
     (Err why) (err_undone why (Err why) refl) decides
+
+-- ---- which pass is open
+
+module _ {H : Type 0} (bytes : H → Option (List ℕ)) (before after : Core H) (was now : Collecting) where
+  pub rotate_passes : (result : Result (Option ℕ) StepFail) → SealsFor bytes before was now result → now.passing ≡ was.passing
+  rotate_passes (Ok (Some n)) is = is.passing
+  rotate_passes (Ok None) is = absurd is
+  rotate_passes (Err why) is = is.passing
+
+  pub flush_passes : (result : Result (Option ℕ) StepFail) → FlushesFor bytes before was now after result
+      → now.passing ≡ was.passing
+  flush_passes (Ok (Some n)) is = is.passing
+  flush_passes (Ok None) is = absurd is
+  flush_passes (Err why) is = is.passing
 
 -- ---- the active log, and the one that is found
 

@@ -1,7 +1,7 @@
 -- What the footers of a version's tables say, gathered level by level.
-use Rattle.std.specs.Prelude.{◌≡◌, ◌<◌, ◌≤◌, ◌+◌, ℕ, Bool, true, false, if◌then◌else◌, length, List, [], ◌∷◌, ◌++◌, map, refl}
+use Rattle.std.specs.Prelude.{◌≡◌, ◌<◌, ◌≤◌, ◌+◌, ℕ, Bool, true, false, if◌then◌else◌, length, List, [], ◌∷◌, ◌++◌, refl}
 use Rattle.std.specs.List.{filter}
-use Rattle.std.proofs.Common.{sym, ap, ◌∙◌, subst, append_assoc, get_or, take}
+use Rattle.std.proofs.Common.{sym, ap, ◌∙◌, append_assoc, get_or, take}
 use Rattle.std.proofs.lemmas.List.{take_all, take_more}
 use Rattle.vl_block.specs.declared.points.Point.{Point}
 use Rattle.vl_engine.specs.Collecting.{points_in}

@@ -31,6 +31,7 @@ mod PassLaws
 mod Picking
 pub mod Planning
 pub mod PutIn
+mod Readable
 pub mod ReadingPast
 pub mod RelocatingAnswers
 pub mod RelocatingEntries

@@ -18,7 +18,6 @@ use Rattle.vl_layout.specs.declared.segment.Segment.{Segment}
 use Rattle.vl_model.specs.Conflicts.{Named}
 use Rattle.vl_model.specs.History.{History}
 use Rattle.vl_oracle.specs.LiveTickets.{LiveTickets}
-use Rattle.vl_version.specs.declared.version.Version.{Version}
 
 module _ (pass : Option OpenPass) (h : History) (l : Layout) where
   abbrev pub passing : Layout

@@ -1,13 +1,17 @@
 -- What a pick comes to: why none is begun, and what the pass that is begun goes over.
-use Rattle.std.specs.Prelude.{◌≡◌, ◌<◌, ℕ, Bool, true, false, ◌==◌, ◌||◌, nat_lt, if◌then◌else◌, drop, List, [], ◌∷◌, ◌++◌, map}
+use Rattle.std.specs.Prelude.{◌≡◌, ◌<◌, ℕ, ◌+◌, Bool, true, false, ◌==◌, ◌||◌, nat_lt, if◌then◌else◌, drop, List, []}
+use Rattle.std.specs.Prelude.{◌∷◌, ◌++◌, length, map}
 use Rattle.std.specs.Prelude.{Option, None, Some, Result, Ok, Err, IfErr, IfOk, refl}
-use Rattle.std.specs.List.{AllByRecursion, filter}
+use Rattle.std.specs.List.{AllByRecursion, filter, sum_by}
+use Rattle.vl_collect.specs.Passing.{EndAt}
+use Rattle.vl_model.specs.Frames.{frame_length}
+use Rattle.vl_seglog.specs.laws.FrameLaws.{length-log_bytes}
 use Rattle.std.specs.Option.{ForSome, option_map}
 use Rattle.std.proofs.Common.{sym, ap, subst, ◌∙◌, arith}
 use Rattle.std.proofs.lemmas.List.{drop_at}
 use Rattle.vl_core.specs.Files.{IsLogFile}
 use Rattle.vl_core.specs.Laid.{HasLayout, HasLog, IsLogOf}
-use Rattle.vl_core.specs.Passing.{AreReadable, IsStillIn}
+use Rattle.vl_core.specs.Passing.{AreReadable}
 use Rattle.vl_core.specs.Pointed.{bytes_of_log, layout_logs, segment_at}
 use Rattle.vl_core.specs.Represents.{StandsFor}
 use Rattle.vl_core.specs.declared.kept.Core.{Core}
@@ -15,7 +19,7 @@ use Rattle.vl_engine.proofs.Beginning.{looks_told}
 use Rattle.vl_engine.proofs.Collected.{tallies_alike, tallies_made}
 use Rattle.vl_engine.proofs.Committing.{decides_answered, decides_short}
 use Rattle.vl_engine.proofs.Tallying.{each_there}
-use Rattle.vl_engine.specs.Collecting.{BeginsOver, BeginsPass, Collects, FitsLooks, IsPicked, IsTallied, LacksLog, Passes, Tallies}
+use Rattle.vl_engine.specs.Collecting.{BeginsOver, BeginsPass, Collects, FitsLooks, IsPicked, IsTallied, LacksLog, Tallies}
 use Rattle.vl_engine.specs.Collecting.{passed_in, pick_outcome}
 use Rattle.vl_engine.specs.declared.fails.PickFail.TheVariants as fails
 use Rattle.vl_engine.specs.declared.fails.PickFail.{PickFail}
@@ -26,13 +30,15 @@ use Rattle.vl_frame.specs.laws.RunLaws.{reads_whole}
 use Rattle.vl_layout.specs.Decides.{Decides, as_before, effects_of, no_effects}
 use Rattle.vl_layout.specs.Garbage.{best, best_of, better_of, is_better, is_worth, stat_of}
 use Rattle.vl_layout.specs.Jobs.{AreDistinct}
-use Rattle.vl_layout.specs.Logs.{LogRecord, records, records_from}
-use Rattle.vl_layout.specs.Merging.{Sourced, plain, sourced}
+use Rattle.vl_layout.specs.Logs.{records, records_from}
+use Rattle.vl_layout.specs.Marks.{plain}
+use Rattle.vl_layout.specs.Merging.{Sourced}
+use Rattle.vl_layout.specs.Rulings.Plan.{sourced}
 use Rattle.vl_layout.specs.Relocation as layout
 use Rattle.vl_layout.specs.Ruling.{Ruling, leaving}
 use Rattle.vl_layout.specs.Rulings.Pick.{InvalidRequest, NoRewrite, PickAnswer, Picked, Rejected, pass_over, pick_best, pick_ruling}
 use Rattle.vl_layout.specs.Rulings.Pick.{pick_unless, records_in, with_pass}
-use Rattle.vl_layout.specs.Sources.{head, sources, tables}
+use Rattle.vl_layout.specs.Sources.{head, tables}
 use Rattle.vl_layout.specs.Tidy.{IsTidy, log_numbers, sealed}
 use Rattle.vl_layout_laws.specs.laws.TidyRulings.{pick_tidy}
 use Rattle.vl_layout.specs.declared.job.OpenPass.{OpenPass}
@@ -182,6 +188,9 @@ file_at n (t ∷ ss) s is all = by (t.number == n) is (λ later. file_at n ss s 
     by true e later = subst IsLogFile (one e) all.0
     by false e later = later e
 
+one_segment : (a b : Segment) → Some a ≡ Some b → a ≡ b
+one_segment a b e = cc
+
 -- ---- the pass
 
 module _ {H : Type 0} (bytes : H → Option (List ℕ)) where
@@ -254,16 +263,29 @@ module _ {H : Type 0} (bytes : H → Option (List ℕ)) where
             (records_at at.log.number l.flushed at.log at.flushed
             ∙ ap (λ (f : ℕ). records_from f 16 at.log.frames) (sym log_is.format));
       });
-      still = λ s there. subst (IsLogOf bytes pass.log) (one s there) log_is;
-      below = subst (λ (n : ℕ). n < l.active.number) (sym same.number)
-          (below_in x.segment l.active.number core.version.behind.logs.items has.log found is.has.below);
+      whole = λ told tells.
+          let end : EndAt pass.log.format pass.log.number (bytes_of_log at.log) 16 (length (bytes_of_log at.log)) = record {
+            frames = at.log.frames;
+            reads = reads_so files;
+            is = length-log_bytes at.log.format at.log.number at.log.frames
+                ∙ ap (λ (f : ℕ). 16 + sum_by (frame_length f) at.log.frames) (sym log_is.format);
+          } in
+          subst (λ (bs : List ℕ). EndAt pass.log.format pass.log.number bs pass.at.place (length bs))
+          (same_bytes (bytes_of_log at.log) told (sym log_is.told ∙ tells))
+          (subst (λ (n : ℕ). EndAt pass.log.format pass.log.number (bytes_of_log at.log) n (length (bytes_of_log at.log)))
+          (sym begins.start) end);
+      lasts = record {
+        still = λ s there. subst (IsLogOf bytes pass.log) (one s there) log_is;
+        below = subst (λ (n : ℕ). n < l.active.number) (sym same.number)
+            (below_in x.segment l.active.number core.version.behind.logs.items has.log found is.has.below);
+      };
     }
       where
-        one : (s : Segment) → segment_at (sealed l) pass.log.number ≡ Some s → at.log ≡ s
-        one s there = some_one at.log s (sym at.at ∙ ap (segment_at (sealed l)) (sym log_is.number) ∙ there)
+        same_bytes : (a b : List ℕ) → Some a ≡ Some b → a ≡ b
+        same_bytes a b e = cc
 
-        some_one : (a b : Segment) → Some a ≡ Some b → a ≡ b
-        some_one a b e = cc
+        one : (s : Segment) → segment_at (sealed l) pass.log.number ≡ Some s → at.log ≡ s
+        one s there = one_segment at.log s (sym at.at ∙ ap (segment_at (sealed l)) (sym log_is.number) ∙ there)
 
 -- ---- what a pick came to
 
@@ -340,10 +362,11 @@ module _ (l : Layout) (h : History) (percent : ℕ) (fair : IsUnfair l h percent
 
     -- what is kept of where space comes back from
     pub collects_begun : {P : Type 0} (done : Core H) (was now : Collecting) → done ≡ core → IsTallied was.tally l
-        → was.passing ≡ passed_in l → (result : Result P PickFail) → BeginsPass was now n result → IfErr result (LacksLog core n)
+        → was.passing ≡ passed_in l → AreReadable l → (result : Result P PickFail) → BeginsPass was now n result
+        → IfErr result (LacksLog core n)
         → Decides (λ k x. Collects done now x) h l (pick_ruling l h percent) (as_before l l)
         (pick_outcome (pick_ruling l h percent).answer result) no_effects
-    collects_begun {P} done was now same tallied passing result begins lacks =
+    collects_begun {P} done was now same tallied passing readable result begins lacks =
         decides_begun (λ k x. Collects done now x) result lacks (λ pass ok. after pass (subst (BeginsPass was now n) ok begins))
         (λ why err. before why (subst (BeginsPass was now n) err begins))
       where
@@ -354,22 +377,14 @@ module _ (l : Layout) (h : History) (percent : ℕ) (fair : IsUnfair l h percent
 
         after : (pass : P) → now ≡ record was { passing = Some n } → Collects done now (with_pass n l)
         after pass e = subst (λ (k : Collecting). Collects done k (with_pass n l)) (sym e)
-            (record { tally = tallies (with_pass n l) refl refl refl; passing = refl })
+            (record { tally = tallies (with_pass n l) refl refl refl; passing = refl; readable = readable })
 
         before : (why : PickFail) → now ≡ was → Collects done now l
         before why e = subst (λ (k : Collecting). Collects done k l) (sym e)
-            (record { tally = tallies l refl refl refl; passing = passing })
+            (record { tally = tallies l refl refl refl; passing = passing; readable = readable })
 
 pub pass_fits : {H R : Type 0} (bytes : H → Option (List ℕ)) (core : Core H) (h : History) (l : Layout) → StandsFor bytes core h l
     → (n : ℕ) (result : Result (Pass (Base H R) H) PickFail) → IfOk result (BeginsOver bytes core n) → IfOk result (FitsLooks bytes)
 pass_fits {H} {R} bytes core h l is n (Ok pass) begins = λ reader kept.
     subst (λ (v : Version H). bases.Fits bytes v reader) (sym begins.version) (looks_told bytes core h l is reader kept)
 pass_fits bytes core h l is n (Err why) begins = tt
-
--- where it begins, it is the one that is open done
-pub passes_by : {H R : Type 0} (bytes : H → Option (List ℕ)) (core : Core H) (old mid new : Collecting) (n : ℕ)
-    → mid.passing ≡ old.passing → (result : Result (Pass (Base H R) H) PickFail) → IfOk result (BeginsOver bytes core n)
-    → BeginsPass mid new n result → Passes old.passing new.passing result
-passes_by bytes core old mid new n same (Ok pass) begins is =
-    ap (λ (k : Collecting). k.passing) is ∙ sym (ap (λ (k : ℕ). Some k) begins.number_is)
-passes_by bytes core old mid new n same (Err why) begins is = ap (λ (k : Collecting). k.passing) is ∙ same

@@ -1,5 +1,6 @@
 -- What is kept of live bytes behind a flush and an install.
-use Rattle.std.specs.Prelude.{◌≡◌, ℕ, Bool, true, false, if◌then◌else◌, List, [], ◌∷◌, ◌++◌, map, Option, None, Some, IsSome, Result, Ok, Err, refl}
+use Rattle.std.specs.Prelude.{◌≡◌, ℕ, Bool, true, false, not, if◌then◌else◌, List, [], ◌∷◌, ◌++◌, map, Option, None}
+use Rattle.std.specs.Prelude.{Some, IsSome, Result, Ok, Err, refl}
 use Rattle.std.specs.Arc.{arc_value}
 use Rattle.std.specs.List.{AllZip, filter, flat_map}
 use Rattle.std.proofs.Common.{sym, ap, subst, ◌∙◌}
@@ -12,13 +13,15 @@ use Rattle.vl_compact.specs.declared.files.Synced.{Synced}
 use Rattle.vl_compact.specs.declared.job.Job.{Job}
 use Rattle.vl_core.specs.Laid.{IsTableOf}
 use Rattle.vl_core.specs.Pointed.{layout_logs}
-use Rattle.vl_core.specs.Represents.{Represents, StandsFor}
+use Rattle.vl_core.specs.Files.{IsLogFile}
+use Rattle.vl_core.specs.Passing.{AreReadable}
+use Rattle.vl_core.specs.Represents.{StandsFor}
 use Rattle.vl_core.specs.declared.kept.Core.{Core}
+use Rattle.vl_core.specs.laws.FileLaws.{all_filtered}
 use Rattle.vl_core.specs.laws.LaidTables.{tables_are}
-use Rattle.vl_disk.specs.DiskState.{DiskState}
 use Rattle.vl_disk.specs.declared.writer.Writer.{Ghosts as Writers}
-use Rattle.vl_engine.proofs.Collected.{IsAlike, collects_alike, collects_kept, decides_too, flush_by, head_is_laid, inputs_are_laid}
-use Rattle.vl_engine.proofs.Collected.{passed_alike, tallies_made}
+use Rattle.vl_engine.proofs.Collected.{IsAlike, collects_alike, collects_kept, collects_same, decides_too, flush_by}
+use Rattle.vl_engine.proofs.Collected.{head_is_laid, inputs_are_laid, passed_alike, tallies_made}
 use Rattle.vl_engine.proofs.Tallying.{points_are}
 use Rattle.vl_engine.specs.Collecting.{Collects, HasFlushed, HasPutIn, InstallsFor, IsReadied, IsTallied, LeadsFrom, Tallies}
 use Rattle.vl_engine.specs.Collecting.{head_in, passed_in, points_in, points_made}
@@ -30,11 +33,11 @@ use Rattle.vl_engine.specs.declared.open.Collecting.{Collecting}
 use Rattle.vl_layout.specs.Decides.{Answered, Damaged, Decides, Effects, Failed, NoMemory}
 use Rattle.vl_layout.specs.Jobs.{Made, tables_made}
 use Rattle.vl_layout.specs.Levels.{in_front, is_among}
-use Rattle.vl_layout.specs.Ruling.{Ruling, StepAnswer, Stepped, halted_at, has_no_version, leaving}
+use Rattle.vl_layout.specs.Ruling.{Ruling, StepAnswer, Stepped, halted_at, has_no_version, is_idle, leaving}
 use Rattle.vl_layout.specs.Rulings.Flush.{flush_ruling, flushed, flushed_table}
 use Rattle.vl_layout.specs.Rulings.Install as install
 use Rattle.vl_layout.specs.Rulings.Install.{InstallAnswer, Installed, install_checked, install_ruling, install_unless, installed}
-use Rattle.vl_layout.specs.Rulings.Install.{moved_since, race}
+use Rattle.vl_layout.specs.Rulings.Install.{moved_since, put_in, race}
 use Rattle.vl_layout.specs.Sources.{head, numbers_of, tables}
 use Rattle.vl_layout.specs.Tidy.{IsTidy, IsTrueTable}
 use Rattle.vl_layout.specs.declared.file_name.FileName.{FileName}
@@ -61,7 +64,8 @@ use Rattle.vl_version.specs.declared.version.Version.{Version}
 
 -- ---- live bytes
 
-leads_to : (l : Layout) (came gone after : List laid.Table) (kept : Option Tallied) (live : List (ℕ × ℕ)) (added dropped : List (List Point))
+leads_to : (l : Layout) (came gone after : List laid.Table) (kept : Option Tallied) (live : List (ℕ × ℕ))
+    (added dropped : List (List Point))
     → IsTallied kept l → LeadsFrom kept live added dropped → added ≡ points_of_tables came → dropped ≡ points_of_tables gone
     → IsSwitch (tables l) came gone after → AreOf after live
 leads_to l came gone after None live added dropped is leads first second switch = absurd is
@@ -80,7 +84,7 @@ flushed_points bytes (l ∷ ls) t table rest zip true_table =
 flush_layout : (l : Layout) (h : History) (n : ℕ) → (flush_ruling l h).answer ≡ Stepped n
     → (s : Segment) × ((flush_ruling l h).layout ≡ flushed l s)
 flush_layout l h n = flush_by l h (λ r. r.answer ≡ Stepped n → (s : Segment) × (r.layout ≡ flushed l s))
-    (λ a no stepped. absurd (no n stepped)) (λ s stepped. (s, refl))
+    (λ a no stepped. absurd (no n stepped)) (λ s runs at stepped. (s, refl))
 
 pub has_flushed : {H : Type 0} (bytes : H → Option (List ℕ)) (before after : Core H) (was mid now : Collecting) (table : Table H)
     (rest : List (Table H)) (live : List (ℕ × ℕ)) (n : ℕ) → IsReadied bytes before was mid
@@ -190,6 +194,12 @@ install_alike l h job made = install_by l h job made (λ r. (r.answer ≡ Instal
 install_pass : (l : Layout) (h : History) (job : laid_job.Job) (made : Made) → (install_ruling l h job made).layout.pass ≡ l.pass
 install_pass l h job made = install_by l h job made (λ r. r.layout.pass ≡ l.pass) (λ a other. refl) refl
 
+-- it may retire logs that can be read
+install_readable : (l : Layout) (h : History) (job : laid_job.Job) (made : Made) → AreReadable l
+    → AreReadable (install_ruling l h job made).layout
+install_readable l h job made is = install_by l h job made (λ r. AreReadable r.layout) (λ a other. is)
+    (all_filtered IsLogFile (λ (s : Segment). not (is_idle (put_in job made l) s)) l.flushed is)
+
 install_history : (l : Layout) (h : History) (job : laid_job.Job) (made : Made) → (install_ruling l h job made).history ≡ h
 install_history l h job made = install_by l h job made (λ r. r.history ≡ h) (λ a other. refl) refl
 
@@ -222,15 +232,16 @@ module _ {H : Type 0} (core : Core H) (kept : Collecting) (S : History → Layou
 
   -- it was done, and what is kept is that of the layout behind it
   pub install_done : ((install_ruling l h job made).answer ≡ Installed → IsTallied kept.tally (install_ruling l h job made).layout)
-      → kept.passing ≡ passed_in l
+      → kept.passing ≡ passed_in l → AreReadable (install_ruling l h job made).layout
       → Decides S h l (install_ruling l h job made) (install_otherwise l made) (Answered Installed) effects
       → Decides So h l (install_ruling l h job made) (install_otherwise l made) (Answered Installed) effects
-  install_done tallied passing is =
+  install_done tallied passing readable is =
       decides_too S So h l (install_ruling l h job made) (install_otherwise l made) (Answered Installed) effects is
       (λ a same answer. record {
         tally = tallies_made core.version.behind.logs.items kept.tally (install_ruling l h job made).layout
             (tallied (answer ∙ sym (one a same)));
         passing = passing ∙ passed_alike l.pass (install_ruling l h job made).layout.pass (install_pass l h job made);
+        readable = readable;
       })
       (λ same. absurd (none same))
       (λ name same. absurd (no_fail name same))
@@ -248,7 +259,22 @@ module _ {H : Type 0} (core : Core H) (kept : Collecting) (S : History → Layou
       no_damage : (name : FileName) (place : ℕ) → Answered Installed ≡ Damaged name place → ⊥
       no_damage name place e = cc
 
-install_same : {V H W : Type 0} {g : _} (before after : Core H) (why : InstallFail V H W g) (result : Result (Unit {0}) (InstallFail V H W g))
+-- what failed isn't done
+pub install_undone : {V H W : Type 0} {g : _} (why : InstallFail V H W g) (result : Result (Unit {0}) (InstallFail V H W g))
+    → result ≡ Err why → result ≡ Ok tt → ⊥
+install_undone {V} {H} {W} {g} why result is e = cc
+
+-- the same of why it wasn't
+pub install_err : {H : Type 0} (R W : Type 0) (writers : Writers W) (core : Core H) (kept : Collecting) (S : History → Layout → Type 0)
+    (h : History) (l : Layout) (job : laid_job.Job) (made : Made) (effects : Effects) → Collects core kept l
+    → (why : InstallFail (Base H R) H W writers)
+    → Decides S h l (install_ruling l h job made) (install_otherwise l made) (install_outcome (Err why)) effects
+    → Decides (λ k x. Collects core kept x) h l (install_ruling l h job made) (install_otherwise l made) (install_outcome (Err why)) effects
+install_err R W writers core kept S h l job made effects has why is =
+    install_left core kept S h l job made effects has (Err why) (install_undone why (Err why) refl) is
+
+install_same : {V H W : Type 0} {g : _} (before after : Core H) (why : InstallFail V H W g)
+    (result : Result (Unit {0}) (InstallFail V H W g))
     → result ≡ Err why → InstallsCore before after result → after.version ≡ before.version
 install_same {V} {H} {W} {g} before after why (Ok done) is did = absurd cc
 install_same {V} {H} {W} {g} before after why (Err (fails.Halted name)) is did = ap (λ (c : Core H). c.version) did.1
@@ -258,28 +284,45 @@ install_same {V} {H} {W} {g} before after why (Err (fails.NoMemory job)) is did 
 install_same {V} {H} {W} {g} before after why (Err (fails.Disk name)) is did = did.version
 
 pub install_collects : {H R W : Type 0} (bytes : H → Option (List ℕ)) (writers : Writers W) {g : _} (job : Job (Base H R) H W g)
-    (before after : Core H) (was now : Collecting) (told : Option DiskState) (h : History) (l : Layout) (o : OpenJob)
+    (before after : Core H) (was now : Collecting) (h : History) (l : Layout) (o : OpenJob)
     → StandsFor bytes before h l → l.job ≡ Some o → HasAllMerge writers bytes job o.job → Collects before was l
     → (result : Result (Unit {0}) (InstallFail (Base H R) H W g)) → InstallsCore before after result
-    → InstallsFor bytes before was now writers job after result → (effects : Effects)
-    → Decides (Represents bytes after told) h l (install_ruling l h o.job (made_of job o.job)) (install_otherwise l (made_of job o.job))
+    → InstallsFor bytes before was now writers job after result → (effects : Effects) (S : History → Layout → Type 0)
+    → ((k : History) (x : Layout) → S k x → StandsFor bytes after k x)
+    → Decides S h l (install_ruling l h o.job (made_of job o.job)) (install_otherwise l (made_of job o.job))
     (install_outcome result) effects
     → Decides (λ k x. Collects after now x) h l (install_ruling l h o.job (made_of job o.job)) (install_otherwise l (made_of job o.job))
     (install_outcome result) effects
-install_collects {H} {R} {W} bytes writers {g} job before after was now told h l o is open_is all has (Ok done) did puts effects decides =
-    install_done after now (Represents bytes after told) h l o.job (made_of job o.job) effects
+install_collects {H} {R} {W} bytes writers {g} job before after was now h l o is open_is all has (Ok done) did puts
+    effects S stood decides =
+    install_done after now S h l o.job (made_of job o.job) effects
     (λ answered. puts.tallied h l o is open_is all has.tally answered
     (subst (λ (k : History). StandsFor bytes after k (install_ruling l h o.job (made_of job o.job)).layout)
-    (install_history l h o.job (made_of job o.job)) (decides.answered Installed refl).1.stands))
-    (puts.passing ∙ has.passing) decides
-install_collects {H} {R} {W} bytes writers {g} job before after was now told h l o is open_is all has (Err why) did puts effects decides =
-    install_left after now (Represents bytes after told) h l o.job (made_of job o.job) effects
+    (install_history l h o.job (made_of job o.job)) (stood _ _ (decides.answered Installed refl).1)))
+    (puts.passing ∙ has.passing) (install_readable l h o.job (made_of job o.job) has.readable) decides
+install_collects {H} {R} {W} bytes writers {g} job before after was now h l o is open_is all has (Err why) did puts
+    effects S stood decides =
+    install_left after now S h l o.job (made_of job o.job) effects
     (collects_kept bytes before after was now h l is
     (ap (λ (v : Version H). v.behind.logs.items) (install_same before after why (Err why) refl did)) puts has)
-    (Err why) (no_ok why) decides
-  where
-    no_ok : (y : InstallFail (Base H R) H W g) → Err y ≡ Ok tt → ⊥
-    no_ok y e = cc
+    (Err why) (install_undone why (Err why) refl) decides
+
+-- nothing was done
+pub install_idle : {H R W : Type 0} {g : _} (before after : Core H) (was now : Collecting) (S : History → Layout → Type 0) (h : History)
+    (l : Layout) (j : laid_job.Job) (made : Made) (effects : Effects) (why : InstallFail (Base H R) H W g)
+    (result : Result (Unit {0}) (InstallFail (Base H R) H W g)) → result ≡ Err why → InstallsCore before after result → now ≡ was
+    → Collects before was l → Decides S h l (install_ruling l h j made) (install_otherwise l made) (install_outcome result) effects
+    → Decides (λ k x. Collects after now x) h l (install_ruling l h j made) (install_otherwise l made) (install_outcome result) effects
+install_idle {H} before after was now S h l j made effects why result is did same has decides =
+    install_left after now S h l j made effects
+    (collects_same before after was now l (ap (λ (v : Version H). v.behind.logs.items) (install_same before after why result is did)) same
+    has) result (install_undone why result is) decides
+
+pub install_passes : {H R W : Type 0} (bytes : H → Option (List ℕ)) (writers : Writers W) {g : _} (job : Job (Base H R) H W g)
+    (before after : Core H) (was now : Collecting) (result : Result (Unit {0}) (InstallFail (Base H R) H W g))
+    → InstallsFor bytes before was now writers job after result → now.passing ≡ was.passing
+install_passes bytes writers job before after was now (Ok done) is = is.passing
+install_passes bytes writers job before after was now (Err why) is = is.passing
 
 -- ---- what was made ready before
 
@@ -311,8 +354,3 @@ installs_then bytes writers job before after was mid now readied (Err why) keeps
   tallies = λ h l is has. keeps.tallies h l is
       (tallies_made before.version.behind.logs.items mid.tally l (readied.tallied h l is has));
 }
-
--- what failed isn't done
-pub install_undone : {V H W : Type 0} {g : _} (why : InstallFail V H W g) (result : Result (Unit {0}) (InstallFail V H W g))
-    → result ≡ Err why → result ≡ Ok tt → ⊥
-install_undone {V} {H} {W} {g} why result is e = cc

@@ -1,6 +1,6 @@
 -- What is made of a version of how long its logs are, of what its tables lead to, and of where its head is, is the layout's.
-use Rattle.std.specs.Prelude.{◌≡◌, ◌≤◌, ◌<◌, ◌+◌, ℕ, Bool, true, false, not, ◌==◌, ◌||◌, nat_lt, if◌then◌else◌, length}
-use Rattle.std.specs.Prelude.{List, [], ◌∷◌, ◌++◌, map, Option, None, Some, IsSome, refl}
+use Rattle.std.specs.Prelude.{◌≡◌, ◌<◌, ◌+◌, ℕ, Bool, true, false, ◌==◌, ◌||◌, if◌then◌else◌, length}
+use Rattle.std.specs.Prelude.{List, [], ◌∷◌, ◌++◌, map, Option, None, Some, refl}
 use Rattle.std.specs.List.{AllByRecursion, AllZip, filter, list_any}
 use Rattle.std.specs.Ordering.{nat_cmp}
 use Rattle.std.specs.declared.cmp.Ordering.TheVariants.{Less, Equal, Greater}
@@ -10,7 +10,7 @@ use Rattle.std.proofs.lemmas.Bool.Decides.{nat_tests}
 use Rattle.std.proofs.lemmas.Cmp.{ranked}
 use Rattle.vl_block.specs.Footer.{Foot}
 use Rattle.vl_block.specs.declared.points.Point.{Point}
-use Rattle.vl_core.specs.Laid.{HasLayout, HasLog, IsLogOf, IsMemtableOf, IsTableOf}
+use Rattle.vl_core.specs.Laid.{HasLog, IsLogOf, IsMemtableOf, IsTableOf}
 use Rattle.vl_core.specs.Pointed.{bytes_of_log, segment_at}
 use Rattle.vl_core.specs.laws.SegmentLaws.{segment_there}
 use Rattle.vl_layout.specs.Jobs.{AreDistinct}
@@ -24,7 +24,7 @@ use Rattle.vl_model.specs.Entries.{by_order}
 use Rattle.vl_model.specs.Numbers.{has}
 use Rattle.vl_seglog.specs.declared.sealed.SealedLog.{SealedLog}
 use Rattle.vl_seglog.specs.laws.FrameLaws.{length-log_bytes}
-use Rattle.vl_table.specs.Tables.{number_of, shape_of}
+use Rattle.vl_table.specs.Tables.{shape_of}
 use Rattle.vl_table.specs.declared.table.Table.{Table}
 use Rattle.vl_version.specs.Bases.{is_input}
 use Rattle.vl_version.specs.Oldest.{oldest_frozen}

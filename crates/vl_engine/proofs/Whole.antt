@@ -2,7 +2,7 @@
 use Rattle.std.specs.Prelude.{◌≡◌, ◌<◌, ℕ, ◌+◌, Bool, true, false, if◌then◌else◌, List, [], ◌∷◌, ◌++◌, length, map}
 use Rattle.std.specs.Prelude.{take, drop, Option, None, Some, Result, Ok, Err, IsErr, OnOk}
 use Rattle.std.specs.List.{AllByRecursion, AllZip}
-use Rattle.std.specs.Option.{ForSome}
+use Rattle.std.specs.Option.{ForSome, option_map}
 use Rattle.std.proofs.Common.{refl, sym, ap, subst, ◌∙◌}
 use Rattle.vl_compact.specs.Keys.{behind}
 use Rattle.vl_compact.specs.Laid.{AreBoth}
@@ -11,7 +11,7 @@ use Rattle.vl_compact.specs.declared.files.Lent.{Lent}
 use Rattle.vl_compact.specs.declared.files.Synced.{Synced}
 use Rattle.vl_compact.specs.declared.job.Job.{Job as Merging}
 use Rattle.vl_compact.specs.declared.job_reader.JobReader.{JobReader}
-use Rattle.vl_disk.specs.DiskState.{new_file}
+use Rattle.vl_disk.specs.DiskState.{DiskState, new_file}
 use Rattle.vl_disk.specs.Moments.{holds_then}
 use Rattle.vl_disk.specs.declared.name.Name.{Name}
 use Rattle.vl_disk.specs.declared.watched.Watched.{Ghosts}
@@ -24,9 +24,9 @@ use Rattle.vl_engine.specs.Drawing.{IsSameJob}
 use Rattle.vl_engine.specs.Installing.{IsHandedIn, install_otherwise, numbers_in}
 use Rattle.vl_engine.specs.Lent.{Opens}
 use Rattle.vl_engine.specs.Merging.{FitsReaders, HasAllMerge, HasMerge, StandsOpen, fresh_effects, fresh_outcome, plan_outcome}
-use Rattle.vl_core.specs.Represents.{Represents}
+use Rattle.vl_core.specs.Represents.{Fronts, Represents, file_of}
 use Rattle.vl_core.specs.Shown.{LeavesBetween}
-use Rattle.vl_core.specs.MayStep.{Fits}
+use Rattle.vl_core.specs.MayStep.{AreLogFiles, Fits}
 use Rattle.vl_engine.proofs.Collected.{IsAlike, alike_same, collects_alike, collects_same}
 use Rattle.vl_engine.specs.Collecting.{Collects}
 use Rattle.vl_engine.specs.Whole.{HasSameLogs, MakesTables, StaysCollecting, StaysFor, kept_of}
@@ -407,27 +407,32 @@ module _ {D H : Type 0} (g : Ghosts D) (bytes : H → Option (List ℕ)) where
   closes old new core h l x same is fits through again = by x.job refl
     where
       by : (o : Option OpenJob) → x.job ≡ o → (t : StaysFor g bytes old new core None h l) × IsAlike x t.layout
-      by None is_open = (record {
-        layout = x;
-        same = same;
-        stands = record { stands = is.stands; opens = subst (λ (o : Option OpenJob). Opens None o) (sym is_open) tt };
-        represents = is;
-        fits = fits;
-        through = through;
-        again = again;
-      }, alike_same x)
+      by None is_open = (
+        record {
+          layout = x;
+          same = same;
+          stands = record { stands = is.stands; opens = subst (λ (o : Option OpenJob). Opens None o) (sym is_open) tt };
+          represents = is;
+          fits = fits;
+          through = through;
+          again = again;
+        },
+        alike_same x,
+      )
       by (Some o) is_open =
           let gone : Represents bytes core (g.told new) h (abandon_ruling x h o.job nothing_made).layout =
-          represents_abandoned bytes core h x o nothing_made is_open (record { drawn = tt; distinct = tt }) (g.told new) is in
-          (record {
-            layout = (abandon_ruling x h o.job nothing_made).layout;
-            same = logs_then l x (abandon_ruling x h o.job nothing_made).layout same (ended_logs x h o.job nothing_made);
-            stands = record { stands = gone.stands; opens = tt };
-            represents = gone;
-            fits = fits_abandoned core h x o.job nothing_made (g.told new) fits;
-            through = through;
-            again = again;
-          }, record { frozen = refl; flushed = refl; levels = refl; pass = refl })
+          represents_abandoned bytes core h x o nothing_made is_open (record { drawn = tt; distinct = tt }) (g.told new) is in (
+            record {
+              layout = (abandon_ruling x h o.job nothing_made).layout;
+              same = logs_then l x (abandon_ruling x h o.job nothing_made).layout same (ended_logs x h o.job nothing_made);
+              stands = record { stands = gone.stands; opens = tt };
+              represents = gone;
+              fits = fits_abandoned core h x o.job nothing_made (g.told new) fits;
+              through = through;
+              again = again;
+            },
+            record { frozen = refl; flushed = refl; levels = refl; pass = refl },
+          )
 
   pub given_up : (old new last : D) (core after : Core H) (was now : Option OpenMerge) (h : History) (l : Layout)
       → StaysFor g bytes old new core was h l → last ≡ new → after ≡ core → now ≡ None → StaysFor g bytes old last after now h l
@@ -832,3 +837,17 @@ module _ {D H R W : Type 0} (g : Ghosts D) (writers : Writers W) (bytes : H → 
           levels = (tables_then l m.stays.layout behind_it.0.layout m.tables behind_it.3).levels;
           flushed = (tables_then l m.stays.layout behind_it.0.layout m.tables behind_it.3).flushed;
         }
+
+-- ---- an install that is made of a layout for which the engine fits
+
+-- Where it isn't halted the disk tells, and its logs can be spelled. Else nothing is done.
+pub unless_halted : {H : Type 0} (core : Core H) (told : Option DiskState) (h : History) (l : Layout) → Fronts core h l → Fits told core h l
+    → (X : Type 0) → ((state : DiskState) → told ≡ Some state → (l.halted ≡ None → AreLogFiles l) → X)
+    → ((name : Name) → core.front.halted ≡ Some name → X) → X
+unless_halted core told h l fronts fits X runs idle = by core.front.halted refl
+  where
+    by : (o : Option Name) → core.front.halted ≡ o → X
+    by None none =
+        let may = fits.running (sym fronts.halted ∙ ap (option_map file_of) none) in
+        runs may.state may.told_is (λ running. (fits.running running).files)
+    by (Some name) halted = idle name halted

@@ -4,12 +4,13 @@ use Rattle.std.specs.Arc.{arc_value}
 use Rattle.std.specs.List.{AllByRecursion}
 use Rattle.std.specs.Option.{ForSome, option_map}
 use Rattle.vl_block.specs.declared.points.Point.{Point}
-use Rattle.vl_collect.specs.Passing.{Begins, IsPass}
+use Rattle.vl_collect.specs.Passing.{Begins, IsPass, IsWholeFrom}
 use Rattle.vl_collect.specs.declared.pass.Pass.{Pass}
 use Rattle.vl_compact.specs.Progress.{made_of}
 use Rattle.vl_compact.specs.declared.files.Synced.{Synced}
 use Rattle.vl_compact.specs.declared.job.Job.{Job}
-use Rattle.vl_core.specs.Passing.{IsStillIn}
+use Rattle.vl_core.specs.Lasts.{Lasts}
+use Rattle.vl_core.specs.Passing.{AreReadable}
 use Rattle.vl_core.specs.Represents.{StandsFor}
 use Rattle.vl_core.specs.declared.kept.Core.{Core}
 use Rattle.vl_disk.specs.declared.writer.Writer.{Ghosts as Writers}
@@ -69,6 +70,8 @@ passed_in l = option_map (λ (p : OpenPass). p.segment) l.pass
 pub record Collects {H : Type 0} (core : Core H) (kept : Collecting) (l : Layout) : Type 0 where
   pub tally : Tallies core.version.behind.logs.items kept.tally l
   pub passing : kept.passing ≡ passed_in l
+  -- a pass that begins finds each frame of its log
+  pub readable : AreReadable l
 
 -- a store that was just opened: no pass is open, and how much is live isn't known yet
 abbrev pub nothing_collected : Collecting
@@ -166,15 +169,15 @@ abbrev pub GoesOver : {H R : Type 0} → (H → Option (List ℕ)) → Pass (Bas
 GoesOver {R = R} bytes pass p = IsPass bytes (λ (b : Base _ R) inputs ms. HasSources bytes b.version inputs ms) pass p
 
 -- A pass goes over a log that was sealed by then, with the sources of this moment. It does what the answer's pass does, and its
--- log is the layout's.
+-- log is the layout's, and lasts.
 pub record IsPicked {H R : Type 0} (bytes : H → Option (List ℕ)) (pass : Pass (Base H R) H) (l : Layout) (answer : PickAnswer)
     : Type 0 where
   pub of : layout.Pass
   pub answer_is : answer ≡ Picked of
   pub goes : GoesOver bytes pass of
-  pub still : IsStillIn bytes pass.log l
-  -- so that no log that is sealed later has its number
-  pub below : pass.log.number < l.active.number
+  pub lasts : Lasts bytes pass.log l
+  -- its frames reach to its end
+  pub whole : IsWholeFrom bytes pass.log pass.at.place
 
 -- Whatever keeps no block that doesn't stand, as a reader that has kept none yet, fits its sources: look-ups by it are told.
 abbrev pub FitsLooks : {H R : Type 0} → (H → Option (List ℕ)) → Pass (Base H R) H → Type 0
@@ -195,6 +198,7 @@ pub record BeginsOver {H R : Type 0} (bytes : H → Option (List ℕ)) (core : C
     : Type 0 where
   pub version : pass.base.version ≡ core.version
   pub number_is : pass.log.number ≡ number
+  pub start : pass.at.place ≡ 16
   pub log : AreRising core.version.behind.logs.items
       → ForSome (log_in core.version.behind.logs.items number) (λ log. IsSameLog bytes log pass.log)
   pub goes : (p : layout.Pass)

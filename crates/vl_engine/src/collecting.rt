@@ -202,7 +202,8 @@ fn input_footers<'a, H: HeldFile>(
     levels: &'a Levels<H>,
     inputs: &[u32],
 ) -> Result<Vec<&'a Footer>, AllocError>
-    ensures { IfOk result (λ footers. map (λ f. f.now.points.items) footers.items ≡ points_in (filter (is_input inputs.now) (tables_of levels.now))) }
+    ensures { IfOk result (λ footers. map (λ f. f.now.points.items) footers.items ≡ points_in
+        (filter (is_input inputs.now) (tables_of levels.now))) }
 {
     let mut footers = Vec::new(alloc);
     put_inputs(&mut footers, levels.newest(), inputs)?;

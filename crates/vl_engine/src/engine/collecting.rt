@@ -1,10 +1,10 @@
-ghost use Rattle.std.specs.Prelude.{◌≡◌, ◌==◌, ◌||◌, nat_lt, None, IfErr, IfOk};
+ghost use Rattle.std.specs.Prelude.{◌≡◌, ◌<◌, ℕ, ◌↔◌, ◌⊎◌, ◌==◌, ◌||◌, nat_lt, None, Some, Err, IfErr, IfOk};
 ghost use Rattle.vl_core.specs.MayStep.{Fits};
-ghost use Rattle.vl_core.specs.Passing.{AreReadable};
 ghost use Rattle.vl_core.specs.Represents.{Represents, StandsFor};
 ghost use Rattle.vl_engine.specs.Collecting.{BeginsOver, BeginsPass, Collects, FitsLooks, IsPicked, LacksLog, Passes};
 ghost use Rattle.vl_engine.specs.Collecting.{pick_outcome};
 ghost use Rattle.vl_engine.specs.Merging.{StandsOpen};
+ghost use Rattle.vl_engine.specs.declared.fails.PickFail.TheVariants as fails;
 ghost use Rattle.vl_layout.specs.Decides.{Decides, as_before, no_effects};
 ghost use Rattle.vl_layout.specs.Relocation as layout;
 ghost use Rattle.vl_layout.specs.Rulings.EndPass.{end_pass_ruling};
@@ -22,8 +22,8 @@ use vl_layout::SegmentStat;
 use vl_version::Base;
 
 impl<D: Disk> Engine<D> {
-    /// What there is of each log that isn't retired, and how many bytes of it tables lead to, by rising numbers. No file is asked,
-    /// and behind the first step that rotates, flushes or installs no table either.
+    /// What there is of each log that isn't retired, and how many bytes of it tables lead to, by rising numbers. No file is asked.
+    /// Until the first pick, rotation, flush or install of a run it costs a look at the footer of each table, and then none.
     pub fn stats(&self) -> Result<Vec<SegmentStat>, NoMemory>
         ensures { (h : History) (l : Layout) → StandsFor D.Held.bytes self.now.core h l
             → Collects self.now.core self.now.collecting l → IfOk result (λ stats. stats.items ≡ (stats_ruling l h).answer) }
@@ -62,15 +62,23 @@ impl<D: Disk> Engine<D> {
             → Decides (λ _ l. Collects self.new.core self.new.collecting l) h l (pick_ruling l h percent) (as_before l l)
             (pick_outcome (pick_ruling l h percent).answer result) no_effects }
 
-        // The pass does what the ruling's says, and has given nothing yet. Its log can be read, as those of a disk that holds the
-        // layout.
+        // The pass does what the ruling's says, and has given nothing yet.
         ensures pass { (h : History) (l : Layout) → StandsFor D.Held.bytes self.old.core h l
-            → Collects self.old.core self.old.collecting l → AreReadable l
+            → Collects self.old.core self.old.collecting l
             → IfOk result (λ pass. IsPicked D.Held.bytes pass (pick_ruling l h percent).layout (pick_ruling l h percent).answer) }
 
         // A reader that keeps no block that doesn't stand, as `reader` gives, fits its sources: look-ups by it are told.
         ensures looks { (h : History) (l : Layout) → StandsFor D.Held.bytes self.old.core h l
             → IfOk result (FitsLooks D.Held.bytes) }
+
+        // It goes over what the engine has now.
+        ensures version { IfOk result (λ pass. pass.base.version ≡ self.old.core.version) }
+
+        // Whatever the disk tells: a pass begins only where none is open, and the one that is open is named; and for no other number
+        // the request is one that isn't valid.
+        ensures invalid { result ≡ Err fails.InvalidRequest ↔ (percent ≡ 0) ⊎ (99 < percent) }
+        ensures rejected { (segment : ℕ) → result ≡ Err (fails.Rejected segment) → self.old.collecting.passing ≡ Some segment }
+        ensures open { IfOk result (λ _. self.old.collecting.passing ≡ None) }
 
         // In memory nothing else changes, and the disk isn't asked.
         ensures passing { Passes self.old.collecting.passing self.new.collecting.passing result }

@@ -88,11 +88,13 @@ impl<D: Disk> Engine<D> {
         ensures within { (StepFailed result → ⊥) → self.old.core.back.state.next_log ≤ self.old.core.back.next_log
             → self.new.core.back.state.next_log ≤ self.new.core.back.next_log }
 
-        // What is kept of the open merge stays.
+        // What is kept of the open merge stays, and which pass is open.
         ensures merging { self.new.merging ≡ self.old.merging }
+        ensures passing { self.new.collecting.passing ≡ self.old.collecting.passing }
 
         // What is kept of live bytes is that of the tables then.
-        ensures collects { (h : History) (l : Layout) → Represents D.Held.bytes self.old.core (D.told self.old.disk) h l
+        ensures collects { (state : DiskState) (h : History) (l : Layout) → D.told self.old.disk ≡ Some state
+            → StandsFor D.Held.bytes self.old.core h l → (l.halted ≡ None → HasNumbers self.old.core.back l × AreLogFiles l)
             → Collects self.old.core self.old.collecting l
             → Decides (λ _ l. Collects self.new.core self.new.collecting l) h l (flush_ruling l h) (as_before l l)
             (step_outcome result) (flush_effects result) }

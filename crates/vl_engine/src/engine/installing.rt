@@ -111,10 +111,10 @@ impl<D: Disk> Engine<D> {
         ensures within { (InstallFailed result → ⊥) → self.old.core.back.state.next_log ≤ self.old.core.back.next_log
             → self.new.core.back.state.next_log ≤ self.new.core.back.next_log }
 
-        // What is kept of live bytes is that of the tables then.
-        ensures collects { (h : History) (l : Layout) (o : OpenJob)
-            → Represents D.Held.bytes self.old.core (D.told self.old.disk) h l
-            → StandsOpen D.Held.bytes self.old.core self.old.merging h l → l.job ≡ Some o
+        // Which pass is open stays, and what is kept of live bytes is that of the tables then.
+        ensures passing { self.new.collecting.passing ≡ self.old.collecting.passing }
+        ensures collects { (state : DiskState) (h : History) (l : Layout) (o : OpenJob) → D.told self.old.disk ≡ Some state
+            → StandsOpen D.Held.bytes self.old.core self.old.merging h l → l.job ≡ Some o → (l.halted ≡ None → AreLogFiles l)
             → HasAllMerge D.Writer.Writer D.Held.bytes job o.job → AreLent o.lent (made_of job o.job)
             → Collects self.old.core self.old.collecting l
             → Decides (λ _ l. Collects self.new.core self.new.collecting l) h l (install_ruling l h o.job (made_of job o.job))
@@ -123,6 +123,7 @@ impl<D: Disk> Engine<D> {
         // In memory a version is made, or nothing changes beside the open merge, unless a fault halts. A halted engine does nothing.
         ensures core { InstallsCore self.old.core self.new.core result }
         ensures halted { (name : Name) → self.old.core.front.halted ≡ Some name → result ≡ Err (fails.Halted name) }
+        ensures idle { (name : Name) → self.old.core.front.halted ≡ Some name → self.new.collecting ≡ self.old.collecting }
     {
         if let Some(name) = self.core.front.halted {
             self.merging = None;

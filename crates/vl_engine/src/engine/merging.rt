@@ -40,6 +40,9 @@ impl<D: Disk> Engine<D> {
             → StandsOpen D.Held.bytes self.old.core self.old.merging h l → Fits (D.told self.old.disk) self.old.core h l
             → IfOk result (λ kept. kept ≡ kept_of (plan_ruling l h).answer) }
 
+        // Which pass is open stays.
+        ensures passing { self.new.collecting.passing ≡ self.old.collecting.passing }
+
         // No merge is left open.
         ensures ended { self.old.merging ≡ None → self.new.merging ≡ None }
 

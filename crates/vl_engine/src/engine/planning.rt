@@ -18,6 +18,7 @@ ghost use Rattle.vl_layout.specs.declared.layout.Layout.{Layout};
 ghost use Rattle.vl_model.specs.History.{History};
 ghost use Rattle.vl_table.specs.Kept.{Files};
 ghost use Rattle.vl_table.specs.KeptBlocks.{AreKept};
+ghost use Rattle.vl_version.specs.Bases as bases;
 
 use crate::Engine;
 use crate::open::OpenMerge;
@@ -178,9 +179,13 @@ impl<D: Disk> Engine<D> {
         Ok(Job::new(self.alloc, Base::new(version), inputs, floor, keep))
     }
 
-    /// What a merge is read with. It keeps no block yet.
+    /// What a merge is read with. It keeps no block yet. A reader is good for what the engine has at this moment: behind a rotation,
+    /// a flush or an install take another.
     pub fn reader(&self) -> Result<JobReader<D::Reader, BlockReader<D::Reader>>, NoMemory>
         ensures blocks { (files : Files) → IfOk result (λ reader. AreKept files reader.looks) }
+        // So look-ups by it in what the engine has now are told.
+        ensures fits { (h : History) (l : Layout) → StandsFor D.Held.bytes self.now.core h l
+            → IfOk result (λ reader. bases.Fits D.Held.bytes self.now.core.version reader.looks) }
         ensures faults { IfOk result (λ reader. (D.Reader.faults reader.files ≡ 0) × (D.Reader.faults reader.looks.reader ≡ 0)) }
     {
         let files = self.disk.reader(self.alloc)?;

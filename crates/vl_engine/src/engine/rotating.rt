@@ -84,8 +84,9 @@ impl<D: Disk> Engine<D> {
         ensures within { (StepFailed result → ⊥) → self.old.core.back.state.next_log ≤ self.old.core.back.next_log
             → self.new.core.back.state.next_log ≤ self.new.core.back.next_log }
 
-        // What is kept of the open merge stays.
+        // What is kept of the open merge stays, and which pass is open.
         ensures merging { self.new.merging ≡ self.old.merging }
+        ensures passing { self.new.collecting.passing ≡ self.old.collecting.passing }
 
         // What is kept of live bytes has the sealed log then.
         ensures collects { (h : History) (l : Layout) → StandsFor D.Held.bytes self.old.core h l

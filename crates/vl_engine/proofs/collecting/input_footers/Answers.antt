@@ -12,28 +12,34 @@ use Rattle.vl_version.specs.levels.LevelTables.{all_tables}
 
 pub loop-level-init : goal.loop-level-init
 loop-level-init g c =
-    levels_begin (λ ts. points_in (filter (is_input c.args.inputs.now) ts)) (some-append (is_input c.args.inputs.now)) c.args.levels.now.newest.items c.deeper-level-items.result.now
+    levels_begin (λ ts. points_in (filter (is_input c.args.inputs.now) ts)) (some-append (is_input c.args.inputs.now))
+    c.args.levels.now.newest.items c.deeper-level-items.result.now
     (map (λ (f : Bor Footer). f.now.points.items) c.new-footers.result.items)
     (map (λ (f : Bor Footer). f.now.points.items) c.put_inputs.new.footers.items) refl
     (ap (λ (fs : List (Bor Footer)). map (λ (f : Bor Footer). f.now.points.items) fs) c.new-footers.ensures.items)
     (c.in_ok-put_inputs.ensures
     ∙ ap (λ (ts : List (Table g.row.H.Denot)).
-    map (λ (f : Bor Footer). f.now.points.items) c.new-footers.result.items ++ points_in (filter (is_input c.args.inputs.now) ts)) c.newest.ensures)
+    map (λ (f : Bor Footer). f.now.points.items) c.new-footers.result.items ++ points_in
+    (filter (is_input c.args.inputs.now) ts)) c.newest.ensures)
 
 pub loop-level-preserved : goal.loop-level-preserved
 loop-level-preserved g c =
-    levels_next (λ ts. points_in (filter (is_input c.args.inputs.now) ts)) (some-append (is_input c.args.inputs.now)) c.args.levels.now.newest.items c.deeper-level-items.result.now
+    levels_next (λ ts. points_in (filter (is_input c.args.inputs.now) ts)) (some-append (is_input c.args.inputs.now))
+    c.args.levels.now.newest.items c.deeper-level-items.result.now
     (map (λ (f : Bor Footer). f.now.points.items) c.loop-level.footers.items)
     (map (λ (f : Bor Footer). f.now.points.items) c.put_inputs-in-loop-level.new.footers.items) c.loop-level.level-index
     c.level-item.result c.loop-level-test.true c.level-item.is c.loop-level.invariant
     (c.in_ok-put_inputs-2.ensures
     ∙ ap (λ (ts : List (Table g.row.H.Denot)).
-    map (λ (f : Bor Footer). f.now.points.items) c.loop-level.footers.items ++ points_in (filter (is_input c.args.inputs.now) ts)) c.as_slice.ensures)
+    map (λ (f : Bor Footer). f.now.points.items) c.loop-level.footers.items ++ points_in
+    (filter (is_input c.args.inputs.now) ts)) c.as_slice.ensures)
 
 pub returns : goal.returns
 returns g c =
-    levels_end (λ ts. points_in (filter (is_input c.args.inputs.now) ts)) (some-append (is_input c.args.inputs.now)) c.args.levels.now.newest.items c.deeper-level-items.result.now
+    levels_end (λ ts. points_in (filter (is_input c.args.inputs.now) ts)) (some-append (is_input c.args.inputs.now))
+    c.args.levels.now.newest.items c.deeper-level-items.result.now
     (map (λ (f : Bor Footer). f.now.points.items) c.loop-level.footers.items) c.loop-level.level-index
     c.loop-level-test.false c.loop-level.invariant
-    ∙ ap (λ (ls : List (List (Table g.row.H.Denot))). points_in (filter (is_input c.args.inputs.now) (c.args.levels.now.newest.items ++ all_tables ls)))
+    ∙ ap (λ (ls : List (List (Table g.row.H.Denot))). points_in
+    (filter (is_input c.args.inputs.now) (c.args.levels.now.newest.items ++ all_tables ls)))
     c.deeper-level-items.ensures

@@ -27,11 +27,13 @@ returns-clause-begins g c =
           ∙ c.new.ensures ∙ c.in-Ok-share.ensures.shared;
       number_is = ap (λ (log : SealedLog g.row.D-Held.Denot). log.number) c.new-2.ensures.log ∙ c.in-Ok.ensures.number
           ∙ c.in-Some.ensures.number;
+      start = c.new-2.ensures.start;
       log = λ rises log at. subst (IsSameLog bytes log) (sym c.new-2.ensures.log)
           (found_same bytes c.in-Some.log.now log c.in-Ok.log _ (c.in-Some.ensures.found rises) at c.in-Ok.ensures);
       goes = λ p begins. c.new-2.ensures.begins p
           (subst (λ (b : Base g.row.D-Held.Denot g.row.D-Reader.Denot).
-          Begins bytes (λ (x : Base g.row.D-Held.Denot g.row.D-Reader.Denot) inputs ms. HasSources bytes x.version inputs ms) b c.in-Ok.log p)
+          Begins bytes (λ (x : Base g.row.D-Held.Denot g.row.D-Reader.Denot) inputs ms. HasSources bytes x.version
+          inputs ms) b c.in-Ok.log p)
           c.new-2.ensures.base
           (subst (λ (log : SealedLog g.row.D-Held.Denot).
           Begins bytes (λ (x : Base g.row.D-Held.Denot g.row.D-Reader.Denot) inputs ms. HasSources bytes x.version inputs ms)

@@ -1,4 +1,4 @@
-use Rattle.std.proofs.Common.{ap, refl}
+use Rattle.std.proofs.Common.{ap, refl, ◌∙◌}
 use Rattle.vl_disk.specs.declared.name.Name.TheVariants.{Table}
 use Rattle.vl_core.specs.laws.Carrying.{IsWatched}
 use Rattle.vl_engine.proofs.UnderWay.{handed_in, one_more}
@@ -20,6 +20,8 @@ making-init g c =
       makes = λ h x o is stands fits is_open has looks.
           starts g.D.Watched g.D.Writer.Writer g.D.Held.HeldFile.bytes h x watched c.args.self.now.disk c.args.self.now.core
           c.args.self.now.merging c.args.job.now c.in_ok-reader.reader o is stands fits is_open has looks c.in_ok-reader.ensures.blocks;
+      collecting = refl;
+      logs = refl;
     }
 
 -- all tables are made
@@ -68,6 +70,8 @@ making-preserved g c =
           (c.in_ok-fill.ensures.next o.job reads empty had)
           (fits_taken bytes c.fresh.new.job c.fill.new.self c.fill.new.reader.looks g.D.Writer.Writer c.in_ok-file.file
           c.in_ok-fill.ensures.takes (c.fill.ensures.fits reads));
+      collecting = c.fresh.ensures.collecting ∙ c.making.invariant.collecting;
+      logs = c.fresh.ensures.logs ∙ c.making.invariant.logs;
     }
 
 -- it ends before that
@@ -112,3 +116,35 @@ returns-clause-makes g c h x o is stands fits is_open has looks =
     fails g.D.Watched g.D.Writer.Writer g.D.Held.HeldFile.bytes h x o.job c.args.self.now.disk c.making.self.disk c.making.self.core
     c.making.self.merging c.making.job c.making.reader (c.making.invariant.makes h x o is stands fits is_open has looks)
     c.making.job _ refl
+
+-- what is kept of where space comes back from
+
+pub returns-in_err-ready-clause-collecting : goal.returns-in_err-ready-clause-collecting
+returns-in_err-ready-clause-collecting g c = c.making.invariant.collecting
+
+pub returns-in_err-ready-clause-logs : goal.returns-in_err-ready-clause-logs
+returns-in_err-ready-clause-logs g c = c.making.invariant.logs
+
+pub returns-then-not-branch-clause-collecting : goal.returns-then-not-branch-clause-collecting
+returns-then-not-branch-clause-collecting g c = c.making.invariant.collecting
+
+pub returns-then-not-branch-clause-logs : goal.returns-then-not-branch-clause-logs
+returns-then-not-branch-clause-logs g c = c.making.invariant.logs
+
+pub returns-clause-collecting : goal.returns-clause-collecting
+returns-clause-collecting g c = c.making.invariant.collecting
+
+pub returns-clause-logs : goal.returns-clause-logs
+returns-clause-logs g c = c.making.invariant.logs
+
+pub returns-in_err-file-clause-collecting : goal.returns-in_err-file-clause-collecting
+returns-in_err-file-clause-collecting g c = c.fresh.ensures.collecting ∙ c.making.invariant.collecting
+
+pub returns-in_err-file-clause-logs : goal.returns-in_err-file-clause-logs
+returns-in_err-file-clause-logs g c = c.fresh.ensures.logs ∙ c.making.invariant.logs
+
+pub returns-in_err-fill-clause-collecting : goal.returns-in_err-fill-clause-collecting
+returns-in_err-fill-clause-collecting g c = c.fresh.ensures.collecting ∙ c.making.invariant.collecting
+
+pub returns-in_err-fill-clause-logs : goal.returns-in_err-fill-clause-logs
+returns-in_err-fill-clause-logs g c = c.fresh.ensures.logs ∙ c.making.invariant.logs

@@ -1,6 +1,6 @@
 use Rattle.std.proofs.Common.{arith, refl, sym}
 use Rattle.vl_disk.specs.declared.name.Name.TheVariants as names
-use Rattle.vl_engine.proofs.Collected.{flush_collects}
+use Rattle.vl_engine.proofs.Collected.{flush_collects, flush_passes}
 use Rattle.vl_engine.proofs.Committing.{decides_leaving}
 use Rattle.vl_engine.proofs.Fitted.{flushed_by}
 use Rattle.vl_engine.proofs.Flushed.{calls_by, carries_by, carries_leaving_flush, fronts_by, ruled_exhausted}
@@ -304,30 +304,33 @@ returns-in-Go-clause-untold g c =
 -- what is kept of live bytes
 
 pub returns-in-Some-clause-collects : goal.returns-in-Some-clause-collects
-returns-in-Some-clause-collects g c h l is collects =
+returns-in-Some-clause-collects g c state h l told is can collects =
     decides_leaving (λ k x. Collects c.args.self.now.core c.args.self.now.collecting x) h l (flush_ruling l h) (as_before l l)
-    (Halted (file_of c.in-Some.name)) l (ruled_halted c.args.self.now.core h l is.stands.fronts c.in-Some.name c.in-Some.is) collects
+    (Halted (file_of c.in-Some.name)) l (ruled_halted c.args.self.now.core h l is.fronts c.in-Some.name c.in-Some.is) collects
 
 pub returns-in-Idle-clause-collects : goal.returns-in-Idle-clause-collects
-returns-in-Idle-clause-collects g c h l is collects =
+returns-in-Idle-clause-collects g c state h l told is can collects =
     let core = c.args.self.now.core in
-    let held = is.held (runs_on core h l is.stands.fronts c.in_default.is) in
     decides_leaving (λ k x. Collects c.args.self.now.core c.args.self.now.collecting x) h l (flush_ruling l h) (as_before l l) Idle l
-    (ruled_idle core h l is.stands.fronts c.in_default.is (numbers_held core.back held.base l held.back_is)
+    (ruled_idle core h l is.fronts c.in_default.is ((can (runs_on core h l is.fronts c.in_default.is)).0)
     (sym c.in-Idle.ensures.decided)) collects
 
 pub returns-in-Exhausted-clause-collects : goal.returns-in-Exhausted-clause-collects
-returns-in-Exhausted-clause-collects g c h l is collects =
+returns-in-Exhausted-clause-collects g c state h l told is can collects =
     let core = c.args.self.now.core in
-    let held = is.held (runs_on core h l is.stands.fronts c.in_default.is) in
     decides_leaving (λ k x. Collects c.args.self.now.core c.args.self.now.collecting x) h l (flush_ruling l h) (as_before l l)
     (Exhausted c.in-Exhausted.counter) l
-    (ruled_exhausted core h l is.stands.fronts c.in_default.is (numbers_held core.back held.base l held.back_is)
-    c.in-Exhausted.counter (sym c.in-Exhausted.ensures.decided)) collects
+    (ruled_exhausted core h l is.fronts c.in_default.is ((can (runs_on core h l is.fronts c.in_default.is)).0) c.in-Exhausted.counter
+    (sym c.in-Exhausted.ensures.decided)) collects
 
 pub returns-in-Go-clause-collects : goal.returns-in-Go-clause-collects
-returns-in-Go-clause-collects g c h l is collects =
+returns-in-Go-clause-collects g c state h l told is can collects =
     flush_collects g.D.Watched g.D.Held.HeldFile.bytes c.args.self.now.core c.make_table.new.self.core c.args.self.now.disk
-    c.make_table.new.self.disk c.args.self.now.collecting c.make_table.new.self.collecting h l is.stands collects c.make_table.result
-    c.make_table.ensures.as_flushed c.make_table.ensures.collected (flush_effects c.make_table.result)
-    (returns-in-Go-clause-carries g c h l is).decides
+    c.make_table.new.self.disk c.args.self.now.collecting c.make_table.new.self.collecting h l is (λ running. (can running).1) collects
+    c.make_table.result c.make_table.ensures.as_flushed c.make_table.ensures.collected (flush_effects c.make_table.result)
+    (returns-in-Go-clause-stands g c state h l told is can)
+
+pub returns-in-Go-clause-passing : goal.returns-in-Go-clause-passing
+returns-in-Go-clause-passing g c =
+    flush_passes g.D.Held.HeldFile.bytes c.args.self.now.core c.make_table.new.self.core c.args.self.now.collecting
+    c.make_table.new.self.collecting c.make_table.result c.make_table.ensures.collected

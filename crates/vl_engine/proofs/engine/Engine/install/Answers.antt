@@ -7,8 +7,9 @@ use Rattle.vl_engine.proofs.InstallExits.{stopped_by, untold_by, untouched_by, w
 use Rattle.vl_engine.proofs.InstallTotal.{core_by, halted_at, none_races, not_halted, written_by}
 use Rattle.vl_core.specs.laws.Untouched.{alone}
 use Rattle.vl_compact.specs.Progress.{made_of}
-use Rattle.vl_engine.proofs.Switching.{install_collects, install_left, install_undone}
-use Rattle.vl_engine.specs.Merging.{install_effects, made_numbers}
+use Rattle.vl_engine.proofs.Switching.{install_collects, install_err, install_passes}
+use Rattle.vl_engine.specs.Merging.{StandsOpen, install_effects, made_numbers}
+use Rattle.vl_engine.specs.declared.fails.InstallFail.TheVariants as fails
 use Rattle.vl_layout.specs.Decides.{no_effects}
 use Rattle.vl_core.specs.Represents.{file_of}
 use Rattle.vl_layout.specs.Rulings.Install as ruling
@@ -399,26 +400,33 @@ returns-in-Ok-None-clause-within g c fine within =
 -- what is kept of live bytes
 
 pub returns-in-Some-clause-collects : goal.returns-in-Some-clause-collects
-returns-in-Some-clause-collects g c h l o represents is opened whole lent has =
-    install_left c.args.self.now.core c.args.self.now.collecting _ h l o.job (made_of c.args.job o.job) no_effects has _
-    (install_undone _ _ refl)
-    (returns-in-Some-clause-carries g c h l o represents is opened whole lent).decides
+returns-in-Some-clause-collects g c state h l o told is opened files whole lent has =
+    install_err g.row.D-Reader.Denot g.row.D-Writer.Denot g.D.Writer.Writer c.args.self.now.core c.args.self.now.collecting _ h l o.job
+    (made_of c.args.job o.job) no_effects has (fails.Halted c.in-Some.name)
+    (returns-in-Some-clause-stands g c state h l o told is opened files whole lent)
 
 pub returns-in-Ok-Some-clause-collects : goal.returns-in-Ok-Some-clause-collects
-returns-in-Ok-Some-clause-collects g c h l o represents is opened whole lent has =
-    install_left c.args.self.now.core c.args.self.now.collecting _ h l o.job (made_of c.args.job o.job) no_effects has _
-    (install_undone _ _ refl)
-    (returns-in-Ok-Some-clause-carries g c h l o represents is opened whole lent).decides
+returns-in-Ok-Some-clause-collects g c state h l o told is opened files whole lent has =
+    install_err g.row.D-Reader.Denot g.row.D-Writer.Denot g.D.Writer.Writer c.args.self.now.core c.args.self.now.collecting _ h l o.job
+    (made_of c.args.job o.job) no_effects has (fails.Raced c.in-Ok-Some.key c.in-Ok-Some.version_number)
+    (returns-in-Ok-Some-clause-stands g c state h l o told is opened files whole lent)
 
 pub returns-in-Err-clause-collects : goal.returns-in-Err-clause-collects
-returns-in-Err-clause-collects g c h l o represents is opened whole lent has =
-    install_left c.args.self.now.core c.args.self.now.collecting _ h l o.job (made_of c.args.job o.job) no_effects has _
-    (install_undone _ _ refl)
-    (returns-in-Err-clause-carries g c h l o represents is opened whole lent).decides
+returns-in-Err-clause-collects g c state h l o told is opened files whole lent has =
+    install_err g.row.D-Reader.Denot g.row.D-Writer.Denot g.D.Writer.Writer c.args.self.now.core c.args.self.now.collecting _ h l o.job
+    (made_of c.args.job o.job) no_effects has (fails.NoMemory c.args.job)
+    (returns-in-Err-clause-stands g c state h l o told is opened files whole lent)
 
 pub returns-in-Ok-None-clause-collects : goal.returns-in-Ok-None-clause-collects
-returns-in-Ok-None-clause-collects g c h l o represents is opened whole lent has =
+returns-in-Ok-None-clause-collects g c state h l o told is opened files whole lent has =
     install_collects g.D.Held.HeldFile.bytes g.D.Writer.Writer c.args.job c.args.self.now.core c.install_unraced.new.self.core
-    c.args.self.now.collecting c.install_unraced.new.self.collecting (g.D.Watched.told c.install_unraced.new.self.disk) h l o is.stands
+    c.args.self.now.collecting c.install_unraced.new.self.collecting h l o is.stands
     opened whole has c.install_unraced.result (returns-in-Ok-None-clause-core g c) c.install_unraced.ensures.collected
-    (install_effects c.install_unraced.result) (returns-in-Ok-None-clause-carries g c h l o represents is opened whole lent).decides
+    (install_effects c.install_unraced.result)
+    (StandsOpen g.D.Held.HeldFile.bytes c.install_unraced.new.self.core c.install_unraced.new.self.merging) (λ k x s. s.stands)
+    (returns-in-Ok-None-clause-stands g c state h l o told is opened files whole lent)
+
+pub returns-in-Ok-None-clause-passing : goal.returns-in-Ok-None-clause-passing
+returns-in-Ok-None-clause-passing g c =
+    install_passes g.D.Held.HeldFile.bytes g.D.Writer.Writer c.args.job c.args.self.now.core c.install_unraced.new.self.core
+    c.args.self.now.collecting c.install_unraced.new.self.collecting c.install_unraced.result c.install_unraced.ensures.collected

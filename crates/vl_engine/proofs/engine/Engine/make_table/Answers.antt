@@ -1,6 +1,6 @@
 use Rattle.std.proofs.Common.{Global, List, Vec, [], ap, arith, refl, sym, ◌++◌, ◌∙◌, ◌∷◌, ℕ}
 use Rattle.vl_block.specs.declared.shape.TableShape.{TableShape}
-use Rattle.vl_engine.proofs.Collected.{leads_same}
+use Rattle.vl_engine.proofs.Collected.{keeps_readied, leads_same}
 use Rattle.vl_engine.proofs.Switching.{has_flushed}
 use Rattle.vl_engine.specs.Collecting.{points_in}
 use Rattle.vl_table.specs.declared.table.Table.{Table}
@@ -163,3 +163,19 @@ returns-in-Ok-write_and_switch-clause-collected g c =
     ∙ ap (λ (ls : Vec (List (Table g.row.D-Held.Denot)) Global).
     (c.of.result ∷ ready.version.levels.newest.items) ++ all_tables ls.items) c.with_table.ensures.deeper)
     c.head_of.ensures c.switch.ensures.passing c.switch.ensures.flush
+
+pub returns-in-Err-clause-collected : goal.returns-in-Err-clause-collected
+returns-in-Err-clause-collected g c =
+    keeps_readied g.D.Held.HeldFile.bytes c.args.self.now.core c.args.self.now.collecting c.live_with.new.self
+    c.in-Ok-live_with.ensures.readied
+
+pub invariant_of-self-in_default-live_with : goal.invariant_of-self-in_default-live_with
+invariant_of-self-in_default-live_with g c =
+    let core = c.args.self.now.core in
+    record {
+      ready = λ disk told. c.args.self.now.ready disk (sym c.in-Ok.ensures.no_change.told ∙ told);
+      numbered = c.args.self.now.numbered;
+      lent = still_lent g.D.Watched c.args.self.now.disk c.ready_flush.new.disk core.back.state.next_table core.back.state.next_table
+          c.args.self.now.merging (omega arith) c.in-Ok.ensures.lent c.args.self.now.lent;
+      known = c.args.self.now.known;
+    }

@@ -1,13 +1,17 @@
-use Rattle.std.proofs.Common.{Ok, Option, Some, ap, refl, subst, sym, ◌∙◌}
+use Rattle.std.proofs.Common.{Global, Ok, Option, Some, Vec, ap, refl, subst, sym, ◌∙◌}
+use Rattle.vl_seglog.specs.declared.sealed.SealedLog.{SealedLog}
 use Rattle.vl_compact.specs.Progress.{made_of}
 use Rattle.vl_disk.specs.declared.errors.NoMemory.{NoMemory}
 use Rattle.vl_core.specs.laws.Carrying.{IsWatched}
 use Rattle.vl_engine.proofs.UnderWay.{just_planned}
 use Rattle.vl_core.specs.declared.kept.Core.{Core}
 use Rattle.vl_engine.proofs.Whole.{begun, collects_so, given_up, given_up_collecting, goes_on, none_kept, put_in}
-use Rattle.vl_engine.proofs.Whole.{put_in_collecting, untouched_by, untouched_collecting}
+use Rattle.vl_engine.proofs.Switching.{install_idle}
+use Rattle.vl_engine.proofs.Whole.{put_in_collecting, unless_halted, untouched_by, untouched_collecting}
+use Rattle.vl_engine.specs.declared.fails.InstallFail.TheVariants as fails
 use Rattle.vl_engine.specs.Merging.{HasAllMerge, OpensMerge}
 use Rattle.vl_engine.specs.Whole.{kept_of}
+use Rattle.vl_engine.specs.declared.open.Collecting.{Collecting}
 use Rattle.vl_layout.specs.Jobs.{AreLent}
 use Rattle.vl_layout.specs.Rulings.Plan.{plan_ruling}
 use Rattle.vl_layout.specs.declared.job.Job.{Job}
@@ -157,7 +161,8 @@ returns-in-Err-clause-collects g c h l is stands fits has =
     let collects = collects_so c.args.self.now.core c.carry_out.new.self.core c.args.self.now.collecting
     c.carry_out.new.self.collecting l makes.stays.layout s.same (makes.levels ∙ opened.tables.levels)
     (makes.flushed ∙ opened.tables.flushed)
-    (c.carry_out.ensures.logs ∙ ap (λ (k : Core g.row.D-Held.Denot). k.version.behind.logs.items) c.plan.ensures.core)
+    (ap (λ (v : Vec (SealedLog g.row.D-Held.Denot) Global). v.items) c.carry_out.ensures.logs
+    ∙ ap (λ (k : Core g.row.D-Held.Denot). k.version.behind.logs.items) c.plan.ensures.core)
     (c.carry_out.ensures.collecting ∙ c.plan.ensures.collecting) has in
     given_up_collecting g.D.Watched bytes c.args.self.now.disk c.carry_out.new.self.disk c.abandon.new.self.disk
     c.carry_out.new.self.core c.abandon.new.self.core c.carry_out.new.self.merging c.abandon.new.self.merging
@@ -179,7 +184,8 @@ returns-in-Ok-clause-collects g c h l is stands fits has =
     let collects = collects_so c.args.self.now.core c.carry_out.new.self.core c.args.self.now.collecting
     c.carry_out.new.self.collecting l makes.stays.layout s.same (makes.levels ∙ opened.tables.levels)
     (makes.flushed ∙ opened.tables.flushed)
-    (c.carry_out.ensures.logs ∙ ap (λ (k : Core g.row.D-Held.Denot). k.version.behind.logs.items) c.plan.ensures.core)
+    (ap (λ (v : Vec (SealedLog g.row.D-Held.Denot) Global). v.items) c.carry_out.ensures.logs
+    ∙ ap (λ (k : Core g.row.D-Held.Denot). k.version.behind.logs.items) c.plan.ensures.core)
     (c.carry_out.ensures.collecting ∙ c.plan.ensures.collecting) has in
     let whole = subst (λ (j : Job). HasAllMerge g.D.Writer.Writer bytes c.carry_out.new.job j) (sym makes.job_is) makes.whole in
     let lent = subst (λ (j : Job). AreLent makes.open_job.lent (made_of c.carry_out.new.job j)) (sym makes.job_is) makes.lent in
@@ -188,7 +194,12 @@ returns-in-Ok-clause-collects g c h l is stands fits has =
     (makes.running ∙ opened.alike) c.install.new.self.collecting makes.open_job.job (made_of c.carry_out.new.job makes.open_job.job) _ _
     (c.in-Ok.ensures.carries h s.layout makes.open_job s.represents s.stands makes.is_open whole lent)
     (c.in-Ok.ensures.fits h s.layout makes.open_job s.stands makes.is_open whole lent s.fits)
-    (c.in-Ok.ensures.collects h s.layout makes.open_job s.represents s.stands makes.is_open whole lent collects) in
+    (unless_halted c.carry_out.new.self.core (g.D.Watched.told c.carry_out.new.self.disk) h s.layout s.stands.stands.fronts s.fits _
+    (λ state told files. c.in-Ok.ensures.collects state h s.layout makes.open_job told s.stands makes.is_open files whole lent collects)
+    (λ name halted. install_idle c.carry_out.new.self.core c.install.new.self.core c.carry_out.new.self.collecting
+    c.install.new.self.collecting _ h s.layout makes.open_job.job (made_of c.carry_out.new.job makes.open_job.job) _ (fails.Halted name)
+    _ (c.in-Ok.ensures.halted name halted) c.in-Ok.ensures.core (c.in-Ok.ensures.idle name halted) collects
+    (c.in-Ok.ensures.carries h s.layout makes.open_job s.represents s.stands makes.is_open whole lent).decides)) in
     given_up_collecting g.D.Watched bytes c.args.self.now.disk c.install.new.self.disk c.install.new.self.disk
     c.install.new.self.core c.install.new.self.core _ c.install.new.self.merging c.install.new.self.collecting
     c.install.new.self.collecting h l put.stays put.collects refl refl c.in-Ok.ensures.handed refl
@@ -208,7 +219,8 @@ returns-in-Err-install-clause-collects g c h l is stands fits has =
     let collects = collects_so c.args.self.now.core c.carry_out.new.self.core c.args.self.now.collecting
     c.carry_out.new.self.collecting l makes.stays.layout s.same (makes.levels ∙ opened.tables.levels)
     (makes.flushed ∙ opened.tables.flushed)
-    (c.carry_out.ensures.logs ∙ ap (λ (k : Core g.row.D-Held.Denot). k.version.behind.logs.items) c.plan.ensures.core)
+    (ap (λ (v : Vec (SealedLog g.row.D-Held.Denot) Global). v.items) c.carry_out.ensures.logs
+    ∙ ap (λ (k : Core g.row.D-Held.Denot). k.version.behind.logs.items) c.plan.ensures.core)
     (c.carry_out.ensures.collecting ∙ c.plan.ensures.collecting) has in
     let whole = subst (λ (j : Job). HasAllMerge g.D.Writer.Writer bytes c.carry_out.new.job j) (sym makes.job_is) makes.whole in
     let lent = subst (λ (j : Job). AreLent makes.open_job.lent (made_of c.carry_out.new.job j)) (sym makes.job_is) makes.lent in
@@ -217,8 +229,36 @@ returns-in-Err-install-clause-collects g c h l is stands fits has =
     (makes.running ∙ opened.alike) c.install.new.self.collecting makes.open_job.job (made_of c.carry_out.new.job makes.open_job.job) _ _
     (c.in-Err-install.ensures.carries h s.layout makes.open_job s.represents s.stands makes.is_open whole lent)
     (c.in-Err-install.ensures.fits h s.layout makes.open_job s.stands makes.is_open whole lent s.fits)
-    (c.in-Err-install.ensures.collects h s.layout makes.open_job s.represents s.stands makes.is_open whole lent collects) in
+    (unless_halted c.carry_out.new.self.core (g.D.Watched.told c.carry_out.new.self.disk) h s.layout s.stands.stands.fronts s.fits _
+    (λ state told files. c.in-Err-install.ensures.collects state h s.layout makes.open_job told s.stands makes.is_open
+    files whole lent collects)
+    (λ name halted. install_idle c.carry_out.new.self.core c.install.new.self.core c.carry_out.new.self.collecting
+    c.install.new.self.collecting _ h s.layout makes.open_job.job (made_of c.carry_out.new.job makes.open_job.job) _ (fails.Halted name)
+    _ (c.in-Err-install.ensures.halted name halted) c.in-Err-install.ensures.core (c.in-Err-install.ensures.idle name halted) collects
+    (c.in-Err-install.ensures.carries h s.layout makes.open_job s.represents s.stands makes.is_open whole lent).decides)) in
     given_up_collecting g.D.Watched bytes c.args.self.now.disk c.install.new.self.disk c.given_up.new.self.disk
     c.install.new.self.core c.given_up.new.self.core _ c.given_up.new.self.merging c.install.new.self.collecting
     c.given_up.new.self.collecting h l put.stays put.collects c.given_up.ensures.disk c.given_up.ensures.core
     c.given_up.ensures.merging c.given_up.ensures.collecting
+
+-- which pass is open
+
+pub returns-in_err-job-clause-passing : goal.returns-in_err-job-clause-passing
+returns-in_err-job-clause-passing g c = ap (λ (k : Collecting). k.passing) c.plan.ensures.collecting
+
+pub returns-in_default-clause-passing : goal.returns-in_default-clause-passing
+returns-in_default-clause-passing g c = ap (λ (k : Collecting). k.passing) c.plan.ensures.collecting
+
+pub returns-in-Err-clause-passing : goal.returns-in-Err-clause-passing
+returns-in-Err-clause-passing g c =
+    ap (λ (k : Collecting). k.passing)
+    (c.abandon.ensures.collecting ∙ c.carry_out.ensures.collecting ∙ c.plan.ensures.collecting)
+
+pub returns-in-Ok-clause-passing : goal.returns-in-Ok-clause-passing
+returns-in-Ok-clause-passing g c =
+    c.in-Ok.ensures.passing ∙ ap (λ (k : Collecting). k.passing) (c.carry_out.ensures.collecting ∙ c.plan.ensures.collecting)
+
+pub returns-in-Err-install-clause-passing : goal.returns-in-Err-install-clause-passing
+returns-in-Err-install-clause-passing g c =
+    ap (λ (k : Collecting). k.passing) c.given_up.ensures.collecting ∙ c.in-Err-install.ensures.passing
+    ∙ ap (λ (k : Collecting). k.passing) (c.carry_out.ensures.collecting ∙ c.plan.ensures.collecting)

@@ -7,6 +7,7 @@ use Rattle.vl_core.specs.laws.Opened.{opened_stands, opening_through, opens_stil
 use Rattle.vl_engine.proofs.engine.Engine.open.Goals as goal
 use Rattle.vl_core.specs.Found.{recovered}
 use Rattle.vl_core.specs.Known.{are_known}
+use Rattle.vl_engine.proofs.Readable.{begun_readable}
 use Rattle.vl_engine.proofs.TallyBegun.{sealed_begun}
 use Rattle.vl_engine.specs.Collecting.{AreSealed}
 use Rattle.vl_layout.specs.Start.{layout_at_start}
@@ -270,4 +271,5 @@ returns-clause-collects g c state read found h told is_read shown = record {
       (sealed_begun g.D.Held.HeldFile.bytes found h shown c.args.room c.in-Ok-recover.parts.sealed.items
       (c.in-Ok-recover.ensures.logs state read found told is_read));
   passing = refl;
+  readable = begun_readable found h shown c.args.room;
 }

@@ -19,7 +19,8 @@ use Rattle.vl_layout.specs.Rulings.Pick.{NoRewrite, pick_ruling}
 
 pub returns-in-None-clause-stands : goal.returns-in-None-clause-stands
 returns-in-None-clause-stands g c h l is has =
-    decides_leaving (StandsOpen g.D.Held.HeldFile.bytes c.args.self.now.core c.args.self.now.merging) h l (pick_ruling l h c.args.percent) (as_before l l) NoRewrite l
+    decides_leaving (StandsOpen g.D.Held.HeldFile.bytes c.args.self.now.core c.args.self.now.merging) h l
+    (pick_ruling l h c.args.percent) (as_before l l) NoRewrite l
     (is_none l h c.args.percent (sym c.is_unfair.ensures ∙ c.if-is_unfair.false) (sym c.in_default.is ∙ has.passing)
     (sym c.in-None.is ∙ c.best.ensures (layout_logs l) l h is.stands.tidy
     (c.in-Ok.ensures.readied.tallied h l is.stands has.tally)
@@ -27,7 +28,8 @@ returns-in-None-clause-stands g c h l is has =
 
 pub returns-in-None-clause-represents : goal.returns-in-None-clause-represents
 returns-in-None-clause-represents g c h l is has =
-    decides_leaving (Represents g.D.Held.HeldFile.bytes c.args.self.now.core (g.D.Watched.told c.args.self.now.disk)) h l (pick_ruling l h c.args.percent) (as_before l l) NoRewrite l
+    decides_leaving (Represents g.D.Held.HeldFile.bytes c.args.self.now.core (g.D.Watched.told c.args.self.now.disk)) h
+    l (pick_ruling l h c.args.percent) (as_before l l) NoRewrite l
     (is_none l h c.args.percent (sym c.is_unfair.ensures ∙ c.if-is_unfair.false) (sym c.in_default.is ∙ has.passing)
     (sym c.in-None.is ∙ c.best.ensures (layout_logs l) l h is.stands.tidy
     (c.in-Ok.ensures.readied.tallied h l is.stands has.tally)
@@ -35,7 +37,8 @@ returns-in-None-clause-represents g c h l is has =
 
 pub returns-in-None-clause-fits : goal.returns-in-None-clause-fits
 returns-in-None-clause-fits g c h l is has fits =
-    decides_leaving (Fits (g.D.Watched.told c.args.self.now.disk) c.args.self.now.core) h l (pick_ruling l h c.args.percent) (as_before l l) NoRewrite l
+    decides_leaving (Fits (g.D.Watched.told c.args.self.now.disk) c.args.self.now.core) h l
+    (pick_ruling l h c.args.percent) (as_before l l) NoRewrite l
     (is_none l h c.args.percent (sym c.is_unfair.ensures ∙ c.if-is_unfair.false) (sym c.in_default.is ∙ has.passing)
     (sym c.in-None.is ∙ c.best.ensures (layout_logs l) l h is.tidy
     (c.in-Ok.ensures.readied.tallied h l is has.tally)
@@ -43,17 +46,21 @@ returns-in-None-clause-fits g c h l is has fits =
 
 pub returns-in-None-clause-collects : goal.returns-in-None-clause-collects
 returns-in-None-clause-collects g c h l is has =
-    decides_leaving (λ k x. Collects c.args.self.now.core c.ready.new.self x) h l (pick_ruling l h c.args.percent) (as_before l l) NoRewrite l
+    decides_leaving (λ k x. Collects c.args.self.now.core c.ready.new.self x) h l (pick_ruling l h c.args.percent)
+    (as_before l l) NoRewrite l
     (is_none l h c.args.percent (sym c.is_unfair.ensures ∙ c.if-is_unfair.false) (sym c.in_default.is ∙ has.passing)
     (sym c.in-None.is ∙ c.best.ensures (layout_logs l) l h is.tidy
     (c.in-Ok.ensures.readied.tallied h l is has.tally)
-    (c.head_of.ensures ∙ head_is_laid g.D.Held.HeldFile.bytes c.args.self.now.core h l is))) (collects_kept g.D.Held.HeldFile.bytes c.args.self.now.core c.args.self.now.core c.args.self.now.collecting c.ready.new.self h l is refl
+    (c.head_of.ensures ∙ head_is_laid g.D.Held.HeldFile.bytes c.args.self.now.core h l is)))
+    (collects_kept g.D.Held.HeldFile.bytes c.args.self.now.core c.args.self.now.core c.args.self.now.collecting
+    c.ready.new.self h l is refl
     (keeps_readied g.D.Held.HeldFile.bytes c.args.self.now.core c.args.self.now.collecting c.ready.new.self c.in-Ok.ensures.readied) has)
 
 pub returns-in-Some-best-clause-stands : goal.returns-in-Some-best-clause-stands
 returns-in-Some-best-clause-stands g c h l is has =
     let b = is_some l h c.args.percent (sym c.is_unfair.ensures ∙ c.if-is_unfair.false) (sym c.in_default.is ∙ has.passing)
-    c.in-Some-best.number (sym c.in-Some-best.is ∙ c.best.ensures (layout_logs l) l h is.stands.tidy (c.in-Ok.ensures.readied.tallied h l is.stands has.tally)
+    c.in-Some-best.number (sym c.in-Some-best.is
+    ∙ c.best.ensures (layout_logs l) l h is.stands.tidy (c.in-Ok.ensures.readied.tallied h l is.stands has.tally)
     (c.head_of.ensures ∙ head_is_laid g.D.Held.HeldFile.bytes c.args.self.now.core h l is.stands)) in
     subst (λ (k : Core g.row.D-Held.Denot). Decides (StandsOpen g.D.Held.HeldFile.bytes k c.begin_pass.new.self.merging) h l
     (pick_ruling l h c.args.percent) (as_before l l) (pick_outcome (pick_ruling l h c.args.percent).answer c.begin_pass.result) no_effects)
@@ -61,10 +68,15 @@ returns-in-Some-best-clause-stands g c h l is has =
     (subst (λ (m : Option OpenMerge). Decides (StandsOpen g.D.Held.HeldFile.bytes c.args.self.now.core m) h l
     (pick_ruling l h c.args.percent) (as_before l l) (pick_outcome (pick_ruling l h c.args.percent).answer c.begin_pass.result) no_effects)
     (sym c.begin_pass.ensures.merging)
-    (decides_begun l h c.args.percent (sym c.is_unfair.ensures ∙ c.if-is_unfair.false) (sym c.in_default.is ∙ has.passing) g.D.Held.HeldFile.bytes c.args.self.now.core is.stands c.in-Some-best.number b (StandsOpen g.D.Held.HeldFile.bytes c.args.self.now.core c.args.self.now.merging) c.begin_pass.result
+    (decides_begun l h c.args.percent (sym c.is_unfair.ensures ∙ c.if-is_unfair.false)
+    (sym c.in_default.is ∙ has.passing) g.D.Held.HeldFile.bytes c.args.self.now.core is.stands c.in-Some-best.number b
+    (StandsOpen g.D.Held.HeldFile.bytes c.args.self.now.core c.args.self.now.merging) c.begin_pass.result
     c.begin_pass.ensures.failed
     (λ pass ok. record {
-      stands = stands_passing (Some (record { segment = c.in-Some-best.number; pin = pin_of l })) h l g.D.Held.HeldFile.bytes c.args.self.now.core (tidy_then l h c.args.percent (sym c.is_unfair.ensures ∙ c.if-is_unfair.false) (sym c.in_default.is ∙ has.passing) g.D.Held.HeldFile.bytes c.args.self.now.core is.stands c.in-Some-best.number b) is.stands;
+      stands = stands_passing (Some (record { segment = c.in-Some-best.number; pin = pin_of l })) h l
+          g.D.Held.HeldFile.bytes c.args.self.now.core
+          (tidy_then l h c.args.percent (sym c.is_unfair.ensures ∙ c.if-is_unfair.false)
+          (sym c.in_default.is ∙ has.passing) g.D.Held.HeldFile.bytes c.args.self.now.core is.stands c.in-Some-best.number b) is.stands;
       opens = is.opens;
     })
     (λ why err. is)))
@@ -72,7 +84,8 @@ returns-in-Some-best-clause-stands g c h l is has =
 pub returns-in-Some-best-clause-represents : goal.returns-in-Some-best-clause-represents
 returns-in-Some-best-clause-represents g c h l is has =
     let b = is_some l h c.args.percent (sym c.is_unfair.ensures ∙ c.if-is_unfair.false) (sym c.in_default.is ∙ has.passing)
-    c.in-Some-best.number (sym c.in-Some-best.is ∙ c.best.ensures (layout_logs l) l h is.stands.tidy (c.in-Ok.ensures.readied.tallied h l is.stands has.tally)
+    c.in-Some-best.number (sym c.in-Some-best.is
+    ∙ c.best.ensures (layout_logs l) l h is.stands.tidy (c.in-Ok.ensures.readied.tallied h l is.stands has.tally)
     (c.head_of.ensures ∙ head_is_laid g.D.Held.HeldFile.bytes c.args.self.now.core h l is.stands)) in
     subst (λ (k : Core g.row.D-Held.Denot). Decides (Represents g.D.Held.HeldFile.bytes k (g.D.Watched.told c.begin_pass.new.self.disk)) h l
     (pick_ruling l h c.args.percent) (as_before l l) (pick_outcome (pick_ruling l h c.args.percent).answer c.begin_pass.result) no_effects)
@@ -80,15 +93,21 @@ returns-in-Some-best-clause-represents g c h l is has =
     (subst (λ (t : Option DiskState). Decides (Represents g.D.Held.HeldFile.bytes c.args.self.now.core t) h l
     (pick_ruling l h c.args.percent) (as_before l l) (pick_outcome (pick_ruling l h c.args.percent).answer c.begin_pass.result) no_effects)
     (sym (ap g.D.Watched.told c.begin_pass.ensures.disk))
-    (decides_begun l h c.args.percent (sym c.is_unfair.ensures ∙ c.if-is_unfair.false) (sym c.in_default.is ∙ has.passing) g.D.Held.HeldFile.bytes c.args.self.now.core is.stands c.in-Some-best.number b (Represents g.D.Held.HeldFile.bytes c.args.self.now.core (g.D.Watched.told c.args.self.now.disk)) c.begin_pass.result
+    (decides_begun l h c.args.percent (sym c.is_unfair.ensures ∙ c.if-is_unfair.false)
+    (sym c.in_default.is ∙ has.passing) g.D.Held.HeldFile.bytes c.args.self.now.core is.stands c.in-Some-best.number b
+    (Represents g.D.Held.HeldFile.bytes c.args.self.now.core (g.D.Watched.told c.args.self.now.disk)) c.begin_pass.result
     c.begin_pass.ensures.failed
-    (λ pass ok. represents_passing (Some (record { segment = c.in-Some-best.number; pin = pin_of l })) h l g.D.Held.HeldFile.bytes c.args.self.now.core (g.D.Watched.told c.args.self.now.disk) (tidy_then l h c.args.percent (sym c.is_unfair.ensures ∙ c.if-is_unfair.false) (sym c.in_default.is ∙ has.passing) g.D.Held.HeldFile.bytes c.args.self.now.core is.stands c.in-Some-best.number b) is)
+    (λ pass ok. represents_passing (Some (record { segment = c.in-Some-best.number; pin = pin_of l })) h l
+    g.D.Held.HeldFile.bytes c.args.self.now.core (g.D.Watched.told c.args.self.now.disk)
+    (tidy_then l h c.args.percent (sym c.is_unfair.ensures ∙ c.if-is_unfair.false) (sym c.in_default.is ∙ has.passing)
+    g.D.Held.HeldFile.bytes c.args.self.now.core is.stands c.in-Some-best.number b) is)
     (λ why err. is)))
 
 pub returns-in-Some-best-clause-fits : goal.returns-in-Some-best-clause-fits
 returns-in-Some-best-clause-fits g c h l is has fits =
     let b = is_some l h c.args.percent (sym c.is_unfair.ensures ∙ c.if-is_unfair.false) (sym c.in_default.is ∙ has.passing)
-    c.in-Some-best.number (sym c.in-Some-best.is ∙ c.best.ensures (layout_logs l) l h is.tidy (c.in-Ok.ensures.readied.tallied h l is has.tally)
+    c.in-Some-best.number (sym c.in-Some-best.is
+    ∙ c.best.ensures (layout_logs l) l h is.tidy (c.in-Ok.ensures.readied.tallied h l is has.tally)
     (c.head_of.ensures ∙ head_is_laid g.D.Held.HeldFile.bytes c.args.self.now.core h l is)) in
     subst (λ (k : Core g.row.D-Held.Denot). Decides (Fits (g.D.Watched.told c.begin_pass.new.self.disk) k) h l
     (pick_ruling l h c.args.percent) (as_before l l) (pick_outcome (pick_ruling l h c.args.percent).answer c.begin_pass.result) no_effects)
@@ -96,25 +115,34 @@ returns-in-Some-best-clause-fits g c h l is has fits =
     (subst (λ (t : Option DiskState). Decides (Fits t c.args.self.now.core) h l
     (pick_ruling l h c.args.percent) (as_before l l) (pick_outcome (pick_ruling l h c.args.percent).answer c.begin_pass.result) no_effects)
     (sym (ap g.D.Watched.told c.begin_pass.ensures.disk))
-    (decides_begun l h c.args.percent (sym c.is_unfair.ensures ∙ c.if-is_unfair.false) (sym c.in_default.is ∙ has.passing) g.D.Held.HeldFile.bytes c.args.self.now.core is c.in-Some-best.number b (Fits (g.D.Watched.told c.args.self.now.disk) c.args.self.now.core) c.begin_pass.result c.begin_pass.ensures.failed
-    (λ pass ok. fits_passing (Some (record { segment = c.in-Some-best.number; pin = pin_of l })) h l c.args.self.now.core (g.D.Watched.told c.args.self.now.disk) fits)
+    (decides_begun l h c.args.percent (sym c.is_unfair.ensures ∙ c.if-is_unfair.false)
+    (sym c.in_default.is ∙ has.passing) g.D.Held.HeldFile.bytes c.args.self.now.core is c.in-Some-best.number b
+    (Fits (g.D.Watched.told c.args.self.now.disk) c.args.self.now.core) c.begin_pass.result c.begin_pass.ensures.failed
+    (λ pass ok. fits_passing (Some (record { segment = c.in-Some-best.number; pin = pin_of l })) h l
+    c.args.self.now.core (g.D.Watched.told c.args.self.now.disk) fits)
     (λ why err. fits)))
 
 pub returns-in-Some-best-clause-collects : goal.returns-in-Some-best-clause-collects
 returns-in-Some-best-clause-collects g c h l is has =
     let b = is_some l h c.args.percent (sym c.is_unfair.ensures ∙ c.if-is_unfair.false) (sym c.in_default.is ∙ has.passing)
-    c.in-Some-best.number (sym c.in-Some-best.is ∙ c.best.ensures (layout_logs l) l h is.tidy (c.in-Ok.ensures.readied.tallied h l is has.tally)
+    c.in-Some-best.number (sym c.in-Some-best.is
+    ∙ c.best.ensures (layout_logs l) l h is.tidy (c.in-Ok.ensures.readied.tallied h l is has.tally)
     (c.head_of.ensures ∙ head_is_laid g.D.Held.HeldFile.bytes c.args.self.now.core h l is)) in
-    collects_begun l h c.args.percent (sym c.is_unfair.ensures ∙ c.if-is_unfair.false) (sym c.in_default.is ∙ has.passing) g.D.Held.HeldFile.bytes c.args.self.now.core is c.in-Some-best.number b c.begin_pass.new.self.core c.ready.new.self c.begin_pass.new.self.collecting
-    c.begin_pass.ensures.core (c.in-Ok.ensures.readied.tallied h l is has.tally) (c.in-Ok.ensures.readied.passing ∙ has.passing)
+    collects_begun l h c.args.percent (sym c.is_unfair.ensures ∙ c.if-is_unfair.false)
+    (sym c.in_default.is ∙ has.passing) g.D.Held.HeldFile.bytes c.args.self.now.core is c.in-Some-best.number b
+    c.begin_pass.new.self.core c.ready.new.self c.begin_pass.new.self.collecting
+    c.begin_pass.ensures.core (c.in-Ok.ensures.readied.tallied h l is has.tally)
+    (c.in-Ok.ensures.readied.passing ∙ has.passing) has.readable
     c.begin_pass.result c.begin_pass.ensures.collecting c.begin_pass.ensures.failed
 
 pub returns-in-Some-best-clause-pass : goal.returns-in-Some-best-clause-pass
-returns-in-Some-best-clause-pass g c h l is has files =
+returns-in-Some-best-clause-pass g c h l is has =
     let b = is_some l h c.args.percent (sym c.is_unfair.ensures ∙ c.if-is_unfair.false) (sym c.in_default.is ∙ has.passing)
-    c.in-Some-best.number (sym c.in-Some-best.is ∙ c.best.ensures (layout_logs l) l h is.tidy (c.in-Ok.ensures.readied.tallied h l is has.tally)
+    c.in-Some-best.number (sym c.in-Some-best.is
+    ∙ c.best.ensures (layout_logs l) l h is.tidy (c.in-Ok.ensures.readied.tallied h l is has.tally)
     (c.head_of.ensures ∙ head_is_laid g.D.Held.HeldFile.bytes c.args.self.now.core h l is)) in
-    picked_pass l h c.args.percent (sym c.is_unfair.ensures ∙ c.if-is_unfair.false) (sym c.in_default.is ∙ has.passing) g.D.Held.HeldFile.bytes c.args.self.now.core is c.in-Some-best.number b c.begin_pass.result c.begin_pass.ensures.begins files
+    picked_pass l h c.args.percent (sym c.is_unfair.ensures ∙ c.if-is_unfair.false) (sym c.in_default.is ∙ has.passing)
+    g.D.Held.HeldFile.bytes c.args.self.now.core is c.in-Some-best.number b c.begin_pass.result c.begin_pass.ensures.begins has.readable
 
 pub returns-in-Some-best-clause-looks : goal.returns-in-Some-best-clause-looks
 returns-in-Some-best-clause-looks g c h l is =

@@ -1,7 +1,7 @@
 use Rattle.std.proofs.Common.{arith, refl, subst, sym}
 use Rattle.vl_core.specs.Represents.{Fronts}
 use Rattle.vl_engine.proofs.Begins.{keeps_told}
-use Rattle.vl_engine.proofs.Collected.{refused_undone, rotate_collects, rotate_leaves, step_left}
+use Rattle.vl_engine.proofs.Collected.{refused_undone, rotate_collects, rotate_leaves, rotate_passes, step_left}
 use Rattle.vl_engine.proofs.Fitted.{rotate_refused, rotated_by}
 use Rattle.vl_engine.proofs.Leaving.{rotate_within}
 use Rattle.vl_engine.proofs.RotateSteps.{leaves_numbers, running_so}
@@ -175,3 +175,8 @@ returns-in-None-clause-collects g c h l is has collects =
     c.seal_active.new.self.disk c.args.self.now.collecting c.seal_active.new.self.collecting h l is collects c.seal_active.result
     c.seal_active.ensures.as_rotated c.seal_active.ensures.collected (Fronts c.seal_active.new.self.core)
     (rotate_effects c.seal_active.result) (returns-in-None-clause-decides g c h l is.fronts has is.tidy.true_logs.0)
+
+pub returns-in-None-clause-passing : goal.returns-in-None-clause-passing
+returns-in-None-clause-passing g c =
+    rotate_passes g.D.Held.HeldFile.bytes c.args.self.now.core c.seal_active.new.self.core c.args.self.now.collecting
+    c.seal_active.new.self.collecting c.seal_active.result c.seal_active.ensures.collected

@@ -1,4 +1,4 @@
-use Rattle.std.proofs.Common.{Global, Option, Vec, ap, subst, sym, ◌∙◌}
+use Rattle.std.proofs.Common.{Global, Option, Vec, ap, subst, ◌∙◌}
 use Rattle.vl_engine.proofs.Collected.{active_is}
 use Rattle.vl_engine.proofs.engine.Engine.stats.Goals as goal
 use Rattle.vl_engine.proofs.engine.Engine.stats.Goals.{in-None+in_ok-tally_of-in-None+in_ok-stats-in-None, in-Some+in_ok-stats-in-Some}

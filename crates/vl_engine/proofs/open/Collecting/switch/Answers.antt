@@ -1,4 +1,4 @@
-use Rattle.std.proofs.Common.{◌≡◌, Option, Some, refl, subst, sym}
+use Rattle.std.proofs.Common.{Option, subst}
 use Rattle.vl_engine.specs.Collecting.{IsTallied}
 use Rattle.vl_stats.specs.Tallies.{Tallied}
 use Rattle.vl_engine.proofs.open.Collecting.switch.Goals as goal
