@@ -5,7 +5,9 @@ use Rattle.std.specs.List.{AllByRecursion}
 use Rattle.std.specs.Option.{ForSome}
 use Rattle.std.specs.Str.{bytes_eq}
 use Rattle.std.proofs.lemmas.Slice.Eq.{bytes_eq-Decides}
-use Rattle.vl_collect.specs.Passing.{AreLeft, Gives, IsPass}
+use Rattle.vl_collect.specs.Passing.{AreLeft, EndAt, EndsAlike, Gives, IsPass, IsTornAt, IsWholeFrom, TornBehind}
+use Rattle.vl_collect.specs.Faults.{Counts, FailsPassing, IsOfLog, IsOfLooks, IsThere as IsThereIn, IsTheirs, LacksMemory, MayWhere, of_log, of_sources}
+use Rattle.vl_collect.specs.declared.fault.PassFault.{PassFault}
 use Rattle.vl_collect.specs.declared.pass.Pass.{Pass as ThePass}
 use Rattle.vl_collect.specs.laws.StandingLaws.{given}
 use Rattle.vl_core.specs.Lasts.{Lasts}
@@ -26,6 +28,11 @@ use Rattle.vl_layout.specs.declared.layout.Layout.{Layout}
 use Rattle.vl_model.specs.History.{History}
 use Rattle.vl_model.specs.declared.entry.Entry.{Entry}
 use Rattle.vl_seglog.specs.Stored.{stored_at}
+use Rattle.vl_seglog.specs.declared.fault.LogFault.{LogFault}
+use Rattle.vl_seglog.specs.declared.fault.LogFault.TheVariants as log
+use Rattle.vl_table.specs.CursorParts.{MayFailOn}
+use Rattle.vl_table.specs.declared.fault.TableFault.{TableFault}
+use Rattle.vl_table.specs.declared.fault.TableFault.TheVariants as table
 use Rattle.vl_seglog.specs.declared.sealed.SealedLog.{SealedLog}
 use Rattle.vl_table.specs.Kept.{Files}
 use Rattle.vl_table.specs.KeptBlocks.{AreKept}
@@ -33,7 +40,8 @@ use Rattle.vl_table.specs.declared.block_reader.BlockReader.{BlockReader}
 use Rattle.vl_version.specs.Bases.{Fits, HasSources}
 use Rattle.vl_version.specs.declared.base.Base.{Base}
 use Rattle.vl_replay.specs.Failing.{IsPass as NamesPass}
-use Rattle.vl_replay.specs.Passing.{IsOpenPass, IsPassing, Passes}
+use Rattle.vl_replay.specs.Halts.{HaltsByDamage}
+use Rattle.vl_replay.specs.Passing.{IsOpenPass, IsPassing, Passes, halt_at}
 use Rattle.vl_replay.specs.Replaying.{MakesStep, StandsIn, state_by}
 use Rattle.vl_replay.specs.Sequential.{IsTold, State, history_of}
 use Rattle.vl_replay.specs.Standing.{Corresponds, open_in}
@@ -206,9 +214,10 @@ module _ {H R : Type 0} (bytes : H → Option (List ℕ)) (ts : List (Name × Th
 
   -- It goes on with what it gave.
   pub goes_on : (batch : Option (List Candidate)) → batch ≡ (next_batch going.pass).0 → new.batch ≡ batch
+      → EndsAlike bytes old.pass.log old.pass.at.place new.pass.at.place
       → GoesOver bytes new.pass (next_batch going.pass).1
       → IsPassing bytes new (named name (APass (next_batch going.pass).1 batch) ts) l
-  goes_on batch gave is goes = record {
+  goes_on batch gave is ends goes = record {
     pass = (next_batch going.pass).1;
     is_open = going.is_open;
     goes = goes;
@@ -224,6 +233,8 @@ module _ {H R : Type 0} (bytes : H → Option (List ℕ)) (ts : List (Name × Th
         ∙ sym keeps_name)
         (same_or_not q name);
     lasts = subst (λ (x : SealedLog H). Lasts bytes x l) (sym log) going.lasts;
+    whole = subst (λ (x : SealedLog H). IsWholeFrom bytes x new.pass.at.place) (sym log)
+        (λ told tells. ends told (length told) tells (going.whole told tells));
     batch = λ cs e. subst (λ (x : SealedLog H). AreThere bytes x cs) (sym log)
         (given_there bytes old.pass going.pass going.goes cs (sym gave ∙ sym is ∙ e));
   }
@@ -239,10 +250,11 @@ module _ {H R : Type 0} (bytes : H → Option (List ℕ)) (core : Core H) (colle
   there_is = ap (thing_in s.things) name_is ∙ before.is_open.there ∙ ap (λ (b : Option (List Candidate)). Some (APass p b)) none
 
   pub passes_then : (batch : Option (List Candidate)) → new.batch ≡ batch → batch ≡ (next_batch p).0
+      → EndsAlike bytes old.pass.log old.pass.at.place new.pass.at.place
       → GoesOver bytes new.pass (next_batch p).1
       → Passes bytes core collecting (Some new) (batch_by s name (thing_of s name)).state.things
       (batch_by s name (thing_of s name)).state.layout
-  passes_then batch is gave goes =
+  passes_then batch is gave ends goes =
       subst (λ (y : Step). Passes bytes core collecting (Some new) y.state.things y.state.layout)
       (sym (ap (batch_by s name) there_is ∙ ap (found_by s name (next_batch p)) (sym gave))) (of batch is gave)
     where
@@ -252,10 +264,48 @@ module _ {H R : Type 0} (bytes : H → Option (List ℕ)) (core : Core H) (colle
       of None is gave = record {
         collects = before.collects;
         is_open = goes_on bytes s.things s.layout name old new before.is_open name_is keeps_name
-            (ap (λ (x : ThePass (Base H R) H). x.log) kept) (ap (λ (x : ThePass (Base H R) H). x.base) kept) None gave is goes;
+            (ap (λ (x : ThePass (Base H R) H). x.log) kept) (ap (λ (x : ThePass (Base H R) H). x.base) kept) None gave is ends goes;
       }
       of (Some batch) is gave = record {
         collects = before.collects;
         is_open = goes_on bytes s.things s.layout name old new before.is_open name_is keeps_name
-            (ap (λ (x : ThePass (Base H R) H). x.log) kept) (ap (λ (x : ThePass (Base H R) H). x.base) kept) (Some batch) gave is goes;
+            (ap (λ (x : ThePass (Base H R) H). x.log) kept) (ap (λ (x : ThePass (Base H R) H). x.base) kept) (Some batch) gave is ends goes;
       }
+
+-- ---- why it may fail
+
+module _ {H R : Type 0} (bytes : H → Option (List ℕ)) (pass : ThePass (Base H R) H) (p : Pass) (goes : GoesOver bytes pass p)
+    (whole : IsWholeFrom bytes pass.log pass.at.place) where
+  -- its log isn't damaged
+  pub untorn : (found : ℕ) → TornBehind bytes pass.log pass.at.place found → ⊥
+  untorn found torn =
+      let is = torn goes.told goes.tells in
+      let within = is.torn.within in
+      let last = is.ends (length goes.told) (whole goes.told goes.tells) in
+      omega (arith, within, last)
+
+  no_log_damage : (told : LogFault) → IsThereIn (TornBehind bytes pass.log pass.at.place) told → HaltsByDamage {T = Answer} (Err (halt_at (of_log told))) → ⊥
+  no_log_damage log.NoMemory is halts = halts
+  no_log_damage (log.Disk name) is halts = halts
+  no_log_damage (log.Damaged name place) is halts = untorn place is
+
+  no_table_damage : (told : TableFault) → MayFailOn bytes (tables_in pass.base.version) told
+      → HaltsByDamage {T = Answer} (Err (halt_at (of_sources told))) → ⊥
+  no_table_damage table.NoMemory had halts = halts
+  no_table_damage (table.Disk name) had halts = halts
+  no_table_damage (table.Damaged name place) had halts = absurd had
+
+  pub no_damage : (fits : Type 0) → fits → (is_read : TableFault → Bool) (number : ℕ) (c : Counts) (fault : PassFault)
+      → FailsPassing is_read (MayWhere fits (MayFailOn bytes (tables_in pass.base.version))) number
+      (TornBehind bytes pass.log pass.at.place) c fault → HaltsByDamage {T = Answer} (Err (halt_at fault)) → ⊥
+  no_damage fits there is_read number c fault fails halts = ⊎_elim
+      (λ (of : IsOfLooks is_read (MayWhere fits (MayFailOn bytes (tables_in pass.base.version))) c fault). ⊎_elim
+          (λ (lacks : LacksMemory c.sources_before c.sources_after fault).
+          subst (λ (f : PassFault). HaltsByDamage {T = Answer} (Err (halt_at f))) lacks.is halts)
+          (λ (theirs : IsTheirs is_read (MayWhere fits (MayFailOn bytes (tables_in pass.base.version))) c.sources_before c.sources_after fault).
+          no_table_damage theirs.told (theirs.had there)
+          (subst (λ (f : PassFault). HaltsByDamage {T = Answer} (Err (halt_at f))) theirs.is halts))
+          of.fails)
+      (λ (of : IsOfLog number (TornBehind bytes pass.log pass.at.place) c fault).
+      no_log_damage of.told of.damage (subst (λ (f : PassFault). HaltsByDamage {T = Answer} (Err (halt_at f))) of.is halts))
+      fails

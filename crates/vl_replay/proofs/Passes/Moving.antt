@@ -3,6 +3,7 @@ use Rattle.std.proofs.Common.{◌≡◌, ⊎_elim, ℕ, ◌≤◌, ◌+◌, nat_
 use Rattle.std.specs.Prelude.{Option, None, Some, Ok, Err, Result, OnOk, IsTrue}
 use Rattle.std.specs.List.{AllByRecursion, filter}
 use Rattle.std.specs.Option.{ForSome, option_map}
+use Rattle.vl_collect.specs.Passing.{IsWholeFrom}
 use Rattle.vl_collect.specs.declared.pass.Pass.{Pass as ThePass}
 use Rattle.vl_core.specs.Lasts.{Lasts}
 use Rattle.vl_core.specs.Represents as engine
@@ -344,6 +345,7 @@ module _ {H R : Type 0} (bytes : H → Option (List ℕ)) (seen now : Option Dis
                 (same_or_not q name);
             lasts = subst (λ (x : ThePass (Base H R) H). Lasts bytes x.log r.layout) (sym keeps_pass)
                 (lasts_same bytes going.pass.log l passes.is_open.lasts r.layout keeps.sealed keeps.number);
+            whole = subst (λ (x : ThePass (Base H R) H). IsWholeFrom bytes x.log x.at.place) (sym keeps_pass) passes.is_open.whole;
             batch = λ cs e. absurd (none_some cs (sym none ∙ e));
           };
         })

@@ -8,7 +8,10 @@ use Rattle.vl_replay.specs.Passing.{Passes}
 use Rattle.vl_script.specs.declared.answer.Answer.TheVariants as answers
 use Rattle.vl_replay.proofs.Names.BeginMaking.{none_or_some}
 use Rattle.vl_replay.proofs.Names.Making.{only_makes}
-use Rattle.vl_replay.proofs.Passes.Batching.{batch_makes, batch_unknown, none_named, other_named, own_name, passes_then, there_is}
+use Rattle.vl_replay.proofs.Passes.Batching.{batch_makes, batch_unknown, no_damage, none_named, other_named, own_name, passes_then, there_is}
+use Rattle.vl_replay.specs.Halts.{HaltsByDamage}
+use Rattle.vl_replay.specs.declared.fails.Halt.{Halt}
+use Rattle.vl_script.specs.declared.answer.Answer.{Answer}
 use Rattle.vl_replay.proofs.replayer.collecting.batch.Goals as goal
 
 pub returns-in_default-clause-makes : goal.returns-in_default-clause-makes
@@ -58,7 +61,7 @@ returns-in-Ok-Some-clause-passes g c s stands =
     (before.is_open.looks c.in_ok-reader.reader.looks (λ files. c.in_ok-reader.ensures.blocks files)) before.is_open.goes in
     passes_then bytes c.args.served.now.engine.core c.args.served.now.engine.collecting s.store c.args.name c.in-Some.going
     (record { name = c.in-Some.going.name; pass = c.next.new.self; batch = Some c.in-Ok-Some.batch }) before name_is none refl
-    c.next.ensures.kept (Some c.in-Ok-Some.batch) refl (sym c.in-Ok-Some.field-0-is ∙ gives.batch_is) gives.now
+    c.next.ensures.kept (Some c.in-Ok-Some.batch) refl (sym c.in-Ok-Some.field-0-is ∙ gives.batch_is) c.in-Ok-Some.ensures.ends gives.now
 
 pub returns-in-Ok-None-clause-makes : goal.returns-in-Ok-None-clause-makes
 returns-in-Ok-None-clause-makes g c s stands =
@@ -87,7 +90,13 @@ returns-in-Ok-None-clause-passes g c s stands =
     (before.is_open.looks c.in_ok-reader.reader.looks (λ files. c.in_ok-reader.ensures.blocks files)) before.is_open.goes in
     passes_then bytes c.args.served.now.engine.core c.args.served.now.engine.collecting s.store c.args.name c.in-Some.going
     (record { name = c.in-Some.going.name; pass = c.next.new.self; batch = c.in-Some.going.batch }) before name_is none refl
-    c.next.ensures.kept None none (sym c.in-Ok-None.field-0-is ∙ gives.batch_is) gives.now
+    c.next.ensures.kept None none (sym c.in-Ok-None.field-0-is ∙ gives.batch_is) c.in-Ok-None.ensures.ends gives.now
 
 pub returns-clause-undamaged : goal.returns-clause-undamaged
-returns-clause-undamaged g c = ?
+returns-clause-undamaged g c s stands halts =
+    let bytes = g.D.Held.HeldFile.bytes in
+    let before = subst (λ (o : Option _). Passes bytes c.args.served.now.engine.core c.args.served.now.engine.collecting o s.store.things
+    s.store.layout) c.in-Some.is stands.passes in
+    no_damage bytes c.in-Some.going.pass before.is_open.pass before.is_open.goes before.is_open.whole _
+    (before.is_open.looks c.in_ok-reader.reader.looks (λ files. c.in_ok-reader.ensures.blocks files)) _ _ _ c.in-Err.fault c.in-Err.ensures.cause
+    (subst (λ (h : Halt). HaltsByDamage {T = Answer} (Err h)) c.halt_at.ensures halts)
