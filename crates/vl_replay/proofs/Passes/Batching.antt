@@ -38,7 +38,10 @@ use Rattle.vl_table.specs.Kept.{Files}
 use Rattle.vl_table.specs.KeptBlocks.{AreKept}
 use Rattle.vl_table.specs.declared.block_reader.BlockReader.{BlockReader}
 use Rattle.vl_version.specs.Bases.{Fits, HasSources}
+use Rattle.vl_version.specs.Sources.{tables_in}
 use Rattle.vl_version.specs.declared.base.Base.{Base}
+use Rattle.vl_table.specs.laws.TrueBlocks.{no_bad_block}
+use Rattle.vl_replay.proofs.CarryingJob.{is_at}
 use Rattle.vl_replay.specs.Failing.{IsPass as NamesPass}
 use Rattle.vl_replay.specs.Halts.{HaltsByDamage}
 use Rattle.vl_replay.specs.Passing.{IsOpenPass, IsPassing, Passes, halt_at}
@@ -293,7 +296,10 @@ module _ {H R : Type 0} (bytes : H → Option (List ℕ)) (pass : ThePass (Base 
       → HaltsByDamage {T = Answer} (Err (halt_at (of_sources told))) → ⊥
   no_table_damage table.NoMemory had halts = halts
   no_table_damage (table.Disk name) had halts = halts
-  no_table_damage (table.Damaged name place) had halts = absurd had
+  no_table_damage (table.Damaged name place) (i, t, found, named, bad) halts =
+      let has = goes.base.had in
+      let (es, its) = is_at bytes (tables_in pass.base.version) has.tabled i t has.tables found in
+      no_bad_block bytes t es place its (bad _ its.told)
 
   pub no_damage : (fits : Type 0) → fits → (is_read : TableFault → Bool) (number : ℕ) (c : Counts) (fault : PassFault)
       → FailsPassing is_read (MayWhere fits (MayFailOn bytes (tables_in pass.base.version))) number
