@@ -6,4 +6,5 @@ pub mod Named
 pub mod Picking
 pub mod Standing
 pub mod Stepping
+pub mod Telling
 pub mod Used
