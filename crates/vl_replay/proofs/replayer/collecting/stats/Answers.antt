@@ -21,4 +21,4 @@ returns-clause-makes g c s passing stands =
     only_makes bytes (g.D.Watched.told c.args.served.now.engine.disk) core os s stands.serves os (step_of s.store store_lines.Stats)
     (answers.Segments c.in_ok-segments.segments) (store_lines.Segments (stats_ruling l h).answer) refl
     (ap store_lines.Segments (ap (λ (xs : List SegmentLine). map stat_told xs) c.in_ok-segments.ensures ∙ told_back c.deref.result.now
-    ∙ c.deref.ensures ∙ c.in_ok-stats.ensures h l stands.serves.engine stands.passes.collects)) stands.serves.names
+    ∙ c.deref.ensures.value ∙ c.in_ok-stats.ensures h l stands.serves.engine stands.passes.collects)) stands.serves.names
