@@ -6,5 +6,6 @@ pub mod Named
 pub mod Picking
 pub mod Standing
 pub mod Stepping
+pub mod Telling
 pub mod Undamaged
 pub mod Used

@@ -4,11 +4,15 @@ use Rattle.std.specs.Prelude.{Option, None, Some, Ok, Err}
 use Rattle.vl_layout.specs.Store.Dispatch.{batch_by}
 use Rattle.vl_layout.specs.Store.Lines as store_lines
 use Rattle.vl_layout.specs.Store.Things.{thing_of}
+use Rattle.vl_replay.specs.Halts.{HaltsByDamage}
 use Rattle.vl_replay.specs.Passing.{Passes}
+use Rattle.vl_replay.specs.declared.fails.Halt.{Halt}
+use Rattle.vl_script.specs.declared.answer.Answer.{Answer}
 use Rattle.vl_script.specs.declared.answer.Answer.TheVariants as answers
 use Rattle.vl_replay.proofs.Names.BeginMaking.{none_or_some}
 use Rattle.vl_replay.proofs.Names.Making.{only_makes}
 use Rattle.vl_replay.proofs.Passes.Batching.{batch_makes, batch_unknown, none_named, other_named, own_name, passes_then, there_is}
+use Rattle.vl_replay.proofs.Passes.Undamaged.{undamaged}
 use Rattle.vl_replay.proofs.replayer.collecting.batch.Goals as goal
 
 pub returns-in_default-clause-makes : goal.returns-in_default-clause-makes
@@ -91,4 +95,10 @@ returns-in-Ok-None-clause-passes g c s stands =
     c.next.ensures.kept None none (sym c.in-Ok-None.field-0-is ∙ gives.batch_is) gives.now c.in-Ok-None.ensures.ends
 
 pub returns-clause-undamaged : goal.returns-clause-undamaged
-returns-clause-undamaged g c = ?
+returns-clause-undamaged g c s stands halts =
+    let bytes = g.D.Held.HeldFile.bytes in
+    let before = subst (λ (o : Option _). Passes bytes c.args.served.now.engine.core c.args.served.now.engine.collecting o s.store.things
+    s.store.layout) c.in-Some.is stands.passes in
+    undamaged bytes c.in-Some.going s.store.things s.store.layout before.is_open c.in_ok-reader.reader.looks
+    (before.is_open.looks c.in_ok-reader.reader.looks (λ files. c.in_ok-reader.ensures.blocks files)) _ _ c.in-Err.fault c.in-Err.ensures.cause
+    (subst (λ (h : Halt). HaltsByDamage {T = Answer} (Err h)) c.halt_at.ensures halts)
