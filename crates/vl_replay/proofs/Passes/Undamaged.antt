@@ -90,7 +90,7 @@ module _ {H R : Type 0} (bytes : H → Option (List ℕ)) (passing : Passing (Ba
 
   -- So no line on the pass halts by damage.
   pub undamaged : {T : Type 0} (fault : PassFault) → FailsPassing is_read may passing.pass.log.number bad counts fault
-      → HaltsByDamage {T} (Err (halt_at fault)) → ⊥
+      → HaltsByDamage {T = T} (Err (halt_at fault)) → ⊥
   undamaged faults.NoMemory fails halts = halts
   undamaged (faults.Disk name) fails halts = halts
   undamaged (faults.Damaged name place) fails halts = none_damaged name place fails
