@@ -1,9 +1,7 @@
 -- The merge that waits can be handed in, and still can behind a call of the engine that leaves it alone.
 use Rattle.std.proofs.Common.{◌≡◌, ℕ, Bool, true, false, ◌&&◌, not, List, [], ◌∷◌, refl, ap, sym, ◌∙◌, subst}
 use Rattle.std.proofs.lemmas.List.Elements.{recursion_from_All}
-use Rattle.std.specs.List.{AllByRecursion}
 use Rattle.std.specs.Prelude.{Option, None, Some, IsSome, Ok, Err, OnOk, Result, is_some}
-use Rattle.std.specs.Option.{ForSome}
 use Rattle.vl_compact.specs.declared.files.Synced.{Synced}
 use Rattle.vl_compact.specs.declared.job.Job.{Job}
 use Rattle.vl_disk.specs.DiskState.{DiskState}
@@ -16,7 +14,7 @@ use Rattle.vl_engine.specs.declared.open.OpenMerge.{OpenMerge}
 use Rattle.vl_layout.specs.Jobs.{AreDistinct}
 use Rattle.vl_model.specs.Numbers.{has}
 use Rattle.vl_replay.specs.Handed.{CanHandIn, MayHandIn, are_distinct}
-use Rattle.vl_replay.specs.declared.fails.Halt.{Halt}
+use Rattle.vl_sequential.specs.declared.fails.Halt.{Halt}
 use Rattle.vl_replay.specs.declared.replayer.planned.Planned.{Planned}
 
 none_some : {T : Type 0} (x : T) → None ≡ Some x → ⊥
