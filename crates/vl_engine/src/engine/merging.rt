@@ -4,7 +4,7 @@ ghost use Rattle.vl_engine.specs.Installing.{IsHandedIn};
 ghost use Rattle.vl_engine.specs.Merging.{FitsReaders, HasMerge, StandsOpen};
 ghost use Rattle.vl_core.specs.Represents.{Represents};
 ghost use Rattle.vl_core.specs.MayStep.{Fits};
-ghost use Rattle.vl_engine.specs.UnderWay.{IsUnderWay};
+ghost use Rattle.vl_engine.specs.UnderWay.{GivesUp, IfHandedBack, IsUnderWay};
 ghost use Rattle.vl_engine.specs.Whole.{MakesTables, StaysCollecting, StaysFor, kept_of};
 ghost use Rattle.vl_layout.specs.Rulings.Plan.{plan_ruling};
 ghost use Rattle.vl_layout.specs.declared.job.OpenJob.{OpenJob};
@@ -71,6 +71,8 @@ impl<D: Disk> Engine<D> {
         requires { IsUnderWay D.Watched D.Writer.Writer self.old.disk self.old.core.front.halted self.old.merging job.old }
         ensures handed { OnOk result (IsHandedIn D.Watched D.Writer.Writer self.new.disk self.new.core.front.halted
             self.new.merging job.new) }
+        ensures under_way { IsUnderWay D.Watched D.Writer.Writer self.new.disk self.new.core.front.halted self.new.merging job.new }
+        ensures pins { self.new.removing.pins ≡ self.old.removing.pins }
         ensures collecting { self.new.collecting ≡ self.old.collecting }
         ensures logs { self.new.core.version.behind.logs ≡ self.old.core.version.behind.logs }
 
@@ -100,17 +102,21 @@ impl<D: Disk> Engine<D> {
         &mut self,
         fail: InstallFail<Base<D::Held, D::Reader>, D::Held, D::Writer>,
     ) -> MergeFail
-        ensures merging { self.new.merging ≡ None }
+        requires { IfHandedBack D.Watched D.Writer.Writer self.old.disk self.old.core.front.halted self.old.merging fail }
+        ensures merging { self.old.merging ≡ None → self.new.merging ≡ None }
+        ensures ended { GivesUp fail self.old.removing self.new.removing self.old.merging self.new.merging }
         ensures collecting { self.new.collecting ≡ self.old.collecting }
         ensures core { self.new.core ≡ self.old.core }
         ensures disk { self.new.disk ≡ self.old.disk }
     {
-        self.merging = None;
         match fail {
             InstallFail::Halted { name } => MergeFail::Halted { name },
             InstallFail::Raced { .. } => MergeFail::Raced,
             InstallFail::Exhausted(counter) => MergeFail::Exhausted(counter),
-            InstallFail::NoMemory(_) => MergeFail::NoMemory,
+            InstallFail::NoMemory(job) => {
+                self.leave(job);
+                MergeFail::NoMemory
+            }
             InstallFail::Disk { name } => MergeFail::Disk { name },
         }
     }
