@@ -44,8 +44,8 @@ use Rattle.vl_table.specs.laws.TrueBlocks.{no_bad_block}
 use Rattle.vl_version.specs.Bases.{Fits}
 use Rattle.vl_version.specs.Sources.{tables_in}
 use Rattle.vl_version.specs.declared.base.Base.{Base}
-use Rattle.vl_replay.specs.Failing.{ByReader, ByWriter, ReaderFailed, beside}
-use Rattle.vl_replay.specs.Halts.{HaltsByDisk, HaltsByReader}
+use Rattle.vl_sequential.specs.Failing.{ByReader, ByWriter, ReaderFailed, beside}
+use Rattle.vl_sequential.specs.Halts.{HaltsByDisk, HaltsByReader}
 use Rattle.vl_replay.specs.Handed.{MayHandIn, are_distinct}
 use Rattle.vl_replay.specs.Rounds.{HasLent, halt_by}
 use Rattle.vl_replay.proofs.CarryingLists.{all_among, all_more, apart_all, more_distinct}

@@ -8,7 +8,7 @@ pub mod Disk
 pub mod Merges
 pub mod Names
 pub mod Openings
+pub mod Passes
 pub mod Runs
 pub mod Serving
 pub mod Trials
-pub mod Words

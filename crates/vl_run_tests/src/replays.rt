@@ -126,6 +126,42 @@ const RUNS: &str = "\
     trial 49 0|||begin t;set t 61 *65*;commit t;rotate;flush;begin t;del t 61;commit t;rotate;flush;begin t;set t 62 01;commit t;\
         rotate;flush;begin t;set t 63 01;commit t;rotate;flush;plan j;install j;|ok 0;ok;ok 1;ok 1;ok 1;ok 1;ok;ok 2;ok 2;ok 2;ok 2;\
         ok;ok 3;ok 3;ok 3;ok 3;ok;ok 4;ok 4;ok 4;ok 2;ok;reopened 4;rows 2;62 01;63 01;|0\n\
+    replay .|||begin t;set t 61 *64*;set t 62 *65*;commit t;rotate;flush;stats;|ok 0;ok;ok;ok 1;ok 1;ok 1;segments 2;\
+        segment 1 bytes 172 live 74;segment 2 bytes 0 live 0;|0\n\
+    replay .|||begin t;set t 61 *65*;commit t;rotate;flush;view v;begin t;set t 61 *66*;commit t;rotate;flush;pick g 1;batch g;\
+        move g;batch g;drop g;get v 61;view w;get w 61;stats;|ok 0;ok;ok 1;ok 1;ok 1;ok 1;ok 1;ok;ok 2;ok 2;ok 2;ok 1;found 1;\
+        moved 1;end;ok;value *65*;ok 2;value *66*;segments 3;segment 1 bytes 99 live 74;segment 2 bytes 100 live 75;\
+        segment 3 bytes 99 live 0;|0\n\
+    replay .|||begin t;set t 61 *65*;commit t;rotate;flush;begin t;del t 61;commit t;rotate;flush;begin t;set t 62 01;commit t;\
+        rotate;flush;begin t;set t 63 01;commit t;rotate;flush;pick g 1;batch g;plan j;move g;install j;view v;get v 61;plan k;\
+        install k;get v 61;drop v;drop g;|ok 0;ok;ok 1;ok 1;ok 1;ok 1;ok;ok 2;ok 2;ok 2;ok 2;ok;ok 3;ok 3;ok 3;ok 3;ok;ok 4;ok 4;\
+        ok 4;ok 1;found 1;ok 2;moved 1;raced 61;ok 4;none;ok 3;ok;none;ok;ok;|0\n\
+    replay .|||begin t;set t 61 *65*;commit t;rotate;flush;begin t;del t 61;commit t;rotate;flush;begin t;set t 62 01;commit t;\
+        rotate;flush;begin t;set t 63 01;commit t;rotate;flush;pick g 1;batch g;plan j;install j;move g;batch g;drop g;view v;\
+        get v 61;get v 62;|ok 0;ok;ok 1;ok 1;ok 1;ok 1;ok;ok 2;ok 2;ok 2;ok 2;ok;ok 3;ok 3;ok 3;ok 3;ok;ok 4;ok 4;ok 4;ok 1;found 1;\
+        ok 2;ok;moved 0;end;ok;ok 4;none;value 01;|0\n\
+    replay .|||pick g 0;pick g 100;pick g 50;batch g;move g;drop g;|invalid;invalid;norewrite;unknown g;unknown g;unknown g;|0\n\
+    replay .|||begin t;set t 61 *65*;commit t;rotate;flush;pick g 1;pick h 1;pick h 0;pick g 1;begin g;view g;plan g;get g 61;\
+        move g;batch g;batch g;drop g;pick g 25;drop g;pick g 26;|ok 0;ok;ok 1;ok 1;ok 1;ok 1;rejected 1;invalid;taken g;taken g;\
+        taken g;taken g;unknown g;idle;found 1;taken g;ok;ok 1;ok;norewrite;|0\n\
+    trial 16 0|||begin t;set t 61 *65*;commit t;rotate;flush;pick g 1;batch g;move g;|ok 0;ok;ok 1;ok 1;ok 1;ok 1;found 1;\
+        reopened 1;rows 1;61 *65*;|0\n\
+    trial 16 1|||begin t;set t 61 *65*;commit t;rotate;flush;pick g 1;batch g;move g;|ok 0;ok;ok 1;ok 1;ok 1;ok 1;found 1;\
+        reopened 1;rows 1;61 *65*;|0\n\
+    trial 16 2|||begin t;set t 61 *65*;commit t;rotate;flush;pick g 1;batch g;move g;|ok 0;ok;ok 1;ok 1;ok 1;ok 1;found 1;\
+        reopened 1;rows 1;61 *65*;|0\n\
+    trial 17 0|||begin t;set t 61 *65*;commit t;rotate;flush;pick g 1;batch g;move g;|ok 0;ok;ok 1;ok 1;ok 1;ok 1;found 1;\
+        reopened 1;rows 1;61 *65*;|0\n\
+    trial 17 1|||begin t;set t 61 *65*;commit t;rotate;flush;pick g 1;batch g;move g;|ok 0;ok;ok 1;ok 1;ok 1;ok 1;found 1;\
+        reopened 1;rows 1;61 *65*;|0\n\
+    trial 17 2|||begin t;set t 61 *65*;commit t;rotate;flush;pick g 1;batch g;move g;|ok 0;ok;ok 1;ok 1;ok 1;ok 1;found 1;\
+        reopened 1;rows 1;61 *65*;|0\n\
+    trial 18 0|||begin t;set t 61 *65*;commit t;rotate;flush;pick g 1;batch g;move g;|ok 0;ok;ok 1;ok 1;ok 1;ok 1;found 1;moved 1;\
+        reopened 1;rows 1;61 *65*;|0\n\
+    trial 18 1|||begin t;set t 61 *65*;commit t;rotate;flush;pick g 1;batch g;move g;|ok 0;ok;ok 1;ok 1;ok 1;ok 1;found 1;moved 1;\
+        reopened 1;rows 1;61 *65*;|0\n\
+    trial 18 2|||begin t;set t 61 *65*;commit t;rotate;flush;pick g 1;batch g;move g;|ok 0;ok;ok 1;ok 1;ok 1;ok 1;found 1;moved 1;\
+        reopened 1;rows 1;61 *65*;|0\n\
     trial 1000000 0|||begin a;set a 61 01;commit a;|ok 0;ok;ok 1;reopened 1;rows 1;61 01;|0";
 
 /// Three commits: of two keys, of a deletion, and of an empty value. They make the calls 7 and 8, 9 and 10, 11 and 12.

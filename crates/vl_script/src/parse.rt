@@ -3,7 +3,7 @@ ghost use Rattle.std.specs.List.{list_all};
 ghost use Rattle.std.specs.Option.{option_map_or};
 ghost use Rattle.vl_script.specs.Script.{longest_ident, is_ident_byte, ident_of, bytes_of, words_of, line_of};
 ghost use Rattle.vl_script.specs.Script.{alone, ident_alone, named_key, ident_and_key, ident_and_two, with_number};
-ghost use Rattle.vl_script.specs.Script.{set_of, set_tagged_of, get_at_of, scan_of, keep_of};
+ghost use Rattle.vl_script.specs.Script.{set_of, set_tagged_of, get_at_of, scan_of, keep_of, pick_of};
 
 use crate::digits::decode;
 use crate::{Ident, Line, MAX_IDENT_BYTES, MAX_LINE_BYTES, find_byte, parse_number};
@@ -52,6 +52,14 @@ pub fn parse_line(alloc: Global, text: &[u8]) -> Result<Option<Line>, AllocError
         Ok(parse_ident_alone(alloc, rest)?.map(|name| Line::Plan { name }))
     } else if command == b"install".as_slice() {
         Ok(parse_ident_alone(alloc, rest)?.map(|name| Line::Install { name }))
+    } else if command == b"stats".as_slice() {
+        Ok(parse_alone(rest, Line::Stats))
+    } else if command == b"pick".as_slice() {
+        parse_pick(alloc, rest)
+    } else if command == b"batch".as_slice() {
+        Ok(parse_ident_alone(alloc, rest)?.map(|name| Line::Batch { name }))
+    } else if command == b"move".as_slice() {
+        Ok(parse_ident_alone(alloc, rest)?.map(|name| Line::Move { name }))
     } else {
         Ok(None)
     }
@@ -149,6 +157,26 @@ fn parse_keep(rest: Option<&[u8]>) -> Option<Line>
     Some(Line::Keep {
         versions: versions as u8,
     })
+}
+
+#[tactic(auto, using(crate::proofs::ScriptWords::pick_of_more))]
+fn parse_pick(alloc: Global, rest: Option<&[u8]>) -> Result<Option<Line>, AllocError>
+    ensures { IfOk result (λ line. line ≡ pick_of (option_map_or (λ rest. words_of rest.now) rest.entry [])) }
+{
+    let Some((name, Some(rest))) = rest.map(next_word) else {
+        return Ok(None);
+    };
+    let (percent, None) = next_word(rest) else {
+        return Ok(None);
+    };
+    let Some(percent) = parse_number(percent, 255) else {
+        return Ok(None);
+    };
+    let name = parse_ident(alloc, name)?;
+    Ok(name.map(|name| Line::Pick {
+        name,
+        percent: percent as u8,
+    }))
 }
 
 #[tactic(auto, using(crate::proofs::ScriptWords::set_of_more))]

@@ -26,24 +26,24 @@ use Rattle.vl_model.specs.History.{History}
 use Rattle.vl_model.specs.Limits.{max_file_number}
 use Rattle.vl_model.specs.declared.counter.Counter.{Counter}
 use Rattle.vl_replay.specs.Drawn.{DrawsOn, drawn_all, drawn_state}
-use Rattle.vl_replay.specs.Durable.{CarriesOut, CrashesShow, HoldsCommits, HoldsState, LeadsTo, StopsWithin}
-use Rattle.vl_replay.specs.Failing.{IsTableBetween}
-use Rattle.vl_replay.specs.Halts.{HaltsByDisk, HaltsByRead}
+use Rattle.vl_sequential.specs.Durable.{CarriesOut, CrashesShow, HoldsCommits, HoldsState, LeadsTo, StopsWithin}
+use Rattle.vl_sequential.specs.Failing.{IsTableBetween}
+use Rattle.vl_sequential.specs.Halts.{HaltsByDisk, HaltsByRead}
 use Rattle.vl_replay.specs.Replaying.{state_by_plan}
-use Rattle.vl_replay.specs.Sequential.{State, history_of, state_after, step_to}
-use Rattle.vl_replay.specs.Stopped.{AreNumberedUpTo, GivesUpTo, StopsStep, step_failed}
-use Rattle.vl_replay.specs.Stored.{IsStopped, IsStored}
-use Rattle.vl_replay.specs.declared.fails.Halt.{Halt}
-use Rattle.vl_replay.specs.declared.fails.Halt.TheVariants as halts
+use Rattle.vl_sequential.specs.Sequential.{State, history_of, state_after, step_to}
+use Rattle.vl_sequential.specs.Stopped.{AreNumberedUpTo, GivesUpTo, StopsStep, step_failed}
+use Rattle.vl_sequential.specs.Stored.{IsStopped, IsStored}
+use Rattle.vl_sequential.specs.declared.fails.Halt.{Halt}
+use Rattle.vl_sequential.specs.declared.fails.Halt.TheVariants as halts
 use Rattle.vl_replay.specs.declared.replayer.open.Open.{Open}
-use Rattle.vl_replay.specs.laws.Growing.{plan_commits}
-use Rattle.vl_replay.specs.laws.Laws.{IsSound}
+use Rattle.vl_sequential.specs.laws.Growing.{plan_commits}
+use Rattle.vl_sequential.specs.laws.Laws.{IsSound}
 use Rattle.vl_replay.specs.Standing.{Stand, open_in}
 use Rattle.vl_script.specs.declared.answer.Answer.{Answer}
 use Rattle.vl_script.specs.declared.answer.Answer.TheVariants as answers
 use Rattle.vl_script.specs.declared.line.Line.TheVariants as lines
-use Rattle.vl_replay.proofs.Disk.DiskSteps.{IsWatched}
-use Rattle.vl_replay.proofs.Disk.Held.{stored_by}
+use Rattle.vl_sequential.specs.laws.DiskSteps.{IsWatched}
+use Rattle.vl_sequential.specs.laws.HeldDisk.{stored_by}
 use Rattle.vl_replay.proofs.Merges.Filling.{drawn_next, fill_more}
 use Rattle.vl_replay.proofs.Merges.Planned.{Plans, drawn_beside, planned_beside}
 use Rattle.vl_replay.proofs.Merges.Planning.{fills, planned_state, whole, whole_is}

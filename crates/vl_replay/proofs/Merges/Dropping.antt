@@ -22,25 +22,25 @@ use Rattle.vl_layout.specs.declared.job.OpenJob.{OpenJob}
 use Rattle.vl_layout.specs.declared.layout.Layout.{Layout}
 use Rattle.vl_model.specs.History.{History}
 use Rattle.vl_version.specs.declared.base.Base.{Base}
-use Rattle.vl_replay.specs.Durable.{CarriesOut, HoldsState, LeadsTo}
+use Rattle.vl_sequential.specs.Durable.{CarriesOut, HoldsState, LeadsTo}
 use Rattle.vl_replay.specs.Replaying.{MakesStep, Merges, StandsIn, state_by}
-use Rattle.vl_replay.specs.Sequential.{State, history_of}
+use Rattle.vl_sequential.specs.Sequential.{State, history_of}
 use Rattle.vl_replay.specs.Standing.{Corresponds, Stand, open_in}
-use Rattle.vl_replay.specs.Stopped.{AreNumberedUpTo}
-use Rattle.vl_replay.specs.Stored.{IsStopped, IsStored}
-use Rattle.vl_replay.specs.declared.fails.Halt.{Halt}
+use Rattle.vl_sequential.specs.Stopped.{AreNumberedUpTo}
+use Rattle.vl_sequential.specs.Stored.{IsStopped, IsStored}
+use Rattle.vl_sequential.specs.declared.fails.Halt.{Halt}
 use Rattle.vl_replay.specs.declared.replayer.open.Open.{Open}
 use Rattle.vl_replay.specs.declared.replayer.open.Thing.{Thing as Opened}
 use Rattle.vl_replay.specs.declared.replayer.open.Thing.TheVariants.{Transaction, View}
 use Rattle.vl_replay.specs.declared.replayer.planned.Planned.{Planned}
-use Rattle.vl_replay.specs.laws.Laws.{IsSound, state_after-sound}
+use Rattle.vl_sequential.specs.laws.Laws.{IsSound, state_after-sound}
 use Rattle.vl_script.specs.declared.answer.Answer.{Answer}
 use Rattle.vl_script.specs.declared.answer.Answer.TheVariants as answers
 use Rattle.vl_script.specs.declared.line.Line.TheVariants as lines
-use Rattle.vl_replay.proofs.Disk.DiskSteps.{IsWatched, opens_again, rests_until}
-use Rattle.vl_replay.proofs.Disk.Betweens.{extends_same}
-use Rattle.vl_replay.proofs.Disk.Held.{stored_by}
-use Rattle.vl_replay.proofs.Disk.Shown.{shown_stays, stored_exactly}
+use Rattle.vl_sequential.specs.laws.DiskSteps.{IsWatched, opens_again, rests_until}
+use Rattle.vl_sequential.specs.laws.Betweens.{extends_same}
+use Rattle.vl_sequential.specs.laws.HeldDisk.{stored_by}
+use Rattle.vl_sequential.specs.laws.ShownDisk.{shown_stays, stored_exactly}
 use Rattle.vl_replay.proofs.Merges.Planning.{IsBeside, ended_is_beside, stays_so}
 use Rattle.vl_replay.proofs.Names.Lookups.{taken_none, thing_gone, thing_left}
 use Rattle.vl_replay.proofs.Names.Standings.{same_or_not, stands_without}

@@ -31,25 +31,25 @@ use Rattle.vl_model.specs.Limits.{max_file_number}
 use Rattle.vl_model.specs.declared.counter.Counter.{Counter}
 use Rattle.vl_version.specs.declared.base.Base.{Base}
 use Rattle.vl_replay.specs.Drawn.{DrawsOn, EndsMerging, IsServing, Merged, drawn_all, drawn_state, numbers_from}
-use Rattle.vl_replay.specs.Durable.{CarriesOut, CrashesShow, HoldsState, LeadsTo}
-use Rattle.vl_replay.specs.Failing.{FailsAt, HasTables}
-use Rattle.vl_replay.specs.Halts.{HaltsByDamage, HaltsByDisk, HaltsByRead, HaltsByReader}
+use Rattle.vl_sequential.specs.Durable.{CarriesOut, CrashesShow, HoldsState, LeadsTo}
+use Rattle.vl_sequential.specs.Failing.{FailsAt, HasTables}
+use Rattle.vl_sequential.specs.Halts.{HaltsByDamage, HaltsByDisk, HaltsByRead, HaltsByReader}
 use Rattle.vl_replay.specs.Replaying.{MakesStep, Merges, StandsIn, state_by_plan}
-use Rattle.vl_replay.specs.Sequential.{State, history_of, state_after, step_to}
-use Rattle.vl_replay.specs.Stopped.{AreNumberedUpTo}
-use Rattle.vl_replay.specs.Stored.{IsStopped, IsStored}
-use Rattle.vl_replay.specs.declared.fails.Halt.{Halt}
-use Rattle.vl_replay.specs.declared.fails.Halt.TheVariants as halts
+use Rattle.vl_sequential.specs.Sequential.{State, history_of, state_after, step_to}
+use Rattle.vl_sequential.specs.Stopped.{AreNumberedUpTo}
+use Rattle.vl_sequential.specs.Stored.{IsStopped, IsStored}
+use Rattle.vl_sequential.specs.declared.fails.Halt.{Halt}
+use Rattle.vl_sequential.specs.declared.fails.Halt.TheVariants as halts
 use Rattle.vl_replay.specs.declared.replayer.open.Open.{Open}
-use Rattle.vl_replay.specs.laws.Growing.{plan_commits}
+use Rattle.vl_sequential.specs.laws.Growing.{plan_commits}
 use Rattle.vl_replay.specs.Standing.{open_in}
 use Rattle.vl_script.specs.declared.answer.Answer.{Answer}
 use Rattle.vl_script.specs.declared.answer.Answer.TheVariants as answers
 use Rattle.vl_script.specs.declared.line.Line.TheVariants as lines
-use Rattle.vl_replay.proofs.Disk.Betweens.{extends_same}
-use Rattle.vl_replay.proofs.Disk.DiskSteps.{IsWatched, opens_again, rests_until}
-use Rattle.vl_replay.proofs.Disk.Held.{stored_by}
-use Rattle.vl_replay.proofs.Disk.Shown.{shown_stays, stored_exactly}
+use Rattle.vl_sequential.specs.laws.Betweens.{extends_same}
+use Rattle.vl_sequential.specs.laws.DiskSteps.{IsWatched, opens_again, rests_until}
+use Rattle.vl_sequential.specs.laws.HeldDisk.{stored_by}
+use Rattle.vl_sequential.specs.laws.ShownDisk.{shown_stays, stored_exactly}
 use Rattle.vl_replay.proofs.Merges.Carrying.{halted_leads}
 use Rattle.vl_replay.proofs.Merges.Filling.{drawn_next}
 use Rattle.vl_replay.proofs.Merges.Planned.{Plans}

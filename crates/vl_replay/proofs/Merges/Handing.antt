@@ -16,7 +16,7 @@ use Rattle.vl_engine.specs.declared.open.OpenMerge.{OpenMerge}
 use Rattle.vl_layout.specs.Jobs.{AreDistinct}
 use Rattle.vl_model.specs.Numbers.{has}
 use Rattle.vl_replay.specs.Handed.{CanHandIn, MayHandIn, are_distinct}
-use Rattle.vl_replay.specs.declared.fails.Halt.{Halt}
+use Rattle.vl_sequential.specs.declared.fails.Halt.{Halt}
 use Rattle.vl_replay.specs.declared.replayer.planned.Planned.{Planned}
 
 none_some : {T : Type 0} (x : T) → None ≡ Some x → ⊥

@@ -66,31 +66,31 @@ use Rattle.vl_model.specs.declared.entry.Entry.{Entry}
 use Rattle.vl_recover.specs.crash.Alike.{IsLeft}
 use Rattle.vl_recover.specs.crash.Held.{AllSettled}
 use Rattle.vl_version.specs.declared.base.Base.{Base}
-use Rattle.vl_replay.specs.Between.{ShowsBetween}
-use Rattle.vl_replay.specs.Durable.{CarriesOut, CrashesShow, HoldsCommits, HoldsState, LeadsTo, StopsWithin}
-use Rattle.vl_replay.specs.Failing.{IsTableOf}
-use Rattle.vl_replay.specs.Halts.{HaltsByDisk, HaltsByRead}
+use Rattle.vl_sequential.specs.Between.{ShowsBetween}
+use Rattle.vl_sequential.specs.Durable.{CarriesOut, CrashesShow, HoldsCommits, HoldsState, LeadsTo, StopsWithin}
+use Rattle.vl_sequential.specs.Failing.{IsTableOf}
+use Rattle.vl_sequential.specs.Halts.{HaltsByDisk, HaltsByRead}
 use Rattle.vl_replay.specs.Handed.{CanHandIn}
 use Rattle.vl_replay.specs.Replaying.{IsWaiting, MakesStep, Merges, StandsIn, TakesPlanned, Waits, state_by}
-use Rattle.vl_replay.specs.Sequential.{IsTold, State, history_of, state_after, step_to, without_lengths}
+use Rattle.vl_sequential.specs.Sequential.{IsTold, State, history_of, state_after, step_to, without_lengths}
 use Rattle.vl_replay.specs.Standing.{Corresponds, Stand, open_in}
-use Rattle.vl_replay.specs.Stopped.{AreNumberedUpTo, StopsStep, step_failed}
-use Rattle.vl_replay.specs.Stored.{IsStopped, IsStored}
-use Rattle.vl_replay.specs.declared.fails.Halt.{Halt}
-use Rattle.vl_replay.specs.declared.fails.Halt.TheVariants as why
+use Rattle.vl_sequential.specs.Stopped.{AreNumberedUpTo, StopsStep, step_failed}
+use Rattle.vl_sequential.specs.Stored.{IsStopped, IsStored}
+use Rattle.vl_sequential.specs.declared.fails.Halt.{Halt}
+use Rattle.vl_sequential.specs.declared.fails.Halt.TheVariants as why
 use Rattle.vl_replay.specs.declared.replayer.open.Open.{Open}
 use Rattle.vl_replay.specs.declared.replayer.open.Thing.{Thing as OpenThing}
 use Rattle.vl_replay.specs.declared.replayer.open.Thing.TheVariants.{Transaction, View}
 use Rattle.vl_replay.specs.declared.replayer.planned.Planned.{Planned}
-use Rattle.vl_replay.specs.laws.Growing.{Keeps}
-use Rattle.vl_replay.specs.laws.Laws.{IsSound, state_after-sound}
+use Rattle.vl_sequential.specs.laws.Growing.{Keeps}
+use Rattle.vl_sequential.specs.laws.Laws.{IsSound, state_after-sound}
 use Rattle.vl_script.specs.declared.answer.Answer.{Answer}
 use Rattle.vl_script.specs.declared.answer.Answer.TheVariants as answers
 use Rattle.vl_script.specs.declared.line.Line.TheVariants as lines
-use Rattle.vl_replay.proofs.Disk.Betweens.{extends_itself}
+use Rattle.vl_sequential.specs.laws.Betweens.{extends_itself}
 use Rattle.vl_replay.proofs.Disk.Carried.{quiet_carries}
-use Rattle.vl_replay.proofs.Disk.DiskSteps.{IsWatched}
-use Rattle.vl_replay.proofs.Disk.Held.{stored_by}
+use Rattle.vl_sequential.specs.laws.DiskSteps.{IsWatched}
+use Rattle.vl_sequential.specs.laws.HeldDisk.{stored_by}
 use Rattle.vl_replay.proofs.Disk.Stepped.{at_each, at_most}
 use Rattle.vl_replay.proofs.Merges.Handing.{handed_in}
 use Rattle.vl_replay.proofs.Merges.Installs.{InstallsOf, IsNoHalt, install_installs, unraced}
@@ -99,7 +99,7 @@ use Rattle.vl_replay.proofs.Names.Lookups.{taken_none, thing_gone, thing_left}
 use Rattle.vl_replay.proofs.Names.Making.{only_makes}
 use Rattle.vl_replay.proofs.Names.Serving.{represents}
 use Rattle.vl_replay.proofs.Names.Standings.{same_or_not, stands_without}
-use Rattle.vl_replay.proofs.Trials.TornSteps.{settled_torn, switching_torn}
+use Rattle.vl_sequential.specs.laws.TornSteps.{settled_torn, switching_torn}
 
 none_some : {T : Type 0} (x : T) → None ≡ Some x → ⊥
 none_some x e = cc

@@ -21,7 +21,7 @@ use Rattle.vl_model.specs.Conflicts.{Named, first_of}
 use Rattle.vl_model.specs.History.{History}
 use Rattle.vl_model.specs.declared.counter.Counter.TheVariants as counter
 use Rattle.vl_model.specs.declared.entry.Entry.{Entry}
-use Rattle.vl_replay.specs.Readers.{IsWithoutTables, is_table}
+use Rattle.vl_sequential.specs.Readers.{IsWithoutTables, is_table}
 use Rattle.vl_replay.proofs.Names.StepMaking.{none_before}
 
 -- ---- lists that have nothing

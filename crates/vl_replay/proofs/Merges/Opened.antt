@@ -15,7 +15,7 @@ use Rattle.vl_layout.specs.declared.job.Job.{Job}
 use Rattle.vl_version.specs.declared.base.Base.{Base}
 use Rattle.vl_replay.specs.Drawn.{IsPlanned}
 use Rattle.vl_replay.specs.Replaying.{StandsIn}
-use Rattle.vl_replay.specs.Sequential.{State, history_of}
+use Rattle.vl_sequential.specs.Sequential.{State, history_of}
 use Rattle.vl_replay.specs.declared.replayer.open.Open.{Open}
 use Rattle.vl_replay.proofs.Merges.Planned.{Plans}
 use Rattle.vl_replay.proofs.Merges.Planning.{planned_state}

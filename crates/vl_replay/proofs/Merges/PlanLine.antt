@@ -31,21 +31,21 @@ use Rattle.vl_model.specs.Limits.{max_file_number}
 use Rattle.vl_model.specs.declared.counter.Counter.{Counter}
 use Rattle.vl_version.specs.declared.base.Base.{Base}
 use Rattle.vl_replay.specs.Drawn.{EndsMerging, HasTablesFrom, IsPlanned, IsServing, Merged, drawn_state}
-use Rattle.vl_replay.specs.Durable.{CarriesOut, HoldsState}
-use Rattle.vl_replay.specs.Halts.{HaltsByDisk}
+use Rattle.vl_sequential.specs.Durable.{CarriesOut, HoldsState}
+use Rattle.vl_sequential.specs.Halts.{HaltsByDisk}
 use Rattle.vl_replay.specs.Handed.{CanHandIn, MayHandIn}
 use Rattle.vl_replay.specs.Replaying.{MakesStep, Merges, StandsIn, Waits}
-use Rattle.vl_replay.specs.Sequential.{IsTold, State, counted, history_of, state_after, step_to}
+use Rattle.vl_sequential.specs.Sequential.{IsTold, State, counted, history_of, state_after, step_to}
 use Rattle.vl_replay.specs.Standing.{open_in}
-use Rattle.vl_replay.specs.Stored.{IsStopped, IsStored}
-use Rattle.vl_replay.specs.declared.fails.Halt.{Halt}
+use Rattle.vl_sequential.specs.Stored.{IsStopped, IsStored}
+use Rattle.vl_sequential.specs.declared.fails.Halt.{Halt}
 use Rattle.vl_replay.specs.declared.replayer.open.Open.{Open}
 use Rattle.vl_replay.specs.declared.replayer.planned.Planned.{Planned}
 use Rattle.vl_script.specs.declared.answer.Answer.{Answer}
 use Rattle.vl_script.specs.declared.answer.Answer.TheVariants as answers
 use Rattle.vl_script.specs.declared.line.Line.TheVariants as lines
 use Rattle.vl_replay.proofs.Disk.Carried.{quiet_carries}
-use Rattle.vl_replay.proofs.Disk.DiskSteps.{IsWatched}
+use Rattle.vl_sequential.specs.laws.DiskSteps.{IsWatched}
 use Rattle.vl_replay.proofs.Merges.Carrying.{planned_held, whole_leads}
 use Rattle.vl_replay.proofs.Merges.Keeping.{KeepsMerges, same_jobs}
 use Rattle.vl_replay.proofs.Merges.Opened.{opened_planned}
@@ -55,18 +55,6 @@ use Rattle.vl_replay.proofs.Merges.Waiting.{is_waiting, merges_behind, waiting_f
 use Rattle.vl_replay.proofs.Names.BeginMaking.{bare_of, some_there}
 
 -- ---- none is planned
-
-taken_by : (s : things.State) (name : Name) (r : Ruling (Option Job)) (o : Option Thing) → is_some o ≡ true
-    → plan_as s name r o ≡ only (store_lines.Taken name) s
-taken_by s name r None is = absurd cc
-taken_by s name r (Some x) is = refl
-
--- the name is in use
-pub taken_step : (s : State) (name : Name) → is_some (thing_of s.store name) ≡ true
-    → step_to s (lines.Plan name) ≡ only (store_lines.Taken name) s.store
-taken_step s name is =
-    ap (λ (x : Step). record x { answer = counted x.answer })
-    (taken_by s.store name (plan_ruling s.store.layout (history_of s)) (thing_of s.store name) is)
 
 -- no merge is due, or one is open
 pub idle_step : (s : State) (name : Name) → thing_of s.store name ≡ None
@@ -112,28 +100,7 @@ module _ {W H R : Type 0} (w : Writers W) (bytes : H → Option (List ℕ)) {k :
   unplanned_merges = merges_behind w bytes merging merging' planned planned' same still s.store (step_to s (lines.Plan name))
       (subst (KeepsMerges s.store) (sym is) (record { job = refl; jobs = same_jobs s.store.things s.store.things refl })) merges
 
--- ---- which names are in use
-
-module _ {W H R : Type 0} (w : Writers W) (bytes : H → Option (List ℕ)) {k : Writers W} (planned : Option (Planned (Base H R) H W k))
-    (told : Option DiskState) (core : Core H) (os : List (Open H R)) (s : State) (stands : StandsIn bytes told core os s)
-    (waits : Waits w bytes planned s.store.things s.store.layout) (name : Name) where
-  -- a reader has it
-  pub opened_taken : is_some (open_in os name) ≡ true → step_to s (lines.Plan name) ≡ only (store_lines.Taken name) s.store
-  opened_taken is = taken_step s name
-      (some_there H R bytes (history_of s) s.store.layout (open_in os name) (thing_of s.store name) is (stands.names.each name))
-
-  -- the merge that waits has it, by the name as the call had it
-  module _ (q : Name) (same : q ≡ name) (waiting : Bool) (waiting_is : waiting ≡ is_waiting w bytes {g = k} q planned) where
-    pub waiting_taken : waiting ≡ true → step_to s (lines.Plan name) ≡ only (store_lines.Taken name) s.store
-    waiting_taken is = taken_step s name (waiting_there w bytes {g = k} planned s.store.things s.store.layout name waits
-        (subst (λ (n : Name). is_waiting w bytes {g = k} n planned ≡ true) same (sym waiting_is ∙ is)))
-
-    -- neither has
-    pub neither_taken : waiting ≡ false → open_in os name ≡ None → thing_of s.store name ≡ None
-    neither_taken is free =
-        bare_of bytes (history_of s) s.store.layout (open_in os name) (thing_of s.store name) free (stands.names.each name)
-        (waiting_free w bytes {g = k} planned s.store.things s.store.layout name waits
-        (subst (λ (n : Name). is_waiting w bytes {g = k} n planned ≡ false) same (sym waiting_is ∙ is)))
+-- ---- the merge that waits
 
 -- while one waits another isn't planned
 pub waiting_idle : {W H R : Type 0} (w : Writers W) (bytes : H → Option (List ℕ)) {k : Writers W}

@@ -18,7 +18,7 @@ use Rattle.vl_layout.specs.declared.layout.Layout.{Layout}
 use Rattle.vl_layout.specs.declared.table.Table.{Table}
 use Rattle.vl_model.specs.History.{History}
 use Rattle.vl_replay.specs.Drawn.{drawn_all}
-use Rattle.vl_replay.specs.Durable.{without_merges}
+use Rattle.vl_sequential.specs.Durable.{without_merges}
 
 none_some : {T : Type 0} (x : T) → None ≡ Some x → ⊥
 none_some x e = cc

@@ -39,23 +39,23 @@ use Rattle.vl_model.specs.declared.counter.Counter.{Counter}
 use Rattle.vl_model.specs.declared.counter.Counter.TheVariants as counters
 use Rattle.vl_version.specs.declared.base.Base.{Base}
 use Rattle.vl_replay.specs.Drawn.{DrawsOn, HasTablesFrom, IsPlanned, IsServing, Merged, drawn_all, drawn_state, numbers_from}
-use Rattle.vl_replay.specs.Durable.{HoldsCommits, HoldsState, LeadsTo, StopsWithin, without_merges}
-use Rattle.vl_replay.specs.Halts.{HaltsByDisk, HaltsByRead}
-use Rattle.vl_replay.specs.Readers.{IsReader, IsWithoutTables, is_table}
+use Rattle.vl_sequential.specs.Durable.{HoldsCommits, HoldsState, LeadsTo, StopsWithin, without_merges}
+use Rattle.vl_sequential.specs.Halts.{HaltsByDisk, HaltsByRead}
+use Rattle.vl_sequential.specs.Readers.{IsReader, IsWithoutTables, is_table}
 use Rattle.vl_replay.specs.Replaying.{IsWaiting, MakesStep, Merges, StandsIn, state_by, state_by_plan}
-use Rattle.vl_replay.specs.Sequential.{IsTold, State, answer_for, counted, history_of, state_after, step_to}
+use Rattle.vl_sequential.specs.Sequential.{IsTold, State, answer_for, counted, history_of, state_after, step_to}
 use Rattle.vl_replay.specs.Standing.{Corresponds, Stand, open_in}
-use Rattle.vl_replay.specs.Stopped.{StopsStep, step_failed}
-use Rattle.vl_replay.specs.Stored.{IsStopped, IsStored}
-use Rattle.vl_replay.specs.declared.fails.Halt.{Halt}
-use Rattle.vl_replay.specs.declared.fails.Halt.TheVariants as halts
+use Rattle.vl_sequential.specs.Stopped.{StopsStep, step_failed}
+use Rattle.vl_sequential.specs.Stored.{IsStopped, IsStored}
+use Rattle.vl_sequential.specs.declared.fails.Halt.{Halt}
+use Rattle.vl_sequential.specs.declared.fails.Halt.TheVariants as halts
 use Rattle.vl_replay.specs.declared.replayer.open.Open.{Open}
 use Rattle.vl_replay.specs.declared.replayer.planned.Planned.{Planned}
-use Rattle.vl_replay.specs.laws.Laws.{IsSound, state_after-sound}
+use Rattle.vl_sequential.specs.laws.Laws.{IsSound, state_after-sound}
 use Rattle.vl_script.specs.declared.answer.Answer.{Answer}
 use Rattle.vl_script.specs.declared.answer.Answer.TheVariants as answers
 use Rattle.vl_script.specs.declared.line.Line.TheVariants as lines
-use Rattle.vl_replay.proofs.Disk.Betweens.{extends_itself}
+use Rattle.vl_sequential.specs.laws.Betweens.{extends_itself}
 use Rattle.vl_replay.proofs.Merges.Counting.{kept_many, made_lent}
 use Rattle.vl_replay.proofs.Merges.Filling.{drawn_halted, drawn_lent, drawn_levels, drawn_live, drawn_next}
 use Rattle.vl_replay.proofs.Merges.Filling.{drawn_retired, fill_all, fill_more, fill_some}
@@ -268,7 +268,6 @@ module _ {H R : Type 0} (bytes : H → Option (List ℕ)) (told : Option DiskSta
                 (same_or_not other name);
             lent = subst (AreLent (numbers_from s.store.layout.next_table (total_of j))) (sym has.made)
                 (some_lent s name j (total_of j) (omega arith));
-            unmoved = refl;
           };
         })
 

@@ -27,14 +27,14 @@ use Rattle.vl_txn.specs.Refusals.{refused_key}
 use Rattle.vl_txn.specs.declared.key_fail.KeyFail.{KeyFail}
 use Rattle.vl_txn.specs.declared.key_fail.KeyFail.TheVariants.{EmptyKey, KeyTooLong}
 use Rattle.vl_replay.specs.Replaying.{MakesStep, OnlyNoMemory, StandsIn, state_by}
-use Rattle.vl_replay.specs.Sequential.{State, as_told, history_of, without_lengths}
+use Rattle.vl_sequential.specs.Sequential.{State, as_told, history_of, without_lengths}
 use Rattle.vl_replay.specs.Standing.{IsTaken, tell_of, told_by, told_value}
-use Rattle.vl_replay.specs.Failing.{ReaderFailed}
-use Rattle.vl_replay.specs.Halts.{HaltsByDamage, HaltsByDisk, HaltsByReader}
-use Rattle.vl_replay.specs.declared.fails.Halt.{Halt}
+use Rattle.vl_sequential.specs.Failing.{ReaderFailed}
+use Rattle.vl_sequential.specs.Halts.{HaltsByDamage, HaltsByDisk, HaltsByReader}
+use Rattle.vl_sequential.specs.declared.fails.Halt.{Halt}
 use Rattle.vl_replay.specs.declared.replayer.open.Open.{Open}
 use Rattle.vl_replay.specs.declared.replayer.open.Thing.TheVariants.{Transaction, View}
-use Rattle.vl_replay.specs.laws.Laws.{IsSound, state_after-sound}
+use Rattle.vl_sequential.specs.laws.Laws.{IsSound, state_after-sound}
 use Rattle.vl_script.specs.declared.answer.Answer.{Answer}
 use Rattle.vl_script.specs.declared.answer.Answer.TheVariants as answers
 use Rattle.vl_script.specs.declared.line.Line.TheVariants as lines

@@ -16,16 +16,16 @@ use Rattle.vl_model.specs.History.{History}
 use Rattle.vl_model.specs.Limits.{max_room}
 use Rattle.vl_recover.specs.crash.Meanwhile.{IsRepaired}
 use Rattle.vl_recover.specs.opening.Answers.{calls_to_open}
-use Rattle.vl_replay.specs.Durable.{HoldsState}
+use Rattle.vl_sequential.specs.Durable.{HoldsState}
 use Rattle.vl_replay.specs.Replaying.{StandsIn}
-use Rattle.vl_replay.specs.Sequential.{State, history_of}
+use Rattle.vl_sequential.specs.Sequential.{State, history_of}
 use Rattle.vl_replay.specs.Standing.{Stand}
-use Rattle.vl_replay.specs.Start.{StartsIn, start_proper}
-use Rattle.vl_replay.specs.Stored.{IsStored}
+use Rattle.vl_sequential.specs.Start.{StartsIn, start_proper}
+use Rattle.vl_sequential.specs.Stored.{IsStored}
 use Rattle.vl_replay.specs.declared.replayer.open.Open.{Open}
-use Rattle.vl_replay.specs.laws.Explained.{none_sound}
-use Rattle.vl_replay.proofs.Disk.Held.{stored_by}
-use Rattle.vl_replay.proofs.Openings.Recovering.{opened_numbered}
+use Rattle.vl_sequential.specs.laws.Explained.{none_sound}
+use Rattle.vl_sequential.specs.laws.HeldDisk.{stored_by}
+use Rattle.vl_sequential.specs.laws.Recovering.{opened_numbered}
 
 -- where no name stands for anything none does here
 none_stand : {H R : Type 0} (bytes : H → Option (List ℕ)) (h : History) (l : Layout) → Stand {R = R} bytes [] [] h l

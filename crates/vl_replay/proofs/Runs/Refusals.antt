@@ -9,16 +9,16 @@ use Rattle.vl_recover.specs.laws.opening.OneFinding.{same_used_up}
 use Rattle.vl_recover.specs.opening.Opening.{Opens}
 use Rattle.vl_recover.specs.opening.Opening as openings
 use Rattle.vl_recover.specs.laws.opening.OpeningLaws.{single_opening}
-use Rattle.vl_replay.specs.Endings.{refusal_line}
+use Rattle.vl_sequential.specs.Endings.{refusal_line}
 use Rattle.vl_recover.specs.declared.fails.OpenError.{OpenError}
 use Rattle.vl_recover.specs.declared.fails.OpenError.TheVariants as why
-use Rattle.vl_replay.specs.Opening.{IsRefused, why_refused}
+use Rattle.vl_sequential.specs.Opening.{IsRefused, why_refused}
 use Rattle.vl_engine.specs.Opening.{IsFault, AnswersOpening}
-use Rattle.vl_replay.specs.Steps.{CameFirst, EndsFor, EndsUnopened, Finishes}
-use Rattle.vl_replay.specs.declared.ending.Ending.{Ending}
-use Rattle.vl_replay.specs.declared.ending.Ending.TheVariants.{Refused}
-use Rattle.vl_replay.specs.declared.fails.Refusal.{Refusal}
-use Rattle.vl_replay.specs.declared.fails.Refusal.TheVariants.{NotAStore, NewerFormat, Damaged, Exhausted}
+use Rattle.vl_sequential.specs.Steps.{CameFirst, EndsFor, EndsUnopened, Finishes}
+use Rattle.vl_sequential.specs.declared.ending.Ending.{Ending}
+use Rattle.vl_sequential.specs.declared.ending.Ending.TheVariants.{Refused}
+use Rattle.vl_sequential.specs.declared.fails.Refusal.{Refusal}
+use Rattle.vl_sequential.specs.declared.fails.Refusal.TheVariants.{NotAStore, NewerFormat, Damaged, Exhausted}
 
 -- ---- one refusal
 

@@ -1,4 +1,4 @@
-use Rattle.vl_replay.specs.Sequential.{history_of}
+use Rattle.vl_sequential.specs.Sequential.{history_of}
 use Rattle.vl_replay.specs.declared.carrying.Round.{Round}
 use Rattle.vl_replay.proofs.CarryingJob.{filling_failed, fits_kept, fits_same, fits_taken, has_same, one_lent}
 use Rattle.vl_replay.proofs.CarryingJob.{reading_failed, sound_filling, sound_reading, still_lent}

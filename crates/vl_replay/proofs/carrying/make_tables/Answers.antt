@@ -17,6 +17,8 @@ pub tables-init : goal.tables-init
 tables-init g c = record {
   lent = just_planned g.D.Watched g.D.Writer.Writer c.args.engine.now.disk c.args.engine.now.merging c.args.job.now
       c.requires.open c.requires.new;
+  collecting = refl;
+  logs = refl;
   steady = refl;
   running = λ running. running;
   so_far = λ s j planned.
@@ -33,6 +35,8 @@ tables-preserved g c =
     let lent = rw c.in-Ok-Made.field-0-is at (c.in-Ok-Made.ensures.lent c.tables.invariant.lent) in
     record {
       lent = lent;
+      collecting = c.in-Ok-Made.ensures.collecting ∙ c.tables.invariant.collecting;
+      logs = c.in-Ok-Made.ensures.logs ∙ c.tables.invariant.logs;
       steady = c.in-Ok-Made.ensures.cause.steady (λ by. by) ∙ c.tables.invariant.steady;
       running = λ running. ap (λ (core : Core _). core.front.halted) (c.in-Ok-Made.ensures.drawn (ap Ok c.in-Ok-Made.field-0-is)).1
           ∙ c.tables.invariant.running running;

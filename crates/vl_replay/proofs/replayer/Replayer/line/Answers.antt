@@ -2,9 +2,9 @@
 use Rattle.std.proofs.Common.{sym, subst}
 use Rattle.std.specs.Prelude.{Err}
 use Rattle.vl_core.specs.Shown.{Shown}
-use Rattle.vl_replay.specs.Durable.{CarriesOut}
-use Rattle.vl_replay.specs.Sequential.{state_after}
-use Rattle.vl_replay.specs.Stored.{IsStopped, IsStored}
+use Rattle.vl_sequential.specs.Durable.{CarriesOut}
+use Rattle.vl_sequential.specs.Sequential.{state_after}
+use Rattle.vl_sequential.specs.Stored.{IsStopped, IsStored}
 use Rattle.vl_script.specs.declared.answer.Answer.{Answer}
 use Rattle.vl_replay.proofs.Merges.Carrying.{whole_leads}
 use Rattle.vl_replay.proofs.Merges.Opened.{opened_planned}

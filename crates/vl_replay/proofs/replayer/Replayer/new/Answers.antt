@@ -3,10 +3,10 @@ use Rattle.vl_layout.specs.declared.layout.Layout.{Layout}
 use Rattle.vl_replay.proofs.Merges.Waiting.{none_merges}
 use Rattle.vl_core.specs.Found.{IsDurable}
 use Rattle.vl_recover.specs.laws.opening.OneFinding.{opened_not}
-use Rattle.vl_replay.specs.Sequential.{history_of}
+use Rattle.vl_sequential.specs.Sequential.{history_of}
 use Rattle.vl_replay.proofs.Openings.Begun.{opened_holds, opened_stands}
-use Rattle.vl_replay.proofs.Openings.Recovering.{refused_not}
-use Rattle.vl_replay.proofs.Openings.Starting.{at_most}
+use Rattle.vl_sequential.specs.laws.Recovering.{refused_not}
+use Rattle.vl_sequential.specs.laws.Starting.{at_most}
 use Rattle.vl_replay.proofs.replayer.Replayer.new.Goals as goal
 
 pub returns-in-Err-clause-refused : goal.returns-in-Err-clause-refused
