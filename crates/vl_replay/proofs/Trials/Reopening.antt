@@ -23,7 +23,8 @@ use Rattle.vl_recover.specs.declared.fails.OpenError.{OpenError}
 use Rattle.vl_recover.specs.declared.fails.OpenError.TheVariants as why
 use Rattle.vl_sequential.specs.Durable.{HoldsState, Tells}
 use Rattle.vl_sequential.specs.Endings.{no_memory_line}
-use Rattle.vl_sequential.specs.Opening.{IsRefused, disk_behind, ending_unopened}
+use Rattle.vl_sequential.specs.Opening.{IsRefused, ending_unopened}
+use Rattle.vl_replay.specs.Opened.{disk_behind}
 use Rattle.vl_engine.specs.Opening.{AnswersOpening, IsDiskFault, IsFault, reader_faults, why_of}
 use Rattle.std.specs.Prelude.{Option as Maybe}
 use Rattle.vl_mem.specs.CrashImage.{crash_image}
