@@ -8,7 +8,7 @@ use Rattle.vl_io.specs.declared.sink.Sink as sink
 use Rattle.vl_layout.specs.Store.Lines as store
 use Rattle.vl_sequential.specs.laws.Laws.{IsSound}
 use Rattle.vl_script.specs.declared.answer.Answer.{Answer}
-use Rattle.vl_script.specs.declared.answer.Answer.TheVariants.{Done, Number}
+use Rattle.vl_script.specs.declared.answer.Answer.TheVariants.{Done, Moved, Number}
 use Rattle.vl_script.specs.declared.line.Line.{Line}
 use Rattle.vl_script.specs.Script.{line_of}
 use Rattle.vl_sequential.specs.Sequential.{State, answer_to, state_after, history_of, IsTold}

@@ -1,7 +1,7 @@
 use Rattle.std.proofs.Common.{◌∙◌, subst, List, ℕ}
 use Rattle.vl_sequential.specs.Steps.{Finishes}
 use Rattle.vl_sequential.specs.declared.ending.Ending.TheVariants.{Refused}
-use Rattle.vl_replay.proofs.Runs.Refusals.{refused_so}
+use Rattle.vl_sequential.proofs.Refused.{refused_so}
 use Rattle.vl_sequential.proofs.refusing.refuse.Goals as goal
 
 pub returns-in-Ok : goal.returns-in-Ok
