@@ -809,7 +809,8 @@ module _ {D H R W : Type 0} (g : Ghosts D) (w : Writers W) (bytes : H → Option
           let (calls_made, most, calls) = install_made_calls job _ _ _ file (says.stopped file is) in
           let may = says.failed failed in
           record {
-            ruled = sym (ap (λ (r : Ruling InstallAnswer). r.calls) (install_made_so layout its_history waits.open_job _ (goes_on failed may)));
+            ruled = sym (ap (λ (r : Ruling InstallAnswer). r.calls)
+                (install_made_so layout its_history waits.open_job _ (goes_on failed may)));
             calls_made = calls_made;
             most = most;
             calls = calls;

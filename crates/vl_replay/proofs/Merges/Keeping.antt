@@ -200,8 +200,8 @@ module _ (s : things.State) where
   pub only_keeps_work : (answer : Answer) → KeepsWork s (only answer s)
   only_keeps_work answer = quiet (only answer s) refl refl
 
-  with_reader : (x : Step) (name : Name) (thing : Thing) → IsReader thing → IsNoWork (thing_of s name) → work_of x.state.layout ≡ work_of s.layout
-      → x.state.things ≡ named name thing s.things → KeepsWork s x
+  with_reader : (x : Step) (name : Name) (thing : Thing) → IsReader thing → IsNoWork (thing_of s name)
+      → work_of x.state.layout ≡ work_of s.layout → x.state.things ≡ named name thing s.things → KeepsWork s x
   with_reader x name thing reads none layout same = record {
     layout = layout;
     names = subst (SameWork s.things) (sym same) (work_with s.things name none thing reads);

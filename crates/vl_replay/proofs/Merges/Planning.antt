@@ -257,7 +257,12 @@ module _ {H R : Type 0} (bytes : H → Option (List ℕ)) (told : Option DiskSta
         (sym (whole_is s name j plans running bare all)) (record {
           opens = serves.opens;
           waits = record {
-            open_job = record { job = j; pin = pin_of s.store.layout; moved = []; lent = numbers_from s.store.layout.next_table (total_of j) };
+            open_job = record {
+              job = j;
+              pin = pin_of s.store.layout;
+              moved = [];
+              lent = numbers_from s.store.layout.next_table (total_of j);
+            };
             is_open = lent_there s name j (total_of j);
             has = has.has;
             there = thing_put name (AJob j (made s name j (total_of j))) s.store.things ∙ ap (λ (m : Made). Some (AJob j m)) (sym has.made);

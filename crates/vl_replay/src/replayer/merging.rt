@@ -93,23 +93,29 @@ pub(super) fn plan<D: Disk>(
     name: Ident,
 ) -> Result<Answer, Halt>
     requires { CanHandIn D.Watched D.Writer.Writer served.old.engine.disk served.old.engine.merging planned.old }
-    ensures makes { (s : State) → StandsMerging D.Watched D.Writer.Writer D.Held.bytes served.old planned.old s → thing_of s.store name ≡ None
+    ensures makes { (s : State) → StandsMerging D.Watched D.Writer.Writer D.Held.bytes served.old planned.old s
+        → thing_of s.store name ≡ None
         → MakesStep D.Held.bytes (D.told served.new.engine.disk) served.new.engine.core served.new.opens.items s
         (step_to s (lines.Plan name)) result }
-    ensures merges { (s : State) → StandsMerging D.Watched D.Writer.Writer D.Held.bytes served.old planned.old s → thing_of s.store name ≡ None
+    ensures merges { (s : State) → StandsMerging D.Watched D.Writer.Writer D.Held.bytes served.old planned.old s
+        → thing_of s.store name ≡ None
         → OnOk result (MergesIn D.Writer.Writer D.Held.bytes served.new.engine.merging planned.new (step_to s (lines.Plan name)).state) }
-    ensures carries { (s : State) → StandsMerging D.Watched D.Writer.Writer D.Held.bytes served.old planned.old s → thing_of s.store name ≡ None
+    ensures carries { (s : State) → StandsMerging D.Watched D.Writer.Writer D.Held.bytes served.old planned.old s
+        → thing_of s.store name ≡ None
         → CarriesOut D.Watched IsStored Shown IsStopped served.old.engine.disk served.new.engine.disk s
         (state_after s (lines.Plan name)) result }
     // A read, or a write beside the disk, fails only where tables are merged. What it reads isn't damaged.
-    ensures sound { (s : State) → StandsMerging D.Watched D.Writer.Writer D.Held.bytes served.old planned.old s → thing_of s.store name ≡ None
+    ensures sound { (s : State) → StandsMerging D.Watched D.Writer.Writer D.Held.bytes served.old planned.old s
+        → thing_of s.store name ≡ None
         → HaltsByRead result → HasTables s }
-    ensures undamaged { (s : State) → StandsMerging D.Watched D.Writer.Writer D.Held.bytes served.old planned.old s → thing_of s.store name ≡ None
+    ensures undamaged { (s : State) → StandsMerging D.Watched D.Writer.Writer D.Held.bytes served.old planned.old s
+        → thing_of s.store name ≡ None
         → HaltsByDamage result → ⊥ }
     ensures fault { (s : State) → StandsMerging D.Watched D.Writer.Writer D.Held.bytes served.old planned.old s
         → HaltsByReader result → ReaderFailed (beside D.Reader.faults D.Writer.faults) }
     ensures cause { HasCause (D.faults served.old.engine.disk) (D.faults served.new.engine.disk) (HaltsByDisk result) }
-    ensures named { (s : State) (file : Name) → StandsMerging D.Watched D.Writer.Writer D.Held.bytes served.old planned.old s → thing_of s.store name ≡ None
+    ensures named { (s : State) (file : Name) → StandsMerging D.Watched D.Writer.Writer D.Held.bytes served.old planned.old s
+        → thing_of s.store name ≡ None
         → result ≡ Err (halts.Disk file) → FailsAt served.old.engine.core.back.manifest.number (lines.Plan name) s file }
     ensures collecting { served.new.engine.collecting ≡ served.old.engine.collecting }
     ensures logs { served.new.engine.core.version.behind.logs ≡ served.old.engine.core.version.behind.logs }

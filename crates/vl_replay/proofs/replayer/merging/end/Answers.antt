@@ -127,7 +127,8 @@ returns-in-None-clause-carries g c s stands no_pass =
     (drop_by s.store c.args.name (thing_of s.store c.args.name))
     (drop_keeps s.store c.args.name (thing_of s.store c.args.name)
     (only_reader s.store c.args.name none no_pass)) (Ok c.end.result)
-    (c.end.ensures.makes s stands.serves none no_pass) (λ halts. halts) c.args.served.now.engine.disk c.end.new.self.engine.disk c.end.ensures.disk
+    (c.end.ensures.makes s stands.serves none no_pass) (λ halts. halts)
+    c.args.served.now.engine.disk c.end.new.self.engine.disk c.end.ensures.disk
 
 pub returns-in-None-clause-handed : goal.returns-in-None-clause-handed
 returns-in-None-clause-handed g c =
