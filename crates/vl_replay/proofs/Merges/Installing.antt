@@ -686,10 +686,10 @@ module _ {D H R W : Type 0} (g : Ghosts D) (w : Writers W) (bytes : H → Option
 unraced_as : (merging : Option OpenMerge) (opened : Option OpenJob) (o : OpenJob) → Opens merging opened → opened ≡ Some o
     → ForSome merging (λ (merge : OpenMerge). race o.job merge.moved.items ≡ None) → race o.job o.moved ≡ None
 unraced_as None None o opens is unraced = absurd (none_some o is)
-unraced_as None (Some j) o opens is unraced = absurd opens
+unraced_as None (Some laid) o opens is unraced = absurd opens
 unraced_as (Some merge) None o opens is unraced = absurd opens
-unraced_as (Some merge) (Some j) o opens is unraced =
-    ap (race o.job) (ap (λ (x : OpenJob). x.moved) (sym (some_same j o is)) ∙ sym opens.moved) ∙ unraced
+unraced_as (Some merge) (Some laid) o opens is unraced =
+    ap (race o.job) (ap (λ (x : OpenJob). x.moved) (sym (some_same laid o is)) ∙ sym opens.moved) ∙ unraced merge refl
 
 -- a number that is among these has what each of them has
 each_has : (P : ℕ → Type 0) (ns : List ℕ) (n : ℕ) → AllByRecursion P ns → has n ns ≡ true → P n
