@@ -13,7 +13,7 @@ use Rattle.vl_disk.specs.declared.writer.Writer.{Ghosts as Writers}
 use Rattle.vl_engine.specs.Merging.{made_numbers}
 use Rattle.vl_core.specs.declared.kept.Core.{Core}
 use Rattle.vl_engine.specs.declared.open.OpenMerge.{OpenMerge}
-use Rattle.vl_layout.specs.Jobs.{Made, tables_made}
+use Rattle.vl_layout.specs.Jobs.{tables_made}
 use Rattle.vl_layout.specs.Merging.{outputs}
 use Rattle.vl_layout.specs.declared.job.Job.{Job}
 use Rattle.vl_model.specs.Limits.{max_file_number}

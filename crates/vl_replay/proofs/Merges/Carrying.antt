@@ -1,23 +1,18 @@
 -- What a plan line does to a disk that holds the state before it, by what carrying out the merge did.
-use Rattle.std.proofs.Common.{◌≡◌, ◌⊎◌, ⊎_elim, inl, inr, ℕ, zero, suc, ◌+◌, ◌<◌, ◌≤◌, List, [], length, refl, ap, sym, ◌∙◌, subst, arith}
-use Rattle.std.specs.Prelude.{Option, None, Some, Result, Ok, Err, IsTrue, OnOk}
+use Rattle.std.proofs.Common.{◌≡◌, ◌⊎◌, inl, inr, ℕ, zero, suc, ◌+◌, ◌<◌, ◌≤◌, List, [], length, refl, ap, sym, ◌∙◌, subst, arith}
+use Rattle.std.specs.Prelude.{Option, None, Some, Result, Ok, Err, IsTrue}
 use Rattle.vl_disk.specs.DiskState.{DiskState}
-use Rattle.vl_disk.specs.Faults.{after_calls}
-use Rattle.vl_disk.specs.declared.name.Name.{Name as FileName}
-use Rattle.vl_disk.specs.declared.name.Name.TheVariants.{Table as TableFile}
 use Rattle.vl_disk.specs.declared.watched.Watched.{Ghosts}
 use Rattle.vl_core.specs.Held.{Base, Holds, IsBase}
 use Rattle.vl_core.specs.Pointed.{layout_logs}
 use Rattle.vl_core.specs.Represents as engine
 use Rattle.vl_core.specs.Shown.{Shown}
 use Rattle.vl_core.specs.declared.kept.Core.{Core}
-use Rattle.vl_layout.specs.Jobs.{Made, job_ended}
 use Rattle.vl_layout.specs.Merging.{outputs}
 use Rattle.vl_layout.specs.Rulings.Plan.{plan_ruling, with_job}
 use Rattle.vl_layout.specs.Store.Commits.{Commits, history_in}
 use Rattle.vl_layout.specs.Store.Dispatch.{fill}
 use Rattle.vl_layout.specs.Store.Lines.{Name}
-use Rattle.vl_layout.specs.Store.Things as things
 use Rattle.vl_layout.specs.Store.Things.{Step, Thing, thing_of}
 use Rattle.vl_layout.specs.Tidy.{IsTidy}
 use Rattle.vl_layout.specs.declared.job.Job.{Job}
@@ -25,13 +20,12 @@ use Rattle.vl_layout.specs.declared.layout.Layout.{Layout}
 use Rattle.vl_model.specs.History.{History}
 use Rattle.vl_model.specs.Limits.{max_file_number}
 use Rattle.vl_model.specs.declared.counter.Counter.{Counter}
-use Rattle.vl_replay.specs.Drawn.{DrawsOn, drawn_all, drawn_state}
-use Rattle.vl_sequential.specs.Durable.{CarriesOut, CrashesShow, HoldsCommits, HoldsState, LeadsTo, StopsWithin}
-use Rattle.vl_sequential.specs.Failing.{IsTableBetween}
+use Rattle.vl_replay.specs.Drawn.{DrawsOn, drawn_state}
+use Rattle.vl_sequential.specs.Durable.{CrashesShow, HoldsCommits, HoldsState, LeadsTo, StopsWithin}
 use Rattle.vl_sequential.specs.Halts.{HaltsByDisk, HaltsByRead}
 use Rattle.vl_replay.specs.Replaying.{state_by_plan}
 use Rattle.vl_sequential.specs.Sequential.{State, history_of, state_after, step_to}
-use Rattle.vl_sequential.specs.Stopped.{AreNumberedUpTo, GivesUpTo, StopsStep, step_failed}
+use Rattle.vl_sequential.specs.Stopped.{AreNumberedUpTo, GivesUpTo, step_failed}
 use Rattle.vl_sequential.specs.Stored.{IsStopped, IsStored}
 use Rattle.vl_sequential.specs.declared.fails.Halt.{Halt}
 use Rattle.vl_sequential.specs.declared.fails.Halt.TheVariants as halts
@@ -44,7 +38,7 @@ use Rattle.vl_script.specs.declared.answer.Answer.TheVariants as answers
 use Rattle.vl_script.specs.declared.line.Line.TheVariants as lines
 use Rattle.vl_sequential.specs.laws.DiskSteps.{IsWatched}
 use Rattle.vl_sequential.specs.laws.HeldDisk.{stored_by}
-use Rattle.vl_replay.proofs.Merges.Filling.{drawn_next, fill_more}
+use Rattle.vl_replay.proofs.Merges.Filling.{fill_more}
 use Rattle.vl_replay.proofs.Merges.Planned.{Plans, drawn_beside, planned_beside}
 use Rattle.vl_replay.proofs.Merges.Planning.{fills, planned_state, whole, whole_is}
 

@@ -1,12 +1,11 @@
 -- A plan line whose merge was given up: no number was left for a table, or it stopped without an answer.
-use Rattle.std.proofs.Common.{◌≡◌, ◌⊎◌, ⊎_elim, inl, inr, ℕ, ◌+◌, ◌-◌, ◌<◌, ◌≤◌, false, List, [], length, refl, ap, sym, ◌∙◌, subst, arith}
+use Rattle.std.proofs.Common.{◌≡◌, ⊎_elim, inr, ℕ, ◌+◌, ◌-◌, ◌<◌, ◌≤◌, false, List, [], length, refl, ap, sym, ◌∙◌, subst, arith}
 use Rattle.std.proofs.lemmas.Bool.{cases_lt}
 use Rattle.std.specs.Prelude.{Option, None, Some, Result, Ok, Err, IsTrue}
 use Rattle.std.specs.Option.{is_some, option_map}
 use Rattle.vl_compact.specs.declared.job.Job.{Job as TheJob}
 use Rattle.vl_disk.specs.DiskState.{DiskState}
 use Rattle.vl_disk.specs.declared.name.Name.{Name as FileName}
-use Rattle.vl_disk.specs.declared.name.Name.TheVariants.{Table as TableFile}
 use Rattle.vl_disk.specs.declared.watched.Watched.{Ghosts}
 use Rattle.vl_disk.specs.declared.writer.Writer.{Ghosts as Writers}
 use Rattle.vl_engine.specs.Merging.{StandsOpen}
@@ -22,7 +21,7 @@ use Rattle.vl_layout.specs.Rulings.Abandon.{abandon_ruling}
 use Rattle.vl_layout.specs.Rulings.Plan.{plan_ruling, with_job}
 use Rattle.vl_layout.specs.Store.Commits.{Commits, history_in}
 use Rattle.vl_layout.specs.Store.Lines.{Name}
-use Rattle.vl_layout.specs.Store.Things.{AJob, Step, Thing, thing_in, thing_of}
+use Rattle.vl_layout.specs.Store.Things.{AJob, Step, thing_in, thing_of}
 use Rattle.vl_layout.specs.declared.job.Job.{Job}
 use Rattle.vl_layout.specs.declared.job.OpenJob.{OpenJob}
 use Rattle.vl_layout.specs.declared.layout.Layout.{Layout}
@@ -55,7 +54,7 @@ use Rattle.vl_replay.proofs.Merges.Filling.{drawn_next}
 use Rattle.vl_replay.proofs.Merges.Planned.{Plans}
 use Rattle.vl_replay.proofs.Merges.PlanLine.{WasMerged}
 use Rattle.vl_replay.proofs.Merges.Planning.{given_up, given_up_is, given_up_makes, given_up_waits, lent_there, made}
-use Rattle.vl_replay.proofs.Merges.Planning.{planned_state, some_lent, total_of, whole, whole_is}
+use Rattle.vl_replay.proofs.Merges.Planning.{planned_state, some_lent, total_of, whole_is}
 
 -- where none waits there is none
 pub none_of : {T : Type 0} (o : Option T) → is_some o ≡ false → o ≡ None

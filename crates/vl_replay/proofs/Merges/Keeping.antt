@@ -7,22 +7,20 @@ use Rattle.std.specs.FinMap.{find, put}
 use Rattle.std.specs.Ordering.{eq_by_cmp}
 use Rattle.vl_layout.specs.AtAnswer.{Beginning, beginning_of}
 use Rattle.vl_layout.specs.Jobs.{Made}
-use Rattle.vl_layout.specs.Ruling as step
 use Rattle.vl_layout.specs.Ruling.{Ruling, StepAnswer, has_no_number, has_no_version, leaving}
 use Rattle.vl_layout.specs.Rulings.Begin as begin
 use Rattle.vl_layout.specs.Rulings.Begin.{BeginAnswer, begin_ruling, begun}
 use Rattle.vl_layout.specs.Rulings.Commit as commit
 use Rattle.vl_layout.specs.Rulings.Commit.{CommitAnswer, Transaction, commit_checked, commit_ended, commit_frame, commit_unless, committed}
-use Rattle.vl_layout.specs.Rulings.Flush.{flush_of, flush_unless, flushed}
-use Rattle.vl_layout.specs.Rulings.Keep as keep
-use Rattle.vl_layout.specs.Rulings.Keep.{KeepAnswer, keep_unless, keeping}
-use Rattle.vl_layout.specs.Rulings.Rotate.{rotate_of, rotate_unless, rotated}
+use Rattle.vl_layout.specs.Rulings.Flush.{flush_of, flush_unless}
+use Rattle.vl_layout.specs.Rulings.Keep.{keep_unless}
+use Rattle.vl_layout.specs.Rulings.Rotate.{rotate_of, rotate_unless}
 use Rattle.vl_layout.specs.Sources.{oldest}
 use Rattle.vl_layout.specs.Store.Commits.{conflict_in, history_in}
 use Rattle.vl_layout.specs.Store.Dispatch.{drop_by, keep_by, step_by}
 use Rattle.vl_layout.specs.Store.Lines.{Answer, Name}
 use Rattle.vl_layout.specs.Store.Reading.{a_transaction, a_view, begin_as, begun_by, commit_by, committed_by}
-use Rattle.vl_layout.specs.Store.Reading.{get_at_by, get_by, get_own, is_small_enough, ruled, scan_by, write_by}
+use Rattle.vl_layout.specs.Store.Reading.{get_at_by, get_by, get_own, is_small_enough, scan_by, write_by}
 use Rattle.vl_layout.specs.Store.Things as things
 use Rattle.vl_layout.specs.Store.Things.{AJob, APass, ATransaction, AView, Step, Thing, named, only, thing_in, thing_of}
 use Rattle.vl_layout.specs.Store.Things.{without_name}

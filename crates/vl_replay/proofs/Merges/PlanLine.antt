@@ -1,10 +1,9 @@
 -- What a plan line makes of a state, and does to a disk that holds it, by what the engine's calls are said to have done.
-use Rattle.std.proofs.Common.{◌≡◌, ◌⊎◌, ℕ, min, ◌+◌, ◌-◌, ◌^◌, ◌≤◌, Bool, true, false, List, length, refl, ap, sym, ◌∙◌, subst, arith}
-use Rattle.std.specs.Prelude.{Option, None, Some, IsTrue, Result, Ok, Err, IfOk, OnOk, is_some}
+use Rattle.std.proofs.Common.{◌≡◌, ◌⊎◌, ℕ, min, ◌+◌, ◌-◌, ◌^◌, ◌≤◌, true, false, List, length, refl, ap, sym, ◌∙◌, subst, arith}
+use Rattle.std.specs.Prelude.{Option, None, Some, IsTrue, Result, Ok, IfOk, is_some}
 use Rattle.std.specs.Option.{ForSome}
 use Rattle.vl_compact.specs.Laid.{AreBoth}
 use Rattle.vl_compact.specs.declared.job.Job.{Job as TheJob}
-use Rattle.vl_disk.specs.DiskState.{DiskState}
 use Rattle.vl_disk.specs.Faults.{after_calls}
 use Rattle.vl_disk.specs.declared.watched.Watched.{Ghosts}
 use Rattle.vl_disk.specs.declared.writer.Writer.{Ghosts as Writers}
@@ -51,8 +50,7 @@ use Rattle.vl_replay.proofs.Merges.Keeping.{KeepsMerges, same_jobs}
 use Rattle.vl_replay.proofs.Merges.Opened.{opened_planned}
 use Rattle.vl_replay.proofs.Merges.Planned.{Plans, plan_busy, plan_none, plan_some}
 use Rattle.vl_replay.proofs.Merges.Planning.{planned_state, whole_makes, whole_waits}
-use Rattle.vl_replay.proofs.Merges.Waiting.{is_waiting, merges_behind, waiting_free, waiting_there}
-use Rattle.vl_replay.proofs.Names.BeginMaking.{bare_of, some_there}
+use Rattle.vl_replay.proofs.Merges.Waiting.{merges_behind}
 
 -- ---- none is planned
 

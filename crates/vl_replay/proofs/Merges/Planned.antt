@@ -2,15 +2,13 @@
 use Rattle.std.proofs.Common.{◌≡◌, ℕ, zero, suc, ◌+◌, ◌==◌, Bool, true, false, cond, ◌&&◌, List, [], ◌∷◌, ◌++◌, refl}
 use Rattle.std.proofs.Common.{ap, sym, ◌∙◌, subst, arith}
 use Rattle.std.proofs.lemmas.Bool.Decides.{nat_tests}
-use Rattle.std.specs.List.{filter, flat_map}
+use Rattle.std.specs.List.{flat_map}
 use Rattle.std.specs.Prelude.{Option, None, Some, nat_le, nat_lt}
-use Rattle.vl_layout.specs.Jobs.{Made}
 use Rattle.vl_layout.specs.Levels.{due_from, due_tables, inputs_at, is_due, level_bytes}
-use Rattle.vl_layout.specs.Ruling.{Ruling, leaving, pin_of}
+use Rattle.vl_layout.specs.Ruling.{leaving}
 use Rattle.vl_layout.specs.Rulings.Fresh.{drawn}
 use Rattle.vl_layout.specs.Rulings.Plan.{job_of, plan_of, plan_ruling, plan_unless, planned, with_job}
 use Rattle.vl_layout.specs.Sources.{tables}
-use Rattle.vl_layout.specs.declared.file_name.Retired.{Retired}
 use Rattle.vl_layout.specs.declared.job.Job.{Job}
 use Rattle.vl_layout.specs.declared.job.OpenJob.{OpenJob}
 use Rattle.vl_layout.specs.declared.job.Target.TheVariants.{Level}

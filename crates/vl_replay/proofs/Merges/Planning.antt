@@ -1,35 +1,25 @@
 -- What a plan line makes, by what carrying out the merge came to.
-use Rattle.std.proofs.Common.{◌≡◌, ◌⊎◌, ⊎_elim, inl, inr, ℕ, zero, suc, min, ◌+◌, ◌-◌, ◌^◌, ◌<◌, ◌≤◌, List, [], ◌∷◌}
-use Rattle.std.proofs.Common.{◌++◌, length, refl, ap, sym, ◌∙◌, subst, arith}
-use Rattle.std.specs.Prelude.{Option, None, Some, Result, Ok, Err, IsTrue, OnOk}
+use Rattle.std.proofs.Common.{◌≡◌, ◌⊎◌, ⊎_elim, ℕ, min, ◌+◌, ◌-◌, ◌^◌, ◌<◌, ◌≤◌, List, []}
+use Rattle.std.proofs.Common.{length, refl, ap, sym, ◌∙◌, subst, arith}
+use Rattle.std.specs.Prelude.{Option, None, Some, Ok}
 use Rattle.std.specs.List.{filter}
-use Rattle.vl_compact.specs.Progress.{made_of as made_by}
 use Rattle.vl_compact.specs.declared.job.Job.{Job as TheJob}
 use Rattle.vl_disk.specs.DiskState.{DiskState}
-use Rattle.vl_disk.specs.Faults.{after_calls}
-use Rattle.vl_disk.specs.declared.watched.Watched.{Ghosts}
 use Rattle.vl_disk.specs.declared.writer.Writer.{Ghosts as Writers}
-use Rattle.vl_engine.specs.Lent.{Opens}
-use Rattle.vl_engine.specs.Merging.{FitsReaders, HasMerge, StandsOpen}
-use Rattle.vl_core.specs.Represents as engine
-use Rattle.vl_core.specs.Represents.{IsHeld, IsLive}
-use Rattle.vl_core.specs.Shown.{Shown}
-use Rattle.vl_core.specs.MayStep.{Fits}
+use Rattle.vl_core.specs.Represents.{IsLive}
 use Rattle.vl_core.specs.declared.kept.Core.{Core}
 use Rattle.vl_engine.specs.declared.open.OpenMerge.{OpenMerge}
 use Rattle.vl_layout.specs.Jobs.{AreLent, Made, job_ended}
 use Rattle.vl_layout.specs.Merging.{kept, merged_entries, outputs}
-use Rattle.vl_layout.specs.Ruling.{Ruling, leaving, pin_of}
+use Rattle.vl_layout.specs.Ruling.{Ruling, pin_of}
 use Rattle.vl_layout.specs.Rulings.Plan.{plan_ruling, with_job}
 use Rattle.vl_layout.specs.Sources.{tables}
 use Rattle.vl_layout.specs.Store.Dispatch.{fill, made_of, plan_as, planned_by}
 use Rattle.vl_layout.specs.Store.Lines as store_lines
 use Rattle.vl_layout.specs.Store.Lines.{Name}
-use Rattle.vl_layout.specs.Store.Things as things
-use Rattle.vl_layout.specs.Store.Things.{AJob, Step, Thing, named, only, thing_in, thing_of, with_thing}
+use Rattle.vl_layout.specs.Store.Things.{AJob, Step, Thing, named, thing_in, thing_of, with_thing}
 use Rattle.vl_layout.specs.declared.file_name.Retired.{Retired}
 use Rattle.vl_layout.specs.declared.job.Job.{Job}
-use Rattle.vl_layout.specs.declared.job.OpenJob.{OpenJob}
 use Rattle.vl_layout.specs.declared.layout.Layout.{Layout}
 use Rattle.vl_layout.specs.declared.live.Live.{Live}
 use Rattle.vl_layout.specs.declared.table.Table.{Table}
@@ -38,28 +28,20 @@ use Rattle.vl_model.specs.Limits.{max_file_number}
 use Rattle.vl_model.specs.declared.counter.Counter.{Counter}
 use Rattle.vl_model.specs.declared.counter.Counter.TheVariants as counters
 use Rattle.vl_version.specs.declared.base.Base.{Base}
-use Rattle.vl_replay.specs.Drawn.{DrawsOn, HasTablesFrom, IsPlanned, IsServing, Merged, drawn_all, drawn_state, numbers_from}
-use Rattle.vl_sequential.specs.Durable.{HoldsCommits, HoldsState, LeadsTo, StopsWithin, without_merges}
-use Rattle.vl_sequential.specs.Halts.{HaltsByDisk, HaltsByRead}
+use Rattle.vl_replay.specs.Drawn.{HasTablesFrom, IsServing, drawn_all, drawn_state, numbers_from}
 use Rattle.vl_sequential.specs.Readers.{IsReader, IsWithoutTables, is_table}
-use Rattle.vl_replay.specs.Replaying.{IsWaiting, MakesStep, Merges, StandsIn, state_by, state_by_plan}
-use Rattle.vl_sequential.specs.Sequential.{IsTold, State, answer_for, counted, history_of, state_after, step_to}
+use Rattle.vl_replay.specs.Replaying.{MakesStep, Merges, StandsIn, state_by}
+use Rattle.vl_sequential.specs.Sequential.{State, counted, history_of, step_to}
 use Rattle.vl_replay.specs.Standing.{Corresponds, Stand, open_in}
-use Rattle.vl_sequential.specs.Stopped.{StopsStep, step_failed}
-use Rattle.vl_sequential.specs.Stored.{IsStopped, IsStored}
-use Rattle.vl_sequential.specs.declared.fails.Halt.{Halt}
-use Rattle.vl_sequential.specs.declared.fails.Halt.TheVariants as halts
 use Rattle.vl_replay.specs.declared.replayer.open.Open.{Open}
-use Rattle.vl_replay.specs.declared.replayer.planned.Planned.{Planned}
 use Rattle.vl_sequential.specs.laws.Laws.{IsSound, state_after-sound}
-use Rattle.vl_script.specs.declared.answer.Answer.{Answer}
 use Rattle.vl_script.specs.declared.answer.Answer.TheVariants as answers
 use Rattle.vl_script.specs.declared.line.Line.TheVariants as lines
 use Rattle.vl_sequential.specs.laws.Betweens.{extends_itself}
 use Rattle.vl_replay.proofs.Merges.Counting.{kept_many, made_lent}
-use Rattle.vl_replay.proofs.Merges.Filling.{drawn_halted, drawn_lent, drawn_levels, drawn_live, drawn_next}
-use Rattle.vl_replay.proofs.Merges.Filling.{drawn_retired, fill_all, fill_more, fill_some}
-use Rattle.vl_replay.proofs.Merges.Planned.{Plans, drawn_beside, planned_beside}
+use Rattle.vl_replay.proofs.Merges.Filling.{drawn_lent, drawn_levels, drawn_live}
+use Rattle.vl_replay.proofs.Merges.Filling.{drawn_retired, fill_all, fill_some}
+use Rattle.vl_replay.proofs.Merges.Planned.{Plans}
 use Rattle.vl_replay.proofs.Names.Ending.{still_stands}
 use Rattle.vl_replay.proofs.Names.Lookups.{thing_beside, thing_put}
 use Rattle.vl_replay.proofs.Names.Standings.{same_or_not}

@@ -1,5 +1,5 @@
 -- The merge that waits, behind lines that leave it alone, and which names are in use.
-use Rattle.std.proofs.Common.{◌≡◌, ◌⊎◌, ⊎_elim, inl, inr, ℕ, Bool, true, false, ◌||◌, List, [], refl, ap, sym, ◌∙◌, subst}
+use Rattle.std.proofs.Common.{◌≡◌, ℕ, Bool, true, false, List, [], refl, ap, sym, ◌∙◌, subst}
 use Rattle.std.specs.Prelude.{Option, None, Some, OnOk, Result, Ok, Err}
 use Rattle.std.specs.Option.{is_some, option_map_or}
 use Rattle.std.specs.Str.{bytes_eq}
@@ -13,18 +13,12 @@ use Rattle.vl_layout.specs.Store.Lines.{Name}
 use Rattle.vl_layout.specs.Store.Things as things
 use Rattle.vl_layout.specs.Store.Things.{AJob, Step, Thing, thing_in}
 use Rattle.vl_layout.specs.declared.job.Job.{Job}
-use Rattle.vl_layout.specs.declared.job.OpenJob.{OpenJob}
 use Rattle.vl_layout.specs.declared.layout.Layout.{Layout}
-use Rattle.vl_model.specs.History.{History}
 use Rattle.vl_version.specs.declared.base.Base.{Base}
-use Rattle.vl_replay.specs.Replaying.{IsWaiting, Merges, TakesPlanned, Waits}
-use Rattle.vl_replay.specs.Standing.{Corresponds, Stand, open_in}
+use Rattle.vl_replay.specs.Replaying.{Merges, TakesPlanned, Waits}
 use Rattle.vl_sequential.specs.declared.fails.Halt.{Halt}
-use Rattle.vl_replay.specs.declared.replayer.open.Open.{Open}
 use Rattle.vl_replay.specs.declared.replayer.planned.Planned.{Planned}
 use Rattle.vl_replay.proofs.Merges.Keeping.{KeepsMerges, SameJobs}
-use Rattle.vl_replay.proofs.Names.BeginMaking.{some_there}
-use Rattle.vl_replay.proofs.Names.Reading.{no_reader}
 
 pub on_ok_of : {T : Type 0} (r : Result T Halt) (P : Type 0) → P → OnOk r P
 on_ok_of (Ok x) P p = p

@@ -1,6 +1,6 @@
 -- A plan is answered as the store has it, and carried out so.
 use Rattle.std.proofs.Common.{◌∙◌, ◌≡◌, ap, refl, subst, sym}
-use Rattle.std.specs.Prelude.{Err, None, Ok, Option, Result, Some}
+use Rattle.std.specs.Prelude.{Err, None, Ok, Option, Result}
 use Rattle.vl_core.specs.Shown.{Shown}
 use Rattle.vl_core.specs.declared.kept.Core.{Core}
 use Rattle.vl_layout.specs.Store.Lines as store_lines
