@@ -1,0 +1,48 @@
+-- A store when it was made, and when it was closed.
+use Rattle.std.specs.Prelude.{◌≡◌, ℕ, ◌+◌, ◌<◌, List, [], ◌∷◌, Option, Some}
+use Rattle.std.specs.Arc.{arc_value}
+use Rattle.vl_engine.specs.declared.engine.Engine.{Engine}
+use Rattle.vl_layout.specs.declared.lock_history.LockEntry.{LockEntry}
+use Rattle.vl_store.specs.Knowing.{Knows}
+use Rattle.vl_store.specs.Standing.{Parts, Stands}
+use Rattle.vl_store.specs.declared.fails.StoreFail.{StoreFail}
+use Rattle.vl_store.specs.declared.fails.StoreFail.TheVariants as fails
+use Rattle.vl_store.specs.declared.locked.Origin.{Origin}
+use Rattle.vl_turn.specs.Entries.{AreNumbered, entries_by}
+use mathlib.Core.List.{IsPrefix}
+
+-- the engine that comes back
+abbrev pub refused : {E : Type 0} → StoreFail E → E
+refused (fails.NoMemory engine) = engine
+
+-- whose session an entry is
+abbrev pub by : LockEntry → ℕ
+by e = e.session
+
+-- the session with this number of a store that was just made: it has seen nothing, and made no step
+pub record IsFirst (store : Knows) (n : ℕ) (v : Knows) : Type 0 where
+  pub is : v ≡ record store { session = n; seen = []; own = [] }
+
+-- so each of these is, from this number on
+abbrev pub AreFirst : Knows → ℕ → List Knows → Type 0
+AreFirst store n [] = Unit {0}
+AreFirst store n (v ∷ vs) = IsFirst store n v × AreFirst store (n + 1) vs
+
+-- each is of the same store
+abbrev pub AreOf : Knows → List Knows → Type 0
+AreOf store [] = Unit {0}
+AreOf store (v ∷ vs) = (v.store ≡ store.store) × AreOf store vs
+
+-- what each session has seen begins the list, and its own steps are all of its in the list, in order
+abbrev pub AreIn : List LockEntry → List Knows → Type 0
+AreIn list [] = Unit {0}
+AreIn list (v ∷ vs) = (IsPrefix v.seen list × (v.own ≡ entries_by by v.session list)) × AreIn list vs
+
+-- The list of all steps that were made under the lock, when the store was closed with these sessions. The engine stands for it, it has
+-- all that each of them knows, and each of its entries is of one of the sessions that were made, of which there were so many.
+pub record Closed {H : Type 0} (bytes : H → Option (List ℕ)) (store : Knows) (count : ℕ) (vs : List Knows) (x : Parts H)
+    : Type 0 where
+  pub list : List LockEntry
+  pub stands : Stands bytes store.origin store.tells list x
+  pub all : AreIn list vs
+  pub numbers : AreNumbered by count list

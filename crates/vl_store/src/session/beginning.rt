@@ -1,0 +1,112 @@
+ghost use Rattle.std.specs.Prelude.{◌≡◌, true, [], IfOk};
+ghost use Rattle.vl_engine.specs.Answers.{begin_outcome, view_outcome};
+ghost use Rattle.vl_engine.specs.Sees.{IsNew, Sees, SeesAlone, asked, asked_view};
+ghost use Rattle.vl_layout.specs.Decides.{Answered};
+ghost use Rattle.vl_layout.specs.Rulings.Begin.{begin_ruling};
+ghost use Rattle.vl_layout.specs.Rulings.Forget.{forget_ruling};
+ghost use Rattle.vl_layout.specs.Rulings.Release.{release_ruling};
+ghost use Rattle.vl_layout.specs.Rulings.View.{view_ruling};
+ghost use Rattle.vl_store.specs.Entries.{begin_entry, end_entry};
+ghost use Rattle.vl_store.specs.Knowing.{GoesOn, IsOwnTicket, Stepped};
+ghost use Rattle.vl_store.specs.Lists.{history_by};
+
+use super::Session;
+use super::finishing::finish;
+use std::marker::Brand;
+use std::snapshot::Snapshot;
+use std::sync::Wait;
+use vl_disk::Disk;
+use vl_engine::{BeginFail, Txn, View};
+
+impl<D: Disk> Session<D> {
+    /// Begins a transaction, which reads what is committed now.
+    pub fn begin<R: Wait>(&mut self, rt: &R) -> Result<Txn<D::Held, D::Reader>, BeginFail>
+        ensures on { GoesOn self.old self.new }
+        ensures steps { self.old.tells ≡ true → Stepped self.old self.new begin_ruling begin_entry (begin_outcome result) }
+
+        // It is the session's own, and sees the history that was seen by now at its number.
+        ensures own { self.old.tells ≡ true → IfOk result (λ txn. IsOwnTicket self.new txn.ticket txn.number) }
+        ensures sees { self.old.tells ≡ true
+            → IfOk result (λ txn. Sees D.Held.bytes txn (history_by self.new.origin self.new.seen) []) }
+        ensures fresh { IfOk result IsNew }
+    {
+        let mut turn = self.lock.take(rt, &mut self.token);
+        let locked = turn.value();
+        let answer = locked.engine.begin();
+        let enters = answer.is_ok();
+        finish::<D, Brand, R, (), Result<Txn<D::Held, D::Reader>, BeginFail>>(
+            &*self.lock,
+            rt,
+            turn,
+            &(),
+            &answer,
+            enters,
+        );
+        answer
+    }
+
+    /// Begins a view, which reads what is committed now, and may not write.
+    pub fn view<R: Wait>(&mut self, rt: &R) -> Result<View<D::Held, D::Reader>, BeginFail>
+        ensures on { GoesOn self.old self.new }
+        ensures steps { self.old.tells ≡ true → Stepped self.old self.new view_ruling begin_entry (view_outcome result) }
+        ensures own { self.old.tells ≡ true → IfOk result (λ view. IsOwnTicket self.new view.ticket view.number) }
+        ensures sees { self.old.tells ≡ true
+            → IfOk result (λ view. SeesAlone D.Held.bytes view (history_by self.new.origin self.new.seen)) }
+    {
+        let mut turn = self.lock.take(rt, &mut self.token);
+        let locked = turn.value();
+        let answer = locked.engine.view();
+        let enters = answer.is_ok();
+        finish::<D, Brand, R, (), Result<View<D::Held, D::Reader>, BeginFail>>(
+            &*self.lock,
+            rt,
+            turn,
+            &(),
+            &answer,
+            enters,
+        );
+        answer
+    }
+
+    /// Gives up a transaction, and what it has written with it. It wants no memory.
+    pub fn forget<R: Wait>(&mut self, rt: &R, txn: Txn<D::Held, D::Reader>)
+        requires { self.old.tells ≡ true → IsOwnTicket self.old txn.ticket txn.number }
+        ensures on { GoesOn self.old self.new }
+        ensures steps { self.old.tells ≡ true
+            → Stepped self.old self.new (λ l h. forget_ruling l h (asked txn [])) (end_entry txn.ticket) (Answered tt) }
+    {
+        let asked = Snapshot::of(&txn);
+        let mut turn = self.lock.take(rt, &mut self.token);
+        let locked = turn.value();
+        locked.engine.forget(txn);
+        finish::<D, Brand, R, Snapshot<Txn<D::Held, D::Reader>>, ()>(
+            &*self.lock,
+            rt,
+            turn,
+            &asked,
+            &(),
+            true,
+        );
+    }
+
+    /// Ends a view. It wants no memory.
+    pub fn release<R: Wait>(&mut self, rt: &R, view: View<D::Held, D::Reader>)
+        requires { self.old.tells ≡ true → IsOwnTicket self.old view.ticket view.number }
+        ensures on { GoesOn self.old self.new }
+        ensures steps { self.old.tells ≡ true
+            → Stepped self.old self.new (λ l h. release_ruling l h (asked_view view)) (end_entry view.ticket) (Answered tt) }
+    {
+        let asked = Snapshot::of(&view);
+        let mut turn = self.lock.take(rt, &mut self.token);
+        let locked = turn.value();
+        locked.engine.release(view);
+        finish::<D, Brand, R, Snapshot<View<D::Held, D::Reader>>, ()>(
+            &*self.lock,
+            rt,
+            turn,
+            &asked,
+            &(),
+            true,
+        );
+    }
+}

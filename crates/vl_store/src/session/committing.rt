@@ -1,0 +1,60 @@
+ghost use Rattle.std.specs.Prelude.{◌≡◌, true, List, Some};
+ghost use Rattle.std.specs.FinMap.{entries};
+ghost use Rattle.vl_engine.specs.Answers.{commit_outcome, handed_back};
+ghost use Rattle.vl_engine.specs.Sees.{asked};
+ghost use Rattle.vl_engine.specs.declared.txn.Txn.{Txn};
+ghost use Rattle.vl_layout.specs.Rulings.Commit.{commit_ruling};
+ghost use Rattle.vl_model.specs.Notes.{AreNotesOf};
+ghost use Rattle.vl_model.specs.Reads.{Read};
+ghost use Rattle.vl_store.specs.Entries.{commit_entry};
+ghost use Rattle.vl_store.specs.Handing.{IsOwnTxn};
+ghost use Rattle.vl_store.specs.Knowing.{GoesOn, Stepped};
+
+use super::Session;
+use super::finishing::finish;
+use std::marker::Brand;
+use std::snapshot::Snapshot;
+use std::sync::Wait;
+use vl_disk::Disk;
+use vl_engine::{CommitFail, Done, Txn};
+
+impl<D: Disk> Session<D> {
+    /// Makes a transaction of this session the next commit, or says why not. It is synced before it is answered. A transaction that is
+    /// handed back lives on as it was; otherwise it has ended.
+    pub fn commit<R: Wait>(
+        &mut self,
+        rt: &R,
+        txn: Txn<D::Held, D::Reader>,
+    ) -> Result<Done, CommitFail<D::Held, D::Reader>>
+        requires { self.old.tells ≡ true → IsOwnTxn self.old txn }
+        ensures on { GoesOn self.old self.new }
+        // It is answered as the ruling has it on whatever reads the transaction has noted.
+        ensures steps { self.old.tells ≡ true → (reads : List Read) → AreNotesOf reads txn.reads.keys txn.reads.spans
+            → Stepped self.old self.new (λ l h. commit_ruling l h (asked txn reads)) (commit_entry txn.ticket (entries txn.writes))
+            (commit_outcome result) }
+        ensures back { (back : Txn D.Held D.Reader) → handed_back result ≡ Some back → back ≡ txn }
+    {
+        let asked = Snapshot::of(&txn);
+        let mut turn = self.lock.take(rt, &mut self.token);
+        let locked = turn.value();
+        let answer = locked.engine.commit(txn);
+        let enters = has_ended(&answer);
+        finish::<
+            D,
+            Brand,
+            R,
+            Snapshot<Txn<D::Held, D::Reader>>,
+            Result<Done, CommitFail<D::Held, D::Reader>>,
+        >(&*self.lock, rt, turn, &asked, &answer, enters);
+        answer
+    }
+}
+
+// Whether the transaction has ended.
+fn has_ended<H, R>(answer: &Result<Done, CommitFail<H, R>>) -> bool {
+    matches!(
+        answer,
+        Ok(_)
+            | Err(CommitFail::Halted { .. } | CommitFail::Conflict { .. } | CommitFail::Disk { .. })
+    )
+}

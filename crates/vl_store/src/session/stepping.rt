@@ -1,0 +1,60 @@
+ghost use Rattle.std.specs.Prelude.{◌≡◌, true};
+ghost use Rattle.vl_engine.specs.Stepping.{step_outcome};
+ghost use Rattle.vl_layout.specs.Rulings.Flush.{flush_ruling};
+ghost use Rattle.vl_layout.specs.Rulings.Rotate.{rotate_ruling};
+ghost use Rattle.vl_store.specs.Entries.{flush_entry, rotate_entry};
+ghost use Rattle.vl_store.specs.Knowing.{GoesOn, Stepped};
+
+use super::Session;
+use super::finishing::finish;
+use std::marker::Brand;
+use std::sync::Wait;
+use vl_disk::Disk;
+use vl_engine::StepFail;
+
+impl<D: Disk> Session<D> {
+    /// Seals the active log and begins a new one, and answers with the number of the sealed one; none where no commit stands in it.
+    pub fn rotate<R: Wait>(&mut self, rt: &R) -> Result<Option<u32>, StepFail>
+        ensures on { GoesOn self.old self.new }
+        ensures steps { self.old.tells ≡ true → Stepped self.old self.new rotate_ruling rotate_entry (step_outcome result) }
+    {
+        let mut turn = self.lock.take(rt, &mut self.token);
+        let locked = turn.value();
+        let answer = locked.engine.rotate();
+        let enters = has_stepped(&answer);
+        finish::<D, Brand, R, (), Result<Option<u32>, StepFail>>(
+            &*self.lock,
+            rt,
+            turn,
+            &(),
+            &answer,
+            enters,
+        );
+        answer
+    }
+
+    /// Makes a table of the memtable that has been frozen for longest, and answers with the table's number; none where none is frozen.
+    pub fn flush<R: Wait>(&mut self, rt: &R) -> Result<Option<u32>, StepFail>
+        ensures on { GoesOn self.old self.new }
+        ensures steps { self.old.tells ≡ true → Stepped self.old self.new flush_ruling flush_entry (step_outcome result) }
+    {
+        let mut turn = self.lock.take(rt, &mut self.token);
+        let locked = turn.value();
+        let answer = locked.engine.flush();
+        let enters = has_stepped(&answer);
+        finish::<D, Brand, R, (), Result<Option<u32>, StepFail>>(
+            &*self.lock,
+            rt,
+            turn,
+            &(),
+            &answer,
+            enters,
+        );
+        answer
+    }
+}
+
+// Whether the layout was changed.
+fn has_stepped(answer: &Result<Option<u32>, StepFail>) -> bool {
+    matches!(answer, Ok(Some(_)) | Err(StepFail::Disk { .. }))
+}

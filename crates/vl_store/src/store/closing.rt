@@ -1,0 +1,44 @@
+ghost use Rattle.vl_store.specs.Standing.{parts};
+ghost use Rattle.vl_store.specs.Stores.{AreOf, Closed};
+
+use super::Store;
+use crate::locked::Locked;
+use crate::session::Session;
+use std::sync::{Arc, Wait};
+use vl_disk::Disk;
+use vl_engine::Engine;
+use vl_turn::{Token, TurnLock};
+
+impl<D: Disk + Drop> Store<D> {
+    /// The engine, which stands for all that its sessions did. Where not all sessions that were made are handed in, it waits for ever.
+    pub fn close<R: Wait>(self, rt: &R, sessions: Vec<Session<D>>) -> Engine<D>
+        requires { AreOf self sessions.items }
+        ensures { Closed D.Held.bytes self self.session sessions.items
+            (parts (D.told result.disk) result.core result.merging result.collecting) }
+    {
+        let Store { lock, mut root } = self;
+        meet_all(&lock, &mut root, sessions);
+        match Arc::into_inner(lock) {
+            Some(lock) => {
+                let Locked { engine, origin: _ } = lock.close(rt, root);
+                engine
+            }
+            None => {
+                for _ in rt.forever() {}
+                unreachable!()
+            }
+        }
+    }
+}
+
+// Makes the tokens of some sessions one with the token that numbered them.
+fn meet_all<D: Disk + Drop>(
+    lock: &TurnLock<Locked<D>>,
+    root: &mut Token<Locked<D>>,
+    sessions: Vec<Session<D>>,
+) {
+    for session in sessions {
+        let Session { lock: _, token } = session;
+        lock.meet(root, token);
+    }
+}
