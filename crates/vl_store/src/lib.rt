@@ -4,6 +4,7 @@
 
 mod alike;
 mod fails;
+mod laws;
 mod locked;
 mod mark;
 mod note;

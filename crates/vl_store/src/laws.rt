@@ -1,0 +1,7 @@
+ghost use Rattle.std.specs.Prelude.{◌≡◌, ℕ};
+
+/// Tried.
+#[tactic(auto, using(crate::proofs::Leading::goes_by, crate::proofs::Legal::ends_pass))]
+pub fn tried()
+    ensures { (n : ℕ) → n ≡ n }
+{}
