@@ -1,3 +1,5 @@
 pub mod Leading
 pub mod Legal
+pub mod Owning
 pub mod Steps
+pub mod Works

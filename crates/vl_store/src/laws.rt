@@ -1,7 +1,7 @@
 ghost use Rattle.std.specs.Prelude.{◌≡◌, ℕ};
 
 /// Tried.
-#[tactic(auto, using(crate::proofs::Leading::goes_by, crate::proofs::Steps::flush_leads))]
+#[tactic(auto, using(crate::proofs::Owning::own_merge, crate::proofs::Works::relocate_leads))]
 pub fn tried()
     ensures { (n : ℕ) → n ≡ n }
 {}
