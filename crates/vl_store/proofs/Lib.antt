@@ -1,5 +1,9 @@
+pub mod Calls
 pub mod Leading
 pub mod Legal
+pub mod Lending
 pub mod Owning
+pub mod Sessions
 pub mod Steps
+pub mod Wholes
 pub mod Works

@@ -46,11 +46,14 @@ entry_of session None = None
 entry_of session (Some done) = Some (record { session = session; step = done.0; layout = done.1 })
 
 -- By an answer, and by what is left where the disk failed, which halts it. Where there is neither, nothing was changed.
+abbrev pub done_by : {A : Type 0} → (A → Done) → (LockStep × Layout) → Outcome A → Done
+done_by answered failed (Answered answer) = answered answer
+done_by answered failed NoMemory = None
+done_by answered failed (Failed name) = Some (failed.0, halted_at name failed.1)
+done_by answered failed (Damaged name place) = None
+
 abbrev pub entry_by : {A : Type 0} → (A → Done) → (LockStep × Layout) → ℕ → Outcome A → Option LockEntry
-entry_by answered failed session (Answered answer) = entry_of session (answered answer)
-entry_by answered failed session NoMemory = None
-entry_by answered failed session (Failed name) = entry_of session (Some (failed.0, halted_at name failed.1))
-entry_by answered failed session (Damaged name place) = None
+entry_by answered failed session outcome = entry_of session (done_by answered failed outcome)
 
 -- ---- begins and ends
 

@@ -12,13 +12,13 @@ ghost use Rattle.vl_store.specs.Lists.{history_by};
 
 use super::Session;
 use super::finishing::finish;
+use crate::alike::Alike;
 use std::marker::Brand;
 use std::snapshot::Snapshot;
 use std::sync::Wait;
-use vl_disk::Disk;
 use vl_engine::{BeginFail, Txn, View};
 
-impl<D: Disk> Session<D> {
+impl<D: Alike> Session<D> {
     /// Begins a transaction, which reads what is committed now.
     pub fn begin<R: Wait>(&mut self, rt: &R) -> Result<Txn<D::Held, D::Reader>, BeginFail>
         ensures on { GoesOn self.old self.new }
@@ -30,12 +30,13 @@ impl<D: Disk> Session<D> {
             → IfOk result (λ txn. Sees D.Held.bytes txn (history_by self.new.origin self.new.seen) []) }
         ensures fresh { IfOk result IsNew }
     {
-        let mut turn = self.lock.take(rt, &mut self.token);
+        let lock = &*self.lock;
+        let mut turn = lock.take(rt, &mut self.token);
         let locked = turn.value();
         let answer = locked.engine.begin();
         let enters = answer.is_ok();
         finish::<D, Brand, R, (), Result<Txn<D::Held, D::Reader>, BeginFail>>(
-            &*self.lock,
+            lock,
             rt,
             turn,
             &(),
@@ -53,12 +54,13 @@ impl<D: Disk> Session<D> {
         ensures sees { self.old.tells ≡ true
             → IfOk result (λ view. SeesAlone D.Held.bytes view (history_by self.new.origin self.new.seen)) }
     {
-        let mut turn = self.lock.take(rt, &mut self.token);
+        let lock = &*self.lock;
+        let mut turn = lock.take(rt, &mut self.token);
         let locked = turn.value();
         let answer = locked.engine.view();
         let enters = answer.is_ok();
         finish::<D, Brand, R, (), Result<View<D::Held, D::Reader>, BeginFail>>(
-            &*self.lock,
+            lock,
             rt,
             turn,
             &(),
@@ -76,11 +78,12 @@ impl<D: Disk> Session<D> {
             → Stepped self.old self.new (λ l h. forget_ruling l h (asked txn [])) (end_entry txn.ticket) (Answered tt) }
     {
         let asked = Snapshot::of(&txn);
-        let mut turn = self.lock.take(rt, &mut self.token);
+        let lock = &*self.lock;
+        let mut turn = lock.take(rt, &mut self.token);
         let locked = turn.value();
         locked.engine.forget(txn);
         finish::<D, Brand, R, Snapshot<Txn<D::Held, D::Reader>>, ()>(
-            &*self.lock,
+            lock,
             rt,
             turn,
             &asked,
@@ -97,11 +100,12 @@ impl<D: Disk> Session<D> {
             → Stepped self.old self.new (λ l h. release_ruling l h (asked_view view)) (end_entry view.ticket) (Answered tt) }
     {
         let asked = Snapshot::of(&view);
-        let mut turn = self.lock.take(rt, &mut self.token);
+        let lock = &*self.lock;
+        let mut turn = lock.take(rt, &mut self.token);
         let locked = turn.value();
         locked.engine.release(view);
         finish::<D, Brand, R, Snapshot<View<D::Held, D::Reader>>, ()>(
-            &*self.lock,
+            lock,
             rt,
             turn,
             &asked,

@@ -15,15 +15,15 @@ ghost use Rattle.vl_store.specs.Lists.{layout_by};
 
 use super::Session;
 use super::finishing::finish;
+use crate::alike::Alike;
 use std::marker::Brand;
 use std::snapshot::Snapshot;
 use std::sync::Wait;
 use vl_collect::{Batch, Pass};
-use vl_disk::Disk;
 use vl_engine::{MoveFail, PickFail};
 use vl_version::Base;
 
-impl<D: Disk> Session<D> {
+impl<D: Alike> Session<D> {
     /// Begins a pass over the sealed log with the greatest share of garbage, of those that may be collected and have at least so many
     /// per cent of it, which is this session's from then on until it is given back to `end_pass`. What the pass itself does, `next`,
     /// goes on beside the lock.
@@ -40,12 +40,13 @@ impl<D: Disk> Session<D> {
         ensures own { self.old.tells ≡ true → IfOk result (λ pass. IsOwnPass self.new pass.log.number) }
         ensures looks { self.old.tells ≡ true → IfOk result (FitsLooks D.Held.bytes) }
     {
-        let mut turn = self.lock.take(rt, &mut self.token);
+        let lock = &*self.lock;
+        let mut turn = lock.take(rt, &mut self.token);
         let locked = turn.value();
         let answer = locked.engine.pick(percent);
         let enters = answer.is_ok();
         finish::<D, Brand, R, u8, Result<Pass<Base<D::Held, D::Reader>, D::Held>, PickFail>>(
-            &*self.lock,
+            lock,
             rt,
             turn,
             &percent,
@@ -72,7 +73,8 @@ impl<D: Disk> Session<D> {
         ensures back { (back : List Candidate) → batch_back result ≡ Some back → back ≡ batch }
     {
         let asked = Snapshot::of(&batch);
-        let mut turn = self.lock.take(rt, &mut self.token);
+        let lock = &*self.lock;
+        let mut turn = lock.take(rt, &mut self.token);
         let locked = turn.value();
         let answer = match locked.engine.reader() {
             Ok(mut reader) => locked.engine.relocate(pass, batch, &mut reader.looks),
@@ -80,7 +82,7 @@ impl<D: Disk> Session<D> {
         };
         let enters = has_moved(&answer);
         finish::<D, Brand, R, Snapshot<Batch>, Result<u32, MoveFail>>(
-            &*self.lock,
+            lock,
             rt,
             turn,
             &asked,
@@ -97,10 +99,11 @@ impl<D: Disk> Session<D> {
         ensures steps { self.old.tells ≡ true → (p : layout.Pass)
             → Stepped self.old self.new (λ l h. end_pass_ruling l h p) end_pass_entry (Answered tt) }
     {
-        let mut turn = self.lock.take(rt, &mut self.token);
+        let lock = &*self.lock;
+        let mut turn = lock.take(rt, &mut self.token);
         let locked = turn.value();
         locked.engine.end_pass(pass);
-        finish::<D, Brand, R, (), ()>(&*self.lock, rt, turn, &(), &(), true);
+        finish::<D, Brand, R, (), ()>(lock, rt, turn, &(), &(), true);
     }
 }
 

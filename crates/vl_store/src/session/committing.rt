@@ -12,13 +12,13 @@ ghost use Rattle.vl_store.specs.Knowing.{GoesOn, Stepped};
 
 use super::Session;
 use super::finishing::finish;
+use crate::alike::Alike;
 use std::marker::Brand;
 use std::snapshot::Snapshot;
 use std::sync::Wait;
-use vl_disk::Disk;
 use vl_engine::{CommitFail, Done, Txn};
 
-impl<D: Disk> Session<D> {
+impl<D: Alike> Session<D> {
     /// Makes a transaction of this session the next commit, or says why not. It is synced before it is answered. A transaction that is
     /// handed back lives on as it was; otherwise it has ended.
     pub fn commit<R: Wait>(
@@ -35,7 +35,8 @@ impl<D: Disk> Session<D> {
         ensures back { (back : Txn D.Held D.Reader) → handed_back result ≡ Some back → back ≡ txn }
     {
         let asked = Snapshot::of(&txn);
-        let mut turn = self.lock.take(rt, &mut self.token);
+        let lock = &*self.lock;
+        let mut turn = lock.take(rt, &mut self.token);
         let locked = turn.value();
         let answer = locked.engine.commit(txn);
         let enters = has_ended(&answer);
@@ -45,7 +46,7 @@ impl<D: Disk> Session<D> {
             R,
             Snapshot<Txn<D::Held, D::Reader>>,
             Result<Done, CommitFail<D::Held, D::Reader>>,
-        >(&*self.lock, rt, turn, &asked, &answer, enters);
+        >(lock, rt, turn, &asked, &answer, enters);
         answer
     }
 }

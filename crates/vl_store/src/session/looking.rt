@@ -7,23 +7,25 @@ ghost use Rattle.vl_table.specs.KeptBlocks.{AreKept};
 
 use super::Session;
 use super::finishing::finish;
+use crate::alike::Alike;
 use std::marker::Brand;
 use std::sync::Wait;
 use vl_compact::JobReader;
-use vl_disk::{Disk, NoMemory};
+use vl_disk::NoMemory;
 use vl_layout::SegmentStat;
 use vl_table::BlockReader;
 
-impl<D: Disk> Session<D> {
+impl<D: Alike> Session<D> {
     /// The number of the last commit.
     pub fn number<R: Wait>(&mut self, rt: &R) -> u64
         ensures on { GoesOn self.old self.new }
         ensures looks { self.old.tells ≡ true → Looked self.old self.new (λ l h. result ≡ last_number h) }
     {
-        let mut turn = self.lock.take(rt, &mut self.token);
+        let lock = &*self.lock;
+        let mut turn = lock.take(rt, &mut self.token);
         let locked = turn.value();
         let answer = locked.engine.number();
-        finish::<D, Brand, R, (), u64>(&*self.lock, rt, turn, &(), &answer, false);
+        finish::<D, Brand, R, (), u64>(lock, rt, turn, &(), &answer, false);
         answer
     }
 
@@ -33,11 +35,12 @@ impl<D: Disk> Session<D> {
         ensures looks { self.old.tells ≡ true
             → Looked self.old self.new (λ l h. IfOk result (λ stats. stats.items ≡ (stats_ruling l h).answer)) }
     {
-        let mut turn = self.lock.take(rt, &mut self.token);
+        let lock = &*self.lock;
+        let mut turn = lock.take(rt, &mut self.token);
         let locked = turn.value();
         let answer = locked.engine.stats();
         finish::<D, Brand, R, (), Result<Vec<SegmentStat>, NoMemory>>(
-            &*self.lock,
+            lock,
             rt,
             turn,
             &(),
@@ -56,11 +59,12 @@ impl<D: Disk> Session<D> {
         ensures own { self.new.own ≡ self.old.own }
         ensures blocks { (files : Files) → IfOk result (λ reader. AreKept files reader.looks) }
     {
-        let mut turn = self.lock.take(rt, &mut self.token);
+        let lock = &*self.lock;
+        let mut turn = lock.take(rt, &mut self.token);
         let locked = turn.value();
         let answer = locked.engine.reader();
         finish::<D, Brand, R, (), Result<JobReader<D::Reader, BlockReader<D::Reader>>, NoMemory>>(
-            &*self.lock,
+            lock,
             rt,
             turn,
             &(),

@@ -2,11 +2,11 @@ ghost use Rattle.std.specs.Prelude.{◌≡◌, IfOk, IsOk};
 ghost use Rattle.vl_store.specs.Knowing.{Meets, noted};
 
 use super::Session;
+use crate::alike::Alike;
 use crate::note::Note;
 use std::alloc::AllocError;
-use vl_disk::Disk;
 
-impl<D: Disk> Session<D> {
+impl<D: Alike> Session<D> {
     /// What this session has seen.
     pub fn note(&mut self) -> Result<Note<D>, AllocError>
         ensures ok { IsOk result }

@@ -22,11 +22,11 @@ use std::marker::Brand;
 use std::snapshot::Snapshot;
 use std::sync::Wait;
 use vl_compact::{Job, Lent};
-use vl_disk::{Disk, NoMemory};
+use vl_disk::NoMemory;
 use vl_engine::{InstallFail, StepFail};
 use vl_version::Base;
 
-impl<D: Disk> Session<D> {
+impl<D: Alike> Session<D> {
     /// Plans a merge of tables, which is this session's from then on until it is given back to `install` or `abandon`. What the merge
     /// itself does, `ready` and `fill`, goes on beside the lock.
     pub fn plan<R: Wait>(
@@ -41,7 +41,8 @@ impl<D: Disk> Session<D> {
         ensures new { IfOk result (λ job. ForSome job IsNew) }
         ensures looks { self.old.tells ≡ true → IfOk result (λ job. ForSome job (FitsReaders D.Held.bytes)) }
     {
-        let mut turn = self.lock.take(rt, &mut self.token);
+        let lock = &*self.lock;
+        let mut turn = lock.take(rt, &mut self.token);
         let locked = turn.value();
         let answer = locked.engine.plan();
         let enters = is_planned(&answer);
@@ -51,7 +52,7 @@ impl<D: Disk> Session<D> {
             R,
             (),
             Result<Option<Job<Base<D::Held, D::Reader>, D::Held, D::Writer>>, NoMemory>,
-        >(&*self.lock, rt, turn, &(), &answer, enters);
+        >(lock, rt, turn, &(), &answer, enters);
         answer
     }
 
@@ -68,7 +69,8 @@ impl<D: Disk> Session<D> {
         ensures new { IfOk result (λ job. ForSome job IsNew) }
         ensures looks { self.old.tells ≡ true → IfOk result (λ job. ForSome job (FitsReaders D.Held.bytes)) }
     {
-        let mut turn = self.lock.take(rt, &mut self.token);
+        let lock = &*self.lock;
+        let mut turn = lock.take(rt, &mut self.token);
         let locked = turn.value();
         let answer = locked.engine.drain(segment);
         let enters = is_planned(&answer);
@@ -78,7 +80,7 @@ impl<D: Disk> Session<D> {
             R,
             u32,
             Result<Option<Job<Base<D::Held, D::Reader>, D::Held, D::Writer>>, NoMemory>,
-        >(&*self.lock, rt, turn, &segment, &answer, enters);
+        >(lock, rt, turn, &segment, &answer, enters);
         answer
     }
 
@@ -98,12 +100,13 @@ impl<D: Disk> Session<D> {
         ensures lent { IfOk result (IsLentTo self.new D.Writer.Writer D.Held.bytes job.new) }
         ensures empty { self.old.tells ≡ true → IfOk result (λ file. D.Writer.Writer.file file.writer ≡ Some new_file) }
     {
-        let mut turn = self.lock.take(rt, &mut self.token);
+        let lock = &*self.lock;
+        let mut turn = lock.take(rt, &mut self.token);
         let locked = turn.value();
         let answer = locked.engine.fresh(job);
         let enters = matches!(answer, Ok(_) | Err(StepFail::Disk { .. }));
         finish::<D, Brand, R, (), Result<Lent<D::Writer>, StepFail>>(
-            &*self.lock,
+            lock,
             rt,
             turn,
             &(),
@@ -126,11 +129,12 @@ impl<D: Disk> Session<D> {
             (Answered tt) }
     {
         let asked = Snapshot::of(&job);
-        let mut turn = self.lock.take(rt, &mut self.token);
+        let lock = &*self.lock;
+        let mut turn = lock.take(rt, &mut self.token);
         let locked = turn.value();
         locked.engine.abandon(job);
         finish::<D, Brand, R, Snapshot<Job<Base<D::Held, D::Reader>, D::Held, D::Writer>>, ()>(
-            &*self.lock,
+            lock,
             rt,
             turn,
             &asked,
@@ -156,7 +160,8 @@ impl<D: Alike> Session<D> {
         ensures back { ForSome (job_back result) (λ back. back ≡ job) }
     {
         let asked = Snapshot::of(&job);
-        let mut turn = self.lock.take(rt, &mut self.token);
+        let lock = &*self.lock;
+        let mut turn = lock.take(rt, &mut self.token);
         let locked = turn.value();
         let answer = locked.engine.install(job);
         let enters = !matches!(answer, Err(InstallFail::NoMemory(_)));
@@ -166,7 +171,7 @@ impl<D: Alike> Session<D> {
             R,
             Snapshot<Job<Base<D::Held, D::Reader>, D::Held, D::Writer>>,
             Result<(), InstallFail<Base<D::Held, D::Reader>, D::Held, D::Writer>>,
-        >(&*self.lock, rt, turn, &asked, &answer, enters);
+        >(lock, rt, turn, &asked, &answer, enters);
         answer
     }
 }
