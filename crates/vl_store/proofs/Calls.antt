@@ -3,12 +3,14 @@ use Rattle.std.proofs.Common.{◌≡◌, ℕ, List, [], ◌∷◌, ◌++◌, ref
 use Rattle.std.specs.Prelude.{Bool, true, Option, None, Some}
 use Rattle.vl_layout.specs.Decides.{Answered, Damaged, Decides, Effects, Failed, NoMemory, Otherwise, Outcome}
 use Rattle.vl_layout.specs.Ruling.{Exhausted, Halted, Idle, Ruling, StepAnswer, Stepped, halted_at}
+use Rattle.vl_layout.specs.Rulings.Begin as begin
+use Rattle.vl_layout.specs.Rulings.Begin.{BeginAnswer, Begun}
 use Rattle.vl_layout.specs.declared.file_name.FileName.{FileName}
 use Rattle.vl_layout.specs.declared.layout.Layout.{Layout}
 use Rattle.vl_layout.specs.declared.lock_history.LockEntry.{LockEntry}
 use Rattle.vl_layout.specs.declared.lock_history.LockStep.{LockStep}
 use Rattle.vl_layout.specs.declared.lock_history.LockStep.TheVariants.{Changed}
-use Rattle.vl_store.specs.Entries.{Done, done_by, entry_of, step_done}
+use Rattle.vl_store.specs.Entries.{Done, begin_done, done_by, entry_of, step_done}
 use Rattle.vl_store.specs.Lists.{history_by, layout_by}
 use Rattle.vl_store.specs.Merges.{MergesBy, lent_in}
 use Rattle.vl_store.specs.Standing.{IsBehind, IsWhole, Parts, Stands}
@@ -21,13 +23,13 @@ module _ {H A : Type 0} (bytes : H → Option (List ℕ)) (o : Origin) (tells : 
     (entry : Outcome A → Option LockEntry) (outcome : Outcome A) (ruling : Ruling A) (otherwise : Otherwise) (effects : Effects) where
   pub stands_on : Stands bytes o tells list x → MergesBy o (with_entry list (entry outcome)) y.merging
       → ((is : IsBehind bytes o list x) → LeadsBy bytes o list ruling otherwise entry)
-      → (IsBehind bytes o list x → Decides (IsWhole bytes y) (history_by o list) (layout_by o list) ruling otherwise outcome effects)
+      → (tells ≡ true → IsBehind bytes o list x → Decides (IsWhole bytes y) (history_by o list) (layout_by o list) ruling otherwise outcome effects)
       → Stands bytes o tells (with_entry list (entry outcome)) y
   stands_on is merges leads decides = record {
     merges = merges;
     behind = λ told.
         let behind = is.behind told in
-        goes_by bytes o list ruling otherwise entry x y outcome effects behind (leads behind) (decides behind);
+        goes_by bytes o list ruling otherwise entry x y outcome effects behind (leads behind) (decides told behind);
   }
 
 -- ---- what leaves the open merge
@@ -52,3 +54,7 @@ step_leaves l next lent (Stepped number) = (tt, lent)
 step_leaves l next lent Idle = tt
 step_leaves l next lent (Halted name) = tt
 step_leaves l next lent (Exhausted counter) = tt
+
+pub begin_leaves : (l : Layout) (a : BeginAnswer) → LeavesDone l (begin_done l a)
+begin_leaves l (Begun ticket number) = (tt, refl)
+begin_leaves l begin.TooMany = tt

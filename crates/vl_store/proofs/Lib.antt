@@ -1,4 +1,5 @@
 pub mod Calls
+pub mod Collecting
 pub mod Leading
 pub mod Legal
 pub mod Lending

@@ -1,4 +1,4 @@
-ghost use Rattle.std.specs.Prelude.{◌≡◌, true, [], IfOk};
+ghost use Rattle.std.specs.Prelude.{◌≡◌, true, [], IfOk, is_some};
 ghost use Rattle.vl_engine.specs.Answers.{begin_outcome, view_outcome};
 ghost use Rattle.vl_engine.specs.Sees.{IsNew, Sees, SeesAlone, asked, asked_view};
 ghost use Rattle.vl_layout.specs.Decides.{Answered};
@@ -6,7 +6,9 @@ ghost use Rattle.vl_layout.specs.Rulings.Begin.{begin_ruling};
 ghost use Rattle.vl_layout.specs.Rulings.Forget.{forget_ruling};
 ghost use Rattle.vl_layout.specs.Rulings.Release.{release_ruling};
 ghost use Rattle.vl_layout.specs.Rulings.View.{view_ruling};
-ghost use Rattle.vl_store.specs.Entries.{begin_entry, end_entry};
+ghost use Rattle.vl_layout.specs.declared.layout.Layout.{Layout};
+ghost use Rattle.vl_layout.specs.declared.lock_history.LockStep.{LockStep};
+ghost use Rattle.vl_store.specs.Entries.{begin_done, begin_entry, done_by, end_entry};
 ghost use Rattle.vl_store.specs.Knowing.{GoesOn, IsOwnTicket, Stepped};
 ghost use Rattle.vl_store.specs.Lists.{history_by};
 
@@ -34,7 +36,7 @@ impl<D: Alike> Session<D> {
         let mut turn = lock.take(rt, &mut self.token);
         let locked = turn.value();
         let answer = locked.engine.begin();
-        let enters = answer.is_ok();
+        let enters = has_begun(&answer);
         finish::<D, Brand, R, (), Result<Txn<D::Held, D::Reader>, BeginFail>>(
             lock,
             rt,
@@ -58,7 +60,7 @@ impl<D: Alike> Session<D> {
         let mut turn = lock.take(rt, &mut self.token);
         let locked = turn.value();
         let answer = locked.engine.view();
-        let enters = answer.is_ok();
+        let enters = is_begun(&answer);
         finish::<D, Brand, R, (), Result<View<D::Held, D::Reader>, BeginFail>>(
             lock,
             rt,
@@ -113,4 +115,18 @@ impl<D: Alike> Session<D> {
             true,
         );
     }
+}
+
+// Whether a transaction was begun.
+fn has_begun<H, R>(answer: &Result<Txn<H, R>, BeginFail>) -> bool
+    ensures { (l : Layout) (failed : LockStep × Layout) → result ≡ is_some (done_by (begin_done l) failed (begin_outcome answer.now)) }
+{
+    matches!(answer, Ok(_))
+}
+
+// Whether a view was begun.
+fn is_begun<H, R>(answer: &Result<View<H, R>, BeginFail>) -> bool
+    ensures { (l : Layout) (failed : LockStep × Layout) → result ≡ is_some (done_by (begin_done l) failed (view_outcome answer.now)) }
+{
+    matches!(answer, Ok(_))
 }

@@ -60,7 +60,7 @@ finish-requires-clause-stands g c =
     (merges_left o v.seen old.merging new.merging st.merges c.rotate-answer.ensures.merging (rotate_entry s l h outcome)
     (leaves_merge l s done (leaves_by l (step_done (rotated l)) (Changed, l) outcome (step_leaves l (rotated l) refl) (tt, refl))))
     (λ is. rotate_leads bytes o v.seen x is s)
-    (λ is. let w = is.whole in whole_by bytes y h l (rotate_ruling l h) (as_before l l) outcome (rotate_effects c.rotate-answer.result)
+    (λ told is. let w = is.whole in whole_by bytes y h l (rotate_ruling l h) (as_before l l) outcome (rotate_effects c.rotate-answer.result)
         (c.rotate-answer.ensures.carries h l w.represents).decides
         (still_open l h bytes y old.merging (rotate_ruling l h) l outcome (rotate_effects c.rotate-answer.result) (rotate_job l h) refl
         c.rotate-answer.ensures.merging w.opens)
