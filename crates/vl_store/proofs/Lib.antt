@@ -1,3 +1,4 @@
+pub mod Begins
 pub mod Calls
 pub mod Collecting
 pub mod Leading

@@ -79,7 +79,7 @@ module _ {T : Type 0} (meaning : T → T → List LockEntry → Type 0) (name : 
   owns_after : after.me.0.owns ≡ record { number = is.session; entries = with_entry is.own e } ∷ []
   owns_after = ap (λ (u : View T LockEntry). u.owns) gave_is ∙ (ap (λ os. own_after os e) owns_now ∙ own_with is.session is.own e)
 
-  seen_after : after.me.0.seen ≡ with_entry v.seen e
+  pub seen_after : after.me.0.seen ≡ with_entry v.seen e
   seen_after = ap (λ (u : View T LockEntry). u.seen) gave_is
 
   pub session_after : IsTokenOf name start after → IsSession name start after
@@ -88,7 +88,7 @@ module _ {T : Type 0} (meaning : T → T → List LockEntry → Type 0) (name : 
   number_before : session_in before.me.0.owns ≡ is.session
   number_before = ap session_in is.owns
 
-  own_is : own_in after.me.0.owns ≡ with_entry (own_in before.me.0.owns) e
+  pub own_is : own_in after.me.0.owns ≡ with_entry (own_in before.me.0.owns) e
   own_is = ap own_in owns_after ∙ ap (λ own. with_entry own e) (sym (ap own_in is.owns))
 
   pub on_after : GoesOn (knowing name origin tells before) (knowing name origin tells after)

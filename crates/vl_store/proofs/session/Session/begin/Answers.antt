@@ -1,5 +1,5 @@
-use Rattle.std.proofs.Common.{◌≡◌, refl, sym, ap, ◌∙◌, subst}
-use Rattle.std.specs.Prelude.{is_some, true}
+use Rattle.std.proofs.Common.{◌≡◌, refl, sym, ap, ◌∙◌, subst, []}
+use Rattle.std.specs.Prelude.{is_some, true, IfOk}
 use Rattle.vl_store.specs.Entries.{begin_done, begin_entry, done_by}
 use Rattle.vl_store.specs.Knowing.{GoesOn, IsSession, Stepped, session_in}
 use Rattle.vl_store.specs.Lists.{history_by, layout_by}
@@ -15,6 +15,10 @@ use Rattle.vl_layout.specs.declared.lock_history.LockStep.TheVariants.{Changed}
 use Rattle.vl_store.proofs.Collecting.{begin_same, collects_by, same_work}
 use Rattle.vl_store.proofs.Steps.{begin_leads}
 use Rattle.vl_store.proofs.Wholes.{begin_job, still_open, whole_by}
+use Rattle.vl_engine.specs.Sees.{Sees}
+use Rattle.vl_store.specs.Knowing.{Knows, own_in}
+use Rattle.vl_store.proofs.Begins.{txn_own, txn_sees}
+use Rattle.vl_store.proofs.Sessions.{own_is, seen_after}
 use Rattle.vl_store.proofs.session.Session.begin.Goals as goal
 
 pub finish-requires-clause-entry : goal.finish-requires-clause-entry
@@ -121,3 +125,36 @@ returns-clause-steps g c =
         c.finish.ensures.entered begin_ruling begin_entry outcome _ (as_before l l) no_effects refl
         (c.begin-answer.ensures.represents h l w.represents)
         ((finish-requires-clause-stands g c.before).behind told).legal))
+
+pub returns-clause-own : goal.returns-clause-own
+returns-clause-own g c told =
+    let at = c.deref-lock.result.now in
+    let o = (lock_start at).origin.me.0 in
+    let v = c.take-turn.result.token.now.me.0 in
+    let before = c.self.inside.token in
+    let after = c.finish.new.turn.1.0 in
+    let is = over (sym c.deref-lock.ensures) (λ (k : _). IsSession (lock_name k) (lock_start k) before) c.self.invariant in
+    txn_own (session_in v.owns) (layout_by o v.seen) (history_by o v.seen) (own_in before.me.0.owns) (own_in after.me.0.owns) c.begin-answer.result
+    (own_is _ (lock_name at) (lock_start at) o (is_some (g.D.Watched.told (lock_start at).engine.disk)) c.take-turn.result.value before after v _
+    is c.take-turn.ensures.begins c.finish.ensures.entered)
+
+pub returns-clause-sees : goal.returns-clause-sees
+returns-clause-sees g c told =
+    let at = c.deref-lock.result.now in
+    let o = (lock_start at).origin.me.0 in
+    let tells = is_some (g.D.Watched.told (lock_start at).engine.disk) in
+    let bytes = g.D.Held.HeldFile.bytes in
+    let v = c.take-turn.result.token.now.me.0 in
+    let l = layout_by o v.seen in
+    let before = c.self.inside.token in
+    let after = c.finish.new.turn.1.0 in
+    let st = subst (λ (k : _). Stands bytes o tells v.seen (parts (g.D.Watched.told k.engine.disk) k.engine.core k.engine.merging k.engine.collecting))
+        (sym c.value-locked.ensures.value) c.take-turn.ensures.begins.meaning.1 in
+    let is = over (sym c.deref-lock.ensures) (λ (k : _). IsSession (lock_name k) (lock_start k) before) c.self.invariant in
+    let told_then = over (sym c.deref-lock.ensures) (λ (k : _). is_some (g.D.Watched.told (lock_start k).engine.disk) ≡ true)
+        (subst (λ (u : Knows). u.tells ≡ true) (sym c.self.view_is) told) in
+    let w = (st.behind told_then).whole in
+    over c.deref-lock.ensures (λ (k : _). IfOk c.begin-answer.result (λ r. Sees bytes r (history_by (lock_start k).origin.me.0 after.me.0.seen) []))
+    (txn_sees bytes o (session_in v.owns) l v.seen after.me.0.seen c.begin-answer.result
+    (seen_after _ (lock_name at) (lock_start at) o tells c.take-turn.result.value before after v _ is c.take-turn.ensures.begins c.finish.ensures.entered)
+    (c.begin-answer.ensures.sees (history_by o v.seen) l w.represents.stands))
