@@ -5,12 +5,16 @@ use Rattle.vl_layout.specs.Decides.{Answered, Damaged, Decides, Effects, Failed,
 use Rattle.vl_layout.specs.Ruling.{Exhausted, Halted, Idle, Ruling, StepAnswer, Stepped, halted_at}
 use Rattle.vl_layout.specs.Rulings.Begin as begin
 use Rattle.vl_layout.specs.Rulings.Begin.{BeginAnswer, Begun}
+use Rattle.vl_layout.specs.Rulings.Commit as commit
+use Rattle.vl_layout.specs.Rulings.Commit.{CommitAnswer}
+use Rattle.vl_model.specs.History.{History}
+use Rattle.vl_model.specs.declared.change.Change.{Change}
 use Rattle.vl_layout.specs.declared.file_name.FileName.{FileName}
 use Rattle.vl_layout.specs.declared.layout.Layout.{Layout}
 use Rattle.vl_layout.specs.declared.lock_history.LockEntry.{LockEntry}
 use Rattle.vl_layout.specs.declared.lock_history.LockStep.{LockStep}
 use Rattle.vl_layout.specs.declared.lock_history.LockStep.TheVariants.{Changed}
-use Rattle.vl_store.specs.Entries.{Done, begin_done, done_by, entry_of, step_done}
+use Rattle.vl_store.specs.Entries.{Done, begin_done, commit_done, done_by, entry_of, step_done}
 use Rattle.vl_store.specs.Lists.{history_by, layout_by}
 use Rattle.vl_store.specs.Merges.{MergesBy, lent_in}
 use Rattle.vl_store.specs.Standing.{IsBehind, IsWhole, Parts, Stands}
@@ -58,3 +62,12 @@ step_leaves l next lent (Exhausted counter) = tt
 pub begin_leaves : (l : Layout) (a : BeginAnswer) → LeavesDone l (begin_done l a)
 begin_leaves l (Begun ticket number) = (tt, refl)
 begin_leaves l begin.TooMany = tt
+
+pub commit_leaves : (ticket : ℕ) (writes : List (List ℕ × Change)) (l : Layout) (h : History) (a : CommitAnswer)
+    → LeavesDone l (commit_done ticket writes l h a)
+commit_leaves ticket writes l h (commit.At number) = (tt, refl)
+commit_leaves ticket writes l h commit.Nothing = (tt, refl)
+commit_leaves ticket writes l h (commit.Halted name) = (tt, refl)
+commit_leaves ticket writes l h (commit.Exhausted counter) = tt
+commit_leaves ticket writes l h (commit.Conflict key number) = (tt, refl)
+commit_leaves ticket writes l h (commit.Full length frame) = tt

@@ -7,5 +7,6 @@ pub mod Lending
 pub mod Owning
 pub mod Sessions
 pub mod Steps
+pub mod Tickets
 pub mod Wholes
 pub mod Works

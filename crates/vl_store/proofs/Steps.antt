@@ -32,7 +32,7 @@ use Rattle.vl_model.specs.Limits.{max_commit_number, max_live}
 use Rattle.vl_model.specs.declared.counter.Counter.TheVariants as counter
 use Rattle.vl_model.specs.declared.log_frame.LogFrame.{LogFrame}
 use Rattle.vl_seglog.specs.declared.sealed.SealedLog.{SealedLog}
-use Rattle.vl_store.specs.Entries.{begin_entry, commit_done, commit_entry, entry_by, flush_entry, rotate_entry, step_done}
+use Rattle.vl_store.specs.Entries.{begin_entry, commit_done, commit_entry, end_entry, entry_by, flush_entry, rotate_entry, step_done}
 use Rattle.vl_store.specs.Lists.{history_by, layout_by, open_by, past_of}
 use Rattle.vl_store.specs.Standing.{IsBehind, Parts}
 use Rattle.vl_store.specs.declared.locked.Origin.{Origin}
@@ -97,6 +97,17 @@ module _ {H : Type 0} (bytes : H → Option (List ℕ)) (o : Origin) (list : Lis
       (λ (m : Layout). LeadsTo bytes o list (Some (record { session = session; step = Ended ticket; layout = m })) h m) (sym is_ended)
       (enters (Ended ticket) (ended ticket l) refl (ends o list is.start is.legal session ticket (ended ticket l) opens refl refl refl)
       (λ log lasts. lasts_same bytes log l lasts _ refl refl))
+
+  pub ends_lead : (ticket : ℕ) → IsOpen session ticket (open_by list).tickets
+      → LeadsBy bytes o list (leaving {A = Unit {0}} tt h (ended ticket l)) (as_before l (ended ticket l)) (end_entry ticket session l h)
+  ends_lead ticket opens = record {
+    answered = end_leads ticket (ended ticket l) opens refl;
+    short = stays;
+    failed = λ name. enters (Ended ticket) (halted_at name (ended ticket l)) refl
+        (ends o list is.start is.legal session ticket (halted_at name (ended ticket l)) opens refl refl refl)
+        (λ log lasts. lasts_same bytes log l lasts _ refl refl);
+    damaged = λ name place. stays;
+  }
 
   -- ---- commits
 

@@ -1,7 +1,7 @@
 -- What an engine's call leaves, put together of what its clauses say.
 use Rattle.std.proofs.Common.{◌≡◌, ℕ, List, [], ◌∷◌, length, refl, sym, ap, ◌∙◌, subst}
 use Rattle.std.specs.Prelude.{Bool, true, false, ◌==◌, nat_le, if◌then◌else◌, Option, None, Some}
-use Rattle.vl_layout.specs.Decides.{Decides, Effects, Otherwise, Outcome, as_before}
+use Rattle.vl_layout.specs.Decides.{Answered, Damaged, Decides, Effects, Failed, NoMemory, Otherwise, Outcome, as_before, no_effects}
 use Rattle.vl_layout.specs.Ruling.{Ruling, StepAnswer, has_no_number, has_no_version, halted_at, leaving}
 use Rattle.vl_layout.specs.Rulings.Begin.{BeginAnswer, begin_ruling}
 use Rattle.vl_layout.specs.Rulings.Flush.{flush_of, flush_ruling, flush_unless}
@@ -72,6 +72,23 @@ module _ {H A : Type 0} (bytes : H → Option (List ℕ)) (y : Parts H) (h : His
       (represents.damaged name place at).1,
     );
   }
+
+-- a call that is always answered, and leaves this
+pub always_by : {H : Type 0} (bytes : H → Option (List ℕ)) (y : Parts H) (h : History) (l m : Layout) → IsWhole bytes y h m
+    → Decides (IsWhole bytes y) h l (leaving {A = Unit {0}} tt h m) (as_before l m) (Answered tt) no_effects
+always_by {H} bytes y h l m whole = record {
+  answered = λ a at. (refl, whole);
+  did = λ a at. refl;
+  no_memory = λ at. absurd (subst IsAnswer at tt);
+  failed = λ name at. absurd (subst IsAnswer at tt);
+  damaged = λ name place at. absurd (subst IsAnswer at tt);
+}
+  where
+    IsAnswer : Outcome (Unit {0}) → Type 0
+    IsAnswer (Answered a) = Unit {0}
+    IsAnswer NoMemory = ⊥
+    IsAnswer (Failed name) = ⊥
+    IsAnswer (Damaged name place) = ⊥
 
 -- ---- the open merge stays
 

@@ -1,7 +1,7 @@
 ghost use Rattle.std.specs.Prelude.{◌≡◌, ℕ};
 
 /// Tried.
-#[tactic(auto, using(crate::proofs::Lending::merges_left, crate::proofs::Sessions::stepped_after, crate::proofs::Wholes::whole_by))]
+#[tactic(auto, using(crate::proofs::Tickets::ticket_lives, crate::proofs::Steps::ends_lead, crate::proofs::Wholes::always_by))]
 pub fn tried()
     ensures { (n : ℕ) → n ≡ n }
 {}

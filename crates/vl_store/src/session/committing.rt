@@ -1,4 +1,4 @@
-ghost use Rattle.std.specs.Prelude.{◌≡◌, true, List, Some};
+ghost use Rattle.std.specs.Prelude.{◌≡◌, ℕ, is_some, true, List, Some};
 ghost use Rattle.std.specs.FinMap.{entries};
 ghost use Rattle.vl_engine.specs.Answers.{commit_outcome, handed_back};
 ghost use Rattle.vl_engine.specs.Sees.{asked};
@@ -6,7 +6,11 @@ ghost use Rattle.vl_engine.specs.declared.txn.Txn.{Txn};
 ghost use Rattle.vl_layout.specs.Rulings.Commit.{commit_ruling};
 ghost use Rattle.vl_model.specs.Notes.{AreNotesOf};
 ghost use Rattle.vl_model.specs.Reads.{Read};
-ghost use Rattle.vl_store.specs.Entries.{commit_entry};
+ghost use Rattle.vl_layout.specs.declared.layout.Layout.{Layout};
+ghost use Rattle.vl_layout.specs.declared.lock_history.LockStep.{LockStep};
+ghost use Rattle.vl_model.specs.History.{History};
+ghost use Rattle.vl_model.specs.declared.change.Change.{Change};
+ghost use Rattle.vl_store.specs.Entries.{commit_done, commit_entry, done_by};
 ghost use Rattle.vl_store.specs.Handing.{IsOwnTxn};
 ghost use Rattle.vl_store.specs.Knowing.{GoesOn, Stepped};
 
@@ -52,7 +56,10 @@ impl<D: Alike> Session<D> {
 }
 
 // Whether the transaction has ended.
-fn has_ended<H, R>(answer: &Result<Done, CommitFail<H, R>>) -> bool {
+fn has_ended<H, R>(answer: &Result<Done, CommitFail<H, R>>) -> bool
+    ensures { (ticket : ℕ) (writes : List (List ℕ × Change)) (l : Layout) (h : History) (failed : LockStep × Layout)
+        → result ≡ is_some (done_by (commit_done ticket writes l h) failed (commit_outcome answer.now)) }
+{
     matches!(
         answer,
         Ok(_)

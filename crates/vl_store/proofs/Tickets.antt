@@ -1,0 +1,57 @@
+-- What a session has open by its own steps lives in the layout that it finds, and is open there.
+use Rattle.std.proofs.Common.{◌≡◌, ℕ, List, [], ◌∷◌, ◌++◌, refl, sym, ap, ◌∙◌, subst, arith}
+use Rattle.std.proofs.lemmas.Bool.Decides.{nat_tests}
+use Rattle.std.specs.Cmp.{unsigned_tied}
+use Rattle.std.specs.FinMap.{find}
+use Rattle.std.specs.Ordering.{eq_by_cmp, nat_cmp}
+use Rattle.std.specs.Prelude.{Bool, true, false, cond, ◌==◌, Option, None, Some}
+use Rattle.atomic_table.specs.Seated.{TableId}
+use Rattle.atomic_table.specs.declared.shared.Seat.{Seat}
+use Rattle.vl_core.specs.Represents.{IsLive}
+use Rattle.vl_layout.specs.LockHistory.{HasOpen, IsLegal, IsOpen, OpenTicket, entries_by, nothing_open, number_of, open_tickets, tickets_in}
+use Rattle.vl_layout.specs.Tickets.{tickets_of}
+use Rattle.vl_layout.specs.declared.lock_history.LockEntry.{LockEntry}
+use Rattle.vl_layout.specs.laws.LockHistoryLaws.{own_is_open}
+use Rattle.vl_store.specs.Knowing.{IsSession, own_in, session_in}
+use Rattle.vl_store.specs.Lists.{layout_by, open_by}
+use Rattle.vl_store.specs.declared.locked.Origin.{Origin}
+use Rattle.vl_store.proofs.Legal.{has}
+use Rattle.vl_store.proofs.Sessions.{by, owns_in_turn}
+use Rattle.vl_turn.specs.Entries.{Owned}
+use Rattle.vl_turn.specs.Tokens.{Begins}
+use Rattle.vl_turn.specs.declared.view.Own.{Own}
+use Rattle.vl_turn.specs.declared.view.View.{View}
+
+found : (ticket : ℕ) (ts : List OpenTicket) → find nat_cmp ticket (tickets_in ts) ≡ number_of ticket ts
+found ticket [] = refl
+found ticket (t ∷ ts) =
+    ap (λ b. cond b (Some t.number) (find nat_cmp ticket (tickets_in ts))) (unsigned_tied ticket t.ticket ∙ turned ticket t.ticket)
+    ∙ ap (λ o. cond (t.ticket == ticket) (Some t.number) o) (found ticket ts)
+  where
+    turned : (m n : ℕ) → (m == n) ≡ (n == m)
+    turned m n = grind (arith, nat_tests)
+
+module _ {T : Type 0} (meaning : T → T → List LockEntry → Type 0) (name : TableId) (start value : T)
+    (before : Seat (Option T) (View T LockEntry)) (v : View T LockEntry) (is : IsSession name start before)
+    (begins : Begins meaning by start before.me.0 v value) where
+  number_is : session_in v.owns ≡ is.session
+  number_is = ap session_in (owns_in_turn meaning name start value before v is begins)
+
+  -- all of a session's entries in the list are its own
+  pub own_all : own_in before.me.0.owns ≡ entries_by (session_in v.owns) v.seen
+  own_all =
+      let one = owns_in_turn meaning name start value before v is begins in
+      ap own_in is.owns ∙ ((subst (Owned by v.seen) one begins.owns).0 ∙ ap (λ n. entries_by n v.seen) (sym number_is))
+
+  module _ (o : Origin) (legal : IsLegal o.number v.seen) (ticket number : ℕ)
+      (own : number_of ticket (open_tickets [] (own_in before.me.0.owns)) ≡ Some number) where
+    both : (number_of ticket (open_by v.seen).tickets ≡ Some number) × IsOpen (session_in v.owns) ticket (open_by v.seen).tickets
+    both = own_is_open o.number (session_in v.owns) ticket number v.seen legal
+        (sym (ap (λ es. number_of ticket (open_tickets [] es)) own_all) ∙ own)
+
+    pub ticket_open : IsOpen (session_in v.owns) ticket (open_by v.seen).tickets
+    ticket_open = both.1
+
+    pub ticket_lives : HasOpen nothing_open o.layout → IsLive (layout_by o v.seen) ticket number
+    ticket_lives begun =
+        ap (find nat_cmp ticket) (has o v.seen begun legal 0).live ∙ (found ticket (open_by v.seen).tickets ∙ both.0)
