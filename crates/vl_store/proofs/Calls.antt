@@ -26,14 +26,14 @@ use Rattle.vl_turn.specs.Entries.{with_entry}
 module _ {H A : Type 0} (bytes : H → Option (List ℕ)) (o : Origin) (tells : Bool) (list : List LockEntry) (x y : Parts H)
     (entry : Outcome A → Option LockEntry) (outcome : Outcome A) (ruling : Ruling A) (otherwise : Otherwise) (effects : Effects) where
   pub stands_on : Stands bytes o tells list x → MergesBy o (with_entry list (entry outcome)) y.merging
-      → ((is : IsBehind bytes o list x) → LeadsBy bytes o list ruling otherwise entry)
+      → (tells ≡ true → (is : IsBehind bytes o list x) → LeadsBy bytes o list ruling otherwise entry)
       → (tells ≡ true → IsBehind bytes o list x → Decides (IsWhole bytes y) (history_by o list) (layout_by o list) ruling otherwise outcome effects)
       → Stands bytes o tells (with_entry list (entry outcome)) y
   stands_on is merges leads decides = record {
     merges = merges;
     behind = λ told.
         let behind = is.behind told in
-        goes_by bytes o list ruling otherwise entry x y outcome effects behind (leads behind) (decides told behind);
+        goes_by bytes o list ruling otherwise entry x y outcome effects behind (leads told behind) (decides told behind);
   }
 
 -- ---- what leaves the open merge

@@ -126,3 +126,18 @@ module _ {T : Type 0} (meaning : T → T → List LockEntry → Type 0) (name : 
           own = own_is ∙ ap (with_entry (own_in before.me.0.owns)) entered_is;
           legal = subst (IsLegal origin.number) (sym seen_after) legal;
         }
+
+-- a turn that entered nothing
+module _ {T : Type 0} (meaning : T → T → List LockEntry → Type 0) (name : TableId) (start : T) (origin : Origin) (tells : Bool)
+    (value : T) (before after : Seat (Option T) (View T LockEntry)) (v : View T LockEntry) (is : IsSession name start before)
+    (begins : Begins meaning by start before.me.0 v value) (gave_is : after.me.0 ≡ gave (entered v None)) where
+  pub looked_after : (answered : Layout → History → Type 0) → IsLegal origin.number v.seen
+      → answered (layout_by origin v.seen) (history_by origin v.seen)
+      → Looked (knowing name origin tells before) (knowing name origin tells after) answered
+  looked_after answered legal answer =
+      let same : after.me.0.seen ≡ v.seen = seen_after meaning name start origin tells value before after v None is begins gave_is in
+      record {
+        own = own_is meaning name start origin tells value before after v None is begins gave_is;
+        legal = subst (IsLegal origin.number) (sym same) legal;
+        answer = subst (λ (es : List LockEntry). answered (layout_by origin es) (history_by origin es)) (sym same) answer;
+      }

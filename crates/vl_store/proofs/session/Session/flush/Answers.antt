@@ -1,6 +1,6 @@
 use Rattle.std.proofs.Common.{◌≡◌, refl, sym, ap, ◌∙◌, subst}
 use Rattle.std.specs.Prelude.{is_some, true}
-use Rattle.vl_store.specs.Entries.{flush_entry, step_done, done_by}
+use Rattle.vl_store.specs.Entries.{Done, flush_entry, step_done, done_by}
 use Rattle.vl_store.specs.Knowing.{GoesOn, IsSession, Stepped, session_in}
 use Rattle.vl_store.specs.Lists.{history_by, layout_by}
 use Rattle.vl_store.specs.Standing.{Stands, parts}
@@ -36,8 +36,8 @@ finish-requires-clause-entry g c =
     let st = subst (λ (k : _). Stands bytes o tells v.seen (parts (g.D.Watched.told k.engine.disk) k.engine.core k.engine.merging k.engine.collecting))
         (sym c.value-locked.ensures.value) c.take-turn.ensures.begins.meaning.1 in
     let outcome = step_outcome c.flush-answer.result in
-    let done = done_by (step_done (flush_ruling l h).layout) (Changed, l) outcome in
-    may_enter v c.self.invariant.session c.self.invariant.own done c.has_stepped-enters.result
+    let done : Done = done_by (step_done (flush_ruling l h).layout) (Changed, l) outcome in
+    may_enter v c.self.invariant.session c.self.invariant.own (done) c.has_stepped-enters.result
     (ap (λ u. u.owns) c.take-turn.ensures.begins.is ∙ c.self.invariant.owns) (c.has_stepped-enters.ensures (flush_ruling l h).layout (Changed, l))
 
 pub finish-requires-clause-stands : goal.finish-requires-clause-stands
@@ -57,11 +57,11 @@ finish-requires-clause-stands g c =
     let st = subst (λ (k : _). Stands bytes o tells v.seen (parts (g.D.Watched.told k.engine.disk) k.engine.core k.engine.merging k.engine.collecting))
         (sym c.value-locked.ensures.value) c.take-turn.ensures.begins.meaning.1 in
     let outcome = step_outcome c.flush-answer.result in
-    let done = done_by (step_done (flush_ruling l h).layout) (Changed, l) outcome in
-    stands_on bytes o tells v.seen x y (flush_entry s l h) outcome (flush_ruling l h) (as_before l l) (flush_effects c.flush-answer.result) st
-    (merges_left o v.seen old.merging new.merging st.merges c.flush-answer.ensures.merging (flush_entry s l h outcome)
+    let done : Done = done_by (step_done (flush_ruling l h).layout) (Changed, l) outcome in
+    stands_on bytes o tells v.seen x y ((flush_entry) s l h) outcome (flush_ruling l h) (as_before l l) (flush_effects c.flush-answer.result) st
+    (merges_left o v.seen old.merging new.merging st.merges c.flush-answer.ensures.merging ((flush_entry) s l h outcome)
     (leaves_merge l s done (leaves_by l (step_done (flush_ruling l h).layout) (Changed, l) outcome (step_leaves l (flush_ruling l h).layout (ap lent_numbers (flush_job l h))) (tt, refl))))
-    (λ is. flush_leads bytes o v.seen x is s)
+    (λ told is. flush_leads bytes o v.seen x is s)
     (λ told is. let w = is.whole in let told_is = told_some (g.D.Watched.told (lock_start at).engine.disk) (g.D.Watched.told old.disk) told
         (λ none. g.met.D.Alike.alike old.disk (lock_start at).engine.disk none) in
         whole_by bytes y h l (flush_ruling l h) (as_before l l) outcome (flush_effects c.flush-answer.result)
@@ -75,16 +75,28 @@ finish-requires-clause-stands g c =
 pub invariant_of-self : goal.invariant_of-self
 invariant_of-self g c =
     let at = c.deref-lock.result.now in
+    let o = (lock_start at).origin.me.0 in
+    let v = c.take-turn.result.token.now.me.0 in
+    let s = session_in v.owns in
+    let l = layout_by o v.seen in
+    let h = history_by o v.seen in
+    let outcome = step_outcome c.flush-answer.result in
     let before = c.self.inside.token in
     let is = over (sym c.deref-lock.ensures) (λ (k : _). IsSession (lock_name k) (lock_start k) before) c.self.invariant in
     over c.deref-lock.ensures (λ (k : _). IsSession (lock_name k) (lock_start k) c.finish.new.turn.1.0)
     (session_after _ (lock_name at) (lock_start at) (lock_start at).origin.me.0
     (is_some (g.D.Watched.told (lock_start at).engine.disk)) c.take-turn.result.value before c.finish.new.turn.1.0
-    c.take-turn.result.token.now.me.0 _ is c.take-turn.ensures.begins c.finish.ensures.entered c.finish.ensures.token)
+    c.take-turn.result.token.now.me.0 ((flush_entry) s l h outcome) is c.take-turn.ensures.begins c.finish.ensures.entered c.finish.ensures.token)
 
 pub returns-clause-on : goal.returns-clause-on
 returns-clause-on g c =
     let at = c.deref-lock.result.now in
+    let o = (lock_start at).origin.me.0 in
+    let v = c.take-turn.result.token.now.me.0 in
+    let s = session_in v.owns in
+    let l = layout_by o v.seen in
+    let h = history_by o v.seen in
+    let outcome = step_outcome c.flush-answer.result in
     let before = c.self.inside.token in
     let after = c.finish.new.turn.1.0 in
     let is = over (sym c.deref-lock.ensures) (λ (k : _). IsSession (lock_name k) (lock_start k) before) c.self.invariant in
@@ -93,7 +105,7 @@ returns-clause-on g c =
         (knowing (lock_name k) (lock_start k).origin.me.0 (is_some (g.D.Watched.told (lock_start k).engine.disk)) after))
     (on_after _ (lock_name at) (lock_start at) (lock_start at).origin.me.0
     (is_some (g.D.Watched.told (lock_start at).engine.disk)) c.take-turn.result.value before after
-    c.take-turn.result.token.now.me.0 _ is c.take-turn.ensures.begins c.finish.ensures.entered))
+    c.take-turn.result.token.now.me.0 ((flush_entry) s l h outcome) is c.take-turn.ensures.begins c.finish.ensures.entered))
 
 pub returns-clause-steps : goal.returns-clause-steps
 returns-clause-steps g c =
@@ -112,7 +124,7 @@ returns-clause-steps g c =
     let st = subst (λ (k : _). Stands bytes o tells v.seen (parts (g.D.Watched.told k.engine.disk) k.engine.core k.engine.merging k.engine.collecting))
         (sym c.value-locked.ensures.value) c.take-turn.ensures.begins.meaning.1 in
     let outcome = step_outcome c.flush-answer.result in
-    let done = done_by (step_done (flush_ruling l h).layout) (Changed, l) outcome in
+    let done : Done = done_by (step_done (flush_ruling l h).layout) (Changed, l) outcome in
     let before = c.self.inside.token in
     let after = c.finish.new.turn.1.0 in
     let is = over (sym c.deref-lock.ensures) (λ (k : _). IsSession (lock_name k) (lock_start k) before) c.self.invariant in
@@ -122,7 +134,7 @@ returns-clause-steps g c =
         flush_ruling flush_entry outcome)
     (λ told.
         let w = (st.behind told).whole in
-        stepped_after _ (lock_name at) (lock_start at) o tells c.take-turn.result.value before after v _ is c.take-turn.ensures.begins
+        stepped_after _ (lock_name at) (lock_start at) o tells c.take-turn.result.value before after v ((flush_entry) s l h outcome) is c.take-turn.ensures.begins
         c.finish.ensures.entered flush_ruling flush_entry outcome _ (as_before l l) (flush_effects c.flush-answer.result) refl
         ((c.flush-answer.ensures.carries h l w.represents).decides)
         ((finish-requires-clause-stands g c.before).behind told).legal))

@@ -1,6 +1,6 @@
 use Rattle.std.proofs.Common.{◌≡◌, refl, sym, ap, ◌∙◌, subst}
 use Rattle.std.specs.Prelude.{is_some, true}
-use Rattle.vl_store.specs.Entries.{rotate_entry, step_done, done_by}
+use Rattle.vl_store.specs.Entries.{Done, rotate_entry, step_done, done_by}
 use Rattle.vl_store.specs.Knowing.{GoesOn, IsSession, Stepped, session_in}
 use Rattle.vl_store.specs.Lists.{history_by, layout_by}
 use Rattle.vl_store.specs.Standing.{Stands, parts}
@@ -34,8 +34,8 @@ finish-requires-clause-entry g c =
     let st = subst (λ (k : _). Stands bytes o tells v.seen (parts (g.D.Watched.told k.engine.disk) k.engine.core k.engine.merging k.engine.collecting))
         (sym c.value-locked.ensures.value) c.take-turn.ensures.begins.meaning.1 in
     let outcome = step_outcome c.rotate-answer.result in
-    let done = done_by (step_done (rotated l)) (Changed, l) outcome in
-    may_enter v c.self.invariant.session c.self.invariant.own done c.has_stepped-enters.result
+    let done : Done = done_by (step_done (rotated l)) (Changed, l) outcome in
+    may_enter v c.self.invariant.session c.self.invariant.own (done) c.has_stepped-enters.result
     (ap (λ u. u.owns) c.take-turn.ensures.begins.is ∙ c.self.invariant.owns) (c.has_stepped-enters.ensures (rotated l) (Changed, l))
 
 pub finish-requires-clause-stands : goal.finish-requires-clause-stands
@@ -55,11 +55,11 @@ finish-requires-clause-stands g c =
     let st = subst (λ (k : _). Stands bytes o tells v.seen (parts (g.D.Watched.told k.engine.disk) k.engine.core k.engine.merging k.engine.collecting))
         (sym c.value-locked.ensures.value) c.take-turn.ensures.begins.meaning.1 in
     let outcome = step_outcome c.rotate-answer.result in
-    let done = done_by (step_done (rotated l)) (Changed, l) outcome in
-    stands_on bytes o tells v.seen x y (rotate_entry s l h) outcome (rotate_ruling l h) (as_before l l) (rotate_effects c.rotate-answer.result) st
-    (merges_left o v.seen old.merging new.merging st.merges c.rotate-answer.ensures.merging (rotate_entry s l h outcome)
+    let done : Done = done_by (step_done (rotated l)) (Changed, l) outcome in
+    stands_on bytes o tells v.seen x y ((rotate_entry) s l h) outcome (rotate_ruling l h) (as_before l l) (rotate_effects c.rotate-answer.result) st
+    (merges_left o v.seen old.merging new.merging st.merges c.rotate-answer.ensures.merging ((rotate_entry) s l h outcome)
     (leaves_merge l s done (leaves_by l (step_done (rotated l)) (Changed, l) outcome (step_leaves l (rotated l) refl) (tt, refl))))
-    (λ is. rotate_leads bytes o v.seen x is s)
+    (λ told is. rotate_leads bytes o v.seen x is s)
     (λ told is. let w = is.whole in whole_by bytes y h l (rotate_ruling l h) (as_before l l) outcome (rotate_effects c.rotate-answer.result)
         (c.rotate-answer.ensures.carries h l w.represents).decides
         (still_open l h bytes y old.merging (rotate_ruling l h) l outcome (rotate_effects c.rotate-answer.result) (rotate_job l h) refl
@@ -70,16 +70,28 @@ finish-requires-clause-stands g c =
 pub invariant_of-self : goal.invariant_of-self
 invariant_of-self g c =
     let at = c.deref-lock.result.now in
+    let o = (lock_start at).origin.me.0 in
+    let v = c.take-turn.result.token.now.me.0 in
+    let s = session_in v.owns in
+    let l = layout_by o v.seen in
+    let h = history_by o v.seen in
+    let outcome = step_outcome c.rotate-answer.result in
     let before = c.self.inside.token in
     let is = over (sym c.deref-lock.ensures) (λ (k : _). IsSession (lock_name k) (lock_start k) before) c.self.invariant in
     over c.deref-lock.ensures (λ (k : _). IsSession (lock_name k) (lock_start k) c.finish.new.turn.1.0)
     (session_after _ (lock_name at) (lock_start at) (lock_start at).origin.me.0
     (is_some (g.D.Watched.told (lock_start at).engine.disk)) c.take-turn.result.value before c.finish.new.turn.1.0
-    c.take-turn.result.token.now.me.0 _ is c.take-turn.ensures.begins c.finish.ensures.entered c.finish.ensures.token)
+    c.take-turn.result.token.now.me.0 ((rotate_entry) s l h outcome) is c.take-turn.ensures.begins c.finish.ensures.entered c.finish.ensures.token)
 
 pub returns-clause-on : goal.returns-clause-on
 returns-clause-on g c =
     let at = c.deref-lock.result.now in
+    let o = (lock_start at).origin.me.0 in
+    let v = c.take-turn.result.token.now.me.0 in
+    let s = session_in v.owns in
+    let l = layout_by o v.seen in
+    let h = history_by o v.seen in
+    let outcome = step_outcome c.rotate-answer.result in
     let before = c.self.inside.token in
     let after = c.finish.new.turn.1.0 in
     let is = over (sym c.deref-lock.ensures) (λ (k : _). IsSession (lock_name k) (lock_start k) before) c.self.invariant in
@@ -88,7 +100,7 @@ returns-clause-on g c =
         (knowing (lock_name k) (lock_start k).origin.me.0 (is_some (g.D.Watched.told (lock_start k).engine.disk)) after))
     (on_after _ (lock_name at) (lock_start at) (lock_start at).origin.me.0
     (is_some (g.D.Watched.told (lock_start at).engine.disk)) c.take-turn.result.value before after
-    c.take-turn.result.token.now.me.0 _ is c.take-turn.ensures.begins c.finish.ensures.entered))
+    c.take-turn.result.token.now.me.0 ((rotate_entry) s l h outcome) is c.take-turn.ensures.begins c.finish.ensures.entered))
 
 pub returns-clause-steps : goal.returns-clause-steps
 returns-clause-steps g c =
@@ -107,7 +119,7 @@ returns-clause-steps g c =
     let st = subst (λ (k : _). Stands bytes o tells v.seen (parts (g.D.Watched.told k.engine.disk) k.engine.core k.engine.merging k.engine.collecting))
         (sym c.value-locked.ensures.value) c.take-turn.ensures.begins.meaning.1 in
     let outcome = step_outcome c.rotate-answer.result in
-    let done = done_by (step_done (rotated l)) (Changed, l) outcome in
+    let done : Done = done_by (step_done (rotated l)) (Changed, l) outcome in
     let before = c.self.inside.token in
     let after = c.finish.new.turn.1.0 in
     let is = over (sym c.deref-lock.ensures) (λ (k : _). IsSession (lock_name k) (lock_start k) before) c.self.invariant in
@@ -117,7 +129,7 @@ returns-clause-steps g c =
         rotate_ruling rotate_entry outcome)
     (λ told.
         let w = (st.behind told).whole in
-        stepped_after _ (lock_name at) (lock_start at) o tells c.take-turn.result.value before after v _ is c.take-turn.ensures.begins
+        stepped_after _ (lock_name at) (lock_start at) o tells c.take-turn.result.value before after v ((rotate_entry) s l h outcome) is c.take-turn.ensures.begins
         c.finish.ensures.entered rotate_ruling rotate_entry outcome _ (as_before l l) (rotate_effects c.rotate-answer.result) refl
         ((c.rotate-answer.ensures.carries h l w.represents).decides)
         ((finish-requires-clause-stands g c.before).behind told).legal))
