@@ -1,6 +1,6 @@
 -- What an engine keeps of where space comes back from stays what the layout has of it, where logs, tables and the open pass stay.
-use Rattle.std.proofs.Common.{◌≡◌, ◌≢◌, ℕ, List, [], ◌∷◌, ◌++◌, length, refl, sym, ap, ◌∙◌, subst}
-use Rattle.std.specs.Prelude.{Bool, true, false, ◌==◌, ◌+◌, nat_le, if◌then◌else◌, Option, None, Some, Vec, is_some}
+use Rattle.std.proofs.Common.{◌≡◌, ◌≢◌, ℕ, List, [], ◌∷◌, ◌++◌, length, refl, sym, ap, ◌∙◌, subst, T}
+use Rattle.std.specs.Prelude.{Bool, true, false, IsTrue, ◌==◌, ◌+◌, nat_le, if◌then◌else◌, Option, None, Some, Vec, is_some}
 use Rattle.std.specs.Global.{Global}
 use Rattle.std.specs.List.{AllByRecursion}
 use Rattle.std.specs.Option.{option_map}
@@ -141,3 +141,8 @@ told_some (Some x) None is alike = absurd (subst IsNone (sym (alike refl)) tt)
     IsNone : {X : Type 0} → Option X → Type 0
     IsNone None = Unit {0}
     IsNone (Some x) = ⊥
+
+-- what tests true is true
+pub is_so : (b : Bool) → T b → IsTrue b
+is_so true so = refl
+is_so false so = absurd so

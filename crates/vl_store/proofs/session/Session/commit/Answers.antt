@@ -1,4 +1,4 @@
-use Rattle.std.proofs.Common.{◌≡◌, refl, sym, ap, ◌∙◌, subst}
+use Rattle.std.proofs.Common.{◌≡◌, refl, sym, ap, ◌∙◌, subst, []}
 use Rattle.std.specs.Prelude.{is_some, true, List, Some}
 use Rattle.vl_store.specs.Entries.{Done, commit_done, commit_entry, done_by}
 use Rattle.vl_store.specs.Knowing.{GoesOn, IsSession, Stepped, session_in}
@@ -8,7 +8,8 @@ use Rattle.vl_store.proofs.Calls.{commit_leaves, leaves_by, leaves_merge}
 use Rattle.vl_store.proofs.Lending.{merges_left}
 use Rattle.vl_store.proofs.Sessions.{knowing, may_enter, on_after, over, session_after, stepped_after}
 use Rattle.vl_turn.specs.Locks.{lock_name, lock_start}
-use Rattle.std.specs.FinMap.{entries, entries_sorted}
+use Rattle.std.specs.FinMap.{entries, entries_sorted, is_sorted}
+use Rattle.vl_model.specs.Keys.{key_cmp}
 use Rattle.vl_engine.specs.Answers.{commit_effects, commit_outcome}
 use Rattle.vl_engine.specs.Sees.{asked}
 use Rattle.vl_engine.specs.declared.txn.Txn.{Txn}
@@ -20,7 +21,7 @@ use Rattle.vl_layout.specs.declared.lock_history.LockStep.TheVariants.{Ended}
 use Rattle.vl_model.specs.Notes.{AreNotesOf}
 use Rattle.vl_model.specs.Reads.{Read}
 use Rattle.vl_store.specs.Knowing.{Knows}
-use Rattle.vl_store.proofs.Collecting.{collects_by, commit_same, lost_same}
+use Rattle.vl_store.proofs.Collecting.{collects_by, commit_same, is_so, lost_same}
 use Rattle.vl_store.proofs.Leading.{goes_by}
 use Rattle.vl_store.proofs.Steps.{commit_leads}
 use Rattle.vl_store.proofs.Tickets.{ticket_lives, ticket_open}
@@ -82,7 +83,7 @@ finish-requires-clause-stands g c =
         let reads = (c.requires told_now).reads in
         let noted = (c.requires told_now).noted in
         goes_by bytes o v.seen (commit_ruling l h (asked c.args.txn reads)) (as_before l (commit_lost l (asked c.args.txn reads))) (commit_entry c.args.txn.ticket (entries c.args.txn.writes) s l h) x y outcome (commit_effects c.commit-answer.result) is
-        (commit_leads bytes o v.seen x is s (asked c.args.txn reads) (ticket_open _ (lock_name at) (lock_start at) c.take-turn.result.value c.self.inside.token v sess c.take-turn.ensures.begins o is.legal c.args.txn.ticket c.args.txn.number own) (entries_sorted c.args.txn.writes))
+        (commit_leads bytes o v.seen x is s (asked c.args.txn reads) (ticket_open _ (lock_name at) (lock_start at) c.take-turn.result.value c.self.inside.token v sess c.take-turn.ensures.begins o is.legal c.args.txn.ticket c.args.txn.number own) (is_so (is_sorted key_cmp (entries c.args.txn.writes)) (entries_sorted c.args.txn.writes)))
         (whole_by bytes y h l (commit_ruling l h (asked c.args.txn reads)) (as_before l (commit_lost l (asked c.args.txn reads))) outcome (commit_effects c.commit-answer.result)
         (c.commit-answer.ensures.carries h l reads w.represents live noted).decides
         (still_open l h bytes y old.merging (commit_ruling l h (asked c.args.txn reads)) (commit_lost l (asked c.args.txn reads)) outcome (commit_effects c.commit-answer.result) (commit_same l h (asked c.args.txn reads)).job_is (lost_same l h (asked c.args.txn reads)).job_is c.commit-answer.ensures.merging w.opens)
