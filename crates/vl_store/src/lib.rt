@@ -4,7 +4,6 @@
 
 mod alike;
 mod fails;
-mod laws;
 mod locked;
 mod mark;
 mod note;
