@@ -7,6 +7,7 @@ pub mod Lending
 pub mod Owning
 pub mod Sessions
 pub mod Steps
+pub mod Stores
 pub mod Tickets
 pub mod Wholes
 pub mod Works

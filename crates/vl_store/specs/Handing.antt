@@ -43,7 +43,9 @@ module _ (v : Knows) where
     pub record IsUnderWayIn : Type 0 where
       pub planned : laid_job.Job
       pub own : IsOwnJob v planned
-      pub drawn : AllByRecursion (λ (n : ℕ). has n (own_lent v) ≡ true) (numbers_in job)
+      pub lent : List ℕ
+      pub lent_is : own_lent v ≡ Some lent
+      pub drawn : AllByRecursion (λ (n : ℕ). has n lent ≡ true) (numbers_in job)
       pub distinct : AreDistinct (numbers_in job)
       pub tells : v.tells ≡ true → AllByRecursion (λ (t : Synced W s). IsSome (w.file t.writer)) job.made.items
       pub has_merge : v.tells ≡ true → HasMerge w bytes job planned
@@ -56,7 +58,9 @@ module _ (v : Knows) where
 
     -- this file was lent to it, and isn't one that it has
     pub record IsLentTo (file : Lent W s) : Type 0 where
-      pub lent : has file.number (own_lent v) ≡ true
+      pub lent : List ℕ
+      pub lent_is : own_lent v ≡ Some lent
+      pub among : has file.number lent ≡ true
       pub other : has file.number (numbers_in job) ≡ true → ⊥
 
   -- ---- passes

@@ -78,8 +78,8 @@ IsOwnTicket v ticket number = number_of ticket (open_tickets [] v.own) ≡ Some 
 abbrev pub IsOwnJob : Knows → Job → Type 0
 IsOwnJob v job = open_job None v.own ≡ Some (v.session, job)
 
--- the files that were lent to its merge by its last own step
-abbrev pub own_lent : Knows → List ℕ
+-- the files that are lent to its merge, by its last own step
+abbrev pub own_lent : Knows → Option (List ℕ)
 own_lent v = lent_in (last_layout v.origin.layout v.own)
 
 -- it began the pass over this segment, and didn't end it

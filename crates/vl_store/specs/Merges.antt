@@ -1,19 +1,19 @@
 -- Whose the open merge is, and which files were lent to it, by the steps alone. It is so whatever the disk tells.
 use Rattle.std.specs.Prelude.{◌≡◌, ◌≢◌, ℕ, true, List, [], ◌∷◌, Option, None, Some, is_some}
-use Rattle.std.specs.Option.{ForSome}
+use Rattle.std.specs.Option.{option_map}
 use Rattle.vl_engine.specs.declared.open.OpenMerge.{OpenMerge}
-use Rattle.vl_layout.specs.Jobs.{lent_numbers}
 use Rattle.vl_layout.specs.LockHistory.{IsOwn, job_after, job_in, open_job}
 use Rattle.vl_layout.specs.declared.job.Job.{Job}
+use Rattle.vl_layout.specs.declared.job.OpenJob.{OpenJob}
 use Rattle.vl_layout.specs.declared.layout.Layout.{Layout}
 use Rattle.vl_layout.specs.declared.lock_history.LockEntry.{LockEntry}
 use Rattle.vl_layout.specs.declared.lock_history.LockStep.TheVariants.{JobEnded, Planned}
 use Rattle.vl_store.specs.Lists.{layout_by}
 use Rattle.vl_store.specs.declared.locked.Origin.{Origin}
 
--- the files that are lent to a layout's job
-abbrev pub lent_in : Layout → List ℕ
-lent_in l = lent_numbers l.job
+-- the files that are lent to the job of a layout, where it has one
+abbrev pub lent_in : Layout → Option (List ℕ)
+lent_in l = option_map (λ (j : OpenJob). j.lent) l.job
 
 -- A merge is planned where none is open, and the layout has it then; the session that planned it alone ends it, and is lent files for
 -- it. These are behind the step what they were before where it is another session's.
@@ -32,4 +32,4 @@ KeepMerges job l (e ∷ es) = KeepsMerge job l e × KeepMerges (job_after e.sess
 pub record MergesBy (o : Origin) (list : List LockEntry) (merging : Option OpenMerge) : Type 0 where
   pub keep : KeepMerges None o.layout list
   pub open_is : is_some merging ≡ is_some (open_job None list)
-  pub lent : ForSome merging (λ (m : OpenMerge). m.lent.items ≡ lent_in (layout_by o list))
+  pub lent : option_map (λ (m : OpenMerge). m.lent.items) merging ≡ lent_in (layout_by o list)

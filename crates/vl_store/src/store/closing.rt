@@ -1,5 +1,8 @@
 ghost use Rattle.vl_store.specs.Standing.{parts};
-ghost use Rattle.vl_store.specs.Stores.{AreOf, Closed};
+ghost use Rattle.std.specs.Prelude.{◌≡◌};
+ghost use Rattle.vl_store.specs.Stores.{AreAt, AreMet, AreOf, Closed};
+ghost use Rattle.vl_turn.specs.Locks.{lock_name, lock_start};
+ghost use Rattle.vl_turn.specs.Tokens.{IsTokenOf};
 
 use super::Store;
 use crate::locked::Locked;
@@ -36,7 +39,13 @@ fn meet_all<D: Disk + Drop>(
     lock: &TurnLock<Locked<D>>,
     root: &mut Token<Locked<D>>,
     sessions: Vec<Session<D>>,
-) {
+)
+    requires root { IsTokenOf (lock_name lock.now) (lock_start lock.now) root.old }
+    requires sessions { AreAt (lock_name lock.now) sessions.items }
+    ensures root { IsTokenOf (lock_name lock.now) (lock_start lock.now) root.new }
+    ensures made { root.new.me.0.made ≡ root.old.me.0.made }
+    ensures met { AreMet root.new.me.0.seen root.new.me.0.owns sessions.items }
+{
     for session in sessions {
         let Session { lock: _, token } = session;
         lock.meet(root, token);

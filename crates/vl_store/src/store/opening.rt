@@ -1,7 +1,9 @@
 ghost use Rattle.std.specs.Prelude.{◌≡◌, is_some, [], IfErr, IfOk, length};
+ghost use Rattle.std.specs.Arc.{arc_value};
 ghost use Rattle.vl_store.specs.Standing.{Stands, parts};
-ghost use Rattle.vl_store.specs.Stores.{AreFirst, refused};
+ghost use Rattle.vl_store.specs.Stores.{AreFirst, numbering, refused, store_of};
 ghost use Rattle.vl_store.specs.declared.locked.Origin.{Origin};
+ghost use Rattle.vl_turn.specs.Locks.{lock_name, lock_start};
 
 use super::Store;
 use crate::fails::StoreFail;
@@ -76,7 +78,15 @@ fn seats<D: Disk + Drop>(
     lock: &Arc<TurnLock<Locked<D>>, Global>,
     root: &mut Token<Locked<D>>,
     sessions: u32,
-) -> Result<Vec<Session<D>>, AllocError> {
+) -> Result<Vec<Session<D>>, AllocError>
+    requires here { root.old.table_id ≡ lock_name (arc_value lock.now) }
+    requires none { root.old.me ≡ (numbering (lock_start (arc_value lock.now)) 0, []) }
+    ensures here { root.new.table_id ≡ lock_name (arc_value lock.now) }
+    ensures numbered { IfOk result (λ _. root.new.me ≡ (numbering (lock_start (arc_value lock.now)) sessions, [])) }
+    ensures first { IfOk result (λ made. AreFirst (store_of (lock_name (arc_value lock.now))
+        (lock_start (arc_value lock.now)).origin.me.0 (is_some (D.told (lock_start (arc_value lock.now)).engine.disk))) 0 made.items) }
+    ensures many { IfOk result (λ made. length made.items ≡ sessions) }
+{
     let mut made = Vec::with_capacity(alloc, sessions as usize)?;
     for _ in 0..sessions {
         let token = lock.seat(root)?;

@@ -11,7 +11,8 @@ use Rattle.vl_turn.specs.Locks.{lock_name, lock_start}
 use Rattle.vl_engine.specs.Flushing.{flush_effects}
 use Rattle.vl_engine.specs.Stepping.{step_outcome}
 use Rattle.vl_layout.specs.Decides.{as_before}
-use Rattle.vl_layout.specs.Jobs.{lent_numbers}
+use Rattle.std.specs.Option.{option_map}
+use Rattle.vl_layout.specs.declared.job.OpenJob.{OpenJob}
 use Rattle.vl_layout.specs.Rulings.Flush.{flush_ruling}
 use Rattle.vl_layout.specs.declared.lock_history.LockStep.TheVariants.{Changed}
 use Rattle.vl_store.proofs.Collecting.{told_some}
@@ -60,7 +61,7 @@ finish-requires-clause-stands g c =
     let done : Done = done_by (step_done (flush_ruling l h).layout) (Changed, l) outcome in
     stands_on bytes o tells v.seen x y ((flush_entry) s l h) outcome (flush_ruling l h) (as_before l l) (flush_effects c.flush-answer.result) st
     (merges_left o v.seen old.merging new.merging st.merges c.flush-answer.ensures.merging ((flush_entry) s l h outcome)
-    (leaves_merge l s done (leaves_by l (step_done (flush_ruling l h).layout) (Changed, l) outcome (step_leaves l (flush_ruling l h).layout (ap lent_numbers (flush_job l h))) (tt, refl))))
+    (leaves_merge l s done (leaves_by l (step_done (flush_ruling l h).layout) (Changed, l) outcome (step_leaves l (flush_ruling l h).layout (ap (option_map (λ (j : OpenJob). j.lent)) (flush_job l h))) (tt, refl))))
     (λ told is. flush_leads bytes o v.seen x is s)
     (λ told is. let w = is.whole in let told_is = told_some (g.D.Watched.told (lock_start at).engine.disk) (g.D.Watched.told old.disk) told
         (λ none. g.met.D.Alike.alike old.disk (lock_start at).engine.disk none) in
