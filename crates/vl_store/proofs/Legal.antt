@@ -61,7 +61,7 @@ module _ (o : Origin) (list : List LockEntry) (start : HasOpen nothing_open o.la
   begins = record {
     step = (
       subst (λ ts. has_ticket (free_ticket ts) (tickets_in things.tickets) ≡ false) (sym has.live)
-      (free_ticket-free (tickets_in things.tickets) (rising_in things.tickets rising)),
+          (free_ticket-free (tickets_in things.tickets) (rising_in things.tickets rising)),
       last_is,
     );
     layout = record {

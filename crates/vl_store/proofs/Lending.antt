@@ -66,12 +66,15 @@ module _ (o : Origin) (list : List LockEntry) (merging next : Option OpenMerge) 
   pub merges_left : (e : Option LockEntry) → LeaveMerge (layout_by o list) e → MergesBy o (with_entry list e) next
   merges_left None leaves = subst (MergesBy o list) (sym same) is
   merges_left (Some e) leaves = subst (MergesBy o (list ++ e ∷ [])) (sym same) (record {
-    keep = keep-append None o.layout list (e ∷ []) is.keep (record {
-      planned = λ at. absurd (not_planned e.step leaves.other at);
-      begun = λ at. absurd (not_planned e.step leaves.other at);
-      ended = λ at. absurd (not_ended e.step leaves.other at);
-      lent = λ x at apart. leaves.lent;
-    }, tt);
+    keep = keep-append None o.layout list (e ∷ []) is.keep (
+      record {
+        planned = λ at. absurd (not_planned e.step leaves.other at);
+        begun = λ at. absurd (not_planned e.step leaves.other at);
+        ended = λ at. absurd (not_ended e.step leaves.other at);
+        lent = λ x at apart. leaves.lent;
+      },
+      tt,
+    );
     open_is = is.open_is ∙ ap is_some (sym (open_job-append None list (e ∷ []) ∙ job_left e.session e.step e.layout (open_job None list) leaves.other));
     lent = is.lent ∙ sym (ap lent_in (last_layout-append o.layout list (e ∷ [])) ∙ leaves.lent);
   })
@@ -100,12 +103,15 @@ module _ (o : Origin) (list : List LockEntry) (merging next : Option OpenMerge) 
   merges_planned job none job_is some lent =
       let free : open_job None list ≡ None = none_of (open_job None list) (sym (ap is_some none) ∙ is.open_is) in
       record {
-        keep = keep-append None o.layout list (entry session Planned l ∷ []) is.keep (record {
-          planned = λ at. free;
-          begun = λ at. ap is_some job_is;
-          ended = λ at. absurd (planned_ends at);
-          lent = λ x at apart. absurd (none≢some x (sym free ∙ at));
-        }, tt);
+        keep = keep-append None o.layout list (entry session Planned l ∷ []) is.keep (
+          record {
+            planned = λ at. free;
+            begun = λ at. ap is_some job_is;
+            ended = λ at. absurd (planned_ends at);
+            lent = λ x at apart. absurd (none≢some x (sym free ∙ at));
+          },
+          tt,
+        );
         open_is = some ∙ sym (ap is_some (open_now Planned ∙ ap (option_map (λ (j : Job). (session, j))) job_is));
         lent = lent ∙ sym (now Planned);
       }
@@ -126,12 +132,15 @@ module _ (o : Origin) (list : List LockEntry) (merging next : Option OpenMerge) 
   -- the session's merge ended
   pub merges_ended : IsOwn session (open_job None list) → next ≡ None → l.job ≡ None → MergesBy o (list ++ entry session JobEnded l ∷ []) next
   merges_ended own none none_left = record {
-    keep = keep-append None o.layout list (entry session JobEnded l ∷ []) is.keep (record {
-      planned = λ at. absurd (ended_plans at);
-      begun = λ at. absurd (ended_plans at);
-      ended = λ at. own;
-      lent = λ x at apart. absurd (apart (sym (subst (IsOwn session) at own)));
-    }, tt);
+    keep = keep-append None o.layout list (entry session JobEnded l ∷ []) is.keep (
+      record {
+        planned = λ at. absurd (ended_plans at);
+        begun = λ at. absurd (ended_plans at);
+        ended = λ at. own;
+        lent = λ x at apart. absurd (apart (sym (subst (IsOwn session) at own)));
+      },
+      tt,
+    );
     open_is = ap is_some none ∙ sym (ap is_some (open_now JobEnded));
     lent = ap (option_map (λ (m : OpenMerge). m.lent.items)) none ∙ sym (now JobEnded ∙ ap (option_map (λ (j : OpenJob). j.lent)) none_left);
   }
@@ -153,12 +162,15 @@ module _ (o : Origin) (list : List LockEntry) (merging next : Option OpenMerge) 
   pub merges_drawn : IsOwn session (open_job None list) → is_some next ≡ is_some merging
       → option_map (λ (m : OpenMerge). m.lent.items) next ≡ lent_in l → MergesBy o (list ++ entry session Changed l ∷ []) next
   merges_drawn own some lent = record {
-    keep = keep-append None o.layout list (entry session Changed l ∷ []) is.keep (record {
-      planned = λ at. absurd (not_planned Changed tt at);
-      begun = λ at. absurd (not_planned Changed tt at);
-      ended = λ at. absurd (not_ended Changed tt at);
-      lent = λ x at apart. absurd (apart (sym (subst (IsOwn session) at own)));
-    }, tt);
+    keep = keep-append None o.layout list (entry session Changed l ∷ []) is.keep (
+      record {
+        planned = λ at. absurd (not_planned Changed tt at);
+        begun = λ at. absurd (not_planned Changed tt at);
+        ended = λ at. absurd (not_ended Changed tt at);
+        lent = λ x at apart. absurd (apart (sym (subst (IsOwn session) at own)));
+      },
+      tt,
+    );
     open_is = some ∙ (is.open_is ∙ sym (ap is_some (open_now Changed)));
     lent = lent ∙ sym (now Changed);
   }

@@ -1,6 +1,7 @@
 pub mod Begins
 pub mod Calls
 pub mod Collecting
+pub mod Counted
 pub mod Leading
 pub mod Legal
 pub mod Lending

@@ -49,9 +49,10 @@ pub may_enter : {T : Type 0} (v : View T LockEntry) (s : ℕ) (own : List LockEn
     → v.owns ≡ record { number = s; entries = own } ∷ [] → enters ≡ is_some done
     → MayEnter by v (entry_of (session_in v.owns) done) (if enters then 1 else 0)
 may_enter v s own None enters is same = ap (λ (b : Bool). if b then 1 else 0) same
-may_enter v s own (Some done) enters is same =
-    (ap (λ (b : Bool). if b then 1 else 0) same,
-    (own, is ∙ ap (λ (n : ℕ). record { number = n; entries = own } ∷ []) (sym (ap session_in is))))
+may_enter v s own (Some done) enters is same = (
+  ap (λ (b : Bool). if b then 1 else 0) same,
+  (own, is ∙ ap (λ (n : ℕ). record { number = n; entries = own } ∷ []) (sym (ap session_in is))),
+)
 
 pub owns_in_turn : {T : Type 0} (meaning : T → T → List LockEntry → Type 0) (name : TableId) (start value : T)
     (before : Seat (Option T) (View T LockEntry)) (v : View T LockEntry) (is : IsSession name start before)

@@ -76,9 +76,10 @@ pub all_in : (seen list : List LockEntry) (os : List (Own LockEntry)) (vs : List
 all_in seen list os [] p owned all = tt
 all_in seen list os (v ∷ vs) p owned all =
     let w = all.0.1 in
-    let one : List (Own LockEntry) = record { number = v.session; entries = v.own } ∷ [] in
-    ((prefix_on v.seen seen list all.0.0 p, (owned_part list w.0 one w.1 (subst (Owned by list) w.2 owned)).0),
-    all_in seen list os vs p owned all.1)
+    let one : List (Own LockEntry) = record { number = v.session; entries = v.own } ∷ [] in (
+      (prefix_on v.seen seen list all.0.0 p, (owned_part list w.0 one w.1 (subst (Owned by list) w.2 owned)).0),
+      all_in seen list os vs p owned all.1,
+    )
 
 pub numbered_by : {T : Type 0} (n : ℕ) (list : List LockEntry) (v : View T LockEntry) → v.made ≡ Some n → IsWhole by list v
     → AreNumbered by n list

@@ -4,6 +4,7 @@
 
 mod alike;
 mod fails;
+mod laws;
 mod locked;
 mod mark;
 mod note;
@@ -12,6 +13,7 @@ mod store;
 
 pub use alike::Alike;
 pub use fails::StoreFail;
+pub use laws::commits_are_numbered_once;
 pub use locked::{Locked, Origin};
 pub use mark::{Mark, Starts};
 pub use note::Note;

@@ -46,12 +46,7 @@ impl<D: Alike> Session<D> {
         let answer = locked.engine.pick(percent);
         let enters = answer.is_ok();
         finish::<D, Brand, R, u8, Result<Pass<Base<D::Held, D::Reader>, D::Held>, PickFail>>(
-            lock,
-            rt,
-            turn,
-            &percent,
-            &answer,
-            enters,
+            lock, rt, turn, &percent, &answer, enters,
         );
         answer
     }
@@ -82,12 +77,7 @@ impl<D: Alike> Session<D> {
         };
         let enters = has_moved(&answer);
         finish::<D, Brand, R, Snapshot<Batch>, Result<u32, MoveFail>>(
-            lock,
-            rt,
-            turn,
-            &asked,
-            &answer,
-            enters,
+            lock, rt, turn, &asked, &answer, enters,
         );
         answer
     }

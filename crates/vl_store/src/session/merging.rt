@@ -1,9 +1,10 @@
 ghost use Rattle.std.specs.Prelude.{◌≡◌, true, IfOk, OnOk, Option, Some};
 ghost use Rattle.std.specs.Option.{ForSome};
+ghost use Rattle.vl_compact.specs.Laid.{AreBoth};
 ghost use Rattle.vl_compact.specs.Progress.{HasRoom, IsNew, made_of};
 ghost use Rattle.vl_disk.specs.DiskState.{new_file};
 ghost use Rattle.vl_engine.specs.Drawing.{IsSameJob};
-ghost use Rattle.vl_engine.specs.Merging.{FitsReaders, fresh_outcome, install_outcome, plan_outcome};
+ghost use Rattle.vl_engine.specs.Merging.{FitsReaders, HasMerge, fresh_outcome, install_outcome, plan_outcome};
 ghost use Rattle.vl_layout.specs.Decides.{Answered};
 ghost use Rattle.vl_layout.specs.Rulings.Abandon.{abandon_ruling};
 ghost use Rattle.vl_layout.specs.Rulings.Drain.{drain_ruling};
@@ -35,7 +36,8 @@ impl<D: Alike> Session<D> {
     ) -> Result<Option<Job<Base<D::Held, D::Reader>, D::Held, D::Writer>>, NoMemory>
         ensures on { GoesOn self.old self.new }
         ensures steps { self.old.tells ≡ true → (planned : Option laid_job.Job)
-            × Stepped self.old self.new (λ l h. plan_ruling l h) plan_entry (plan_outcome planned result) }
+            × Stepped self.old self.new (λ l h. plan_ruling l h) plan_entry (plan_outcome planned result)
+            × IfOk result (λ job. AreBoth (HasMerge D.Writer.Writer D.Held.bytes) job planned) }
         // It is the session's own, has made nothing yet, and look-ups by a reader that keeps no block yet are told.
         ensures under_way { IfOk result (λ job. ForSome job (IsUnderWayIn self.new D.Writer.Writer D.Held.bytes)) }
         ensures new { IfOk result (λ job. ForSome job IsNew) }
@@ -64,7 +66,8 @@ impl<D: Alike> Session<D> {
     ) -> Result<Option<Job<Base<D::Held, D::Reader>, D::Held, D::Writer>>, NoMemory>
         ensures on { GoesOn self.old self.new }
         ensures steps { self.old.tells ≡ true → (planned : Option laid_job.Job)
-            × Stepped self.old self.new (λ l h. drain_ruling l h segment) plan_entry (plan_outcome planned result) }
+            × Stepped self.old self.new (λ l h. drain_ruling l h segment) plan_entry (plan_outcome planned result)
+            × IfOk result (λ job. AreBoth (HasMerge D.Writer.Writer D.Held.bytes) job planned) }
         ensures under_way { IfOk result (λ job. ForSome job (IsUnderWayIn self.new D.Writer.Writer D.Held.bytes)) }
         ensures new { IfOk result (λ job. ForSome job IsNew) }
         ensures looks { self.old.tells ≡ true → IfOk result (λ job. ForSome job (FitsReaders D.Held.bytes)) }

@@ -36,7 +36,7 @@ finish-requires-clause-entry g c =
     let x = parts (g.D.Watched.told old.disk) old.core old.merging old.collecting in
     let y = parts (g.D.Watched.told new.disk) new.core new.merging new.collecting in
     let st = subst (λ (k : _). Stands bytes o tells v.seen (parts (g.D.Watched.told k.engine.disk) k.engine.core k.engine.merging k.engine.collecting))
-        (sym c.value-locked.ensures.value) c.take-turn.ensures.begins.meaning.1 in
+    (sym c.value-locked.ensures.value) c.take-turn.ensures.begins.meaning.1 in
     let outcome = begin_outcome c.begin-answer.result in
     let done : Done = done_by (begin_done l) (Changed, l) outcome in
     may_enter v c.self.invariant.session c.self.invariant.own (done) c.has_begun-enters.result
@@ -57,7 +57,7 @@ finish-requires-clause-stands g c =
     let x = parts (g.D.Watched.told old.disk) old.core old.merging old.collecting in
     let y = parts (g.D.Watched.told new.disk) new.core new.merging new.collecting in
     let st = subst (λ (k : _). Stands bytes o tells v.seen (parts (g.D.Watched.told k.engine.disk) k.engine.core k.engine.merging k.engine.collecting))
-        (sym c.value-locked.ensures.value) c.take-turn.ensures.begins.meaning.1 in
+    (sym c.value-locked.ensures.value) c.take-turn.ensures.begins.meaning.1 in
     let outcome = begin_outcome c.begin-answer.result in
     let done : Done = done_by (begin_done l) (Changed, l) outcome in
     stands_on bytes o tells v.seen x y ((begin_entry) s l h) outcome (begin_ruling l h) (as_before l l) no_effects st
@@ -65,11 +65,11 @@ finish-requires-clause-stands g c =
     (leaves_merge l s done (leaves_by l (begin_done l) (Changed, l) outcome (begin_leaves l) (tt, refl))))
     (λ told is. begin_leads bytes o v.seen x is s)
     (λ told is. let w = is.whole in whole_by bytes y h l (begin_ruling l h) (as_before l l) outcome no_effects
-        (c.begin-answer.ensures.represents h l w.represents)
-        (still_open l h bytes y old.merging (begin_ruling l h) l outcome no_effects (begin_job l h) refl c.begin-answer.ensures.merging w.opens)
-        (c.begin-answer.ensures.fits h l w.represents.stands w.fits)
-        (collects_by old.core new.core old.collecting new.collecting c.begin-answer.ensures.logs c.begin-answer.ensures.collecting _ h l l
-        (begin_ruling l h) outcome no_effects (c.begin-answer.ensures.represents h l w.represents) (begin_same l h) (same_work l) w.collects))
+    (c.begin-answer.ensures.represents h l w.represents)
+    (still_open l h bytes y old.merging (begin_ruling l h) l outcome no_effects (begin_job l h) refl c.begin-answer.ensures.merging w.opens)
+    (c.begin-answer.ensures.fits h l w.represents.stands w.fits)
+    (collects_by old.core new.core old.collecting new.collecting c.begin-answer.ensures.logs c.begin-answer.ensures.collecting _ h l l
+    (begin_ruling l h) outcome no_effects (c.begin-answer.ensures.represents h l w.represents) (begin_same l h) (same_work l) w.collects))
 
 pub invariant_of-self : goal.invariant_of-self
 invariant_of-self g c =
@@ -100,8 +100,8 @@ returns-clause-on g c =
     let after = c.finish.new.turn.1.0 in
     let is = over (sym c.deref-lock.ensures) (λ (k : _). IsSession (lock_name k) (lock_start k) before) c.self.invariant in
     rw (sym c.self.view_is) (over c.deref-lock.ensures (λ (k : _). GoesOn
-        (knowing (lock_name k) (lock_start k).origin.me.0 (is_some (g.D.Watched.told (lock_start k).engine.disk)) before)
-        (knowing (lock_name k) (lock_start k).origin.me.0 (is_some (g.D.Watched.told (lock_start k).engine.disk)) after))
+    (knowing (lock_name k) (lock_start k).origin.me.0 (is_some (g.D.Watched.told (lock_start k).engine.disk)) before)
+    (knowing (lock_name k) (lock_start k).origin.me.0 (is_some (g.D.Watched.told (lock_start k).engine.disk)) after))
     (on_after _ (lock_name at) (lock_start at) (lock_start at).origin.me.0
     (is_some (g.D.Watched.told (lock_start at).engine.disk)) c.take-turn.result.value before after
     c.take-turn.result.token.now.me.0 ((begin_entry) s l h outcome) is c.take-turn.ensures.begins c.finish.ensures.entered))
@@ -121,22 +121,22 @@ returns-clause-steps g c =
     let x = parts (g.D.Watched.told old.disk) old.core old.merging old.collecting in
     let y = parts (g.D.Watched.told new.disk) new.core new.merging new.collecting in
     let st = subst (λ (k : _). Stands bytes o tells v.seen (parts (g.D.Watched.told k.engine.disk) k.engine.core k.engine.merging k.engine.collecting))
-        (sym c.value-locked.ensures.value) c.take-turn.ensures.begins.meaning.1 in
+    (sym c.value-locked.ensures.value) c.take-turn.ensures.begins.meaning.1 in
     let outcome = begin_outcome c.begin-answer.result in
     let done : Done = done_by (begin_done l) (Changed, l) outcome in
     let before = c.self.inside.token in
     let after = c.finish.new.turn.1.0 in
     let is = over (sym c.deref-lock.ensures) (λ (k : _). IsSession (lock_name k) (lock_start k) before) c.self.invariant in
     rw (sym c.self.view_is) (over c.deref-lock.ensures (λ (k : _). is_some (g.D.Watched.told (lock_start k).engine.disk) ≡ true → Stepped
-        (knowing (lock_name k) (lock_start k).origin.me.0 (is_some (g.D.Watched.told (lock_start k).engine.disk)) before)
-        (knowing (lock_name k) (lock_start k).origin.me.0 (is_some (g.D.Watched.told (lock_start k).engine.disk)) after)
-        begin_ruling begin_entry outcome)
+    (knowing (lock_name k) (lock_start k).origin.me.0 (is_some (g.D.Watched.told (lock_start k).engine.disk)) before)
+    (knowing (lock_name k) (lock_start k).origin.me.0 (is_some (g.D.Watched.told (lock_start k).engine.disk)) after)
+    begin_ruling begin_entry outcome)
     (λ told.
-        let w = (st.behind told).whole in
-        stepped_after _ (lock_name at) (lock_start at) o tells c.take-turn.result.value before after v ((begin_entry) s l h outcome) is c.take-turn.ensures.begins
-        c.finish.ensures.entered begin_ruling begin_entry outcome _ (as_before l l) no_effects refl
-        (c.begin-answer.ensures.represents h l w.represents)
-        ((finish-requires-clause-stands g c.before).behind told).legal))
+    let w = (st.behind told).whole in
+    stepped_after _ (lock_name at) (lock_start at) o tells c.take-turn.result.value before after v ((begin_entry) s l h outcome) is c.take-turn.ensures.begins
+    c.finish.ensures.entered begin_ruling begin_entry outcome _ (as_before l l) no_effects refl
+    (c.begin-answer.ensures.represents h l w.represents)
+    ((finish-requires-clause-stands g c.before).behind told).legal))
 
 pub returns-clause-own : goal.returns-clause-own
 returns-clause-own g c told =
@@ -161,10 +161,10 @@ returns-clause-sees g c told =
     let before = c.self.inside.token in
     let after = c.finish.new.turn.1.0 in
     let st = subst (λ (k : _). Stands bytes o tells v.seen (parts (g.D.Watched.told k.engine.disk) k.engine.core k.engine.merging k.engine.collecting))
-        (sym c.value-locked.ensures.value) c.take-turn.ensures.begins.meaning.1 in
+    (sym c.value-locked.ensures.value) c.take-turn.ensures.begins.meaning.1 in
     let is = over (sym c.deref-lock.ensures) (λ (k : _). IsSession (lock_name k) (lock_start k) before) c.self.invariant in
     let told_then = over (sym c.deref-lock.ensures) (λ (k : _). is_some (g.D.Watched.told (lock_start k).engine.disk) ≡ true)
-        (subst (λ (u : Knows). u.tells ≡ true) (sym c.self.view_is) told) in
+    (subst (λ (u : Knows). u.tells ≡ true) (sym c.self.view_is) told) in
     let w = (st.behind told_then).whole in
     over c.deref-lock.ensures (λ (k : _). IfOk c.begin-answer.result (λ r. Sees bytes r (history_by (lock_start k).origin.me.0 after.me.0.seen) []))
     (txn_sees bytes o (session_in v.owns) l v.seen after.me.0.seen c.begin-answer.result

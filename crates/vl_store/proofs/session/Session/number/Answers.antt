@@ -35,8 +35,8 @@ returns-clause-on g c =
     let after = c.finish.new.turn.1.0 in
     let is = over (sym c.deref-lock.ensures) (λ (k : _). IsSession (lock_name k) (lock_start k) before) c.self.invariant in
     rw (sym c.self.view_is) (over c.deref-lock.ensures (λ (k : _). GoesOn
-        (knowing (lock_name k) (lock_start k).origin.me.0 (is_some (g.D.Watched.told (lock_start k).engine.disk)) before)
-        (knowing (lock_name k) (lock_start k).origin.me.0 (is_some (g.D.Watched.told (lock_start k).engine.disk)) after))
+    (knowing (lock_name k) (lock_start k).origin.me.0 (is_some (g.D.Watched.told (lock_start k).engine.disk)) before)
+    (knowing (lock_name k) (lock_start k).origin.me.0 (is_some (g.D.Watched.told (lock_start k).engine.disk)) after))
     (on_after _ (lock_name at) (lock_start at) (lock_start at).origin.me.0
     (is_some (g.D.Watched.told (lock_start at).engine.disk)) c.take-turn.result.value before after
     c.take-turn.result.token.now.me.0 None is c.take-turn.ensures.begins c.finish.ensures.entered))
@@ -51,13 +51,13 @@ returns-clause-looks g c =
     let before = c.self.inside.token in
     let after = c.finish.new.turn.1.0 in
     let st = subst (λ (k : _). Stands bytes o tells v.seen (parts (g.D.Watched.told k.engine.disk) k.engine.core k.engine.merging k.engine.collecting))
-        (sym c.value-locked.ensures.value) c.take-turn.ensures.begins.meaning.1 in
+    (sym c.value-locked.ensures.value) c.take-turn.ensures.begins.meaning.1 in
     let is = over (sym c.deref-lock.ensures) (λ (k : _). IsSession (lock_name k) (lock_start k) before) c.self.invariant in
     rw (sym c.self.view_is) (over c.deref-lock.ensures (λ (k : _). is_some (g.D.Watched.told (lock_start k).engine.disk) ≡ true → Looked
-        (knowing (lock_name k) (lock_start k).origin.me.0 (is_some (g.D.Watched.told (lock_start k).engine.disk)) before)
-        (knowing (lock_name k) (lock_start k).origin.me.0 (is_some (g.D.Watched.told (lock_start k).engine.disk)) after)
-        (λ l h. c.number-answer.result ≡ last_number h))
+    (knowing (lock_name k) (lock_start k).origin.me.0 (is_some (g.D.Watched.told (lock_start k).engine.disk)) before)
+    (knowing (lock_name k) (lock_start k).origin.me.0 (is_some (g.D.Watched.told (lock_start k).engine.disk)) after)
+    (λ l h. c.number-answer.result ≡ last_number h))
     (λ told.
-        let w = (st.behind told).whole in
-        looked_after _ (lock_name at) (lock_start at) o tells c.take-turn.result.value before after v is c.take-turn.ensures.begins
-        c.finish.ensures.entered (λ l h. c.number-answer.result ≡ last_number h) (st.behind told).legal (c.number-answer.ensures (history_by o v.seen) (layout_by o v.seen) w.represents.stands.fronts)))
+    let w = (st.behind told).whole in
+    looked_after _ (lock_name at) (lock_start at) o tells c.take-turn.result.value before after v is c.take-turn.ensures.begins
+    c.finish.ensures.entered (λ l h. c.number-answer.result ≡ last_number h) (st.behind told).legal (c.number-answer.ensures (history_by o v.seen) (layout_by o v.seen) w.represents.stands.fronts)))

@@ -34,8 +34,8 @@ returns-clause-on g c =
     let after = c.finish.new.turn.1.0 in
     let is = over (sym c.deref-lock.ensures) (λ (k : _). IsSession (lock_name k) (lock_start k) before) c.self.invariant in
     rw (sym c.self.view_is) (over c.deref-lock.ensures (λ (k : _). GoesOn
-        (knowing (lock_name k) (lock_start k).origin.me.0 (is_some (g.D.Watched.told (lock_start k).engine.disk)) before)
-        (knowing (lock_name k) (lock_start k).origin.me.0 (is_some (g.D.Watched.told (lock_start k).engine.disk)) after))
+    (knowing (lock_name k) (lock_start k).origin.me.0 (is_some (g.D.Watched.told (lock_start k).engine.disk)) before)
+    (knowing (lock_name k) (lock_start k).origin.me.0 (is_some (g.D.Watched.told (lock_start k).engine.disk)) after))
     (on_after _ (lock_name at) (lock_start at) (lock_start at).origin.me.0
     (is_some (g.D.Watched.told (lock_start at).engine.disk)) c.take-turn.result.value before after
     c.take-turn.result.token.now.me.0 None is c.take-turn.ensures.begins c.finish.ensures.entered))
