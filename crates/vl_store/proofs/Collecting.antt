@@ -9,14 +9,21 @@ use Rattle.vl_core.specs.declared.kept.Core.{Core}
 use Rattle.vl_engine.specs.Collecting.{Collects, Tallies}
 use Rattle.vl_engine.specs.declared.open.Collecting.{Collecting}
 use Rattle.vl_layout.specs.Decides.{Decides, Effects, Otherwise, Outcome, as_before}
-use Rattle.vl_layout.specs.Ruling.{Ruling, halted_at, leaving}
+use Rattle.vl_layout.specs.Ruling.{Ruling, halted_at, has_no_number, has_no_version, leaving}
 use Rattle.vl_layout.specs.Rulings.Begin.{BeginAnswer, begin_ruling}
 use Rattle.vl_layout.specs.Rulings.Commit as commit
 use Rattle.vl_layout.specs.Rulings.Commit.{CommitAnswer, Transaction, commit_checked, commit_ended, commit_frame, commit_lost, commit_ruling}
 use Rattle.vl_layout.specs.Rulings.Commit.{commit_running, commit_unless, committed}
-use Rattle.vl_layout.specs.Sources.{rising, tables}
+use Rattle.vl_layout.specs.Levels.{due_from, first_into}
+use Rattle.vl_layout.specs.Relocation.{Candidate, Pass, moved_of}
+use Rattle.vl_layout.specs.Rulings.Drain.{drain_of, drain_ruling, drain_unless}
+use Rattle.vl_layout.specs.Rulings.Fresh.{fresh_ruling, fresh_unless}
+use Rattle.vl_layout.specs.Rulings.Plan.{plan_of, plan_ruling, plan_unless}
+use Rattle.vl_layout.specs.Rulings.Relocate.{relocate_of, relocate_ruling, relocate_unless}
+use Rattle.vl_layout.specs.Sources.{rising, sources, tables}
 use Rattle.vl_layout.specs.Tidy.{log_numbers, sealed}
 use Rattle.vl_layout.specs.declared.file_name.FileName.{FileName}
+use Rattle.vl_layout.specs.declared.job.OpenJob.{OpenJob}
 use Rattle.vl_layout.specs.declared.job.OpenPass.{OpenPass}
 use Rattle.vl_layout.specs.declared.layout.Layout.{Layout}
 use Rattle.vl_layout.specs.declared.segment.Segment.{Segment}
@@ -27,11 +34,19 @@ use Rattle.vl_model.specs.History.{History, last_number}
 use Rattle.vl_model.specs.Limits.{max_commit_number, max_live}
 use Rattle.vl_model.specs.Numbers.{has}
 use Rattle.vl_model.specs.declared.counter.Counter.TheVariants as counter
+use Rattle.vl_model.specs.declared.log_frame.LogFrame.TheVariants.{Relocated}
+use Rattle.vl_model.specs.declared.log_frame.Moved.{Moved}
 use Rattle.vl_seglog.specs.declared.sealed.SealedLog.{SealedLog}
 use Rattle.vl_stats.specs.Live.{AreOf}
 use Rattle.vl_stats.specs.Tallies.{IsTally, Tallied, lengths_of}
 
--- the logs, the tables and the open pass are the same, and so is the open merge
+-- the logs and the tables are the same
+pub record SameLogs (l m : Layout) : Type 0 where
+  pub sealed_is : sealed m ≡ sealed l
+  pub tables_are : tables m ≡ tables l
+  pub flushed_is : m.flushed ≡ l.flushed
+
+-- and so are the open pass and the open merge
 pub record SameWork (l m : Layout) : Type 0 where
   pub sealed_is : sealed m ≡ sealed l
   pub tables_are : tables m ≡ tables l
@@ -39,16 +54,22 @@ pub record SameWork (l m : Layout) : Type 0 where
   pub pass_is : m.pass ≡ l.pass
   pub job_is : m.job ≡ l.job
 
+pub logs_of : (l m : Layout) → SameWork l m → SameLogs l m
+logs_of l m same = record { sealed_is = same.sealed_is; tables_are = same.tables_are; flushed_is = same.flushed_is }
+
+pub same_logs : (l : Layout) → SameLogs l l
+same_logs l = record { sealed_is = refl; tables_are = refl; flushed_is = refl }
+
 pub same_work : (l : Layout) → SameWork l l
 same_work l = record { sealed_is = refl; tables_are = refl; flushed_is = refl; pass_is = refl; job_is = refl }
 
 module _ {H : Type 0} (before after : Core H) (old new : Collecting) (logs : after.version.behind.logs ≡ before.version.behind.logs)
     (kept : new ≡ old) where
-  pub collects_on : (l m : Layout) → SameWork l m → Collects before old l → Collects after new m
-  collects_on l m same collects =
+  pub collects_with : (l m : Layout) → SameLogs l m → m.pass ≡ l.pass → Collects before old l → Collects after new m
+  collects_with l m same pass_is collects =
       subst (λ (c : Collecting). Collects after c m) (sym kept) (record {
         tally = tallies old.tally collects.tally;
-        passing = collects.passing ∙ ap (option_map (λ (p : OpenPass). p.segment)) (sym same.pass_is);
+        passing = collects.passing ∙ ap (option_map (λ (p : OpenPass). p.segment)) (sym pass_is);
         readable = subst (λ (ss : List Segment). AreReadable (record m { flushed = ss })) (sym same.flushed_is) collects.readable;
       })
     where
@@ -62,6 +83,9 @@ module _ {H : Type 0} (before after : Core H) (old new : Collecting) (logs : aft
         logs = is.logs ∙ ap (λ (ss : List Segment). lengths_of (rising ss)) (sym same.sealed_is);
         live = subst (λ (ts : List Table). AreOf ts tally.live) (sym same.tables_are) is.live;
       }
+
+  pub collects_on : (l m : Layout) → SameWork l m → Collects before old l → Collects after new m
+  collects_on l m same = collects_with l m (logs_of l m same) same.pass_is
 
   -- so it is of a call that leaves these, whatever it came to
   pub collects_by : {A : Type 0} (stands : History → Layout → Type 0) (h : History) (l lost : Layout) (r : Ruling A) (outcome : Outcome A)
@@ -82,6 +106,23 @@ module _ {H : Type 0} (before after : Core H) (old new : Collecting) (logs : aft
       }) collects,
     );
     damaged = λ name place at. (collects_on l l (same_work l) collects, (decides.damaged name place at).1);
+  }
+
+  -- so it is of a call that leaves logs, tables and the open pass
+  pub collects_past : {A : Type 0} (stands : History → Layout → Type 0) (h : History) (l lost : Layout) (r : Ruling A) (outcome : Outcome A)
+      (effects : Effects) → Decides stands h l r (as_before l lost) outcome effects → SameLogs l r.layout → r.layout.pass ≡ l.pass
+      → SameLogs l lost → lost.pass ≡ l.pass
+      → Collects before old l → Decides (λ _ m. Collects after new m) h l r (as_before l lost) outcome effects
+  collects_past stands h l lost r outcome effects decides same pass_is lost_same lost_pass collects = record {
+    answered = λ a at. ((decides.answered a at).0, collects_with l r.layout same pass_is collects);
+    did = decides.did;
+    no_memory = λ at. (collects_with l l (same_logs l) refl collects, (decides.no_memory at).1);
+    failed = λ name at. (
+      (decides.failed name at).0,
+      collects_with l (halted_at name lost)
+      (record { sealed_is = lost_same.sealed_is; tables_are = lost_same.tables_are; flushed_is = lost_same.flushed_is }) lost_pass collects,
+    );
+    damaged = λ name place at. (collects_with l l (same_logs l) refl collects, (decides.damaged name place at).1);
   }
 
 -- ---- rulings
@@ -123,6 +164,56 @@ module _ (l : Layout) (h : History) where
 
     pub lost_same : SameWork l (commit_lost l t)
     lost_same = all _ refl refl refl refl refl
+
+-- ---- merges and passes
+
+  -- what a call leaves of logs, tables and the open pass, where it leaves these
+  abbrev pub LeavesPass : {A : Type 0} → Ruling A → Type 0
+  LeavesPass r = SameLogs l r.layout × (r.layout.pass ≡ l.pass)
+
+  plan_level : (level : Option ℕ) → LeavesPass (plan_of l h level)
+  plan_level None = (same_logs l, refl)
+  plan_level (Some level) = (record { sealed_is = refl; tables_are = refl; flushed_is = refl }, refl)
+
+  plan_free : (j : Option OpenJob) → LeavesPass (plan_unless j l h)
+  plan_free None = plan_level (due_from 0 l.levels)
+  plan_free (Some j) = (same_logs l, refl)
+
+  pub plan_leaves : LeavesPass (plan_ruling l h)
+  plan_leaves = plan_free l.job
+
+  drain_table : (t : Option Table) → LeavesPass (drain_of l h t)
+  drain_table None = (same_logs l, refl)
+  drain_table (Some t) = (record { sealed_is = refl; tables_are = refl; flushed_is = refl }, refl)
+
+  drain_free : (segment : ℕ) (j : Option OpenJob) → LeavesPass (drain_unless j l h segment)
+  drain_free segment None = drain_table (first_into segment (tables l))
+  drain_free segment (Some j) = (same_logs l, refl)
+
+  pub drain_leaves : (segment : ℕ) → LeavesPass (drain_ruling l h segment)
+  drain_leaves segment = drain_free segment l.job
+
+  fresh_halted : (halted : Option FileName) → LeavesPass (fresh_unless halted l h)
+  fresh_halted (Some name) = (same_logs l, refl)
+  fresh_halted None = either LeavesPass (has_no_number l.next_table 1) _ _ (same_logs l, refl)
+      (record { sealed_is = refl; tables_are = refl; flushed_is = refl }, refl)
+
+  pub fresh_leaves : LeavesPass (fresh_ruling l h)
+  fresh_leaves = fresh_halted l.halted
+
+  moves_of : (ms : List Moved) → LeavesPass (relocate_of l h ms)
+  moves_of [] = (same_logs l, refl)
+  moves_of (m ∷ ms) =
+      either LeavesPass (has_no_version l) _ _ (same_logs l, refl)
+      (either LeavesPass (nat_le (l.active.length + frame_length l.active.format (Relocated (m ∷ ms))) l.room) _ _
+      (record { sealed_is = refl; tables_are = refl; flushed_is = refl }, refl) (same_logs l, refl))
+
+  moves : (halted : Option FileName) (pass : Pass) (batch : List Candidate) → LeavesPass (relocate_unless halted l h pass batch)
+  moves (Some name) pass batch = (same_logs l, refl)
+  moves None pass batch = moves_of (moved_of (sources l) pass.segment (last_number h) batch)
+
+  pub relocate_leaves : (pass : Pass) (batch : List Candidate) → LeavesPass (relocate_ruling l h pass batch)
+  relocate_leaves pass batch = moves l.halted pass batch
 
 -- ---- what a disk tells
 

@@ -6,6 +6,7 @@ pub mod Leading
 pub mod Legal
 pub mod Lending
 pub mod Owning
+pub mod Picking
 pub mod Sessions
 pub mod Steps
 pub mod Stores

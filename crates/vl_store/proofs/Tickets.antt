@@ -8,10 +8,12 @@ use Rattle.std.specs.Prelude.{Bool, true, false, cond, ◌==◌, Option, None, S
 use Rattle.atomic_table.specs.Seated.{TableId}
 use Rattle.atomic_table.specs.declared.shared.Seat.{Seat}
 use Rattle.vl_core.specs.Represents.{IsLive}
-use Rattle.vl_layout.specs.LockHistory.{HasOpen, IsLegal, IsOpen, OpenTicket, entries_by, nothing_open, number_of, open_tickets, tickets_in}
+use Rattle.vl_layout.specs.LockHistory.{HasOpen, IsLegal, IsOpen, IsOwn, OpenTicket, entries_by, nothing_open, number_of}
+use Rattle.vl_layout.specs.LockHistory.{open_pass, open_tickets, tickets_in}
 use Rattle.vl_layout.specs.Tickets.{tickets_of}
 use Rattle.vl_layout.specs.declared.lock_history.LockEntry.{LockEntry}
-use Rattle.vl_layout.specs.laws.LockHistoryLaws.{own_is_open}
+use Rattle.vl_layout.specs.laws.LockHistoryLaws.{none≢some, own_is_open}
+use Rattle.vl_layout.specs.laws.OwnThings.{pass_stays}
 use Rattle.vl_store.specs.Knowing.{IsSession, own_in, session_in}
 use Rattle.vl_store.specs.Lists.{layout_by, open_by}
 use Rattle.vl_store.specs.declared.locked.Origin.{Origin}
@@ -42,6 +44,17 @@ module _ {T : Type 0} (meaning : T → T → List LockEntry → Type 0) (name : 
   own_all =
       let one = owns_in_turn meaning name start value before v is begins in
       ap own_in is.owns ∙ ((subst (Owned by v.seen) one begins.owns).0 ∙ ap (λ n. entries_by n v.seen) (sym number_is))
+
+  -- a pass that the session began, and didn't end, is the open one
+  pub pass_open : (o : Origin) → IsLegal o.number v.seen → (segment : ℕ)
+      → open_pass None (own_in before.me.0.owns) ≡ Some (session_in before.me.0.owns, segment)
+      → IsOwn (session_in v.owns) (open_by v.seen).pass
+  pass_open o legal segment own =
+      let same : session_in before.me.0.owns ≡ session_in v.owns = ap session_in is.owns ∙ sym number_is in
+      let mine : open_pass None (entries_by (session_in v.owns) v.seen) ≡ Some (session_in v.owns, segment) =
+          sym (ap (open_pass None) own_all) ∙ (own ∙ ap (λ n. Some (n, segment)) same) in
+      subst (IsOwn (session_in v.owns))
+      (sym (pass_stays o.number (session_in v.owns) segment None nothing_open v.seen legal (λ at. absurd (none≢some _ at)) mine)) refl
 
   module _ (o : Origin) (legal : IsLegal o.number v.seen) (ticket number : ℕ)
       (own : number_of ticket (open_tickets [] (own_in before.me.0.owns)) ≡ Some number) where

@@ -14,6 +14,7 @@ use Rattle.vl_core.specs.MayStep.{Fits}
 use Rattle.vl_core.specs.Represents.{Represents}
 use Rattle.vl_engine.specs.Collecting.{Collects}
 use Rattle.vl_engine.specs.Lent.{Opens}
+use Rattle.vl_engine.specs.Merging.{StandsOpen}
 use Rattle.vl_engine.specs.declared.open.OpenMerge.{OpenMerge}
 use Rattle.vl_model.specs.History.{History}
 use Rattle.vl_model.specs.Limits.{max_live}
@@ -72,6 +73,54 @@ module _ {H A : Type 0} (bytes : H → Option (List ℕ)) (y : Parts H) (h : His
       (represents.damaged name place at).1,
     );
   }
+
+-- the same, where what is open is said beside
+pub whole_with : {H A : Type 0} (bytes : H → Option (List ℕ)) (y : Parts H) (h : History) (l : Layout) (ruling : Ruling A)
+    (otherwise : Otherwise) (outcome : Outcome A) (effects : Effects)
+    → Decides (Represents bytes y.core y.told) h l ruling otherwise outcome effects
+    → Decides (StandsOpen bytes y.core y.merging) h l ruling otherwise outcome effects
+    → Decides (Fits y.told y.core) h l ruling otherwise outcome effects
+    → Decides (λ _ m. Collects y.core y.collecting m) h l ruling otherwise outcome effects
+    → Decides (IsWhole bytes y) h l ruling otherwise outcome effects
+whole_with bytes y h l ruling otherwise outcome effects represents stands fits collects = record {
+  answered = λ a at. (
+    (represents.answered a at).0,
+    record {
+      represents = (represents.answered a at).1;
+      opens = (stands.answered a at).1.opens;
+      fits = (fits.answered a at).1;
+      collects = (collects.answered a at).1;
+    },
+  );
+  did = represents.did;
+  no_memory = λ at. (
+    record {
+      represents = (represents.no_memory at).0;
+      opens = (stands.no_memory at).0.opens;
+      fits = (fits.no_memory at).0;
+      collects = (collects.no_memory at).0;
+    },
+    (represents.no_memory at).1,
+  );
+  failed = λ name at. (
+    (represents.failed name at).0,
+    record {
+      represents = (represents.failed name at).1;
+      opens = (stands.failed name at).1.opens;
+      fits = (fits.failed name at).1;
+      collects = (collects.failed name at).1;
+    },
+  );
+  damaged = λ name place at. (
+    record {
+      represents = (represents.damaged name place at).0;
+      opens = (stands.damaged name place at).0.opens;
+      fits = (fits.damaged name place at).0;
+      collects = (collects.damaged name place at).0;
+    },
+    (represents.damaged name place at).1,
+  );
+}
 
 -- a call that is always answered, and leaves this
 pub always_by : {H : Type 0} (bytes : H → Option (List ℕ)) (y : Parts H) (h : History) (l m : Layout) → IsWhole bytes y h m

@@ -38,7 +38,7 @@ use Rattle.vl_model.specs.Frames.{frame_length}
 use Rattle.vl_model.specs.History.{History, last_number}
 use Rattle.vl_model.specs.declared.log_frame.LogFrame.TheVariants.{Relocated}
 use Rattle.vl_model.specs.declared.log_frame.Moved.{Moved}
-use Rattle.vl_store.specs.Entries.{entry_by, fresh_entry, install_entry, move_done, pick_done, pick_entry, plan_entry, relocate_entry}
+use Rattle.vl_store.specs.Entries.{end_pass_entry, entry_by, fresh_entry, install_entry, move_done, pick_done, pick_entry, plan_entry, relocate_entry}
 use Rattle.vl_store.specs.Lists.{history_by, layout_by, open_by}
 use Rattle.vl_store.specs.Standing.{IsBehind, Parts}
 use Rattle.vl_store.specs.declared.locked.Origin.{Origin}
@@ -193,6 +193,17 @@ module _ {H : Type 0} (bytes : H → Option (List ℕ)) (o : Origin) (list : Lis
       → LeadsTo bytes o list (Some (record { session = session; step = PassEnded; layout = without_pass l })) h (without_pass l)
   end_pass_leads own = enters bytes o list x is session PassEnded (without_pass l) refl
       (ends_pass o list is.start is.legal session (without_pass l) own refl refl refl) (λ log lasts. lasts_same bytes log l lasts _ refl refl)
+
+  pub end_pass_lead : IsOwn session (open_by list).pass
+      → LeadsBy bytes o list (leaving {A = Unit {0}} tt h (without_pass l)) (as_before l (without_pass l)) (end_pass_entry session l h)
+  end_pass_lead own = record {
+    answered = end_pass_leads own;
+    short = nothing;
+    failed = λ name. enters bytes o list x is session PassEnded (halted_at name (without_pass l)) refl
+        (ends_pass o list is.start is.legal session (halted_at name (without_pass l)) own refl refl refl)
+        (λ log lasts. lasts_same bytes log l lasts _ refl refl);
+    damaged = λ name place. nothing;
+  }
 
   abbrev Moves : Ruling MoveAnswer → Type 0
   Moves r = LeadsTo bytes o list (entry_by (move_done r.layout) (Changed, l) session (Answered r.answer)) r.history r.layout
