@@ -3,9 +3,12 @@ use Rattle.std.proofs.Common.{◌≡◌, ℕ, List, [], ◌∷◌, ◌++◌, ref
 use Rattle.std.specs.Prelude.{Bool, true, false, is_ok, is_some, Option, None, Some, Result, Ok, Err, IfOk}
 use Rattle.std.specs.Option.{option_map}
 use Rattle.vl_collect.specs.declared.pass.Pass.{Pass}
-use Rattle.vl_engine.specs.Collecting.{IsPicked, pick_outcome}
+use Rattle.vl_engine.specs.Collecting.{Collects, IsPicked, Passes, pick_outcome}
+use Rattle.vl_core.specs.declared.kept.Core.{Core}
 use Rattle.vl_engine.specs.declared.fails.PickFail.{PickFail}
 use Rattle.vl_engine.specs.declared.fails.PickFail.TheVariants as fails
+use Rattle.vl_engine.specs.declared.open.Collecting.{Collecting}
+use Rattle.vl_layout.specs.Decides.{Decides, as_before, no_effects}
 use Rattle.vl_layout.specs.LockHistory.{last_layout, open_pass, pass_after, segment_in}
 use Rattle.vl_layout.specs.Relocation as layout
 use Rattle.vl_layout.specs.Ruling.{Ruling}
@@ -76,6 +79,14 @@ pass_own s next own now (Ok pass) is segment =
     ap (open_pass None) is ∙ (open_pass-more None own (record { session = s; step = steps.Picked; layout = next })
     ∙ ap (option_map (λ (n : ℕ). (s, n))) segment)
 pass_own s next own now (Err why) is segment = tt
+
+-- the layout's pass is over its log
+pub picked_segment : {H R : Type 0} (core : Core H) (old new : Collecting) (h : History) (l : Layout) (ruling : Ruling PickAnswer)
+    (r : Result (Pass (Base H R) H) PickFail)
+    → Decides (λ _ m. Collects core new m) h l ruling (as_before l l) (pick_outcome ruling.answer r) no_effects
+    → Passes old.passing new.passing r → IfOk r (λ pass. segment_in ruling.layout ≡ Some pass.log.number)
+picked_segment core old new h l ruling (Ok pass) decides passes = sym (decides.answered ruling.answer refl).1.passing ∙ passes
+picked_segment core old new h l ruling (Err why) decides passes = tt
 
 -- ---- a pick leaves the open merge
 

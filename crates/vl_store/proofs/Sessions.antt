@@ -103,6 +103,9 @@ module _ {T : Type 0} (meaning : T → T → List LockEntry → Type 0) (name : 
         (prefix_more (own_in before.me.0.owns) (own_in before.me.0.owns) e (prefix_same _ _ refl));
   }
 
+  pub number_now : session_in after.me.0.owns ≡ session_in v.owns
+  number_now = ap session_in owns_after ∙ sym (ap session_in owns_now)
+
   same_number : session_in v.owns ≡ session_in before.me.0.owns
   same_number = ap session_in owns_now ∙ sym number_before
 

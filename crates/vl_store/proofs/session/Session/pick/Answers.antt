@@ -1,5 +1,5 @@
 use Rattle.std.proofs.Common.{◌≡◌, refl, sym, ap, ◌∙◌, subst}
-use Rattle.std.specs.Prelude.{is_some, true, IfOk, Some}
+use Rattle.std.specs.Prelude.{is_some, true, IfOk, None, Some}
 use Rattle.vl_store.specs.Entries.{Done, entry_of, pick_entry}
 use Rattle.vl_store.specs.Knowing.{GoesOn, IsSession, Stepped, session_in}
 use Rattle.vl_store.specs.Lists.{history_by, layout_by}
@@ -11,14 +11,14 @@ use Rattle.vl_turn.specs.Locks.{lock_name, lock_start}
 use Rattle.std.specs.Option.{option_map}
 use Rattle.vl_engine.specs.Collecting.{FitsLooks, IsPicked, pick_outcome}
 use Rattle.vl_layout.specs.Decides.{as_before, no_effects}
-use Rattle.vl_layout.specs.LockHistory.{segment_in}
+use Rattle.vl_layout.specs.LockHistory.{open_pass}
 use Rattle.vl_layout.specs.Rulings.Pick.{PickAnswer, pick_ruling}
 use Rattle.vl_layout.specs.declared.job.OpenJob.{OpenJob}
 use Rattle.vl_store.specs.Knowing.{IsOwnPass, Knows, own_in}
 use Rattle.vl_store.specs.Standing.{IsBehind}
 use Rattle.vl_store.proofs.Leading.{goes_by}
-use Rattle.vl_store.proofs.Picking.{pass_own, pick_did, pick_enters, pick_job, pick_leaves, pick_same, picked_at, picked_of}
-use Rattle.vl_store.proofs.Sessions.{own_is, seen_after}
+use Rattle.vl_store.proofs.Picking.{pass_own, pick_did, pick_enters, pick_job, pick_leaves, pick_same, picked_at, picked_of, picked_segment}
+use Rattle.vl_store.proofs.Sessions.{number_now, own_is, seen_after}
 use Rattle.vl_store.proofs.Wholes.{whole_with}
 use Rattle.vl_store.proofs.Works.{pick_leads}
 use Rattle.vl_turn.specs.Entries.{with_entry}
@@ -150,3 +150,53 @@ returns-clause-steps g c =
           (seen_after _ (lock_name at) (lock_start at) o tells c.take-turn.result.value before after v (entry_of s (pick_did (pick_ruling l h c.args.percent).layout c.pick-answer.result)) is
           c.take-turn.ensures.begins c.finish.ensures.entered) (c.pick-answer.ensures.pass h l w.represents.stands w.collects),
         )))
+
+pub returns-clause-own : goal.returns-clause-own
+returns-clause-own g c told =
+    let at = c.deref-lock.result.now in
+    let o = (lock_start at).origin.me.0 in
+    let tells = is_some (g.D.Watched.told (lock_start at).engine.disk) in
+    let bytes = g.D.Held.HeldFile.bytes in
+    let v = c.take-turn.result.token.now.me.0 in
+    let l = layout_by o v.seen in
+    let h = history_by o v.seen in
+    let s = session_in v.owns in
+    let old = c.value-locked.result.now.engine in
+    let new = c.pick-answer.new.self in
+    let before = c.self.inside.token in
+    let after = c.finish.new.turn.1.0 in
+    let st = subst (λ (k : _). Stands bytes o tells v.seen (parts (g.D.Watched.told k.engine.disk) k.engine.core k.engine.merging k.engine.collecting))
+        (sym c.value-locked.ensures.value) c.take-turn.ensures.begins.meaning.1 in
+    let is = over (sym c.deref-lock.ensures) (λ (k : _). IsSession (lock_name k) (lock_start k) before) c.self.invariant in
+    let told_then = over (sym c.deref-lock.ensures) (λ (k : _). is_some (g.D.Watched.told (lock_start k).engine.disk) ≡ true)
+        (subst (λ (u : Knows). u.tells ≡ true) (sym c.self.view_is) told) in
+    let w = (st.behind told_then).whole in
+    subst (λ n. IfOk c.pick-answer.result (λ pass. open_pass None (own_in after.me.0.owns) ≡ Some (n, pass.log.number)))
+    (sym (number_now _ (lock_name at) (lock_start at) o tells c.take-turn.result.value before after v (entry_of s (pick_did (pick_ruling l h c.args.percent).layout c.pick-answer.result)) is c.take-turn.ensures.begins
+    c.finish.ensures.entered))
+    (pass_own s (pick_ruling l h c.args.percent).layout (own_in before.me.0.owns) (own_in after.me.0.owns) c.pick-answer.result
+    (own_is _ (lock_name at) (lock_start at) o tells c.take-turn.result.value before after v (entry_of s (pick_did (pick_ruling l h c.args.percent).layout c.pick-answer.result)) is c.take-turn.ensures.begins
+    c.finish.ensures.entered)
+    (picked_segment new.core old.collecting new.collecting h l (pick_ruling l h c.args.percent) c.pick-answer.result (c.pick-answer.ensures.collects h l w.represents.stands w.collects) c.pick-answer.ensures.passing))
+
+pub returns-clause-looks : goal.returns-clause-looks
+returns-clause-looks g c told =
+    let at = c.deref-lock.result.now in
+    let o = (lock_start at).origin.me.0 in
+    let tells = is_some (g.D.Watched.told (lock_start at).engine.disk) in
+    let bytes = g.D.Held.HeldFile.bytes in
+    let v = c.take-turn.result.token.now.me.0 in
+    let l = layout_by o v.seen in
+    let h = history_by o v.seen in
+    let s = session_in v.owns in
+    let old = c.value-locked.result.now.engine in
+    let new = c.pick-answer.new.self in
+    let before = c.self.inside.token in
+    let after = c.finish.new.turn.1.0 in
+    let st = subst (λ (k : _). Stands bytes o tells v.seen (parts (g.D.Watched.told k.engine.disk) k.engine.core k.engine.merging k.engine.collecting))
+        (sym c.value-locked.ensures.value) c.take-turn.ensures.begins.meaning.1 in
+    let is = over (sym c.deref-lock.ensures) (λ (k : _). IsSession (lock_name k) (lock_start k) before) c.self.invariant in
+    let told_then = over (sym c.deref-lock.ensures) (λ (k : _). is_some (g.D.Watched.told (lock_start k).engine.disk) ≡ true)
+        (subst (λ (u : Knows). u.tells ≡ true) (sym c.self.view_is) told) in
+    let w = (st.behind told_then).whole in
+    c.pick-answer.ensures.looks h l w.represents.stands
