@@ -120,7 +120,7 @@ module _ {H : Type 0} (before after : Core H) (old new : Collecting) (logs : aft
     failed = λ name at. (
       (decides.failed name at).0,
       collects_with l (halted_at name lost)
-      (record { sealed_is = lost_same.sealed_is; tables_are = lost_same.tables_are; flushed_is = lost_same.flushed_is }) lost_pass collects,
+          (record { sealed_is = lost_same.sealed_is; tables_are = lost_same.tables_are; flushed_is = lost_same.flushed_is }) lost_pass collects,
     );
     damaged = λ name place at. (collects_with l l (same_logs l) refl collects, (decides.damaged name place at).1);
   }
@@ -165,7 +165,7 @@ module _ (l : Layout) (h : History) where
     pub lost_same : SameWork l (commit_lost l t)
     lost_same = all _ refl refl refl refl refl
 
--- ---- merges and passes
+  -- ---- merges and passes
 
   -- what a call leaves of logs, tables and the open pass, where it leaves these
   abbrev pub LeavesPass : {A : Type 0} → Ruling A → Type 0

@@ -52,7 +52,7 @@ module _ {T : Type 0} (meaning : T → T → List LockEntry → Type 0) (name : 
   pass_open o legal segment own =
       let same : session_in before.me.0.owns ≡ session_in v.owns = ap session_in is.owns ∙ sym number_is in
       let mine : open_pass None (entries_by (session_in v.owns) v.seen) ≡ Some (session_in v.owns, segment) =
-          sym (ap (open_pass None) own_all) ∙ (own ∙ ap (λ n. Some (n, segment)) same) in
+      sym (ap (open_pass None) own_all) ∙ (own ∙ ap (λ n. Some (n, segment)) same) in
       subst (IsOwn (session_in v.owns))
       (sym (pass_stays o.number (session_in v.owns) segment None nothing_open v.seen legal (λ at. absurd (none≢some _ at)) mine)) refl
 

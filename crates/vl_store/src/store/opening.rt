@@ -1,9 +1,10 @@
-ghost use Rattle.std.specs.Prelude.{◌≡◌, is_some, [], IfErr, IfOk, length};
+ghost use Rattle.std.specs.Prelude.{◌≡◌, ◌+◌, is_some, [], IfErr, IfOk, length};
 ghost use Rattle.std.specs.Arc.{arc_value};
 ghost use Rattle.vl_store.specs.Standing.{Stands, parts};
-ghost use Rattle.vl_store.specs.Stores.{AreFirst, numbering, refused, store_of};
+ghost use Rattle.vl_store.specs.Stores.{AreFirst, IsFirst, numbering, refused, store_of};
 ghost use Rattle.vl_store.specs.declared.locked.Origin.{Origin};
 ghost use Rattle.vl_turn.specs.Locks.{lock_name, lock_start};
+ghost use Rattle.vl_turn.specs.Views.{next_of};
 
 use super::Store;
 use crate::fails::StoreFail;
@@ -89,9 +90,26 @@ fn seats<D: Disk + Drop>(
 {
     let mut made = Vec::with_capacity(alloc, sessions as usize)?;
     for _ in 0..sessions {
-        let token = lock.seat(root)?;
-        let share = Arc::try_clone(lock)?;
-        made.push(Session { lock: share, token })?;
+        let session = seat(lock, root)?;
+        made.push(session)?;
     }
     Ok(made)
+}
+
+// The session with the next number.
+fn seat<D: Disk + Drop>(
+    lock: &Arc<TurnLock<Locked<D>>, Global>,
+    root: &mut Token<Locked<D>>,
+) -> Result<Session<D>, AllocError>
+    requires here { root.old.table_id ≡ lock_name (arc_value lock.now) }
+    requires count { root.old.me ≡ (numbering (lock_start (arc_value lock.now)) (next_of root.old.me.0.made), []) }
+    ensures here { root.new.table_id ≡ lock_name (arc_value lock.now) }
+    ensures next { root.new.me ≡ (numbering (lock_start (arc_value lock.now)) (next_of root.old.me.0.made + 1), []) }
+    ensures session { IfOk result (IsFirst (store_of (lock_name (arc_value lock.now))
+        (lock_start (arc_value lock.now)).origin.me.0 (is_some (D.told (lock_start (arc_value lock.now)).engine.disk)))
+        (next_of root.old.me.0.made)) }
+{
+    let token = lock.seat(root)?;
+    let share = Arc::try_clone(lock)?;
+    Ok(Session { lock: share, token })
 }

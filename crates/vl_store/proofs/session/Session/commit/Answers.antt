@@ -44,7 +44,7 @@ finish-requires-clause-entry g c =
     let x = parts (g.D.Watched.told old.disk) old.core old.merging old.collecting in
     let y = parts (g.D.Watched.told new.disk) new.core new.merging new.collecting in
     let st = subst (λ (k : _). Stands bytes o tells v.seen (parts (g.D.Watched.told k.engine.disk) k.engine.core k.engine.merging k.engine.collecting))
-        (sym c.value-locked.ensures.value) c.take-turn.ensures.begins.meaning.1 in
+    (sym c.value-locked.ensures.value) c.take-turn.ensures.begins.meaning.1 in
     let outcome = commit_outcome c.commit-answer.result in
     let done : Done = done_by (commit_done c.args.txn.ticket (entries c.args.txn.writes) l h) (Ended c.args.txn.ticket, ended c.args.txn.ticket l) outcome in
     may_enter v c.self.invariant.session c.self.invariant.own (done_by (commit_done c.of-asked.result.value.ticket (entries c.of-asked.result.value.writes) l h) (Ended c.of-asked.result.value.ticket, ended c.of-asked.result.value.ticket l) outcome) c.has_ended-enters.result
@@ -65,7 +65,7 @@ finish-requires-clause-stands g c =
     let x = parts (g.D.Watched.told old.disk) old.core old.merging old.collecting in
     let y = parts (g.D.Watched.told new.disk) new.core new.merging new.collecting in
     let st = subst (λ (k : _). Stands bytes o tells v.seen (parts (g.D.Watched.told k.engine.disk) k.engine.core k.engine.merging k.engine.collecting))
-        (sym c.value-locked.ensures.value) c.take-turn.ensures.begins.meaning.1 in
+    (sym c.value-locked.ensures.value) c.take-turn.ensures.begins.meaning.1 in
     let outcome = commit_outcome c.commit-answer.result in
     let done : Done = done_by (commit_done c.args.txn.ticket (entries c.args.txn.writes) l h) (Ended c.args.txn.ticket, ended c.args.txn.ticket l) outcome in
     subst (λ (t : Txn _ _). Stands bytes o tells (with_entry v.seen (commit_entry t.ticket (entries t.writes) s l h outcome)) y) (sym c.of-asked.ensures) (record {
@@ -73,23 +73,23 @@ finish-requires-clause-stands g c =
           (leaves_merge l s done (leaves_by l (commit_done c.args.txn.ticket (entries c.args.txn.writes) l h) (Ended c.args.txn.ticket, ended c.args.txn.ticket l) outcome
           (commit_leaves c.args.txn.ticket (entries c.args.txn.writes) l h) (tt, refl)));
       behind = λ told.
-        let is = st.behind told in
-        let w = is.whole in
-        let told_now = subst (λ (u : Knows). u.tells ≡ true) c.self.view_is
-        (over c.deref-lock.ensures (λ (k : _). is_some (g.D.Watched.told (lock_start k).engine.disk) ≡ true) told) in
-        let own = subst (λ (u : Knows). number_of c.args.txn.ticket (open_tickets [] u.own) ≡ Some c.args.txn.number) (sym c.self.view_is) ((c.requires told_now).own) in
-        let sess = over (sym c.deref-lock.ensures) (λ (k : _). IsSession (lock_name k) (lock_start k) c.self.inside.token) c.self.invariant in
-        let live = ticket_lives _ (lock_name at) (lock_start at) c.take-turn.result.value c.self.inside.token v sess c.take-turn.ensures.begins o is.legal c.args.txn.ticket c.args.txn.number own is.start in
-        let reads = (c.requires told_now).reads in
-        let noted = (c.requires told_now).noted in
-        goes_by bytes o v.seen (commit_ruling l h (asked c.args.txn reads)) (as_before l (commit_lost l (asked c.args.txn reads))) (commit_entry c.args.txn.ticket (entries c.args.txn.writes) s l h) x y outcome (commit_effects c.commit-answer.result) is
-        (commit_leads bytes o v.seen x is s (asked c.args.txn reads) (ticket_open _ (lock_name at) (lock_start at) c.take-turn.result.value c.self.inside.token v sess c.take-turn.ensures.begins o is.legal c.args.txn.ticket c.args.txn.number own) (is_so (is_sorted key_cmp (entries c.args.txn.writes)) (entries_sorted c.args.txn.writes)))
-        (whole_by bytes y h l (commit_ruling l h (asked c.args.txn reads)) (as_before l (commit_lost l (asked c.args.txn reads))) outcome (commit_effects c.commit-answer.result)
-        (c.commit-answer.ensures.carries h l reads w.represents live noted).decides
-        (still_open l h bytes y old.merging (commit_ruling l h (asked c.args.txn reads)) (commit_lost l (asked c.args.txn reads)) outcome (commit_effects c.commit-answer.result) (commit_same l h (asked c.args.txn reads)).job_is (lost_same l h (asked c.args.txn reads)).job_is c.commit-answer.ensures.merging w.opens)
-        (c.commit-answer.ensures.fits h l reads w.represents.stands w.fits live noted)
-        (collects_by old.core new.core old.collecting new.collecting c.commit-answer.ensures.logs c.commit-answer.ensures.collecting _ h l (commit_lost l (asked c.args.txn reads))
-        (commit_ruling l h (asked c.args.txn reads)) outcome (commit_effects c.commit-answer.result) ((c.commit-answer.ensures.carries h l reads w.represents live noted).decides) (commit_same l h (asked c.args.txn reads)) (lost_same l h (asked c.args.txn reads)) w.collects));
+          let is = st.behind told in
+          let w = is.whole in
+          let told_now = subst (λ (u : Knows). u.tells ≡ true) c.self.view_is
+          (over c.deref-lock.ensures (λ (k : _). is_some (g.D.Watched.told (lock_start k).engine.disk) ≡ true) told) in
+          let own = subst (λ (u : Knows). number_of c.args.txn.ticket (open_tickets [] u.own) ≡ Some c.args.txn.number) (sym c.self.view_is) ((c.requires told_now).own) in
+          let sess = over (sym c.deref-lock.ensures) (λ (k : _). IsSession (lock_name k) (lock_start k) c.self.inside.token) c.self.invariant in
+          let live = ticket_lives _ (lock_name at) (lock_start at) c.take-turn.result.value c.self.inside.token v sess c.take-turn.ensures.begins o is.legal c.args.txn.ticket c.args.txn.number own is.start in
+          let reads = (c.requires told_now).reads in
+          let noted = (c.requires told_now).noted in
+          goes_by bytes o v.seen (commit_ruling l h (asked c.args.txn reads)) (as_before l (commit_lost l (asked c.args.txn reads))) (commit_entry c.args.txn.ticket (entries c.args.txn.writes) s l h) x y outcome (commit_effects c.commit-answer.result) is
+          (commit_leads bytes o v.seen x is s (asked c.args.txn reads) (ticket_open _ (lock_name at) (lock_start at) c.take-turn.result.value c.self.inside.token v sess c.take-turn.ensures.begins o is.legal c.args.txn.ticket c.args.txn.number own) (is_so (is_sorted key_cmp (entries c.args.txn.writes)) (entries_sorted c.args.txn.writes)))
+          (whole_by bytes y h l (commit_ruling l h (asked c.args.txn reads)) (as_before l (commit_lost l (asked c.args.txn reads))) outcome (commit_effects c.commit-answer.result)
+          (c.commit-answer.ensures.carries h l reads w.represents live noted).decides
+          (still_open l h bytes y old.merging (commit_ruling l h (asked c.args.txn reads)) (commit_lost l (asked c.args.txn reads)) outcome (commit_effects c.commit-answer.result) (commit_same l h (asked c.args.txn reads)).job_is (lost_same l h (asked c.args.txn reads)).job_is c.commit-answer.ensures.merging w.opens)
+          (c.commit-answer.ensures.fits h l reads w.represents.stands w.fits live noted)
+          (collects_by old.core new.core old.collecting new.collecting c.commit-answer.ensures.logs c.commit-answer.ensures.collecting _ h l (commit_lost l (asked c.args.txn reads))
+          (commit_ruling l h (asked c.args.txn reads)) outcome (commit_effects c.commit-answer.result) ((c.commit-answer.ensures.carries h l reads w.represents live noted).decides) (commit_same l h (asked c.args.txn reads)) (lost_same l h (asked c.args.txn reads)) w.collects));
     })
 
 pub invariant_of-self : goal.invariant_of-self
@@ -121,8 +121,8 @@ returns-clause-on g c =
     let after = c.finish.new.turn.1.0 in
     let is = over (sym c.deref-lock.ensures) (λ (k : _). IsSession (lock_name k) (lock_start k) before) c.self.invariant in
     rw (sym c.self.view_is) (over c.deref-lock.ensures (λ (k : _). GoesOn
-        (knowing (lock_name k) (lock_start k).origin.me.0 (is_some (g.D.Watched.told (lock_start k).engine.disk)) before)
-        (knowing (lock_name k) (lock_start k).origin.me.0 (is_some (g.D.Watched.told (lock_start k).engine.disk)) after))
+    (knowing (lock_name k) (lock_start k).origin.me.0 (is_some (g.D.Watched.told (lock_start k).engine.disk)) before)
+    (knowing (lock_name k) (lock_start k).origin.me.0 (is_some (g.D.Watched.told (lock_start k).engine.disk)) after))
     (on_after _ (lock_name at) (lock_start at) (lock_start at).origin.me.0
     (is_some (g.D.Watched.told (lock_start at).engine.disk)) c.take-turn.result.value before after
     c.take-turn.result.token.now.me.0 (commit_entry c.of-asked.result.value.ticket (entries c.of-asked.result.value.writes) s l h outcome) is c.take-turn.ensures.begins c.finish.ensures.entered))
@@ -142,24 +142,24 @@ returns-clause-steps g c =
     let x = parts (g.D.Watched.told old.disk) old.core old.merging old.collecting in
     let y = parts (g.D.Watched.told new.disk) new.core new.merging new.collecting in
     let st = subst (λ (k : _). Stands bytes o tells v.seen (parts (g.D.Watched.told k.engine.disk) k.engine.core k.engine.merging k.engine.collecting))
-        (sym c.value-locked.ensures.value) c.take-turn.ensures.begins.meaning.1 in
+    (sym c.value-locked.ensures.value) c.take-turn.ensures.begins.meaning.1 in
     let outcome = commit_outcome c.commit-answer.result in
     let done : Done = done_by (commit_done c.args.txn.ticket (entries c.args.txn.writes) l h) (Ended c.args.txn.ticket, ended c.args.txn.ticket l) outcome in
     let before = c.self.inside.token in
     let after = c.finish.new.turn.1.0 in
     let is = over (sym c.deref-lock.ensures) (λ (k : _). IsSession (lock_name k) (lock_start k) before) c.self.invariant in
     rw (sym c.self.view_is) (over c.deref-lock.ensures (λ (k : _). is_some (g.D.Watched.told (lock_start k).engine.disk) ≡ true → (reads : List Read) → AreNotesOf reads c.args.txn.reads.keys c.args.txn.reads.spans → Stepped
-        (knowing (lock_name k) (lock_start k).origin.me.0 (is_some (g.D.Watched.told (lock_start k).engine.disk)) before)
-        (knowing (lock_name k) (lock_start k).origin.me.0 (is_some (g.D.Watched.told (lock_start k).engine.disk)) after)
-        (λ l h. commit_ruling l h (asked c.args.txn reads)) (commit_entry c.args.txn.ticket (entries c.args.txn.writes)) outcome)
+    (knowing (lock_name k) (lock_start k).origin.me.0 (is_some (g.D.Watched.told (lock_start k).engine.disk)) before)
+    (knowing (lock_name k) (lock_start k).origin.me.0 (is_some (g.D.Watched.told (lock_start k).engine.disk)) after)
+    (λ l h. commit_ruling l h (asked c.args.txn reads)) (commit_entry c.args.txn.ticket (entries c.args.txn.writes)) outcome)
     (λ told reads noted.
-        let w = (st.behind told).whole in
-        stepped_after _ (lock_name at) (lock_start at) o tells c.take-turn.result.value before after v (commit_entry c.of-asked.result.value.ticket (entries c.of-asked.result.value.writes) s l h outcome) is c.take-turn.ensures.begins
-        c.finish.ensures.entered (λ l h. commit_ruling l h (asked c.args.txn reads)) (commit_entry c.args.txn.ticket (entries c.args.txn.writes)) outcome _ (as_before l (commit_lost l (asked c.args.txn reads))) (commit_effects c.commit-answer.result) (ap (λ (t : Txn _ _). commit_entry t.ticket (entries t.writes) s l h outcome) c.of-asked.ensures)
-        (let is = st.behind told in let told_now = subst (λ (u : Knows). u.tells ≡ true) c.self.view_is
-        (over c.deref-lock.ensures (λ (k : _). is_some (g.D.Watched.told (lock_start k).engine.disk) ≡ true) told) in
-        let own = subst (λ (u : Knows). number_of c.args.txn.ticket (open_tickets [] u.own) ≡ Some c.args.txn.number) (sym c.self.view_is) ((c.requires told_now).own) in
-        let sess = over (sym c.deref-lock.ensures) (λ (k : _). IsSession (lock_name k) (lock_start k) c.self.inside.token) c.self.invariant in
-        let live = ticket_lives _ (lock_name at) (lock_start at) c.take-turn.result.value c.self.inside.token v sess c.take-turn.ensures.begins o is.legal c.args.txn.ticket c.args.txn.number own is.start in
-        (c.commit-answer.ensures.carries h l reads w.represents live noted).decides)
-        ((finish-requires-clause-stands g c.before.before).behind told).legal))
+    let w = (st.behind told).whole in
+    stepped_after _ (lock_name at) (lock_start at) o tells c.take-turn.result.value before after v (commit_entry c.of-asked.result.value.ticket (entries c.of-asked.result.value.writes) s l h outcome) is c.take-turn.ensures.begins
+    c.finish.ensures.entered (λ l h. commit_ruling l h (asked c.args.txn reads)) (commit_entry c.args.txn.ticket (entries c.args.txn.writes)) outcome _ (as_before l (commit_lost l (asked c.args.txn reads))) (commit_effects c.commit-answer.result) (ap (λ (t : Txn _ _). commit_entry t.ticket (entries t.writes) s l h outcome) c.of-asked.ensures)
+    (let is = st.behind told in let told_now = subst (λ (u : Knows). u.tells ≡ true) c.self.view_is
+    (over c.deref-lock.ensures (λ (k : _). is_some (g.D.Watched.told (lock_start k).engine.disk) ≡ true) told) in
+    let own = subst (λ (u : Knows). number_of c.args.txn.ticket (open_tickets [] u.own) ≡ Some c.args.txn.number) (sym c.self.view_is) ((c.requires told_now).own) in
+    let sess = over (sym c.deref-lock.ensures) (λ (k : _). IsSession (lock_name k) (lock_start k) c.self.inside.token) c.self.invariant in
+    let live = ticket_lives _ (lock_name at) (lock_start at) c.take-turn.result.value c.self.inside.token v sess c.take-turn.ensures.begins o is.legal c.args.txn.ticket c.args.txn.number own is.start in
+    (c.commit-answer.ensures.carries h l reads w.represents live noted).decides)
+    ((finish-requires-clause-stands g c.before.before).behind told).legal))

@@ -35,7 +35,7 @@ finish-requires-clause-entry g c =
     let x = parts (g.D.Watched.told old.disk) old.core old.merging old.collecting in
     let y = parts (g.D.Watched.told new.disk) new.core new.merging new.collecting in
     let st = subst (λ (k : _). Stands bytes o tells v.seen (parts (g.D.Watched.told k.engine.disk) k.engine.core k.engine.merging k.engine.collecting))
-        (sym c.value-locked.ensures.value) c.take-turn.ensures.begins.meaning.1 in
+    (sym c.value-locked.ensures.value) c.take-turn.ensures.begins.meaning.1 in
     let outcome : Outcome (Unit {0}) = Answered tt in
     let done : Done = Some (PassEnded, (without_pass l)) in
     may_enter v c.self.invariant.session c.self.invariant.own (done) true
@@ -56,23 +56,23 @@ finish-requires-clause-stands g c =
     let x = parts (g.D.Watched.told old.disk) old.core old.merging old.collecting in
     let y = parts (g.D.Watched.told new.disk) new.core new.merging new.collecting in
     let st = subst (λ (k : _). Stands bytes o tells v.seen (parts (g.D.Watched.told k.engine.disk) k.engine.core k.engine.merging k.engine.collecting))
-        (sym c.value-locked.ensures.value) c.take-turn.ensures.begins.meaning.1 in
+    (sym c.value-locked.ensures.value) c.take-turn.ensures.begins.meaning.1 in
     let outcome : Outcome (Unit {0}) = Answered tt in
     let done : Done = Some (PassEnded, (without_pass l)) in
     stands_on bytes o tells v.seen x y ((end_pass_entry) s l h) outcome (leaving tt h (without_pass l)) (as_before l (without_pass l)) no_effects st
     (merges_left o v.seen old.merging new.merging st.merges c.end_pass.ensures.merging ((end_pass_entry) s l h outcome)
     (leaves_merge l s done ((tt, refl))))
     (λ told is. let told_now = subst (λ (u : Knows). u.tells ≡ true) c.self.view_is
-        (over c.deref-lock.ensures (λ (k : _). is_some (g.D.Watched.told (lock_start k).engine.disk) ≡ true) told) in
-        let own = subst (λ (u : Knows). open_pass None u.own ≡ Some (u.session, c.args.pass.log.number)) (sym c.self.view_is) (c.requires told_now) in
-        let sess = over (sym c.deref-lock.ensures) (λ (k : _). IsSession (lock_name k) (lock_start k) c.self.inside.token) c.self.invariant in
-        end_pass_lead bytes o v.seen x is s (pass_open _ (lock_name at) (lock_start at) c.take-turn.result.value c.self.inside.token v sess c.take-turn.ensures.begins o is.legal c.args.pass.log.number own))
+    (over c.deref-lock.ensures (λ (k : _). is_some (g.D.Watched.told (lock_start k).engine.disk) ≡ true) told) in
+    let own = subst (λ (u : Knows). open_pass None u.own ≡ Some (u.session, c.args.pass.log.number)) (sym c.self.view_is) (c.requires told_now) in
+    let sess = over (sym c.deref-lock.ensures) (λ (k : _). IsSession (lock_name k) (lock_start k) c.self.inside.token) c.self.invariant in
+    end_pass_lead bytes o v.seen x is s (pass_open _ (lock_name at) (lock_start at) c.take-turn.result.value c.self.inside.token v sess c.take-turn.ensures.begins o is.legal c.args.pass.log.number own))
     (λ told is. let w = is.whole in always_by bytes y h l (without_pass l) (record {
-          represents = c.end_pass.ensures.represents h l (record { segment = 0; base = []; left = [] }) w.represents;
-          opens = (c.end_pass.ensures.stands h l (record { segment = 0; base = []; left = [] }) (record { stands = w.represents.stands; opens = w.opens })).opens;
-          fits = c.end_pass.ensures.fits h l (record { segment = 0; base = []; left = [] }) w.fits;
-          collects = c.end_pass.ensures.collects h l (record { segment = 0; base = []; left = [] }) w.collects;
-        }))
+      represents = c.end_pass.ensures.represents h l (record { segment = 0; base = []; left = [] }) w.represents;
+      opens = (c.end_pass.ensures.stands h l (record { segment = 0; base = []; left = [] }) (record { stands = w.represents.stands; opens = w.opens })).opens;
+      fits = c.end_pass.ensures.fits h l (record { segment = 0; base = []; left = [] }) w.fits;
+      collects = c.end_pass.ensures.collects h l (record { segment = 0; base = []; left = [] }) w.collects;
+    }))
 
 pub invariant_of-self : goal.invariant_of-self
 invariant_of-self g c =
@@ -103,8 +103,8 @@ returns-clause-on g c =
     let after = c.finish.new.turn.1.0 in
     let is = over (sym c.deref-lock.ensures) (λ (k : _). IsSession (lock_name k) (lock_start k) before) c.self.invariant in
     rw (sym c.self.view_is) (over c.deref-lock.ensures (λ (k : _). GoesOn
-        (knowing (lock_name k) (lock_start k).origin.me.0 (is_some (g.D.Watched.told (lock_start k).engine.disk)) before)
-        (knowing (lock_name k) (lock_start k).origin.me.0 (is_some (g.D.Watched.told (lock_start k).engine.disk)) after))
+    (knowing (lock_name k) (lock_start k).origin.me.0 (is_some (g.D.Watched.told (lock_start k).engine.disk)) before)
+    (knowing (lock_name k) (lock_start k).origin.me.0 (is_some (g.D.Watched.told (lock_start k).engine.disk)) after))
     (on_after _ (lock_name at) (lock_start at) (lock_start at).origin.me.0
     (is_some (g.D.Watched.told (lock_start at).engine.disk)) c.take-turn.result.value before after
     c.take-turn.result.token.now.me.0 ((end_pass_entry) s l h outcome) is c.take-turn.ensures.begins c.finish.ensures.entered))
@@ -124,24 +124,24 @@ returns-clause-steps g c =
     let x = parts (g.D.Watched.told old.disk) old.core old.merging old.collecting in
     let y = parts (g.D.Watched.told new.disk) new.core new.merging new.collecting in
     let st = subst (λ (k : _). Stands bytes o tells v.seen (parts (g.D.Watched.told k.engine.disk) k.engine.core k.engine.merging k.engine.collecting))
-        (sym c.value-locked.ensures.value) c.take-turn.ensures.begins.meaning.1 in
+    (sym c.value-locked.ensures.value) c.take-turn.ensures.begins.meaning.1 in
     let outcome : Outcome (Unit {0}) = Answered tt in
     let done : Done = Some (PassEnded, (without_pass l)) in
     let before = c.self.inside.token in
     let after = c.finish.new.turn.1.0 in
     let is = over (sym c.deref-lock.ensures) (λ (k : _). IsSession (lock_name k) (lock_start k) before) c.self.invariant in
     rw (sym c.self.view_is) (over c.deref-lock.ensures (λ (k : _). is_some (g.D.Watched.told (lock_start k).engine.disk) ≡ true → (p : Pass) → Stepped
-        (knowing (lock_name k) (lock_start k).origin.me.0 (is_some (g.D.Watched.told (lock_start k).engine.disk)) before)
-        (knowing (lock_name k) (lock_start k).origin.me.0 (is_some (g.D.Watched.told (lock_start k).engine.disk)) after)
-        (λ l h. leaving tt h (without_pass l)) end_pass_entry outcome)
+    (knowing (lock_name k) (lock_start k).origin.me.0 (is_some (g.D.Watched.told (lock_start k).engine.disk)) before)
+    (knowing (lock_name k) (lock_start k).origin.me.0 (is_some (g.D.Watched.told (lock_start k).engine.disk)) after)
+    (λ l h. leaving tt h (without_pass l)) end_pass_entry outcome)
     (λ told p.
-        let w = (st.behind told).whole in
-        stepped_after _ (lock_name at) (lock_start at) o tells c.take-turn.result.value before after v ((end_pass_entry) s l h outcome) is c.take-turn.ensures.begins
-        c.finish.ensures.entered (λ l h. leaving tt h (without_pass l)) end_pass_entry outcome _ (as_before l (without_pass l)) no_effects refl
-        (always_by bytes y h l (without_pass l) (record {
-          represents = c.end_pass.ensures.represents h l (record { segment = 0; base = []; left = [] }) w.represents;
-          opens = (c.end_pass.ensures.stands h l (record { segment = 0; base = []; left = [] }) (record { stands = w.represents.stands; opens = w.opens })).opens;
-          fits = c.end_pass.ensures.fits h l (record { segment = 0; base = []; left = [] }) w.fits;
-          collects = c.end_pass.ensures.collects h l (record { segment = 0; base = []; left = [] }) w.collects;
-        }))
-        ((finish-requires-clause-stands g c.before).behind told).legal))
+    let w = (st.behind told).whole in
+    stepped_after _ (lock_name at) (lock_start at) o tells c.take-turn.result.value before after v ((end_pass_entry) s l h outcome) is c.take-turn.ensures.begins
+    c.finish.ensures.entered (λ l h. leaving tt h (without_pass l)) end_pass_entry outcome _ (as_before l (without_pass l)) no_effects refl
+    (always_by bytes y h l (without_pass l) (record {
+      represents = c.end_pass.ensures.represents h l (record { segment = 0; base = []; left = [] }) w.represents;
+      opens = (c.end_pass.ensures.stands h l (record { segment = 0; base = []; left = [] }) (record { stands = w.represents.stands; opens = w.opens })).opens;
+      fits = c.end_pass.ensures.fits h l (record { segment = 0; base = []; left = [] }) w.fits;
+      collects = c.end_pass.ensures.collects h l (record { segment = 0; base = []; left = [] }) w.collects;
+    }))
+    ((finish-requires-clause-stands g c.before).behind told).legal))

@@ -35,7 +35,7 @@ finish-requires-clause-entry g c =
     let x = parts (g.D.Watched.told old.disk) old.core old.merging old.collecting in
     let y = parts (g.D.Watched.told new.disk) new.core new.merging new.collecting in
     let st = subst (λ (k : _). Stands bytes o tells v.seen (parts (g.D.Watched.told k.engine.disk) k.engine.core k.engine.merging k.engine.collecting))
-        (sym c.value-locked.ensures.value) c.take-turn.ensures.begins.meaning.1 in
+    (sym c.value-locked.ensures.value) c.take-turn.ensures.begins.meaning.1 in
     let outcome = step_outcome c.flush-answer.result in
     let done : Done = done_by (step_done (flush_ruling l h).layout) (Changed, l) outcome in
     may_enter v c.self.invariant.session c.self.invariant.own (done) c.has_stepped-enters.result
@@ -56,7 +56,7 @@ finish-requires-clause-stands g c =
     let x = parts (g.D.Watched.told old.disk) old.core old.merging old.collecting in
     let y = parts (g.D.Watched.told new.disk) new.core new.merging new.collecting in
     let st = subst (λ (k : _). Stands bytes o tells v.seen (parts (g.D.Watched.told k.engine.disk) k.engine.core k.engine.merging k.engine.collecting))
-        (sym c.value-locked.ensures.value) c.take-turn.ensures.begins.meaning.1 in
+    (sym c.value-locked.ensures.value) c.take-turn.ensures.begins.meaning.1 in
     let outcome = step_outcome c.flush-answer.result in
     let done : Done = done_by (step_done (flush_ruling l h).layout) (Changed, l) outcome in
     stands_on bytes o tells v.seen x y ((flush_entry) s l h) outcome (flush_ruling l h) (as_before l l) (flush_effects c.flush-answer.result) st
@@ -64,14 +64,14 @@ finish-requires-clause-stands g c =
     (leaves_merge l s done (leaves_by l (step_done (flush_ruling l h).layout) (Changed, l) outcome (step_leaves l (flush_ruling l h).layout (ap (option_map (λ (j : OpenJob). j.lent)) (flush_job l h))) (tt, refl))))
     (λ told is. flush_leads bytes o v.seen x is s)
     (λ told is. let w = is.whole in let told_is = told_some (g.D.Watched.told (lock_start at).engine.disk) (g.D.Watched.told old.disk) told
-        (λ none. g.met.D.Alike.alike old.disk (lock_start at).engine.disk none) in
-        whole_by bytes y h l (flush_ruling l h) (as_before l l) outcome (flush_effects c.flush-answer.result)
-        (c.flush-answer.ensures.carries h l w.represents).decides
-        (still_open l h bytes y old.merging (flush_ruling l h) l outcome (flush_effects c.flush-answer.result) (flush_job l h) refl
-        c.flush-answer.ensures.merging w.opens)
-        (c.flush-answer.ensures.fits h l w.represents.stands w.fits)
-        (c.flush-answer.ensures.collects told_is.0 h l told_is.1 w.represents.stands
-        (λ running. ((w.fits.running running).numbers, (w.fits.running running).files)) w.collects))
+    (λ none. g.met.D.Alike.alike old.disk (lock_start at).engine.disk none) in
+    whole_by bytes y h l (flush_ruling l h) (as_before l l) outcome (flush_effects c.flush-answer.result)
+    (c.flush-answer.ensures.carries h l w.represents).decides
+    (still_open l h bytes y old.merging (flush_ruling l h) l outcome (flush_effects c.flush-answer.result) (flush_job l h) refl
+    c.flush-answer.ensures.merging w.opens)
+    (c.flush-answer.ensures.fits h l w.represents.stands w.fits)
+    (c.flush-answer.ensures.collects told_is.0 h l told_is.1 w.represents.stands
+    (λ running. ((w.fits.running running).numbers, (w.fits.running running).files)) w.collects))
 
 pub invariant_of-self : goal.invariant_of-self
 invariant_of-self g c =
@@ -102,8 +102,8 @@ returns-clause-on g c =
     let after = c.finish.new.turn.1.0 in
     let is = over (sym c.deref-lock.ensures) (λ (k : _). IsSession (lock_name k) (lock_start k) before) c.self.invariant in
     rw (sym c.self.view_is) (over c.deref-lock.ensures (λ (k : _). GoesOn
-        (knowing (lock_name k) (lock_start k).origin.me.0 (is_some (g.D.Watched.told (lock_start k).engine.disk)) before)
-        (knowing (lock_name k) (lock_start k).origin.me.0 (is_some (g.D.Watched.told (lock_start k).engine.disk)) after))
+    (knowing (lock_name k) (lock_start k).origin.me.0 (is_some (g.D.Watched.told (lock_start k).engine.disk)) before)
+    (knowing (lock_name k) (lock_start k).origin.me.0 (is_some (g.D.Watched.told (lock_start k).engine.disk)) after))
     (on_after _ (lock_name at) (lock_start at) (lock_start at).origin.me.0
     (is_some (g.D.Watched.told (lock_start at).engine.disk)) c.take-turn.result.value before after
     c.take-turn.result.token.now.me.0 ((flush_entry) s l h outcome) is c.take-turn.ensures.begins c.finish.ensures.entered))
@@ -123,19 +123,19 @@ returns-clause-steps g c =
     let x = parts (g.D.Watched.told old.disk) old.core old.merging old.collecting in
     let y = parts (g.D.Watched.told new.disk) new.core new.merging new.collecting in
     let st = subst (λ (k : _). Stands bytes o tells v.seen (parts (g.D.Watched.told k.engine.disk) k.engine.core k.engine.merging k.engine.collecting))
-        (sym c.value-locked.ensures.value) c.take-turn.ensures.begins.meaning.1 in
+    (sym c.value-locked.ensures.value) c.take-turn.ensures.begins.meaning.1 in
     let outcome = step_outcome c.flush-answer.result in
     let done : Done = done_by (step_done (flush_ruling l h).layout) (Changed, l) outcome in
     let before = c.self.inside.token in
     let after = c.finish.new.turn.1.0 in
     let is = over (sym c.deref-lock.ensures) (λ (k : _). IsSession (lock_name k) (lock_start k) before) c.self.invariant in
     rw (sym c.self.view_is) (over c.deref-lock.ensures (λ (k : _). is_some (g.D.Watched.told (lock_start k).engine.disk) ≡ true → Stepped
-        (knowing (lock_name k) (lock_start k).origin.me.0 (is_some (g.D.Watched.told (lock_start k).engine.disk)) before)
-        (knowing (lock_name k) (lock_start k).origin.me.0 (is_some (g.D.Watched.told (lock_start k).engine.disk)) after)
-        flush_ruling flush_entry outcome)
+    (knowing (lock_name k) (lock_start k).origin.me.0 (is_some (g.D.Watched.told (lock_start k).engine.disk)) before)
+    (knowing (lock_name k) (lock_start k).origin.me.0 (is_some (g.D.Watched.told (lock_start k).engine.disk)) after)
+    flush_ruling flush_entry outcome)
     (λ told.
-        let w = (st.behind told).whole in
-        stepped_after _ (lock_name at) (lock_start at) o tells c.take-turn.result.value before after v ((flush_entry) s l h outcome) is c.take-turn.ensures.begins
-        c.finish.ensures.entered flush_ruling flush_entry outcome _ (as_before l l) (flush_effects c.flush-answer.result) refl
-        ((c.flush-answer.ensures.carries h l w.represents).decides)
-        ((finish-requires-clause-stands g c.before).behind told).legal))
+    let w = (st.behind told).whole in
+    stepped_after _ (lock_name at) (lock_start at) o tells c.take-turn.result.value before after v ((flush_entry) s l h outcome) is c.take-turn.ensures.begins
+    c.finish.ensures.entered flush_ruling flush_entry outcome _ (as_before l l) (flush_effects c.flush-answer.result) refl
+    ((c.flush-answer.ensures.carries h l w.represents).decides)
+    ((finish-requires-clause-stands g c.before).behind told).legal))

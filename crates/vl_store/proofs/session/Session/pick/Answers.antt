@@ -39,7 +39,7 @@ finish-requires-clause-entry g c =
     let x = parts (g.D.Watched.told old.disk) old.core old.merging old.collecting in
     let y = parts (g.D.Watched.told new.disk) new.core new.merging new.collecting in
     let st = subst (λ (k : _). Stands bytes o tells v.seen (parts (g.D.Watched.told k.engine.disk) k.engine.core k.engine.merging k.engine.collecting))
-        (sym c.value-locked.ensures.value) c.take-turn.ensures.begins.meaning.1 in
+    (sym c.value-locked.ensures.value) c.take-turn.ensures.begins.meaning.1 in
     let outcome = pick_outcome (pick_ruling l h c.args.percent).answer c.pick-answer.result in
     let done : Done = pick_did (pick_ruling l h c.args.percent).layout c.pick-answer.result in
     may_enter v c.self.invariant.session c.self.invariant.own (done) c.is_ok-enters.result
@@ -60,22 +60,22 @@ finish-requires-clause-stands g c =
     let x = parts (g.D.Watched.told old.disk) old.core old.merging old.collecting in
     let y = parts (g.D.Watched.told new.disk) new.core new.merging new.collecting in
     let st = subst (λ (k : _). Stands bytes o tells v.seen (parts (g.D.Watched.told k.engine.disk) k.engine.core k.engine.merging k.engine.collecting))
-        (sym c.value-locked.ensures.value) c.take-turn.ensures.begins.meaning.1 in
+    (sym c.value-locked.ensures.value) c.take-turn.ensures.begins.meaning.1 in
     let outcome = pick_outcome (pick_ruling l h c.args.percent).answer c.pick-answer.result in
     let done : Done = pick_did (pick_ruling l h c.args.percent).layout c.pick-answer.result in
     record {
       merges = merges_left o v.seen old.merging new.merging st.merges c.pick-answer.ensures.merging (entry_of s done)
           (leaves_merge l s done (pick_leaves l (pick_ruling l h c.args.percent).layout c.pick-answer.result (ap (option_map (λ (j : OpenJob). j.lent)) (pick_job l h c.args.percent))));
       behind = λ told.
-        let is = st.behind told in
-        let w = is.whole in
-        subst (λ e. IsBehind bytes o (with_entry v.seen e) y) (sym (pick_same s l (pick_ruling l h c.args.percent).layout (pick_ruling l h c.args.percent).answer c.pick-answer.result (picked_of bytes (pick_ruling l h c.args.percent).layout (pick_ruling l h c.args.percent).answer c.pick-answer.result (c.pick-answer.ensures.pass h l w.represents.stands w.collects))))
-        (goes_by bytes o v.seen (pick_ruling l h c.args.percent) (as_before l l) (pick_entry c.args.percent s l h) x y outcome no_effects is
-        (pick_leads bytes o v.seen x is s c.args.percent)
-        (whole_with bytes y h l (pick_ruling l h c.args.percent) (as_before l l) outcome no_effects (c.pick-answer.ensures.represents h l w.represents w.collects)
-        (c.pick-answer.ensures.stands h l (record { stands = w.represents.stands; opens = w.opens }) w.collects)
-        (c.pick-answer.ensures.fits h l w.represents.stands w.collects w.fits)
-        (c.pick-answer.ensures.collects h l w.represents.stands w.collects)));
+          let is = st.behind told in
+          let w = is.whole in
+          subst (λ e. IsBehind bytes o (with_entry v.seen e) y) (sym (pick_same s l (pick_ruling l h c.args.percent).layout (pick_ruling l h c.args.percent).answer c.pick-answer.result (picked_of bytes (pick_ruling l h c.args.percent).layout (pick_ruling l h c.args.percent).answer c.pick-answer.result (c.pick-answer.ensures.pass h l w.represents.stands w.collects))))
+          (goes_by bytes o v.seen (pick_ruling l h c.args.percent) (as_before l l) (pick_entry c.args.percent s l h) x y outcome no_effects is
+          (pick_leads bytes o v.seen x is s c.args.percent)
+          (whole_with bytes y h l (pick_ruling l h c.args.percent) (as_before l l) outcome no_effects (c.pick-answer.ensures.represents h l w.represents w.collects)
+          (c.pick-answer.ensures.stands h l (record { stands = w.represents.stands; opens = w.opens }) w.collects)
+          (c.pick-answer.ensures.fits h l w.represents.stands w.collects w.fits)
+          (c.pick-answer.ensures.collects h l w.represents.stands w.collects)));
     }
 
 pub invariant_of-self : goal.invariant_of-self
@@ -107,8 +107,8 @@ returns-clause-on g c =
     let after = c.finish.new.turn.1.0 in
     let is = over (sym c.deref-lock.ensures) (λ (k : _). IsSession (lock_name k) (lock_start k) before) c.self.invariant in
     rw (sym c.self.view_is) (over c.deref-lock.ensures (λ (k : _). GoesOn
-        (knowing (lock_name k) (lock_start k).origin.me.0 (is_some (g.D.Watched.told (lock_start k).engine.disk)) before)
-        (knowing (lock_name k) (lock_start k).origin.me.0 (is_some (g.D.Watched.told (lock_start k).engine.disk)) after))
+    (knowing (lock_name k) (lock_start k).origin.me.0 (is_some (g.D.Watched.told (lock_start k).engine.disk)) before)
+    (knowing (lock_name k) (lock_start k).origin.me.0 (is_some (g.D.Watched.told (lock_start k).engine.disk)) after))
     (on_after _ (lock_name at) (lock_start at) (lock_start at).origin.me.0
     (is_some (g.D.Watched.told (lock_start at).engine.disk)) c.take-turn.result.value before after
     c.take-turn.result.token.now.me.0 (entry_of s (pick_did (pick_ruling l h c.args.percent).layout c.pick-answer.result)) is c.take-turn.ensures.begins c.finish.ensures.entered))
@@ -128,28 +128,28 @@ returns-clause-steps g c =
     let x = parts (g.D.Watched.told old.disk) old.core old.merging old.collecting in
     let y = parts (g.D.Watched.told new.disk) new.core new.merging new.collecting in
     let st = subst (λ (k : _). Stands bytes o tells v.seen (parts (g.D.Watched.told k.engine.disk) k.engine.core k.engine.merging k.engine.collecting))
-        (sym c.value-locked.ensures.value) c.take-turn.ensures.begins.meaning.1 in
+    (sym c.value-locked.ensures.value) c.take-turn.ensures.begins.meaning.1 in
     let outcome = pick_outcome (pick_ruling l h c.args.percent).answer c.pick-answer.result in
     let done : Done = pick_did (pick_ruling l h c.args.percent).layout c.pick-answer.result in
     let before = c.self.inside.token in
     let after = c.finish.new.turn.1.0 in
     let is = over (sym c.deref-lock.ensures) (λ (k : _). IsSession (lock_name k) (lock_start k) before) c.self.invariant in
     rw (sym c.self.view_is) (over c.deref-lock.ensures (λ (k : _). is_some (g.D.Watched.told (lock_start k).engine.disk) ≡ true
-        → (picked : PickAnswer) × Stepped
-        (knowing (lock_name k) (lock_start k).origin.me.0 (is_some (g.D.Watched.told (lock_start k).engine.disk)) before)
-        (knowing (lock_name k) (lock_start k).origin.me.0 (is_some (g.D.Watched.told (lock_start k).engine.disk)) after)
-        (λ l h. pick_ruling l h c.args.percent) (pick_entry c.args.percent) (pick_outcome picked c.pick-answer.result)
-        × IfOk c.pick-answer.result (λ pass. IsPicked bytes pass (layout_by (lock_start k).origin.me.0 after.me.0.seen) picked))
+    → (picked : PickAnswer) × Stepped
+    (knowing (lock_name k) (lock_start k).origin.me.0 (is_some (g.D.Watched.told (lock_start k).engine.disk)) before)
+    (knowing (lock_name k) (lock_start k).origin.me.0 (is_some (g.D.Watched.told (lock_start k).engine.disk)) after)
+    (λ l h. pick_ruling l h c.args.percent) (pick_entry c.args.percent) (pick_outcome picked c.pick-answer.result)
+    × IfOk c.pick-answer.result (λ pass. IsPicked bytes pass (layout_by (lock_start k).origin.me.0 after.me.0.seen) picked))
     (λ told.
-        let w = (st.behind told).whole in (
-          (pick_ruling l h c.args.percent).answer,
-          stepped_after _ (lock_name at) (lock_start at) o tells c.take-turn.result.value before after v (entry_of s (pick_did (pick_ruling l h c.args.percent).layout c.pick-answer.result)) is
+    let w = (st.behind told).whole in (
+      (pick_ruling l h c.args.percent).answer,
+      stepped_after _ (lock_name at) (lock_start at) o tells c.take-turn.result.value before after v (entry_of s (pick_did (pick_ruling l h c.args.percent).layout c.pick-answer.result)) is
           c.take-turn.ensures.begins c.finish.ensures.entered (λ l h. pick_ruling l h c.args.percent) (pick_entry c.args.percent) outcome _ (as_before l l) no_effects
           (pick_same s l (pick_ruling l h c.args.percent).layout (pick_ruling l h c.args.percent).answer c.pick-answer.result (picked_of bytes (pick_ruling l h c.args.percent).layout (pick_ruling l h c.args.percent).answer c.pick-answer.result (c.pick-answer.ensures.pass h l w.represents.stands w.collects))) (c.pick-answer.ensures.represents h l w.represents w.collects) ((finish-requires-clause-stands g c.before).behind told).legal,
-          picked_at bytes (pick_ruling l h c.args.percent).layout (pick_ruling l h c.args.percent).answer o s v.seen after.me.0.seen c.pick-answer.result
+      picked_at bytes (pick_ruling l h c.args.percent).layout (pick_ruling l h c.args.percent).answer o s v.seen after.me.0.seen c.pick-answer.result
           (seen_after _ (lock_name at) (lock_start at) o tells c.take-turn.result.value before after v (entry_of s (pick_did (pick_ruling l h c.args.percent).layout c.pick-answer.result)) is
           c.take-turn.ensures.begins c.finish.ensures.entered) (c.pick-answer.ensures.pass h l w.represents.stands w.collects),
-        )))
+    )))
 
 pub returns-clause-own : goal.returns-clause-own
 returns-clause-own g c told =
@@ -166,10 +166,10 @@ returns-clause-own g c told =
     let before = c.self.inside.token in
     let after = c.finish.new.turn.1.0 in
     let st = subst (λ (k : _). Stands bytes o tells v.seen (parts (g.D.Watched.told k.engine.disk) k.engine.core k.engine.merging k.engine.collecting))
-        (sym c.value-locked.ensures.value) c.take-turn.ensures.begins.meaning.1 in
+    (sym c.value-locked.ensures.value) c.take-turn.ensures.begins.meaning.1 in
     let is = over (sym c.deref-lock.ensures) (λ (k : _). IsSession (lock_name k) (lock_start k) before) c.self.invariant in
     let told_then = over (sym c.deref-lock.ensures) (λ (k : _). is_some (g.D.Watched.told (lock_start k).engine.disk) ≡ true)
-        (subst (λ (u : Knows). u.tells ≡ true) (sym c.self.view_is) told) in
+    (subst (λ (u : Knows). u.tells ≡ true) (sym c.self.view_is) told) in
     let w = (st.behind told_then).whole in
     subst (λ n. IfOk c.pick-answer.result (λ pass. open_pass None (own_in after.me.0.owns) ≡ Some (n, pass.log.number)))
     (sym (number_now _ (lock_name at) (lock_start at) o tells c.take-turn.result.value before after v (entry_of s (pick_did (pick_ruling l h c.args.percent).layout c.pick-answer.result)) is c.take-turn.ensures.begins
@@ -194,9 +194,9 @@ returns-clause-looks g c told =
     let before = c.self.inside.token in
     let after = c.finish.new.turn.1.0 in
     let st = subst (λ (k : _). Stands bytes o tells v.seen (parts (g.D.Watched.told k.engine.disk) k.engine.core k.engine.merging k.engine.collecting))
-        (sym c.value-locked.ensures.value) c.take-turn.ensures.begins.meaning.1 in
+    (sym c.value-locked.ensures.value) c.take-turn.ensures.begins.meaning.1 in
     let is = over (sym c.deref-lock.ensures) (λ (k : _). IsSession (lock_name k) (lock_start k) before) c.self.invariant in
     let told_then = over (sym c.deref-lock.ensures) (λ (k : _). is_some (g.D.Watched.told (lock_start k).engine.disk) ≡ true)
-        (subst (λ (u : Knows). u.tells ≡ true) (sym c.self.view_is) told) in
+    (subst (λ (u : Knows). u.tells ≡ true) (sym c.self.view_is) told) in
     let w = (st.behind told_then).whole in
     c.pick-answer.ensures.looks h l w.represents.stands

@@ -37,7 +37,7 @@ finish-requires-clause-entry g c =
     let x = parts (g.D.Watched.told old.disk) old.core old.merging old.collecting in
     let y = parts (g.D.Watched.told new.disk) new.core new.merging new.collecting in
     let st = subst (λ (k : _). Stands bytes o tells v.seen (parts (g.D.Watched.told k.engine.disk) k.engine.core k.engine.merging k.engine.collecting))
-        (sym c.value-locked.ensures.value) c.take-turn.ensures.begins.meaning.1 in
+    (sym c.value-locked.ensures.value) c.take-turn.ensures.begins.meaning.1 in
     let outcome : Outcome (Unit {0}) = Answered tt in
     let done : Done = Some (Ended c.args.view.ticket, ended c.args.view.ticket l) in
     may_enter v c.self.invariant.session c.self.invariant.own (Some (Ended c.of-asked.result.value.ticket, ended c.of-asked.result.value.ticket l)) true
@@ -58,24 +58,24 @@ finish-requires-clause-stands g c =
     let x = parts (g.D.Watched.told old.disk) old.core old.merging old.collecting in
     let y = parts (g.D.Watched.told new.disk) new.core new.merging new.collecting in
     let st = subst (λ (k : _). Stands bytes o tells v.seen (parts (g.D.Watched.told k.engine.disk) k.engine.core k.engine.merging k.engine.collecting))
-        (sym c.value-locked.ensures.value) c.take-turn.ensures.begins.meaning.1 in
+    (sym c.value-locked.ensures.value) c.take-turn.ensures.begins.meaning.1 in
     let outcome : Outcome (Unit {0}) = Answered tt in
     let done : Done = Some (Ended c.args.view.ticket, ended c.args.view.ticket l) in
     subst (λ (t : View _ _). Stands bytes o tells (with_entry v.seen (end_entry t.ticket s l h outcome)) y) (sym c.of-asked.ensures) (stands_on bytes o tells v.seen x y ((end_entry c.args.view.ticket) s l h) outcome (leaving tt h (ended c.args.view.ticket l)) (as_before l (ended c.args.view.ticket l)) no_effects st
     (merges_left o v.seen old.merging new.merging st.merges c.release.ensures.merging ((end_entry c.args.view.ticket) s l h outcome)
     (leaves_merge l s done ((tt, refl))))
     (λ told is. let told_now = subst (λ (u : Knows). u.tells ≡ true) c.self.view_is
-        (over c.deref-lock.ensures (λ (k : _). is_some (g.D.Watched.told (lock_start k).engine.disk) ≡ true) told) in
-        let own = subst (λ (u : Knows). number_of c.args.view.ticket (open_tickets [] u.own) ≡ Some c.args.view.number) (sym c.self.view_is) (c.requires told_now) in
-        let sess = over (sym c.deref-lock.ensures) (λ (k : _). IsSession (lock_name k) (lock_start k) c.self.inside.token) c.self.invariant in
-        ends_lead bytes o v.seen x is s c.args.view.ticket (ticket_open _ (lock_name at) (lock_start at) c.take-turn.result.value c.self.inside.token v sess c.take-turn.ensures.begins o is.legal c.args.view.ticket c.args.view.number own))
+    (over c.deref-lock.ensures (λ (k : _). is_some (g.D.Watched.told (lock_start k).engine.disk) ≡ true) told) in
+    let own = subst (λ (u : Knows). number_of c.args.view.ticket (open_tickets [] u.own) ≡ Some c.args.view.number) (sym c.self.view_is) (c.requires told_now) in
+    let sess = over (sym c.deref-lock.ensures) (λ (k : _). IsSession (lock_name k) (lock_start k) c.self.inside.token) c.self.invariant in
+    ends_lead bytes o v.seen x is s c.args.view.ticket (ticket_open _ (lock_name at) (lock_start at) c.take-turn.result.value c.self.inside.token v sess c.take-turn.ensures.begins o is.legal c.args.view.ticket c.args.view.number own))
     (λ told is. let w = is.whole in always_by bytes y h l (ended c.args.view.ticket l) (record {
-          represents = c.release.ensures.represents h l w.represents;
-          opens = subst (λ m. Opens m l.job) (sym c.release.ensures.merging) w.opens;
-          fits = c.release.ensures.fits h l w.fits;
-          collects = collects_on old.core new.core old.collecting new.collecting c.release.ensures.logs c.release.ensures.collecting l (ended c.args.view.ticket l)
-              (record { sealed_is = refl; tables_are = refl; flushed_is = refl; pass_is = refl; job_is = refl }) w.collects;
-        })))
+      represents = c.release.ensures.represents h l w.represents;
+      opens = subst (λ m. Opens m l.job) (sym c.release.ensures.merging) w.opens;
+      fits = c.release.ensures.fits h l w.fits;
+      collects = collects_on old.core new.core old.collecting new.collecting c.release.ensures.logs c.release.ensures.collecting l (ended c.args.view.ticket l)
+          (record { sealed_is = refl; tables_are = refl; flushed_is = refl; pass_is = refl; job_is = refl }) w.collects;
+    })))
 
 pub invariant_of-self : goal.invariant_of-self
 invariant_of-self g c =
@@ -106,8 +106,8 @@ returns-clause-on g c =
     let after = c.finish.new.turn.1.0 in
     let is = over (sym c.deref-lock.ensures) (λ (k : _). IsSession (lock_name k) (lock_start k) before) c.self.invariant in
     rw (sym c.self.view_is) (over c.deref-lock.ensures (λ (k : _). GoesOn
-        (knowing (lock_name k) (lock_start k).origin.me.0 (is_some (g.D.Watched.told (lock_start k).engine.disk)) before)
-        (knowing (lock_name k) (lock_start k).origin.me.0 (is_some (g.D.Watched.told (lock_start k).engine.disk)) after))
+    (knowing (lock_name k) (lock_start k).origin.me.0 (is_some (g.D.Watched.told (lock_start k).engine.disk)) before)
+    (knowing (lock_name k) (lock_start k).origin.me.0 (is_some (g.D.Watched.told (lock_start k).engine.disk)) after))
     (on_after _ (lock_name at) (lock_start at) (lock_start at).origin.me.0
     (is_some (g.D.Watched.told (lock_start at).engine.disk)) c.take-turn.result.value before after
     c.take-turn.result.token.now.me.0 (end_entry c.of-asked.result.value.ticket s l h outcome) is c.take-turn.ensures.begins c.finish.ensures.entered))
@@ -127,25 +127,25 @@ returns-clause-steps g c =
     let x = parts (g.D.Watched.told old.disk) old.core old.merging old.collecting in
     let y = parts (g.D.Watched.told new.disk) new.core new.merging new.collecting in
     let st = subst (λ (k : _). Stands bytes o tells v.seen (parts (g.D.Watched.told k.engine.disk) k.engine.core k.engine.merging k.engine.collecting))
-        (sym c.value-locked.ensures.value) c.take-turn.ensures.begins.meaning.1 in
+    (sym c.value-locked.ensures.value) c.take-turn.ensures.begins.meaning.1 in
     let outcome : Outcome (Unit {0}) = Answered tt in
     let done : Done = Some (Ended c.args.view.ticket, ended c.args.view.ticket l) in
     let before = c.self.inside.token in
     let after = c.finish.new.turn.1.0 in
     let is = over (sym c.deref-lock.ensures) (λ (k : _). IsSession (lock_name k) (lock_start k) before) c.self.invariant in
     rw (sym c.self.view_is) (over c.deref-lock.ensures (λ (k : _). is_some (g.D.Watched.told (lock_start k).engine.disk) ≡ true → Stepped
-        (knowing (lock_name k) (lock_start k).origin.me.0 (is_some (g.D.Watched.told (lock_start k).engine.disk)) before)
-        (knowing (lock_name k) (lock_start k).origin.me.0 (is_some (g.D.Watched.told (lock_start k).engine.disk)) after)
-        (λ l h. leaving tt h (ended c.args.view.ticket l)) (end_entry c.args.view.ticket) outcome)
+    (knowing (lock_name k) (lock_start k).origin.me.0 (is_some (g.D.Watched.told (lock_start k).engine.disk)) before)
+    (knowing (lock_name k) (lock_start k).origin.me.0 (is_some (g.D.Watched.told (lock_start k).engine.disk)) after)
+    (λ l h. leaving tt h (ended c.args.view.ticket l)) (end_entry c.args.view.ticket) outcome)
     (λ told.
-        let w = (st.behind told).whole in
-        stepped_after _ (lock_name at) (lock_start at) o tells c.take-turn.result.value before after v (end_entry c.of-asked.result.value.ticket s l h outcome) is c.take-turn.ensures.begins
-        c.finish.ensures.entered (λ l h. leaving tt h (ended c.args.view.ticket l)) (end_entry c.args.view.ticket) outcome _ (as_before l (ended c.args.view.ticket l)) no_effects (ap (λ (t : View _ _). end_entry t.ticket s l h outcome) c.of-asked.ensures)
-        (always_by bytes y h l (ended c.args.view.ticket l) (record {
-          represents = c.release.ensures.represents h l w.represents;
-          opens = subst (λ m. Opens m l.job) (sym c.release.ensures.merging) w.opens;
-          fits = c.release.ensures.fits h l w.fits;
-          collects = collects_on old.core new.core old.collecting new.collecting c.release.ensures.logs c.release.ensures.collecting l (ended c.args.view.ticket l)
-              (record { sealed_is = refl; tables_are = refl; flushed_is = refl; pass_is = refl; job_is = refl }) w.collects;
-        }))
-        ((finish-requires-clause-stands g c.before.before).behind told).legal))
+    let w = (st.behind told).whole in
+    stepped_after _ (lock_name at) (lock_start at) o tells c.take-turn.result.value before after v (end_entry c.of-asked.result.value.ticket s l h outcome) is c.take-turn.ensures.begins
+    c.finish.ensures.entered (λ l h. leaving tt h (ended c.args.view.ticket l)) (end_entry c.args.view.ticket) outcome _ (as_before l (ended c.args.view.ticket l)) no_effects (ap (λ (t : View _ _). end_entry t.ticket s l h outcome) c.of-asked.ensures)
+    (always_by bytes y h l (ended c.args.view.ticket l) (record {
+      represents = c.release.ensures.represents h l w.represents;
+      opens = subst (λ m. Opens m l.job) (sym c.release.ensures.merging) w.opens;
+      fits = c.release.ensures.fits h l w.fits;
+      collects = collects_on old.core new.core old.collecting new.collecting c.release.ensures.logs c.release.ensures.collecting l (ended c.args.view.ticket l)
+          (record { sealed_is = refl; tables_are = refl; flushed_is = refl; pass_is = refl; job_is = refl }) w.collects;
+    }))
+    ((finish-requires-clause-stands g c.before.before).behind told).legal))

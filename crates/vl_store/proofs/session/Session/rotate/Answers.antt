@@ -32,7 +32,7 @@ finish-requires-clause-entry g c =
     let x = parts (g.D.Watched.told old.disk) old.core old.merging old.collecting in
     let y = parts (g.D.Watched.told new.disk) new.core new.merging new.collecting in
     let st = subst (λ (k : _). Stands bytes o tells v.seen (parts (g.D.Watched.told k.engine.disk) k.engine.core k.engine.merging k.engine.collecting))
-        (sym c.value-locked.ensures.value) c.take-turn.ensures.begins.meaning.1 in
+    (sym c.value-locked.ensures.value) c.take-turn.ensures.begins.meaning.1 in
     let outcome = step_outcome c.rotate-answer.result in
     let done : Done = done_by (step_done (rotated l)) (Changed, l) outcome in
     may_enter v c.self.invariant.session c.self.invariant.own (done) c.has_stepped-enters.result
@@ -53,7 +53,7 @@ finish-requires-clause-stands g c =
     let x = parts (g.D.Watched.told old.disk) old.core old.merging old.collecting in
     let y = parts (g.D.Watched.told new.disk) new.core new.merging new.collecting in
     let st = subst (λ (k : _). Stands bytes o tells v.seen (parts (g.D.Watched.told k.engine.disk) k.engine.core k.engine.merging k.engine.collecting))
-        (sym c.value-locked.ensures.value) c.take-turn.ensures.begins.meaning.1 in
+    (sym c.value-locked.ensures.value) c.take-turn.ensures.begins.meaning.1 in
     let outcome = step_outcome c.rotate-answer.result in
     let done : Done = done_by (step_done (rotated l)) (Changed, l) outcome in
     stands_on bytes o tells v.seen x y ((rotate_entry) s l h) outcome (rotate_ruling l h) (as_before l l) (rotate_effects c.rotate-answer.result) st
@@ -61,11 +61,11 @@ finish-requires-clause-stands g c =
     (leaves_merge l s done (leaves_by l (step_done (rotated l)) (Changed, l) outcome (step_leaves l (rotated l) refl) (tt, refl))))
     (λ told is. rotate_leads bytes o v.seen x is s)
     (λ told is. let w = is.whole in whole_by bytes y h l (rotate_ruling l h) (as_before l l) outcome (rotate_effects c.rotate-answer.result)
-        (c.rotate-answer.ensures.carries h l w.represents).decides
-        (still_open l h bytes y old.merging (rotate_ruling l h) l outcome (rotate_effects c.rotate-answer.result) (rotate_job l h) refl
-        c.rotate-answer.ensures.merging w.opens)
-        (c.rotate-answer.ensures.fits h l w.represents.stands w.fits)
-        (c.rotate-answer.ensures.collects h l w.represents.stands (λ running. (w.fits.running running).numbers) w.collects))
+    (c.rotate-answer.ensures.carries h l w.represents).decides
+    (still_open l h bytes y old.merging (rotate_ruling l h) l outcome (rotate_effects c.rotate-answer.result) (rotate_job l h) refl
+    c.rotate-answer.ensures.merging w.opens)
+    (c.rotate-answer.ensures.fits h l w.represents.stands w.fits)
+    (c.rotate-answer.ensures.collects h l w.represents.stands (λ running. (w.fits.running running).numbers) w.collects))
 
 pub invariant_of-self : goal.invariant_of-self
 invariant_of-self g c =
@@ -96,8 +96,8 @@ returns-clause-on g c =
     let after = c.finish.new.turn.1.0 in
     let is = over (sym c.deref-lock.ensures) (λ (k : _). IsSession (lock_name k) (lock_start k) before) c.self.invariant in
     rw (sym c.self.view_is) (over c.deref-lock.ensures (λ (k : _). GoesOn
-        (knowing (lock_name k) (lock_start k).origin.me.0 (is_some (g.D.Watched.told (lock_start k).engine.disk)) before)
-        (knowing (lock_name k) (lock_start k).origin.me.0 (is_some (g.D.Watched.told (lock_start k).engine.disk)) after))
+    (knowing (lock_name k) (lock_start k).origin.me.0 (is_some (g.D.Watched.told (lock_start k).engine.disk)) before)
+    (knowing (lock_name k) (lock_start k).origin.me.0 (is_some (g.D.Watched.told (lock_start k).engine.disk)) after))
     (on_after _ (lock_name at) (lock_start at) (lock_start at).origin.me.0
     (is_some (g.D.Watched.told (lock_start at).engine.disk)) c.take-turn.result.value before after
     c.take-turn.result.token.now.me.0 ((rotate_entry) s l h outcome) is c.take-turn.ensures.begins c.finish.ensures.entered))
@@ -117,19 +117,19 @@ returns-clause-steps g c =
     let x = parts (g.D.Watched.told old.disk) old.core old.merging old.collecting in
     let y = parts (g.D.Watched.told new.disk) new.core new.merging new.collecting in
     let st = subst (λ (k : _). Stands bytes o tells v.seen (parts (g.D.Watched.told k.engine.disk) k.engine.core k.engine.merging k.engine.collecting))
-        (sym c.value-locked.ensures.value) c.take-turn.ensures.begins.meaning.1 in
+    (sym c.value-locked.ensures.value) c.take-turn.ensures.begins.meaning.1 in
     let outcome = step_outcome c.rotate-answer.result in
     let done : Done = done_by (step_done (rotated l)) (Changed, l) outcome in
     let before = c.self.inside.token in
     let after = c.finish.new.turn.1.0 in
     let is = over (sym c.deref-lock.ensures) (λ (k : _). IsSession (lock_name k) (lock_start k) before) c.self.invariant in
     rw (sym c.self.view_is) (over c.deref-lock.ensures (λ (k : _). is_some (g.D.Watched.told (lock_start k).engine.disk) ≡ true → Stepped
-        (knowing (lock_name k) (lock_start k).origin.me.0 (is_some (g.D.Watched.told (lock_start k).engine.disk)) before)
-        (knowing (lock_name k) (lock_start k).origin.me.0 (is_some (g.D.Watched.told (lock_start k).engine.disk)) after)
-        rotate_ruling rotate_entry outcome)
+    (knowing (lock_name k) (lock_start k).origin.me.0 (is_some (g.D.Watched.told (lock_start k).engine.disk)) before)
+    (knowing (lock_name k) (lock_start k).origin.me.0 (is_some (g.D.Watched.told (lock_start k).engine.disk)) after)
+    rotate_ruling rotate_entry outcome)
     (λ told.
-        let w = (st.behind told).whole in
-        stepped_after _ (lock_name at) (lock_start at) o tells c.take-turn.result.value before after v ((rotate_entry) s l h outcome) is c.take-turn.ensures.begins
-        c.finish.ensures.entered rotate_ruling rotate_entry outcome _ (as_before l l) (rotate_effects c.rotate-answer.result) refl
-        ((c.rotate-answer.ensures.carries h l w.represents).decides)
-        ((finish-requires-clause-stands g c.before).behind told).legal))
+    let w = (st.behind told).whole in
+    stepped_after _ (lock_name at) (lock_start at) o tells c.take-turn.result.value before after v ((rotate_entry) s l h outcome) is c.take-turn.ensures.begins
+    c.finish.ensures.entered rotate_ruling rotate_entry outcome _ (as_before l l) (rotate_effects c.rotate-answer.result) refl
+    ((c.rotate-answer.ensures.carries h l w.represents).decides)
+    ((finish-requires-clause-stands g c.before).behind told).legal))
