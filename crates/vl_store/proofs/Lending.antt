@@ -22,7 +22,7 @@ keep-append : (job : Option (ℕ × Job)) (l : Layout) (es more : List LockEntry
 keep-append job l [] more keep later = later
 keep-append job l (e ∷ es) more keep later = (keep.0, keep-append (job_after e.session e.step e.layout job) e.layout es more keep.1 later)
 
-open_job-append : (job : Option (ℕ × Job)) (es more : List LockEntry) → open_job job (es ++ more) ≡ open_job (open_job job es) more
+pub open_job-append : (job : Option (ℕ × Job)) (es more : List LockEntry) → open_job job (es ++ more) ≡ open_job (open_job job es) more
 open_job-append job [] more = refl
 open_job-append job (e ∷ es) more = open_job-append (job_after e.session e.step e.layout job) es more
 
@@ -78,6 +78,12 @@ module _ (o : Origin) (list : List LockEntry) (merging next : Option OpenMerge) 
     open_is = is.open_is ∙ ap is_some (sym (open_job-append None list (e ∷ []) ∙ job_left e.session e.step e.layout (open_job None list) leaves.other));
     lent = is.lent ∙ sym (ap lent_in (last_layout-append o.layout list (e ∷ [])) ∙ leaves.lent);
   })
+
+-- the same files are lent to it, whatever was moved meanwhile
+pub merges_same : (o : Origin) (list : List LockEntry) (merging next : Option OpenMerge) → MergesBy o list merging
+    → is_some next ≡ is_some merging
+    → option_map (λ (m : OpenMerge). m.lent.items) next ≡ option_map (λ (m : OpenMerge). m.lent.items) merging → MergesBy o list next
+merges_same o list merging next is some lent = record { keep = is.keep; open_is = some ∙ is.open_is; lent = lent ∙ is.lent }
 
 -- ---- steps of a merge
 

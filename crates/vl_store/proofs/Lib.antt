@@ -2,6 +2,7 @@ pub mod Begins
 pub mod Calls
 pub mod Collecting
 pub mod Counted
+pub mod Drawing
 pub mod Leading
 pub mod Legal
 pub mod Lending

@@ -1,5 +1,15 @@
-//! A store for several threads: an engine under the commit lock, and sessions, each of which makes the engine's calls from a
-//! thread of its own.
+//! A store for several threads: an engine under the commit lock, and sessions, by which threads make the engine's calls.
+//!
+//! Each call of a session takes the turn, makes one call of the engine, and gives the turn back, with an entry where the layout was
+//! changed. So all that sessions did stands in one list of entries, which exists in proofs alone. A call is answered as an engine of one
+//! thread answers it at one place of that list: on the history and the layout that the entries before come to (`Stepped` of
+//! `specs/Knowing`). Beside the lock transactions and views read, merges are made, and passes go on.
+//!
+//! A session knows a beginning of the list, which it has seen, and its own entries, which are all of its in the list. A note brings what
+//! one session has seen to another. `Store::close` gives back the engine, which stands for the whole list.
+//!
+//! What a session began goes back to it, while it lives. Where the disk didn't tell its bytes when the store was made, as a folder
+//! doesn't, nothing is claimed of answers. Nowhere is it claimed that a turn comes.
 #![tactic(auto)]
 
 mod alike;
