@@ -181,7 +181,8 @@ module _ {H R : Type 0} (bytes : H → Option (List ℕ)) (seen : Option DiskSta
     abbrev pub told_so : (b : Option (List Candidate)) → Answer → Type 0
     told_so b told = IsTold told (its_step p b).answer
 
-    stands_then : (b : Option (List Candidate)) → IsSound (state_by s (its_step p b)) → StandsIn bytes seen core os (state_by s (its_step p b))
+    stands_then : (b : Option (List Candidate)) → IsSound (state_by s (its_step p b))
+        → StandsIn bytes seen core os (state_by s (its_step p b))
     stands_then None sound =
         stands_as bytes seen seen core core os s stands refl os (its_step p None) (serves bytes seen core os s stands)
         (names_with_work bytes h l l itself os s.store.things stands.names name free (then p None) (λ reads. reads) tt) sound refl
@@ -270,10 +271,12 @@ module _ {H R : Type 0} (bytes : H → Option (List ℕ)) (core : Core H) (colle
       of None is gave = record {
         collects = before.collects;
         is_open = goes_on bytes s.things s.layout name old new before.is_open name_is keeps_name
-            (ap (λ (x : ThePass (Base H R) H). x.log) kept) (ap (λ (x : ThePass (Base H R) H). x.base) kept) None gave is goes (whole_then ends);
+            (ap (λ (x : ThePass (Base H R) H). x.log) kept) (ap (λ (x : ThePass (Base H R) H). x.base) kept) None gave is goes
+            (whole_then ends);
       }
       of (Some batch) is gave = record {
         collects = before.collects;
         is_open = goes_on bytes s.things s.layout name old new before.is_open name_is keeps_name
-            (ap (λ (x : ThePass (Base H R) H). x.log) kept) (ap (λ (x : ThePass (Base H R) H). x.base) kept) (Some batch) gave is goes (whole_then ends);
+            (ap (λ (x : ThePass (Base H R) H). x.log) kept) (ap (λ (x : ThePass (Base H R) H). x.base) kept) (Some batch) gave is goes
+            (whole_then ends);
       }

@@ -95,8 +95,9 @@ none_there : (p : Pass) (batch : Option (List Candidate)) → None ≡ Some (APa
 none_there p batch e = cc
 
 module _ {H R : Type 0} (bytes : H → Option (List ℕ)) (told : Option DiskState) (before after : Core H) (os : List (Open H R)) (s : State)
-    (stands : StandsIn bytes told before os s) (passing : Passing (Base H R) H) (going : IsPassing bytes passing s.store.things s.store.layout)
-    (name : Name) (named : passing.name ≡ name) (core : after ≡ before) where
+    (stands : StandsIn bytes told before os s) (passing : Passing (Base H R) H)
+    (going : IsPassing bytes passing s.store.things s.store.layout) (name : Name) (named : passing.name ≡ name)
+    (core : after ≡ before) where
   abbrev h : History
   h = history_of s
 
@@ -163,7 +164,8 @@ module _ {H R : Type 0} (bytes : H → Option (List ℕ)) (told : Option DiskSta
       })
 
   -- and a merge goes on
-  pub end_merges : {W : Type 0} (w : Writers W) {k : Writers W} (merging merging' : Option OpenMerge) (planned : Option (Planned (Base H R) H W k))
+  pub end_merges : {W : Type 0} (w : Writers W) {k : Writers W} (merging merging' : Option OpenMerge)
+      (planned : Option (Planned (Base H R) H W k))
       → merging' ≡ merging → Merges w bytes merging planned s.store.things l
       → Merges w bytes merging' planned dropping.state.things dropping.state.layout
   end_merges w merging merging' planned same merges = merges_behind w bytes merging merging' planned planned same refl s.store dropping

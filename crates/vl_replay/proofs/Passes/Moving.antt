@@ -1,5 +1,6 @@
 -- What a move makes of a state, by what the engine's relocation is said to have done.
-use Rattle.std.proofs.Common.{◌≡◌, ⊎_elim, ℕ, ◌≤◌, ◌+◌, nat_le, true, false, cond, Bool, List, [], ◌∷◌, ◌++◌, length, refl, ap, sym, ◌∙◌, subst}
+use Rattle.std.proofs.Common.{◌≡◌, ⊎_elim, ℕ, ◌≤◌, ◌+◌, nat_le, true, false, cond, Bool, List, [], ◌∷◌, ◌++◌, length}
+use Rattle.std.proofs.Common.{refl, ap, sym, ◌∙◌, subst}
 use Rattle.std.specs.Prelude.{Option, None, Some, Ok, Err, Result, OnOk, IsTrue}
 use Rattle.std.specs.List.{AllByRecursion, filter}
 use Rattle.std.specs.Option.{ForSome, option_map}
@@ -181,8 +182,8 @@ keeps_logs l h p batch = leaves_so l h (KeepsLogs l)
     }) p batch
 
 -- what is decided of something is decided of what follows from it
-pub decides_weaker : {A : Type 0} (P Q : History → Layout → Type 0) → ((k : History) (m : Layout) → P k m → Q k m) → (h : History) (l : Layout)
-    (ruling : Ruling A) (otherwise : Otherwise) (outcome : Outcome A) (effects : Effects)
+pub decides_weaker : {A : Type 0} (P Q : History → Layout → Type 0) → ((k : History) (m : Layout) → P k m → Q k m)
+    → (h : History) (l : Layout) (ruling : Ruling A) (otherwise : Otherwise) (outcome : Outcome A) (effects : Effects)
     → Decides P h l ruling otherwise outcome effects → Decides Q h l ruling otherwise outcome effects
 decides_weaker P Q weaker h l ruling otherwise outcome effects d = record {
   answered = λ a is. ((d.answered a is).0, weaker _ _ (d.answered a is).1);
@@ -201,8 +202,8 @@ waits_there bytes core collecting s name going passes name_is batch waits =
 
 -- ---- steps
 
-module _ {H R : Type 0} (bytes : H → Option (List ℕ)) (seen now : Option DiskState) (before after : Core H) (os : List (Open H R)) (s : State)
-    (stands : StandsIn bytes seen before os s) (name : Name) (p : Pass) (batch : List Candidate)
+module _ {H R : Type 0} (bytes : H → Option (List ℕ)) (seen now : Option DiskState) (before after : Core H) (os : List (Open H R))
+    (s : State) (stands : StandsIn bytes seen before os s) (name : Name) (p : Pass) (batch : List Candidate)
     (there : thing_of s.store name ≡ Some (APass p (Some batch))) where
   abbrev h : History
   h = history_of s
@@ -231,7 +232,8 @@ module _ {H R : Type 0} (bytes : H → Option (List ℕ)) (seen now : Option Dis
   beside : IsBeside l r.layout
   beside = record {
     live = keeps.live;
-    bare = λ none. (sym keeps.tables ∙ none.0, subst (λ (xs : List _). filter (λ (f : Retired). is_table f.file) xs ≡ []) keeps.retired none.1);
+    bare = λ none.
+        (sym keeps.tables ∙ none.0, subst (λ (xs : List _). filter (λ (f : Retired). is_table f.file) xs ≡ []) keeps.retired none.1);
   }
 
   sound_by : (a : MoveAnswer) → a ≡ r.answer → IsSound (state_by s (by a))
@@ -337,7 +339,8 @@ module _ {H R : Type 0} (bytes : H → Option (List ℕ)) (seen now : Option Dis
               passes.collects;
           is_open = record {
             pass = p;
-            is_open = ap (option_map (λ (o : OpenPass). o.segment)) keeps.pass ∙ passes.is_open.is_open ∙ ap (λ (q : Pass). Some q.segment) its;
+            is_open = ap (option_map (λ (o : OpenPass). o.segment)) keeps.pass ∙ passes.is_open.is_open
+                ∙ ap (λ (q : Pass). Some q.segment) its;
             goes = subst (λ (x : ThePass (Base H R) H). GoesOver bytes x p) (sym keeps_pass)
                 (subst (λ (q : Pass). GoesOver bytes going.pass q) its passes.is_open.goes);
             looks = subst (λ (x : ThePass (Base H R) H). FitsLooks bytes x) (sym keeps_pass) passes.is_open.looks;

@@ -149,7 +149,8 @@ module _ {H R : Type 0} (bytes : H → Option (List ℕ)) (told : Option DiskSta
         → Collects after kept r.layout → FitsLooks bytes pass
         → Passes bytes after kept (Some (record { name = name; pass = pass; batch = None })) picking.state.things picking.state.layout
     picked_passes kept passing open_before collects looks =
-        subst (λ (y : Step). Passes bytes after kept (Some (record { name = name; pass = pass; batch = None })) y.state.things y.state.layout)
+        subst
+        (λ (y : Step). Passes bytes after kept (Some (record { name = name; pass = pass; batch = None })) y.state.things y.state.layout)
         (sym step_is) (record {
           collects = subst (λ (q : Ruling PickAnswer). Collects after kept q.layout) ruled collects;
           is_open = record {
@@ -177,7 +178,8 @@ module _ {H R : Type 0} (bytes : H → Option (List ℕ)) (told : Option DiskSta
             (batch : Option (List Candidate)) → thing_in s.store.things other ≡ Some (APass p batch) → ⊥
         no_other None (none, free) other p batch there = free other p batch there
         no_other (Some passing) going other p batch there =
-            none_some going.pass.segment (sym (ap (option_map (λ (o : OpenPass). o.segment)) (none_open l h percent picked.of (sym picked.answer_is)))
+            none_some going.pass.segment
+            (sym (ap (option_map (λ (o : OpenPass). o.segment)) (none_open l h percent picked.of (sym picked.answer_is)))
             ∙ going.is_open)
 
     pub picked_represents : engine.Represents bytes after told r.history r.layout
@@ -210,7 +212,8 @@ module _ {H R : Type 0} (bytes : H → Option (List ℕ)) (told : Option DiskSta
   pub refused_step : (a : PickAnswer) (answer : store_lines.Answer) → IsRefusal a answer → a ≡ r.answer
       → picking ≡ only answer s.store
   refused_step a answer refusal is =
-      ap (pick_as s.store name percent) bare ∙ ap (λ (q : Ruling PickAnswer). picked_by s.store name q q.answer) (answers_ruling l h percent a is)
+      ap (pick_as s.store name percent) bare
+      ∙ ap (λ (q : Ruling PickAnswer). picked_by s.store name q q.answer) (answers_ruling l h percent a is)
       ∙ by a answer refusal
     where
       by : (a : PickAnswer) (answer : store_lines.Answer) → IsRefusal a answer

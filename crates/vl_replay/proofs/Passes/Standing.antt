@@ -88,10 +88,11 @@ module _ {H : Type 0} (before after : Core H) (old new : Collecting) (logs : aft
         readable = subst (λ (ss : List Segment). AreReadable (record m { flushed = ss })) (sym flushed_is) collects.readable;
       })
     where
-      tallies : (tally : Option Tallied) → Tallies before.version.behind.logs.items tally l → Tallies after.version.behind.logs.items tally m
+      tallies : (tally : Option Tallied) → Tallies before.version.behind.logs.items tally l
+          → Tallies after.version.behind.logs.items tally m
       tallies None is =
-          subst (λ (v : Vec (SealedLog H) Global). AllByRecursion (λ (log : SealedLog H). has log.number (log_numbers (sealed m)) ≡ true) v.items)
-          (sym logs)
+          subst (λ (v : Vec (SealedLog H) Global).
+          AllByRecursion (λ (log : SealedLog H). has log.number (log_numbers (sealed m)) ≡ true) v.items) (sym logs)
           (subst (λ (ss : List Segment). AllByRecursion (λ (log : SealedLog H). has log.number (log_numbers ss) ≡ true)
           before.version.behind.logs.items) (sym sealed_is) is)
       tallies (Some tally) is = record {

@@ -100,5 +100,6 @@ returns-clause-undamaged g c s stands halts =
     let before = subst (λ (o : Option _). Passes bytes c.args.served.now.engine.core c.args.served.now.engine.collecting o s.store.things
     s.store.layout) c.in-Some.is stands.passes in
     undamaged bytes c.in-Some.going s.store.things s.store.layout before.is_open c.in_ok-reader.reader.looks
-    (before.is_open.looks c.in_ok-reader.reader.looks (λ files. c.in_ok-reader.ensures.blocks files)) _ _ c.in-Err.fault c.in-Err.ensures.cause
+    (before.is_open.looks c.in_ok-reader.reader.looks (λ files. c.in_ok-reader.ensures.blocks files)) _ _ c.in-Err.fault
+    c.in-Err.ensures.cause
     (subst (λ (h : Halt). HaltsByDamage {T = Answer} (Err h)) c.halt_at.ensures halts)

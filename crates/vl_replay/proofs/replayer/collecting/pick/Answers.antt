@@ -47,10 +47,13 @@ returns-in-Ok-clause-makes g c s stands bare =
     let serves = subst (λ (d : _). StandsIn bytes (g.D.Watched.told d) old.core os s) (sym did.disk) stands.serves in
     let open_stands : StandsOpen bytes old.core old.merging h l = record { stands = stands.serves.engine; opens = stands.opens } in
     let there : Serves bytes now s.openable new.core (pick_ruling l h percent).history (pick_ruling l h percent).layout = record {
-      stands = ((did.stands h l open_stands stands.passes.collects).answered (pick_ruling l h percent).answer (ap (pick_outcome (pick_ruling l h percent).answer) c.in-Ok.is)).1.stands;
-      fits = ((did.fits h l stands.serves.engine stands.passes.collects stands.serves.fits).answered (pick_ruling l h percent).answer (ap (pick_outcome (pick_ruling l h percent).answer) c.in-Ok.is)).1;
+      stands = ((did.stands h l open_stands stands.passes.collects).answered (pick_ruling l h percent).answer
+      (ap (pick_outcome (pick_ruling l h percent).answer) c.in-Ok.is)).1.stands;
+      fits = ((did.fits h l stands.serves.engine stands.passes.collects stands.serves.fits).answered (pick_ruling l h percent).answer
+      (ap (pick_outcome (pick_ruling l h percent).answer) c.in-Ok.is)).1;
       held = λ openable. ((did.represents h l (represents bytes before old.core os s stands.serves openable)
-          stands.passes.collects).answered (pick_ruling l h percent).answer (ap (pick_outcome (pick_ruling l h percent).answer) c.in-Ok.is)).1.held;
+          stands.passes.collects).answered (pick_ruling l h percent).answer
+          (ap (pick_outcome (pick_ruling l h percent).answer) c.in-Ok.is)).1.held;
     } in
     subst (λ (n : ℕ). MakesStep bytes now new.core os s (pick_as s.store name percent (thing_of s.store name)) (Ok (answers.Number n)))
     (sym (c.from-number.ensures ∙ c.segment.ensures))
@@ -75,7 +78,8 @@ returns-in-Ok-clause-passes g c s stands bare =
     let open_stands : StandsOpen bytes old.core old.merging h l = record { stands = stands.serves.engine; opens = stands.opens } in
     picked_passes bytes now old.core new.core os s serves back name bare percent c.in-Ok.pass
     (c.in-Ok.ensures.pass h l stands.serves.engine stands.passes.collects) new.collecting c.args.passing.now stands.passes.is_open
-    ((did.collects h l stands.serves.engine stands.passes.collects).answered (pick_ruling l h percent).answer (ap (pick_outcome (pick_ruling l h percent).answer) c.in-Ok.is)).1
+    ((did.collects h l stands.serves.engine stands.passes.collects).answered (pick_ruling l h percent).answer
+    (ap (pick_outcome (pick_ruling l h percent).answer) c.in-Ok.is)).1
     (c.in-Ok.ensures.looks h l stands.serves.engine)
 
 pub returns-in-Ok-clause-carries : goal.returns-in-Ok-clause-carries
@@ -97,7 +101,8 @@ returns-in-Ok-clause-carries g c s stands bare =
     let picked = c.in-Ok.ensures.pass h l stands.serves.engine stands.passes.collects in
     subst (λ (d : _). CarriesOut {T = Answer} g.D.Watched IsStored Shown IsStopped d new.disk s
     (state_by s (pick_as s.store name percent (thing_of s.store name))) (Ok (answers.Number c.from-number.result))) did.disk
-    (still_carries g.D.Watched (record { only_now = g.met.D.Disk.only_now; counts_now = g.met.D.Disk.counts_now }) bytes new.disk old.core new.core os s serves back
+    (still_carries g.D.Watched (record { only_now = g.met.D.Disk.only_now; counts_now = g.met.D.Disk.counts_now }) bytes new.disk old.core
+    new.core os s serves back
     (pick_as s.store name percent (thing_of s.store name)) (pick_commits s.store name percent (thing_of s.store name))
     (picked_calls bytes now old.core new.core os s serves back name bare percent c.in-Ok.pass picked)
     (picked_running bytes now old.core new.core os s serves back name bare percent c.in-Ok.pass picked)
@@ -105,7 +110,8 @@ returns-in-Ok-clause-carries g c s stands bare =
     (picked_next_table bytes now old.core new.core os s serves back name bare percent c.in-Ok.pass picked)
     (answers.Number c.from-number.result)
     (λ openable. picked_represents bytes now old.core new.core os s serves back name bare percent c.in-Ok.pass picked
-    ((did.represents h l (represents bytes before old.core os s stands.serves openable) stands.passes.collects).answered (pick_ruling l h percent).answer (ap (pick_outcome (pick_ruling l h percent).answer) c.in-Ok.is)).1))
+    ((did.represents h l (represents bytes before old.core os s stands.serves openable) stands.passes.collects).answered
+    (pick_ruling l h percent).answer (ap (pick_outcome (pick_ruling l h percent).answer) c.in-Ok.is)).1))
 
 pub returns-in-Err-InvalidRequest-clause-makes : goal.returns-in-Err-InvalidRequest-clause-makes
 returns-in-Err-InvalidRequest-clause-makes g c s stands bare =
@@ -183,9 +189,11 @@ returns-in-Err-InvalidRequest-clause-carries g c s stands bare =
       fits = subst (λ (k : Core _). Fits now k h l) (sym did.core) serves.fits;
       held = λ openable running. subst (λ (k : Core _). IsHeld k.back now h l) (sym did.core) (serves.held openable);
     } in
-    quiet_carries g.D.Watched (record { only_now = g.met.D.Disk.only_now; counts_now = g.met.D.Disk.counts_now }) bytes now new.core os s (pick_as s.store name percent (thing_of s.store name))
+    quiet_carries g.D.Watched (record { only_now = g.met.D.Disk.only_now; counts_now = g.met.D.Disk.counts_now }) bytes now new.core os s
+    (pick_as s.store name percent (thing_of s.store name))
     (refused_keeps bytes now old.core new.core os s serves back name bare percent rulings.InvalidRequest store_lines.Invalid refl same) _
-    (refused_makes bytes now old.core new.core os s serves back name bare percent rulings.InvalidRequest store_lines.Invalid refl same answers.Invalid refl there)
+    (refused_makes bytes now old.core new.core os s serves back name bare percent rulings.InvalidRequest store_lines.Invalid refl same
+    answers.Invalid refl there)
     (λ halts. halts) old.disk new.disk did.disk
 
 pub returns-in-Err-Rejected-clause-makes : goal.returns-in-Err-Rejected-clause-makes
@@ -212,7 +220,8 @@ returns-in-Err-Rejected-clause-makes g c s stands bare =
       fits = subst (λ (k : Core _). Fits now k h l) (sym did.core) serves.fits;
       held = λ openable running. subst (λ (k : Core _). IsHeld k.back now h l) (sym did.core) (serves.held openable);
     } in
-    refused_makes bytes now old.core new.core os s serves back name bare percent (rulings.Rejected c.in-Err-Rejected.segment) (store_lines.Rejected c.in-Err-Rejected.segment) refl same
+    refused_makes bytes now old.core new.core os s serves back name bare percent (rulings.Rejected c.in-Err-Rejected.segment)
+    (store_lines.Rejected c.in-Err-Rejected.segment) refl same
     (answers.Rejected _) (ap store_lines.Rejected c.in-Err-Rejected.segment-is) there
 
 pub returns-in-Err-Rejected-clause-passes : goal.returns-in-Err-Rejected-clause-passes
@@ -234,9 +243,11 @@ returns-in-Err-Rejected-clause-passes g c s stands bare =
     let is : pick_outcome (pick_ruling l h percent).answer c.pick.result ≡ Answered (rulings.Rejected c.in-Err-Rejected.segment) =
     ap (pick_outcome (pick_ruling l h percent).answer) (c.in-Err-Rejected.is ∙ ap Err c.in-Err-Rejected.field-0-is) in
     let same = ((did.stands h l open_stands stands.passes.collects).answered (rulings.Rejected c.in-Err-Rejected.segment) is).0 in
-    refused_passes bytes now old.core new.core os s serves back name bare percent (rulings.Rejected c.in-Err-Rejected.segment) (store_lines.Rejected c.in-Err-Rejected.segment) refl same
+    refused_passes bytes now old.core new.core os s serves back name bare percent (rulings.Rejected c.in-Err-Rejected.segment)
+    (store_lines.Rejected c.in-Err-Rejected.segment) refl same
     old.collecting new.collecting c.args.passing.now did.core
-    (subst (λ (q : _). Collects new.core new.collecting q.layout) (answers_ruling l h percent (rulings.Rejected c.in-Err-Rejected.segment) same)
+    (subst (λ (q : _). Collects new.core new.collecting q.layout)
+    (answers_ruling l h percent (rulings.Rejected c.in-Err-Rejected.segment) same)
     ((did.collects h l stands.serves.engine stands.passes.collects).answered (rulings.Rejected c.in-Err-Rejected.segment) is).1)
     stands.passes
 
@@ -264,9 +275,13 @@ returns-in-Err-Rejected-clause-carries g c s stands bare =
       fits = subst (λ (k : Core _). Fits now k h l) (sym did.core) serves.fits;
       held = λ openable running. subst (λ (k : Core _). IsHeld k.back now h l) (sym did.core) (serves.held openable);
     } in
-    quiet_carries g.D.Watched (record { only_now = g.met.D.Disk.only_now; counts_now = g.met.D.Disk.counts_now }) bytes now new.core os s (pick_as s.store name percent (thing_of s.store name))
-    (refused_keeps bytes now old.core new.core os s serves back name bare percent (rulings.Rejected c.in-Err-Rejected.segment) (store_lines.Rejected c.in-Err-Rejected.segment) refl same) _
-    (refused_makes bytes now old.core new.core os s serves back name bare percent (rulings.Rejected c.in-Err-Rejected.segment) (store_lines.Rejected c.in-Err-Rejected.segment) refl same (answers.Rejected _) (ap store_lines.Rejected c.in-Err-Rejected.segment-is) there)
+    quiet_carries g.D.Watched (record { only_now = g.met.D.Disk.only_now; counts_now = g.met.D.Disk.counts_now }) bytes now new.core os s
+    (pick_as s.store name percent (thing_of s.store name))
+    (refused_keeps bytes now old.core new.core os s serves back name bare percent (rulings.Rejected c.in-Err-Rejected.segment)
+    (store_lines.Rejected c.in-Err-Rejected.segment) refl same) _
+    (refused_makes bytes now old.core new.core os s serves back name bare percent (rulings.Rejected c.in-Err-Rejected.segment)
+    (store_lines.Rejected c.in-Err-Rejected.segment) refl same (answers.Rejected _) (ap store_lines.Rejected c.in-Err-Rejected.segment-is)
+    there)
     (λ halts. halts) old.disk new.disk did.disk
 
 pub returns-in-Err-NoRewrite-clause-makes : goal.returns-in-Err-NoRewrite-clause-makes
@@ -345,14 +360,18 @@ returns-in-Err-NoRewrite-clause-carries g c s stands bare =
       fits = subst (λ (k : Core _). Fits now k h l) (sym did.core) serves.fits;
       held = λ openable running. subst (λ (k : Core _). IsHeld k.back now h l) (sym did.core) (serves.held openable);
     } in
-    quiet_carries g.D.Watched (record { only_now = g.met.D.Disk.only_now; counts_now = g.met.D.Disk.counts_now }) bytes now new.core os s (pick_as s.store name percent (thing_of s.store name))
+    quiet_carries g.D.Watched (record { only_now = g.met.D.Disk.only_now; counts_now = g.met.D.Disk.counts_now }) bytes now new.core os s
+    (pick_as s.store name percent (thing_of s.store name))
     (refused_keeps bytes now old.core new.core os s serves back name bare percent rulings.NoRewrite store_lines.NoRewrite refl same) _
-    (refused_makes bytes now old.core new.core os s serves back name bare percent rulings.NoRewrite store_lines.NoRewrite refl same answers.NoRewrite refl there)
+    (refused_makes bytes now old.core new.core os s serves back name bare percent rulings.NoRewrite store_lines.NoRewrite refl same
+    answers.NoRewrite refl there)
     (λ halts. halts) old.disk new.disk did.disk
 
 pub returns-clause-carries : goal.returns-clause-carries
 returns-clause-carries g c s stands bare =
     let x = pick_as s.store c.args.name c.args.percent (thing_of s.store c.args.name) in
-    subst (λ (d : _). CarriesOut {T = Answer} g.D.Watched IsStored Shown IsStopped c.args.served.now.engine.disk d s (state_by s x) (Err why.NoMemory))
+    subst (λ (d : _). CarriesOut {T = Answer} g.D.Watched IsStored Shown IsStopped c.args.served.now.engine.disk d s (state_by s x)
+    (Err why.NoMemory))
     (sym c.pick.ensures.disk)
-    (out_carries g.D.Watched (record { only_now = g.met.D.Disk.only_now; counts_now = g.met.D.Disk.counts_now }) c.args.served.now.engine.disk s x (pick_commits s.store c.args.name c.args.percent (thing_of s.store c.args.name)))
+    (out_carries g.D.Watched (record { only_now = g.met.D.Disk.only_now; counts_now = g.met.D.Disk.counts_now })
+    c.args.served.now.engine.disk s x (pick_commits s.store c.args.name c.args.percent (thing_of s.store c.args.name)))
