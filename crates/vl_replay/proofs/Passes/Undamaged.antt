@@ -31,6 +31,7 @@ use Rattle.vl_version.specs.declared.base.Base.{Base}
 use Rattle.vl_sequential.specs.Halts.{HaltsByDamage}
 use Rattle.vl_replay.specs.Passing.{IsPassing, halt_at}
 use Rattle.vl_replay.specs.declared.replayer.passing.Passing.{Passing}
+use Rattle.vl_script.specs.declared.answer.Answer.{Answer}
 use Rattle.vl_replay.proofs.Passes.Batching.{whole_not_torn}
 
 here : {X : Type 0} (xs : List X) (i : ℕ) (x : X) → slice_get xs i ≡ Some x → Contains xs x
@@ -89,8 +90,8 @@ module _ {H R : Type 0} (bytes : H → Option (List ℕ)) (passing : Passing (Ba
       fails
 
   -- So no line on the pass halts by damage.
-  pub undamaged : {T : Type 0} (fault : PassFault) → FailsPassing is_read may passing.pass.log.number bad counts fault
-      → HaltsByDamage {T = T} (Err (halt_at fault)) → ⊥
+  pub undamaged : (fault : PassFault) → FailsPassing is_read may passing.pass.log.number bad counts fault
+      → HaltsByDamage {T = Answer} (Err (halt_at fault)) → ⊥
   undamaged faults.NoMemory fails halts = halts
   undamaged (faults.Disk name) fails halts = halts
   undamaged (faults.Damaged name place) fails halts = none_damaged name place fails
