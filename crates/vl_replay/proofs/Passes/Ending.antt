@@ -204,11 +204,11 @@ drop_rest s name (Some (APass p batch)) none = absurd (none p batch refl)
 
 drop_names : (s : things.State) (name : Name) → IsNoPass (thing_of s name) → (o : Option Thing) → IsNoPass o
     → SamePasses s.things (drop_by s name o).state.things
-drop_names s name free None none = record { ours = λ q p batch is. is; still = λ q p batch is. is }
-drop_names s name free (Some (ATransaction t b)) none = passes_without_job s.things name free
-drop_names s name free (Some (AView v b)) none = passes_without_job s.things name free
-drop_names s name free (Some (AJob job made)) none = passes_without_job s.things name free
-drop_names s name free (Some (APass p batch)) none = absurd (none p batch refl)
+drop_names s name bare None none = record { ours = λ q p batch is. is; still = λ q p batch is. is }
+drop_names s name bare (Some (ATransaction t b)) none = passes_without_job s.things name bare
+drop_names s name bare (Some (AView v b)) none = passes_without_job s.things name bare
+drop_names s name bare (Some (AJob job made)) none = passes_without_job s.things name bare
+drop_names s name bare (Some (APass p batch)) none = absurd (none p batch refl)
 
 -- The pass goes on then.
 pub drop_passes : {H R : Type 0} (bytes : H → Option (List ℕ)) (before after : Core H) (old new : Collecting)
