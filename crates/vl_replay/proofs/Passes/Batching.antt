@@ -1,18 +1,17 @@
 -- What a pass's name stands for, what its lines are told where it stands for none, and what a batch makes of a state.
-use Rattle.std.proofs.Common.{◌≡◌, ◌⊎◌, ⊎_elim, ℕ, ◌≤◌, ◌+◌, true, false, Bool, List, [], ◌∷◌, length, refl, ap, sym, ◌∙◌, subst, arith}
-use Rattle.std.specs.Prelude.{Option, None, Some, Ok, Err, Result, IsTrue}
+use Rattle.std.proofs.Common.{◌≡◌, ⊎_elim, ℕ, ◌≤◌, ◌+◌, true, false, List, [], ◌∷◌, length, refl, ap, sym, ◌∙◌, subst, arith}
+use Rattle.std.specs.Prelude.{Option, None, Some, Ok}
 use Rattle.std.specs.List.{AllByRecursion}
-use Rattle.std.specs.Option.{ForSome}
 use Rattle.std.specs.Str.{bytes_eq}
 use Rattle.std.proofs.lemmas.Slice.Eq.{bytes_eq-Decides}
-use Rattle.vl_collect.specs.Passing.{AreLeft, EndsAlike, Gives, IsPass, IsWholeFrom, TornBehind}
+use Rattle.vl_collect.specs.Passing.{EndsAlike, IsWholeFrom, TornBehind}
 use Rattle.vl_collect.specs.declared.pass.Pass.{Pass as ThePass}
 use Rattle.vl_collect.specs.laws.StandingLaws.{given}
 use Rattle.vl_core.specs.Lasts.{Lasts}
 use Rattle.vl_core.specs.MoveFacts.{AreThere}
 use Rattle.vl_core.specs.declared.kept.Core.{Core}
 use Rattle.vl_disk.specs.DiskState.{DiskState}
-use Rattle.vl_engine.specs.Collecting.{FitsLooks, GoesOver}
+use Rattle.vl_engine.specs.Collecting.{GoesOver}
 use Rattle.vl_engine.specs.declared.open.Collecting.{Collecting}
 use Rattle.vl_layout.specs.Relocation.{Candidate, Pass, next_batch}
 use Rattle.vl_layout.specs.Shown.{IsThere}
@@ -30,9 +29,8 @@ use Rattle.vl_seglog.specs.declared.sealed.SealedLog.{SealedLog}
 use Rattle.vl_table.specs.Kept.{Files}
 use Rattle.vl_table.specs.KeptBlocks.{AreKept}
 use Rattle.vl_table.specs.declared.block_reader.BlockReader.{BlockReader}
-use Rattle.vl_version.specs.Bases.{Fits, HasSources}
+use Rattle.vl_version.specs.Bases.{Fits}
 use Rattle.vl_version.specs.declared.base.Base.{Base}
-use Rattle.vl_sequential.specs.Failing.{IsPass as NamesPass}
 use Rattle.vl_replay.specs.Passing.{IsOpenPass, IsPassing, Passes}
 use Rattle.vl_replay.specs.Replaying.{MakesStep, StandsIn, state_by}
 use Rattle.vl_sequential.specs.Sequential.{IsTold, State, history_of}
@@ -43,12 +41,11 @@ use Rattle.vl_replay.specs.declared.replayer.open.Thing.TheVariants.{Transaction
 use Rattle.vl_replay.specs.declared.replayer.passing.Passing.{Passing}
 use Rattle.vl_sequential.specs.laws.Laws.{IsSound, state_after-sound}
 use Rattle.vl_script.specs.declared.answer.Answer.{Answer}
-use Rattle.vl_script.specs.declared.answer.Answer.TheVariants as answers
 use Rattle.vl_script.specs.declared.line.Line.TheVariants as lines
 use Rattle.vl_replay.proofs.Merges.Planning.{IsBeside}
 use Rattle.vl_replay.proofs.Names.BeginMaking.{stands_as}
 use Rattle.vl_replay.proofs.Names.Lookups.{thing_beside, thing_put}
-use Rattle.vl_replay.proofs.Names.Serving.{Serves, serves}
+use Rattle.vl_replay.proofs.Names.Serving.{serves}
 use Rattle.vl_replay.proofs.Names.Standings.{same_or_not}
 use Rattle.vl_replay.proofs.Passes.Standing.{names_with_work}
 

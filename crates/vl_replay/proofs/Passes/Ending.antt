@@ -1,5 +1,5 @@
 -- The end of the pass that is open: its name is free, and it is open no more. And what is beside it where another name is ended.
-use Rattle.std.proofs.Common.{◌≡◌, ◌⊎◌, ⊎_elim, ℕ, ◌≤◌, ◌+◌, List, [], ◌++◌, refl, ap, sym, ◌∙◌, subst}
+use Rattle.std.proofs.Common.{◌≡◌, ⊎_elim, ℕ, ◌≤◌, List, ◌++◌, refl, ap, sym, ◌∙◌, subst}
 use Rattle.std.specs.Prelude.{Option, None, Some, Ok, IsTrue}
 use Rattle.vl_collect.specs.declared.pass.Pass.{Pass as ThePass}
 use Rattle.vl_core.specs.MayStep.{Fits}
@@ -43,7 +43,7 @@ use Rattle.vl_sequential.specs.laws.Laws.{IsSound, state_after-sound}
 use Rattle.vl_script.specs.declared.answer.Answer.TheVariants as answers
 use Rattle.vl_script.specs.declared.line.Line.TheVariants as lines
 use Rattle.vl_sequential.specs.laws.DiskSteps.{IsWatched}
-use Rattle.vl_replay.proofs.Merges.Keeping.{KeepsMerges, KeepsPasses, SamePasses}
+use Rattle.vl_replay.proofs.Merges.Keeping.{KeepsMerges, SamePasses}
 use Rattle.vl_replay.proofs.Merges.Planning.{IsBeside, stays_so}
 use Rattle.vl_replay.proofs.Merges.Waiting.{merges_behind}
 use Rattle.vl_replay.proofs.Names.Lookups.{taken_none, thing_gone, thing_left}

@@ -1,18 +1,17 @@
 -- What a move makes of a state, by what the engine's relocation is said to have done.
-use Rattle.std.proofs.Common.{◌≡◌, ⊎_elim, ℕ, ◌≤◌, ◌+◌, nat_le, true, false, cond, Bool, List, [], ◌∷◌, ◌++◌, length}
+use Rattle.std.proofs.Common.{◌≡◌, ⊎_elim, ℕ, ◌≤◌, ◌+◌, nat_le, true, false, cond, Bool, List, [], ◌∷◌, length}
 use Rattle.std.proofs.Common.{refl, ap, sym, ◌∙◌, subst}
-use Rattle.std.specs.Prelude.{Option, None, Some, Ok, Err, Result, OnOk, IsTrue}
-use Rattle.std.specs.List.{AllByRecursion, filter}
-use Rattle.std.specs.Option.{ForSome, option_map}
+use Rattle.std.specs.Prelude.{Option, None, Some, Ok}
+use Rattle.std.specs.List.{filter}
+use Rattle.std.specs.Option.{option_map}
 use Rattle.vl_collect.specs.Passing.{IsWholeFrom}
 use Rattle.vl_collect.specs.declared.pass.Pass.{Pass as ThePass}
 use Rattle.vl_core.specs.Lasts.{Lasts}
-use Rattle.vl_core.specs.Represents as engine
 use Rattle.vl_core.specs.declared.kept.Core.{Core}
 use Rattle.vl_core.specs.laws.Lasting.{lasts_same}
 use Rattle.vl_core.specs.laws.RelocateRulings.{history_is}
 use Rattle.vl_disk.specs.DiskState.{DiskState}
-use Rattle.vl_engine.specs.Collecting.{Collects, FitsLooks, GoesOver}
+use Rattle.vl_engine.specs.Collecting.{FitsLooks, GoesOver}
 use Rattle.vl_engine.specs.Lent.{Opens}
 use Rattle.vl_engine.specs.Merging.{StandsOpen}
 use Rattle.vl_engine.specs.declared.open.Collecting.{Collecting}
@@ -35,7 +34,6 @@ use Rattle.vl_layout.specs.declared.job.OpenPass.{OpenPass}
 use Rattle.vl_layout.specs.declared.layout.Layout.{Layout}
 use Rattle.vl_model.specs.Frames.{frame_length}
 use Rattle.vl_model.specs.History.{History, last_number}
-use Rattle.vl_model.specs.declared.counter.Counter.{Counter}
 use Rattle.vl_model.specs.declared.counter.Counter.TheVariants as counters
 use Rattle.vl_model.specs.declared.log_frame.LogFrame.TheVariants.{Relocated}
 use Rattle.vl_model.specs.declared.log_frame.Moved.{Moved}
@@ -44,7 +42,7 @@ use Rattle.vl_replay.specs.Passing.{IsPassing, Passes}
 use Rattle.vl_sequential.specs.Readers.{is_table}
 use Rattle.vl_replay.specs.Replaying.{MakesStep, StandsIn, state_by}
 use Rattle.vl_sequential.specs.Sequential.{IsTold, State, history_of}
-use Rattle.vl_replay.specs.Standing.{Stand, open_in}
+use Rattle.vl_replay.specs.Standing.{open_in}
 use Rattle.vl_replay.specs.declared.replayer.open.Open.{Open}
 use Rattle.vl_replay.specs.declared.replayer.passing.Passing.{Passing}
 use Rattle.vl_sequential.specs.laws.Laws.{IsSound, state_after-sound}

@@ -1,5 +1,5 @@
 -- Merges beside a name that stands for a pass.
-use Rattle.std.proofs.Common.{◌≡◌, ◌⊎◌, ⊎_elim, ℕ, List, refl, ap, sym, ◌∙◌, subst}
+use Rattle.std.proofs.Common.{◌≡◌, ⊎_elim, List, sym, ◌∙◌, subst}
 use Rattle.std.specs.Prelude.{Option, None, Some}
 use Rattle.vl_layout.specs.Jobs.{Made}
 use Rattle.vl_layout.specs.Relocation.{Candidate, Pass}

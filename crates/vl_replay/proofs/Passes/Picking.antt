@@ -1,20 +1,16 @@
 -- What a pick makes of a state, by what the engine's call is said to have done.
-use Rattle.std.proofs.Common.{◌≡◌, ◌⊎◌, ⊎_elim, ℕ, ◌==◌, ◌||◌, ◌≤◌, Bool, true, false, cond, List, [], ◌∷◌, refl, ap, sym, ◌∙◌, subst}
-use Rattle.std.specs.Prelude.{Option, None, Some, IsTrue, Ok, Err, Result, IfOk, nat_lt}
+use Rattle.std.proofs.Common.{◌≡◌, ⊎_elim, ℕ, ◌==◌, ◌||◌, Bool, true, false, cond, List, refl, ap, sym, ◌∙◌, subst}
+use Rattle.std.specs.Prelude.{Option, None, Some, Ok, Err, Result, nat_lt}
 use Rattle.std.specs.Option.{option_map}
 use Rattle.vl_collect.specs.declared.pass.Pass.{Pass as ThePass}
 use Rattle.vl_core.specs.Lasts.{Lasts}
 use Rattle.vl_core.specs.Represents as engine
 use Rattle.vl_core.specs.declared.kept.Core.{Core}
-use Rattle.vl_core.specs.MayStep.{Fits}
 use Rattle.vl_disk.specs.DiskState.{DiskState}
-use Rattle.vl_engine.specs.Collecting.{Collects, FitsLooks, IsPicked, passed_in, pick_outcome}
-use Rattle.vl_engine.specs.Merging.{StandsOpen}
+use Rattle.vl_engine.specs.Collecting.{Collects, FitsLooks, IsPicked, pick_outcome}
 use Rattle.vl_engine.specs.declared.fails.PickFail.{PickFail}
-use Rattle.vl_engine.specs.declared.fails.PickFail.TheVariants as fails
 use Rattle.vl_engine.specs.declared.open.Collecting.{Collecting}
-use Rattle.vl_engine.specs.declared.open.OpenMerge.{OpenMerge}
-use Rattle.vl_layout.specs.Decides.{Answered, Decides, Effects, Outcome, as_before, no_effects}
+use Rattle.vl_layout.specs.Decides.{Answered}
 use Rattle.vl_layout.specs.Garbage.{best}
 use Rattle.vl_layout.specs.Relocation.{Candidate, Pass}
 use Rattle.vl_layout.specs.Ruling.{Ruling, leaving}
@@ -23,14 +19,13 @@ use Rattle.vl_layout.specs.Rulings.Pick.{PickAnswer, pick_best, pick_ruling, pic
 use Rattle.vl_layout.specs.Store.Dispatch.{pick_as, picked_by}
 use Rattle.vl_layout.specs.Store.Lines as store_lines
 use Rattle.vl_layout.specs.Store.Lines.{Name}
-use Rattle.vl_layout.specs.Store.Things.{APass, Step, Thing, named, only, thing_in, thing_of, with_thing}
+use Rattle.vl_layout.specs.Store.Things.{APass, Step, Thing, only, thing_in, thing_of, with_thing}
 use Rattle.vl_layout.specs.declared.job.OpenPass.{OpenPass}
 use Rattle.vl_layout.specs.declared.layout.Layout.{Layout}
 use Rattle.vl_layout.specs.declared.segment.SegmentStat.{SegmentStat}
 use Rattle.vl_model.specs.History.{History}
 use Rattle.vl_version.specs.declared.base.Base.{Base}
-use Rattle.vl_replay.specs.Passing.{IsOpenPass, Passes, told_pick}
-use Rattle.vl_sequential.specs.Readers.{IsReader}
+use Rattle.vl_replay.specs.Passing.{IsOpenPass, Passes}
 use Rattle.vl_replay.specs.Replaying.{MakesStep, StandsIn, state_by}
 use Rattle.vl_sequential.specs.Sequential.{IsTold, State, history_of}
 use Rattle.vl_replay.specs.Standing.{open_in}

@@ -1,5 +1,5 @@
 -- The open pass behind lines that leave it alone, and what a line makes that changes what a name stands for which doesn't read.
-use Rattle.std.proofs.Common.{◌≡◌, ◌⊎◌, ⊎_elim, true, ℕ, ◌≤◌, ◌+◌, List, [], ◌∷◌, ◌++◌, map, refl, ap, sym, ◌∙◌, subst}
+use Rattle.std.proofs.Common.{◌≡◌, ⊎_elim, true, ℕ, ◌≤◌, ◌+◌, List, ◌++◌, refl, ap, sym, ◌∙◌, subst}
 use Rattle.std.specs.Prelude.{Option, None, Some, IsTrue, Ok, Err, Vec}
 use Rattle.std.specs.Global.{Global}
 use Rattle.std.specs.List.{AllByRecursion}
@@ -17,7 +17,6 @@ use Rattle.vl_disk.specs.Faults.{after_calls}
 use Rattle.vl_disk.specs.declared.watched.Watched.{Ghosts}
 use Rattle.vl_engine.specs.Collecting.{Collects, Tallies}
 use Rattle.vl_engine.specs.declared.open.Collecting.{Collecting}
-use Rattle.vl_layout.specs.Relocation.{Candidate, Pass}
 use Rattle.vl_layout.specs.Sources.{rising, tables}
 use Rattle.vl_layout.specs.Store.Commits.{history_in}
 use Rattle.vl_layout.specs.Store.Lines.{Name}
@@ -31,12 +30,12 @@ use Rattle.vl_layout.specs.declared.segment.Segment.{Segment}
 use Rattle.vl_layout.specs.declared.table.Table.{Table}
 use Rattle.vl_model.specs.History.{History}
 use Rattle.vl_seglog.specs.declared.sealed.SealedLog.{SealedLog}
-use Rattle.vl_stats.specs.Tallies.{IsTally, Tallied, lengths_of}
+use Rattle.vl_stats.specs.Tallies.{Tallied, lengths_of}
 use Rattle.vl_stats.specs.Live.{AreOf}
 use Rattle.vl_version.specs.declared.base.Base.{Base}
-use Rattle.vl_sequential.specs.Durable.{CarriesOut, HoldsState, LeadsTo}
+use Rattle.vl_sequential.specs.Durable.{CarriesOut}
 use Rattle.vl_replay.specs.Passing.{IsOpenPass, Passes}
-use Rattle.vl_sequential.specs.Readers.{IsReader, IsWithoutTables}
+use Rattle.vl_sequential.specs.Readers.{IsReader}
 use Rattle.vl_replay.specs.Replaying.{StandsIn, state_by}
 use Rattle.vl_sequential.specs.Sequential.{State, history_of}
 use Rattle.vl_replay.specs.Standing.{Corresponds, Stand, open_in}

@@ -1,6 +1,6 @@
 -- A batch is answered as the pass gives it, and waits then.
-use Rattle.std.proofs.Common.{◌≡◌, ◌∙◌, refl, ap, sym, subst}
-use Rattle.std.specs.Prelude.{Option, None, Some, Ok, Err}
+use Rattle.std.proofs.Common.{◌∙◌, refl, ap, sym, subst}
+use Rattle.std.specs.Prelude.{Option, None, Some, Err}
 use Rattle.vl_layout.specs.Store.Dispatch.{batch_by}
 use Rattle.vl_layout.specs.Store.Lines as store_lines
 use Rattle.vl_layout.specs.Store.Things.{thing_of}

@@ -1,6 +1,6 @@
 -- A move is answered as the ruling on it has it, and carried out so.
-use Rattle.std.proofs.Common.{◌≡◌, ◌≤◌, ℕ, refl, ap, sym, ◌∙◌, subst}
-use Rattle.std.specs.Prelude.{Option, None, Some, Ok, Err}
+use Rattle.std.proofs.Common.{◌≤◌, ℕ, refl, ap, sym, ◌∙◌, subst}
+use Rattle.std.specs.Prelude.{Option, Some, Ok, Err}
 use Rattle.std.specs.List.{AllByRecursion}
 use Rattle.vl_back.specs.declared.back.Back.{Back}
 use Rattle.vl_core.specs.Pointed.{layout_logs}
@@ -22,7 +22,7 @@ use Rattle.vl_replay.proofs.Disk.Carried.{quiet_carries}
 use Rattle.vl_replay.proofs.Disk.Committed.{carries_short, only_keeps}
 use Rattle.vl_replay.proofs.Disk.Moved.{answered_moves, failed_moves, leaves, short_moves, unread_moves}
 use Rattle.vl_replay.proofs.Names.Making.{only_makes}
-use Rattle.vl_replay.proofs.Names.Serving.{Serves, decides_all, represents}
+use Rattle.vl_replay.proofs.Names.Serving.{decides_all, represents}
 use Rattle.vl_replay.proofs.Passes.Batching.{move_unknown, none_named, other_named, own_name}
 use Rattle.vl_replay.proofs.Passes.Moving.{decides_weaker, moved_makes, moved_opens, moved_passes, refused_makes, refused_opens}
 use Rattle.vl_replay.proofs.Passes.Moving.{refused_passes, waits_there}

@@ -1,11 +1,10 @@
 -- A pick is answered as the ruling on it has it, and the pass is the open one then.
-use Rattle.std.proofs.Common.{◌≡◌, ◌∙◌, ℕ, List, ap, refl, sym, subst}
-use Rattle.std.specs.Prelude.{Ok, Err, Option, Result}
+use Rattle.std.proofs.Common.{◌≡◌, ◌∙◌, ℕ, ap, refl, sym, subst}
+use Rattle.std.specs.Prelude.{Ok, Err}
 use Rattle.vl_core.specs.Shown.{Shown}
 use Rattle.vl_core.specs.declared.kept.Core.{Core}
 use Rattle.vl_engine.specs.Collecting.{Collects, pick_outcome}
 use Rattle.vl_engine.specs.Merging.{StandsOpen}
-use Rattle.vl_engine.specs.declared.fails.PickFail.TheVariants as fails
 use Rattle.vl_layout.specs.Decides.{Answered}
 use Rattle.vl_layout.specs.Rulings.Pick as rulings
 use Rattle.vl_layout.specs.Rulings.Pick.{PickAnswer, pick_ruling}
@@ -13,7 +12,6 @@ use Rattle.vl_layout.specs.Store.Dispatch.{pick_as}
 use Rattle.vl_layout.specs.Store.Lines as store_lines
 use Rattle.vl_layout.specs.Store.Things.{thing_of}
 use Rattle.vl_sequential.specs.Durable.{CarriesOut}
-use Rattle.vl_replay.specs.Passing.{Passes}
 use Rattle.vl_replay.specs.Replaying.{MakesStep, StandsIn, state_by}
 use Rattle.vl_sequential.specs.Sequential.{history_of}
 use Rattle.vl_sequential.specs.Stored.{IsStopped, IsStored}
@@ -48,9 +46,9 @@ returns-in-Ok-clause-makes g c s stands bare =
     let open_stands : StandsOpen bytes old.core old.merging h l = record { stands = stands.serves.engine; opens = stands.opens } in
     let there : Serves bytes now s.openable new.core (pick_ruling l h percent).history (pick_ruling l h percent).layout = record {
       stands = ((did.stands h l open_stands stands.passes.collects).answered (pick_ruling l h percent).answer
-      (ap (pick_outcome (pick_ruling l h percent).answer) c.in-Ok.is)).1.stands;
+          (ap (pick_outcome (pick_ruling l h percent).answer) c.in-Ok.is)).1.stands;
       fits = ((did.fits h l stands.serves.engine stands.passes.collects stands.serves.fits).answered (pick_ruling l h percent).answer
-      (ap (pick_outcome (pick_ruling l h percent).answer) c.in-Ok.is)).1;
+          (ap (pick_outcome (pick_ruling l h percent).answer) c.in-Ok.is)).1;
       held = λ openable. ((did.represents h l (represents bytes before old.core os s stands.serves openable)
           stands.passes.collects).answered (pick_ruling l h percent).answer
           (ap (pick_outcome (pick_ruling l h percent).answer) c.in-Ok.is)).1.held;
