@@ -1,9 +1,8 @@
 -- What a move does to a disk that holds the state before it, by what the engine carried out.
 use Rattle.std.proofs.Common.{◌≡◌, ◌≤◌, ℕ, ◌+◌, inr, List, length, refl, ap, sym, ◌∙◌, subst, arith}
-use Rattle.std.specs.Prelude.{Option, None, Some, Ok, Err, Result, OnOk, IsTrue}
+use Rattle.std.specs.Prelude.{Option, Some, Ok, Err, Result, OnOk, IsTrue}
 use Rattle.std.specs.List.{AllByRecursion}
 use Rattle.std.specs.Option.{option_map}
-use Rattle.vl_back.specs.declared.back.Back.{Back}
 use Rattle.vl_core.specs.Carries.{Carries, SameFiles}
 use Rattle.vl_core.specs.Held.{Holds}
 use Rattle.vl_core.specs.Pointed.{layout_logs}
@@ -17,7 +16,7 @@ use Rattle.vl_core.specs.laws.RelocateLaws.{relocated_base, relocated_holds}
 use Rattle.vl_core.specs.laws.RelocateRulings.{history_is}
 use Rattle.vl_core.specs.laws.RelocateStanding.{relocated_spares}
 use Rattle.vl_disk.specs.Calls.{ChangesNothing}
-use Rattle.vl_disk.specs.DiskState.{DiskState, appended}
+use Rattle.vl_disk.specs.DiskState.{appended}
 use Rattle.vl_disk.specs.Faults.{after_calls}
 use Rattle.vl_disk.specs.declared.name.Name.{Name as FileName}
 use Rattle.vl_disk.specs.declared.watched.Watched.{Ghosts}
@@ -25,15 +24,15 @@ use Rattle.vl_engine.specs.Relocating.{IsMovable}
 use Rattle.vl_frame.specs.Runs.{HasFrame}
 use Rattle.vl_layout.specs.Decides.{Answered, Effects, Outcome, as_before}
 use Rattle.vl_layout.specs.Relocation.{Candidate, Pass, moved_of}
-use Rattle.vl_layout.specs.Ruling.{Ruling, leaving}
+use Rattle.vl_layout.specs.Ruling.{Ruling}
 use Rattle.vl_layout.specs.Rulings.Relocate as move
 use Rattle.vl_layout.specs.Rulings.Relocate.{MoveAnswer, relocate_ruling, relocated}
 use Rattle.vl_layout.specs.Shown.{IsThere}
 use Rattle.vl_layout.specs.Sources.{sources}
 use Rattle.vl_layout.specs.Store.Commits.{history_in}
 use Rattle.vl_layout.specs.Store.Lines.{Name}
-use Rattle.vl_layout.specs.Store.Things.{APass, Step, only, thing_of}
-use Rattle.vl_layout.specs.Tidy.{IsRuledTidy, IsTidy}
+use Rattle.vl_layout.specs.Store.Things.{APass, Step, thing_of}
+use Rattle.vl_layout.specs.Tidy.{IsRuledTidy}
 use Rattle.vl_layout.specs.declared.layout.Layout.{Layout}
 use Rattle.vl_layout_laws.specs.laws.TidyRulings.{relocate_tidy}
 use Rattle.vl_model.specs.Formats.{log_format}
@@ -43,7 +42,7 @@ use Rattle.vl_model.specs.declared.log_frame.LogFrame.TheVariants.{Relocated}
 use Rattle.vl_model.specs.declared.log_frame.Moved.{Moved}
 use Rattle.vl_recover.specs.laws.crash.TornFrames as torn
 use Rattle.vl_seglog.specs.Frames.{frame_at, frames_grammar}
-use Rattle.vl_sequential.specs.Durable.{CarriesOut, CrashesShow, HoldsCommits, HoldsState, LeadsTo, StopsWithin, Tells}
+use Rattle.vl_sequential.specs.Durable.{CarriesOut, CrashesShow, HoldsState, LeadsTo, StopsWithin}
 use Rattle.vl_sequential.specs.Halts.{HaltsByDisk, HaltsByRead}
 use Rattle.vl_replay.specs.Replaying.{StandsIn, state_by}
 use Rattle.vl_sequential.specs.Sequential.{State, history_of}

@@ -226,34 +226,6 @@ some_there H R bytes h l (Some (Transaction txn)) None used is = absurd is
 some_there H R bytes h l (Some (View view)) None used is = absurd is
 some_there H R bytes h l (Some x) (Some z) used is = refl
 
-there_is : (y : Option store.Thing) → is_some y ≡ true → (z : store.Thing) × (y ≡ Some z)
-there_is None used = absurd cc
-there_is (Some z) used = (z, refl)
-
-pub taken_makes : {H R : Type 0} (bytes : H → Option (List ℕ)) (seen : Option DiskState) (core : Core H) (os : List (Open H R)) (s : State)
-    (stands : StandsIn bytes seen core os s)
-    (name : Name) (thing : Beginning → ℕ → ℕ → store.Thing) → is_some (thing_of s.store name) ≡ true
-    → MakesStep bytes seen core os s (begin_as s.store name thing (thing_of s.store name)) (Ok (answers.Taken name))
-taken_makes {H} {R} bytes seen core os s stands name thing used =
-    let (z, there) = there_is (thing_of s.store name) used in
-    only_makes bytes seen core os s stands os (begin_as s.store name thing (thing_of s.store name)) (answers.Taken name)
-    (store_lines.Taken name)
-    (ap (begin_as s.store name thing) there) refl stands.names
-
--- ---- by the test of whether it is in use
-
-module _ {H R : Type 0} (os slice : List (Open H R)) (value : slice ≡ os) (q name : Name) (same : q ≡ name)
-    (test : Bool) (is : test ≡ is_some (open_in slice q)) where
-  tested : is_some (open_in os name) ≡ test
-  tested = ap (λ (xs : List (Open H R)). is_some (open_in xs name)) (sym value)
-      ∙ ap (λ (n : Name). is_some (open_in slice n)) (sym same) ∙ sym is
-
-  pub taken_of : test ≡ true → is_some (open_in os name) ≡ true
-  taken_of it = tested ∙ it
-
-  pub free_of : test ≡ false → open_in os name ≡ None
-  free_of it = none_or_some (open_in os name) (tested ∙ it)
-
 -- a name that no reader has, no merge and no pass stands for nothing
 pub bare_of : {H R : Type 0} (bytes : H → Option (List ℕ)) (h : History) (l : Layout) (o : Option (Thing H R))
     (y : Option store.Thing) → o ≡ None

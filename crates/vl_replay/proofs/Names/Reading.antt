@@ -12,7 +12,6 @@ use Rattle.vl_engine.specs.declared.txn.Txn.{Txn}
 use Rattle.vl_engine.specs.declared.view.View.{View as EngineView}
 use Rattle.vl_layout.specs.AtAnswer.{Beginning}
 use Rattle.vl_layout.specs.Rulings.Commit.{Transaction as ATxn}
-use Rattle.vl_layout.specs.Sources.{tables}
 use Rattle.vl_layout.specs.Store.Commits.{history_in, value_in}
 use Rattle.vl_layout.specs.Store.Lines.{Answer, Invalid, Name}
 use Rattle.vl_layout.specs.Store.Reading.{get_by, get_own}
