@@ -166,7 +166,8 @@ module _ {H R : Type 0} (bytes : H → Option (List ℕ)) (s : store.State) (pro
             (record {
               same = only_notes_asked txn new noted.reads keeps ∙ ap (λ (u : ATxn). record u { reads = noted.reads }) is.same;
               sees = subst (Sees bytes new h)
-                  (on_false (is_some (get txn.writes key)) t.reads (t.reads ++ KeyRead key (value_at h txn.number key) ∷ []) (ap is_some own)
+                  (on_false (is_some (get txn.writes key)) t.reads (t.reads ++ KeyRead key (value_at h txn.number key) ∷ [])
+                  (ap is_some own)
                   ∙ ap (λ (v : Option Stored). t.reads ++ KeyRead key v ∷ []) (sym value)) sees;
               live = subst (λ (x : Txn H R). IsLive s.layout x.ticket x.number) (sym keeps) is.live;
               near = λ none. subst (λ (x : Txn H R). IsInMemory x.version) (sym keeps) (is.near none);

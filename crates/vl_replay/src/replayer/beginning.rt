@@ -15,8 +15,8 @@ use vl_sequential::Halt;
 impl<D: Disk> Served<D> {
     /// Begins a transaction of this name, which is free.
     pub(super) fn begin(&mut self, name: Ident) -> Result<Answer, Halt>
-        ensures makes { (s : State) → ServesFor D.Watched D.Held.bytes self.old s
-            → thing_of s.store name ≡ None → MakesStep D.Held.bytes (D.told self.new.engine.disk) self.new.engine.core self.new.opens.items s
+        ensures makes { (s : State) → ServesFor D.Watched D.Held.bytes self.old s → thing_of s.store name ≡ None
+            → MakesStep D.Held.bytes (D.told self.new.engine.disk) self.new.engine.core self.new.opens.items s
             (begin_as s.store name a_transaction (thing_of s.store name)) result }
         ensures fails { OnlyNoMemory result }
         ensures disk { self.new.engine.disk ≡ self.old.engine.disk }
@@ -37,8 +37,8 @@ impl<D: Disk> Served<D> {
 
     /// Begins a view of this name, which is free.
     pub(super) fn view(&mut self, name: Ident) -> Result<Answer, Halt>
-        ensures makes { (s : State) → ServesFor D.Watched D.Held.bytes self.old s
-            → thing_of s.store name ≡ None → MakesStep D.Held.bytes (D.told self.new.engine.disk) self.new.engine.core self.new.opens.items s
+        ensures makes { (s : State) → ServesFor D.Watched D.Held.bytes self.old s → thing_of s.store name ≡ None
+            → MakesStep D.Held.bytes (D.told self.new.engine.disk) self.new.engine.core self.new.opens.items s
             (begin_as s.store name a_view (thing_of s.store name)) result }
         ensures fails { OnlyNoMemory result }
         ensures disk { self.new.engine.disk ≡ self.old.engine.disk }
