@@ -1,6 +1,6 @@
 -- Lines that change nothing: those whose name is in use, and those that are given no answer before anything was done.
 use Rattle.std.proofs.Common.{◌≡◌, true, ℕ, ◌+◌, List, refl, ap, sym, ◌∙◌, subst, arith}
-use Rattle.std.specs.Prelude.{Option, None, Some, is_some, Result, Ok, Err, IsErr, IfOk, OnOk}
+use Rattle.std.specs.Prelude.{Option, None, Some, is_some, Result, Ok, Err, IsErr, OnOk}
 use Rattle.vl_core.specs.Shown.{Shown}
 use Rattle.vl_core.specs.declared.kept.Core.{Core}
 use Rattle.vl_disk.specs.DiskState.{DiskState}
@@ -29,11 +29,7 @@ use Rattle.vl_replay.proofs.Passes.Used.{taken_line}
 
 -- ---- results
 
-pub if_ok_at_err : {T E : Type 0} (result : Result T E) (P : T → Type 0) → IsErr result → IfOk result P
-if_ok_at_err (Ok x) P err = cc
-if_ok_at_err (Err e) P err = tt
-
-pub on_ok_at_err : {T E : Type 0} (result : Result T E) (P : Type 0) → IsErr result → OnOk result P
+on_ok_at_err : {T E : Type 0} (result : Result T E) (P : Type 0) → IsErr result → OnOk result P
 on_ok_at_err (Ok x) P err = cc
 on_ok_at_err (Err e) P err = tt
 
@@ -72,7 +68,7 @@ none_some : (a : Name) → None ≡ Some a → ⊥
 none_some a e = cc
 
 -- what its step leaves
-by_step : State → Line → Step → State
+abbrev by_step : State → Line → Step → State
 by_step s line x = record {
   store = x.state;
   calls = after_calls x.calls s.calls;
@@ -102,3 +98,12 @@ taken_leaves s line name used = absurd (none_some name used.0)
 
 pub free_name : (s : State) (line : Line) (name : Name) → TellsUsed s line None → name_made line ≡ Some name → thing_of s.store name ≡ None
 free_name s line name free is = free name is
+
+-- ---- by what was told
+
+pub free_line : (s : State) (line : Line) (told : Option Name) → told ≡ None → TellsUsed s line told → TellsUsed s line None
+free_line s line told is tells = subst (TellsUsed s line) is tells
+
+pub used_line : (s : State) (line : Line) (told : Option Name) (name : Name) → told ≡ Some name → TellsUsed s line told
+    → TellsUsed s line (Some name)
+used_line s line told name is tells = subst (TellsUsed s line) is tells

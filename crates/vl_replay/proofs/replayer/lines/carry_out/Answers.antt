@@ -3,7 +3,7 @@ use Rattle.std.proofs.Common.{ap, refl, sym, subst}
 use Rattle.std.specs.Prelude.{Ok, OnOk}
 use Rattle.vl_core.specs.Shown.{Shown}
 use Rattle.vl_layout.specs.Store.Reading.{a_transaction, a_view, answer_of, answer_with_tag}
-use Rattle.vl_layout.specs.Store.Things.{thing_of}
+use Rattle.vl_layout.specs.Store.Things.{Step, thing_of}
 use Rattle.vl_model.specs.Keys.{tagged, untagged}
 use Rattle.vl_model.specs.declared.change.Change.TheVariants as changes
 use Rattle.vl_sequential.specs.Durable.{CarriesOut}
@@ -21,10 +21,11 @@ use Rattle.vl_replay.proofs.Merges.Keeping.{scan_keeps_work, transaction_keeps_w
 use Rattle.vl_replay.proofs.Lines.Moves.{can_moved, merges_answered, move_tells}
 use Rattle.vl_replay.proofs.Lines.Parts.{merging_of, passing_of}
 use Rattle.vl_replay.proofs.Lines.Passed.{bare_no_pass, batch_keeps_merges, install_passes, plan_passes}
-use Rattle.vl_replay.proofs.Lines.Unmoved.{free_name, if_ok_at_err, leaves_carries, on_ok_at_err, taken_leaves, taken_makes, taken_step, unanswered_carries}
+use Rattle.vl_replay.proofs.Lines.Unmoved.{free_line, free_name, leaves_carries, taken_leaves, taken_makes, taken_step}
+use Rattle.vl_replay.proofs.Lines.Unmoved.{unanswered_carries, used_line}
 use Rattle.vl_replay.proofs.Merges.Handing.{can_answered, can_same}
 use Rattle.vl_replay.proofs.Merges.Waiting.{merges_behind, on_ok_of}
-use Rattle.vl_sequential.specs.laws.Halting.{not_by_disk}
+use Rattle.vl_sequential.specs.laws.Halting.{not_by_disk, out_not_by_disk}
 use Rattle.vl_replay.proofs.Names.Halts.{by_the_reader, damage_is_read, no_cause, not_at, not_by_damage, not_by_read}
 use Rattle.vl_replay.proofs.Names.Halts.{not_by_reader, reader_is_read}
 use Rattle.vl_replay.proofs.Passes.Picking.{pick_keeps_merges}
@@ -34,12 +35,48 @@ use Rattle.vl_core.specs.laws.Lasting.{flush_lasts, rotate_lasts}
 use Rattle.vl_replay.specs.Passing.{PassesIn, name_made}
 use Rattle.vl_replay.proofs.replayer.lines.carry_out.Goals as goal
 
+-- ---- a name in use
+
+pub returns-in_err-name-clause-carries : goal.returns-in_err-name-clause-carries
+returns-in_err-name-clause-carries g c s stands =
+    unanswered_carries g.D.Watched (record { only_now = g.met.D.Disk.only_now; counts_now = g.met.D.Disk.counts_now }) s
+    c.args.served.now.engine.disk c.args.line c.from_residual.result c.from_residual.ensures.0
+    (out_not_by_disk c.from_residual.result c.from_residual.ensures.1)
+
+pub returns-in-Some-clause-makes : goal.returns-in-Some-clause-makes
+returns-in-Some-clause-makes g c s stands =
+    taken_makes s c.args.line c.in-Some.name
+    (used_line s c.args.line _ c.in-Some.name c.in-Some.is (c.in_ok-name.ensures s stands))
+    g.D.Held.HeldFile.bytes (g.D.Watched.told c.args.served.now.engine.disk) c.args.served.now.engine.core c.args.served.now.opens.items stands.serves
+
+pub returns-in-Some-clause-merges : goal.returns-in-Some-clause-merges
+returns-in-Some-clause-merges g c s stands =
+    subst (λ (x : Step). MergesIn g.D.Writer.Writer g.D.Held.HeldFile.bytes c.args.served.now.engine.merging c.args.planned.now x.state)
+    (sym (taken_step s c.args.line c.in-Some.name
+    (used_line s c.args.line _ c.in-Some.name c.in-Some.is (c.in_ok-name.ensures s stands))))
+    stands.merges
+
+pub returns-in-Some-clause-passes : goal.returns-in-Some-clause-passes
+returns-in-Some-clause-passes g c s stands =
+    subst (λ (x : Step). PassesIn g.D.Held.HeldFile.bytes c.args.served.now.engine.core c.args.served.now.engine.collecting c.args.passing.now x.state)
+    (sym (taken_step s c.args.line c.in-Some.name
+    (used_line s c.args.line _ c.in-Some.name c.in-Some.is (c.in_ok-name.ensures s stands))))
+    stands.passes
+
+pub returns-in-Some-clause-carries : goal.returns-in-Some-clause-carries
+returns-in-Some-clause-carries g c s stands =
+    leaves_carries g.D.Watched (record { only_now = g.met.D.Disk.only_now; counts_now = g.met.D.Disk.counts_now }) s c.args.served.now.engine.disk
+    (state_after s c.args.line) _ (taken_leaves s c.args.line c.in-Some.name
+    (used_line s c.args.line _ c.in-Some.name c.in-Some.is (c.in_ok-name.ensures s stands)))
+
+-- ---- each line
+
 pub returns-in-Begin-clause-makes : goal.returns-in-Begin-clause-makes
 returns-in-Begin-clause-makes g c s stands =
     subst (λ (line : Line). MakesStep g.D.Held.HeldFile.bytes (g.D.Watched.told c.begin.new.self.engine.disk)
     c.begin.new.self.engine.core
     c.begin.new.self.opens.items s (step_to s line) c.begin.result)
-    (sym c.in-Begin.is) (c.begin.ensures.makes s stands.serves (free_name s c.args.line c.in-Begin.name (USED s stands) (ap name_made c.in-Begin.is)))
+    (sym c.in-Begin.is) (c.begin.ensures.makes s stands.serves (free_name s c.args.line c.in-Begin.name (free_line s c.args.line _ c.in_default.is (c.in_ok-name.ensures s stands)) (ap name_made c.in-Begin.is)))
 
 pub returns-in-Begin-clause-sound : goal.returns-in-Begin-clause-sound
 returns-in-Begin-clause-sound g c s stands halts = absurd (not_by_read c.begin.result c.begin.ensures.fails halts)
@@ -63,7 +100,7 @@ returns-in-Begin-clause-carries g c s stands =
     (g.D.Watched.told c.begin.new.self.engine.disk) c.begin.new.self.engine.core c.begin.new.self.opens.items s
     (step_to s (lines.Begin c.in-Begin.name))
     (begin_keeps s.store c.in-Begin.name a_transaction (thing_of s.store c.in-Begin.name)) c.begin.result
-    (c.begin.ensures.makes s stands.serves (free_name s c.args.line c.in-Begin.name (USED s stands) (ap name_made c.in-Begin.is))) (not_by_disk c.begin.result c.begin.ensures.fails) c.args.served.now.engine.disk
+    (c.begin.ensures.makes s stands.serves (free_name s c.args.line c.in-Begin.name (free_line s c.args.line _ c.in_default.is (c.in_ok-name.ensures s stands)) (ap name_made c.in-Begin.is))) (not_by_disk c.begin.result c.begin.ensures.fails) c.args.served.now.engine.disk
     c.begin.new.self.engine.disk
     c.begin.ensures.disk)
 
@@ -72,7 +109,7 @@ returns-in-View-clause-makes g c s stands =
     subst (λ (line : Line). MakesStep g.D.Held.HeldFile.bytes (g.D.Watched.told c.view.new.self.engine.disk)
     c.view.new.self.engine.core c.view.new.self.opens.items
     s (step_to s line) c.view.result)
-    (sym c.in-View.is) (c.view.ensures.makes s stands.serves (free_name s c.args.line c.in-View.name (USED s stands) (ap name_made c.in-View.is)))
+    (sym c.in-View.is) (c.view.ensures.makes s stands.serves (free_name s c.args.line c.in-View.name (free_line s c.args.line _ c.in_default.is (c.in_ok-name.ensures s stands)) (ap name_made c.in-View.is)))
 
 pub returns-in-View-clause-sound : goal.returns-in-View-clause-sound
 returns-in-View-clause-sound g c s stands halts = absurd (not_by_read c.view.result c.view.ensures.fails halts)
@@ -96,7 +133,7 @@ returns-in-View-clause-carries g c s stands =
     (g.D.Watched.told c.view.new.self.engine.disk) c.view.new.self.engine.core c.view.new.self.opens.items s
     (step_to s (lines.View c.in-View.name)) (begin_keeps
     s.store c.in-View.name a_view (thing_of s.store c.in-View.name)) c.view.result
-    (c.view.ensures.makes s stands.serves (free_name s c.args.line c.in-View.name (USED s stands) (ap name_made c.in-View.is))) (not_by_disk c.view.result c.view.ensures.fails) c.args.served.now.engine.disk
+    (c.view.ensures.makes s stands.serves (free_name s c.args.line c.in-View.name (free_line s c.args.line _ c.in_default.is (c.in_ok-name.ensures s stands)) (ap name_made c.in-View.is))) (not_by_disk c.view.result c.view.ensures.fails) c.args.served.now.engine.disk
     c.view.new.self.engine.disk c.view.ensures.disk)
 
 pub returns-in-Get-clause-makes : goal.returns-in-Get-clause-makes
@@ -740,31 +777,31 @@ returns-in-Drop-clause-merges g c s stands =
 pub returns-in-Plan-clause-makes : goal.returns-in-Plan-clause-makes
 returns-in-Plan-clause-makes g c s stands =
     subst (λ (line : Line). MakesStep g.D.Held.HeldFile.bytes (g.D.Watched.told c.plan.new.served.engine.disk) c.plan.new.served.engine.core
-    c.plan.new.served.opens.items s (step_to s line) c.plan.result) (sym c.in-Plan.is) (c.plan.ensures.makes s (merging_of stands) (free_name s c.args.line c.in-Plan.name (USED s stands) (ap name_made c.in-Plan.is)))
+    c.plan.new.served.opens.items s (step_to s line) c.plan.result) (sym c.in-Plan.is) (c.plan.ensures.makes s (merging_of stands) (free_name s c.args.line c.in-Plan.name (free_line s c.args.line _ c.in_default.is (c.in_ok-name.ensures s stands)) (ap name_made c.in-Plan.is)))
 
 pub returns-in-Plan-clause-merges : goal.returns-in-Plan-clause-merges
 returns-in-Plan-clause-merges g c s stands =
     subst (λ (line : Line). OnOk c.plan.result
     (MergesIn g.D.Writer.Writer g.D.Held.HeldFile.bytes c.plan.new.served.engine.merging c.plan.new.planned
     (step_to s line).state)) (sym c.in-Plan.is)
-    (c.plan.ensures.merges s (merging_of stands) (free_name s c.args.line c.in-Plan.name (USED s stands) (ap name_made c.in-Plan.is)))
+    (c.plan.ensures.merges s (merging_of stands) (free_name s c.args.line c.in-Plan.name (free_line s c.args.line _ c.in_default.is (c.in_ok-name.ensures s stands)) (ap name_made c.in-Plan.is)))
 
 pub returns-in-Plan-clause-carries : goal.returns-in-Plan-clause-carries
 returns-in-Plan-clause-carries g c s stands =
     subst (λ (line : Line). CarriesOut g.D.Watched IsStored Shown IsStopped c.args.served.now.engine.disk
-    c.plan.new.served.engine.disk s (state_after s line) c.plan.result) (sym c.in-Plan.is) (c.plan.ensures.carries s (merging_of stands) (free_name s c.args.line c.in-Plan.name (USED s stands) (ap name_made c.in-Plan.is)))
+    c.plan.new.served.engine.disk s (state_after s line) c.plan.result) (sym c.in-Plan.is) (c.plan.ensures.carries s (merging_of stands) (free_name s c.args.line c.in-Plan.name (free_line s c.args.line _ c.in_default.is (c.in_ok-name.ensures s stands)) (ap name_made c.in-Plan.is)))
 
 pub returns-in-Plan-clause-named : goal.returns-in-Plan-clause-named
 returns-in-Plan-clause-named g c s file stands is =
     subst (λ (line : Line). FailsAt c.args.served.now.engine.core.back.manifest.number line s file) (sym c.in-Plan.is)
-    (c.plan.ensures.named s file (merging_of stands) (free_name s c.args.line c.in-Plan.name (USED s stands) (ap name_made c.in-Plan.is)) is)
+    (c.plan.ensures.named s file (merging_of stands) (free_name s c.args.line c.in-Plan.name (free_line s c.args.line _ c.in_default.is (c.in_ok-name.ensures s stands)) (ap name_made c.in-Plan.is)) is)
 
 pub returns-in-Plan-clause-sound : goal.returns-in-Plan-clause-sound
 returns-in-Plan-clause-sound g c s stands halts =
-    subst (λ (line : Line). ReadsTables line s) (sym c.in-Plan.is) (c.plan.ensures.sound s (merging_of stands) (free_name s c.args.line c.in-Plan.name (USED s stands) (ap name_made c.in-Plan.is)) halts)
+    subst (λ (line : Line). ReadsTables line s) (sym c.in-Plan.is) (c.plan.ensures.sound s (merging_of stands) (free_name s c.args.line c.in-Plan.name (free_line s c.args.line _ c.in_default.is (c.in_ok-name.ensures s stands)) (ap name_made c.in-Plan.is)) halts)
 
 pub returns-in-Plan-clause-undamaged : goal.returns-in-Plan-clause-undamaged
-returns-in-Plan-clause-undamaged g c s stands = c.plan.ensures.undamaged s (merging_of stands) (free_name s c.args.line c.in-Plan.name (USED s stands) (ap name_made c.in-Plan.is))
+returns-in-Plan-clause-undamaged g c s stands = c.plan.ensures.undamaged s (merging_of stands) (free_name s c.args.line c.in-Plan.name (free_line s c.args.line _ c.in_default.is (c.in_ok-name.ensures s stands)) (ap name_made c.in-Plan.is))
 
 pub returns-in-Plan-clause-fault : goal.returns-in-Plan-clause-fault
 returns-in-Plan-clause-fault g c s stands = c.plan.ensures.fault s (merging_of stands)
@@ -806,7 +843,7 @@ returns-in-Plan-clause-passes g c s stands =
     subst (λ (line : Line). OnOk c.plan.result (PassesIn g.D.Held.HeldFile.bytes c.plan.new.served.engine.core c.plan.new.served.engine.collecting c.args.passing.now
     (step_to s line).state)) (sym c.in-Plan.is)
     (on_ok_of c.plan.result _
-    (plan_passes s.store c.in-Plan.name (bare_no_pass _ (free_name s c.args.line c.in-Plan.name (USED s stands) (ap name_made c.in-Plan.is))) g.D.Held.HeldFile.bytes c.args.served.now.engine.core c.plan.new.served.engine.core
+    (plan_passes s.store c.in-Plan.name (bare_no_pass _ (free_name s c.args.line c.in-Plan.name (free_line s c.args.line _ c.in_default.is (c.in_ok-name.ensures s stands)) (ap name_made c.in-Plan.is))) g.D.Held.HeldFile.bytes c.args.served.now.engine.core c.plan.new.served.engine.core
     c.args.served.now.engine.collecting c.plan.new.served.engine.collecting c.args.passing.now c.plan.ensures.logs c.plan.ensures.collecting stands.passes))
 
 pub returns-in-Install-clause-passes : goal.returns-in-Install-clause-passes
@@ -1026,7 +1063,7 @@ pub returns-in-Pick-clause-makes : goal.returns-in-Pick-clause-makes
 returns-in-Pick-clause-makes g c s stands =
     subst (λ (line : Line). MakesStep g.D.Held.HeldFile.bytes (g.D.Watched.told c.pick.new.served.engine.disk) c.pick.new.served.engine.core
     c.pick.new.served.opens.items s (step_to s line) c.pick.result) (sym c.in-Pick.is)
-    (c.pick.ensures.makes s (passing_of stands) (free_name s c.args.line c.in-Pick.name (USED s stands) (ap name_made c.in-Pick.is)))
+    (c.pick.ensures.makes s (passing_of stands) (free_name s c.args.line c.in-Pick.name (free_line s c.args.line _ c.in_default.is (c.in_ok-name.ensures s stands)) (ap name_made c.in-Pick.is)))
 
 pub returns-in-Pick-clause-merges : goal.returns-in-Pick-clause-merges
 returns-in-Pick-clause-merges g c s stands =
@@ -1035,17 +1072,17 @@ returns-in-Pick-clause-merges g c s stands =
     (on_ok_of c.pick.result _
     (merges_behind g.D.Writer.Writer g.D.Held.HeldFile.bytes c.args.served.now.engine.merging c.pick.new.served.engine.merging c.args.planned.now c.args.planned.now
     c.pick.ensures.merging refl s.store (step_to s (lines.Pick c.in-Pick.name c.in-Pick.percent))
-    (pick_keeps_merges s c.in-Pick.name c.in-Pick.percent (free_name s c.args.line c.in-Pick.name (USED s stands) (ap name_made c.in-Pick.is))) stands.merges))
+    (pick_keeps_merges s c.in-Pick.name c.in-Pick.percent (free_name s c.args.line c.in-Pick.name (free_line s c.args.line _ c.in_default.is (c.in_ok-name.ensures s stands)) (ap name_made c.in-Pick.is))) stands.merges))
 
 pub returns-in-Pick-clause-passes : goal.returns-in-Pick-clause-passes
 returns-in-Pick-clause-passes g c s stands =
     subst (λ (line : Line). OnOk c.pick.result (PassesIn g.D.Held.HeldFile.bytes c.pick.new.served.engine.core c.pick.new.served.engine.collecting c.pick.new.passing
-    (step_to s line).state)) (sym c.in-Pick.is) (c.pick.ensures.passes s (passing_of stands) (free_name s c.args.line c.in-Pick.name (USED s stands) (ap name_made c.in-Pick.is)))
+    (step_to s line).state)) (sym c.in-Pick.is) (c.pick.ensures.passes s (passing_of stands) (free_name s c.args.line c.in-Pick.name (free_line s c.args.line _ c.in_default.is (c.in_ok-name.ensures s stands)) (ap name_made c.in-Pick.is)))
 
 pub returns-in-Pick-clause-carries : goal.returns-in-Pick-clause-carries
 returns-in-Pick-clause-carries g c s stands =
     subst (λ (line : Line). CarriesOut g.D.Watched IsStored Shown IsStopped c.args.served.now.engine.disk c.pick.new.served.engine.disk
-    s (state_after s line) c.pick.result) (sym c.in-Pick.is) (c.pick.ensures.carries s (passing_of stands) (free_name s c.args.line c.in-Pick.name (USED s stands) (ap name_made c.in-Pick.is)))
+    s (state_after s line) c.pick.result) (sym c.in-Pick.is) (c.pick.ensures.carries s (passing_of stands) (free_name s c.args.line c.in-Pick.name (free_line s c.args.line _ c.in_default.is (c.in_ok-name.ensures s stands)) (ap name_made c.in-Pick.is)))
 
 pub returns-in-Pick-clause-sound : goal.returns-in-Pick-clause-sound
 returns-in-Pick-clause-sound g c s stands halts =
