@@ -1,5 +1,5 @@
 -- The open pass behind lines of merges, and merges behind one of passes.
-use Rattle.std.proofs.Common.{◌≡◌, ℕ, ◌+◌, ◌++◌, Bool, true, false, cond, List, [], ◌∷◌, length, refl, ap, sym, ◌∙◌, subst}
+use Rattle.std.proofs.Common.{◌≡◌, ℕ, ◌+◌, ◌++◌, Bool, true, false, cond, List, [], ◌∷◌, refl, ap, sym, ◌∙◌}
 use Rattle.std.specs.Prelude.{Option, None, Some, Result, OnOk}
 use Rattle.vl_core.specs.Lasts.{Lasts}
 use Rattle.vl_core.specs.Pointed.{layout_logs}
@@ -9,12 +9,12 @@ use Rattle.vl_engine.specs.Collecting.{Collects}
 use Rattle.vl_engine.specs.declared.open.Collecting.{Collecting}
 use Rattle.vl_layout.specs.Jobs.{Made}
 use Rattle.vl_layout.specs.Levels.{due_from}
-use Rattle.vl_layout.specs.Merging.{kept, outputs}
+use Rattle.vl_layout.specs.Merging.{outputs}
 use Rattle.vl_layout.specs.Relocation.{Candidate, Pass, next_batch}
-use Rattle.vl_layout.specs.Ruling.{Ruling, has_no_number, has_no_version, leaving}
+use Rattle.vl_layout.specs.Ruling.{Ruling, has_no_number, has_no_version}
 use Rattle.vl_layout.specs.Rulings.Fresh as fresh
-use Rattle.vl_layout.specs.Rulings.Fresh.{FreshAnswer, drawn, fresh_ruling, fresh_unless}
-use Rattle.vl_layout.specs.Rulings.Install.{install_checked, install_ruling, install_unless, moved_since, race}
+use Rattle.vl_layout.specs.Rulings.Fresh.{FreshAnswer, fresh_ruling, fresh_unless}
+use Rattle.vl_layout.specs.Rulings.Install.{install_checked, install_unless, moved_since, race}
 use Rattle.vl_layout.specs.Rulings.Plan.{plan_of, plan_ruling, plan_unless}
 use Rattle.vl_layout.specs.Sources.{tables}
 use Rattle.vl_layout.specs.Store.Commits.{history_in}

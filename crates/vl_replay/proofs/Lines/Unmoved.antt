@@ -1,6 +1,6 @@
 -- Lines that change nothing: those whose name is in use, and those that are given no answer before anything was done.
-use Rattle.std.proofs.Common.{◌≡◌, true, ℕ, ◌+◌, List, refl, ap, sym, ◌∙◌, subst, arith}
-use Rattle.std.specs.Prelude.{Option, None, Some, is_some, Result, Ok, Err, IsErr, OnOk}
+use Rattle.std.proofs.Common.{◌≡◌, ℕ, List, refl, ap, sym, ◌∙◌, subst, arith}
+use Rattle.std.specs.Prelude.{Option, None, Some, Result, Ok, Err, IsErr, OnOk}
 use Rattle.vl_core.specs.Shown.{Shown}
 use Rattle.vl_core.specs.declared.kept.Core.{Core}
 use Rattle.vl_disk.specs.DiskState.{DiskState}
@@ -9,7 +9,7 @@ use Rattle.vl_disk.specs.declared.watched.Watched.{Ghosts}
 use Rattle.vl_layout.specs.Store.Lines as store_lines
 use Rattle.vl_layout.specs.Store.Lines.{Name}
 use Rattle.vl_layout.specs.Store.Things.{Step, only, thing_of}
-use Rattle.vl_sequential.specs.Durable.{CarriesOut, HoldsState, LeadsTo}
+use Rattle.vl_sequential.specs.Durable.{CarriesOut, LeadsTo}
 use Rattle.vl_sequential.specs.Halts.{HaltsByDisk}
 use Rattle.vl_sequential.specs.Sequential.{State, files_after, history_of, state_after, step_to}
 use Rattle.vl_sequential.specs.Stored.{IsStopped, IsStored}
@@ -21,7 +21,6 @@ use Rattle.vl_sequential.specs.laws.ShownDisk.{shown_stays, stored_exactly}
 use Rattle.vl_replay.specs.Passing.{TellsUsed, name_made}
 use Rattle.vl_replay.specs.Replaying.{MakesStep, StandsIn}
 use Rattle.vl_replay.specs.declared.replayer.open.Open.{Open}
-use Rattle.vl_script.specs.declared.answer.Answer.{Answer}
 use Rattle.vl_script.specs.declared.answer.Answer.TheVariants as answers
 use Rattle.vl_script.specs.declared.line.Line.{Line}
 use Rattle.vl_script.specs.declared.line.Line.TheVariants as lines
@@ -51,16 +50,17 @@ module _ {D : Type 0} (g : Ghosts D) (watched : IsWatched g) (s : State) (disk :
 
   -- and one that leaves the state as it is
   pub leaves_carries : {T : Type 0} (t : State) (x : T) → t ≡ s → CarriesOut g IsStored Shown IsStopped disk disk s t (Ok x)
-  leaves_carries {T} t x same held = subst (λ (u : State). LeadsTo {T = T} g IsStored Shown IsStopped disk disk s u (Ok x)) (sym same) (record {
-    answered = held;
-    no_commit = λ out. cc;
-    unread = λ halts. absurd halts;
-    unchanged = λ halts _. absurd halts;
-    tells = opens_again g watched IsStored Shown IsStopped shown_stays stored_exactly s disk held;
-    through = rests_until g watched IsStored Shown IsStopped shown_stays stored_exactly s (history_of s)
-        (extends_itself (history_of s)) disk held;
-    stopped = λ halts. absurd halts;
-  })
+  leaves_carries {T} t x same held = subst (λ (u : State). LeadsTo {T = T} g IsStored Shown IsStopped disk disk s u (Ok x))
+      (sym same) (record {
+        answered = held;
+        no_commit = λ out. cc;
+        unread = λ halts. absurd halts;
+        unchanged = λ halts _. absurd halts;
+        tells = opens_again g watched IsStored Shown IsStopped shown_stays stored_exactly s disk held;
+        through = rests_until g watched IsStored Shown IsStopped shown_stays stored_exactly s (history_of s)
+            (extends_itself (history_of s)) disk held;
+        stopped = λ halts. absurd halts;
+      })
 
 -- ---- a line whose name is in use
 
@@ -94,16 +94,12 @@ taken_leaves s (lines.Plan n) name used =
 taken_leaves s (lines.Pick n percent) name used = ap (by_step s (lines.Pick n percent)) (taken_step s (lines.Pick n percent) name used)
 taken_leaves s line name used = absurd (none_some name used.0)
 
--- ---- a line whose name is free
-
-pub free_name : (s : State) (line : Line) (name : Name) → TellsUsed s line None → name_made line ≡ Some name → thing_of s.store name ≡ None
-free_name s line name free is = free name is
-
 -- ---- by what was told
 
-pub free_line : (s : State) (line : Line) (told : Option Name) → told ≡ None → TellsUsed s line told → TellsUsed s line None
-free_line s line told is tells = subst (TellsUsed s line) is tells
+pub free_name : (s : State) (line : Line) {told : Option Name} {name : Name} → told ≡ None → TellsUsed s line told
+    → name_made line ≡ Some name → thing_of s.store name ≡ None
+free_name s line {told} {name} none tells is = subst (TellsUsed s line) none tells name is
 
-pub used_line : (s : State) (line : Line) (told : Option Name) (name : Name) → told ≡ Some name → TellsUsed s line told
+pub used_line : (s : State) (line : Line) {told : Option Name} {name : Name} → told ≡ Some name → TellsUsed s line told
     → TellsUsed s line (Some name)
-used_line s line told name is tells = subst (TellsUsed s line) is tells
+used_line s line {told} {name} is tells = subst (TellsUsed s line) is tells
