@@ -5,6 +5,7 @@ pub mod CarryingLists
 pub mod CarryingRounds
 pub mod CarryingTables
 pub mod Disk
+pub mod Lines
 pub mod Merges
 pub mod Names
 pub mod Openings

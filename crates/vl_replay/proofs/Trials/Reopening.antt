@@ -149,8 +149,8 @@ module _ (image : Image) (h : History) (m : ℕ) (disk : StoppingDisk) (started 
     (again : Reopens image h m) where
   -- where it isn't opened, memory ran out
   pub only_memory : (reason : OpenError)
-      → ((state : DiskState) (read : Image) → memory.ghosts.told disk ≡ Some state → IsRead read state → AnswersBy read (recovery_by reason))
-      → (IsFault (Some reason) → ⊥) → reason ≡ why.NoMemory
+      → ((state : DiskState) (read : Image) → memory.ghosts.told disk ≡ Some state → IsRead read state
+      → AnswersBy read (recovery_by reason)) → (IsFault (Some reason) → ⊥) → reason ≡ why.NoMemory
   only_memory reason answers sound = of reason (answers (state_on disk) image refl (started_read image (state_on disk) started)) sound
     where
       not_refused : (refusal : Refusal) → IsRefused image refusal → ⊥

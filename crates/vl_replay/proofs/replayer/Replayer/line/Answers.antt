@@ -6,8 +6,6 @@ use Rattle.vl_sequential.specs.Durable.{CarriesOut}
 use Rattle.vl_sequential.specs.Sequential.{state_after}
 use Rattle.vl_sequential.specs.Stored.{IsStopped, IsStored}
 use Rattle.vl_script.specs.declared.answer.Answer.{Answer}
-use Rattle.vl_replay.proofs.Merges.Carrying.{whole_leads}
-use Rattle.vl_replay.proofs.Merges.Opened.{opened_planned}
 use Rattle.vl_replay.proofs.Names.Returning.{stands_after}
 use Rattle.vl_replay.proofs.replayer.Replayer.line.Goals as goal
 
@@ -16,6 +14,7 @@ returns-in-Ok-clause-after g c s stands = record {
   serves = stands_after g.D.Held.HeldFile.bytes (g.D.Watched.told c.carry_out.new.served.engine.disk) c.carry_out.new.served.engine.core
       c.carry_out.new.served.opens.items s c.args.line (c.in-Ok.ensures.makes s stands).1;
   merges = c.in-Ok.ensures.merges s stands;
+  passes = c.in-Ok.ensures.passes s stands;
 }
 
 pub returns-in-Err-clause-carries : goal.returns-in-Err-clause-carries

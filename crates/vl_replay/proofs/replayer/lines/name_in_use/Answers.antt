@@ -1,6 +1,6 @@
 -- The name is in use exactly where it stands for something.
-use Rattle.std.proofs.Common.{◌≡◌, ◌∙◌, Bool, true, false, ap, sym, subst}
-use Rattle.std.specs.Prelude.{Option, Some, is_some}
+use Rattle.std.proofs.Common.{◌≡◌, ◌∙◌, ap, sym}
+use Rattle.std.specs.Prelude.{Some}
 use Rattle.vl_layout.specs.Store.Lines.{Name}
 use Rattle.vl_layout.specs.Store.Things.{thing_of}
 use Rattle.vl_sequential.specs.Sequential.{history_of}
