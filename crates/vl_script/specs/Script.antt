@@ -15,7 +15,7 @@ use Rattle.vl_model.specs.Keys.{Row}
 use Rattle.vl_script.specs.Numbers.{number_of}
 use Rattle.vl_script.specs.declared.line.Line.{Line}
 use Rattle.vl_script.specs.declared.line.Line.TheVariants.{Begin, View, Get, Set, SetTagged, GetTagged, GetAt, Scan, Delete, Commit, Drop}
-use Rattle.vl_script.specs.declared.line.Line.TheVariants.{Rotate, Flush, Keep, Plan, Install, Stats, Pick, Batch, Move}
+use Rattle.vl_script.specs.declared.line.Line.TheVariants.{Rotate, Flush, Keep, Plan, Drain, Install, Stats, Pick, Batch, Move}
 use Rattle.vl_script.specs.declared.answer.Answer.{Answer}
 use Rattle.vl_script.specs.declared.answer.Answer.TheVariants.{Done, Number, Found, FoundTagged, NoValue, Dropped, Rows, Taken, Unknown}
 use Rattle.vl_script.specs.declared.answer.Answer.TheVariants.{ReadOnly, Invalid, TooBig, TooMany, Nothing, Conflict}
@@ -91,10 +91,18 @@ abbrev pub keep_of : List (List ℕ) → Option Line
 keep_of (versions ∷ []) = option_map Keep (number_of 255 versions)
 keep_of words = None
 
+-- a name, and a number up to a limit
+abbrev pub ident_and_number : (most : ℕ) → List (List ℕ) → Option (List ℕ × ℕ)
+ident_and_number most (name ∷ number ∷ []) = number_of most number >>= λ n. option_map (λ t. (t, n)) (ident_of name)
+ident_and_number most words = None
+
 -- the words behind pick
 abbrev pub pick_of : List (List ℕ) → Option Line
-pick_of (name ∷ percent ∷ []) = number_of 255 percent >>= λ p. option_map (λ t. Pick t p) (ident_of name)
-pick_of words = None
+pick_of words = option_map (λ w. Pick w.0 w.1) (ident_and_number 255 words)
+
+-- the words behind drain, with a log's number that may be any of 32 bits
+abbrev pub drain_of : List (List ℕ) → Option Line
+drain_of words = option_map (λ w. Drain w.0 w.1) (ident_and_number 4294967295 words)
 
 -- a name and two strings of bytes
 abbrev pub ident_and_two : (name first second : List ℕ) → Option (List ℕ × List ℕ × List ℕ)
@@ -139,12 +147,13 @@ line_of_words (command ∷ words) =
     else (if bytes_eq command (codes "flush") then alone Flush words
     else (if bytes_eq command (codes "keep") then keep_of words
     else (if bytes_eq command (codes "plan") then option_map Plan (ident_alone words)
+    else (if bytes_eq command (codes "drain") then drain_of words
     else (if bytes_eq command (codes "install") then option_map Install (ident_alone words)
     else (if bytes_eq command (codes "stats") then alone Stats words
     else (if bytes_eq command (codes "pick") then pick_of words
     else (if bytes_eq command (codes "batch") then option_map Batch (ident_alone words)
     else (if bytes_eq command (codes "move") then option_map Move (ident_alone words)
-    else None))))))))))))))))))))
+    else None)))))))))))))))))))))
 
 -- the line that these bytes are, without the line's end
 abbrev pub line_of : List ℕ → Option Line

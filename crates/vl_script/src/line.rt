@@ -73,6 +73,11 @@ pub enum Line {
     Plan {
         name: Ident,
     },
+    /// `drain J S`: merges the first table that leads into log S, alone, into files beside it.
+    Drain {
+        name: Ident,
+        segment: u32,
+    },
     /// `install J`: puts a merge's tables into the place of those that it merged.
     Install {
         name: Ident,
