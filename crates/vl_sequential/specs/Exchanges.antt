@@ -18,7 +18,7 @@ use Rattle.vl_sequential.specs.Sequential.{State, answer_text, answer_to, histor
 use Rattle.vl_script.specs.Script.{line_of}
 use Rattle.vl_script.specs.declared.line.Line.{Line}
 use Rattle.vl_script.specs.declared.line.Line.TheVariants.{Begin, View, Get, Set, SetTagged, GetTagged, Scan, Delete}
-use Rattle.vl_script.specs.declared.line.Line.TheVariants.{Commit, Drop, Rotate, Flush, Keep, GetAt, Plan, Install}
+use Rattle.vl_script.specs.declared.line.Line.TheVariants.{Commit, Drop, Rotate, Flush, Keep, GetAt, Plan, Drain, Install}
 use Rattle.vl_script.specs.declared.line.Line.TheVariants.{Stats, Pick, Batch, Move}
 
 -- a line with its answer, and the states before and after it
@@ -132,6 +132,7 @@ IsExplainedExchange Rotate e = Unit {0}
 IsExplainedExchange Flush e = Unit {0}
 IsExplainedExchange (Keep versions) e = Unit {0}
 IsExplainedExchange (Plan name) e = Unit {0}
+IsExplainedExchange (Drain name segment) e = Unit {0}
 IsExplainedExchange (Install name) e = Unit {0}
 IsExplainedExchange Stats e = Unit {0}
 IsExplainedExchange (Pick name percent) e = Unit {0}

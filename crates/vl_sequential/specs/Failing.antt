@@ -39,6 +39,7 @@ ReadsTables lines.Flush s = ⊥
 ReadsTables (lines.Keep versions) s = ⊥
 ReadsTables (lines.GetAt name key number) s = HasTables s
 ReadsTables (lines.Plan name) s = HasTables s
+ReadsTables (lines.Drain name segment) s = HasTables s
 ReadsTables (lines.Install name) s = ⊥
 ReadsTables lines.Stats s = ⊥
 ReadsTables (lines.Pick name percent) s = ⊥
@@ -75,7 +76,7 @@ IsTableOf thing file = (job : Job) × (made : Made) × (n : ℕ) × (thing ≡ S
 
 -- The files at which the disk may fail a line: for a commit or a move the log that takes them; for a rotation that or the next one;
 -- for a flush the table that it makes, or the manifest, which has this number; and for a change of how many versions are kept the
--- manifest. For a merge's plan a table that it makes; and for its install one of its tables, or the manifest.
+-- manifest. For a plan or a drain a table that its merge makes; and for an install one of its merge's tables, or the manifest.
 abbrev pub FailsAt : (manifest : ℕ) → Line → State → Name → Type 0
 FailsAt manifest (lines.Begin name) s file = ⊥
 FailsAt manifest (lines.View name) s file = ⊥
@@ -93,6 +94,8 @@ FailsAt manifest (lines.Keep versions) s file = file ≡ Manifest manifest
 FailsAt manifest (lines.GetAt name key number) s file = ⊥
 FailsAt manifest (lines.Plan name) s file = IsTableBetween s.store.layout.next_table
     (state_after s (lines.Plan name)).store.layout.next_table file
+FailsAt manifest (lines.Drain name segment) s file = IsTableBetween s.store.layout.next_table
+    (state_after s (lines.Drain name segment)).store.layout.next_table file
 FailsAt manifest (lines.Install name) s file = IsTableOf (thing_of s.store name) file ⊎ (file ≡ Manifest manifest)
 FailsAt manifest lines.Stats s file = ⊥
 FailsAt manifest (lines.Pick name percent) s file = ⊥

@@ -46,6 +46,7 @@ asked lines.Rotate = store.Rotate
 asked lines.Flush = store.Flush
 asked (lines.Keep versions) = store.Keep versions
 asked (lines.Plan name) = store.Plan name
+asked (lines.Drain name segment) = store.Drain name segment
 asked (lines.Install name) = store.Install name
 asked (lines.GetAt name key number) = store.GetAt name key number
 asked lines.Stats = store.Stats
@@ -63,6 +64,7 @@ counted answer = answer
 -- a merge is told how many entries it kept, which are counted; each other number is one that its type has
 abbrev pub answer_for : Line → store.Answer → store.Answer
 answer_for (lines.Plan name) answer = counted answer
+answer_for (lines.Drain name segment) answer = counted answer
 answer_for line answer = answer
 
 abbrev pub step_to : State → Line → Step
@@ -82,6 +84,7 @@ abbrev pub files_after : Line → Step → ℕ → ℕ
 files_after lines.Rotate x files = files_behind x.answer files
 files_after lines.Flush x files = files_behind x.answer files
 files_after (lines.Plan name) x files = files + x.calls
+files_after (lines.Drain name segment) x files = files + x.calls
 files_after line x files = files
 
 abbrev pub state_after : State → Line → State

@@ -7,13 +7,12 @@ use Rattle.std.specs.Str.{bytes_eq}
 use Rattle.vl_model.specs.declared.way.Way.{Way}
 use Rattle.vl_model.specs.declared.way.Way.TheVariants.{Up, Down}
 use Rattle.vl_sequential.specs.Asking.{AsksForRow}
-use Rattle.vl_script.specs.Script.{◌>>=◌, alone, get_at_of, ident_alone, ident_and_key, ident_and_two, keep_of}
-use Rattle.vl_script.specs.Script.{ident_of, line_of, line_of_words, longest_line, named_key, pick_of, scan_of, set_of, with_number}
-use Rattle.vl_script.specs.Script.{words_of}
+use Rattle.vl_script.specs.Script.{◌>>=◌, alone, get_at_of, ident_alone, ident_and_key, ident_and_number, ident_and_two, keep_of}
+use Rattle.vl_script.specs.Script.{line_of, line_of_words, longest_line, named_key, scan_of, set_of, with_number, words_of}
 use Rattle.vl_script.specs.Numbers.{number_of}
 use Rattle.vl_script.specs.declared.line.Line.{Line}
 use Rattle.vl_script.specs.declared.line.Line.TheVariants.{Begin, View, Get, Set, SetTagged, GetTagged, GetAt, Scan}
-use Rattle.vl_script.specs.declared.line.Line.TheVariants.{Delete, Commit, Drop, Rotate, Flush, Keep, Plan, Install}
+use Rattle.vl_script.specs.declared.line.Line.TheVariants.{Delete, Commit, Drop, Rotate, Flush, Keep, Plan, Drain, Install}
 use Rattle.vl_script.specs.declared.line.Line.TheVariants.{Stats, Pick, Batch, Move}
 
 -- the line asks for one, where there is a line
@@ -73,13 +72,6 @@ keeps [] = none
 keeps (versions ∷ []) = mapped (number_of 255 versions) Keep (λ v. tt)
 keeps (versions ∷ other ∷ words) = none
 
-picks : (words : List (List ℕ)) → Asks (pick_of words)
-picks [] = none
-picks (name ∷ []) = none
-picks (name ∷ percent ∷ []) = bound (number_of 255 percent) (λ p. option_map (λ t. Pick t p) (ident_of name))
-    (λ p. mapped (ident_of name) (λ t. Pick t p) (λ t. tt))
-picks (name ∷ percent ∷ other ∷ words) = none
-
 alones : (line : Line) → AsksForRow line → (words : List (List ℕ)) → Asks (alone line words)
 alones line asks [] = one line asks
 alones line asks (word ∷ words) = none
@@ -103,11 +95,12 @@ asks_in (command ∷ words) =
     (either (bytes_eq command (codes "flush")) _ _ (alones Flush tt words)
     (either (bytes_eq command (codes "keep")) _ _ (keeps words)
     (either (bytes_eq command (codes "plan")) _ _ (mapped (ident_alone words) Plan (λ w. tt))
+    (either (bytes_eq command (codes "drain")) _ _ (mapped (ident_and_number 4294967295 words) (λ w. Drain w.0 w.1) (λ w. tt))
     (either (bytes_eq command (codes "install")) _ _ (mapped (ident_alone words) Install (λ w. tt))
     (either (bytes_eq command (codes "stats")) _ _ (alones Stats tt words)
-    (either (bytes_eq command (codes "pick")) _ _ (picks words)
+    (either (bytes_eq command (codes "pick")) _ _ (mapped (ident_and_number 255 words) (λ w. Pick w.0 w.1) (λ w. tt))
     (either (bytes_eq command (codes "batch")) _ _ (mapped (ident_alone words) Batch (λ w. tt))
-    (either (bytes_eq command (codes "move")) _ _ (mapped (ident_alone words) Move (λ w. tt)) none))))))))))))))))))))
+    (either (bytes_eq command (codes "move")) _ _ (mapped (ident_alone words) Move (λ w. tt)) none)))))))))))))))))))))
 
 pub line_asks : (text : List ℕ) (line : Line) → line_of text ≡ Some line → AsksForRow line
 line_asks text line is =

@@ -3,6 +3,7 @@ use Rattle.std.proofs.Common.{◌≡◌, ◌⊎◌, inl, inr, ℕ, List, [], ◌
 use Rattle.std.specs.Prelude.{Option, None, Some, codes}
 use Rattle.std.specs.FinMap.{from_sorted}
 use Rattle.std.specs.List.{flat_map}
+use Rattle.vl_layout.specs.Rulings.Drain.{drain_ruling}
 use Rattle.vl_layout.specs.Rulings.Plan.{plan_ruling}
 use Rattle.vl_layout.specs.Store.Commits.{Changes, history_in, with_changes}
 use Rattle.vl_layout.specs.Store.Dispatch.{drop_by}
@@ -25,7 +26,7 @@ use Rattle.vl_script.specs.declared.answer.Answer.{Answer}
 use Rattle.vl_script.specs.declared.answer.Answer.TheVariants as answers
 use Rattle.vl_script.specs.declared.line.Line.{Line}
 use Rattle.vl_script.specs.declared.line.Line.TheVariants.{Begin, View, Get, Set, SetTagged, GetTagged, GetAt, Scan}
-use Rattle.vl_script.specs.declared.line.Line.TheVariants.{Delete, Commit, Drop, Rotate, Flush, Keep, Plan, Install}
+use Rattle.vl_script.specs.declared.line.Line.TheVariants.{Delete, Commit, Drop, Rotate, Flush, Keep, Plan, Drain, Install}
 use Rattle.vl_script.specs.declared.line.Line.TheVariants.{Stats, Pick, Batch, Move}
 use Rattle.vl_sequential.specs.laws.Betweens.{extends_itself}
 
@@ -59,6 +60,8 @@ line_adds s Rotate = inl refl
 line_adds s Flush = inl refl
 line_adds s (Keep versions) = inl refl
 line_adds s (Plan name) = inl (plan_commits s.store name (plan_ruling s.store.layout (history_of s)) (thing_of s.store name))
+line_adds s (Drain name segment) =
+    inl (plan_commits s.store name (drain_ruling s.store.layout (history_of s) segment) (thing_of s.store name))
 line_adds s (Install name) = inl (install_commits s.store name (thing_of s.store name))
 line_adds s Stats = inl refl
 line_adds s (Pick name percent) = inl (pick_commits s.store name percent (thing_of s.store name))

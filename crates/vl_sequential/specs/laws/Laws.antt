@@ -6,6 +6,7 @@ use Rattle.std.specs.Prelude.{Option, Some, None, ◌==◌}
 use Rattle.std.specs.List.{AllByRecursion}
 use Rattle.std.specs.Option.{option_map}
 use Rattle.vl_layout.specs.Rulings.Commit.{Transaction}
+use Rattle.vl_layout.specs.Rulings.Drain.{drain_ruling}
 use Rattle.vl_layout.specs.Rulings.Plan.{plan_ruling}
 use Rattle.vl_layout.specs.AtAnswer.{Beginning}
 use Rattle.vl_layout.specs.Store.Commits.{Commits, history_in}
@@ -26,11 +27,12 @@ use Rattle.vl_sequential.specs.laws.Explained.{batch_stays, commit_stays, drop_s
 use Rattle.vl_sequential.specs.laws.Explained.{get_stays, install_stays, later_things, move_stays, pick_stays, plan_stays, scan_explained}
 use Rattle.vl_sequential.specs.laws.Explained.{scan_stays, transaction_stays, view_stays, write_stays}
 use Rattle.vl_sequential.specs.laws.Growing.{Adds, Keeps, batch_keeps, begin_keeps, commit_or, drop_or, get_at_keeps, get_keeps}
-use Rattle.vl_sequential.specs.laws.Growing.{install_commits, move_commits, pick_commits, plan_commits, scan_keeps, stats_keeps, write_keeps}
+use Rattle.vl_sequential.specs.laws.Growing.{install_commits, move_commits, pick_commits, plan_commits, scan_keeps, stats_keeps}
+use Rattle.vl_sequential.specs.laws.Growing.{write_keeps}
 use Rattle.vl_script.specs.Script.{line_of}
 use Rattle.vl_script.specs.declared.line.Line.{Line}
 use Rattle.vl_script.specs.declared.line.Line.TheVariants.{Begin, View, Get, Set, SetTagged, GetTagged, Scan, Delete}
-use Rattle.vl_script.specs.declared.line.Line.TheVariants.{Commit, Drop, Rotate, Flush, Keep, GetAt, Plan, Install}
+use Rattle.vl_script.specs.declared.line.Line.TheVariants.{Commit, Drop, Rotate, Flush, Keep, GetAt, Plan, Drain, Install}
 use Rattle.vl_script.specs.declared.line.Line.TheVariants.{Stats, Pick, Batch, Move}
 
 -- ---- what a line leaves
@@ -61,6 +63,7 @@ IsStepLine Rotate = Unit {0}
 IsStepLine Flush = Unit {0}
 IsStepLine (Keep versions) = Unit {0}
 IsStepLine (Plan name) = Unit {0}
+IsStepLine (Drain name segment) = Unit {0}
 IsStepLine (Install name) = Unit {0}
 IsStepLine Stats = ⊥
 IsStepLine (Pick name percent) = Unit {0}
@@ -97,6 +100,11 @@ keeps_or s (Keep versions) sound = inr (inr (record { is = tt; commits = refl; e
 keeps_or s (Plan name) sound = inr (inr (record {
   is = tt;
   commits = plan_commits s.store name (plan_ruling s.store.layout (history_of s)) (thing_of s.store name);
+  ended = λ other same. absurd cc;
+}))
+keeps_or s (Drain name segment) sound = inr (inr (record {
+  is = tt;
+  commits = plan_commits s.store name (drain_ruling s.store.layout (history_of s) segment) (thing_of s.store name);
   ended = λ other same. absurd cc;
 }))
 keeps_or s (Install name) sound = inr (inr (record {
@@ -176,6 +184,10 @@ state_after-sound s (Plan name) sound =
     stays_sound s (Plan name) sound
     (let stay = plan_stays s.store sound name (plan_ruling s.store.layout (history_of s)) (thing_of s.store name) in
     record { commits = stay.commits; things = stay.things })
+state_after-sound s (Drain name segment) sound =
+    stays_sound s (Drain name segment) sound
+    (let stay = plan_stays s.store sound name (drain_ruling s.store.layout (history_of s) segment) (thing_of s.store name) in
+    record { commits = stay.commits; things = stay.things })
 state_after-sound s (Install name) sound = stays_sound s (Install name) sound (install_stays s.store sound name (thing_of s.store name))
 state_after-sound s (GetAt name key number) sound =
     stays_sound s (GetAt name key number) sound (get_at_stays s.store sound name key number (thing_of s.store name))
@@ -213,6 +225,7 @@ exchange_explained stay s Rotate sound = tt
 exchange_explained stay s Flush sound = tt
 exchange_explained stay s (Keep versions) sound = tt
 exchange_explained stay s (Plan name) sound = tt
+exchange_explained stay s (Drain name segment) sound = tt
 exchange_explained stay s (Install name) sound = tt
 exchange_explained stay s Stats sound = tt
 exchange_explained stay s (Pick name percent) sound = tt

@@ -4,8 +4,9 @@ use Rattle.std.proofs.Common.{◌≡◌, inl, inr, ℕ, ◌+◌, Bool, true, fal
 use Rattle.std.specs.List.{filter}
 use Rattle.std.specs.Prelude.{◌==◌, ◌||◌, nat_lt, Option, None, Some}
 use Rattle.vl_layout.specs.Jobs.{Made, job_ended, loose}
-use Rattle.vl_layout.specs.Levels.{due_from}
+use Rattle.vl_layout.specs.Levels.{due_from, first_into}
 use Rattle.vl_layout.specs.Merging.{outputs}
+use Rattle.vl_layout.specs.Rulings.Drain.{drain_of, drain_ruling, drain_unless}
 use Rattle.vl_layout.specs.Rulings.Fresh as fresh
 use Rattle.vl_layout.specs.Rulings.Fresh.{FreshAnswer, drawn, fresh_ruling, fresh_unless}
 use Rattle.vl_layout.specs.Rulings.Install as install
@@ -18,7 +19,7 @@ use Rattle.vl_layout.specs.Rulings.Flush.{flush_of, flush_unless, flushed}
 use Rattle.vl_layout.specs.Rulings.Rotate.{rotate_of, rotate_unless, rotated}
 use Rattle.vl_layout.specs.Rulings.Keep as keep
 use Rattle.vl_layout.specs.Rulings.Keep.{KeepAnswer, keep_unless}
-use Rattle.vl_layout.specs.Sources.{numbers_of, oldest}
+use Rattle.vl_layout.specs.Sources.{numbers_of, oldest, tables}
 use Rattle.vl_layout.specs.Store.Commits.{history_in}
 use Rattle.vl_layout.specs.Store.Dispatch.{fill, filled, install_by, install_told, keep_told, made_of, move_by, moved_by}
 use Rattle.vl_layout.specs.Store.Dispatch.{pick_as, picked_by, plan_as, planned_by, step_told}
@@ -37,6 +38,7 @@ use Rattle.vl_layout.specs.declared.job.OpenJob.{OpenJob}
 use Rattle.vl_layout.specs.declared.file_name.FileName.{FileName}
 use Rattle.vl_layout.specs.declared.layout.Layout.{Layout}
 use Rattle.vl_layout.specs.declared.segment.Segment.{Segment}
+use Rattle.vl_layout.specs.declared.table.Table.{Table}
 use Rattle.vl_model.specs.History.{History}
 use Rattle.vl_model.specs.declared.counter.Counter.TheVariants as counter
 use Rattle.vl_model.specs.declared.log_frame.LogFrame.{LogFrame}
@@ -45,7 +47,7 @@ use Rattle.vl_sequential.specs.Sequential.{State, answer_to, counted, history_of
 use Rattle.vl_sequential.specs.laws.Laws.{IsSound, Stepping, keeps_or}
 use Rattle.vl_script.specs.declared.line.Line.{Line}
 use Rattle.vl_script.specs.declared.line.Line.TheVariants.{Begin, View, Get, Set, SetTagged, GetTagged, GetAt, Scan}
-use Rattle.vl_script.specs.declared.line.Line.TheVariants.{Delete, Commit, Drop, Rotate, Flush, Keep, Plan, Install}
+use Rattle.vl_script.specs.declared.line.Line.TheVariants.{Delete, Commit, Drop, Rotate, Flush, Keep, Plan, Drain, Install}
 use Rattle.vl_script.specs.declared.line.Line.TheVariants.{Stats, Pick, Batch, Move}
 
 -- the ruling on a step leaves the layout unless it is answered by a number
@@ -154,24 +156,41 @@ module _ (s : things.State) where
       filled_stays l (made_of job numbers) calls _ (fresh_ruling l h).answer none
       (λ none. fill_stays output name job (fresh_ruling l h).layout (numbers ++ l.next_table ∷ []) (calls + 1) none ∙ fresh_stays l h)
 
-  plan_layout : (due : Option ℕ) → without_merges (plan_of s.layout (history_in s.commits) due).layout ≡ without_merges s.layout
-  plan_layout None = refl
-  plan_layout (Some level) = refl
+  -- a ruling on which tables are merged
+  abbrev Begins : Ruling (Option Job) → Type 0
+  Begins r = without_merges r.layout ≡ without_merges s.layout
 
-  planned_layout : (o : Option OpenJob) → without_merges (plan_unless o s.layout (history_in s.commits)).layout ≡ without_merges s.layout
-  planned_layout (Some job) = refl
-  planned_layout None = plan_layout (due_from 0 s.layout.levels)
+  plan_begins : Begins (plan_ruling s.layout (history_in s.commits))
+  plan_begins = of s.layout.job
+    where
+      by : (due : Option ℕ) → Begins (plan_of s.layout (history_in s.commits) due)
+      by None = refl
+      by (Some level) = refl
 
-  planned_stays : (name : Name) (o : Option Job) → let r = plan_ruling s.layout (history_in s.commits) in
-      NoNumber (planned_by s name r o) → Same s.layout (planned_by s name r o)
-  planned_stays name None none = refl
-  planned_stays name (Some job) none =
-      fill_stays (outputs job) name job (plan_ruling s.layout (history_in s.commits)).layout [] 0 none ∙ planned_layout s.layout.job
+      of : (open_one : Option OpenJob) → Begins (plan_unless open_one s.layout (history_in s.commits))
+      of (Some job) = refl
+      of None = by (due_from 0 s.layout.levels)
 
-  plan_stays : (name : Name) (o : Option Thing) → let r = plan_ruling s.layout (history_in s.commits) in
-      NoNumber (plan_as s name r o) → Same s.layout (plan_as s name r o)
-  plan_stays name None none = planned_stays name (plan_ruling s.layout (history_in s.commits)).answer none
-  plan_stays name (Some thing) none = refl
+  drain_begins : (segment : ℕ) → Begins (drain_ruling s.layout (history_in s.commits) segment)
+  drain_begins segment = of s.layout.job
+    where
+      by : (first : Option Table) → Begins (drain_of s.layout (history_in s.commits) first)
+      by None = refl
+      by (Some t) = refl
+
+      of : (open_one : Option OpenJob) → Begins (drain_unless open_one s.layout (history_in s.commits) segment)
+      of (Some job) = refl
+      of None = by (first_into segment (tables s.layout))
+
+  planned_stays : (name : Name) (r : Ruling (Option Job)) (o : Option Job) → Begins r
+      → NoNumber (planned_by s name r o) → Same s.layout (planned_by s name r o)
+  planned_stays name r None begins none = refl
+  planned_stays name r (Some job) begins none = fill_stays (outputs job) name job r.layout [] 0 none ∙ begins
+
+  plan_stays : (name : Name) (r : Ruling (Option Job)) (o : Option Thing) → Begins r
+      → NoNumber (plan_as s name r o) → Same s.layout (plan_as s name r o)
+  plan_stays name r None begins none = planned_stays name r r.answer begins none
+  plan_stays name r (Some thing) begins none = refl
 
   abbrev Ends : Ruling InstallAnswer → Type 0
   Ends r = (install_told r.answer ≡ store.Done → ⊥) → without_merges r.layout ≡ without_merges s.layout
@@ -240,7 +259,8 @@ module _ (s : things.State) where
       let r = relocate_ruling s.layout (history_in s.commits) pass batch in moved_stays name pass r r.answer none
 
 pub layout_stays : (s : State) (line : Line) → IsSound s → ((n : ℕ) → answer_to s line ≡ store.Number n → ⊥)
-    → (answer_to s line ≡ store.Done → ⊥) → ((n : ℕ) → answer_to s line ≡ store.Moved n → ⊥) → without_merges (state_after s line).store.layout ≡ without_merges s.store.layout
+    → (answer_to s line ≡ store.Done → ⊥) → ((n : ℕ) → answer_to s line ≡ store.Moved n → ⊥)
+    → without_merges (state_after s line).store.layout ≡ without_merges s.store.layout
 layout_stays s line sound none undone unmoved = elim (keeps_or s line sound) [
   | inl keeps ↦ ap without_merges keeps.layout
   | inr (inl (t, b, name, is, thing, adds)) ↦ absurd (none _ adds.answer)
@@ -270,7 +290,10 @@ layout_stays s line sound none undone unmoved = elim (keeps_or s line sound) [
     of_step Rotate steps = λ none undone unmoved. ap without_merges ((rotate_stays l (history_of s) l.halted).stays none)
     of_step Flush steps = λ none undone unmoved. ap without_merges ((flush_stays l (history_of s) l.halted).stays none)
     of_step (Keep versions) steps = λ none undone unmoved. ap without_merges ((keep_stays l (history_of s) versions l.halted).stays undone)
-    of_step (Plan name) steps = λ none undone unmoved. plan_stays s.store name (thing_of s.store name) (λ n is. none _ (ap counted is))
+    of_step (Plan name) steps = λ none undone unmoved. plan_stays s.store name (plan_ruling l (history_of s)) (thing_of s.store name)
+        (plan_begins s.store) (λ n is. none _ (ap counted is))
+    of_step (Drain name segment) steps = λ none undone unmoved. plan_stays s.store name (drain_ruling l (history_of s) segment)
+        (thing_of s.store name) (drain_begins s.store segment) (λ n is. none _ (ap counted is))
     of_step (Install name) steps = λ none undone unmoved. install_stays s.store name (thing_of s.store name) undone
     of_step Stats steps = absurd steps.is
     of_step (Pick name percent) steps = λ none undone unmoved. ap without_merges

@@ -222,6 +222,9 @@ module _ (stop : ℕ) (small : stop < 2 ^ 64 - 1) where
   few_after s (lines.Keep versions) few within passes = few_kept s.files s.calls (step_to s (lines.Keep versions)).calls few within
   few_after s (lines.Plan name) few within passes =
       few_more s.files s.calls (step_to s (lines.Plan name)).calls (step_to s (lines.Plan name)).calls (omega arith) few within passes
+  few_after s (lines.Drain name segment) few within passes =
+      let made = (step_to s (lines.Drain name segment)).calls in
+      few_more s.files s.calls made made (omega arith) few within passes
   few_after s (lines.Install name) few within passes = few_kept s.files s.calls (step_to s (lines.Install name)).calls few within
   few_after s (lines.GetAt name key number) few within passes =
       few_kept s.files s.calls (step_to s (lines.GetAt name key number)).calls few within
