@@ -1,3 +1,4 @@
+pub mod Choosing
 pub mod Drawn
 pub mod Handed
 pub mod Opened

@@ -36,6 +36,7 @@ abbrev pub name_made : Line → Option Name
 name_made (lines.Begin name) = Some name
 name_made (lines.View name) = Some name
 name_made (lines.Plan name) = Some name
+name_made (lines.Drain name segment) = Some name
 name_made (lines.Pick name percent) = Some name
 name_made line = None
 

@@ -139,7 +139,7 @@ TakesLines replayer = replayer.halted ≡ None
 abbrev pub state_by : State → Step → State
 state_by s x = record s { store = x.state; calls = after_calls x.calls s.calls }
 
--- so it is with a merge's plan, which makes a file by each of its calls
+-- so it is with a line that plans a merge, which makes a file by each of its calls
 abbrev pub state_by_plan : State → Step → State
 state_by_plan s x = record (state_by s x) { files = s.files + x.calls }
 

@@ -2,6 +2,7 @@
 ghost use Rattle.vl_replay.specs.Handed.{CanHandIn};
 
 mod beginning;
+pub mod choice;
 mod collecting;
 mod committing;
 mod dropping;

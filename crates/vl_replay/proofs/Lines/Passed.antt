@@ -8,14 +8,15 @@ use Rattle.vl_core.specs.laws.Lasting.{install_lasts, lasts_same}
 use Rattle.vl_engine.specs.Collecting.{Collects}
 use Rattle.vl_engine.specs.declared.open.Collecting.{Collecting}
 use Rattle.vl_layout.specs.Jobs.{Made}
-use Rattle.vl_layout.specs.Levels.{due_from}
+use Rattle.vl_layout.specs.Levels.{due_from, first_into}
 use Rattle.vl_layout.specs.Merging.{outputs}
 use Rattle.vl_layout.specs.Relocation.{Candidate, Pass, next_batch}
 use Rattle.vl_layout.specs.Ruling.{Ruling, has_no_number, has_no_version}
+use Rattle.vl_layout.specs.Rulings.Drain.{drain_of, drain_unless}
 use Rattle.vl_layout.specs.Rulings.Fresh as fresh
 use Rattle.vl_layout.specs.Rulings.Fresh.{FreshAnswer, fresh_ruling, fresh_unless}
 use Rattle.vl_layout.specs.Rulings.Install.{install_checked, install_unless, moved_since, race}
-use Rattle.vl_layout.specs.Rulings.Plan.{plan_of, plan_ruling, plan_unless}
+use Rattle.vl_layout.specs.Rulings.Plan.{plan_of, plan_unless}
 use Rattle.vl_layout.specs.Sources.{tables}
 use Rattle.vl_layout.specs.Store.Commits.{history_in}
 use Rattle.vl_layout.specs.Store.Dispatch.{batch_by, fill, filled, found_by, install_by, made_of, plan_as, planned_by}
@@ -35,7 +36,10 @@ use Rattle.vl_model.specs.History.{History}
 use Rattle.vl_model.specs.declared.entry.Entry.{Entry}
 use Rattle.vl_seglog.specs.declared.sealed.SealedLog.{SealedLog}
 use Rattle.vl_version.specs.declared.base.Base.{Base}
+use Rattle.vl_replay.specs.Choosing.{chosen}
 use Rattle.vl_replay.specs.Passing.{Passes}
+use Rattle.vl_replay.specs.declared.replayer.choice.Choice.{Choice}
+use Rattle.vl_replay.specs.declared.replayer.choice.Choice.TheVariants.{Due, LeadsInto}
 use Rattle.vl_replay.specs.declared.replayer.passing.Passing.{Passing}
 use Rattle.vl_sequential.specs.declared.fails.Halt.{Halt}
 use Rattle.vl_script.specs.declared.answer.Answer.{Answer as ScriptAnswer}
@@ -44,7 +48,7 @@ use Rattle.vl_replay.proofs.Passes.Named.{IsNoPass, jobs_beside, pass_no_job, pa
 use Rattle.vl_replay.proofs.Passes.Standing.{collects_with, passes_on}
 use Rattle.vl_replay.proofs.Passes.Stepping.{passes_stepped}
 
--- ---- what a plan leaves
+-- ---- what a plan or a drain leaves
 
 abbrev Rest : Type 0
 Rest = Option OpenPass × ℕ × List Segment × List Segment × List (List Table)
@@ -69,6 +73,18 @@ due_rest l h (Some level) = refl
 plan_rest : (l : Layout) (h : History) (o : Option OpenJob) → rest_of (plan_unless o l h).layout ≡ rest_of l
 plan_rest l h (Some job) = refl
 plan_rest l h None = due_rest l h (due_from 0 l.levels)
+
+first_rest : (l : Layout) (h : History) (o : Option Table) → rest_of (drain_of l h o).layout ≡ rest_of l
+first_rest l h None = refl
+first_rest l h (Some t) = refl
+
+drain_rest : (l : Layout) (h : History) (segment : ℕ) (o : Option OpenJob) → rest_of (drain_unless o l h segment).layout ≡ rest_of l
+drain_rest l h segment (Some job) = refl
+drain_rest l h segment None = first_rest l h (first_into segment (tables l))
+
+chosen_rest : (choice : Choice) (l : Layout) (h : History) → rest_of (chosen choice l h).layout ≡ rest_of l
+chosen_rest Due l h = plan_rest l h l.job
+chosen_rest (LeadsInto segment) l h = drain_rest l h segment l.job
 
 module _ (s : things.State) (name : Name) (free : IsNoPass (thing_of s name)) where
   -- a step leaves these, and names of passes
@@ -104,11 +120,11 @@ module _ (s : things.State) (name : Name) (free : IsNoPass (thing_of s name)) wh
   planned_leaves r None rest = only_leaves _
   planned_leaves r (Some job) rest = fill_leaves (outputs job) job r.layout [] 0 rest
 
-  plan_leaves : (o : Option Thing) → LeavesRest (plan_as s name (plan_ruling s.layout (history_in s.commits)) o)
-  plan_leaves (Some other) = only_leaves _
-  plan_leaves None =
-      let r = plan_ruling s.layout (history_in s.commits) in
-      planned_leaves r r.answer (plan_rest s.layout (history_in s.commits) s.layout.job)
+  plan_leaves : (choice : Choice) (o : Option Thing) → LeavesRest (plan_as s name (chosen choice s.layout (history_in s.commits)) o)
+  plan_leaves choice (Some other) = only_leaves _
+  plan_leaves choice None =
+      let r = chosen choice s.layout (history_in s.commits) in
+      planned_leaves r r.answer (chosen_rest choice s.layout (history_in s.commits))
 
   module _ {H R : Type 0} (bytes : H → Option (List ℕ)) (before after : Core H) (old new : Collecting)
       (passing : Option (Passing (Base H R) H)) (logs : after.version.behind.logs ≡ before.version.behind.logs) (kept_is : new ≡ old) where
@@ -125,11 +141,11 @@ module _ (s : things.State) (name : Name) (free : IsNoPass (thing_of s name)) wh
         (ap (λ (w : Rest). tables (record m { levels = w.4 })) leaves.rest)
         (ap (λ (w : Rest). w.3) leaves.rest) (ap (λ (w : Rest). w.0) leaves.rest) passes.collects) passes
 
-    -- The open pass goes on behind a plan.
-    pub plan_passes : Passes bytes before old passing s.things s.layout
-        → let x = plan_as s name (plan_ruling s.layout (history_in s.commits)) (thing_of s name) in
+    -- The open pass goes on behind a line that plans a merge.
+    pub plan_passes : (choice : Choice) → Passes bytes before old passing s.things s.layout
+        → let x = plan_as s name (chosen choice s.layout (history_in s.commits)) (thing_of s name) in
         Passes bytes after new passing x.state.things x.state.layout
-    plan_passes passes = leaves_passes _ (plan_leaves (thing_of s name)) passes
+    plan_passes choice passes = leaves_passes _ (plan_leaves choice (thing_of s name)) passes
 
 pub bare_no_pass : (o : Option Thing) → o ≡ None → IsNoPass o
 bare_no_pass o bare p batch is = none_some (APass p batch) (sym bare ∙ is)

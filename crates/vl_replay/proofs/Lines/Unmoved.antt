@@ -91,6 +91,9 @@ taken_leaves s (lines.View n) name used = ap (by_step s (lines.View n)) (taken_s
 taken_leaves s (lines.Plan n) name used =
     ap (by_step s (lines.Plan n)) (taken_step s (lines.Plan n) name used)
     ∙ ap (λ (files : ℕ). record s { files = files }) (omega arith)
+taken_leaves s (lines.Drain n segment) name used =
+    ap (by_step s (lines.Drain n segment)) (taken_step s (lines.Drain n segment) name used)
+    ∙ ap (λ (files : ℕ). record s { files = files }) (omega arith)
 taken_leaves s (lines.Pick n percent) name used = ap (by_step s (lines.Pick n percent)) (taken_step s (lines.Pick n percent) name used)
 taken_leaves s line name used = absurd (none_some name used.0)
 

@@ -6,12 +6,15 @@ use Rattle.std.specs.Str.{bytes_eq}
 use Rattle.std.proofs.lemmas.Slice.Eq.{bytes_eq-Decides}
 use Rattle.vl_disk.specs.declared.writer.Writer.{Ghosts as Writers}
 use Rattle.vl_layout.specs.Relocation.{Candidate, Pass}
+use Rattle.vl_layout.specs.Ruling.{Ruling}
+use Rattle.vl_layout.specs.Rulings.Drain.{drain_ruling}
 use Rattle.vl_layout.specs.Rulings.Plan.{plan_ruling}
 use Rattle.vl_layout.specs.Store.Dispatch.{pick_as, plan_as}
 use Rattle.vl_layout.specs.Store.Lines as store_lines
 use Rattle.vl_layout.specs.Store.Lines.{Name}
 use Rattle.vl_layout.specs.Store.Reading.{a_transaction, a_view, begin_as}
 use Rattle.vl_layout.specs.Store.Things.{APass, Step, Thing, only, thing_in, thing_of}
+use Rattle.vl_layout.specs.declared.job.Job.{Job}
 use Rattle.vl_layout.specs.declared.layout.Layout.{Layout}
 use Rattle.vl_model.specs.History.{History}
 use Rattle.vl_version.specs.declared.base.Base.{Base}
@@ -119,10 +122,10 @@ begins_taken : (s : State) (name : Name) (o : Option Thing) → is_some o ≡ tr
 begins_taken s name None is = absurd cc
 begins_taken s name (Some x) is = (refl, refl)
 
-plan_taken : (s : State) (name : Name) (o : Option Thing) → is_some o ≡ true
-    → plan_as s.store name (plan_ruling s.store.layout (history_of s)) o ≡ only (store_lines.Taken name) s.store
-plan_taken s name None is = absurd cc
-plan_taken s name (Some x) is = refl
+plan_taken : (s : State) (name : Name) (r : Ruling (Option Job)) (o : Option Thing) → is_some o ≡ true
+    → plan_as s.store name r o ≡ only (store_lines.Taken name) s.store
+plan_taken s name r None is = absurd cc
+plan_taken s name r (Some x) is = refl
 
 pick_taken : (s : State) (name : Name) (percent : ℕ) (o : Option Thing) → is_some o ≡ true
     → pick_as s.store name percent o ≡ only (store_lines.Taken name) s.store
@@ -146,7 +149,12 @@ taken_line s (lines.View n) name is used =
     (begins_taken s name (thing_of s.store name) used).1
 taken_line s (lines.Plan n) name is used =
     subst (λ (q : Name). step_to s (lines.Plan q) ≡ only (store_lines.Taken name) s.store) (sym (some_same n name is))
-    (ap (λ (x : Step). record x { answer = counted x.answer }) (plan_taken s name (thing_of s.store name) used))
+    (ap (λ (x : Step). record x { answer = counted x.answer })
+    (plan_taken s name (plan_ruling s.store.layout (history_of s)) (thing_of s.store name) used))
+taken_line s (lines.Drain n segment) name is used =
+    subst (λ (q : Name). step_to s (lines.Drain q segment) ≡ only (store_lines.Taken name) s.store) (sym (some_same n name is))
+    (ap (λ (x : Step). record x { answer = counted x.answer })
+    (plan_taken s name (drain_ruling s.store.layout (history_of s) segment) (thing_of s.store name) used))
 taken_line s (lines.Pick n percent) name is used =
     subst (λ (q : Name). step_to s (lines.Pick q percent) ≡ only (store_lines.Taken name) s.store) (sym (some_same n name is))
     (pick_taken s name percent (thing_of s.store name) used)

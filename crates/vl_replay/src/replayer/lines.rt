@@ -18,6 +18,7 @@ ghost use Rattle.vl_sequential.specs.Stored.{IsStopped, IsStored};
 ghost use Rattle.vl_sequential.specs.declared.fails.Halt.{Halt as Halts};
 ghost use Rattle.vl_sequential.specs.declared.fails.Halt.TheVariants as halts;
 
+use crate::replayer::choice::Choice;
 use crate::replayer::collecting::{batch, end, is_passing, move_batch, pick, stats};
 use crate::replayer::merging::{install, is_planned, plan};
 use crate::replayer::open::{Open, is_taken};
@@ -47,8 +48,9 @@ impl<D: Disk> Replayer<D> {
 
         // Over a disk that holds the state: where there is an answer it holds the state behind the line, in which a commit has
         // made two calls and its log is longer by a frame, a rotation three for a new log, a flush five for a table and a
-        // longer manifest, a merge's plan one for each table, and its install two for a longer manifest. A move that moved something has
-        // made two, and the log that takes commits is longer by its frame. However the line ends, a store may be opened on the disk again.
+        // longer manifest, a plan or a drain one for each table, and an install two for a longer manifest. A move that moved
+        // something has made two, and the log that takes commits is longer by its frame. However the line ends, a store may be
+        // opened on the disk again.
         ensures carries { TakesLines self.old → (s : State) → StandsFor D.Watched D.Writer.Writer D.Held.bytes self.old s
             → CarriesOut D.Watched IsStored Shown IsStopped (disk_of self.old) (disk_of self.new) s (state_after s line) result }
 
@@ -118,6 +120,7 @@ fn name_made(line: &Line) -> Option<&Ident>
         Line::Begin { name }
         | Line::View { name }
         | Line::Plan { name }
+        | Line::Drain { name, .. }
         | Line::Pick { name, .. } => Some(name),
         _ => None,
     }
@@ -213,7 +216,8 @@ fn carry_out<D: Disk>(
         Line::Rotate => served.rotate(),
         Line::Flush => served.flush(),
         Line::Keep { versions } => served.keep(versions),
-        Line::Plan { name } => plan(served, planned, name),
+        Line::Plan { name } => plan(served, planned, Choice::Due, name),
+        Line::Drain { name, segment } => plan(served, planned, Choice::LeadsInto(segment), name),
         Line::Install { name } => install(served, planned, name),
         Line::Stats => stats(served),
         Line::Pick { name, percent } => pick(served, passing, name, percent),

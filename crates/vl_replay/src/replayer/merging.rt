@@ -1,13 +1,22 @@
 //! Lines of merges.
-ghost use Rattle.std.specs.Prelude.{◌≡◌, false, Err, None, Ok, OnOk, Some};
-ghost use Rattle.std.specs.Option.{is_some, option_map_or};
+ghost use Rattle.std.specs.Prelude.{◌≡◌, false, Err, IfOk, None, Ok, OnOk, Some};
+ghost use Rattle.std.specs.Option.{ForSome, is_some, option_map_or};
 ghost use Rattle.std.specs.Str.{bytes_eq};
 ghost use Rattle.vl_disk.specs.Faults.{HasCause};
 ghost use Rattle.vl_disk.specs.declared.name.Name.{Name};
+ghost use Rattle.vl_compact.specs.Laid.{AreBoth};
+ghost use Rattle.vl_compact.specs.Progress.{IsNew};
+ghost use Rattle.vl_core.specs.MayStep.{Fits};
+ghost use Rattle.vl_core.specs.Represents.{Represents};
 ghost use Rattle.vl_core.specs.Shown.{Shown};
 ghost use Rattle.vl_engine.specs.Collecting.{Collects};
+ghost use Rattle.vl_engine.specs.Merging.{FitsReaders, HasMerge, OpensMerge, StandsOpen, plan_outcome};
+ghost use Rattle.vl_layout.specs.Decides.{Decides, as_before, no_effects};
 ghost use Rattle.vl_layout.specs.Store.Dispatch.{drop_by};
 ghost use Rattle.vl_layout.specs.Store.Things.{thing_of};
+ghost use Rattle.vl_layout.specs.declared.layout.Layout.{Layout};
+ghost use Rattle.vl_model.specs.History.{History};
+ghost use Rattle.vl_replay.specs.Choosing.{chosen, line_for};
 ghost use Rattle.vl_sequential.specs.Durable.{CarriesOut};
 ghost use Rattle.vl_sequential.specs.Failing.{FailsAt, HasTables, ReaderFailed, beside};
 ghost use Rattle.vl_sequential.specs.Halts.{HaltsByDamage, HaltsByDisk, HaltsByRead, HaltsByReader};
@@ -21,10 +30,11 @@ ghost use Rattle.vl_script.specs.declared.line.Line.TheVariants as lines;
 
 use crate::carrying::make_tables;
 use crate::replayer::Served;
+use crate::replayer::choice::Choice;
 use crate::replayer::planned::Planned;
 use vl_compact::Job;
-use vl_disk::{Disk, Writer};
-use vl_engine::InstallFail;
+use vl_disk::{Disk, NoMemory, Writer};
+use vl_engine::{Engine, InstallFail};
 use vl_script::{Answer, Ident};
 use vl_sequential::Halt;
 use vl_version::Base;
@@ -84,26 +94,28 @@ pub(super) fn end<D: Disk>(
     }
 }
 
-/// Plans the merge that is due first, under this name, which is free, and makes its tables in files that the engine lends. It waits
+/// Plans the merge of these tables, under this name, which is free, and makes its tables in files that the engine lends. It waits
 /// then for its install.
 /// Where it stops before it has all of them, it is given up.
 pub(super) fn plan<D: Disk>(
     served: &mut Served<D>,
     planned: &mut Option<Planned<Base<D::Held, D::Reader>, D::Held, D::Writer>>,
+    choice: Choice,
     name: Ident,
 ) -> Result<Answer, Halt>
     requires { CanHandIn D.Watched D.Writer.Writer served.old.engine.disk served.old.engine.merging planned.old }
     ensures makes { (s : State) → StandsMerging D.Watched D.Writer.Writer D.Held.bytes served.old planned.old s
         → thing_of s.store name ≡ None
         → MakesStep D.Held.bytes (D.told served.new.engine.disk) served.new.engine.core served.new.opens.items s
-        (step_to s (lines.Plan name)) result }
+        (step_to s (line_for choice name)) result }
     ensures merges { (s : State) → StandsMerging D.Watched D.Writer.Writer D.Held.bytes served.old planned.old s
         → thing_of s.store name ≡ None
-        → OnOk result (MergesIn D.Writer.Writer D.Held.bytes served.new.engine.merging planned.new (step_to s (lines.Plan name)).state) }
+        → OnOk result (MergesIn D.Writer.Writer D.Held.bytes served.new.engine.merging planned.new
+        (step_to s (line_for choice name)).state) }
     ensures carries { (s : State) → StandsMerging D.Watched D.Writer.Writer D.Held.bytes served.old planned.old s
         → thing_of s.store name ≡ None
         → CarriesOut D.Watched IsStored Shown IsStopped served.old.engine.disk served.new.engine.disk s
-        (state_after s (lines.Plan name)) result }
+        (state_after s (line_for choice name)) result }
     // A read, or a write beside the disk, fails only where tables are merged. What it reads isn't damaged.
     ensures sound { (s : State) → StandsMerging D.Watched D.Writer.Writer D.Held.bytes served.old planned.old s
         → thing_of s.store name ≡ None
@@ -116,7 +128,7 @@ pub(super) fn plan<D: Disk>(
     ensures cause { HasCause (D.faults served.old.engine.disk) (D.faults served.new.engine.disk) (HaltsByDisk result) }
     ensures named { (s : State) (file : Name) → StandsMerging D.Watched D.Writer.Writer D.Held.bytes served.old planned.old s
         → thing_of s.store name ≡ None
-        → result ≡ Err (halts.Disk file) → FailsAt served.old.engine.core.back.manifest.number (lines.Plan name) s file }
+        → result ≡ Err (halts.Disk file) → FailsAt served.old.engine.core.back.manifest.number (line_for choice name) s file }
     ensures collecting { served.new.engine.collecting ≡ served.old.engine.collecting }
     ensures logs { served.new.engine.core.version.behind.logs ≡ served.old.engine.core.version.behind.logs }
     ensures handed { OnOk result (CanHandIn D.Watched D.Writer.Writer served.new.engine.disk served.new.engine.merging planned.new) }
@@ -124,7 +136,7 @@ pub(super) fn plan<D: Disk>(
     if planned.is_some() {
         return Ok(Answer::Idle);
     }
-    let Some(job) = served.engine.plan()? else {
+    let Some(job) = choose(&mut served.engine, choice)? else {
         return Ok(Answer::Idle);
     };
     let mut job = job;
@@ -142,6 +154,38 @@ pub(super) fn plan<D: Disk>(
             served.engine.abandon(job);
             Err(halt)
         }
+    }
+}
+
+// Has the engine plan the merge of these tables.
+fn choose<D: Disk>(
+    engine: &mut Engine<D>,
+    choice: Choice,
+) -> Result<Option<Job<Base<D::Held, D::Reader>, D::Held, D::Writer>>, NoMemory>
+    ensures stands { (h : History) (l : Layout) → StandsOpen D.Held.bytes engine.old.core engine.old.merging h l
+        → Decides (StandsOpen D.Held.bytes engine.new.core engine.new.merging) h l (chosen choice l h) (as_before l l)
+        (plan_outcome (chosen choice l h).answer result) no_effects }
+    ensures represents { (h : History) (l : Layout) → Represents D.Held.bytes engine.old.core (D.told engine.old.disk) h l
+        → StandsOpen D.Held.bytes engine.old.core engine.old.merging h l
+        → Decides (Represents D.Held.bytes engine.new.core (D.told engine.new.disk)) h l (chosen choice l h) (as_before l l)
+        (plan_outcome (chosen choice l h).answer result) no_effects }
+    ensures fits { (h : History) (l : Layout) → StandsOpen D.Held.bytes engine.old.core engine.old.merging h l
+        → Fits (D.told engine.old.disk) engine.old.core h l
+        → Decides (Fits (D.told engine.new.disk) engine.new.core) h l (chosen choice l h) (as_before l l)
+        (plan_outcome (chosen choice l h).answer result) no_effects }
+    ensures job { (h : History) (l : Layout) → StandsOpen D.Held.bytes engine.old.core engine.old.merging h l
+        → IfOk result (λ job. AreBoth (HasMerge D.Writer.Writer D.Held.bytes) job (chosen choice l h).answer) }
+    ensures new { IfOk result (λ job. ForSome job IsNew) }
+    ensures looks { (h : History) (l : Layout) → StandsOpen D.Held.bytes engine.old.core engine.old.merging h l
+        → IfOk result (λ job. ForSome job (FitsReaders D.Held.bytes)) }
+    ensures merging { OpensMerge engine.old.merging engine.new.merging result }
+    ensures core { engine.new.core ≡ engine.old.core }
+    ensures disk { engine.new.disk ≡ engine.old.disk }
+    ensures collecting { engine.new.collecting ≡ engine.old.collecting }
+{
+    match choice {
+        Choice::Due => engine.plan(),
+        Choice::LeadsInto(segment) => engine.drain(segment),
     }
 }
 

@@ -32,6 +32,7 @@ use Rattle.vl_replay.proofs.Passes.Picking.{pick_keeps_merges}
 use Rattle.vl_replay.proofs.Passes.Standing.{passes_behind}
 use Rattle.vl_replay.proofs.Passes.Stepping.{passes_stepped}
 use Rattle.vl_core.specs.laws.Lasting.{flush_lasts, rotate_lasts}
+use Rattle.vl_replay.specs.declared.replayer.choice.Choice.TheVariants.{Due, LeadsInto}
 use Rattle.vl_replay.specs.Passing.{PassesIn, name_made}
 use Rattle.vl_replay.proofs.replayer.lines.carry_out.Goals as goal
 
@@ -789,6 +790,13 @@ returns-in-Plan-clause-makes g c s stands =
     (c.plan.ensures.makes s (merging_of stands) (free_name s c.args.line c.in_default.is (c.in_ok-name.ensures s stands)
     (ap name_made c.in-Plan.is)))
 
+pub returns-in-Drain-clause-makes : goal.returns-in-Drain-clause-makes
+returns-in-Drain-clause-makes g c s stands =
+    subst (λ (line : Line). MakesStep g.D.Held.HeldFile.bytes (g.D.Watched.told c.plan-in-Drain.new.served.engine.disk)
+    c.plan-in-Drain.new.served.engine.core c.plan-in-Drain.new.served.opens.items s (step_to s line) c.plan-in-Drain.result) (sym c.in-Drain.is)
+    (c.plan-in-Drain.ensures.makes s (merging_of stands) (free_name s c.args.line c.in_default.is (c.in_ok-name.ensures s stands)
+    (ap name_made c.in-Drain.is)))
+
 pub returns-in-Plan-clause-merges : goal.returns-in-Plan-clause-merges
 returns-in-Plan-clause-merges g c s stands =
     subst (λ (line : Line). OnOk c.plan.result
@@ -797,6 +805,14 @@ returns-in-Plan-clause-merges g c s stands =
     (c.plan.ensures.merges s (merging_of stands) (free_name s c.args.line c.in_default.is (c.in_ok-name.ensures s stands)
     (ap name_made c.in-Plan.is)))
 
+pub returns-in-Drain-clause-merges : goal.returns-in-Drain-clause-merges
+returns-in-Drain-clause-merges g c s stands =
+    subst (λ (line : Line). OnOk c.plan-in-Drain.result
+    (MergesIn g.D.Writer.Writer g.D.Held.HeldFile.bytes c.plan-in-Drain.new.served.engine.merging c.plan-in-Drain.new.planned
+    (step_to s line).state)) (sym c.in-Drain.is)
+    (c.plan-in-Drain.ensures.merges s (merging_of stands) (free_name s c.args.line c.in_default.is (c.in_ok-name.ensures s stands)
+    (ap name_made c.in-Drain.is)))
+
 pub returns-in-Plan-clause-carries : goal.returns-in-Plan-clause-carries
 returns-in-Plan-clause-carries g c s stands =
     subst (λ (line : Line). CarriesOut g.D.Watched IsStored Shown IsStopped c.args.served.now.engine.disk
@@ -804,11 +820,24 @@ returns-in-Plan-clause-carries g c s stands =
     (c.plan.ensures.carries s (merging_of stands) (free_name s c.args.line c.in_default.is (c.in_ok-name.ensures s stands)
     (ap name_made c.in-Plan.is)))
 
+pub returns-in-Drain-clause-carries : goal.returns-in-Drain-clause-carries
+returns-in-Drain-clause-carries g c s stands =
+    subst (λ (line : Line). CarriesOut g.D.Watched IsStored Shown IsStopped c.args.served.now.engine.disk
+    c.plan-in-Drain.new.served.engine.disk s (state_after s line) c.plan-in-Drain.result) (sym c.in-Drain.is)
+    (c.plan-in-Drain.ensures.carries s (merging_of stands) (free_name s c.args.line c.in_default.is (c.in_ok-name.ensures s stands)
+    (ap name_made c.in-Drain.is)))
+
 pub returns-in-Plan-clause-named : goal.returns-in-Plan-clause-named
 returns-in-Plan-clause-named g c s file stands is =
     subst (λ (line : Line). FailsAt c.args.served.now.engine.core.back.manifest.number line s file) (sym c.in-Plan.is)
     (c.plan.ensures.named s file (merging_of stands) (free_name s c.args.line c.in_default.is (c.in_ok-name.ensures s stands)
     (ap name_made c.in-Plan.is)) is)
+
+pub returns-in-Drain-clause-named : goal.returns-in-Drain-clause-named
+returns-in-Drain-clause-named g c s file stands is =
+    subst (λ (line : Line). FailsAt c.args.served.now.engine.core.back.manifest.number line s file) (sym c.in-Drain.is)
+    (c.plan-in-Drain.ensures.named s file (merging_of stands) (free_name s c.args.line c.in_default.is (c.in_ok-name.ensures s stands)
+    (ap name_made c.in-Drain.is)) is)
 
 pub returns-in-Plan-clause-sound : goal.returns-in-Plan-clause-sound
 returns-in-Plan-clause-sound g c s stands halts =
@@ -816,13 +845,27 @@ returns-in-Plan-clause-sound g c s stands halts =
     (c.plan.ensures.sound s (merging_of stands) (free_name s c.args.line c.in_default.is (c.in_ok-name.ensures s stands)
     (ap name_made c.in-Plan.is)) halts)
 
+pub returns-in-Drain-clause-sound : goal.returns-in-Drain-clause-sound
+returns-in-Drain-clause-sound g c s stands halts =
+    subst (λ (line : Line). ReadsTables line s) (sym c.in-Drain.is)
+    (c.plan-in-Drain.ensures.sound s (merging_of stands) (free_name s c.args.line c.in_default.is (c.in_ok-name.ensures s stands)
+    (ap name_made c.in-Drain.is)) halts)
+
 pub returns-in-Plan-clause-undamaged : goal.returns-in-Plan-clause-undamaged
 returns-in-Plan-clause-undamaged g c s stands =
     c.plan.ensures.undamaged s (merging_of stands) (free_name s c.args.line c.in_default.is (c.in_ok-name.ensures s stands)
     (ap name_made c.in-Plan.is))
 
+pub returns-in-Drain-clause-undamaged : goal.returns-in-Drain-clause-undamaged
+returns-in-Drain-clause-undamaged g c s stands =
+    c.plan-in-Drain.ensures.undamaged s (merging_of stands) (free_name s c.args.line c.in_default.is (c.in_ok-name.ensures s stands)
+    (ap name_made c.in-Drain.is))
+
 pub returns-in-Plan-clause-fault : goal.returns-in-Plan-clause-fault
 returns-in-Plan-clause-fault g c s stands = c.plan.ensures.fault s (merging_of stands)
+
+pub returns-in-Drain-clause-fault : goal.returns-in-Drain-clause-fault
+returns-in-Drain-clause-fault g c s stands = c.plan-in-Drain.ensures.fault s (merging_of stands)
 
 pub returns-in-Install-clause-makes : goal.returns-in-Install-clause-makes
 returns-in-Install-clause-makes g c s stands =
@@ -869,7 +912,18 @@ returns-in-Plan-clause-passes g c s stands =
     (plan_passes s.store c.in-Plan.name (bare_no_pass _ (free_name s c.args.line c.in_default.is (c.in_ok-name.ensures s stands)
     (ap name_made c.in-Plan.is))) g.D.Held.HeldFile.bytes c.args.served.now.engine.core c.plan.new.served.engine.core
     c.args.served.now.engine.collecting c.plan.new.served.engine.collecting c.args.passing.now c.plan.ensures.logs c.plan.ensures.collecting
-    stands.passes))
+    Due stands.passes))
+
+pub returns-in-Drain-clause-passes : goal.returns-in-Drain-clause-passes
+returns-in-Drain-clause-passes g c s stands =
+    subst (λ (line : Line). OnOk c.plan-in-Drain.result (PassesIn g.D.Held.HeldFile.bytes c.plan-in-Drain.new.served.engine.core
+    c.plan-in-Drain.new.served.engine.collecting c.args.passing.now
+    (step_to s line).state)) (sym c.in-Drain.is)
+    (on_ok_of c.plan-in-Drain.result _
+    (plan_passes s.store c.in-Drain.name (bare_no_pass _ (free_name s c.args.line c.in_default.is (c.in_ok-name.ensures s stands)
+    (ap name_made c.in-Drain.is))) g.D.Held.HeldFile.bytes c.args.served.now.engine.core c.plan-in-Drain.new.served.engine.core
+    c.args.served.now.engine.collecting c.plan-in-Drain.new.served.engine.collecting c.args.passing.now
+    c.plan-in-Drain.ensures.logs c.plan-in-Drain.ensures.collecting (LeadsInto c.in-Drain.segment) stands.passes))
 
 pub returns-in-Install-clause-passes : goal.returns-in-Install-clause-passes
 returns-in-Install-clause-passes g c s stands =
