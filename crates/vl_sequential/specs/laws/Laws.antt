@@ -29,8 +29,8 @@ use Rattle.vl_sequential.specs.laws.Explained.{batch_stays, commit_stays, drop_s
 use Rattle.vl_sequential.specs.laws.Explained.{get_stays, install_stays, later_things, move_stays, pick_stays, plan_stays, scan_explained}
 use Rattle.vl_sequential.specs.laws.Explained.{scan_stays, transaction_stays, view_stays, write_stays}
 use Rattle.vl_sequential.specs.laws.Growing.{Adds, Keeps, batch_keeps, begin_keeps, commit_or, drop_or, get_at_keeps, get_keeps}
-use Rattle.vl_sequential.specs.laws.Growing.{history_more, install_commits, move_commits, pick_commits, plan_commits, scan_keeps, stats_keeps}
-use Rattle.vl_sequential.specs.laws.Growing.{write_keeps}
+use Rattle.vl_sequential.specs.laws.Growing.{history_more, install_commits, move_commits, pick_commits, plan_commits, scan_keeps}
+use Rattle.vl_sequential.specs.laws.Growing.{stats_keeps, write_keeps}
 use Rattle.vl_script.specs.Script.{line_of}
 use Rattle.vl_script.specs.declared.line.Line.{Line}
 use Rattle.vl_script.specs.declared.line.Line.TheVariants.{Begin, View, Get, Set, SetTagged, GetTagged, Scan, Delete}
