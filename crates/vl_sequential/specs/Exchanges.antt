@@ -1,7 +1,7 @@
 -- A script's lines with their answers, up to the first line that is none of the language.
-use Rattle.std.specs.Prelude.{◌≡◌, ◌+◌, ◌-◌, ◌≤◌, ℕ, ◌==◌, ◌&&◌, if◌then◌else◌, nat_le, List, [], ◌∷◌, length, count_by, Option, Some, None}
+use Rattle.std.specs.Prelude.{◌≡◌, ◌⊎◌, ◌+◌, ◌≤◌, ℕ, ◌==◌, ◌&&◌, if◌then◌else◌, nat_le, List, [], ◌∷◌, length, count_by, Option, Some, None}
 use Rattle.std.specs.List.{flat_map, AllByRecursion}
-use Rattle.std.specs.FinMap.{find}
+use Rattle.std.specs.FinMap.{find, from_sorted}
 use Rattle.std.specs.Option.{option_map}
 use Rattle.vl_layout.specs.Store.Commits.{Changes}
 use Rattle.vl_layout.specs.Store.Lines.{Answer, Invalid, Number, Rows}
@@ -9,7 +9,8 @@ use Rattle.vl_layout.specs.Store.Reading.{answer_of, answer_with_tag, rows_told,
 use Rattle.vl_layout.specs.Store.Things.{AJob, APass, ATransaction, AView, Thing, thing_of}
 use Rattle.vl_layout.specs.AtAnswer.{Beginning}
 use Rattle.vl_layout.specs.Rulings.Commit.{Transaction}
-use Rattle.vl_model.specs.History.{History, contents_at, value_at}
+use Rattle.vl_model.specs.Conflicts.{first_conflict}
+use Rattle.vl_model.specs.History.{History, contents_at, last_number, value_at, with_commit}
 use Rattle.vl_model.specs.Keys.{Stored, is_key_length, key_cmp}
 use Rattle.vl_model.specs.Limits.{max_key_bytes}
 use Rattle.vl_model.specs.Reads.{IsExplained, rows_of}
@@ -73,7 +74,7 @@ KeepsUp bytes asked answered =
     (earlier : List ℕ) × (asked ≡ Some earlier)
     × (ended_lines bytes ≤ answered + ended_lines earlier)
 
--- ---- what explains an answer
+-- ---- what explains an answer, and the history behind it
 
 -- what a read of a key is answered by the history at a number, where the key is within its limits
 abbrev pub read_at : (Option Stored → Answer) → History → ℕ → List ℕ → Answer
@@ -105,41 +106,55 @@ ScansAt (Some (ATransaction t b)) own number = (number ≡ t.number) × (own ≡
 abbrev pub TellsValue : Answer → Type 0
 TellsValue answer = (value : Option Stored) × (answer ≡ answer_of value)
 
--- What is read is explained by the history at the reader's own number; a value at an older one by the history there, whatever the
--- reader wrote. What the transaction of an accepted commit has read and
--- scanned is explained by that, and by the history at the commit's number less one.
+-- the history stays as it was
+abbrev pub KeepsHistory : Exchange → Type 0
+KeepsHistory e = history_of e.after ≡ history_of e.before
+
+-- no number was told
+abbrev pub TellsNoNumber : Answer → Type 0
+TellsNoNumber answer = (n : ℕ) → answer ≡ Number n → ⊥
+
+-- A transaction's commit was accepted: just what it wrote, which is something, is the next commit, and that one's number is told.
+-- None of its reads was overwritten before, so they are explained by the history at its own number, and at the last one before the
+-- commit's.
+pub record IsAccepted (t : Transaction) (e : Exchange) : Type 0 where
+  pub writes : t.writes ≡ [] → ⊥
+  pub added : history_of e.after ≡ with_commit (history_of e.before) (from_sorted t.writes)
+  pub told : e.answer ≡ Number (last_number (history_of e.before) + 1)
+  pub current : first_conflict (history_of e.before) t.number t.reads ≡ None
+  pub began : IsExplained (history_of e.after) t.number t.reads
+  pub last : IsExplained (history_of e.after) (last_number (history_of e.before)) t.reads
+
+-- Each line leaves the history as it was, but for a commit that is accepted. What is read is explained by the history at the
+-- reader's own number; a value at an older one by the history there, whatever the reader wrote.
 abbrev pub IsExplainedExchange : Line → Exchange → Type 0
-IsExplainedExchange (Begin name) e = Unit {0}
-IsExplainedExchange (View name) e = Unit {0}
-IsExplainedExchange (Get name key) e =
-    (number : ℕ) → ReadsAt (thing_of e.before.store name) key number
-    → e.answer ≡ read_at answer_of (history_of e.before) number key
-IsExplainedExchange (GetTagged name key) e =
-    (number : ℕ) → ReadsAt (thing_of e.before.store name) key number
-    → e.answer ≡ read_at answer_with_tag (history_of e.before) number key
+IsExplainedExchange (Begin name) e = KeepsHistory e
+IsExplainedExchange (View name) e = KeepsHistory e
+IsExplainedExchange (Get name key) e = KeepsHistory e × ((number : ℕ) → ReadsAt (thing_of e.before.store name) key number
+    → e.answer ≡ read_at answer_of (history_of e.before) number key)
+IsExplainedExchange (GetTagged name key) e = KeepsHistory e × ((number : ℕ) → ReadsAt (thing_of e.before.store name) key number
+    → e.answer ≡ read_at answer_with_tag (history_of e.before) number key)
 IsExplainedExchange (Scan name low high limit way) e =
-    (number : ℕ) (own : Changes) → ScansAt (thing_of e.before.store name) own number
-    → e.answer ≡ rows_at (history_of e.before) number own low high limit way
-IsExplainedExchange (SetTagged name key value tag) e = Unit {0}
-IsExplainedExchange (Set name key value) e = Unit {0}
-IsExplainedExchange (Delete name key) e = Unit {0}
-IsExplainedExchange (Commit name) e =
-    (t : Transaction) (b : Beginning) (n : ℕ) → thing_of e.before.store name ≡ Some (ATransaction t b)
-    → e.answer ≡ Number n
-    → IsExplained (history_of e.after) t.number t.reads × IsExplained (history_of e.after) (n - 1) t.reads
-IsExplainedExchange (Drop name) e = Unit {0}
-IsExplainedExchange Rotate e = Unit {0}
-IsExplainedExchange Flush e = Unit {0}
-IsExplainedExchange (Keep versions) e = Unit {0}
-IsExplainedExchange (Plan name) e = Unit {0}
-IsExplainedExchange (Drain name segment) e = Unit {0}
-IsExplainedExchange (Install name) e = Unit {0}
-IsExplainedExchange Stats e = Unit {0}
-IsExplainedExchange (Pick name percent) e = Unit {0}
-IsExplainedExchange (Batch name) e = Unit {0}
-IsExplainedExchange (Move name) e = Unit {0}
+    KeepsHistory e × ((number : ℕ) (own : Changes) → ScansAt (thing_of e.before.store name) own number
+    → e.answer ≡ rows_at (history_of e.before) number own low high limit way)
+IsExplainedExchange (SetTagged name key value tag) e = KeepsHistory e
+IsExplainedExchange (Set name key value) e = KeepsHistory e
+IsExplainedExchange (Delete name key) e = KeepsHistory e
+IsExplainedExchange (Commit name) e = (KeepsHistory e × TellsNoNumber e.answer)
+    ⊎ ((t : Transaction) × (b : Beginning) × (thing_of e.before.store name ≡ Some (ATransaction t b)) × IsAccepted t e)
+IsExplainedExchange (Drop name) e = KeepsHistory e
+IsExplainedExchange Rotate e = KeepsHistory e
+IsExplainedExchange Flush e = KeepsHistory e
+IsExplainedExchange (Keep versions) e = KeepsHistory e
+IsExplainedExchange (Plan name) e = KeepsHistory e
+IsExplainedExchange (Drain name segment) e = KeepsHistory e
+IsExplainedExchange (Install name) e = KeepsHistory e
+IsExplainedExchange Stats e = KeepsHistory e
+IsExplainedExchange (Pick name percent) e = KeepsHistory e
+IsExplainedExchange (Batch name) e = KeepsHistory e
+IsExplainedExchange (Move name) e = KeepsHistory e
 IsExplainedExchange (GetAt name key number) e =
-    TellsValue e.answer → e.answer ≡ answer_of (value_at (history_of e.before) number key)
+    KeepsHistory e × (TellsValue e.answer → e.answer ≡ answer_of (value_at (history_of e.before) number key))
 
 -- so it is in each of these exchanges
 abbrev pub AreExplained : List Exchange → Type 0

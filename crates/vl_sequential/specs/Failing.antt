@@ -1,5 +1,5 @@
 -- At which lines a read may fail, and at which files the disk may fail a line.
-use Rattle.std.specs.Prelude.{◌≡◌, ◌⊎◌, ◌≤◌, ◌<◌, ℕ, List, true, Option, Some}
+use Rattle.std.specs.Prelude.{◌≡◌, ◌⊎◌, ◌≤◌, ◌<◌, ℕ, List, true, Option, None, Some}
 use Rattle.vl_disk.specs.declared.name.Name.{Name}
 use Rattle.vl_disk.specs.declared.name.Name.TheVariants.{Log, Manifest, Table}
 use Rattle.vl_layout.specs.Jobs.{Made}
@@ -18,11 +18,16 @@ use Rattle.vl_sequential.specs.Sequential.{State, state_after}
 abbrev pub HasTables : State → Type 0
 HasTables s = IsWithoutTables s.store.layout → ⊥
 
--- a name stands for a pass, which goes over a log that a table was made of
-abbrev pub IsPass : Option Thing → Type 0
-IsPass thing = (pass : Pass) × (batch : Option (List Candidate)) × (thing ≡ Some (APass pass batch))
+-- a name stands for a pass of which no batch waits: the next one is sought in the pass's log
+abbrev pub SeeksRecords : Option Thing → Type 0
+SeeksRecords thing = (pass : Pass) × (thing ≡ Some (APass pass None))
 
--- The line reads, of a state that has a table. Only such a line asks the reader for bytes, or writes beside the disk.
+-- a name stands for a pass of which a batch waits: its records are looked up before they are moved
+abbrev pub MovesRecords : Option Thing → Type 0
+MovesRecords thing = (pass : Pass) × (batch : List Candidate) × (thing ≡ Some (APass pass (Some batch)))
+
+-- The line reads, of a state that has a table; or it goes on with a pass, in the pass's log and the tables that there are. Only such
+-- a line asks the reader for bytes, or writes beside the disk.
 abbrev pub ReadsTables : Line → State → Type 0
 ReadsTables (lines.Begin name) s = ⊥
 ReadsTables (lines.View name) s = ⊥
@@ -43,8 +48,8 @@ ReadsTables (lines.Drain name segment) s = HasTables s
 ReadsTables (lines.Install name) s = ⊥
 ReadsTables lines.Stats s = ⊥
 ReadsTables (lines.Pick name percent) s = ⊥
-ReadsTables (lines.Batch name) s = IsPass (thing_of s.store name)
-ReadsTables (lines.Move name) s = IsPass (thing_of s.store name)
+ReadsTables (lines.Batch name) s = SeeksRecords (thing_of s.store name)
+ReadsTables (lines.Move name) s = MovesRecords (thing_of s.store name)
 
 -- so it is with the line of this exchange, where there is one
 abbrev pub IsTableRead : Option Exchange → Type 0

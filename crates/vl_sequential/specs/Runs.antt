@@ -53,7 +53,7 @@ Stops evidence script left m TheLine =
 -- the words were plain
 Stops evidence script left m TheWords = ⊥
 Stops evidence script left m TheDisk = evidence TheDisk
--- the next line reads, of a state that has a table
+-- the next line reads, of a state that has a table, or goes on with a pass
 Stops evidence script left m TheReader = IsTableRead (slice_get (exchanges script) m)
 -- the store was opened
 Stops evidence script left m TheFiles = ⊥

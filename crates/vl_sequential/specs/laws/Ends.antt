@@ -473,7 +473,8 @@ cut_is result same = ap culprit_of same
 
 -- the sink counts its own faults
 pub finish_counts : {K : Type 0} (g : sink.Ghosts K) (old new : K) (line : List ℕ) (ending result : Ending)
-    → culprit_of ending ≢ TheSink → Finishes g old new line ending result → CountsFaultsOf TheSink (Some result) (g.faults old) (g.faults new)
+    → culprit_of ending ≢ TheSink → Finishes g old new line ending result
+    → CountsFaultsOf TheSink (Some result) (g.faults old) (g.faults new)
 finish_counts g old new line ending result other f = ⊎_elim
     (λ (same : (result ≡ ending) × (f.printed ≡ line) × (g.faults new ≡ g.faults old)).
     subst (λ (n : ℕ). CountsFaultsOf TheSink (Some result) (g.faults old) n) (sym same.2)

@@ -1,5 +1,5 @@
 -- What a script reads is explained by the history at the reader's own number.
-use Rattle.std.proofs.Common.{◌≡◌, ◌⊎◌, ⊎_elim, inl, inr, ℕ, ◌+◌, ◌-◌, ◌≤◌, ◌==◌, Bool, true, false, cond, ◌&&◌, not}
+use Rattle.std.proofs.Common.{◌≡◌, ◌⊎◌, ⊎_elim, inl, inr, ℕ, ◌+◌, ◌≤◌, ◌==◌, Bool, true, false, cond, ◌&&◌, not}
 use Rattle.std.proofs.Common.{List, [], ◌∷◌, ◌++◌, length, refl, ap, sym, ◌∙◌, subst, arith, length-append}
 use Rattle.std.specs.Prelude.{Option, Some, None, T, nat_le, nat_lt, if◌then◌else◌}
 use Rattle.std.specs.FinMap.{entries, entries-from_sorted, find, from_sorted, is_sorted, put}
@@ -33,7 +33,7 @@ use Rattle.vl_layout.specs.Rulings.Relocate.{MoveAnswer, relocate_ruling}
 use Rattle.vl_layout.specs.Store.Commits.{AreProper, Changes, at_answer_in, history_in, low_in, value_in, with_changes}
 use Rattle.vl_layout.specs.Store.Dispatch.{batch_by, drop_by, fill, filled, found_by, install_by, made_of, move_by}
 use Rattle.vl_layout.specs.Store.Dispatch.{moved_by, pick_as, picked_by, plan_as, planned_by}
-use Rattle.vl_layout.specs.Store.Lines.{Answer, Dropped, Invalid, Name, Number, Rows}
+use Rattle.vl_layout.specs.Store.Lines.{Answer, Dropped, Invalid, Name, Rows}
 use Rattle.vl_layout.specs.Store.Proper.{HasRisingWrites, IsProper}
 use Rattle.vl_layout.specs.Store.Reading.{a_transaction, a_view, answer_of, begin_as, begun_by, commit_by}
 use Rattle.vl_layout.specs.Store.Reading.{committed_by, get_at_by, get_by, get_own, is_small_enough, noted_scan}
@@ -499,27 +499,21 @@ module _ (s : State) (sound : IsSound s) where
       ∙ ap (λ (n : ℕ). if within then rows_at way low high limit n t.writes else Invalid) (sym by)
       ∙ ap (λ (ws : Changes). if within then rows_at way low high limit number ws else Invalid) (sym writes)
 
-  -- an accepted commit: its reads are explained at its transaction's number, and at its own less one
+  -- an accepted commit: its reads are explained at its transaction's number, and at the last one before it
   pub commit_explained : ((h : History) (n : ℕ) (reads : List Read) → h.first ≤ n → first_conflict h n reads ≡ None
       → IsExplained h n reads → IsExplained h (last_number h) reads)
-      → (name : Name) (t : Transaction) (b : Beginning) (n : ℕ) (o : Option Thing)
-      → thing_in s.things name ≡ Some (ATransaction t b) → o ≡ Some (ATransaction t b)
-      → Adds s (commit_by s name o) t → (commit_by s name o).answer ≡ Number n
-      → let k = history_in (commit_by s name o).state.commits in IsExplained k t.number t.reads × IsExplained k (n - 1) t.reads
-  commit_explained stay name t b n o is same adds answered =
+      → (name : Name) (t : Transaction) (b : Beginning) (o : Option Thing)
+      → thing_in s.things name ≡ Some (ATransaction t b) → Adds s (commit_by s name o) t
+      → let k = history_in (commit_by s name o).state.commits in
+      IsExplained k t.number t.reads × IsExplained k (last_number (history_in s.commits)) t.reads
+  commit_explained stay name t b o is adds =
       let (explained, from, known) = found_sound h' s.things name (ATransaction t b) sound.things is in
       let longer : history_in (commit_by s name o).state.commits ≡ with_commit h' (from_sorted t.writes) =
       ap history_in adds.commits ∙ history_more s.commits t.writes in
       let none : first_conflict h' t.number t.reads ≡ None = sym
       (conflict_in-is s.commits sound.proper.commits t.number t.reads) ∙ adds.none in
-      let at : n - 1 ≡ last_number h' = let m : n ≡ last_number h' + 1 = same_number n (last_number h' + 1)
-      (sym answered ∙ adds.answer) in omega arith in
-      subst (λ (k : History). IsExplained k t.number t.reads × IsExplained k (n - 1) t.reads) (sym longer) (
+      subst (λ (k : History). IsExplained k t.number t.reads × IsExplained k (last_number h') t.reads) (sym longer) (
         explained-extends h' (with_commit h' (from_sorted t.writes)) (more_extends t) t.number known t.reads explained,
-        subst (λ (m : ℕ). IsExplained (with_commit h' (from_sorted t.writes)) m t.reads) (sym at)
-            (explained-extends h' (with_commit h' (from_sorted t.writes)) (more_extends t) (last_number h')
-            (omega arith) t.reads (stay h' t.number t.reads from none explained)),
+        explained-extends h' (with_commit h' (from_sorted t.writes)) (more_extends t) (last_number h')
+            (omega arith) t.reads (stay h' t.number t.reads from none explained),
       )
-    where
-      same_number : (m k : ℕ) → Number m ≡ Number k → m ≡ k
-      same_number m k e = cc

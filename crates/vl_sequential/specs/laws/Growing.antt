@@ -1,5 +1,6 @@
 -- What a line leaves of the commits and of the layout: it keeps them, but for what lives, or a commit adds one.
-use Rattle.std.proofs.Common.{◌≡◌, ◌⊎◌, inl, inr, ℕ, ◌+◌, ◌==◌, Bool, true, false, ◌&&◌, not, List, [], ◌∷◌, ◌++◌, map, length, refl, ap}
+use Rattle.std.proofs.Common.{◌≡◌, ◌⊎◌, inl, inr, ℕ, ◌+◌, ◌==◌, Bool, true, false, ◌&&◌, not, List, [], ◌∷◌, ◌++◌, map, length, refl}
+use Rattle.std.proofs.Common.{ap, sym, ◌∙◌}
 use Rattle.std.specs.Prelude.{Option, Some, None, nat_le, if◌then◌else◌}
 use Rattle.std.specs.FinMap.{find, from_sorted, put}
 use Rattle.vl_model.specs.Conflicts.{Named}
@@ -70,6 +71,8 @@ module _ (s : State) where
     pub calls : x.calls ≡ 2
     -- nothing that it read was overwritten
     pub none : conflict_in s.commits t.number t.reads ≡ None
+    -- and it wrote something
+    pub some : t.writes ≡ [] → ⊥
 
   kept_alike : (x : Step) → x.state.commits ≡ s.commits
       → x.state.layout ≡ record s.layout { live = x.state.layout.live } → x.calls ≡ 0 → Keeps x
@@ -242,31 +245,33 @@ module _ (s : State) where
     abbrev by : Ruling CommitAnswer → Step
     by r = committed_by s name t r r.answer
 
-    fits_or : (b : Bool) → conflict_in s.commits t.number t.reads ≡ None
+    fits_or : (b : Bool) → conflict_in s.commits t.number t.reads ≡ None → (t.writes ≡ [] → ⊥)
         → KeepsOr t (by (if b then committed l h t else leaving
         (commit.Full l.active.length (frame_length l.active.format (commit_frame h t.writes))) h l))
-    fits_or true none = inr (record { answer = refl; commits = refl; layout = refl; calls = refl; none = none })
-    fits_or false none = inl (kept_alike _ refl refl refl, λ n e. cc)
+    fits_or true none some = inr (record { answer = refl; commits = refl; layout = refl; calls = refl; none = none; some = some })
+    fits_or false none some = inl (kept_alike _ refl refl refl, λ n e. cc)
 
-    checked_or : (o : Option Named) → conflict_in s.commits t.number t.reads ≡ o → KeepsOr t (by (commit_checked l h t o))
-    checked_or (Some named) is = inl (kept_alike _ refl refl refl, λ n e. cc)
-    checked_or None is = fits_or (nat_le (l.active.length + frame_length l.active.format (commit_frame h t.writes)) l.room) is
+    checked_or : (o : Option Named) → conflict_in s.commits t.number t.reads ≡ o → (t.writes ≡ [] → ⊥)
+        → KeepsOr t (by (commit_checked l h t o))
+    checked_or (Some named) is some = inl (kept_alike _ refl refl refl, λ n e. cc)
+    checked_or None is some = fits_or (nat_le (l.active.length + frame_length l.active.format (commit_frame h t.writes)) l.room) is some
 
-    numbered_or : (b : Bool) (o : Option Named) → conflict_in s.commits t.number t.reads ≡ o
+    numbered_or : (b : Bool) (o : Option Named) → conflict_in s.commits t.number t.reads ≡ o → (t.writes ≡ [] → ⊥)
         → KeepsOr t (by (if b then leaving (commit.Exhausted CommitNumber) h l else commit_checked l h t o))
-    numbered_or true o is = inl (kept_alike _ refl refl refl, λ n e. cc)
-    numbered_or false o is = checked_or o is
+    numbered_or true o is some = inl (kept_alike _ refl refl refl, λ n e. cc)
+    numbered_or false o is some = checked_or o is some
 
-    running_or : (b : Bool) (o : Option Named) → conflict_in s.commits t.number t.reads ≡ o
+    running_or : (b : Bool) (o : Option Named) → (length t.writes == 0) ≡ b → conflict_in s.commits t.number t.reads ≡ o
         → KeepsOr t (by (if b then commit_ended commit.Nothing l h t else
         (if nat_le max_commit_number (last_number h) then leaving (commit.Exhausted CommitNumber) h l else commit_checked l h t o)))
-    running_or true o is = inl (kept_alike _ refl refl refl, λ n e. cc)
-    running_or false o is = numbered_or (nat_le max_commit_number (last_number h)) o is
+    running_or true o empty is = inl (kept_alike _ refl refl refl, λ n e. cc)
+    running_or false o empty is = numbered_or (nat_le max_commit_number (last_number h)) o is
+        (λ none. let all = sym empty ∙ ap (λ (ws : Changes). length ws == 0) none in cc)
 
     unless_or : (halted : Option FileName) (o : Option Named) → conflict_in s.commits t.number t.reads ≡ o
         → KeepsOr t (by (commit_unless halted l h t o))
     unless_or (Some file) o is = inl (kept_alike _ refl refl refl, λ n e. cc)
-    unless_or None o is = running_or (length t.writes == 0) o is
+    unless_or None o is = running_or (length t.writes == 0) o refl is
 
   -- a commit keeps them, or adds the writes of what its name stands for
   pub commit_or : (name : Name) (o : Option Thing)

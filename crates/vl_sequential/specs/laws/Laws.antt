@@ -1,6 +1,6 @@
 -- Laws of runs: what a line leaves, and that what is read is explained by the history; and no answer is owed before anything is
 -- read.
-use Rattle.std.proofs.Common.{◌≡◌, ◌+◌, ◌≤◌, ◌⊎◌, inl, inr, ℕ, List, [], ◌∷◌, ◌++◌, refl, sym, ◌∙◌, cond, arith, subst}
+use Rattle.std.proofs.Common.{◌≡◌, ◌+◌, ◌≤◌, ◌⊎◌, inl, inr, ℕ, List, [], ◌∷◌, ◌++◌, refl, ap, sym, ◌∙◌, cond, arith, subst}
 use Rattle.std.proofs.lemmas.List.Sums.{sum_by-cons}
 use Rattle.std.specs.Prelude.{Option, Some, None, ◌==◌}
 use Rattle.std.specs.List.{AllByRecursion}
@@ -10,25 +10,27 @@ use Rattle.vl_layout.specs.Rulings.Drain.{drain_ruling}
 use Rattle.vl_layout.specs.Rulings.Plan.{plan_ruling}
 use Rattle.vl_layout.specs.AtAnswer.{Beginning}
 use Rattle.vl_layout.specs.Store.Commits.{Commits, history_in}
-use Rattle.vl_layout.specs.Store.Lines.{Done, Name, Number, Segments}
+use Rattle.vl_layout.specs.Store.Lines.{Done, Name, Segments}
 use Rattle.vl_layout.specs.Rulings.Stats.{stats_ruling}
 use Rattle.vl_layout.specs.Store.Reading.{a_transaction, a_view, answer_of, answer_with_tag}
 use Rattle.vl_layout.specs.Store.Things.{Thing, ATransaction, thing_of}
+use Rattle.vl_layout.specs.laws.CommitsLaws.{conflict_in-is}
 use Rattle.vl_layout.specs.laws.StoreLaws.{step_proper}
 use Rattle.vl_model.specs.Conflicts.{first_conflict}
 use Rattle.vl_model.specs.History.{History, last_number}
 use Rattle.vl_model.specs.Keys.{tagged, untagged}
 use Rattle.vl_model.specs.Reads.{IsExplained, Read}
 use Rattle.vl_model.specs.declared.change.Change.TheVariants.{Set as Put, Delete as Deleted}
-use Rattle.vl_sequential.specs.Exchanges.{exchanged, exchanges_from, and_later, IsExplainedExchange, AreExplained, ended_lines, KeepsUp}
+use Rattle.vl_sequential.specs.Exchanges.{exchanged, exchanges_from, and_later, IsAccepted, IsExplainedExchange, AreExplained}
+use Rattle.vl_sequential.specs.Exchanges.{KeepsHistory, KeepsUp, ended_lines}
 use Rattle.vl_sequential.specs.Sequential.{State, answer_to, asked, history_of, state_after, step_to}
 use Rattle.vl_sequential.specs.laws.Explained.{IsSound as IsSoundStore, IsSoundThing, Stays, commit_explained}
 use Rattle.vl_sequential.specs.laws.Explained.{batch_stays, commit_stays, drop_stays, get_at_explained, get_at_stays, get_explained}
 use Rattle.vl_sequential.specs.laws.Explained.{get_stays, install_stays, later_things, move_stays, pick_stays, plan_stays, scan_explained}
 use Rattle.vl_sequential.specs.laws.Explained.{scan_stays, transaction_stays, view_stays, write_stays}
 use Rattle.vl_sequential.specs.laws.Growing.{Adds, Keeps, batch_keeps, begin_keeps, commit_or, drop_or, get_at_keeps, get_keeps}
-use Rattle.vl_sequential.specs.laws.Growing.{install_commits, move_commits, pick_commits, plan_commits, scan_keeps, stats_keeps}
-use Rattle.vl_sequential.specs.laws.Growing.{write_keeps}
+use Rattle.vl_sequential.specs.laws.Growing.{history_more, install_commits, move_commits, pick_commits, plan_commits, scan_keeps}
+use Rattle.vl_sequential.specs.laws.Growing.{stats_keeps, write_keeps}
 use Rattle.vl_script.specs.Script.{line_of}
 use Rattle.vl_script.specs.declared.line.Line.{Line}
 use Rattle.vl_script.specs.declared.line.Line.TheVariants.{Begin, View, Get, Set, SetTagged, GetTagged, Scan, Delete}
@@ -197,44 +199,64 @@ state_after-sound s (Pick name percent) sound =
 state_after-sound s (Batch name) sound = stays_sound s (Batch name) sound (batch_stays s.store sound name (thing_of s.store name))
 state_after-sound s (Move name) sound = stays_sound s (Move name) sound (move_stays s.store sound name (thing_of s.store name))
 
--- a commit that is answered by a number adds what its transaction wrote
-adds_of : (s : State) (name : Name) (t : Transaction) (b : Beginning) (n : ℕ) → thing_of s.store name ≡ Some (ATransaction t b)
-    → (step_to s (Commit name)).answer ≡ Number n → Adds s.store (step_to s (Commit name)) t
-adds_of s name t b n is answered = elim (commit_or s.store name (thing_of s.store name)) [
-  | inl (keeps, none) ↦ absurd (none n answered)
-  | inr (u, c, there, adds) ↦ subst (Adds s.store (step_to s (Commit name))) (same u c (sym there ∙ is)) adds
+-- a line that is no commit leaves the history
+other_keeps : (s : State) (line : Line) → IsSound s → ((name : Name) → line ≡ Commit name → ⊥) → KeepsHistory (exchanged s line)
+other_keeps s line sound other = elim (keeps_or s line sound) [
+  | inl keeps ↦ ap history_in keeps.commits
+  | inr (inl (t, b, name, is, there, adds)) ↦ absurd (other name is)
+  | inr (inr steps) ↦ ap history_in steps.commits
 ]
-  where
-    same : (u : Transaction) (c : Beginning) → Some (ATransaction u c) ≡ Some (ATransaction t b) → u ≡ t
-    same u c e = cc
+
+-- and a commit leaves it, or is accepted
+commit_accepted : StaysExplained → (s : State) (name : Name) (t : Transaction) (b : Beginning) → IsSound s
+    → thing_of s.store name ≡ Some (ATransaction t b) → Adds s.store (step_to s (Commit name)) t → IsAccepted t (exchanged s (Commit name))
+commit_accepted stay s name t b sound is adds =
+    let explained = commit_explained s.store sound stay name t b (thing_of s.store name) is adds in record {
+      writes = adds.some;
+      added = ap history_in adds.commits ∙ history_more s.store.commits t.writes;
+      told = adds.answer;
+      current = sym (conflict_in-is s.store.commits sound.proper.commits t.number t.reads) ∙ adds.none;
+      began = explained.0;
+      last = explained.1;
+    }
 
 exchange_explained : StaysExplained → (s : State) (line : Line) → IsSound s → IsExplainedExchange line (exchanged s line)
-exchange_explained stay s (Begin name) sound = tt
-exchange_explained stay s (View name) sound = tt
-exchange_explained stay s (Get name key) sound = λ number by. get_explained s.store sound name answer_of key number
-    (thing_of s.store name) by
-exchange_explained stay s (GetTagged name key) sound = λ number by. get_explained s.store sound name answer_with_tag key
-    number (thing_of s.store name) by
-exchange_explained stay s (Scan name low high limit way) sound =
-    λ number own by. scan_explained s.store sound way name low high limit number own (thing_of s.store name) refl by
-exchange_explained stay s (SetTagged name key value tag) sound = tt
-exchange_explained stay s (Set name key value) sound = tt
-exchange_explained stay s (Delete name key) sound = tt
-exchange_explained stay s (Drop name) sound = tt
-exchange_explained stay s Rotate sound = tt
-exchange_explained stay s Flush sound = tt
-exchange_explained stay s (Keep versions) sound = tt
-exchange_explained stay s (Plan name) sound = tt
-exchange_explained stay s (Drain name segment) sound = tt
-exchange_explained stay s (Install name) sound = tt
-exchange_explained stay s Stats sound = tt
-exchange_explained stay s (Pick name percent) sound = tt
-exchange_explained stay s (Batch name) sound = tt
-exchange_explained stay s (Move name) sound = tt
-exchange_explained stay s (GetAt name key number) sound = λ told. get_at_explained s.store sound name key number
-    (thing_of s.store name) told
-exchange_explained stay s (Commit name) sound = λ t b n is e. commit_explained s.store sound stay name t b n
-    (thing_of s.store name) is is (adds_of s name t b n is e) e
+exchange_explained stay s (Begin name) sound = other_keeps s (Begin name) sound (λ other is. cc)
+exchange_explained stay s (View name) sound = other_keeps s (View name) sound (λ other is. cc)
+exchange_explained stay s (Get name key) sound = (
+  other_keeps s (Get name key) sound (λ other is. cc),
+  λ number by. get_explained s.store sound name answer_of key number (thing_of s.store name) by,
+)
+exchange_explained stay s (GetTagged name key) sound = (
+  other_keeps s (GetTagged name key) sound (λ other is. cc),
+  λ number by. get_explained s.store sound name answer_with_tag key number (thing_of s.store name) by,
+)
+exchange_explained stay s (Scan name low high limit way) sound = (
+  other_keeps s (Scan name low high limit way) sound (λ other is. cc),
+  λ number own by. scan_explained s.store sound way name low high limit number own (thing_of s.store name) refl by,
+)
+exchange_explained stay s (SetTagged name key value tag) sound = other_keeps s (SetTagged name key value tag) sound (λ other is. cc)
+exchange_explained stay s (Set name key value) sound = other_keeps s (Set name key value) sound (λ other is. cc)
+exchange_explained stay s (Delete name key) sound = other_keeps s (Delete name key) sound (λ other is. cc)
+exchange_explained stay s (Drop name) sound = other_keeps s (Drop name) sound (λ other is. cc)
+exchange_explained stay s Rotate sound = other_keeps s Rotate sound (λ other is. cc)
+exchange_explained stay s Flush sound = other_keeps s Flush sound (λ other is. cc)
+exchange_explained stay s (Keep versions) sound = other_keeps s (Keep versions) sound (λ other is. cc)
+exchange_explained stay s (Plan name) sound = other_keeps s (Plan name) sound (λ other is. cc)
+exchange_explained stay s (Drain name segment) sound = other_keeps s (Drain name segment) sound (λ other is. cc)
+exchange_explained stay s (Install name) sound = other_keeps s (Install name) sound (λ other is. cc)
+exchange_explained stay s Stats sound = other_keeps s Stats sound (λ other is. cc)
+exchange_explained stay s (Pick name percent) sound = other_keeps s (Pick name percent) sound (λ other is. cc)
+exchange_explained stay s (Batch name) sound = other_keeps s (Batch name) sound (λ other is. cc)
+exchange_explained stay s (Move name) sound = other_keeps s (Move name) sound (λ other is. cc)
+exchange_explained stay s (GetAt name key number) sound = (
+  other_keeps s (GetAt name key number) sound (λ other is. cc),
+  λ told. get_at_explained s.store sound name key number (thing_of s.store name) told,
+)
+exchange_explained stay s (Commit name) sound = elim (commit_or s.store name (thing_of s.store name)) [
+  | inl (keeps, none) ↦ inl (ap history_in keeps.commits, none)
+  | inr (t, b, is, adds) ↦ inr (t, b, is, commit_accepted stay s name t b sound is adds)
+]
 
 exchanges_behind : StaysExplained → (s : State) (texts : List (List ℕ)) (o : Option Line) → IsSound s
     → ((s' : State) → IsSound s' → AreExplained (exchanges_from s' texts))

@@ -27,8 +27,11 @@ pub record IsSplit (bytes : List ℕ) (i : ℕ) : Type 0 where
   pub parts : bytes ≡ take i bytes ++ 10 ∷ drop (i + 1) bytes
 
 one_further : (b : ℕ) (bytes : List ℕ) (i : ℕ) → b ≢ 10 → IsSplit bytes i → IsSplit (b ∷ bytes) (suc i)
-one_further b bytes i other s = record
-    { within = omega (arith, s.within); before = (other, s.before); parts = rw add-one (rw add-one at (ap (λ (l : List ℕ). b ∷ l) s.parts)) }
+one_further b bytes i other s = record {
+  within = omega (arith, s.within);
+  before = (other, s.before);
+  parts = rw add-one (rw add-one at (ap (λ (l : List ℕ). b ∷ l) s.parts));
+}
 
 at_end_step : (b : ℕ) (bytes : List ℕ) (t : Bool) → (b == 10) ≡ t
     → cond (not t) (1 + end_at bytes) 0 < length (b ∷ bytes)
