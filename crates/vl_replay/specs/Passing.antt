@@ -52,8 +52,8 @@ NamesNoPass name s = (pass : Pass) (batch : Option (List Candidate)) → thing_i
 -- ---- the pass that is open
 
 -- It is the open one, and goes over what the layout's does. Its name stands for it in the state, with the batch that waits, and no
--- other name stands for a pass. Where the layout has its log yet it is the same log, whose frames reach to its end; and where the records of
--- the batch were found nothing but their values stands.
+-- other name stands for a pass. Where the layout has its log yet it is the same log, whose frames reach to its end; and where the
+-- records of the batch were found nothing but their values stands.
 pub record IsPassing {H R : Type 0} (bytes : H → Option (List ℕ)) (passing : Passing (Base H R) H) (ts : List (Name × Thing))
     (l : Layout) : Type 0 where
   pub pass : Pass

@@ -31,8 +31,6 @@ use Rattle.vl_engine.specs.declared.fails.ReadFail.{ReadFail}
 use Rattle.vl_engine.specs.declared.fails.ReadFail.TheVariants as unread
 use Rattle.vl_engine.specs.declared.fails.KeepFail.{KeepFail}
 use Rattle.vl_engine.specs.declared.fails.KeepFail.TheVariants as unkept
-use Rattle.vl_engine.specs.declared.fails.PickFail.{PickFail}
-use Rattle.vl_engine.specs.declared.fails.PickFail.TheVariants as unpicked
 use Rattle.vl_engine.specs.declared.fails.StepFail.{StepFail}
 use Rattle.vl_engine.specs.declared.fails.StepFail.TheVariants as undone
 use Rattle.vl_model.specs.Keys.{Stored}

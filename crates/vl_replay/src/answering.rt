@@ -25,8 +25,8 @@ use vl_sequential::{
     DISK_FAULT, Ending, Halt, NO_MEMORY, OnFault, end_at_damage, end_at_fault, finish,
 };
 
-/// Carries out a text as a line, and gives the text of its answer; None where it is a bad line. The room for the answer to
-/// a commit is there before the commit, so that no commit stands whose answer found no memory.
+/// Carries out a text as a line, and gives the text of its answer; None where it is a bad line. The room for an answer by a
+/// number is there before the line is carried out, so that no commit, move, rotation or merge stands whose answer found no memory.
 fn execute_line<D: Disk>(
     alloc: Global,
     replayer: &mut Replayer<D>,
@@ -40,7 +40,7 @@ fn execute_line<D: Disk>(
         → CarriesOut D.Watched IsStored Shown IsStopped (disk_of replayer.old) (disk_of replayer.new) s
         (state_behind s (exchange_at s text.now)) result }
     ensures cause { HasCause (D.faults (disk_of replayer.old)) (D.faults (disk_of replayer.new)) (HaltsByDisk result) }
-    // What a store has isn't damaged, and can be read without its reader unless it has tables. A reader counts its fault.
+    // What a store has isn't damaged. Only a line that reads tables, or goes on with a pass, asks a reader, which counts its fault.
     ensures readable { (s : State) → StandsFor D.Watched D.Writer.Writer D.Held.bytes replayer.old s
         → HaltsByRead result → IsTableRead (exchange_at s text.now) }
     ensures undamaged { (s : State) → StandsFor D.Watched D.Writer.Writer D.Held.bytes replayer.old s → HaltsByDamage result → ⊥ }

@@ -65,8 +65,8 @@ pub fn run<S: Source, K: Sink, D: Disk>(
         → S.left source.old ≡ Some input
         → StatusOfTrial (trial_of stop input outcome) (K.held sink.old) (K.held sink.new) (S.left source.new) result.status }
 
-    // What was read is explained by the history at the reader's own number. This is a law of the sequential store's answers,
-    // and says nothing of the body. It stands here so that this contract has the whole headline.
+    // What was read is explained by the history at the reader's own number, and that grows by accepted commits alone. This is a law
+    // of the sequential store's answers, and says nothing of the body. It stands here so that this contract has the whole headline.
     ensures explained { (s : State) (input : List ℕ) → StartsIn D.Watched disk s
         → AreExplained (exchanges_from s (lines_of input)) }
     ensures explained_in_trial { (input : List ℕ) → AreExplained (exchanges_from begun (lines_of input)) }

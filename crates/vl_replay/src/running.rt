@@ -90,7 +90,8 @@ impl<D: Disk> Progress<D> {
         ensures printed { (script : Script) → StandsFor D.Watched D.Writer.Writer D.Held.bytes self.old.replayer script.start
             → self.old.answered ≡ line_number script.before → IsNext script self.old.line.items
             → PrintsStep (Rose (D.faults (disk_of self.old.replayer)) (D.faults (disk_of self.new.replayer))) script
-            self.old.line.items (StandsFor D.Watched D.Writer.Writer D.Held.bytes self.new.replayer) result (K.held sink.old) (K.held sink.new) }
+            self.old.line.items (StandsFor D.Watched D.Writer.Writer D.Held.bytes self.new.replayer) result
+            (K.held sink.old) (K.held sink.new) }
         ensures moves { (s : State) → StandsFor D.Watched D.Writer.Writer D.Held.bytes self.old.replayer s
             → HoldsState D.Watched IsStored s (disk_of self.old.replayer)
             → DiskSteps D.Watched IsStored Shown IsStopped (disk_of self.old.replayer) (disk_of self.new.replayer) s

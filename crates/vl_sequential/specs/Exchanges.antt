@@ -117,7 +117,7 @@ TellsNoNumber answer = (n : ℕ) → answer ≡ Number n → ⊥
 -- A transaction's commit was accepted: just what it wrote, which is something, is the next commit, and that one's number is told.
 -- None of its reads was overwritten before, so they are explained by the history at its own number, and at the last one before the
 -- commit's.
-pub record IsAccepted (t : Transaction) (e : Exchange) : Type 0 where
+pub record AddsCommit (t : Transaction) (e : Exchange) : Type 0 where
   pub writes : t.writes ≡ [] → ⊥
   pub added : history_of e.after ≡ with_commit (history_of e.before) (from_sorted t.writes)
   pub told : e.answer ≡ Number (last_number (history_of e.before) + 1)
@@ -141,7 +141,7 @@ IsExplainedExchange (SetTagged name key value tag) e = KeepsHistory e
 IsExplainedExchange (Set name key value) e = KeepsHistory e
 IsExplainedExchange (Delete name key) e = KeepsHistory e
 IsExplainedExchange (Commit name) e = (KeepsHistory e × TellsNoNumber e.answer)
-    ⊎ ((t : Transaction) × (b : Beginning) × (thing_of e.before.store name ≡ Some (ATransaction t b)) × IsAccepted t e)
+    ⊎ ((t : Transaction) × (b : Beginning) × (thing_of e.before.store name ≡ Some (ATransaction t b)) × AddsCommit t e)
 IsExplainedExchange (Drop name) e = KeepsHistory e
 IsExplainedExchange Rotate e = KeepsHistory e
 IsExplainedExchange Flush e = KeepsHistory e

@@ -5,7 +5,6 @@ use Rattle.std.specs.Prelude.{Option, None, Some, IsTrue, Result, Ok, IfOk, is_s
 use Rattle.std.specs.Option.{ForSome}
 use Rattle.vl_compact.specs.Laid.{AreBoth}
 use Rattle.vl_compact.specs.declared.job.Job.{Job as TheJob}
-use Rattle.vl_disk.specs.Faults.{after_calls}
 use Rattle.vl_disk.specs.declared.watched.Watched.{Ghosts}
 use Rattle.vl_disk.specs.declared.writer.Writer.{Ghosts as Writers}
 use Rattle.vl_engine.specs.Merging.{FitsReaders, HasAllMerge, HasMerge, OpensMerge, StandsOpen, plan_outcome}
@@ -37,7 +36,7 @@ use Rattle.vl_sequential.specs.Durable.{CarriesOut, HoldsState}
 use Rattle.vl_sequential.specs.Halts.{HaltsByDisk}
 use Rattle.vl_replay.specs.Handed.{CanHandIn, MayHandIn}
 use Rattle.vl_replay.specs.Replaying.{MakesStep, Merges, StandsIn, Waits, state_by_plan}
-use Rattle.vl_sequential.specs.Sequential.{IsTold, State, counted, history_of, state_after, step_to}
+use Rattle.vl_sequential.specs.Sequential.{IsTold, State, history_of, state_after, step_to}
 use Rattle.vl_replay.specs.Standing.{open_in}
 use Rattle.vl_sequential.specs.Stored.{IsStopped, IsStored}
 use Rattle.vl_sequential.specs.declared.fails.Halt.{Halt}

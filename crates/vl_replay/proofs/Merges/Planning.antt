@@ -31,7 +31,7 @@ use Rattle.vl_version.specs.declared.base.Base.{Base}
 use Rattle.vl_replay.specs.Drawn.{HasTablesFrom, IsServing, drawn_all, drawn_state, numbers_from}
 use Rattle.vl_sequential.specs.Readers.{IsReader, IsWithoutTables, is_table}
 use Rattle.vl_replay.specs.Replaying.{MakesStep, Merges, StandsIn, state_by}
-use Rattle.vl_sequential.specs.Sequential.{State, counted, history_of, step_to}
+use Rattle.vl_sequential.specs.Sequential.{State, history_of, step_to}
 use Rattle.vl_replay.specs.Standing.{Corresponds, Stand, open_in}
 use Rattle.vl_replay.specs.declared.replayer.open.Open.{Open}
 use Rattle.vl_sequential.specs.laws.Laws.{IsSound, state_after-sound}

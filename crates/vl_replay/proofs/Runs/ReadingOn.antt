@@ -253,7 +253,8 @@ module _ (input : List ℕ) (begin old new : Streams) (buffer : List ℕ) (count
 
   -- the run ended before it answered a line
   pub reads_end : (ending : Ending) → KeepsUp had new.asked 0
-      → EndsBadly (BeginsBadly (lines_of had)) (BeginsWell (lines_of had)) count ending old.held new.held → ReadsInput input begin new ending
+      → EndsBadly (BeginsBadly (lines_of had)) (BeginsWell (lines_of had)) count ending old.held new.held
+      → ReadsInput input begin new ending
   reads_end ending kept_up ends = let taken = ends.some in record {
     answered = h.answered;
     others = lines_of had;

@@ -12,7 +12,7 @@ ghost use Rattle.vl_layout.specs.Store.Dispatch.{batch_by, drop_by, move_by, pic
 ghost use Rattle.vl_layout.specs.Store.Lines as store_lines;
 ghost use Rattle.vl_layout.specs.Store.Things.{thing_of};
 ghost use Rattle.vl_sequential.specs.Durable.{CarriesOut};
-ghost use Rattle.vl_sequential.specs.Failing.{IsPass, ReaderFailed};
+ghost use Rattle.vl_sequential.specs.Failing.{MovesRecords, ReaderFailed, SeeksRecords};
 ghost use Rattle.vl_sequential.specs.Halts.{HaltsByDamage, HaltsByDisk, HaltsByRead, HaltsByReader};
 ghost use Rattle.vl_replay.specs.Handed.{CanHandIn, KeepsLent};
 ghost use Rattle.vl_replay.specs.Passing.{PassesIn, TakesPass, halt_at};
@@ -134,7 +134,7 @@ pub(super) fn batch<D: Disk>(
         → OnOk result (PassesIn D.Held.bytes served.now.engine.core served.now.engine.collecting passing.new
         (batch_by s.store name (thing_of s.store name)).state) }
     ensures sound { (s : State) → StandsPassing D.Watched D.Held.bytes served.now passing.old s → HaltsByRead result
-        → IsPass (thing_of s.store name) }
+        → SeeksRecords (thing_of s.store name) }
     ensures undamaged { (s : State) → StandsPassing D.Watched D.Held.bytes served.now passing.old s → HaltsByDamage result → ⊥ }
     ensures fault { HaltsByReader result → ReaderFailed D.Reader.faults }
     ensures not_the_disk { HaltsByDisk result → ⊥ }
@@ -193,7 +193,7 @@ pub(super) fn move_batch<D: Disk>(
     ensures opens { (s : State) → StandsPassing D.Watched D.Held.bytes served.old passing.old s
         → OnOk result (Opens served.new.engine.merging (move_by s.store name (thing_of s.store name)).state.layout.job) }
     ensures sound { (s : State) → StandsPassing D.Watched D.Held.bytes served.old passing.old s → HaltsByRead result
-        → IsPass (thing_of s.store name) }
+        → MovesRecords (thing_of s.store name) }
     ensures undamaged { (s : State) → StandsPassing D.Watched D.Held.bytes served.old passing.old s → HaltsByDamage result → ⊥ }
     ensures fault { (s : State) → StandsPassing D.Watched D.Held.bytes served.old passing.old s
         → HaltsByReader result → ReaderFailed D.Reader.faults }

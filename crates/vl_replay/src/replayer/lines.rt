@@ -54,7 +54,8 @@ impl<D: Disk> Replayer<D> {
         ensures carries { TakesLines self.old → (s : State) → StandsFor D.Watched D.Writer.Writer D.Held.bytes self.old s
             → CarriesOut D.Watched IsStored Shown IsStopped (disk_of self.old) (disk_of self.new) s (state_after s line) result }
 
-        // What the store has isn't damaged, and can be read without its reader unless it has tables. A reader counts its fault.
+        // What the store has isn't damaged. Only a line that reads tables, or goes on with a pass, asks a reader, which counts its
+        // fault.
         ensures sound { TakesLines self.old → (s : State) → StandsFor D.Watched D.Writer.Writer D.Held.bytes self.old s
             → HaltsByRead result → ReadsTables line s }
         ensures undamaged { TakesLines self.old → (s : State) → StandsFor D.Watched D.Writer.Writer D.Held.bytes self.old s

@@ -25,7 +25,7 @@ use vl_script::Answer;
 use vl_sequential::Halt;
 
 impl<D: Disk> Served<D> {
-    /// Seals the log that takes commits and begins a new one, where a commit stands in it.
+    /// Seals the log that takes commits and begins a new one, where something stands in it: a commit, or records that were moved.
     pub(super) fn rotate(&mut self) -> Result<Answer, Halt>
         ensures makes { (s : State) → ServesFor D.Watched D.Held.bytes self.old s
             → MakesStep D.Held.bytes (D.told self.new.engine.disk) self.new.engine.core self.new.opens.items s

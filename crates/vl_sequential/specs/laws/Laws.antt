@@ -21,7 +21,7 @@ use Rattle.vl_model.specs.History.{History, last_number}
 use Rattle.vl_model.specs.Keys.{tagged, untagged}
 use Rattle.vl_model.specs.Reads.{IsExplained, Read}
 use Rattle.vl_model.specs.declared.change.Change.TheVariants.{Set as Put, Delete as Deleted}
-use Rattle.vl_sequential.specs.Exchanges.{exchanged, exchanges_from, and_later, IsAccepted, IsExplainedExchange, AreExplained}
+use Rattle.vl_sequential.specs.Exchanges.{exchanged, exchanges_from, and_later, AddsCommit, IsExplainedExchange, AreExplained}
 use Rattle.vl_sequential.specs.Exchanges.{KeepsHistory, KeepsUp, ended_lines}
 use Rattle.vl_sequential.specs.Sequential.{State, answer_to, asked, history_of, state_after, step_to}
 use Rattle.vl_sequential.specs.laws.Explained.{IsSound as IsSoundStore, IsSoundThing, Stays, commit_explained}
@@ -209,7 +209,7 @@ other_keeps s line sound other = elim (keeps_or s line sound) [
 
 -- and a commit leaves it, or is accepted
 commit_accepted : StaysExplained → (s : State) (name : Name) (t : Transaction) (b : Beginning) → IsSound s
-    → thing_of s.store name ≡ Some (ATransaction t b) → Adds s.store (step_to s (Commit name)) t → IsAccepted t (exchanged s (Commit name))
+    → thing_of s.store name ≡ Some (ATransaction t b) → Adds s.store (step_to s (Commit name)) t → AddsCommit t (exchanged s (Commit name))
 commit_accepted stay s name t b sound is adds =
     let explained = commit_explained s.store sound stay name t b (thing_of s.store name) is adds in record {
       writes = adds.some;

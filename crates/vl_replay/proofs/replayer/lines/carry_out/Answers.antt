@@ -793,7 +793,8 @@ returns-in-Plan-clause-makes g c s stands =
 pub returns-in-Drain-clause-makes : goal.returns-in-Drain-clause-makes
 returns-in-Drain-clause-makes g c s stands =
     subst (λ (line : Line). MakesStep g.D.Held.HeldFile.bytes (g.D.Watched.told c.plan-in-Drain.new.served.engine.disk)
-    c.plan-in-Drain.new.served.engine.core c.plan-in-Drain.new.served.opens.items s (step_to s line) c.plan-in-Drain.result) (sym c.in-Drain.is)
+    c.plan-in-Drain.new.served.engine.core c.plan-in-Drain.new.served.opens.items s (step_to s line) c.plan-in-Drain.result)
+    (sym c.in-Drain.is)
     (c.plan-in-Drain.ensures.makes s (merging_of stands) (free_name s c.args.line c.in_default.is (c.in_ok-name.ensures s stands)
     (ap name_made c.in-Drain.is)))
 

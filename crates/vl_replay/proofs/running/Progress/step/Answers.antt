@@ -13,7 +13,8 @@ use Rattle.vl_sequential.specs.declared.input.lines.Next.TheVariants.{Line as Wh
 use Rattle.vl_sequential.specs.laws.Ends.{too_long_is_bad, finished, finish_counts, last_unread, line_leaves_disk, ended_lines-none, or_cut}
 use Rattle.vl_sequential.specs.laws.ShownDisk.{shown_stays, stored_exactly}
 use Rattle.vl_replay.proofs.Runs.ReadingOn.{ends_at_long, finishes_otherwise, reads_all, reads_end, reads_last, reads_line}
-use Rattle.vl_sequential.specs.laws.Stepping.{reads_script, still_keeps_up, next_line, next_last, step_line, step_last, step_apart, step_end}
+use Rattle.vl_sequential.specs.laws.Stepping.{reads_script, still_keeps_up, next_line, next_last, step_line, step_last, step_apart}
+use Rattle.vl_sequential.specs.laws.Stepping.{step_end}
 use Rattle.vl_replay.proofs.running.Progress.step.Goals as goal
 
 pub returns-in-Ok-Line-clause-runs : goal.returns-in-Ok-Line-clause-runs
