@@ -143,6 +143,14 @@ const RUNS: &str = "\
         ok 2;ok;moved 0;end;ok;ok 4;none;value 01;|0\n\
     replay .|||begin t;set t 61 *65*;commit t;rotate;flush;pick g 26;pick g 25;batch g;move g;batch g;drop g;stats;|ok 0;ok;ok 1;\
         ok 1;ok 1;norewrite;ok 1;found 1;moved 1;end;ok;segments 2;segment 1 bytes 99 live 74;segment 2 bytes 99 live 0;|0\n\
+    replay .|||begin t;set t 61 *65*;commit t;rotate;flush;pick g 1;batch g;move g;drop g;rotate;flush;rotate;view w;get w 61;stats;|\
+        ok 0;ok;ok 1;ok 1;ok 1;ok 1;found 1;moved 1;ok;ok 2;ok 2;idle;ok 1;value *65*;segments 3;segment 1 bytes 99 live 74;\
+        segment 2 bytes 99 live 74;segment 3 bytes 0 live 0;|0\n\
+    replay .|||begin t;set t 61 *65*;commit t;rotate;flush;begin t;del t 61;commit t;rotate;flush;begin t;set t 62 01;commit t;\
+        rotate;flush;begin t;set t 63 01;commit t;rotate;stats;flush;stats;plan j;stats;install j;stats;pick g 1;|ok 0;ok;ok 1;ok 1;\
+        ok 1;ok 1;ok;ok 2;ok 2;ok 2;ok 2;ok;ok 3;ok 3;ok 3;ok 3;ok;ok 4;ok 4;segments 3;segment 1 bytes 99 live 74;\
+        segment 4 bytes 35 live 0;segment 5 bytes 0 live 0;ok 4;segments 2;segment 1 bytes 99 live 74;segment 5 bytes 0 live 0;ok 2;\
+        segments 2;segment 1 bytes 99 live 74;segment 5 bytes 0 live 0;ok;segments 1;segment 5 bytes 0 live 0;norewrite;|0\n\
     replay .|||pick g 0;pick g 100;pick g 50;batch g;move g;drop g;|invalid;invalid;norewrite;unknown g;unknown g;unknown g;|0\n\
     replay .|||begin t;set t 61 *65*;commit t;rotate;flush;pick g 1;pick h 1;pick h 0;pick g 1;begin g;view g;plan g;get g 61;\
         move g;batch g;batch g;drop g;pick g 25;drop g;pick g 26;|ok 0;ok;ok 1;ok 1;ok 1;ok 1;rejected 1;invalid;taken g;taken g;\
@@ -221,7 +229,8 @@ const USAGE: &str =
 const NO_LINES: &str =
     " |begin|begin |begin  a| begin a|begin a |begin a b|begin A|begin a_b|begin 123456789abcdefgh|Begin a\
     |begi a|get a|get - -|get a 6|get a 6g|get a |get a 61 62|set a 61|set a 61 01 02|set a 61 01\r|setb a 61 01|setb a 61 01 256|setb a 61 01 07|setb a 61 01 +7|setb a 61 01 7 |getb a|getb a 61 7|del a\
-    |del a |del a 61 62|del a 6|delete a 61|scan a - -|scan a - - 0|scan a - - 65536|scan a - - 01|rscan a - - 1 1|scan a 6 - 1|drop|drop a b|drop A|rotate |rotate a| flush|flush 1|Flush|keep|keep 256|keep 01|keep a|getat a 61|getat a 61 01|getat a 61 18446744073709551616|getat a 6 1";
+    |del a |del a 61 62|del a 6|delete a 61|scan a - -|scan a - - 0|scan a - - 65536|scan a - - 01|rscan a - - 1 1|scan a 6 - 1|drop|drop a b|drop A|rotate |rotate a| flush|flush 1|Flush|keep|keep 256|keep 01|keep a|getat a 61|getat a 61 01|getat a 61 18446744073709551616|getat a 6 1\
+    |stats |stats 1|Stats|pick|pick g|pick g 256|pick g 01|pick g -|pick g 1 2|pick G 1|batch|batch g 1|batch G|move|move g 1|move ";
 
 /// The text that stands for these bytes in a table.
 fn spelled(alloc: Global, text: &str) -> Result<Vec<u8>, Fail> {

@@ -69,10 +69,10 @@ fn push_line(script: &mut String, pair: u64, x: u64) -> Result<(), Fail> {
     Ok(())
 }
 
-/// So many pairs of lines between two `stats`, so that sums are kept from the first line on. In each pair a transaction goes on,
-/// and files change.
+/// So many pairs of lines, and `stats`. In each pair a transaction goes on, and a step changes files: from the first of these on
+/// sums are kept.
 fn script(alloc: Global, seed: u64, pairs: u64) -> Result<String, Fail> {
-    let mut script = String::from_str(alloc, "stats\n")?;
+    let mut script = String::new(alloc);
     let mut x = seed;
     for pair in 0..pairs {
         x = behind(x);
