@@ -1,2 +1,3 @@
+pub mod Files
+pub mod InUse
 pub mod Pins
-pub mod RetiredFiles
