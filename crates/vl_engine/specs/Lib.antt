@@ -13,11 +13,14 @@ pub mod Planning
 pub mod Reading
 pub mod Refusing
 pub mod Relocating
+pub mod Removing
+pub mod Retiring
 pub mod Rotating
 pub mod Sees
 pub mod Staging
 pub mod Stepping
 pub mod Steps
+pub mod Sweeping
 pub mod Taking
 pub mod UnderWay
 pub mod Whole

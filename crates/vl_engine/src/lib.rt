@@ -17,8 +17,10 @@ mod making;
 mod open;
 mod past;
 mod relocating;
+mod removing;
 mod rotating;
 mod staging;
+mod sweeping;
 mod txn;
 mod view;
 mod writing;
@@ -26,7 +28,7 @@ mod writing;
 pub use engine::{Done, Engine};
 pub use fails::{
     AtFail, CommitFail, InstallFail, KeepFail, MergeFail, MoveFail, PickFail, ReadFail, ReadFault,
-    StepFail,
+    StepFail, SweepFail,
 };
 pub use laws::what_is_seen_stays;
 pub use txn::Txn;

@@ -27,6 +27,23 @@ pub record Kept (L : Type 0) : Type 0 where
   pub logs : List ℕ
   pub trash : List (RetiredFile L)
 
+-- ---- room
+
+-- the same files are in use, if they are kept
+abbrev pub IsSameUse : (old new : Option InUse) → Type 0
+IsSameUse None None = Unit {0}
+IsSameUse None (Some v) = ⊥
+IsSameUse (Some u) None = ⊥
+IsSameUse (Some u) (Some v) = (v.tables.items ≡ u.tables.items) × (v.logs.items ≡ u.logs.items)
+
+-- they are kept, with room for so many tables more and for one log; with so many others there are so many then
+pub record HasRoomIn (in_use : Option InUse) (tables others all : ℕ) : Type 0 where
+  pub kept : InUse
+  pub is_some : in_use ≡ Some kept
+  pub tables_in : vec_len kept.tables + tables ≤ vec_capacity kept.tables
+  pub logs_in : vec_len kept.logs + 1 ≤ vec_capacity kept.logs
+  pub all_are : all ≡ vec_len kept.tables + vec_len kept.logs + tables + others + 1
+
 -- ---- what becomes of them
 
 module _ {L : Type 0} where

@@ -1,5 +1,6 @@
-ghost use Rattle.std.specs.Prelude.{◌≡◌, ◌≤◌, ◌<◌, ◌+◌, ◌++◌, ◌∷◌, [], true, OnOk, vec_capacity, vec_len};
+ghost use Rattle.std.specs.Prelude.{◌≡◌, ◌≤◌, ◌+◌, [], true, IfOk, IfSome, OnOk, vec_capacity, vec_len};
 ghost use Rattle.vl_model.specs.Numbers.{has};
+ghost use Rattle.vl_pins.specs.Files.{HasRoomIn, IsSameUse};
 ghost use Rattle.vl_pins.specs.InUse.{but};
 
 use std::alloc::{AllocError, Global};
@@ -24,15 +25,45 @@ impl InUse {
         }
     }
 
-    /// Room for so many tables more, and for one log.
-    pub fn make_room(&mut self, tables: usize) -> Result<(), AllocError>
+    /// Room for so many tables more, and for one log. It answers how many there may be then, with so many others.
+    pub fn make_room(&mut self, tables: usize, others: usize) -> Result<usize, AllocError>
         ensures tables { self.new.tables.items ≡ self.old.tables.items }
         ensures logs { self.new.logs.items ≡ self.old.logs.items }
         ensures room { OnOk result (vec_len self.new.tables + tables ≤ vec_capacity self.new.tables) }
         ensures log_room { OnOk result (vec_len self.new.logs + 1 ≤ vec_capacity self.new.logs) }
+        ensures all { IfOk result (λ all. all ≡ vec_len self.new.tables + vec_len self.new.logs + tables + others + 1) }
     {
         self.tables.reserve(tables)?;
-        self.logs.reserve(1)
+        self.logs.reserve(1)?;
+        match sum(self.tables.len(), self.logs.len(), tables, others) {
+            None => Err(AllocError),
+            Some(all) => Ok(all),
+        }
+    }
+}
+
+// What these come to, and one more.
+fn sum(a: usize, b: usize, c: usize, d: usize) -> Option<usize>
+    ensures { IfSome result (λ all. all ≡ a + b + c + d + 1) }
+{
+    a.checked_add(b)?
+        .checked_add(c)?
+        .checked_add(d)?
+        .checked_add(1)
+}
+
+/// The same where they are kept.
+pub fn room_in(
+    in_use: &mut Option<InUse>,
+    tables: usize,
+    others: usize,
+) -> Result<usize, AllocError>
+    ensures same { IsSameUse in_use.old in_use.new }
+    ensures room { IfOk result (λ all. HasRoomIn in_use.new tables others all) }
+{
+    match in_use {
+        None => Err(AllocError),
+        Some(in_use) => in_use.make_room(tables, others),
     }
 }
 

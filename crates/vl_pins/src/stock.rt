@@ -1,8 +1,8 @@
-ghost use Rattle.std.specs.Prelude.{◌≡◌, ◌≤◌, ◌<◌, ◌+◌, ◌++◌, ◌∷◌, [], ℕ, IfSome, OnOk, None, Some};
+ghost use Rattle.std.specs.Prelude.{◌≡◌, ◌≤◌, ◌<◌, ◌+◌, ◌++◌, ◌∷◌, [], ℕ, OnOk, None};
 ghost use Rattle.std.specs.VecDeque.{deque_len, deque_capacity};
 ghost use Rattle.vl_pins.specs.Files.{BecomesBy, HasRoom, TakesUpTo, left_at, log_retired, log_sealed, table_retired, with_tables};
 
-use crate::in_use::take;
+use crate::in_use::{room_in, take};
 use crate::trash::{Trash, place_up_to};
 use crate::{InUse, RetiredFile};
 use std::alloc::{AllocError, Global};
@@ -41,13 +41,7 @@ impl<L: Drop> Stock<L> {
         ensures none { self.old.in_use ≡ None → self.new.in_use ≡ None }
         ensures room { OnOk result (HasRoom self.new tables 1 lent) }
     {
-        let Some(in_use) = &mut self.in_use else {
-            return Err(AllocError);
-        };
-        in_use.make_room(tables)?;
-        let Some(all) = sum(in_use.tables.len(), in_use.logs.len(), tables, lent) else {
-            return Err(AllocError);
-        };
+        let all = room_in(&mut self.in_use, tables, lent)?;
         self.trash.reserve(all)
     }
 
@@ -143,14 +137,4 @@ impl<L: Drop> Stock<L> {
         let at = place_up_to(&self.trash, bound);
         self.trash.remove(at)
     }
-}
-
-// What these come to, and one more.
-fn sum(a: usize, b: usize, c: usize, d: usize) -> Option<usize>
-    ensures { IfSome result (λ all. all ≡ a + b + c + d + 1) }
-{
-    a.checked_add(b)?
-        .checked_add(c)?
-        .checked_add(d)?
-        .checked_add(1)
 }

@@ -123,6 +123,12 @@ impl<D: Disk> Engine<D> {
         let reader = BlockReader::new(self.alloc, reader, blocks)?;
         let version = self.core.version.share()?;
         let past = past_of(&self.core);
+        // What lives pins the version number under the same ticket.
+        let pinned = match self.removing.pins.begin(self.core.back.version_number) {
+            Ok(ticket) => Some(ticket),
+            Err(BeginFail::TooMany) => None,
+            Err(BeginFail::NoMemory) => return Err(BeginFail::NoMemory),
+        };
         match self.core.front.begin() {
             Ok(ticket) => Ok(View {
                 alloc: self.alloc,
@@ -132,7 +138,12 @@ impl<D: Disk> Engine<D> {
                 version,
                 reader,
             }),
-            Err(why) => Err(why),
+            Err(why) => {
+                if let Some(ticket) = pinned {
+                    self.removing.pins.end(ticket);
+                }
+                Err(why)
+            }
         }
     }
 }

@@ -124,6 +124,7 @@ impl<D: Disk> Engine<D> {
             return Err(PickFail::NoMemory);
         };
         self.collecting.passing = Some(number);
+        self.removing.pins.pass = Some(self.core.back.version_number);
         Ok(Pass::new(Base::new(version), log))
     }
 
@@ -147,6 +148,7 @@ impl<D: Disk> Engine<D> {
     {
         let _ = pass;
         self.collecting.passing = None;
+        self.removing.pins.pass = None;
     }
 }
 

@@ -159,12 +159,14 @@ impl<D: Disk> Engine<D> {
             let name = Name::Log(self.core.front.log.number);
             self.core.front.halted = Some(name);
             self.core.front.end(txn.ticket);
+            self.removing.pins.end(txn.ticket);
             return Err(CommitFail::Disk { name });
         };
         let number = self.core.front.oracle.last() + 1;
         self.core.front.log = log;
         self.core.version.set_active(active);
         self.core.front.committed(txn.ticket, keys);
+        self.removing.pins.end(txn.ticket);
         Ok(Done::At(number))
     }
 }

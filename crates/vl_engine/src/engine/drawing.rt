@@ -21,7 +21,7 @@ ghost use Rattle.vl_layout.specs.Rulings.Fresh.{fresh_ruling};
 ghost use Rattle.vl_layout.specs.declared.layout.Layout.{Layout};
 ghost use Rattle.vl_model.specs.History.{History};
 
-use crate::making::{lend_new, note_lent, ready_fresh};
+use crate::making::{lend_new, make_room_to_leave, note_lent, ready_fresh};
 use crate::{Engine, StepFail};
 use vl_compact::{Job, Lent};
 use vl_disk::{Disk, Name};
@@ -113,6 +113,9 @@ impl<D: Disk> Engine<D> {
         if number > MAX_FILE_NUMBER {
             return Err(StepFail::Exhausted(Counter::Table));
         }
+        let Ok(()) = make_room_to_leave(&mut self.removing.stock, &self.merging) else {
+            return Err(StepFail::NoMemory);
+        };
         let Ok(()) = ready_fresh(&mut self.disk, &mut self.merging, job, number) else {
             return Err(StepFail::NoMemory);
         };

@@ -62,6 +62,7 @@ impl<D: Disk> Engine<D> {
         ensures logs { self.new.core.version.behind.logs ≡ self.old.core.version.behind.logs }
     {
         self.core.front.end(ticket);
+        self.removing.pins.end(ticket);
     }
 
     /// The number of the last commit.

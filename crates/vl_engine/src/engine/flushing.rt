@@ -22,6 +22,7 @@ ghost use Rattle.vl_model.specs.History.{History};
 
 use crate::collecting::head_of;
 use crate::flushing::{ReadyFlush, ready_flush};
+use crate::making::lent_count;
 use crate::{Engine, StepFail};
 use vl_back::{Decision, StagedFlush, StagedTable, write_and_switch};
 use vl_disk::Disk;
@@ -136,6 +137,12 @@ impl<D: Disk> Engine<D> {
         else {
             return Err(StepFail::NoMemory);
         };
+        let Ok(()) = self
+            .removing
+            .make_room(self.alloc, &self.core, 1, lent_count(&self.merging))
+        else {
+            return Err(StepFail::NoMemory);
+        };
         let number = self.core.back.state.next_table;
         match write_and_switch(
             &mut self.disk,
@@ -147,7 +154,10 @@ impl<D: Disk> Engine<D> {
             Ok(held) => {
                 self.core.version = version.with_table(Table::of(held, shape));
                 self.core.back.apply_flush(state);
-                self.collecting.switch(live, head_of(&self.core));
+                let head = head_of(&self.core);
+                let version = self.core.back.version_number;
+                self.removing.switch(&[number], &[], &live, head, version);
+                self.collecting.switch(live, head);
                 Ok(Some(number))
             }
             Err(name) => {

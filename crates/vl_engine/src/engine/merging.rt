@@ -105,12 +105,14 @@ impl<D: Disk> Engine<D> {
         ensures core { self.new.core ≡ self.old.core }
         ensures disk { self.new.disk ≡ self.old.disk }
     {
-        self.merging = None;
         match fail {
             InstallFail::Halted { name } => MergeFail::Halted { name },
             InstallFail::Raced { .. } => MergeFail::Raced,
             InstallFail::Exhausted(counter) => MergeFail::Exhausted(counter),
-            InstallFail::NoMemory(_) => MergeFail::NoMemory,
+            InstallFail::NoMemory(job) => {
+                self.leave(job);
+                MergeFail::NoMemory
+            }
             InstallFail::Disk { name } => MergeFail::Disk { name },
         }
     }

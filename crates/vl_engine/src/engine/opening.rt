@@ -28,13 +28,14 @@ ghost use Rattle.vl_recover.specs.opening.Opening.{NamesNoTable};
 ghost use Rattle.vl_recover.specs.opening.Results.{recovery_by};
 ghost use Rattle.vl_recover.specs.repairing.Steps.{MakesSome};
 
-use crate::open::Collecting;
+use crate::open::{Collecting, Removing};
 use crate::{Engine, OpenError, OpenFail};
 use std::alloc::Global;
 use vl_back::Back;
 use vl_core::Core;
 use vl_disk::Disk;
 use vl_front::Front;
+use vl_pins::{Pins, Stock};
 use vl_recover::{Parts, recover};
 use vl_table::Table;
 use vl_version::{Level, Levels, Version};
@@ -174,6 +175,10 @@ impl<D: Disk> Engine<D> {
             collecting: Collecting {
                 passing: None,
                 tally: None,
+            },
+            removing: Removing {
+                pins: Pins::new(alloc),
+                stock: Stock::new(alloc),
             },
         })
     }

@@ -176,6 +176,7 @@ impl<D: Disk> Engine<D> {
         let floor = self.core.front.oracle.floor();
         let keep = self.core.back.state.keep;
         self.merging = Some(OpenMerge::new(self.alloc));
+        self.removing.pins.merge = Some(self.core.back.version_number);
         Ok(Job::new(self.alloc, Base::new(version), inputs, floor, keep))
     }
 
@@ -215,7 +216,6 @@ impl<D: Disk> Engine<D> {
         ensures merging { self.new.merging ≡ None }
         ensures collecting { self.new.collecting ≡ self.old.collecting }
     {
-        let _ = job;
-        self.merging = None;
+        self.leave(job);
     }
 }

@@ -19,6 +19,7 @@ ghost use Rattle.vl_layout.specs.Tidy.{IsTrueLog};
 ghost use Rattle.vl_layout.specs.declared.layout.Layout.{Layout};
 ghost use Rattle.vl_model.specs.History.{History};
 
+use crate::making::lent_count;
 use crate::rotating::{refusal, stage_rotation};
 use crate::{Engine, StepFail};
 use vl_back::{Waiting, make_log};
@@ -112,10 +113,17 @@ impl<D: Disk> Engine<D> {
         let Ok(()) = self.collecting.make_room(self.alloc, &self.core) else {
             return Err(StepFail::NoMemory);
         };
+        let Ok(()) = self
+            .removing
+            .make_room(self.alloc, &self.core, 0, lent_count(&self.merging))
+        else {
+            return Err(StepFail::NoMemory);
+        };
         let length = self.core.front.log.length;
         match self.begin_log() {
             Ok(Some(number)) => {
                 self.collecting.seal((number, length));
+                self.removing.stock.add_log(number);
                 Ok(Some(number))
             }
             answer => answer,

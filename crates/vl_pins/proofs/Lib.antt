@@ -1,0 +1,2 @@
+mod Becoming
+mod Taking
