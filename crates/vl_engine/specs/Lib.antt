@@ -9,6 +9,7 @@ pub mod Lent
 pub mod Merging
 pub mod Opening
 pub mod Past
+pub mod Pinning
 pub mod Planning
 pub mod Reading
 pub mod Refusing

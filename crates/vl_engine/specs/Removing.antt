@@ -81,6 +81,14 @@ pub record Removes {H L : Type 0} (low : Bool) (core : Core H) (kept : Removing 
   pub stock : l.halted ≡ None → IsStockOf core kept.stock l
   pub below : low ≡ true → l.halted ≡ None → AreBelowHead core l
 
+-- nothing is pinned, and nothing waits
+pub record IsNothingRemoved {L : Type 0} (kept : Removing L) : Type 0 where
+  pub live : kept.pins.live ≡ record { last = 0; tickets = [] }
+  pub merge : kept.pins.merge ≡ None
+  pub pass : kept.pins.pass ≡ None
+  pub in_use : kept.stock.in_use ≡ None
+  pub trash : kept.stock.trash.items ≡ []
+
 -- it is found so
 abbrev pub is_low : {H : Type 0} → Core H → Layout → Bool
 is_low core l = list_all (λ (s : Segment). nat_lt s.number core.back.state.head) l.flushed

@@ -1,11 +1,17 @@
 -- How steps change which files are in use, and which wait for their removal.
-use Rattle.std.specs.Prelude.{◌≡◌, ◌⊎◌, ◌≤◌, ◌+◌, ℕ, ◌==◌, ◌&&◌, nat_lt, Bool, List, [], ◌∷◌, ◌++◌, length, map, Option, None, Some}
+use Rattle.std.specs.Prelude.{◌≡◌, ◌⊎◌, ◌≤◌, ◌+◌, ℕ, ◌==◌, ◌&&◌, nat_lt, Bool, false, List, [], ◌∷◌, ◌++◌, length, map, Option, None, Some, Result, Ok, Err}
 use Rattle.std.specs.List.{filter}
 use Rattle.std.specs.VecDeque.{deque_len, deque_capacity}
 use Rattle.vl_compact.specs.declared.files.Lent.{Lent}
 use Rattle.vl_compact.specs.declared.files.Synced.{Synced}
 use Rattle.vl_compact.specs.declared.job.Job.{Job}
 use Rattle.vl_core.specs.declared.kept.Core.{Core}
+use Rattle.vl_engine.specs.Collecting.{head_in}
+use Rattle.vl_engine.specs.Pinning.{merge_pinned}
+use Rattle.vl_engine.specs.declared.fails.InstallFail.{InstallFail}
+use Rattle.vl_engine.specs.declared.fails.InstallFail.TheVariants as install
+use Rattle.vl_engine.specs.declared.fails.StepFail.{StepFail}
+use Rattle.vl_engine.specs.declared.open.Removing.{Removing}
 use Rattle.vl_pins.specs.Files.{BecomesBy, Has, HasRoom, Kept, kept_in, left_at, log_sealed, logs_retired, tables_retired, with_tables}
 use Rattle.vl_pins.specs.InUse.{but}
 use Rattle.vl_pins.specs.declared.in_use.InUse.{InUse}
@@ -13,7 +19,9 @@ use Rattle.vl_pins.specs.declared.retired_file.RetiredFile.{RetiredFile}
 use Rattle.vl_pins.specs.declared.stock.Stock.{Stock}
 use Rattle.vl_seglog.specs.declared.sealed.SealedLog.{SealedLog}
 use Rattle.vl_stats.specs.Live.{bytes_of}
+use Rattle.vl_stats.specs.Tallies.{Tallied}
 use Rattle.vl_table.specs.Tables.{number_of}
+use Rattle.vl_version.specs.declared.base.Base.{Base}
 use Rattle.vl_version.specs.levels.LevelsLooked.{tables_of}
 
 -- ---- how it is made
@@ -61,6 +69,11 @@ retiring version idle kept = logs_retired version (filter idle kept.logs) kept
 abbrev pub switching : {L : Type 0} → ℕ → (added dropped : List ℕ) → (ℕ → Bool) → Kept L → Kept L
 switching version added dropped idle kept = retiring version idle (tables_retired version dropped (with_tables added kept))
 
+-- by what is kept of live bytes
+abbrev pub is_idle_in : ℕ → Option Tallied → ℕ → Bool
+is_idle_in head None n = false
+is_idle_in head (Some tally) n = is_idle_log head tally.live n
+
 abbrev pub logs_kept : {L : Type 0} → Stock L → List ℕ
 logs_kept stock = logs_of stock.in_use
   where
@@ -88,3 +101,55 @@ pub record LeavesFiles {W : Type 0} {s : _} (files : List (Lent W s)) (old new :
       → new.trash.items ≡ old.trash.items ++ all_left files
   -- and else some of them
   pub some : (kept : List (Lent W s)) × (new.trash.items ≡ old.trash.items ++ all_left kept)
+
+-- ---- what a step does to it
+
+module _ {H W : Type 0} (before : Core H) where
+  -- The sealed log came into use, behind the others.
+  pub record SealsInto {s : _} (old new : Stock (Lent W s)) (lent : ℕ) : Type 0 where
+    pub readied : Stock (Lent W s)
+    pub is_ready : IsReadied before old readied 0 lent
+    pub sealed : BecomesBy (log_sealed before.front.log.number) readied new
+    pub trash : new.trash ≡ readied.trash
+
+  abbrev pub SealsStock : {s : _} → (old new : Stock (Lent W s)) → (lent : ℕ) → Result (Option ℕ) StepFail → Type 0
+  SealsStock old new lent (Ok (Some number)) = SealsInto old new lent
+  SealsStock old new lent (Ok None) = ⊥
+  SealsStock old new lent (Err why) = StaysUsed before old new
+
+  -- The tables that a switch adds came into use; those that it drops, and the idle logs behind it, are retired.
+  pub record SwitchesStock {s : _} (after : Core H) (added dropped : List ℕ) (tally : Option Tallied) (old new : Stock (Lent W s))
+      (lent : ℕ) : Type 0 where
+    pub readied : Stock (Lent W s)
+    pub is_ready : IsReadied before old readied (length added) lent
+    pub switched : BecomesBy (switching (before.back.version_number + 1) added dropped (is_idle_in (head_in after) tally)) readied new
+    pub room : HasRoom new 0 0 lent
+
+  abbrev pub FlushesStock : {s : _} → (after : Core H) → (old new : Stock (Lent W s)) → Option Tallied → (lent : ℕ)
+      → Result (Option ℕ) StepFail → Type 0
+  FlushesStock after old new tally lent (Ok (Some number)) = SwitchesStock after (number ∷ []) [] tally old new lent
+  FlushesStock after old new tally lent (Ok None) = ⊥
+  FlushesStock after old new tally lent (Err why) = StaysUsed before old new
+
+-- The same, where first the merge's other files were put behind those that wait.
+pub record InstallsInto {H R W : Type 0} {s : _} (job : Job (Base H R) H W s) (before after : Core H) (tally : Option Tallied)
+    (old new : Stock (Lent W s)) (lent : ℕ) : Type 0 where
+  pub readied : Stock (Lent W s)
+  pub is_ready : IsReadied before old readied (length job.made.items) lent
+  pub mid : Stock (Lent W s)
+  pub left : LeavesFiles job.leavings.items readied mid
+  pub switched : BecomesBy (switching (before.back.version_number + 1) (map (λ (t : Synced W s). t.number) job.made.items)
+      (map number_of job.inputs.tables.items) (is_idle_in (head_in after) tally)) mid new
+
+abbrev pub InstallsStock : {H R W : Type 0} {s : _} → (job : Job (Base H R) H W s) → (before after : Core H)
+    → (old new : Removing (Lent W s)) → Option Tallied → (lent : ℕ)
+    → Result (Unit {0}) (InstallFail (Base H R) H W s) → Type 0
+InstallsStock job before after old new tally lent (Ok done) =
+    (new.pins ≡ (merge_pinned None old).pins) × InstallsInto job before after tally old.stock new.stock lent
+InstallsStock job before after old new tally lent (Err (install.Halted name)) = ⊥
+InstallsStock job before after old new tally lent (Err (install.Raced key number)) = ⊥
+InstallsStock job before after old new tally lent (Err (install.Exhausted counter)) =
+    (new.pins ≡ (merge_pinned None old).pins) × LeavesFiles (files_in job) old.stock new.stock
+InstallsStock job before after old new tally lent (Err (install.NoMemory back)) =
+    (new.pins ≡ old.pins) × StaysUsed before old.stock new.stock
+InstallsStock job before after old new tally lent (Err (install.Disk name)) = new.pins ≡ (merge_pinned None old).pins

@@ -101,19 +101,12 @@ fn files_in_use<H: HeldFile>(alloc: Global, core: &Core<H>) -> Result<InUse, All
     for level in levels.deeper() {
         put_numbers(&mut in_use.tables, level.as_slice())?;
     }
-    put_sealed(
-        &mut in_use.logs,
-        core.version.logs(),
-        core.front.log.number,
-    )?;
+    put_sealed(&mut in_use.logs, core.version.logs(), core.front.log.number)?;
     Ok(in_use)
 }
 
 // Puts the numbers of these tables behind others.
-fn put_numbers<H: HeldFile>(
-    numbers: &mut Vec<u32>,
-    tables: &[Table<H>],
-) -> Result<(), AllocError>
+fn put_numbers<H: HeldFile>(numbers: &mut Vec<u32>, tables: &[Table<H>]) -> Result<(), AllocError>
     ensures { OnOk result (numbers.new.items ≡ numbers.old.items ++ map number_of tables.now) }
 {
     for table in tables {

@@ -1,4 +1,4 @@
-ghost use Rattle.std.specs.Prelude.{◌≡◌, ◌<◌, ◌≤◌, ℕ, Err, None, Some, IfOk, IsSome, OnOk, map};
+ghost use Rattle.std.specs.Prelude.{◌≡◌, ◌<◌, ◌≤◌, ℕ, Err, None, Some, IfOk, IsSome, OnOk, length, map, Bool};
 ghost use Rattle.std.specs.List.{filter};
 ghost use Rattle.std.specs.Option.{ForSome};
 ghost use Rattle.vl_compact.specs.Progress.{made_of};
@@ -11,7 +11,8 @@ ghost use Rattle.vl_engine.specs.Collecting.{Collects, InstallsFor, LeadsFrom, p
 ghost use Rattle.vl_engine.specs.Installing.{HandsBack, InstallFailed, InstallLeavesDisk, InstallsAs, InstallsCore};
 ghost use Rattle.vl_engine.specs.Installing.{InstallsUnraced, IsHandedIn, IsInstallWritten, KeepsAllBut, MayInstall};
 ghost use Rattle.vl_engine.specs.Installing.{StopsInstall, WritesInstall, install_otherwise};
-ghost use Rattle.vl_engine.specs.Retiring.{LeavesFiles, files_in};
+ghost use Rattle.vl_engine.specs.Removing.{Removes, lent_in};
+ghost use Rattle.vl_engine.specs.Retiring.{InstallsStock, LeavesFiles, files_in};
 ghost use Rattle.vl_engine.specs.UnderWay.{IsUnderWay};
 ghost use Rattle.vl_engine.specs.Merging.{HasAllMerge, StandsOpen, install_effects, install_outcome, made_numbers};
 ghost use Rattle.vl_core.specs.Represents.{Represents};
@@ -30,9 +31,7 @@ ghost use Rattle.vl_version.specs.Bases.{is_input};
 ghost use Rattle.vl_version.specs.levels.LevelsLooked.{tables_of};
 
 use crate::collecting::head_of;
-use crate::installing::{
-    ReadyInstall, made_numbers, numbers_of, ready_install, write_install,
-};
+use crate::installing::{ReadyInstall, made_numbers, numbers_of, ready_install, write_install};
 use crate::making::lent_count;
 use crate::removing::leave_files;
 use crate::{Engine, InstallFail};
@@ -126,6 +125,15 @@ impl<D: Disk> Engine<D> {
             → Decides (λ _ l. Collects self.new.core self.new.collecting l) h l (install_ruling l h o.job (made_of job o.job))
             (install_otherwise l (made_of job o.job)) (install_outcome result) (install_effects result) }
 
+        // What is kept of which files can go is what the layout has: the inputs and the logs that it retires wait, and so do the
+        // merge's files that aren't put in. It pins nothing then.
+        ensures removes { (low : Bool) (state : DiskState) (h : History) (l : Layout) (o : OpenJob) → D.told self.old.disk ≡ Some state
+            → StandsOpen D.Held.bytes self.old.core self.old.merging h l → l.job ≡ Some o → (l.halted ≡ None → AreLogFiles l)
+            → HasAllMerge D.Writer.Writer D.Held.bytes job o.job → AreLent o.lent (made_of job o.job)
+            → Collects self.old.core self.old.collecting l → Removes low self.old.core self.old.removing l
+            → Decides (λ _ l. Removes low self.new.core self.new.removing l) h l (install_ruling l h o.job (made_of job o.job))
+            (install_otherwise l (made_of job o.job)) (install_outcome result) (install_effects result) }
+
         // In memory a version is made, or nothing changes beside the open merge, unless a fault halts. A halted engine does nothing.
         ensures core { InstallsCore self.old.core self.new.core result }
         ensures halted { (name : Name) → self.old.core.front.halted ≡ Some name → result ≡ Err (fails.Halted name) }
@@ -179,6 +187,8 @@ impl<D: Disk> Engine<D> {
         ensures cause { HasCause (D.faults self.old.disk) (D.faults self.new.disk) (InstallFailed result) }
         ensures collected { InstallsFor D.Held.bytes self.old.core self.old.collecting self.new.collecting D.Writer.Writer job
             self.new.core result }
+        ensures retires { InstallsStock job self.old.core self.new.core self.old.removing self.new.removing self.new.collecting.tally
+            (length (lent_in self.old.merging)) result }
     {
         if self.core.back.has_no_version() {
             self.leave(job);
@@ -208,6 +218,8 @@ impl<D: Disk> Engine<D> {
         ensures cause { HasCause (D.faults self.old.disk) (D.faults self.new.disk) (InstallFailed result) }
         ensures collected { InstallsFor D.Held.bytes self.old.core self.old.collecting self.new.collecting D.Writer.Writer job
             self.new.core result }
+        ensures retires { InstallsStock job self.old.core self.new.core self.old.removing self.new.removing self.new.collecting.tally
+            (length (lent_in self.old.merging)) result }
     {
         let Ok(dropped) = numbers_of(self.alloc, &job.inputs().tables) else {
             return Err(InstallFail::NoMemory(job));
@@ -232,9 +244,7 @@ impl<D: Disk> Engine<D> {
         } = ready;
         self.merging = None;
         self.removing.pins.merge = None;
-        let Parts {
-            made, leavings, ..
-        } = job.into_parts();
+        let Parts { made, leavings, .. } = job.into_parts();
         let mut levels = levels;
         match write_install(
             &mut self.disk,
@@ -272,9 +282,7 @@ impl<D: Disk> Engine<D> {
     {
         self.merging = None;
         self.removing.pins.merge = None;
-        let Parts {
-            made, leavings, ..
-        } = job.into_parts();
+        let Parts { made, leavings, .. } = job.into_parts();
         leave_files(&mut self.removing.stock, made, leavings);
     }
 }
