@@ -5,7 +5,24 @@ use Rattle.vl_engine.specs.declared.fails.CommitFail.{CommitFail}
 use Rattle.vl_engine.specs.declared.fails.CommitFail.TheVariants as fails
 use Rattle.vl_engine.specs.declared.fails.PickFail.{PickFail}
 use Rattle.vl_engine.specs.declared.open.Removing.{Removing}
-use Rattle.vl_oracle.specs.LiveTickets.{ended}
+use Rattle.vl_layout.specs.Rising.{IsRising}
+use Rattle.vl_layout.specs.Tickets.{tickets_of}
+use Rattle.vl_layout.specs.declared.layout.Layout.{Layout}
+use Rattle.vl_layout.specs.declared.live.Live.{Live}
+use Rattle.vl_oracle.specs.LiveTickets.{LiveTickets, ended}
+use Rattle.vl_pins.specs.Pins.{ArePinsOf}
+use Rattle.vl_pins.specs.declared.pins.Pins.{Pins}
+
+-- What lives is the layout's, and so are the pins; this is its version number.
+pub record PinsLive (live : LiveTickets) (pins : Pins) (version : ℕ) (l : Layout) : Type 0 where
+  pub live_are : live.tickets ≡ tickets_of l.live
+  pub rising : IsRising (λ (x : Live). x.ticket) l.live
+  pub pins_are : ArePinsOf pins l
+  pub version_is : version ≡ l.version_number
+
+abbrev pub without_pin : Option ℕ → Pins → Pins
+without_pin None pins = pins
+without_pin (Some ticket) pins = record pins { live = ended ticket pins.live }
 
 module _ {L : Type 0} where
   -- what has this ticket pins nothing then

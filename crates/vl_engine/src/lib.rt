@@ -16,6 +16,7 @@ mod laws;
 mod making;
 mod open;
 mod past;
+mod pinning;
 mod relocating;
 mod removing;
 mod rotating;

@@ -1,3 +1,4 @@
 pub mod Files
 pub mod InUse
+pub mod laws
 pub mod Pins

@@ -8,12 +8,14 @@
 #![tactic(auto)]
 
 mod in_use;
+mod laws;
 mod pins;
 mod retired_file;
 mod stock;
 mod trash;
 
 pub use in_use::InUse;
+pub use laws::{pins_are_those_of_what_lives, the_bound_tells_what_is_held};
 pub use pins::Pins;
 pub use retired_file::RetiredFile;
 pub use stock::Stock;

@@ -16,6 +16,7 @@ ghost use Rattle.vl_table.specs.KeptBlocks.{AreKept};
 ghost use Rattle.vl_engine.specs.Removing.{Removes};
 
 use crate::past::past_of;
+use crate::pinning::begin;
 use crate::{BeginFail, Engine, Txn, View};
 use vl_disk::Disk;
 use vl_manifest::ManifestState;
@@ -136,13 +137,11 @@ impl<D: Disk> Engine<D> {
         let reader = BlockReader::new(self.alloc, reader, blocks)?;
         let version = self.core.version.share()?;
         let past = past_of(&self.core);
-        // What lives pins the version number under the same ticket.
-        let pinned = match self.removing.pins.begin(self.core.back.version_number) {
-            Ok(ticket) => Some(ticket),
-            Err(BeginFail::TooMany) => None,
-            Err(BeginFail::NoMemory) => return Err(BeginFail::NoMemory),
-        };
-        match self.core.front.begin() {
+        match begin(
+            &mut self.core.front,
+            &mut self.removing.pins,
+            self.core.back.version_number,
+        ) {
             Ok(ticket) => Ok(View {
                 alloc: self.alloc,
                 ticket,
@@ -151,12 +150,7 @@ impl<D: Disk> Engine<D> {
                 version,
                 reader,
             }),
-            Err(why) => {
-                if let Some(ticket) = pinned {
-                    self.removing.pins.end(ticket);
-                }
-                Err(why)
-            }
+            Err(why) => Err(why),
         }
     }
 }
