@@ -1,5 +1,5 @@
 //! What is kept of which files can go: how it is made, and how steps change it.
-ghost use Rattle.std.specs.Prelude.{◌≡◌, ◌++◌, [], ℕ, List, IfOk, OnErr, OnOk, length, map};
+ghost use Rattle.std.specs.Prelude.{◌≡◌, ◌++◌, ℕ, IfOk, OnErr, OnOk, length, map, slice_get};
 ghost use Rattle.vl_compact.specs.declared.files.Lent.{Lent};
 ghost use Rattle.vl_engine.specs.Retiring.{IsReadied, LeavesFiles, StaysUsed, is_idle_log, left_of, logs_kept, retiring, switching};
 ghost use Rattle.vl_pins.specs.Files.{BecomesBy, HasRoom};
