@@ -171,4 +171,6 @@ pub record IsThere {D H W : Type 0} (g : Ghosts D) (w : Writers W) (disk : D) (c
     (stock : Stock (Lent W s)) : Type 0 where
   pub waiting : All (IsWaiting g w disk core.back.state.next_table) stock.trash.items
   pub distinct : are_distinct (lent_in merging ++ numbers_left stock.trash.items) ≡ true
+  -- there is room for each file that is lent, too
+  pub room : deque_len stock.trash + length (lent_in merging) ≤ deque_capacity stock.trash
   pub files : ForSome (g.told disk) (HasInUse core stock)

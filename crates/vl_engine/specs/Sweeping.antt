@@ -1,5 +1,5 @@
 -- What a sweep does, whatever the engine stands for: to the disk, and to the files that wait.
-use Rattle.std.specs.Prelude.{◌≡◌, ◌≢◌, ◌⊎◌, ℕ, not, List, [], ◌∷◌, ◌++◌, length, map, min, Option, None, Some, Result, Ok, Err}
+use Rattle.std.specs.Prelude.{◌≡◌, ◌≢◌, ◌⊎◌, ℕ, not, List, [], ◌∷◌, ◌++◌, ◌+◌, ◌-◌, length, map, min, Option, None, Some, Result, Ok, Err}
 use Rattle.std.specs.List.{AllByRecursion, filter}
 use Rattle.std.specs.Option.{ForSome}
 use Rattle.vl_back.specs.Writing.{IsKept}
@@ -100,23 +100,25 @@ AreFree names disk = AllByRecursion (λ (name : Name). IsFree name disk) names
 -- ---- what it came to
 
 -- The files that were ready went, one by one, and the others wait. Nothing else of what is kept changes.
-pub record HasSwept {D W : Type 0} (g : Ghosts D) (w : Writers W) {s : _} (bound : ℕ) (old new : D)
+pub record HasSwept {D W : Type 0} (g : Ghosts D) (w : Writers W) {s : _} (bound version : ℕ) (old new : D)
     (before after : Removing (Lent W s)) (count : ℕ) : Type 0 where
   pub counted : count ≡ length (ready bound before.stock.trash.items)
   pub removes : RemovesAll g w (ready bound before.stock.trash.items) old new
   pub waiting : after.stock.trash.items ≡ held bound before.stock.trash.items
   pub in_use : after.stock.in_use ≡ before.stock.in_use
+  pub pins : PinsStay version before.pins after.pins
 
 -- so it is with what a sweep answers: a halted engine does nothing, and a fault halts
 abbrev pub SweepsAs : {D H W : Type 0} → Ghosts D → Writers W → {s : _} → (bound : ℕ) → (old new : D) → (core after : Core H)
     → (before now : Removing (Lent W s)) → Result ℕ SweepFail → Type 0
 SweepsAs g w bound old new core after before now (Ok count) = (core.front.halted ≡ None) × (after ≡ core)
-    × HasSwept g w bound old new before now count
+    × HasSwept g w bound core.back.version_number old new before now count
 SweepsAs g w bound old new core after before now (Err (fails.Halted name)) =
     (core.front.halted ≡ Some name) × (after ≡ core) × (new ≡ old) × (now ≡ before)
 SweepsAs g w bound old new core after before now (Err (fails.Disk name)) = (core.front.halted ≡ None)
     × (after ≡ record core { front = record core.front { halted = Some name } })
     × StopsRemoving g w (ready bound before.stock.trash.items) old new name
+    × PinsStay core.back.version_number before.pins now.pins
 
 -- ---- as the ruling has it
 
@@ -131,7 +133,11 @@ sweep_effects {L} bound trash (Ok count) =
     record { calls = count; gone = map (λ (file : RetiredFile L). file_of file.name) (ready bound trash) }
 sweep_effects bound trash (Err why) = no_effects
 
--- where it fails some of the files have gone, the earliest retired first
+-- How many have gone where it fails: the one at which it failed doesn't wait any more either.
+abbrev pub gone_before : {L : Type 0} → (old new : Removing L) → ℕ
+gone_before old new = length old.stock.trash.items - (length new.stock.trash.items + 1)
+
+-- where it fails so many of the files have gone, the earliest retired first
 abbrev pub sweep_otherwise : Option ℕ → Layout → ℕ → Otherwise
 sweep_otherwise least l count = as_before l (sweep_lost least l count)
 
@@ -148,15 +154,14 @@ SweepLeavesDisk (Err (fails.Halted name)) = Unit {0}
 SweepLeavesDisk (Err (fails.Disk name)) = ⊥
 
 -- A sweep comes to what the ruling says, where so many files have gone if it failed.
-abbrev pub SweepsFor : {L : Type 0} → (History → Layout → Type 0) → History → Layout → Option ℕ → ℕ → List (RetiredFile L)
+abbrev pub SweepsFor : {L : Type 0} → (History → Layout → Type 0) → History → Layout → Option ℕ → (bound : ℕ) → (old new : Removing L)
     → Result ℕ SweepFail → Type 0
-SweepsFor stands h l least bound trash result = (count : ℕ)
-    × Decides stands h l (sweep_unless l.halted least l h) (sweep_otherwise least l count) (sweep_outcome result)
-    (sweep_effects bound trash result)
+SweepsFor stands h l least bound old new result = Decides stands h l (sweep_unless l.halted least l h)
+    (sweep_otherwise least l (gone_before old new)) (sweep_outcome result) (sweep_effects bound old.stock.trash.items result)
 
 -- So it does over a disk that holds the layout.
 abbrev pub SweepCarries : {D H L : Type 0} → Ghosts D → (H → Option (List ℕ)) → (old new : D) → Core H → History → Layout
-    → Option ℕ → ℕ → List (RetiredFile L) → Result ℕ SweepFail → Type 0
-SweepCarries g bytes old new core h l least bound trash result = (count : ℕ)
-    × Carries g bytes old new core h l (sweep_unless l.halted least l h) (sweep_otherwise least l count) (sweep_outcome result)
-    (sweep_effects bound trash result)
+    → Option ℕ → (bound : ℕ) → (before now : Removing L) → Result ℕ SweepFail → Type 0
+SweepCarries g bytes old new core h l least bound before now result = Carries g bytes old new core h l
+    (sweep_unless l.halted least l h) (sweep_otherwise least l (gone_before before now)) (sweep_outcome result)
+    (sweep_effects bound before.stock.trash.items result)

@@ -1,8 +1,9 @@
 -- The files in use stand, and each retired one can be removed, also behind a call that takes away no file.
-use Rattle.std.specs.Prelude.{◌≡◌, ◌≢◌, ◌≤◌, ◌<◌, ◌++◌, ℕ, All, IsTrue, List, length, Option, None, Some, is_some, true, refl}
+use Rattle.std.specs.Prelude.{◌≡◌, ◌≢◌, ◌≤◌, ◌<◌, ◌+◌, ◌++◌, ℕ, All, IsTrue, List, length, Option, None, Some, is_some, true, refl}
 use Rattle.std.specs.FinMap.{get}
 use Rattle.std.specs.List.{slice_index_or}
 use Rattle.std.specs.Option.{ForSome}
+use Rattle.std.specs.VecDeque.{deque_capacity, deque_len}
 use Rattle.std.proofs.Common.{sym, subst, ap, ◌∙◌, arith}
 use Rattle.vl_compact.specs.declared.files.Lent.{Lent}
 use Rattle.vl_core.specs.Carries.{HasSameFiles, SameFiles, StaysUntold}
@@ -110,5 +111,6 @@ module _ {D W : Type 0} (g : Ghosts D) (w : Writers W) (old new : D) where
         waiting = λ k d within. waiting_kept before.back.state.next_table after.back.state.next_table
             (slice_index_or stock.trash.items k d) same.tables leaves (is.waiting k d within);
         distinct = (λ i. are_distinct (lent i ++ numbers_left stock.trash.items)) ∙ is.distinct;
+        room = subst (λ (lent : List ℕ). deque_len stock.trash + length lent ≤ deque_capacity stock.trash) (sym lent) is.room;
         files = in_use_kept before after stock same is.files;
       }

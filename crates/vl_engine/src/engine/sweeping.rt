@@ -1,9 +1,10 @@
 ghost use Rattle.std.specs.Prelude.{◌≡◌, ◌≤◌, Bool, true, IfOk, None, OnOk, Some};
 ghost use Rattle.std.specs.Option.{ForSome};
 ghost use Rattle.vl_core.specs.Carries.{StaysUntold};
-ghost use Rattle.vl_core.specs.MayStep.{Fits};
+ghost use Rattle.vl_core.specs.MayStep.{Fits, LeavesNumbers};
 ghost use Rattle.vl_core.specs.Represents.{Represents, StandsFor};
 ghost use Rattle.vl_disk.specs.Calls.{ChangesNothing};
+ghost use Rattle.vl_disk.specs.DiskState.{DiskState};
 ghost use Rattle.vl_disk.specs.Faults.{HasCause, after_calls};
 ghost use Rattle.vl_engine.specs.Collecting.{Collects};
 ghost use Rattle.vl_engine.specs.Merging.{StandsOpen};
@@ -26,30 +27,30 @@ impl<D: Disk> Engine<D> {
         ensures stands { (low : Bool) (h : History) (l : Layout) → StandsOpen D.Held.bytes self.old.core self.old.merging h l
             → Removes low self.old.core self.old.removing l
             → SweepsFor (StandsOpen D.Held.bytes self.new.core self.new.merging) h l None
-            (up_to None self.old.core.back.version_number self.old.removing.pins) self.old.removing.stock.trash.items result }
+            (up_to None self.old.core.back.version_number self.old.removing.pins) self.old.removing self.new.removing result }
 
         // Over a disk that holds the layout: what a crash meanwhile leaves shows the history, and however it ends, a store may be
         // opened on the disk again.
         ensures carries { (h : History) (l : Layout) → Represents D.Held.bytes self.old.core (D.told self.old.disk) h l
             → Removes true self.old.core self.old.removing l
             → SweepCarries D.Watched D.Held.bytes self.old.disk self.new.disk self.new.core h l None
-            (up_to None self.old.core.back.version_number self.old.removing.pins) self.old.removing.stock.trash.items result }
+            (up_to None self.old.core.back.version_number self.old.removing.pins) self.old.removing self.new.removing result }
 
         // What steps on files ask is so behind it.
         ensures fits { (low : Bool) (h : History) (l : Layout) → Fits (D.told self.old.disk) self.old.core h l
             → StandsFor D.Held.bytes self.old.core h l → Removes low self.old.core self.old.removing l
             → SweepsFor (Fits (D.told self.new.disk) self.new.core) h l None
-            (up_to None self.old.core.back.version_number self.old.removing.pins) self.old.removing.stock.trash.items result }
+            (up_to None self.old.core.back.version_number self.old.removing.pins) self.old.removing self.new.removing result }
 
         // What is kept of which files can go, and of where space comes back from, is what the layout has of them then.
         ensures removes { (low : Bool) (h : History) (l : Layout) → StandsFor D.Held.bytes self.old.core h l
             → Removes low self.old.core self.old.removing l
             → SweepsFor (λ _ l. Removes low self.new.core self.new.removing l) h l None
-            (up_to None self.old.core.back.version_number self.old.removing.pins) self.old.removing.stock.trash.items result }
+            (up_to None self.old.core.back.version_number self.old.removing.pins) self.old.removing self.new.removing result }
         ensures collects { (low : Bool) (h : History) (l : Layout) → StandsFor D.Held.bytes self.old.core h l
             → Removes low self.old.core self.old.removing l → Collects self.old.core self.old.collecting l
             → SweepsFor (λ _ l. Collects self.new.core self.new.collecting l) h l None
-            (up_to None self.old.core.back.version_number self.old.removing.pins) self.old.removing.stock.trash.items result }
+            (up_to None self.old.core.back.version_number self.old.removing.pins) self.old.removing self.new.removing result }
 
         // Whatever the disk tells: just the files went that were ready, one by one, and each that is held stays.
         ensures as_swept { SweepsAs D.Watched D.Writer.Writer
@@ -69,6 +70,12 @@ impl<D: Disk> Engine<D> {
         // A fault of the disk is counted, and nothing else raises the count.
         ensures cause { HasCause (D.faults self.old.disk) (D.faults self.new.disk) (SweepFailed result) }
 
+        // Where it fails, whatever a crash leaves then gives no number above the next ones.
+        ensures leaves { (h : History) (l : Layout) (now : DiskState)
+            → Represents D.Held.bytes self.old.core (D.told self.old.disk) h l → Removes true self.old.core self.old.removing l
+            → self.old.core.back.state.next_log ≤ self.old.core.back.next_log → SweepFailed result
+            → D.told self.new.disk ≡ Some now → LeavesNumbers l.next_log l.next_table now }
+
         // The manifest gives the next log no number above that which it gets.
         ensures within { self.old.core.back.state.next_log ≤ self.old.core.back.next_log
             → self.new.core.back.state.next_log ≤ self.new.core.back.next_log }
@@ -81,36 +88,38 @@ impl<D: Disk> Engine<D> {
         self.sweep_up_to(None)
     }
 
-    /// The same, where others may still look at each version from this number on.
+    /// The same, where others may still look at each version from this number on: a file that was retired by a later one stays. It is
+    /// a number of versions, of which each switch makes one, and not of commits: the one at which a transaction, a view or a merge
+    /// that others have began.
     pub fn sweep_to(&mut self, least: u64) -> Result<u64, SweepFail>
         // It is answered as the ruling has it.
         ensures stands { (low : Bool) (h : History) (l : Layout) → StandsOpen D.Held.bytes self.old.core self.old.merging h l
             → Removes low self.old.core self.old.removing l
             → SweepsFor (StandsOpen D.Held.bytes self.new.core self.new.merging) h l (Some least)
-            (up_to (Some least) self.old.core.back.version_number self.old.removing.pins) self.old.removing.stock.trash.items result }
+            (up_to (Some least) self.old.core.back.version_number self.old.removing.pins) self.old.removing self.new.removing result }
 
         // Over a disk that holds the layout: what a crash meanwhile leaves shows the history, and however it ends, a store may be
         // opened on the disk again.
         ensures carries { (h : History) (l : Layout) → Represents D.Held.bytes self.old.core (D.told self.old.disk) h l
             → Removes true self.old.core self.old.removing l
             → SweepCarries D.Watched D.Held.bytes self.old.disk self.new.disk self.new.core h l (Some least)
-            (up_to (Some least) self.old.core.back.version_number self.old.removing.pins) self.old.removing.stock.trash.items result }
+            (up_to (Some least) self.old.core.back.version_number self.old.removing.pins) self.old.removing self.new.removing result }
 
         // What steps on files ask is so behind it.
         ensures fits { (low : Bool) (h : History) (l : Layout) → Fits (D.told self.old.disk) self.old.core h l
             → StandsFor D.Held.bytes self.old.core h l → Removes low self.old.core self.old.removing l
             → SweepsFor (Fits (D.told self.new.disk) self.new.core) h l (Some least)
-            (up_to (Some least) self.old.core.back.version_number self.old.removing.pins) self.old.removing.stock.trash.items result }
+            (up_to (Some least) self.old.core.back.version_number self.old.removing.pins) self.old.removing self.new.removing result }
 
         // What is kept of which files can go, and of where space comes back from, is what the layout has of them then.
         ensures removes { (low : Bool) (h : History) (l : Layout) → StandsFor D.Held.bytes self.old.core h l
             → Removes low self.old.core self.old.removing l
             → SweepsFor (λ _ l. Removes low self.new.core self.new.removing l) h l (Some least)
-            (up_to (Some least) self.old.core.back.version_number self.old.removing.pins) self.old.removing.stock.trash.items result }
+            (up_to (Some least) self.old.core.back.version_number self.old.removing.pins) self.old.removing self.new.removing result }
         ensures collects { (low : Bool) (h : History) (l : Layout) → StandsFor D.Held.bytes self.old.core h l
             → Removes low self.old.core self.old.removing l → Collects self.old.core self.old.collecting l
             → SweepsFor (λ _ l. Collects self.new.core self.new.collecting l) h l (Some least)
-            (up_to (Some least) self.old.core.back.version_number self.old.removing.pins) self.old.removing.stock.trash.items result }
+            (up_to (Some least) self.old.core.back.version_number self.old.removing.pins) self.old.removing self.new.removing result }
 
         // Whatever the disk tells: just the files went that were ready, one by one, and each that is held stays.
         ensures as_swept { SweepsAs D.Watched D.Writer.Writer
@@ -130,6 +139,12 @@ impl<D: Disk> Engine<D> {
         // A fault of the disk is counted, and nothing else raises the count.
         ensures cause { HasCause (D.faults self.old.disk) (D.faults self.new.disk) (SweepFailed result) }
 
+        // Where it fails, whatever a crash leaves then gives no number above the next ones.
+        ensures leaves { (h : History) (l : Layout) (now : DiskState)
+            → Represents D.Held.bytes self.old.core (D.told self.old.disk) h l → Removes true self.old.core self.old.removing l
+            → self.old.core.back.state.next_log ≤ self.old.core.back.next_log → SweepFailed result
+            → D.told self.new.disk ≡ Some now → LeavesNumbers l.next_log l.next_table now }
+
         // The manifest gives the next log no number above that which it gets.
         ensures within { self.old.core.back.state.next_log ≤ self.old.core.back.next_log
             → self.new.core.back.state.next_log ≤ self.new.core.back.next_log }
@@ -147,7 +162,6 @@ impl<D: Disk> Engine<D> {
         ensures as_swept { SweepsAs D.Watched D.Writer.Writer
             (up_to least self.old.core.back.version_number self.old.removing.pins) self.old.disk self.new.disk self.old.core
             self.new.core self.old.removing self.new.removing result }
-        ensures pins { PinsStay self.old.core.back.version_number self.old.removing.pins self.new.removing.pins }
         ensures there { self.old.core.front.halted ≡ None → IsThere D.Watched D.Writer.Writer self.old.disk self.old.core
             self.old.merging self.old.removing.stock }
         ensures cause { HasCause (D.faults self.old.disk) (D.faults self.new.disk) (SweepFailed result) }
