@@ -52,6 +52,7 @@ pub mod TakenFiles
 pub mod Taking
 mod TallyBegun
 mod Tallying
+pub mod There
 pub mod UnderWay
 pub mod Untold
 pub mod Whole
