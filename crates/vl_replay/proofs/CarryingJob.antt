@@ -245,6 +245,19 @@ telling : {A : Type 0} (old new : Option A) (x : A) → (old ≡ None → new �
 telling None new x stays is = absurd (let no : None ≡ Some x = sym (stays refl) ∙ is in cc)
 telling (Some y) new x stays is = (y, refl)
 
+none_tell : {W : Type 0} (w : Writers W) {s : _} (fs : List (Lent W s)) → fs ≡ [] → AllByRecursion (λ (f : Lent W s). IsSome (w.file f.writer)) fs
+none_tell {W} w {s} fs none = subst (λ (fs : List (Lent W s)). AllByRecursion (λ (f : Lent W s). IsSome (w.file f.writer)) fs) (sym none) tt
+
+-- Unless the disk failed at the file that wasn't lent, it was left alone.
+pub unlent_tells : {D H W : Type 0} (g : Ghosts D) (w : Writers W) (before after : Core H) (old new : D) (fail : StepFail)
+    → DrawsCore {W = W} before after {g = w} (Err fail) → (FreshLeavesDisk {W = W} {g = w} (Err fail) → ChangesNothing g old new ⊥)
+    → after.front.halted ≡ None → StaysUntold (g.told old) (g.told new)
+unlent_tells g w before after old new (fails.Halted name) core untouched running none = (untouched tt).told ∙ none
+unlent_tells g w before after old new (fails.Exhausted counter) core untouched running none = (untouched tt).told ∙ none
+unlent_tells g w before after old new fails.NoMemory core untouched running none = (untouched tt).told ∙ none
+unlent_tells g w before after old new (fails.Disk name) core untouched running none =
+    absurd (let no : None ≡ Some name = sym running ∙ ap (λ (c : Core _). c.front.halted) core in cc)
+
 module _ {D V H W : Type 0} (g : Ghosts D) (w : Writers W) {s : _} where
   -- One that was just planned has none.
   pub just_planned : (disk : D) (merging : Option OpenMerge) (job : TheJob V H W s) → IsJustOpen merging → IsNew job
@@ -307,9 +320,6 @@ module _ {D V H W : Type 0} (g : Ghosts D) (w : Writers W) {s : _} where
       ap (λ (fs : List (Lent W s)). made_numbers job ++ map (λ (f : Lent W s). f.number) fs) lent.no_leavings
       ∙ (append-nil (made_numbers job) ∙ lent.files)
 
-  none_tell : (fs : List (Lent W s)) → fs ≡ [] → AllByRecursion (λ (f : Lent W s). IsSome (w.file f.writer)) fs
-  none_tell fs none = subst (λ (fs : List (Lent W s)). AllByRecursion (λ (f : Lent W s). IsSome (w.file f.writer)) fs) (sym none) tt
-
   -- One that has ended can be handed in.
   pub may_hand_in : (disk : D) (merging : Option OpenMerge) (job : TheJob V H W s) → HasLent g w disk merging job → job.ended ≡ true
       → MayHandIn g w disk merging job
@@ -322,7 +332,7 @@ module _ {D V H W : Type 0} (g : Ghosts D) (w : Writers W) {s : _} where
     distinct = ap are_distinct numbers_are ∙ apart_all lent.merge.lent.items lent.distinct;
     tells = λ state told. All-from_recursion (λ (t : Synced W s). IsSome (w.file t.writer)) job.made.items (lent.tells state told);
     leavings_tell = λ state told. All-from_recursion (λ (f : Lent W s). IsSome (w.file f.writer)) job.leavings.items
-        (none_tell job.leavings.items lent.no_leavings);
+        (none_tell w job.leavings.items lent.no_leavings);
   }
     where
       its_merge : (merge : OpenMerge) → merging ≡ Some merge → lent.merge ≡ merge
@@ -353,7 +363,7 @@ module _ {D V H W : Type 0} (g : Ghosts D) (w : Writers W) {s : _} where
       → HasLent g w disk merging job → IsUnderWay g w disk halted merging job
   lent_under_way disk halted merging job lent =
       its_files disk halted merging job lent.merge lent.is_open (lent_numbers disk merging job lent) lent.distinct
-      (λ running. lent.tells) (λ running state told. none_tell job.leavings.items lent.no_leavings)
+      (λ running. lent.tells) (λ running state told. none_tell w job.leavings.items lent.no_leavings)
 
   -- where it was lent no more
   pub refused_under_way : (old new : D) (halted : Option Name) (was now : Option OpenMerge) (first asked roomy : TheJob V H W s)
@@ -369,7 +379,7 @@ module _ {D V H W : Type 0} (g : Ghosts D) (w : Writers W) {s : _} where
       (λ running state told. let (before, was_told) = telling (g.told old) (g.told new) state (untold running) told in
       subst (λ (ts : List (Synced W s)). AllByRecursion (λ (t : Synced W s). IsSome (w.file t.writer)) ts) (sym made_are)
       (lent.tells before was_told))
-      (λ running state told. none_tell roomy.leavings.items none_left)
+      (λ running state told. none_tell w roomy.leavings.items none_left)
     where
       made_are : roomy.made.items ≡ first.made.items
       made_are = same.made ∙ ap (λ (x : TheJob V H W s). x.made.items) kept
@@ -414,14 +424,3 @@ module _ {D V H W : Type 0} (g : Ghosts D) (w : Writers W) {s : _} where
 
       merge_is : lent.merge ≡ more.merge
       merge_is = let e : Some lent.merge ≡ Some more.merge = sym lent.is_open ∙ more.was_open in cc
-
-  -- Unless the disk failed at the file that wasn't lent, it was left alone.
-  pub unlent_tells : {B : Type 0} (before after : Core B) (old new : D) (fail : StepFail)
-      → DrawsCore {W = W} before after {g = s} (Err fail)
-      → (FreshLeavesDisk {W = W} {g = s} (Err fail) → ChangesNothing g old new ⊥)
-      → after.front.halted ≡ None → StaysUntold (g.told old) (g.told new)
-  unlent_tells before after old new (fails.Halted name) core untouched running none = (untouched tt).told ∙ none
-  unlent_tells before after old new (fails.Exhausted counter) core untouched running none = (untouched tt).told ∙ none
-  unlent_tells before after old new fails.NoMemory core untouched running none = (untouched tt).told ∙ none
-  unlent_tells before after old new (fails.Disk name) core untouched running none =
-      absurd (let no : None ≡ Some name = sym running ∙ ap (λ (c : Core _). c.front.halted) core in cc)
