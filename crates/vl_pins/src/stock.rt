@@ -1,4 +1,4 @@
-ghost use Rattle.std.specs.Prelude.{◌≡◌, ◌≤◌, ◌<◌, ◌+◌, ◌++◌, ◌∷◌, [], ℕ, OnOk, None};
+ghost use Rattle.std.specs.Prelude.{◌≡◌, ◌≤◌, ◌<◌, ◌+◌, ◌++◌, ◌∷◌, [], ℕ, OnOk, OnSome, None};
 ghost use Rattle.std.specs.VecDeque.{deque_len, deque_capacity};
 ghost use Rattle.vl_pins.specs.Files.{BecomesBy, HasRoom, TakesUpTo, left_at, log_retired, log_sealed, table_retired, with_tables};
 
@@ -133,6 +133,8 @@ impl<L: Drop> Stock<L> {
     pub fn take_up_to(&mut self, bound: u64) -> Option<RetiredFile<L>>
         ensures taken { TakesUpTo bound self.old.trash.items self.new.trash.items result }
         ensures in_use { self.new.in_use ≡ self.old.in_use }
+        ensures len { OnSome result (deque_len self.new.trash + 1 ≡ deque_len self.old.trash) }
+        ensures capacity { deque_capacity self.new.trash ≡ deque_capacity self.old.trash }
     {
         let at = place_up_to(&self.trash, bound);
         self.trash.remove(at)
