@@ -41,6 +41,7 @@ pub mod RelocatingReads
 pub mod RelocatingStaged
 pub mod RelocatingTotals
 pub mod RelocatingWritten
+pub mod Retired
 pub mod RotateSteps
 pub mod Rotated
 pub mod Ruled
