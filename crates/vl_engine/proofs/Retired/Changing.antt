@@ -467,7 +467,7 @@ has_made {H} core old new u none some trash tables logs = record {
 name_prop : (x y : Name) → IsProp (x ≡ y)
 name_prop x y = hlevel props
 
-pub lent_of : {W : Type 0} {s : Writers W} (n : ℕ) (writer : W) → s.named writer ≡ names.Table n → Lent W s
+abbrev pub lent_of : {W : Type 0} {s : Writers W} (n : ℕ) (writer : W) → s.named writer ≡ names.Table n → Lent W s
 lent_of n writer named = record { number = n; writer = writer; named = named }
 
 pub same_lent : {W : Type 0} {s : Writers W} (n : ℕ) (writer : W) (a b : s.named writer ≡ names.Table n)
@@ -486,3 +486,24 @@ less_room stock more fewer n less room =
       logs_in = room.logs_in;
       trash = omega (arith, less, b);
     }
+
+pub less_lent : {L : Type 0} (stock : Stock L) (tables logs n : ℕ) → HasRoom stock tables logs n → HasRoom stock tables logs 0
+less_lent stock tables logs n room =
+    let a = room.trash in
+    record {
+      in_use = room.in_use;
+      is_some = room.is_some;
+      tables_in = room.tables_in;
+      logs_in = room.logs_in;
+      trash = omega (arith, a);
+    }
+
+-- it is readied for as many as were counted
+pub readied_for : {H L : Type 0} (core : Core H) (old new : Stock L) (tables more n m : ℕ) → tables ≡ more → n ≡ m
+    → IsReadied core old new tables n → IsReadied core old new more m
+readied_for core old new tables more n m first second is =
+    subst (λ k. IsReadied core old new k m) first (subst (λ k. IsReadied core old new tables k) second is)
+
+pub stays_readied : {H L : Type 0} (core : Core H) (old new : Stock L) (tables n : ℕ) → IsReadied core old new tables n
+    → StaysUsed core old new
+stays_readied core old new tables n is = record { trash = is.trash; capacity = is.capacity; used = inr is.has }

@@ -73,8 +73,12 @@ is_stock {L = L} core stock x kept has uses trash aged room =
       room = room;
     }
 
-firsts : List (ℕ × ℕ) → List ℕ
+abbrev firsts : List (ℕ × ℕ) → List ℕ
 firsts ps = map (λ (p : ℕ × ℕ). p.0) ps
+
+first_of : (ss : List Segment) → firsts (lengths_of ss) ≡ log_numbers ss
+first_of [] = refl
+first_of (s ∷ ss) = ap (λ ns. s.number ∷ ns) (first_of ss)
 
 -- ---- what a version has
 
@@ -91,11 +95,11 @@ module _ {H : Type 0} (bytes : H → Option (List ℕ)) where
   below_in : (n k : ℕ) (logs : List (SealedLog H)) (log : SealedLog H) → log_in logs n ≡ Some log
       → AllByRecursion (λ (x : SealedLog H). x.number < k) logs → n < k
   below_in n k [] log is all = absurd (let no : None ≡ Some log = is in cc)
-  below_in n k (x ∷ xs) log is all = by (x.number == n) refl is
+  below_in n k (x ∷ xs) log is all = by (x.number == n) refl is (λ found. below_in n k xs log found all.1)
     where
-      by : (b : Bool) → (x.number == n) ≡ b → (cond b (Some x) (log_in xs n)) ≡ Some log → n < k
-      by true same found = let less = all.0 in let e : x.number ≡ n = grind (arith, nat_tests, same) in omega (arith, less, e)
-      by false other found = below_in n k xs log found all.1
+      by : (b : Bool) → (x.number == n) ≡ b → (cond b (Some x) (log_in xs n)) ≡ Some log → (log_in xs n ≡ Some log → n < k) → n < k
+      by true same found later = let less = all.0 in let e : x.number ≡ n = grind (arith, nat_tests, same) in omega (arith, less, e)
+      by false other found later = later found
 
   module _ (core : Core H) (h : History) (l : Layout) (is : StandsFor bytes core h l) where
     tables_kept : AllByRecursion (λ (t : laid.Table). has t.number (map number_of (tables_in core.version)) ≡ true) (tables l)
@@ -130,10 +134,6 @@ module _ {H : Type 0} (bytes : H → Option (List ℕ)) where
           first_in : (logs : List (SealedLog H)) → firsts (lengths_in size logs) ≡ map (λ (log : SealedLog H). log.number) logs
           first_in [] = refl
           first_in (x ∷ xs) = ap (λ ns. x.number ∷ ns) (first_in xs)
-
-          first_of : (ss : List Segment) → firsts (lengths_of ss) ≡ log_numbers ss
-          first_of [] = refl
-          first_of (s ∷ ss) = ap (λ ns. s.number ∷ ns) (first_of ss)
 
       not_active : (logs : List (SealedLog H)) → AllByRecursion (λ (log : SealedLog H). log.number < l.active.number) logs
           → has core.front.log.number (map (λ (log : SealedLog H). log.number) logs) ≡ false
@@ -185,13 +185,21 @@ rotated_numbers l below =
 
 -- ---- a switch
 
-module _ {L : Type 0} (l : Layout) (dropped : List laid.Table) (falling : IsFalling (l.active ∷ l.frozen)) (live : List (ℕ × ℕ)) (number : ℕ)
-    (of : IsOfLayout live number (switched dropped l)) where
-  -- idle by the layout, as by what is live
-  abbrev idle_there : ℕ → Bool
-  idle_there n = nat_lt n (head l) && (live_bytes (tables l) n == 0)
+-- idle by the layout, as by what is live
+abbrev idle_there : Layout → ℕ → Bool
+idle_there l n = nat_lt n (head l) && (live_bytes (tables l) n == 0)
 
-  idle_same : (n : ℕ) → is_idle_log number live n ≡ idle_there n
+retired_logs : (L : Type 0) (version : ℕ) (ss : List Segment)
+    → map (retired_of {L = L}) (gone_logs version (log_numbers ss)) ≡ map (retired_at version) (map log_of ss)
+retired_logs L version [] = refl
+retired_logs L version (s ∷ ss) = ap (λ rs. retired_at version (log_of s) ∷ rs) (retired_logs L version ss)
+
+rising_distinct : (ss : List Segment) → AreDistinct (log_numbers (rising ss))
+rising_distinct ss = up_distinct (log_numbers (rising ss)) (up_numbers (rising ss) (up_rising ss))
+
+module _ (l : Layout) (dropped : List laid.Table) (falling : IsFalling (l.active ∷ l.frozen)) (live : List (ℕ × ℕ)) (number : ℕ)
+    (of : IsOfLayout live number (switched dropped l)) where
+  idle_same : (n : ℕ) → is_idle_log number live n ≡ idle_there l n
   idle_same n =
       ap (λ k. nat_lt n k && (bytes_of live n == 0)) of.head_is ∙ ap (λ b. nat_lt n (head l) && (b == 0)) (of.live_is n)
 
@@ -204,14 +212,10 @@ module _ {L : Type 0} (l : Layout) (dropped : List laid.Table) (falling : IsFall
       ∙ map-filter (λ (p : ℕ × ℕ). p.0) (stays number live) (λ (n : ℕ). not (is_idle_log number live n)) (λ p. refl)
       (lengths_of (rising (sealed l)))
       ∙ ap (filter (λ (n : ℕ). not (is_idle_log number live n))) (first_of (rising (sealed l)))
-    where
-      first_of : (ss : List Segment) → firsts (lengths_of ss) ≡ log_numbers ss
-      first_of [] = refl
-      first_of (s ∷ ss) = ap (λ ns. s.number ∷ ns) (first_of ss)
 
-  frozen_stay : AllByRecursion (λ (s : Segment). idle_there s.number ≡ false) l.frozen
+  frozen_stay : AllByRecursion (λ (s : Segment). idle_there l s.number ≡ false) l.frozen
   frozen_stay =
-      all_weaker (λ (s : Segment). head l ≤ s.number) (λ (s : Segment). idle_there s.number ≡ false)
+      all_weaker (λ (s : Segment). head l ≤ s.number) (λ (s : Segment). idle_there l s.number ≡ false)
       (λ s least.
       let high : nat_lt s.number (head l) ≡ false = grind (arith, nat_tests, least) in
       ap (λ b. b && (live_bytes (tables l) s.number == 0)) high)
@@ -221,22 +225,14 @@ module _ {L : Type 0} (l : Layout) (dropped : List laid.Table) (falling : IsFall
   idle_behind : filter (is_idle_log number live) (log_numbers (rising (sealed l)))
       ≡ log_numbers (rising (filter (is_idle l) l.flushed))
   idle_behind =
-      filter_alike (is_idle_log number live) idle_there (log_numbers (rising (sealed l)))
-      (each (λ n. is_idle_log number live n ≡ idle_there n) idle_same (log_numbers (rising (sealed l))))
-      ∙ sym (map-filter (λ (s : Segment). s.number) (is_idle l) idle_there (λ s. refl) (rising (sealed l)))
-      ∙ ap log_numbers (sym (rising-filter idle_there (sealed l))
-      ∙ ap rising (none_pass idle_there l.frozen l.flushed frozen_stay))
-
-  retired_logs : (version : ℕ) (ss : List Segment)
-      → map (retired_of {L = L}) (gone_logs version (log_numbers ss)) ≡ map (retired_at version) (map log_of ss)
-  retired_logs version [] = refl
-  retired_logs version (s ∷ ss) = ap (λ rs. retired_at version (log_of s) ∷ rs) (retired_logs version ss)
-
-  rising_distinct : (ss : List Segment) → AreDistinct (log_numbers (rising ss))
-  rising_distinct ss = up_distinct (log_numbers (rising ss)) (up_numbers (rising ss) (up_rising ss))
+      filter_alike (is_idle_log number live) (idle_there l) (log_numbers (rising (sealed l)))
+      (each (λ n. is_idle_log number live n ≡ idle_there l n) idle_same (log_numbers (rising (sealed l))))
+      ∙ sym (map-filter (λ (s : Segment). s.number) (is_idle l) (idle_there l) (λ s. refl) (rising (sealed l)))
+      ∙ ap log_numbers (sym (rising-filter (idle_there l) (sealed l))
+      ∙ ap rising (none_pass (idle_there l) l.frozen l.flushed frozen_stay))
 
   -- So it is with what is kept.
-  module _ (kept : Kept L) (logs : kept.logs ≡ log_numbers (rising (sealed l))) where
+  module _ {L : Type 0} (kept : Kept L) (logs : kept.logs ≡ log_numbers (rising (sealed l))) where
     pub switch_logs : (retiring l.version_number (is_idle_log number live) kept).logs
         ≡ log_numbers (rising (sealed (switched dropped l)))
     switch_logs =
@@ -255,7 +251,7 @@ module _ {L : Type 0} (l : Layout) (dropped : List laid.Table) (falling : IsFall
 
     pub switch_retired : all_retired (gone_logs {L = L} l.version_number (log_numbers (rising (filter (is_idle l) l.flushed))))
         ≡ map (retired_at l.version_number) (map log_of (rising (filter (is_idle l) l.flushed)))
-    switch_retired = retired_logs l.version_number (rising (filter (is_idle l) l.flushed))
+    switch_retired = retired_logs L l.version_number (rising (filter (is_idle l) l.flushed))
 
 -- ---- lists
 

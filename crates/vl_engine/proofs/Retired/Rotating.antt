@@ -57,6 +57,9 @@ head_rotated l = same_head l.active (rotated l).active l.frozen
 
 -- ---- it was done
 
+abbrev short : Outcome StepAnswer
+short = NoMemory
+
 module _ {H W : Type 0} {s : _} (bytes : H → Option (List ℕ)) (size : H → ℕ)
     (sized : (held : H) (told : List ℕ) → bytes held ≡ Some told → length told ≡ size held) (before after : Core H)
     (was now : Removing (Lent W s)) (merging : Option OpenMerge) (h : History) (l : Layout) (stands : StandsFor bytes before h l)
@@ -136,13 +139,13 @@ module _ {H W : Type 0} {s : _} (bytes : H → Option (List ℕ)) (size : H → 
         (ap (λ (v : Version H). v.behind.logs.items) did.0.version) (ap (λ (m : ManifestState). m.head) did.0.back.state) seals pins removes)
         (λ name same. absurd (no_fail name same)) (λ name place same. absurd (no_damage name place same))
       where
-        none : (a : StepAnswer) → NoMemory ≡ Answered a → ⊥
+        none : (a : StepAnswer) → short ≡ Answered a → ⊥
         none a e = cc
 
-        no_fail : (name : FileName) → NoMemory {StepAnswer} ≡ Failed name → ⊥
+        no_fail : (name : FileName) → short ≡ Failed name → ⊥
         no_fail name e = cc
 
-        no_damage : (name : FileName) (place : ℕ) → NoMemory {StepAnswer} ≡ Damaged name place → ⊥
+        no_damage : (name : FileName) (place : ℕ) → short ≡ Damaged name place → ⊥
         no_damage name place e = cc
     rotate_removes (Err (fails.Disk at)) did seals is =
         decides_too S So h l (rotate_ruling l h) (as_before l l) (step_outcome (Err (fails.Disk at))) effects is
