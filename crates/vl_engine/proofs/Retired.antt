@@ -4,3 +4,4 @@ pub mod Kept
 pub mod Laid
 pub mod Retiring
 pub mod Rotating
+pub mod There
