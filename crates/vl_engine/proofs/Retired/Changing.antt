@@ -516,3 +516,31 @@ pub stays_either : {X E H L : Type 0} (r : Result X E) (core : Core H) (old new 
     → OnOk r (IsReadied core old new tables n) → OnErr r (StaysUsed core old new) → StaysUsed core old new
 stays_either (Ok x) core old new tables n done refused = stays_readied core old new tables n done
 stays_either (Err e) core old new tables n done refused = refused
+
+pub only_tables : {L : Type 0} (stock : Stock L) (tables more logs n : ℕ) → tables ≡ more → HasRoom stock tables logs n
+    → HasRoom stock more 0 0
+only_tables stock tables more logs n same room =
+    let a = room.trash in
+    let b = room.tables_in in
+    let c = room.logs_in in
+    record {
+      in_use = room.in_use;
+      is_some = room.is_some;
+      tables_in = omega (arith, b, same);
+      logs_in = omega (arith, c);
+      trash = omega (arith, a, same);
+    }
+
+pub no_logs : {L : Type 0} (stock : Stock L) (tables more logs n m : ℕ) → tables ≡ more → n ≡ m → HasRoom stock tables logs n
+    → HasRoom stock more 0 m
+no_logs stock tables more logs n m same lent room =
+    let a = room.trash in
+    let b = room.tables_in in
+    let c = room.logs_in in
+    record {
+      in_use = room.in_use;
+      is_some = room.is_some;
+      tables_in = omega (arith, b, same);
+      logs_in = omega (arith, c);
+      trash = omega (arith, a, same, lent);
+    }

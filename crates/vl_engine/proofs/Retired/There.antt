@@ -38,7 +38,7 @@ use Rattle.vl_seglog.specs.declared.sealed.SealedLog.{SealedLog}
 
 -- ---- tests
 
-and_false : (a : Bool) → (a && false) ≡ false
+pub and_false : (a : Bool) → (a && false) ≡ false
 and_false true = refl
 and_false false = refl
 
@@ -46,7 +46,7 @@ and_true : (a : Bool) → (a && true) ≡ a
 and_true true = refl
 and_true false = refl
 
-both_true : (a b : Bool) → a ≡ true → b ≡ true → (a && b) ≡ true
+pub both_true : (a b : Bool) → a ≡ true → b ≡ true → (a && b) ≡ true
 both_true a b one other = ap (λ c. c && b) one ∙ other
 
 not_false : (a : Bool) → a ≡ false → not a ≡ true
@@ -84,7 +84,7 @@ has_last n a (m ∷ ls) = ap (λ b. (m == n) || b) (has_last n a ls) ∙ turn (m
     turn true y z = refl
     turn false y z = refl
 
-neither_one : (x y : Bool) → not x ≡ true → not y ≡ true → not (x || y) ≡ true
+pub neither_one : (x y : Bool) → not x ≡ true → not y ≡ true → not (x || y) ≡ true
 neither_one true y one other = one
 neither_one false y one other = other
 
