@@ -4,7 +4,7 @@ use Rattle.std.proofs.Common.{refl, ap, sym, ◌∙◌, subst, arith, append_ass
 use Rattle.std.proofs.Props.{props}
 use Rattle.std.proofs.lemmas.Bool.Decides.{nat_tests}
 use Rattle.std.proofs.lemmas.List.{length-map, take_all, take_at, take_more}
-use Rattle.std.specs.Prelude.{◌==◌, nat_lt, Option, Some, None, Result, Ok, Err, OnErr, OnOk, is_some, slice_get}
+use Rattle.std.specs.Prelude.{◌==◌, nat_lt, Option, Some, None, Result, Ok, Err, IsSome, OnErr, OnOk, is_some, slice_get}
 use Rattle.std.specs.List.{filter}
 use Rattle.std.specs.VecDeque.{deque_items, deque_len, deque_capacity}
 use Rattle.vl_compact.specs.declared.files.Lent.{Lent}
@@ -507,3 +507,40 @@ readied_for core old new tables more n m first second is =
 pub stays_readied : {H L : Type 0} (core : Core H) (old new : Stock L) (tables n : ℕ) → IsReadied core old new tables n
     → StaysUsed core old new
 stays_readied core old new tables n is = record { trash = is.trash; capacity = is.capacity; used = inr is.has }
+
+pub some_in : (o : Option InUse) → IsSome o → (u : InUse) × (o ≡ Some u)
+some_in None is = absurd cc
+some_in (Some u) is = (u, refl)
+
+pub stays_either : {X E H L : Type 0} (r : Result X E) (core : Core H) (old new : Stock L) (tables n : ℕ)
+    → OnOk r (IsReadied core old new tables n) → OnErr r (StaysUsed core old new) → StaysUsed core old new
+stays_either (Ok x) core old new tables n done refused = stays_readied core old new tables n done
+stays_either (Err e) core old new tables n done refused = refused
+
+pub only_tables : {L : Type 0} (stock : Stock L) (tables more logs n : ℕ) → tables ≡ more → HasRoom stock tables logs n
+    → HasRoom stock more 0 0
+only_tables stock tables more logs n same room =
+    let a = room.trash in
+    let b = room.tables_in in
+    let c = room.logs_in in
+    record {
+      in_use = room.in_use;
+      is_some = room.is_some;
+      tables_in = omega (arith, b, same);
+      logs_in = omega (arith, c);
+      trash = omega (arith, a, same);
+    }
+
+pub no_logs : {L : Type 0} (stock : Stock L) (tables more logs n m : ℕ) → tables ≡ more → n ≡ m → HasRoom stock tables logs n
+    → HasRoom stock more 0 m
+no_logs stock tables more logs n m same lent room =
+    let a = room.trash in
+    let b = room.tables_in in
+    let c = room.logs_in in
+    record {
+      in_use = room.in_use;
+      is_some = room.is_some;
+      tables_in = omega (arith, b, same);
+      logs_in = omega (arith, c);
+      trash = omega (arith, a, same, lent);
+    }

@@ -45,7 +45,7 @@ filter_twice p q r same (n ∷ ns) =
     by true later = ap (λ xs. cond (q n) (n ∷ xs) xs) later
     by false later = later
 
-same_either_way : (a b : ℕ) → (a == b) ≡ (b == a)
+pub same_either_way : (a b : ℕ) → (a == b) ≡ (b == a)
 same_either_way a b = by (a == b) (b == a) refl refl
   where
     by : (x y : Bool) → (a == b) ≡ x → (b == a) ≡ y → x ≡ y
@@ -57,7 +57,7 @@ same_either_way a b = by (a == b) (b == a) refl refl
         let no : (a == b) ≡ true = grind (arith, nat_tests, e) in let f : true ≡ false = sym no ∙ is in cc)
 
 -- a number is among others that pass a test where it is among them and passes it
-has_filtered : (p : ℕ → Bool) (n : ℕ) (ns : List ℕ) → has n (filter p ns) ≡ (has n ns && p n)
+pub has_filtered : (p : ℕ → Bool) (n : ℕ) (ns : List ℕ) → has n (filter p ns) ≡ (has n ns && p n)
 has_filtered p n [] = refl
 has_filtered p n (m ∷ ns) = by (p m) (m == n) refl refl (has_filtered p n ns)
   where

@@ -48,7 +48,7 @@ last_number : (a b s : Segment) (ss : List Segment) → number_or a (oldest (s �
 last_number a b s [] = refl
 last_number a b s (t ∷ ts) = last_number a b t ts
 
-same_head : (a b : Segment) (ss : List Segment) → number_or b (oldest (a ∷ ss)) ≡ number_or a (oldest ss)
+pub same_head : (a b : Segment) (ss : List Segment) → number_or b (oldest (a ∷ ss)) ≡ number_or a (oldest ss)
 same_head a b [] = refl
 same_head a b (s ∷ ss) = last_number b a s ss
 
@@ -57,7 +57,7 @@ head_rotated l = same_head l.active (rotated l).active l.frozen
 
 -- ---- it was done
 
-abbrev short : Outcome StepAnswer
+abbrev pub short : Outcome StepAnswer
 short = NoMemory
 
 module _ {H W : Type 0} {s : _} (bytes : H → Option (List ℕ)) (size : H → ℕ)
