@@ -18,7 +18,7 @@ use Rattle.vl_engine.specs.Lent.{IsLent}
 use Rattle.vl_engine.specs.declared.open.OpenMerge.{OpenMerge}
 use Rattle.vl_engine.specs.declared.open.Removing.{Removing}
 use Rattle.vl_layout.specs.Jobs.{lent_numbers}
-use Rattle.vl_layout.specs.Sources.{rising, tables}
+use Rattle.vl_layout.specs.Sources.{head, rising, tables}
 use Rattle.vl_layout.specs.Stock.{is_in}
 use Rattle.vl_layout.specs.Tidy.{log_numbers, sealed}
 use Rattle.vl_layout.specs.declared.file_name.FileName.{FileName}
@@ -72,6 +72,8 @@ IsLogBelow head (files.Manifest n) = ⊥
 pub record AreBelowHead {H : Type 0} (core : Core H) (l : Layout) : Type 0 where
   pub flushed : AllByRecursion (λ (s : Segment). s.number < core.back.state.head) l.flushed
   pub retired : AllByRecursion (λ (r : Retired). IsLogBelow core.back.state.head r.file) l.retired
+  -- no log whose memtable is kept comes before it
+  pub from : core.back.state.head ≤ head l
 
 -- What is kept of which files can go is what the layout has. `low` says whether it was found at the opening that the logs which
 -- aren't frozen are below the manifest's head.

@@ -21,6 +21,7 @@ use Rattle.vl_seglog.specs.declared.sealed.SealedLog.{SealedLog}
 use Rattle.vl_stats.specs.Live.{bytes_of}
 use Rattle.vl_stats.specs.Tallies.{Tallied}
 use Rattle.vl_table.specs.Tables.{number_of}
+use Rattle.vl_version.specs.Bases.{is_input}
 use Rattle.vl_version.specs.declared.base.Base.{Base}
 use Rattle.vl_version.specs.levels.LevelsLooked.{tables_of}
 
@@ -139,7 +140,8 @@ pub record InstallsInto {H R W : Type 0} {s : _} (job : Job (Base H R) H W s) (b
   pub mid : Stock (Lent W s)
   pub left : LeavesFiles job.leavings.items readied mid
   pub switched : BecomesBy (switching (before.back.version_number + 1) (map (λ (t : Synced W s). t.number) job.made.items)
-      (map number_of job.inputs.tables.items) (is_idle_in (head_in after) tally)) mid new
+      (map number_of (filter (is_input (map number_of job.inputs.tables.items)) (tables_of before.version.behind.levels)))
+      (is_idle_in (head_in after) tally)) mid new
 
 abbrev pub InstallsStock : {H R W : Type 0} {s : _} → (job : Job (Base H R) H W s) → (before after : Core H)
     → (old new : Removing (Lent W s)) → Option Tallied → (lent : ℕ)

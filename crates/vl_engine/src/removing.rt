@@ -1,8 +1,8 @@
 //! What is kept of which files can go: how it is made, and how steps change it.
 ghost use Rattle.std.specs.Prelude.{◌≡◌, ◌++◌, ℕ, IfOk, OnErr, OnOk, length, map, slice_get};
 ghost use Rattle.vl_compact.specs.declared.files.Lent.{Lent};
-ghost use Rattle.vl_engine.specs.Retiring.{IsReadied, LeavesFiles, StaysUsed, is_idle_log, left_of, logs_kept, retiring, switching};
-ghost use Rattle.vl_pins.specs.Files.{BecomesBy, HasRoom};
+ghost use Rattle.vl_engine.specs.Retiring.{IsReadied, LeavesFiles, StaysUsed, is_idle_log, left_of, logs_kept, retiring, switching, used_in};
+ghost use Rattle.vl_pins.specs.Files.{BecomesBy, Has, HasRoom};
 ghost use Rattle.vl_pins.specs.InUse.{but};
 ghost use Rattle.vl_table.specs.Tables.{number_of};
 ghost use Rattle.vl_version.specs.levels.LevelsLooked.{tables_of};
@@ -31,10 +31,23 @@ impl<L: Drop> Removing<L> {
         ensures readied { OnOk result (IsReadied core.now self.old.stock self.new.stock tables lent) }
         ensures refused { OnErr result (StaysUsed core.now self.old.stock self.new.stock) }
     {
-        if self.stock.in_use.is_none() {
-            self.stock.in_use = Some(files_in_use(alloc, core)?);
-        }
+        self.ready(alloc, core)?;
         self.stock.make_room(tables, lent)
+    }
+
+    // Makes it, where it isn't there yet.
+    fn ready<H: HeldFile>(&mut self, alloc: Global, core: &Core<H>) -> Result<(), AllocError>
+        ensures pins { self.new.pins ≡ self.old.pins }
+        ensures trash { self.new.stock.trash ≡ self.old.stock.trash }
+        ensures has { OnOk result (Has self.new.stock (used_in core.now self.old.stock)) }
+        ensures refused { OnErr result (self.new.stock ≡ self.old.stock) }
+    {
+        if self.stock.in_use.is_some() {
+            return Ok(());
+        }
+        let in_use = files_in_use(alloc, core)?;
+        self.stock.in_use = Some(in_use);
+        Ok(())
     }
 
     /// Behind a switch that made this version number: these tables come into use, and are retired; and so are the logs in use below
@@ -71,12 +84,19 @@ fn retire_logs<L: Drop>(stock: &mut Stock<L>, live: &LiveBytes, head: u32, versi
 {
     let mut at = 0;
     while let Some(log) = log_at(stock, at) {
-        if log < head && live.live(log) == 0 {
+        if is_idle(live, head, log) {
             stock.retire_log(log, version);
         } else {
             at += 1;
         }
     }
+}
+
+// Whether the log is below head, and nothing of it is live.
+fn is_idle(live: &LiveBytes, head: u32, log: u32) -> bool
+    ensures { result ≡ is_idle_log head live.now log }
+{
+    log < head && live.live(log) == 0
 }
 
 // The number of the log at a place among those in use.
