@@ -245,8 +245,10 @@ telling : {A : Type 0} (old new : Option A) (x : A) → (old ≡ None → new �
 telling None new x stays is = absurd (let no : None ≡ Some x = sym (stays refl) ∙ is in cc)
 telling (Some y) new x stays is = (y, refl)
 
-none_tell : {W : Type 0} (w : Writers W) {s : _} (fs : List (Lent W s)) → fs ≡ [] → AllByRecursion (λ (f : Lent W s). IsSome (w.file f.writer)) fs
-none_tell {W} w {s} fs none = subst (λ (fs : List (Lent W s)). AllByRecursion (λ (f : Lent W s). IsSome (w.file f.writer)) fs) (sym none) tt
+none_tell : {W : Type 0} (w : Writers W) {s : _} (fs : List (Lent W s)) → fs ≡ []
+    → AllByRecursion (λ (f : Lent W s). IsSome (w.file f.writer)) fs
+none_tell {W} w {s} fs none =
+    subst (λ (fs : List (Lent W s)). AllByRecursion (λ (f : Lent W s). IsSome (w.file f.writer)) fs) (sym none) tt
 
 -- Unless the disk failed at the file that wasn't lent, it was left alone.
 pub unlent_tells : {D H W : Type 0} (g : Ghosts D) (w : Writers W) (before after : Core H) (old new : D) (fail : StepFail)
