@@ -28,6 +28,7 @@ mod KeepRemoved
 pub mod KeepSteps
 pub mod KeptBy
 pub mod Leaving
+pub mod LeftRemoved
 pub mod Lending
 pub mod LendsNew
 mod MoveRemoved
