@@ -2,4 +2,5 @@
 pub mod Going
 pub mod Kept
 pub mod Left
+pub mod Swept
 pub mod Taking

@@ -8,7 +8,7 @@ ghost use Rattle.vl_disk.specs.DiskState.{DiskState};
 ghost use Rattle.vl_disk.specs.Faults.{HasCause, after_calls};
 ghost use Rattle.vl_engine.specs.Collecting.{Collects};
 ghost use Rattle.vl_engine.specs.Merging.{StandsOpen};
-ghost use Rattle.vl_engine.specs.Removing.{IsThere, Removes};
+ghost use Rattle.vl_engine.specs.Removing.{Removes};
 ghost use Rattle.vl_engine.specs.Sweeping.{AreFree, KeepsAllBut, PinsStay, SweepCarries, SweepFailed, SweepLeavesDisk, SweepsAs, SweepsFor};
 ghost use Rattle.vl_engine.specs.Sweeping.{names_of, ready, up_to};
 ghost use Rattle.vl_layout.specs.declared.layout.Layout.{Layout};
@@ -162,8 +162,6 @@ impl<D: Disk> Engine<D> {
         ensures as_swept { SweepsAs D.Watched D.Writer.Writer
             (up_to least self.old.core.back.version_number self.old.removing.pins) self.old.disk self.new.disk self.old.core
             self.new.core self.old.removing self.new.removing result }
-        ensures there { self.old.core.front.halted ≡ None → IsThere D.Watched D.Writer.Writer self.old.disk self.old.core
-            self.old.merging self.old.removing.stock }
         ensures cause { HasCause (D.faults self.old.disk) (D.faults self.new.disk) (SweepFailed result) }
         ensures merging { self.new.merging ≡ self.old.merging }
         ensures collecting { self.new.collecting ≡ self.old.collecting }
