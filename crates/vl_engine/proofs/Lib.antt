@@ -49,6 +49,7 @@ pub mod Seeing
 pub mod Staged
 pub mod Stepped
 mod Switching
+pub mod Sweeps
 pub mod TakenFiles
 pub mod Taking
 mod TallyBegun

@@ -2,6 +2,7 @@
 use Rattle.std.specs.Prelude.{◌≡◌, ◌≢◌, ◌⊎◌, ℕ, not, List, [], ◌∷◌, ◌++◌, ◌+◌, ◌-◌, length, map, min, Option, None, Some, Result, Ok, Err}
 use Rattle.std.specs.List.{AllByRecursion, filter}
 use Rattle.std.specs.Option.{ForSome}
+use Rattle.std.specs.VecDeque.{deque_capacity}
 use Rattle.vl_back.specs.Writing.{IsKept}
 use Rattle.vl_compact.specs.declared.files.Lent.{Lent}
 use Rattle.vl_core.specs.Carries.{Carries}
@@ -106,6 +107,7 @@ pub record HasSwept {D W : Type 0} (g : Ghosts D) (w : Writers W) {s : _} (bound
   pub removes : RemovesAll g w (ready bound before.stock.trash.items) old new
   pub waiting : after.stock.trash.items ≡ held bound before.stock.trash.items
   pub in_use : after.stock.in_use ≡ before.stock.in_use
+  pub capacity : deque_capacity after.stock.trash ≡ deque_capacity before.stock.trash
   pub pins : PinsStay version before.pins after.pins
 
 -- so it is with what a sweep answers: a halted engine does nothing, and a fault halts

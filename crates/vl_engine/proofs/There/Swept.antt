@@ -130,14 +130,16 @@ module _ {D W : Type 0} (g : Ghosts D) (w : Writers W) {s : _} where
 
     -- So the sweep has ended,
     pub has_swept : (version : ℕ) (kept left : Removing (Lent W s)) → kept.stock.trash.items ≡ before
-        → IsNoneTaken bound now left.stock.trash.items → left.stock.in_use ≡ kept.stock.in_use → PinsStay version kept.pins left.pins
+        → IsNoneTaken bound now left.stock.trash.items → left.stock.in_use ≡ kept.stock.in_use
+        → deque_capacity left.stock.trash ≡ deque_capacity kept.stock.trash → PinsStay version kept.pins left.pins
         → HasSwept g w bound version old mid kept left count
-    has_swept version kept left is_before none in_use pins = record {
+    has_swept version kept left is_before none in_use capacity pins = record {
       counted = gone.counted ∙ ap length (all_went none.held ∙ ap (ready bound) (sym is_before));
       removes = subst (λ (l : List (RetiredFile (Lent W s))). RemovesAll g w l old mid)
           (all_went none.held ∙ ap (ready bound) (sym is_before)) gone.removes;
       waiting = none.same ∙ all_wait none.held ∙ ap (held bound) (sym is_before);
       in_use = in_use;
+      capacity = capacity;
       pins = pins;
     }
 

@@ -41,6 +41,7 @@ loop-file-preserved g c = let was = c.loop-file.invariant in let took = c.in-Som
       merging = was.merging;
       collecting = was.collecting;
       in_use = took.in_use ∙ was.in_use;
+      capacity = took.capacity ∙ was.capacity;
       pins = was.pins;
       bound = was.bound;
       cause = let before = was.cause in let now = c.in-Ok.ensures.cause in record {
@@ -81,4 +82,5 @@ returns-clause-as_swept g c = let was = c.loop-file.invariant in let took = c.in
     (has_swept g.D.Watched g.D.Writer.Writer c.bound-bound.result c.args.self.now.removing.stock.trash.items
     c.loop-file.self.removing.stock.trash.items c.args.self.now.disk c.loop-file.self.disk c.loop-file.count was.gone
     c.args.self.now.core.back.version_number c.args.self.now.removing
-    (record { pins = c.loop-file.self.removing.pins; stock = c.take_up_to.new.self }) refl took.taken (took.in_use ∙ was.in_use) was.pins))
+    (record { pins = c.loop-file.self.removing.pins; stock = c.take_up_to.new.self }) refl took.taken (took.in_use ∙ was.in_use)
+    (took.capacity ∙ was.capacity) was.pins))

@@ -1,5 +1,5 @@
 use Rattle.std.specs.Prelude.{◌≡◌, ◌+◌, None}
-use Rattle.std.specs.VecDeque.{deque_len}
+use Rattle.std.specs.VecDeque.{deque_capacity, deque_len}
 use Rattle.vl_disk.specs.Faults.{HasCause}
 use Rattle.vl_engine.proofs.There.Swept.{HasGone}
 use Rattle.vl_engine.specs.Sweeping.{PinsStay, up_to}
@@ -14,6 +14,7 @@ invariant-loop-file g l = record {
   merging : l.self.merging ≡ l.fn.self.merging;
   collecting : l.self.collecting ≡ l.fn.self.collecting;
   in_use : l.self.removing.stock.in_use ≡ l.fn.self.removing.stock.in_use;
+  capacity : deque_capacity l.self.removing.stock.trash ≡ deque_capacity l.fn.self.removing.stock.trash;
   pins : PinsStay l.fn.self.core.back.version_number l.fn.self.removing.pins l.self.removing.pins;
   bound : l.bound ≡ up_to l.fn.least l.fn.self.core.back.version_number l.fn.self.removing.pins;
   cause : HasCause (g.D.Watched.faults l.fn.self.disk) (g.D.Watched.faults l.self.disk) ⊥;

@@ -1,0 +1,3 @@
+-- What a sweep comes to.
+pub mod Freed
+pub mod Going
