@@ -1,9 +1,9 @@
 -- What a run of removals leaves of a disk, whatever it holds.
 use Rattle.std.specs.Prelude.{◌≡◌, ◌≢◌, ◌⊎◌, ◌+◌, ◌++◌, ℕ, List, [], ◌∷◌, length, map, IsTrue, Option, None, Some, Result, Ok, Err, is_some}
-use Rattle.std.specs.Prelude.{true, refl, zero, suc}
+use Rattle.std.specs.Prelude.{true, false, refl, zero, suc}
 use Rattle.std.specs.FinMap.{get}
 use Rattle.std.specs.List.{AllByRecursion}
-use Rattle.std.specs.Option.{ForSome}
+use Rattle.std.specs.Option.{ForSome, option_map}
 use Rattle.std.proofs.Common.{sym, subst, ap, ◌∙◌, inl, inr, ⊎_elim}
 use Rattle.vl_back.specs.Writing.{IsKept}
 use Rattle.vl_compact.specs.declared.files.Lent.{Lent}
@@ -11,8 +11,9 @@ use Rattle.vl_core.specs.Carries.{StaysUntold}
 use Rattle.vl_disk.specs.Calls.{ChangesNothing}
 use Rattle.vl_disk.specs.Changes.{SameElsewhere}
 use Rattle.vl_disk.specs.Disk.{IsFree}
-use Rattle.vl_disk.specs.DiskState.{DiskState}
+use Rattle.vl_disk.specs.DiskState.{DiskState, File, without}
 use Rattle.vl_disk.specs.Faults.{HasCause, after_calls, one_more}
+use Rattle.vl_disk.specs.Lending.{Adopts, adopted}
 use Rattle.vl_disk.specs.declared.errors.Failed.{Failed}
 use Rattle.vl_disk.specs.declared.name.Name.{Name}
 use Rattle.vl_disk.specs.declared.watched.Watched.{Ghosts}
@@ -22,6 +23,9 @@ use Rattle.vl_engine.proofs.There.Going.{Goes, one_goes}
 use Rattle.vl_engine.proofs.There.Kept.{told_before}
 use Rattle.vl_engine.specs.Sweeping.{AreFree, KeepsAllBut, RemovesAll, RemovesOne, StopsRemoving, TakesIfLent, names_of}
 use Rattle.vl_pins.specs.declared.retired_file.RetiredFile.{RetiredFile}
+
+false_true : false ≡ true → ⊥
+false_true e = cc
 
 kept_itself : (name : Name) (disk : DiskState) → IsKept name disk disk
 kept_itself name disk = ((λ none. none, λ none. none), (λ none. none, λ none. none))
@@ -37,6 +41,10 @@ kept_beside name other old new same apart = (
   (λ none. sym (same.standing other apart) ∙ none, λ none. same.standing other apart ∙ none),
   (λ none. sym (same.removed other apart) ∙ none, λ none. same.removed other apart ∙ none),
 )
+
+calls_more : (n count : ℕ) → after_calls n (one_more count) ≡ one_more (after_calls n count)
+calls_more zero count = refl
+calls_more (suc n) count = ap one_more (calls_more n count)
 
 module _ {D W : Type 0} (g : Ghosts D) (w : Writers W) {s : _} where
   -- the writers of those that were lent tell their files, where the disk tells its own
@@ -83,6 +91,30 @@ module _ {D W : Type 0} (g : Ghosts D) (w : Writers W) {s : _} where
       ((first_goes file files old all.0 tell (Ok tt) all.1).beside before between.0 was between.1) apart.0)
       (all_kept files all.0 new then all.2 between.0 now between.1 is name apart.1)
 
+  -- what is told then, in which the other files are as they were
+  one_told : (file : RetiredFile (Lent W s)) (files : List (RetiredFile (Lent W s))) (old new : D) → Tell old (file ∷ files)
+      → RemovesOne g w file old new (Ok tt) → (state : DiskState) → g.told old ≡ Some state → (now : DiskState) × (g.told new ≡ Some now)
+  one_told file files old new tell one state told = by file.lent refl one.takes
+    where
+      by : (o : Option (Lent W s)) → file.lent ≡ o → TakesIfLent g w o file.name old one.mid → (now : DiskState) × (g.told new ≡ Some now)
+      by None none takes = (without file.name state, one.removes.removed
+          ∙ ap (option_map (without file.name)) (ap g.told takes ∙ told))
+      by (Some lent) some takes = taken (w.file lent.writer) (tell.0 lent some state told) takes
+        where
+          taken : (o : Option File) → is_some o ≡ true → Adopts g file.name o old one.mid → (now : DiskState) × (g.told new ≡ Some now)
+          taken None tells adopts = absurd (false_true tells)
+          taken (Some f) tells adopts = (without file.name (adopted file.name f state), one.removes.removed
+              ∙ ap (option_map (without file.name)) (adopts.adopted state told f refl))
+
+  pub all_told : (files : List (RetiredFile (Lent W s))) (old new : D) → Tell old files → RemovesAll g w files old new → (name : Name)
+      → AllByRecursion (λ (file : RetiredFile (Lent W s)). name ≢ file.name) files → (state : DiskState) → g.told old ≡ Some state
+      → (now : DiskState) × (g.told new ≡ Some now) × (get now.standing name ≡ get state.standing name)
+  all_told [] old new tell all name apart state told = (state, ap g.told all ∙ told, refl)
+  all_told (file ∷ files) old new tell all name apart state told =
+      let mid = one_told file files old all.0 tell all.1 state told in
+      let rest = all_told files all.0 new (tell_then file files old all.0 tell (Ok tt) all.1) all.2 name apart.1 mid.0 mid.1 in
+      (rest.0, rest.1, rest.2 ∙ ((first_goes file files old all.0 tell (Ok tt) all.1).beside state mid.0 told mid.1).standing name apart.0)
+
   -- the file is gone, and what was gone stays so
   one_free : (file : RetiredFile (Lent W s)) (old new : D) → RemovesOne g w file old new (Ok tt) → ForSome (g.told new) (IsFree file.name)
   one_free file old new one = one.removes.free
@@ -120,10 +152,6 @@ module _ {D W : Type 0} (g : Ghosts D) (w : Writers W) {s : _} where
       → g.calls new ≡ one_more (g.calls old)
   one_call file old new result one = one.removes.as_call.calls ∙ ap one_more (taken_calls file old one.mid file.lent one.takes)
 
-  calls_more : (n count : ℕ) → after_calls n (one_more count) ≡ one_more (after_calls n count)
-  calls_more zero count = refl
-  calls_more (suc n) count = ap one_more (calls_more n count)
-
   pub all_calls : (files : List (RetiredFile (Lent W s))) (old new : D) → RemovesAll g w files old new
       → g.calls new ≡ after_calls (length files) (g.calls old)
   all_calls [] old new all = ap g.calls all
@@ -149,11 +177,11 @@ module _ {D W : Type 0} (g : Ghosts D) (w : Writers W) {s : _} where
 
   module _ (files : List (RetiredFile (Lent W s))) (old new : D) (name : Name) (stops : StopsRemoving g w files old new name)
       (tell : Tell old files) where
-    tell_parts : Tell old stops.before × Tell old (stops.at ∷ stops.behind)
+    pub tell_parts : Tell old stops.before × Tell old (stops.at ∷ stops.behind)
     tell_parts = tell_front stops.before (stops.at ∷ stops.behind) old
         (subst (λ (fs : List (RetiredFile (Lent W s))). Tell old fs) stops.files_are tell)
 
-    tell_mid : Tell stops.mid (stops.at ∷ stops.behind)
+    pub tell_mid : Tell stops.mid (stops.at ∷ stops.behind)
     tell_mid = tell_after stops.before (stops.at ∷ stops.behind) old stops.mid tell_parts.0 tell_parts.1 stops.went
 
     last_goes : Goes g (is_some stops.at.lent) stops.at.name stops.mid new

@@ -36,7 +36,8 @@ pub record IsOutside (b : Base) (l : Layout) (name : Name) : Type 0 where
 
 module _ (b : Base) (l : Layout) (h : History) (name : Name) (out : IsOutside b l name) (base : IsBase b l h)
     (tidy : IsTidy (layout_logs l) l h) (disk : DiskState) (holds : Holds b l disk) where
-  base_now : (now : DiskState) → SameElsewhere name disk now → HoldsBase b now
+  -- the manifest stands
+  pub base_now : (now : DiskState) → SameElsewhere name disk now → HoldsBase b now
   base_now now same = base_kept name disk now same b out.manifests holds.base
 
   files_now : (now : DiskState) → SameElsewhere name disk now → HoldsFiles b l now
