@@ -29,6 +29,7 @@ pub mod Lending
 pub mod LendsNew
 mod PassLaws
 mod Picking
+mod Pinned
 pub mod Planning
 pub mod PutIn
 mod Readable
@@ -48,6 +49,7 @@ pub mod Ruled
 pub mod Seeing
 pub mod Staged
 pub mod Stepped
+mod StillRemoved
 mod Switching
 pub mod Sweeps
 pub mod TakenFiles
