@@ -60,4 +60,5 @@ pub mod There
 pub mod UnderWay
 pub mod Untold
 pub mod Whole
+mod WriteRemoved
 pub mod Written

@@ -5,6 +5,8 @@ use Rattle.std.specs.Option.{option_map}
 use Rattle.std.specs.VecDeque.{deque_capacity, deque_len}
 use Rattle.std.proofs.Common.{sym, ap, subst, ◌∙◌, refl, arith}
 use Rattle.vl_core.specs.declared.kept.Core.{Core}
+use Rattle.vl_core.specs.Represents.{Fronts}
+use Rattle.vl_engine.specs.Pinning.{PinsLive}
 use Rattle.vl_engine.specs.Removing.{AreBelowHead, IsLogBelow, IsStockOf, Removes, UsesThoseOf}
 use Rattle.vl_engine.specs.declared.open.Removing.{Removing}
 use Rattle.vl_layout.specs.Jobs.{lent_numbers}
@@ -20,6 +22,7 @@ use Rattle.vl_layout.specs.declared.live.Live.{Live}
 use Rattle.vl_layout.specs.declared.segment.Segment.{Segment}
 use Rattle.vl_layout.specs.declared.table.Table as laid
 use Rattle.vl_model.specs.Numbers.{has}
+use Rattle.vl_model.specs.History.{History}
 use Rattle.vl_pins.specs.Pins.{ArePinsOf, pinned_of}
 use Rattle.vl_pins.specs.declared.pins.Pins.{Pins}
 use Rattle.vl_pins.specs.declared.in_use.InUse.{InUse}
@@ -32,6 +35,7 @@ pub record IsAlike (l k : Layout) : Type 0 where
   pub frozen : k.frozen ≡ l.frozen
   pub levels : k.levels ≡ l.levels
   pub retired : k.retired ≡ l.retired
+  pub active : k.active.number ≡ l.active.number
   pub later : l.version_number ≤ k.version_number
   pub lent : lent_numbers k.job ≡ lent_numbers l.job
   pub running : k.halted ≡ None → l.halted ≡ None
@@ -95,7 +99,7 @@ pins_alike pins l k live job pass later are = record {
 
 pub alike_same : (l : Layout) → IsAlike l l
 alike_same l = record {
-  flushed = refl; frozen = refl; levels = refl; retired = refl; later = omega arith; lent = refl; running = λ e. e
+  flushed = refl; frozen = refl; levels = refl; retired = refl; active = refl; later = omega arith; lent = refl; running = λ e. e
 }
 
 -- Once it is halted nothing is said but of pins.
@@ -121,5 +125,15 @@ pub removes_live : {H L : Type 0} (low : Bool) (core after : Core H) (old new : 
     → Removes low after new (record l { live = live })
 removes_live low core after old new l live logs head stock pins is =
     removes_alike l (record l { live = live }) (record {
-      flushed = refl; frozen = refl; levels = refl; retired = refl; later = omega arith; lent = refl; running = λ e. e
+      flushed = refl; frozen = refl; levels = refl; retired = refl; active = refl; later = omega arith; lent = refl; running = λ e. e
     }) core after logs low old new head stock pins is
+
+-- What lives is pinned as the layout has it.
+pub pins_here : {H L : Type 0} (core : Core H) (h : History) (l : Layout) → Fronts core h l → (low : Bool) (kept : Removing L)
+    → Removes low core kept l → PinsLive core.front.oracle kept.pins core.back.version_number l
+pins_here core h l is low kept removes = record {
+  live_are = is.front.live_are;
+  rising = is.front.lived.rising;
+  pins_are = removes.pins;
+  version_is = is.version;
+}

@@ -1,5 +1,7 @@
-use Rattle.std.proofs.Common.{sym, ap, ◌∙◌, ◌≡◌, length, absurd}
+use Rattle.std.proofs.Common.{sym, ap, ◌∙◌, ◌≡◌, length, Option}
 use Rattle.vl_engine.proofs.Pinned.{begun_so, raised_so, same_count, unpinned_so}
+use Rattle.std.specs.Prelude.{ℕ}
+use Rattle.vl_engine.specs.Pinning.{without_pin}
 use Rattle.vl_engine.proofs.pinning.begin.Goals.{in-Ok, in-Err-TooMany}
 use Rattle.vl_engine.proofs.pinning.begin.Goals as goal
 
@@ -15,6 +17,7 @@ pub returns-in-Err-clause-unpinned : goal.returns-in-Err-clause-unpinned
 returns-in-Err-clause-unpinned c l live =
     elim c.match-begin.branch [
       in-Ok w ↦ unpinned_so c.args.front.now.oracle c.args.pins.now c.args.version l live c.begin.new.self c.unpin.new.pins
-        w.in-Ok.ticket w.in-Ok.ensures.begun.0 w.in-Ok.ensures.begun.1 (c.unpin.ensures ∙ ?)
-      | in-Err-TooMany w ↦ ?
+        w.in-Ok.ticket w.in-Ok.ensures.begun.0 w.in-Ok.ensures.begun.1 (c.unpin.ensures ∙ ap (λ (o : Option ℕ). without_pin o c.begin.new.self) w.pinned-is)
+      | in-Err-TooMany w ↦ raised_so c.args.front.now.oracle c.args.pins.now c.args.version l live c.unpin.new.pins
+        (c.unpin.ensures ∙ ap (λ (o : Option ℕ). without_pin o c.begin.new.self) w.pinned-is ∙ w.in-Err-TooMany.ensures.refused)
     ]
