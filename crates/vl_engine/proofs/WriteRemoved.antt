@@ -1,5 +1,5 @@
 -- What is kept of which files can go, behind writing a commit, whatever that came to.
-use Rattle.std.specs.Prelude.{◌≡◌, ℕ, List, Bool, Result, Ok, Err, refl}
+use Rattle.std.specs.Prelude.{◌≡◌, ℕ, List, Bool, Option, Result, Ok, Err, refl}
 use Rattle.std.specs.FinMap.{entries}
 use Rattle.std.proofs.Common.{sym, ap, subst, ◌∙◌, arith}
 use Rattle.vl_back.specs.declared.back.Back.{Back}
