@@ -50,6 +50,7 @@ pub mod Seeing
 pub mod Staged
 pub mod Stepped
 mod StillRemoved
+mod StillThere
 mod Switching
 pub mod Sweeps
 pub mod TakenFiles
