@@ -1,5 +1,6 @@
 pub mod Beginning
 pub mod Begins
+mod BegunRemoved
 mod Collected
 pub mod Committing
 pub mod DrawFits
@@ -22,11 +23,13 @@ pub mod InstallExits
 pub mod InstallPut
 pub mod InstallReady
 pub mod InstallTotal
+mod KeepRemoved
 pub mod KeepSteps
 pub mod KeptBy
 pub mod Leaving
 pub mod Lending
 pub mod LendsNew
+mod MoveRemoved
 mod PassLaws
 mod Picking
 mod Pinned

@@ -29,7 +29,7 @@ use Rattle.vl_pins.specs.declared.in_use.InUse.{InUse}
 use Rattle.vl_pins.specs.declared.stock.Stock.{Stock}
 use Rattle.vl_seglog.specs.declared.sealed.SealedLog.{SealedLog}
 
--- The same sealed logs and tables, the same retired files, and as many files lent; the version number doesn't fall.
+-- The same sealed logs and tables, the same retired files, and no more files lent; the version number doesn't fall.
 pub record IsAlike (l k : Layout) : Type 0 where
   pub flushed : k.flushed ≡ l.flushed
   pub frozen : k.frozen ≡ l.frozen
@@ -37,7 +37,7 @@ pub record IsAlike (l k : Layout) : Type 0 where
   pub retired : k.retired ≡ l.retired
   pub active : k.active.number ≡ l.active.number
   pub later : l.version_number ≤ k.version_number
-  pub lent : lent_numbers k.job ≡ lent_numbers l.job
+  pub lent : length (lent_numbers k.job) ≤ length (lent_numbers l.job)
   pub running : k.halted ≡ None → l.halted ≡ None
 
 module _ (l k : Layout) (alike : IsAlike l k) where
@@ -67,7 +67,7 @@ module _ (l k : Layout) (alike : IsAlike l k) where
         trash = is.trash ∙ sym alike.retired;
         aged = subst (AllByRecursion (λ (r : Retired). r.version_number ≤ k.version_number)) (sym alike.retired)
             (aged_on l.retired is.aged);
-        room = subst (λ (ns : List ℕ). deque_len old.trash + length ns ≤ deque_capacity old.trash) (sym alike.lent) is.room;
+        room = let room = is.room in let few = alike.lent in omega (arith, room, few);
       })
 
     below_alike : after.back.state.head ≡ core.back.state.head → AreBelowHead core l → AreBelowHead after k
@@ -99,7 +99,7 @@ pins_alike pins l k live job pass later are = record {
 
 pub alike_same : (l : Layout) → IsAlike l l
 alike_same l = record {
-  flushed = refl; frozen = refl; levels = refl; retired = refl; active = refl; later = omega arith; lent = refl; running = λ e. e
+  flushed = refl; frozen = refl; levels = refl; retired = refl; active = refl; later = omega arith; lent = omega arith; running = λ e. e
 }
 
 -- Once it is halted nothing is said but of pins.
@@ -125,7 +125,7 @@ pub removes_live : {H L : Type 0} (low : Bool) (core after : Core H) (old new : 
     → Removes low after new (record l { live = live })
 removes_live low core after old new l live logs head stock pins is =
     removes_alike l (record l { live = live }) (record {
-      flushed = refl; frozen = refl; levels = refl; retired = refl; active = refl; later = omega arith; lent = refl; running = λ e. e
+      flushed = refl; frozen = refl; levels = refl; retired = refl; active = refl; later = omega arith; lent = omega arith; running = λ e. e
     }) core after logs low old new head stock pins is
 
 -- What lives is pinned as the layout has it.

@@ -70,6 +70,7 @@ impl<D: Disk> Engine<D> {
             → Decides (λ _ l. Removes low self.new.core self.new.removing l) h l (pick_ruling l h percent) (as_before l l)
             (pick_outcome (pick_ruling l h percent).answer result) no_effects }
         ensures stock { self.new.removing.stock ≡ self.old.removing.stock }
+        ensures removing { PinsPass self.old.core.back.version_number self.old.removing self.new.removing result }
 
         // The pass does what the ruling's says, and has given nothing yet.
         ensures pass { (h : History) (l : Layout) → StandsFor D.Held.bytes self.old.core h l

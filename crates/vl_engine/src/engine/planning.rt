@@ -4,7 +4,7 @@ ghost use Rattle.vl_compact.specs.Laid.{AreBoth};
 ghost use Rattle.vl_compact.specs.Progress.{IsNew, made_of};
 ghost use Rattle.vl_engine.specs.Merging.{FitsReaders, HasMerge, IsJustOpen, IsMergeFor, IsMergeOf, OpensMerge, StandsOpen, plan_outcome};
 ghost use Rattle.vl_engine.specs.Planning.{IsChosen};
-ghost use Rattle.vl_core.specs.Represents.{Represents, StandsFor};
+ghost use Rattle.vl_core.specs.Represents.{Fronts, Represents, StandsFor};
 ghost use Rattle.vl_core.specs.MayStep.{Fits};
 ghost use Rattle.vl_layout.specs.Decides.{Decides, as_before, no_effects};
 ghost use Rattle.vl_layout.specs.Rulings.Drain.{drain_ruling};
@@ -61,11 +61,14 @@ impl<D: Disk> Engine<D> {
             → Decides (λ _ l. Removes low self.new.core self.new.removing l) h l (plan_ruling l h) (as_before l l)
             (plan_outcome (plan_ruling l h).answer result) no_effects }
         ensures stock { self.new.removing.stock ≡ self.old.removing.stock }
+        ensures removing { PinsMerge self.old.core.back.version_number self.old.removing self.new.removing result }
 
         // The merge does what the ruling's job says, and has made nothing yet.
         ensures job { (h : History) (l : Layout) → StandsOpen D.Held.bytes self.old.core self.old.merging h l
             → IfOk result (λ job. AreBoth (HasMerge D.Writer.Writer D.Held.bytes) job (plan_ruling l h).answer) }
         ensures new { IfOk result (λ job. ForSome job IsNew) }
+        // One begins only where none is open.
+        ensures open { IfOk result (λ job. ForSome job (λ _. self.old.merging ≡ None)) }
 
         // A reader that keeps no block that doesn't stand, as `reader` gives, fits its sources: look-ups by it are told.
         ensures looks { (h : History) (l : Layout) → StandsOpen D.Held.bytes self.old.core self.old.merging h l
@@ -115,11 +118,14 @@ impl<D: Disk> Engine<D> {
             → Decides (λ _ l. Removes low self.new.core self.new.removing l) h l (drain_ruling l h segment) (as_before l l)
             (plan_outcome (drain_ruling l h segment).answer result) no_effects }
         ensures stock { self.new.removing.stock ≡ self.old.removing.stock }
+        ensures removing { PinsMerge self.old.core.back.version_number self.old.removing self.new.removing result }
 
         // The merge does what the ruling's job says, and has made nothing yet.
         ensures job { (h : History) (l : Layout) → StandsOpen D.Held.bytes self.old.core self.old.merging h l
             → IfOk result (λ job. AreBoth (HasMerge D.Writer.Writer D.Held.bytes) job (drain_ruling l h segment).answer) }
         ensures new { IfOk result (λ job. ForSome job IsNew) }
+        // One begins only where none is open.
+        ensures open { IfOk result (λ job. ForSome job (λ _. self.old.merging ≡ None)) }
 
         // A reader that keeps no block that doesn't stand, as `reader` gives, fits its sources: look-ups by it are told.
         ensures looks { (h : History) (l : Layout) → StandsOpen D.Held.bytes self.old.core self.old.merging h l
@@ -157,6 +163,10 @@ impl<D: Disk> Engine<D> {
         ensures fits { (h : History) (l : Layout) (ruling : Ruling (Option laid_job.Job))
             → Fits (D.told self.old.disk) self.old.core h l → IsChosen D.Held.bytes inputs h l ruling
             → Decides (Fits (D.told self.new.disk) self.new.core) h l ruling (as_before l l)
+            (plan_outcome ruling.answer result) no_effects }
+        ensures removes { (low : Bool) (h : History) (l : Layout) (ruling : Ruling (Option laid_job.Job))
+            → Fronts self.old.core h l → Removes low self.old.core self.old.removing l → IsChosen D.Held.bytes inputs h l ruling
+            → Decides (λ _ l. Removes low self.new.core self.new.removing l) h l ruling (as_before l l)
             (plan_outcome ruling.answer result) no_effects }
         ensures job { (h : History) (l : Layout) (ruling : Ruling (Option laid_job.Job))
             → StandsFor D.Held.bytes self.old.core h l → IsChosen D.Held.bytes inputs h l ruling
