@@ -4,6 +4,7 @@ mod BegunRemoved
 mod Collected
 pub mod Committing
 pub mod DrawFits
+mod DrawRemoved
 pub mod DrawSteps
 pub mod Drawing
 pub mod Filing

@@ -11,7 +11,7 @@ use Rattle.vl_engine.specs.Removing.{AreBelowHead, IsLogBelow, IsStockOf, Remove
 use Rattle.vl_engine.specs.declared.open.Removing.{Removing}
 use Rattle.vl_layout.specs.Jobs.{lent_numbers}
 use Rattle.vl_layout.specs.Ruling.{halted_at}
-use Rattle.vl_layout.specs.Sources.{rising}
+use Rattle.vl_layout.specs.Sources.{head, number_or, oldest, rising}
 use Rattle.vl_layout.specs.Tidy.{log_numbers}
 use Rattle.vl_layout.specs.declared.file_name.FileName.{FileName}
 use Rattle.vl_layout.specs.declared.file_name.Retired.{Retired}
@@ -41,6 +41,9 @@ pub record IsAlike (l k : Layout) : Type 0 where
   pub running : k.halted ≡ None → l.halted ≡ None
 
 module _ (l k : Layout) (alike : IsAlike l k) where
+  head_same : head l ≡ head k
+  head_same = λ i. number_or (record l.active { number = sym alike.active i }) (oldest (sym alike.frozen i))
+
   sealed_same : l.frozen ++ l.flushed ≡ k.frozen ++ k.flushed
   sealed_same = λ i. sym alike.frozen i ++ sym alike.flushed i
 
@@ -71,19 +74,20 @@ module _ (l k : Layout) (alike : IsAlike l k) where
       })
 
     below_alike : after.back.state.head ≡ core.back.state.head → AreBelowHead core l → AreBelowHead after k
-    below_alike head below = record {
-      flushed = subst (λ (n : ℕ). AllByRecursion (λ (s : Segment). s.number < n) k.flushed) (sym head)
+    below_alike same below = record {
+      flushed = subst (λ (n : ℕ). AllByRecursion (λ (s : Segment). s.number < n) k.flushed) (sym same)
           (subst (AllByRecursion (λ (s : Segment). s.number < core.back.state.head)) (sym alike.flushed) below.flushed);
-      retired = subst (λ (n : ℕ). AllByRecursion (λ (r : Retired). IsLogBelow n r.file) k.retired) (sym head)
+      retired = subst (λ (n : ℕ). AllByRecursion (λ (r : Retired). IsLogBelow n r.file) k.retired) (sym same)
           (subst (AllByRecursion (λ (r : Retired). IsLogBelow core.back.state.head r.file)) (sym alike.retired) below.retired);
+      from = subst (λ (n : ℕ). after.back.state.head ≤ n) head_same (subst (λ (n : ℕ). n ≤ head l) (sym same) below.from);
     }
 
     pub removes_alike : {L : Type 0} (low : Bool) (old new : Removing L) → after.back.state.head ≡ core.back.state.head
         → new.stock ≡ old.stock → ArePinsOf new.pins k → Removes low core old l → Removes low after new k
-    removes_alike low old new head stock pins is = record {
+    removes_alike low old new same stock pins is = record {
       pins = pins;
       stock = λ running. stock_alike old.stock new.stock stock (is.stock (alike.running running));
-      below = λ holds running. below_alike head (is.below holds (alike.running running));
+      below = λ holds running. below_alike same (is.below holds (alike.running running));
     }
 
 -- What is pinned stays where a layout pins the same.
