@@ -52,6 +52,7 @@ pub mod Rotated
 pub mod Ruled
 pub mod Seeing
 pub mod Staged
+mod StartRemoved
 pub mod Stepped
 mod StillRemoved
 mod StillThere

@@ -33,10 +33,10 @@ use Rattle.vl_pins.specs.laws.PinLaws.{pins_ended}
 pub stock_by : {H R L : Type 0} (ticket : ℕ) (old new : Removing L) (result : Result Done (CommitFail H R))
     → UnpinsAs ticket old new result → new.stock ≡ old.stock
 stock_by {L = L} ticket old new (Ok done) is = ap (λ (r : Removing L). r.stock) is
-stock_by ticket old new (Err (fails.Halted name)) is = absurd is
-stock_by ticket old new (Err (fails.Exhausted txn)) is = absurd is
-stock_by ticket old new (Err (fails.Conflict key n)) is = absurd is
-stock_by ticket old new (Err (fails.Full txn long frame)) is = absurd is
+stock_by {L = L} ticket old new (Err (fails.Halted name)) is = ap (λ (r : Removing L). r.stock) is
+stock_by {L = L} ticket old new (Err (fails.Exhausted txn)) is = ap (λ (r : Removing L). r.stock) is
+stock_by {L = L} ticket old new (Err (fails.Conflict key n)) is = ap (λ (r : Removing L). r.stock) is
+stock_by {L = L} ticket old new (Err (fails.Full txn long frame)) is = ap (λ (r : Removing L). r.stock) is
 stock_by {L = L} ticket old new (Err (fails.NoMemory txn)) is = ap (λ (r : Removing L). r.stock) is
 stock_by {L = L} ticket old new (Err (fails.Disk name)) is = ap (λ (r : Removing L). r.stock) is
 

@@ -36,13 +36,13 @@ module _ {L : Type 0} where
   abbrev pub pass_pinned : Option ℕ → Removing L → Removing L
   pass_pinned version kept = record kept { pins = record kept.pins { pass = version } }
 
-  -- where writing a commit ended its transaction
+  -- a commit that isn't handed back ended its transaction
   abbrev pub UnpinsAs : {H R : Type 0} → ℕ → (old new : Removing L) → Result Done (CommitFail H R) → Type 0
   UnpinsAs ticket old new (Ok done) = new ≡ unpinned ticket old
-  UnpinsAs ticket old new (Err (fails.Halted name)) = ⊥
-  UnpinsAs ticket old new (Err (fails.Exhausted txn)) = ⊥
-  UnpinsAs ticket old new (Err (fails.Conflict key number)) = ⊥
-  UnpinsAs ticket old new (Err (fails.Full txn length frame)) = ⊥
+  UnpinsAs ticket old new (Err (fails.Halted name)) = new ≡ unpinned ticket old
+  UnpinsAs ticket old new (Err (fails.Exhausted txn)) = new ≡ old
+  UnpinsAs ticket old new (Err (fails.Conflict key number)) = new ≡ unpinned ticket old
+  UnpinsAs ticket old new (Err (fails.Full txn length frame)) = new ≡ old
   UnpinsAs ticket old new (Err (fails.NoMemory txn)) = new ≡ old
   UnpinsAs ticket old new (Err (fails.Disk name)) = new ≡ unpinned ticket old
 

@@ -109,6 +109,8 @@ impl<D: Disk> Engine<D> {
         ensures merging { self.new.merging ≡ self.old.merging }
         ensures collecting { self.new.collecting ≡ self.old.collecting }
         ensures stock { self.new.removing.stock ≡ self.old.removing.stock }
+        // One that has ended pins nothing.
+        ensures removing { UnpinsAs txn.ticket self.old.removing self.new.removing result }
         ensures logs { self.new.core.version.behind.logs ≡ self.old.core.version.behind.logs }
     {
         let Ok(decision) = self.core.front.decide(txn.number, &txn.reads, &txn.writes) else {

@@ -4,6 +4,7 @@ ghost use Rattle.vl_core.specs.MayStep.{Fits};
 ghost use Rattle.vl_layout.specs.Ruling.{ended};
 ghost use Rattle.vl_layout.specs.declared.layout.Layout.{Layout};
 ghost use Rattle.vl_model.specs.History.{History, last_number};
+ghost use Rattle.vl_engine.specs.Pinning.{unpinned};
 ghost use Rattle.vl_engine.specs.Removing.{Removes};
 
 use crate::{Engine, Txn, View};
@@ -27,6 +28,7 @@ impl<D: Disk> Engine<D> {
         ensures merging { self.new.merging ≡ self.old.merging }
         ensures collecting { self.new.collecting ≡ self.old.collecting }
         ensures stock { self.new.removing.stock ≡ self.old.removing.stock }
+        ensures removing { self.new.removing ≡ unpinned txn.ticket self.old.removing }
         ensures logs { self.new.core.version.behind.logs ≡ self.old.core.version.behind.logs }
     {
         self.end(txn.ticket);
@@ -48,6 +50,7 @@ impl<D: Disk> Engine<D> {
         ensures merging { self.new.merging ≡ self.old.merging }
         ensures collecting { self.new.collecting ≡ self.old.collecting }
         ensures stock { self.new.removing.stock ≡ self.old.removing.stock }
+        ensures removing { self.new.removing ≡ unpinned view.ticket self.old.removing }
         ensures logs { self.new.core.version.behind.logs ≡ self.old.core.version.behind.logs }
     {
         self.end(view.ticket);
@@ -69,6 +72,7 @@ impl<D: Disk> Engine<D> {
         ensures merging { self.new.merging ≡ self.old.merging }
         ensures collecting { self.new.collecting ≡ self.old.collecting }
         ensures stock { self.new.removing.stock ≡ self.old.removing.stock }
+        ensures removing { self.new.removing ≡ unpinned ticket self.old.removing }
         ensures logs { self.new.core.version.behind.logs ≡ self.old.core.version.behind.logs }
     {
         self.core.front.end(ticket);
