@@ -153,6 +153,7 @@ module _ {D W H : Type 0} (g : Ghosts D) (w : Writers W) {s : _} (old new : D) (
   kept_below files below = record {
     flushed = below.flushed;
     retired = all_filtered (λ (r : Retired). IsLogBelow core.back.state.head r.file) _ l.retired below.retired;
+    from = below.from;
   }
 
   shorter : {X : Type 0} (p : X → Bool) (xs : List X) → length (filter p xs) ≤ length xs
