@@ -230,7 +230,8 @@ fn put_inputs<'a, H: HeldFile>(
     Ok(())
 }
 
-fn is_input<H: HeldFile>(inputs: &[u32], table: &Table<H>) -> bool
+/// Whether it is one of the tables with these numbers.
+pub fn is_input<H: HeldFile>(inputs: &[u32], table: &Table<H>) -> bool
     ensures { result ≡ is_input inputs.now table.now }
 {
     let number = table.shape().number;
