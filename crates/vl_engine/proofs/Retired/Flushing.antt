@@ -116,7 +116,7 @@ oldest_below a (t ∷ u ∷ us) s at falling =
 
 -- ---- numbers
 
-has_more : (n : ℕ) (ns ms : List ℕ) → has n ns ≡ true → has n (ns ++ ms) ≡ true
+pub has_more : (n : ℕ) (ns ms : List ℕ) → has n ns ≡ true → has n (ns ++ ms) ≡ true
 has_more n [] ms is = absurd (let clash : false ≡ true = is in cc)
 has_more n (m ∷ ns) ms is = by (m == n) is (λ later. has_more n ns ms later)
   where
@@ -124,7 +124,7 @@ has_more n (m ∷ ns) ms is = by (m == n) is (λ later. has_more n ns ms later)
     by true is later = refl
     by false is later = later is
 
-has_end : (n : ℕ) (ns : List ℕ) → has n (ns ++ n ∷ []) ≡ true
+pub has_end : (n : ℕ) (ns : List ℕ) → has n (ns ++ n ∷ []) ≡ true
 has_end n [] = let same : (n == n) ≡ true = grind (arith, nat_tests) in ap (λ b. b || false) same
 has_end n (m ∷ ns) = ap (λ b. (m == n) || b) (has_end n ns) ∙ or_true (m == n)
   where
