@@ -31,6 +31,7 @@ pub mod Leaving
 pub mod Lending
 pub mod LendsNew
 mod MoveRemoved
+mod OpenedThere
 mod PassLaws
 mod Picking
 mod Pinned
