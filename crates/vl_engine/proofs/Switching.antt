@@ -147,7 +147,7 @@ made_points {W} writers {g} (t ∷ made) (es ∷ ess) zip =
     ap (λ (p : List Point). p ∷ points_made made) (ap (λ (f : Foot). f.points) zip.0.shape.foot)
     ∙ ap (λ (ps : List (List Point)). points_of es ∷ ps) (made_points writers made ess zip.1)
 
-numbers_zip : {H : Type 0} (bytes : H → Option (List ℕ)) (ts : List (Table H)) (us : List laid.Table) → compact.AreTablesOf bytes ts us
+pub numbers_zip : {H : Type 0} (bytes : H → Option (List ℕ)) (ts : List (Table H)) (us : List laid.Table) → compact.AreTablesOf bytes ts us
     → map number_of ts ≡ numbers_of us
 numbers_zip bytes [] [] zip = refl
 numbers_zip bytes [] (u ∷ us) zip = absurd zip

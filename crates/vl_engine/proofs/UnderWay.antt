@@ -102,6 +102,8 @@ module _ {D V H W : Type 0} (g : Ghosts D) (w : Writers W) {s : _} where
     distinct = none AreDistinct tt;
     tells = λ running state is. subst (λ (ts : List (Synced W s)). AllByRecursion (λ (t : Synced W s). IsSome (w.file t.writer)) ts)
         (sym new.made) tt;
+    leavings_tell = λ running state is. subst (λ (fs : List (Lent W s)). AllByRecursion (λ (f : Lent W s). IsSome (w.file f.writer)) fs)
+        (sym new.leavings) tt;
   }
     where
       none : (P : List ℕ → Type 0) → P [] → P (numbers_in job)
