@@ -324,8 +324,13 @@ returns-clause-collects g c state read found h told is_read shown = record {
 pub returns-clause-removes : goal.returns-clause-removes
 returns-clause-removes g c state read found h told is_read shown =
     removes_at_start _ _ found h shown c.args.room
-    (record { live = c.new-3.ensures.live; merge = c.new-3.ensures.merge; pass = c.new-3.ensures.pass; in_use = c.new-4.ensures.in_use;
-      trash = c.new-4.ensures.trash }) (returns-clause-back g c state read found told is_read)
+    (record {
+      live = c.new-3.ensures.live;
+      merge = c.new-3.ensures.merge;
+      pass = c.new-3.ensures.pass;
+      in_use = c.new-4.ensures.in_use;
+      trash = c.new-4.ensures.trash;
+    }) (returns-clause-back g c state read found told is_read)
     (subst (λ (logs : List (SealedLog g.row.D-Held.Denot)). AreSealed logs (layout_at_start c.args.room (recovered found shown)))
     (sym c.new.ensures.logs)
     (sealed_begun g.D.Held.HeldFile.bytes found h shown c.args.room c.in-Ok-recover.parts.sealed.items
