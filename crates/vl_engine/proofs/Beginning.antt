@@ -1,15 +1,16 @@
 -- A begin is answered as the ruling has it.
-use Rattle.std.specs.Prelude.{◌≡◌, ◌≤◌, ℕ, Bool, true, false, nat_le, if◌then◌else◌, List, length, IfOk, OnErr, Option, Result, Err, Ok}
+use Rattle.std.specs.Prelude.{◌≡◌, ◌≤◌, ℕ, Bool, true, false, nat_le, if◌then◌else◌, List, length, IfOk, IsErrAnd, OnErr, Option, Result, Err, Ok}
 use Rattle.std.proofs.Common.{sym, ap, subst, ◌∙◌, refl, arith}
 use Rattle.std.proofs.lemmas.List.{length-map}
 use Rattle.std.proofs.lemmas.Bool.Decides.{nat_tests}
-use Rattle.vl_engine.specs.Answers.{view_outcome}
+use Rattle.vl_engine.specs.Answers.{begin_outcome, view_outcome}
 use Rattle.vl_engine.specs.Past.{ShowsPast, beginning, past_now}
 use Rattle.vl_core.specs.Pointed.{layout_logs}
 use Rattle.vl_core.specs.Represents.{Fronts, StandsFor}
 use Rattle.vl_engine.specs.Sees.{SeesAlone, ShowsAt}
 use Rattle.vl_core.specs.declared.kept.Core.{Core}
 use Rattle.vl_engine.specs.declared.past.Past.{Past}
+use Rattle.vl_engine.specs.declared.txn.Txn.{Txn}
 use Rattle.vl_engine.specs.declared.view.View.{View}
 use Rattle.vl_core.specs.laws.LaidLaws.{laid_entries}
 use Rattle.vl_core.specs.laws.LiveLaws.{same_floor, same_free_ticket}
@@ -109,6 +110,16 @@ module _ (l : Layout) (h : History) where
         → stands h l → Decides stands h l (begin_ruling l h) (as_before l l) (view_outcome {H = H} {R = R} (Err why)) no_effects
     decides_refused H R fails.TooMany full now = decides_full (full refl) now
     decides_refused H R fails.NoMemory full now = decides_none now
+
+-- a transaction is refused as a view is
+refused_alike : (H R : Type 0) (why : BeginFail) → view_outcome {H = H} {R = R} (Err why) ≡ begin_outcome {H = H} {R = R} (Err why)
+refused_alike H R fails.TooMany = refl
+refused_alike H R fails.NoMemory = refl
+
+pub refused_so : {H R : Type 0} (result : Result (Txn H R) BeginFail) (why : BeginFail) → IsErrAnd result (λ e. e ≡ why)
+    → view_outcome {H = H} {R = R} (Err why) ≡ begin_outcome result
+refused_so (Ok txn) why is = absurd is
+refused_so {H} {R} (Err e) why is = refused_alike H R why ∙ ap (λ (f : BeginFail). begin_outcome {H = H} {R = R} (Err f)) (sym is)
 
 -- ---- by the oracle
 

@@ -140,7 +140,7 @@ module _ {D : Type 0} (g : Ghosts D) (old mid : D) (next : ℕ) (was now : Optio
         (leaves_lending g mid new next lends.elsewhere lends.files lends.untold) lent_ready)
 
 -- none of these has a number that is above them all
-none_has : (number : ℕ) (ns : List ℕ) → All (λ n. n < number) ns → has number ns ≡ false
+pub none_has : (number : ℕ) (ns : List ℕ) → All (λ n. n < number) ns → has number ns ≡ false
 none_has number [] below = refl
 none_has number (n ∷ ns) below =
     let low : n < number = below 0 0 (omega arith) in
@@ -159,15 +159,15 @@ module _ {H : Type 0} (core : Core H) where
   name = names.Table core.back.state.next_table
 
   module _ (disk : DiskState) (fit : IsFitFor core disk) where
-    elsewhere : SameElsewhere name disk (lent_new name disk)
-    elsewhere = elsewhere_then name disk (created name disk) (lent_new name disk) (created_elsewhere name disk)
+    pub lent_elsewhere : SameElsewhere name disk (lent_new name disk)
+    lent_elsewhere = elsewhere_then name disk (created name disk) (lent_new name disk) (created_elsewhere name disk)
         (without_elsewhere name (created name disk))
 
     stands_then : (other : Name) → other ≢ name → Stands other disk → Stands other (lent_new name disk)
-    stands_then other apart stands = ap is_some (elsewhere.standing other apart) ∙ stands
+    stands_then other apart stands = ap is_some (lent_elsewhere.standing other apart) ∙ stands
 
     free_then : (other : Name) → other ≢ name → IsFree other disk → IsFree other (lent_new name disk)
-    free_then other apart free = elsewhere.standing other apart ∙ free
+    free_then other apart free = lent_elsewhere.standing other apart ∙ free
 
     no_log : (n : ℕ) → names.Log n ≢ name
     no_log n e = cc

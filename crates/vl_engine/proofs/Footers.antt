@@ -35,31 +35,31 @@ module _ {H : Type 0} where
       by false later = later
 
   -- what is taken of tables, so that it is taken of one level behind another
-  module _ (f : List (Table H) → List (List Point)) (both : (ts us : List (Table H)) → f (ts ++ us) ≡ f ts ++ f us)
+  module _ {Y : Type 0} (f : List (Table H) → List Y) (both : (ts us : List (Table H)) → f (ts ++ us) ≡ f ts ++ f us)
       (newest : List (Table H)) (deeper : List (List (Table H))) where
-    pub levels_next : (old new : List (List Point)) (i : ℕ) (level : List (Table H)) → i < length deeper → level ≡ get_or deeper i level
+    pub levels_next : (old new : List Y) (i : ℕ) (level : List (Table H)) → i < length deeper → level ≡ get_or deeper i level
         → old ≡ f newest ++ f (all_tables (take i deeper)) → new ≡ old ++ f level
         → new ≡ f newest ++ f (all_tables (take (i + 1) deeper))
     levels_next old new i level within at is put =
         put
-        ∙ ap (λ (ps : List (List Point)). ps ++ f level) is
+        ∙ ap (λ (ps : List Y). ps ++ f level) is
         ∙ append_assoc (f newest) (f (all_tables (take i deeper))) (f level)
-        ∙ ap (λ (ps : List (List Point)). f newest ++ ps) (sym (both (all_tables (take i deeper)) level)
+        ∙ ap (λ (ps : List Y). f newest ++ ps) (sym (both (all_tables (take i deeper)) level)
         ∙ ap f (sym (all_tables-more (take i deeper) level)
         ∙ ap all_tables (ap (λ (l : List (Table H)). take i deeper ++ l ∷ []) at ∙ sym (take_more deeper i level within))))
 
-    pub levels_end : (all : List (List Point)) (i : ℕ) → length deeper ≤ i → all ≡ f newest ++ f (all_tables (take i deeper))
+    pub levels_end : (all : List Y) (i : ℕ) → length deeper ≤ i → all ≡ f newest ++ f (all_tables (take i deeper))
         → all ≡ f (newest ++ all_tables deeper)
     levels_end all i end is =
         is ∙ ap (λ (ls : List (List (Table H))). f newest ++ f (all_tables ls)) (take_all i deeper end)
         ∙ sym (both newest (all_tables deeper))
 
-    pub levels_begin : (none put : List (List Point)) → f [] ≡ [] → none ≡ [] → put ≡ none ++ f newest
+    pub levels_begin : (none put : List Y) → f [] ≡ [] → none ≡ [] → put ≡ none ++ f newest
         → put ≡ f newest ++ f (all_tables (take 0 deeper))
     levels_begin none put nothing empty is =
-        is ∙ ap (λ (ps : List (List Point)). ps ++ f newest) empty ∙ sym (nil (f newest))
-        ∙ ap (λ (ps : List (List Point)). f newest ++ ps) (sym nothing)
+        is ∙ ap (λ (ps : List Y). ps ++ f newest) empty ∙ sym (nil (f newest))
+        ∙ ap (λ (ps : List Y). f newest ++ ps) (sym nothing)
       where
-        nil : (ps : List (List Point)) → ps ++ [] ≡ ps
+        nil : (ps : List Y) → ps ++ [] ≡ ps
         nil [] = refl
-        nil (p ∷ ps) = ap (λ (qs : List (List Point)). p ∷ qs) (nil ps)
+        nil (p ∷ ps) = ap (λ (qs : List Y). p ∷ qs) (nil ps)

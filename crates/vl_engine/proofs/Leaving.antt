@@ -69,6 +69,27 @@ flush_gives s u table head covered log next is = by s.levels refl
     by [] are = absurd (none are (is_file_number table && not (is_in table (all_tables s.levels))) is)
     by (newest ∷ deeper) are = ap (λ (x : ManifestState). x.next_log) (flush_made s newest deeper table head covered log next u are is)
 
+-- and it gives the head that it names
+head_gives : (s u : ManifestState) (table head covered log next : ℕ) → next_state (flush_edits table head covered log next) s ≡ Some u
+    → u.head ≡ head
+head_gives s u table head covered log next is = by s.levels refl
+  where
+    none : s.levels ≡ [] → (b : Bool)
+        → finish (then_applied (all_applied (Head head covered ∷ Next log next ∷ []))
+        (if b then option_map (with_levels (as_draft s)) (put_at 0 0 table s.levels) else None)) ≡ Some u → ⊥
+    none are true e = some_none u (sym (sym (ap (behind s head covered log next) (ap (put_at 0 0 table) are)) ∙ e))
+    none are false e = some_none u (sym e)
+
+    by : (ls : List (List ℕ)) → s.levels ≡ ls → u.head ≡ head
+    by [] are = absurd (none are (is_file_number table && not (is_in table (all_tables s.levels))) is)
+    by (newest ∷ deeper) are = ap (λ (x : ManifestState). x.head) (flush_made s newest deeper table head covered log next u are is)
+
+-- that of the logs that wait then
+pub staged_head : (back : Back) (active : ℕ) (u : ManifestState) (w : Waiting) (ws : List Waiting) → back.waiting.items ≡ w ∷ ws
+    → next_state (flush_switch active back) back.state ≡ Some u → u.head ≡ head_of active ws
+staged_head back active u w ws are is = head_gives back.state u back.state.next_table (head_of active ws) w.covered back.next_log
+    (back.state.next_table + 1) (ap (λ (x : List Waiting). next_state (switch_of active x back) back.state) (sym are) ∙ is)
+
 -- so what was staged for a flush does
 staged_gives : (back : Back) (active : ℕ) (u : ManifestState) → flush_decision back ≡ Go
     → next_state (flush_switch active back) back.state ≡ Some u

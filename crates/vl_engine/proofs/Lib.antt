@@ -1,8 +1,10 @@
 pub mod Beginning
 pub mod Begins
+mod BegunRemoved
 mod Collected
 pub mod Committing
 pub mod DrawFits
+mod DrawRemoved
 pub mod DrawSteps
 pub mod Drawing
 pub mod Filing
@@ -22,13 +24,16 @@ pub mod InstallExits
 pub mod InstallPut
 pub mod InstallReady
 pub mod InstallTotal
+mod KeepRemoved
 pub mod KeepSteps
 pub mod KeptBy
 pub mod Leaving
 pub mod Lending
 pub mod LendsNew
+mod MoveRemoved
 mod PassLaws
 mod Picking
+mod Pinned
 pub mod Planning
 pub mod PutIn
 mod Readable
@@ -41,18 +46,25 @@ pub mod RelocatingReads
 pub mod RelocatingStaged
 pub mod RelocatingTotals
 pub mod RelocatingWritten
+pub mod Retired
 pub mod RotateSteps
 pub mod Rotated
 pub mod Ruled
 pub mod Seeing
 pub mod Staged
+mod StartRemoved
 pub mod Stepped
+mod StillRemoved
+mod StillThere
 mod Switching
+pub mod Sweeps
 pub mod TakenFiles
 pub mod Taking
 mod TallyBegun
 mod Tallying
+pub mod There
 pub mod UnderWay
 pub mod Untold
 pub mod Whole
+mod WriteRemoved
 pub mod Written

@@ -93,11 +93,11 @@ head_held a n same (f ∷ g ∷ fs) (s ∷ t ∷ ss) zip = head_held a n same (g
 
 -- ---- numbers that rise
 
-abbrev AreUp : List ℕ → Type 0
+abbrev pub AreUp : List ℕ → Type 0
 AreUp [] = Unit {0}
 AreUp (n ∷ ns) = AllByRecursion (λ (m : ℕ). n < m) ns × AreUp ns
 
-has_above : (n k : ℕ) (ms : List ℕ) → AllByRecursion (λ (m : ℕ). k < m) ms → has n ms ≡ true → k < n
+pub has_above : (n k : ℕ) (ms : List ℕ) → AllByRecursion (λ (m : ℕ). k < m) ms → has n ms ≡ true → k < n
 has_above n k [] all is = absurd cc
 has_above n k (m ∷ ms) all is = by (m == n) refl is (λ later. has_above n k ms all.1 later)
   where
@@ -109,19 +109,19 @@ has_above n k (m ∷ ms) all is = by (m == n) refl is (λ later. has_above n k m
     by false other e later = later e
 
 -- of a number that is among others: it is the first, or among those behind
-first_or_later : (P : Type 0) (n m : ℕ) (ms : List ℕ) → has n (m ∷ ms) ≡ true → (m ≡ n → P) → (has n ms ≡ true → P) → P
+pub first_or_later : (P : Type 0) (n m : ℕ) (ms : List ℕ) → has n (m ∷ ms) ≡ true → (m ≡ n → P) → (has n ms ≡ true → P) → P
 first_or_later P n m ms is first later = by (m == n) refl is
   where
     by : (b : Bool) → (m == n) ≡ b → (b || has n ms) ≡ true → P
     by true same e = first (grind (arith, nat_tests, same))
     by false other e = later e
 
-has_first : (n : ℕ) (ns : List ℕ) → has n (n ∷ ns) ≡ true
+pub has_first : (n : ℕ) (ns : List ℕ) → has n (n ∷ ns) ≡ true
 has_first n ns =
     let same : (n == n) ≡ true = grind (arith, nat_tests) in
     ap (λ (b : Bool). b || has n ns) same
 
-has_later : (n m : ℕ) (ms : List ℕ) → has n ms ≡ true → has n (m ∷ ms) ≡ true
+pub has_later : (n m : ℕ) (ms : List ℕ) → has n ms ≡ true → has n (m ∷ ms) ≡ true
 has_later n m ms is = by (m == n)
   where
     by : (b : Bool) → (b || has n ms) ≡ true
@@ -177,7 +177,7 @@ put_has k s (t ∷ ts) = by (nat_cmp s.number t.number) refl (put_has k s ts)
     by Greater is later =
         ap (λ (b : Bool). (t.number == k) || b) later ∙ swap (t.number == k) (s.number == k) (has k (log_numbers ts))
 
-rising_has : (k : ℕ) (ss : List Segment) → has k (log_numbers (rising ss)) ≡ has k (log_numbers ss)
+pub rising_has : (k : ℕ) (ss : List Segment) → has k (log_numbers (rising ss)) ≡ has k (log_numbers ss)
 rising_has k [] = refl
 rising_has k (s ∷ ss) = put_has k s (rising ss) ∙ ap (λ (b : Bool). (s.number == k) || b) (rising_has k ss)
 
@@ -191,7 +191,7 @@ all_put P s (t ∷ ts) here all = by (nat_cmp s.number t.number) (all_put P s ts
     by Equal later = (here, all.1)
     by Greater later = (all.0, later)
 
-all_rising : (P : Segment → Type 0) (ss : List Segment) → AllByRecursion P ss → AllByRecursion P (rising ss)
+pub all_rising : (P : Segment → Type 0) (ss : List Segment) → AllByRecursion P ss → AllByRecursion P (rising ss)
 all_rising P [] all = tt
 all_rising P (s ∷ ss) all = all_put P s (rising ss) all.0 (all_rising P ss all.1)
 
@@ -200,7 +200,7 @@ numbers_above : (k : ℕ) (ss : List Segment) → AllByRecursion (λ (s : Segmen
 numbers_above k [] all = tt
 numbers_above k (s ∷ ss) all = (all.0, numbers_above k ss all.1)
 
-abbrev UpLogs : List Segment → Type 0
+abbrev pub UpLogs : List Segment → Type 0
 UpLogs [] = Unit {0}
 UpLogs (s ∷ ss) = AllByRecursion (λ (t : Segment). s.number < t.number) ss × UpLogs ss
 
@@ -225,11 +225,11 @@ up_put s (t ∷ ts) up = by (nat_cmp s.number t.number) refl (up_put s ts up.1)
         let less : t.number < s.number = ranked s.number t.number Greater (sym is) in
         (all_put (λ (u : Segment). t.number < u.number) s ts less up.0, later)
 
-up_rising : (ss : List Segment) → UpLogs (rising ss)
+pub up_rising : (ss : List Segment) → UpLogs (rising ss)
 up_rising [] = tt
 up_rising (s ∷ ss) = up_put s (rising ss) (up_rising ss)
 
-up_numbers : (ss : List Segment) → UpLogs ss → AreUp (log_numbers ss)
+pub up_numbers : (ss : List Segment) → UpLogs ss → AreUp (log_numbers ss)
 up_numbers [] up = tt
 up_numbers (s ∷ ss) up = (numbers_above s.number ss up.0, up_numbers ss up.1)
 
@@ -261,7 +261,7 @@ module _ {H : Type 0} (bytes : H → Option (List ℕ)) (size : H → ℕ)
   abbrev laid_length : Segment → ℕ × ℕ
   laid_length s = (s.number, s.length)
 
-  log_found : (n : ℕ) (logs : List (SealedLog H)) (log : SealedLog H) → log_in logs n ≡ Some log → has n (map number logs) ≡ true
+  pub log_found : (n : ℕ) (logs : List (SealedLog H)) (log : SealedLog H) → log_in logs n ≡ Some log → has n (map number logs) ≡ true
   log_found n [] log is = absurd cc
   log_found n (x ∷ xs) log is = by (x.number == n) is (λ later. log_found n xs log later)
     where

@@ -67,6 +67,8 @@ pub record IsHandedIn {D V H W : Type 0} (g : Ghosts D) (w : Writers W) (disk : 
   pub distinct : AreDistinct (numbers_in job)
   pub tells : halted ≡ None
       → ForSome (g.told disk) (λ _. AllByRecursion (λ (t : Synced W s). IsSome (w.file t.writer)) job.made.items)
+  pub leavings_tell : halted ≡ None
+      → ForSome (g.told disk) (λ _. AllByRecursion (λ (f : Lent W s). IsSome (w.file f.writer)) job.leavings.items)
 
 -- ---- what is staged
 

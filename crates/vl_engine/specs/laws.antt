@@ -6,3 +6,4 @@ pub mod LaidInstall
 pub mod PastLaws
 pub mod PlannedJobs
 pub mod SeesLaws
+pub mod SweepHolds

@@ -1,9 +1,10 @@
 //! The engine: a disk, and what is kept of its store in memory.
-ghost use Rattle.std.specs.Prelude.{◌≡◌, ◌≤◌, true};
+ghost use Rattle.std.specs.Prelude.{◌≡◌, ◌≤◌, None, true};
 ghost use Rattle.std.specs.Option.{ForSome};
 ghost use Rattle.vl_core.specs.Fit.{IsFitFor};
 ghost use Rattle.vl_core.specs.Known.{are_known};
 ghost use Rattle.vl_engine.specs.Lent.{AreLent};
+ghost use Rattle.vl_engine.specs.Removing.{IsThere};
 
 mod beginning;
 mod collecting;
@@ -18,9 +19,11 @@ mod opening;
 mod planning;
 mod relocating;
 mod rotating;
+mod sweeping;
 
-use crate::open::{Collecting, OpenMerge};
+use crate::open::{Collecting, OpenMerge, Removing};
 use std::alloc::Global;
+use vl_compact::Lent;
 use vl_core::Core;
 use vl_disk::Disk;
 
@@ -34,6 +37,8 @@ pub struct Engine<D: Disk> {
     merging: Option<OpenMerge>,
     // How much of its logs is live, and the pass that is open.
     collecting: Collecting,
+    // Which files can go, and what still looks at them.
+    removing: Removing<Lent<D::Writer>>,
     // What its next calls ask of the disk is so.
     ghost ready: { ForSome (D.told disk) (IsFitFor core) },
     // The next numbers are ones that files may have, if any are left.
@@ -42,6 +47,8 @@ pub struct Engine<D: Disk> {
     ghost lent: { AreLent D.Watched disk core.back.state.next_table merging },
     // No entry of its memtable has a version above the last commit's.
     ghost known: { are_known core.front.oracle.last core.version.active.entries ≡ true },
+    // While it isn't halted, the files in use stand, and each retired file can be removed.
+    ghost there: { core.front.halted ≡ None → IsThere D.Watched D.Writer.Writer disk core merging removing.stock },
 }
 
 /// What became of a transaction that was committed.

@@ -191,6 +191,17 @@ pub enum StepFail {
     Disk { name: Name },
 }
 
+/// Why a sweep didn't remove all files that it could.
+#[derive(Clone, Copy, Debug, PartialEq, Eq, Error)]
+pub enum SweepFail {
+    /// An earlier step failed at this file, and nothing is changed any more. None was tried.
+    #[error("halted at {name:?}")]
+    Halted { name: Name },
+    /// The disk failed at this file, and the engine is halted. Some of the files may have gone, this one among them.
+    #[error("the disk failed at {name:?}")]
+    Disk { name: Name },
+}
+
 /// Why another number of versions isn't kept.
 #[derive(Clone, Copy, Debug, PartialEq, Eq, Error)]
 pub enum KeepFail {

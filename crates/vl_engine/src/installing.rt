@@ -85,8 +85,8 @@ pub fn numbers_of<H: HeldFile>(alloc: Global, tables: &[Table<H>]) -> Result<Vec
     Ok(numbers)
 }
 
-// The numbers of tables that were made.
-fn made_numbers<W: Writer>(alloc: Global, made: &[Synced<W>]) -> Result<Vec<u32>, AllocError>
+/// The numbers of tables that were made.
+pub fn made_numbers<W: Writer>(alloc: Global, made: &[Synced<W>]) -> Result<Vec<u32>, AllocError>
     ensures { IfOk result (λ numbers. numbers.items ≡ map (λ t. t.number) made.now) }
 {
     let mut numbers = Vec::new(alloc);

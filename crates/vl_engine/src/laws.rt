@@ -1,6 +1,10 @@
 // Laws of what is seen, and of installs: each is the contract of a function that does nothing.
-ghost use Rattle.std.specs.Prelude.{List, ◌≡◌};
-ghost use Rattle.vl_disk.specs.DiskState.{DiskState};
+ghost use Rattle.std.specs.Prelude.{List, ℕ, Some, ◌≡◌};
+ghost use Rattle.vl_disk.specs.Crash.{WhileRemoving};
+ghost use Rattle.vl_disk.specs.DiskState.{DiskState, File, IsLawful, without};
+ghost use Rattle.vl_disk.specs.Lending.{WhileAdopting, adopted};
+ghost use Rattle.vl_disk.specs.declared.name.Name.TheVariants.{Table};
+ghost use Rattle.vl_disk.specs.declared.name.Name.{Name};
 ghost use Rattle.vl_core.specs.Held.{Base, Holds, IsBase};
 ghost use Rattle.vl_core.specs.Laid.{AreLevelsOf, HasLayout};
 ghost use Rattle.vl_core.specs.Pointed.{layout_logs};
@@ -11,6 +15,7 @@ ghost use Rattle.vl_engine.specs.declared.view.View.{View};
 ghost use Rattle.vl_engine.specs.laws.InstallApplies.{edits_of};
 ghost use Rattle.vl_engine.specs.laws.InstallBase.{CanInstall};
 ghost use Rattle.vl_engine.specs.laws.InstallLaws.{IsHeldTidy};
+ghost use Rattle.vl_engine.specs.laws.SweepHolds.{IsOutside};
 ghost use Rattle.vl_core.specs.laws.SwitchLaws.{switch_frame};
 ghost use Rattle.vl_layout.specs.Jobs.{Made};
 ghost use Rattle.vl_layout.specs.Rulings.Install.{install_ruling, installed};
@@ -59,4 +64,25 @@ pub fn a_version_has_what_is_installed<H: HeldFile>()
         → after.behind.frozen.items ≡ before.behind.frozen.items
         → AreSameLogs H.bytes before.behind.logs.items after.behind.logs.items
         → HasLayout H.bytes after (installed o.job made l) }
+{}
+
+/// While a file that a layout doesn't need is removed, whatever a crash leaves shows the history; and behind it the disk holds the
+/// layout. So it is with a file that was lent, whatever was written there, and that is taken back first.
+pub fn a_sweep_removes_beside_the_layout()
+    ensures removing { (b : Base) (l : Layout) (h : History) (disk now : DiskState) (name : Name) → IsBase b l h
+        → IsTidy (layout_logs l) l h → Holds b l disk → IsOutside b l name → WhileRemoving name disk now → LeavesBetween h h now }
+    ensures removed { (b : Base) (l : Layout) (h : History) (disk : DiskState) (name : Name) → IsBase b l h
+        → IsTidy (layout_logs l) l h → Holds b l disk → IsOutside b l name → Holds b l (without name disk) }
+    ensures adopting { (b : Base) (l : Layout) (h : History) (disk now : DiskState) (name : Name) (file : File) → IsBase b l h
+        → IsTidy (layout_logs l) l h → Holds b l disk → IsOutside b l name → WhileAdopting name (Some file) disk now
+        → LeavesBetween h h now }
+    ensures taking { (b : Base) (l : Layout) (h : History) (disk now : DiskState) (name : Name) (file : File) → IsBase b l h
+        → IsTidy (layout_logs l) l h → Holds b l disk → IsOutside b l name → WhileRemoving name (adopted name file disk) now
+        → LeavesBetween h h now }
+    ensures taken { (b : Base) (l : Layout) (h : History) (disk : DiskState) (name : Name) (file : File) → IsBase b l h
+        → IsTidy (layout_logs l) l h → Holds b l disk → IsOutside b l name → IsLawful (adopted name file disk)
+        → Holds b l (without name (adopted name file disk)) }
+    ensures stopped { (b : Base) (l : Layout) (h : History) (disk : DiskState) (n : ℕ) (file : File) → IsBase b l h
+        → IsTidy (layout_logs l) l h → Holds b l disk → IsOutside b l (Table n) → IsLawful (adopted (Table n) file disk)
+        → MayOpen (adopted (Table n) file disk) }
 {}

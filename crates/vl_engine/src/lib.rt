@@ -16,9 +16,12 @@ mod laws;
 mod making;
 mod open;
 mod past;
+mod pinning;
 mod relocating;
+mod removing;
 mod rotating;
 mod staging;
+mod sweeping;
 mod txn;
 mod view;
 mod writing;
@@ -26,7 +29,7 @@ mod writing;
 pub use engine::{Done, Engine};
 pub use fails::{
     AtFail, CommitFail, InstallFail, KeepFail, MergeFail, MoveFail, PickFail, ReadFail, ReadFault,
-    StepFail,
+    StepFail, SweepFail,
 };
 pub use laws::what_is_seen_stays;
 pub use txn::Txn;

@@ -1,7 +1,8 @@
 //! The file of a merge's next table: what it wants of memory, and how it is made and lent.
 
-ghost use Rattle.std.specs.Prelude.{◌≡◌, true, is_some, IfOk, IsTrue, None, OnOk};
+ghost use Rattle.std.specs.Prelude.{◌≡◌, ◌≤◌, ◌+◌, true, is_some, length, IfOk, IsTrue, None, OnOk};
 ghost use Rattle.std.specs.Option.{ForSome};
+ghost use Rattle.std.specs.VecDeque.{deque_len, deque_capacity};
 ghost use Rattle.vl_compact.specs.Progress.{HasRoom};
 ghost use Rattle.vl_disk.specs.Calls.{ChangesNothing};
 ghost use Rattle.vl_disk.specs.Disk.{IsFree};
@@ -10,10 +11,13 @@ ghost use Rattle.vl_disk.specs.Name.{IsNumbered};
 ghost use Rattle.vl_disk.specs.Spare.{SameSpareElsewhere};
 ghost use Rattle.vl_disk.specs.declared.name.Name.TheVariants as names;
 ghost use Rattle.vl_engine.specs.Drawing.{HasRoomToLend, IsLentMore, IsSameJob, IsSameMerge, LendsNew};
+ghost use Rattle.vl_engine.specs.Removing.{lent_in};
 
 use crate::open::OpenMerge;
+use std::alloc::AllocError;
 use vl_compact::Job;
 use vl_disk::{Disk, Failed, Name, NoMemory};
+use vl_pins::Stock;
 
 /// Takes all the memory that it wants: of the merge that is open, of what carries it out, and of the disk.
 pub fn ready_fresh<D: Disk, V>(
@@ -38,6 +42,32 @@ pub fn ready_fresh<D: Disk, V>(
     merge.make_room()?;
     job.make_room()?;
     disk.ready(Name::Table(number), 0)
+}
+
+/// How many files were lent to the open merge.
+pub fn lent_count(merging: &Option<OpenMerge>) -> usize
+    ensures { result ≡ length (lent_in merging.now) }
+{
+    match merging {
+        None => 0,
+        Some(merge) => merge.lent.len(),
+    }
+}
+
+/// Room for these among the retired files, and for one more.
+pub fn make_room_to_leave<L: Drop>(
+    stock: &mut Stock<L>,
+    merging: &Option<OpenMerge>,
+) -> Result<(), AllocError>
+    ensures in_use { stock.new.in_use ≡ stock.old.in_use }
+    ensures trash { stock.new.trash.items ≡ stock.old.trash.items }
+    ensures capacity { deque_capacity stock.old.trash ≤ deque_capacity stock.new.trash }
+    ensures room { OnOk result (deque_len stock.new.trash + length (lent_in merging.now) + 1 ≤ deque_capacity stock.new.trash) }
+{
+    let Some(files) = lent_count(merging).checked_add(1) else {
+        return Err(AllocError);
+    };
+    stock.make_room_for_lent(files)
 }
 
 /// Notes that the file of the table with this number is lent to the open merge.

@@ -1,9 +1,10 @@
-//! What an engine keeps of the merge that is open, and of where space comes back from.
+//! What an engine keeps of the merge that is open, of where space comes back from, and of which files can go.
 
 ghost use Rattle.std.specs.Prelude.{◌≡◌, ◌+◌, ◌≤◌, [], OnOk, vec_capacity, vec_len};
 
 use std::alloc::{AllocError, Global};
 use vl_model::Key;
+use vl_pins::{Pins, Stock};
 use vl_stats::Tally;
 
 /// A merge that was planned, and wasn't installed or abandoned yet.
@@ -22,6 +23,15 @@ pub struct Collecting {
     pub passing: Option<u32>,
     /// How long each sealed log is, and how much of it is live; none until a call first wants it.
     pub tally: Option<Tally>,
+}
+
+/// What is kept of which files can go.
+#[derive(Drop)]
+pub struct Removing<L> {
+    /// The version numbers at which what still looks at files began.
+    pub pins: Pins,
+    /// The files in use, and those that wait for their removal.
+    pub stock: Stock<L>,
 }
 
 impl OpenMerge {

@@ -1,3 +1,2 @@
-mod Places
-mod Ready
-mod Walks
+mod Becoming
+mod Taking

@@ -1,2 +1,4 @@
+pub mod Files
+pub mod InUse
+pub mod laws
 pub mod Pins
-pub mod RetiredFiles

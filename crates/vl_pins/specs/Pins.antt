@@ -1,17 +1,36 @@
 -- Which version numbers are pinned, and that they are those of a layout.
-use Rattle.std.specs.Prelude.{ℕ, List, map, IsPermutation}
-use Rattle.vl_layout.specs.Rulings.Sweep.{pins}
+use Rattle.std.specs.Prelude.{◌≡◌, ◌≤◌, ℕ, max, min, List, map, Option, Some, None}
+use Rattle.std.specs.Option.{option_map}
+use Rattle.vl_layout.specs.declared.job.OpenJob.{OpenJob}
+use Rattle.vl_layout.specs.declared.job.OpenPass.{OpenPass}
 use Rattle.vl_layout.specs.declared.layout.Layout.{Layout}
-use Rattle.vl_layout.specs.declared.live.Pin.{Pin}
+use Rattle.vl_layout.specs.declared.live.Live.{Live}
+use Rattle.vl_oracle.specs.LiveTickets.{LiveTickets, Ticket, advanced, floor_of}
+use Rattle.vl_pins.specs.declared.pins.Pins.{Pins}
 
--- the version numbers that are pinned, each as often as it is; and how many more may be pinned without memory
-pub record Pinned : Type 0 where
-  pub versions : List ℕ
-  pub room : ℕ
+-- the present number, which never falls
+abbrev pub raised : ℕ → LiveTickets → LiveTickets
+raised version live = advanced (max live.last version) live
 
-abbrev pub version_of : Pin → ℕ
-version_of p = p.version_number
+-- the lesser one of a number and another, if there is one
+abbrev pub least : Option ℕ → ℕ → ℕ
+least None n = n
+least (Some m) n = min m n
 
--- they are the numbers of the layout's pins, in whatever order
-abbrev pub ArePinsOf : Layout → Pinned → Type 0
-ArePinsOf l pinned = IsPermutation pinned.versions (map version_of (pins l))
+-- the least number that is pinned, and at most the present one
+abbrev pub bound_of : ℕ → Pins → ℕ
+bound_of version pins = least pins.merge (least pins.pass (floor_of (raised version pins.live)))
+
+-- ---- of a layout
+
+-- what lives, each with the version number at which it began
+abbrev pub pinned_of : List Live → List Ticket
+pinned_of live = map (λ (x : Live). (x.ticket, x.pin.version_number)) live
+
+-- They are the pins of the layout.
+pub record ArePinsOf (pins : Pins) (l : Layout) : Type 0 where
+  pub live : pins.live.tickets ≡ pinned_of l.live
+  pub merge : pins.merge ≡ option_map (λ (j : OpenJob). j.pin.version_number) l.job
+  pub pass : pins.pass ≡ option_map (λ (p : OpenPass). p.pin.version_number) l.pass
+  -- no number is pinned that is above the layout's
+  pub last : pins.live.last ≤ l.version_number

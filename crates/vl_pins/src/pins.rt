@@ -1,79 +1,78 @@
-ghost use Rattle.std.specs.Prelude.{◌≡◌, ◌≤◌, ◌+◌, ◌↔◌, ◌∷◌, [], All, Contains, IsNone, IfSome, OnOk, OnErr, IsPermutation};
+ghost use Rattle.std.specs.Prelude.{◌≡◌, ◌↔◌, [], Err, IfOk, None, OnErr, length};
+ghost use Rattle.vl_model.specs.Limits.{max_live};
+ghost use Rattle.vl_oracle.specs.LiveTickets.{begun, ended, free_ticket};
+ghost use Rattle.vl_oracle.specs.declared.begin_fail.BeginFail.TheVariants as why;
+ghost use Rattle.vl_pins.specs.Pins.{bound_of, least, raised};
 
-use std::alloc::{AllocError, Global};
-use std::marker::Model;
+use std::alloc::Global;
+use vl_oracle::{BeginFail, Oracle};
 
-/// The version numbers at which live things began.
+/// The version numbers at which what lives began: transactions and views by their tickets, the merge that is open, and the pass.
 #[derive(Drop)]
 pub struct Pins {
-    // In rising order.
-    versions: Vec<u64>,
-}
-
-impl Model for Pins {
-    ghost use Rattle.std.specs.Prelude.{◌-◌, vec_len, vec_capacity};
-    ghost use Rattle.std.specs.List.Sorted.{IsNonDecreasing};
-    ghost use Rattle.vl_pins.specs.Pins.{Pinned};
-
-    ghost Value = { Pinned };
-
-    ghost view = { λ a. record { versions = a.versions.items; room = vec_capacity a.versions - vec_len a.versions } };
-
-    ghost invariant = { λ a. IsNonDecreasing a.versions.items };
+    pub live: Oracle,
+    pub merge: Option<u64>,
+    pub pass: Option<u64>,
 }
 
 impl Pins {
     /// Nothing is pinned.
     pub fn new(alloc: Global) -> Self
-        ensures { result.versions ≡ [] }
+        ensures live { result.live ≡ record { last = 0; tickets = [] } }
+        ensures merge { result.merge ≡ None }
+        ensures pass { result.pass ≡ None }
     {
         Pins {
-            versions: Vec::new(alloc),
+            live: Oracle::new(alloc, 0),
+            merge: None,
+            pass: None,
         }
     }
 
-    /// Makes room for one more.
-    pub fn reserve(&mut self) -> Result<(), AllocError>
-        ensures versions { self.new.versions ≡ self.old.versions }
-        ensures room { OnOk result (1 ≤ self.new.room) }
-        ensures err { OnErr result (self.new ≡ self.old) }
+    /// Pins a version number, which isn't below earlier ones, for what begins now: with the least ticket that is free here.
+    pub fn begin(&mut self, version: u64) -> Result<u32, BeginFail>
+        ensures begun { IfOk result (λ ticket. (ticket ≡ free_ticket self.old.live)
+            × (self.new ≡ record self.old { live = begun (raised version self.old.live) })) }
+        ensures too_many { (result ≡ Err why.TooMany) ↔ (length self.old.live.tickets ≡ max_live) }
+        ensures refused { OnErr result (self.new ≡ record self.old { live = raised version self.old.live }) }
     {
-        self.versions.reserve(1)
+        self.raise(version);
+        self.live.begin()
     }
 
-    /// Pins a version once more, for which there is room.
-    pub fn add(&mut self, version: u64)
-        requires { 1 ≤ self.old.room }
-        ensures versions { IsPermutation (version ∷ self.old.versions) self.new.versions }
-        ensures room { self.new.room + 1 ≡ self.old.room }
+    /// What has this ticket has ended. Where nothing has it nothing changes.
+    pub fn end(&mut self, ticket: u32)
+        ensures { self.new ≡ record self.old { live = ended ticket self.old.live } }
     {
-        let at = match self.versions.binary_search(&version) {
-            Ok(at) => at,
-            Err(at) => at,
-        };
-        let _ = self.versions.insert(at, version);
+        self.live.end(ticket);
     }
 
-    /// Pins a version once less, which is pinned.
-    pub fn remove(&mut self, version: u64)
-        requires { Contains self.old.versions version }
-        ensures versions { IsPermutation self.old.versions (version ∷ self.new.versions) }
-        ensures room { self.new.room ≡ self.old.room + 1 }
+    /// The least number that is pinned, and the present version number where that is lower: what was retired up to it is held by
+    /// nothing.
+    pub fn bound(&mut self, version: u64) -> u64
+        ensures bound { result ≡ bound_of version self.old }
+        ensures pins { self.new ≡ record self.old { live = raised version self.old.live } }
     {
-        match self.versions.binary_search(&version) {
-            Ok(at) => {
-                self.versions.remove(at);
-            }
-            Err(_) => {}
+        self.raise(version);
+        lower(self.merge, lower(self.pass, self.live.floor()))
+    }
+
+    // From now on this version is the present one.
+    fn raise(&mut self, version: u64)
+        ensures { self.new ≡ record self.old { live = raised version self.old.live } }
+    {
+        if self.live.last() < version {
+            self.live.advance(version);
         }
     }
+}
 
-    /// The least that is pinned, and None where nothing is.
-    pub fn least(&self) -> Option<u64>
-        ensures none { IsNone result ↔ (self.now.versions ≡ []) }
-        ensures pinned { IfSome result (Contains self.now.versions) }
-        ensures least { IfSome result (λ least. All (λ version. least ≤ version) self.now.versions) }
-    {
-        self.versions.first().copied()
+// The lower one of a number and another, if there is one.
+fn lower(other: Option<u64>, number: u64) -> u64
+    ensures { result ≡ least other number }
+{
+    match other {
+        None => number,
+        Some(other) => other.min(number),
     }
 }

@@ -1,4 +1,4 @@
-ghost use Rattle.std.specs.Prelude.{◌≡◌, ◌+◌, ◌++◌, ◌≤◌, ℕ, List, length, Some, IfErr, IfOk, vec_capacity, vec_len};
+ghost use Rattle.std.specs.Prelude.{◌≡◌, ◌+◌, ◌++◌, ◌≤◌, ℕ, List, length, None, Some, IfErr, IfOk, vec_capacity, vec_len};
 ghost use Rattle.std.specs.Option.{ForSome};
 ghost use Rattle.vl_disk.specs.Calls.{ChangesNothing};
 ghost use Rattle.vl_disk.specs.Crash.{Image};
@@ -84,6 +84,8 @@ pub fn recover<D: Disk>(
         → D.told (disk_of result) ≡ Some now → MayOpen now }
     ensures tells { (state : DiskState) → D.told disk ≡ Some state
         → (now : DiskState) × (D.told (disk_of result) ≡ Some now) }
+    // One that told nothing still doesn't.
+    ensures untold { D.told disk ≡ None → IfOk result (λ parts. D.told parts.disk ≡ None) }
 
     // A fault is counted, by the disk or by the reader that it made, and named by the file at which it came: while the store is
     // repaired, that of the call that failed.

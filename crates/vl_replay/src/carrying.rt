@@ -4,6 +4,7 @@ ghost use Rattle.vl_compact.specs.Progress.{IsNew};
 ghost use Rattle.vl_disk.specs.Faults.{HasCause};
 ghost use Rattle.vl_engine.specs.Drawing.{drawn_core};
 ghost use Rattle.vl_engine.specs.Merging.{IsJustOpen};
+ghost use Rattle.vl_engine.specs.UnderWay.{IsUnderWay as MayGiveUp};
 ghost use Rattle.vl_layout.specs.declared.job.Job as laid;
 ghost use Rattle.vl_replay.specs.Drawn.{IsPlanned, Merged};
 ghost use Rattle.vl_sequential.specs.Failing.{ReaderFailed, beside};
@@ -58,6 +59,8 @@ pub fn make_tables<D: Disk>(
     // A merge that has all of its tables can be handed in.
     ensures handed { result ≡ Ok None
         → MayHandIn D.Watched D.Writer.Writer engine.new.disk engine.new.merging job.new }
+    // However it ends, the merge can be given up.
+    ensures under_way { MayGiveUp D.Watched D.Writer.Writer engine.new.disk engine.new.core.front.halted engine.new.merging job.new }
 {
     let mut reader = engine.reader()?;
     'tables: loop {
@@ -87,6 +90,8 @@ fn make_table<D: Disk>(
         → HaltsByReader result → ReaderFailed (beside D.Reader.faults D.Writer.faults) }
     ensures lent { HasLent D.Watched D.Writer.Writer engine.old.disk engine.old.merging job.old
         → StillLent (HasLent D.Watched D.Writer.Writer engine.new.disk engine.new.merging job.new) (job.new.ended ≡ true) result }
+    ensures under_way { HasLent D.Watched D.Writer.Writer engine.old.disk engine.old.merging job.old
+        → MayGiveUp D.Watched D.Writer.Writer engine.new.disk engine.new.core.front.halted engine.new.merging job.new }
     ensures collecting { engine.new.collecting ≡ engine.old.collecting }
     ensures logs { engine.new.core.version.behind.logs ≡ engine.old.core.version.behind.logs }
     // Each table takes a number of its own.

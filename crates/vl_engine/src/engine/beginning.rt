@@ -1,4 +1,4 @@
-ghost use Rattle.std.specs.Prelude.{◌≡◌, [], IfOk};
+ghost use Rattle.std.specs.Prelude.{◌≡◌, [], Bool, IfOk};
 ghost use Rattle.vl_engine.specs.Answers.{begin_outcome, view_outcome};
 ghost use Rattle.vl_engine.specs.Past.{beginning};
 ghost use Rattle.vl_core.specs.LiesOver.{IsInMemory};
@@ -13,8 +13,10 @@ ghost use Rattle.vl_layout.specs.declared.layout.Layout.{Layout};
 ghost use Rattle.vl_model.specs.History.{History};
 ghost use Rattle.vl_table.specs.Kept.{Files};
 ghost use Rattle.vl_table.specs.KeptBlocks.{AreKept};
+ghost use Rattle.vl_engine.specs.Removing.{Removes};
 
 use crate::past::past_of;
+use crate::pinning::begin;
 use crate::{BeginFail, Engine, Txn, View};
 use vl_disk::Disk;
 use vl_manifest::ManifestState;
@@ -31,6 +33,12 @@ impl<D: Disk> Engine<D> {
             → Decides (StandsFor D.Held.bytes self.new.core) h l (begin_ruling l h) (as_before l l) (begin_outcome result) no_effects }
         ensures represents { (h : History) (l : Layout) → Represents D.Held.bytes self.old.core (D.told self.old.disk) h l
             → Decides (Represents D.Held.bytes self.new.core (D.told self.new.disk)) h l (begin_ruling l h) (as_before l l)
+            (begin_outcome result) no_effects }
+
+        // What is kept of which files can go is what the layout has: its version number is pinned.
+        ensures removes { (low : Bool) (h : History) (l : Layout) → Fronts self.old.core h l
+            → Removes low self.old.core self.old.removing l
+            → Decides (λ _ l. Removes low self.new.core self.new.removing l) h l (begin_ruling l h) (as_before l l)
             (begin_outcome result) no_effects }
 
         // What steps on files ask stays.
@@ -59,6 +67,7 @@ impl<D: Disk> Engine<D> {
         ensures back { self.new.core.back ≡ self.old.core.back }
         ensures merging { self.new.merging ≡ self.old.merging }
         ensures collecting { self.new.collecting ≡ self.old.collecting }
+        ensures stock { self.new.removing.stock ≡ self.old.removing.stock }
         ensures logs { self.new.core.version.behind.logs ≡ self.old.core.version.behind.logs }
     {
         let View {
@@ -90,6 +99,10 @@ impl<D: Disk> Engine<D> {
         ensures represents { (h : History) (l : Layout) → Represents D.Held.bytes self.old.core (D.told self.old.disk) h l
             → Decides (Represents D.Held.bytes self.new.core (D.told self.new.disk)) h l (view_ruling l h) (as_before l l)
             (view_outcome result) no_effects }
+        ensures removes { (low : Bool) (h : History) (l : Layout) → Fronts self.old.core h l
+            → Removes low self.old.core self.old.removing l
+            → Decides (λ _ l. Removes low self.new.core self.new.removing l) h l (view_ruling l h) (as_before l l)
+            (view_outcome result) no_effects }
         ensures fits { (h : History) (l : Layout) → StandsFor D.Held.bytes self.old.core h l
             → Fits (D.told self.old.disk) self.old.core h l
             → Decides (Fits (D.told self.new.disk) self.new.core) h l (view_ruling l h) (as_before l l) (view_outcome result)
@@ -109,6 +122,7 @@ impl<D: Disk> Engine<D> {
         ensures back { self.new.core.back ≡ self.old.core.back }
         ensures merging { self.new.merging ≡ self.old.merging }
         ensures collecting { self.new.collecting ≡ self.old.collecting }
+        ensures stock { self.new.removing.stock ≡ self.old.removing.stock }
         ensures logs { self.new.core.version.behind.logs ≡ self.old.core.version.behind.logs }
     {
         let Ok(reader) = self.disk.reader(self.alloc) else {
@@ -123,7 +137,11 @@ impl<D: Disk> Engine<D> {
         let reader = BlockReader::new(self.alloc, reader, blocks)?;
         let version = self.core.version.share()?;
         let past = past_of(&self.core);
-        match self.core.front.begin() {
+        match begin(
+            &mut self.core.front,
+            &mut self.removing.pins,
+            self.core.back.version_number,
+        ) {
             Ok(ticket) => Ok(View {
                 alloc: self.alloc,
                 ticket,

@@ -1,4 +1,4 @@
-ghost use Rattle.std.specs.Prelude.{◌≡◌, ◌<◌, ℕ, ◌↔◌, ◌⊎◌, ◌==◌, ◌||◌, nat_lt, None, Some, Err, IfErr, IfOk};
+ghost use Rattle.std.specs.Prelude.{◌≡◌, ◌<◌, ℕ, ◌↔◌, ◌⊎◌, ◌==◌, ◌||◌, nat_lt, None, Some, Err, IfErr, IfOk, Bool};
 ghost use Rattle.vl_core.specs.MayStep.{Fits};
 ghost use Rattle.vl_core.specs.Represents.{Represents, StandsFor};
 ghost use Rattle.vl_engine.specs.Collecting.{BeginsOver, BeginsPass, Collects, FitsLooks, IsPicked, LacksLog, Passes};
@@ -12,6 +12,8 @@ ghost use Rattle.vl_layout.specs.Rulings.Pick.{pick_ruling};
 ghost use Rattle.vl_layout.specs.Rulings.Stats.{stats_ruling};
 ghost use Rattle.vl_layout.specs.declared.layout.Layout.{Layout};
 ghost use Rattle.vl_model.specs.History.{History};
+ghost use Rattle.vl_engine.specs.Pinning.{PinsPass, pass_pinned};
+ghost use Rattle.vl_engine.specs.Removing.{Removes};
 
 use crate::collecting::{head_of, shared_log, tally_of};
 use crate::{Engine, PickFail};
@@ -62,6 +64,14 @@ impl<D: Disk> Engine<D> {
             → Decides (λ _ l. Collects self.new.core self.new.collecting l) h l (pick_ruling l h percent) (as_before l l)
             (pick_outcome (pick_ruling l h percent).answer result) no_effects }
 
+        // What is kept of which files can go is what the layout has: its version number is pinned.
+        ensures removes { (low : Bool) (h : History) (l : Layout) → StandsFor D.Held.bytes self.old.core h l
+            → Collects self.old.core self.old.collecting l → Removes low self.old.core self.old.removing l
+            → Decides (λ _ l. Removes low self.new.core self.new.removing l) h l (pick_ruling l h percent) (as_before l l)
+            (pick_outcome (pick_ruling l h percent).answer result) no_effects }
+        ensures stock { self.new.removing.stock ≡ self.old.removing.stock }
+        ensures removing { PinsPass self.old.core.back.version_number self.old.removing self.new.removing result }
+
         // The pass does what the ruling's says, and has given nothing yet.
         ensures pass { (h : History) (l : Layout) → StandsFor D.Held.bytes self.old.core h l
             → Collects self.old.core self.old.collecting l
@@ -109,6 +119,7 @@ impl<D: Disk> Engine<D> {
         ensures begins { IfOk result (BeginsOver D.Held.bytes self.old.core number) }
         ensures failed { IfErr result (LacksLog self.old.core number) }
         ensures collecting { BeginsPass self.old.collecting self.new.collecting number result }
+        ensures removing { PinsPass self.old.core.back.version_number self.old.removing self.new.removing result }
         ensures core { self.new.core ≡ self.old.core }
         ensures disk { self.new.disk ≡ self.old.disk }
         ensures merging { self.new.merging ≡ self.old.merging }
@@ -124,6 +135,7 @@ impl<D: Disk> Engine<D> {
             return Err(PickFail::NoMemory);
         };
         self.collecting.passing = Some(number);
+        self.removing.pins.pass = Some(self.core.back.version_number);
         Ok(Pass::new(Base::new(version), log))
     }
 
@@ -139,6 +151,10 @@ impl<D: Disk> Engine<D> {
         ensures collects { (h : History) (l : Layout) (p : layout.Pass) → Collects self.old.core self.old.collecting l
             → Collects self.new.core self.new.collecting (end_pass_ruling l h p).layout }
 
+        ensures removes { (low : Bool) (h : History) (l : Layout) (p : layout.Pass) → Removes low self.old.core self.old.removing l
+            → Removes low self.new.core self.new.removing (end_pass_ruling l h p).layout }
+        ensures removing { self.new.removing ≡ pass_pinned None self.old.removing }
+
         // None is open then, and all else is as before.
         ensures collecting { self.new.collecting ≡ record self.old.collecting { passing = None } }
         ensures core { self.new.core ≡ self.old.core }
@@ -147,6 +163,7 @@ impl<D: Disk> Engine<D> {
     {
         let _ = pass;
         self.collecting.passing = None;
+        self.removing.pins.pass = None;
     }
 }
 

@@ -1,4 +1,4 @@
-ghost use Rattle.std.specs.Prelude.{◌≡◌, ℕ, List, IsTrue, None, Ok, OnOk, Some};
+ghost use Rattle.std.specs.Prelude.{◌≡◌, ℕ, Bool, List, IsTrue, None, Ok, OnOk, Some};
 ghost use Rattle.std.specs.FinMap.{entries};
 ghost use Rattle.vl_disk.specs.DiskState.{DiskState};
 ghost use Rattle.vl_disk.specs.Calls.{ChangesNothing};
@@ -24,6 +24,8 @@ ghost use Rattle.vl_model.specs.History.{History, last_number};
 ghost use Rattle.vl_model.specs.Notes.{AreNotesOf};
 ghost use Rattle.vl_model.specs.Reads.{IsExplained, Read};
 ghost use Rattle.vl_seglog.specs.Frames.{frame_at};
+ghost use Rattle.vl_engine.specs.Pinning.{UnpinsAs};
+ghost use Rattle.vl_engine.specs.Removing.{Removes};
 
 use crate::staging::{StagedCommit, stage_commit};
 use crate::writing::append_durably;
@@ -65,6 +67,13 @@ impl<D: Disk> Engine<D> {
             → Decides (Fits (D.told self.new.disk) self.new.core) h l (commit_ruling l h (asked txn reads))
             (as_before l (commit_lost l (asked txn reads))) (commit_outcome result) (commit_effects result) }
 
+        // What is kept of which files can go is what the layout has: a transaction that has ended pins nothing.
+        ensures removes { (low : Bool) (h : History) (l : Layout) (reads : List Read) → Fronts self.old.core h l
+            → Removes low self.old.core self.old.removing l
+            → IsLive l txn.ticket txn.number → AreNotesOf reads txn.reads.keys txn.reads.spans
+            → Decides (λ _ l. Removes low self.new.core self.new.removing l) h l (commit_ruling l h (asked txn reads))
+            (as_before l (commit_lost l (asked txn reads))) (commit_outcome result) (commit_effects result) }
+
         // What an accepted transaction read, and what it scanned, is so up to its own commit.
         ensures explained { (h : History) (l : Layout) (reads : List Read) (number : ℕ) → Fronts self.old.core h l
             → IsLive l txn.ticket txn.number → Sees D.Held.bytes txn h reads
@@ -99,6 +108,9 @@ impl<D: Disk> Engine<D> {
         ensures steps { self.new.core.back ≡ self.old.core.back }
         ensures merging { self.new.merging ≡ self.old.merging }
         ensures collecting { self.new.collecting ≡ self.old.collecting }
+        ensures stock { self.new.removing.stock ≡ self.old.removing.stock }
+        // One that has ended pins nothing.
+        ensures removing { UnpinsAs txn.ticket self.old.removing self.new.removing result }
         ensures logs { self.new.core.version.behind.logs ≡ self.old.core.version.behind.logs }
     {
         let Ok(decision) = self.core.front.decide(txn.number, &txn.reads, &txn.writes) else {
@@ -137,6 +149,7 @@ impl<D: Disk> Engine<D> {
         ensures steps { self.new.core.back ≡ self.old.core.back }
         ensures merging { self.new.merging ≡ self.old.merging }
         ensures collecting { self.new.collecting ≡ self.old.collecting }
+        ensures removing { UnpinsAs txn.ticket self.old.removing self.new.removing result }
         ensures logs { self.new.core.version.behind.logs ≡ self.old.core.version.behind.logs }
         ensures untouched { LeavesDisk result → ChangesNothing D.Watched self.old.disk self.new.disk ⊥ }
         ensures as_written { WritesAs D.Watched self.old.disk self.new.disk self.old.core self.new.core txn.ticket txn.writes result }
@@ -159,12 +172,14 @@ impl<D: Disk> Engine<D> {
             let name = Name::Log(self.core.front.log.number);
             self.core.front.halted = Some(name);
             self.core.front.end(txn.ticket);
+            self.removing.pins.end(txn.ticket);
             return Err(CommitFail::Disk { name });
         };
         let number = self.core.front.oracle.last() + 1;
         self.core.front.log = log;
         self.core.version.set_active(active);
         self.core.front.committed(txn.ticket, keys);
+        self.removing.pins.end(txn.ticket);
         Ok(Done::At(number))
     }
 }

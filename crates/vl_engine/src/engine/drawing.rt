@@ -1,4 +1,4 @@
-ghost use Rattle.std.specs.Prelude.{◌≡◌, ◌≤◌, true, is_some, Err, None, Some, IfOk, OnErr, OnOk};
+ghost use Rattle.std.specs.Prelude.{◌≡◌, ◌≤◌, true, is_some, Err, None, Some, IfOk, OnErr, OnOk, Bool};
 ghost use Rattle.std.specs.Option.{ForSome};
 ghost use Rattle.vl_back.specs.Writing.{KeepsOthers};
 ghost use Rattle.vl_compact.specs.Progress.{HasRoom};
@@ -20,8 +20,9 @@ ghost use Rattle.vl_layout.specs.Decides.{Decides, as_before};
 ghost use Rattle.vl_layout.specs.Rulings.Fresh.{fresh_ruling};
 ghost use Rattle.vl_layout.specs.declared.layout.Layout.{Layout};
 ghost use Rattle.vl_model.specs.History.{History};
+ghost use Rattle.vl_engine.specs.Removing.{Removes};
 
-use crate::making::{lend_new, note_lent, ready_fresh};
+use crate::making::{lend_new, make_room_to_leave, note_lent, ready_fresh};
 use crate::{Engine, StepFail};
 use vl_compact::{Job, Lent};
 use vl_disk::{Disk, Name};
@@ -56,6 +57,13 @@ impl<D: Disk> Engine<D> {
         ensures fits { (h : History) (l : Layout) → Fronts self.old.core h l → Fits (D.told self.old.disk) self.old.core h l
             → Decides (Fits (D.told self.new.disk) self.new.core) h l (fresh_ruling l h) (as_before l l) (fresh_outcome result)
             (fresh_effects result) }
+
+        // What is kept of which files can go is what the layout has, with room for the file, should its merge end without it.
+        ensures removes { (low : Bool) (h : History) (l : Layout) → StandsOpen D.Held.bytes self.old.core self.old.merging h l
+            → (l.halted ≡ None → HasNumbers self.old.core.back l) → Removes low self.old.core self.old.removing l
+            → Decides (λ _ l. Removes low self.new.core self.new.removing l) h l (fresh_ruling l h) (as_before l l)
+            (fresh_outcome result) (fresh_effects result) }
+        ensures pins { self.new.removing.pins ≡ self.old.removing.pins }
 
         // The file is the next table's, and empty. The merge has it behind those that it was lent before, of which it is none; else
         // what is kept of the open merge stays.
@@ -113,6 +121,9 @@ impl<D: Disk> Engine<D> {
         if number > MAX_FILE_NUMBER {
             return Err(StepFail::Exhausted(Counter::Table));
         }
+        let Ok(()) = make_room_to_leave(&mut self.removing.stock, &self.merging) else {
+            return Err(StepFail::NoMemory);
+        };
         let Ok(()) = ready_fresh(&mut self.disk, &mut self.merging, job, number) else {
             return Err(StepFail::NoMemory);
         };

@@ -1,9 +1,11 @@
-ghost use Rattle.std.specs.Prelude.{◌≡◌};
+ghost use Rattle.std.specs.Prelude.{◌≡◌, Bool};
 ghost use Rattle.vl_core.specs.Represents.{Fronts, Represents, StandsFor};
 ghost use Rattle.vl_core.specs.MayStep.{Fits};
 ghost use Rattle.vl_layout.specs.Ruling.{ended};
 ghost use Rattle.vl_layout.specs.declared.layout.Layout.{Layout};
 ghost use Rattle.vl_model.specs.History.{History, last_number};
+ghost use Rattle.vl_engine.specs.Pinning.{unpinned};
+ghost use Rattle.vl_engine.specs.Removing.{Removes};
 
 use crate::{Engine, Txn, View};
 use vl_disk::Disk;
@@ -19,10 +21,14 @@ impl<D: Disk> Engine<D> {
         // What steps on files ask stays.
         ensures fits { (h : History) (l : Layout) → Fits (D.told self.old.disk) self.old.core h l
             → Fits (D.told self.new.disk) self.new.core h (ended txn.ticket l) }
+        ensures removes { (low : Bool) (l : Layout) → Removes low self.old.core self.old.removing l
+            → Removes low self.new.core self.new.removing (ended txn.ticket l) }
         ensures disk { self.new.disk ≡ self.old.disk }
         ensures back { self.new.core.back ≡ self.old.core.back }
         ensures merging { self.new.merging ≡ self.old.merging }
         ensures collecting { self.new.collecting ≡ self.old.collecting }
+        ensures stock { self.new.removing.stock ≡ self.old.removing.stock }
+        ensures removing { self.new.removing ≡ unpinned txn.ticket self.old.removing }
         ensures logs { self.new.core.version.behind.logs ≡ self.old.core.version.behind.logs }
     {
         self.end(txn.ticket);
@@ -37,10 +43,14 @@ impl<D: Disk> Engine<D> {
             → Represents D.Held.bytes self.new.core (D.told self.new.disk) h (ended view.ticket l) }
         ensures fits { (h : History) (l : Layout) → Fits (D.told self.old.disk) self.old.core h l
             → Fits (D.told self.new.disk) self.new.core h (ended view.ticket l) }
+        ensures removes { (low : Bool) (l : Layout) → Removes low self.old.core self.old.removing l
+            → Removes low self.new.core self.new.removing (ended view.ticket l) }
         ensures disk { self.new.disk ≡ self.old.disk }
         ensures back { self.new.core.back ≡ self.old.core.back }
         ensures merging { self.new.merging ≡ self.old.merging }
         ensures collecting { self.new.collecting ≡ self.old.collecting }
+        ensures stock { self.new.removing.stock ≡ self.old.removing.stock }
+        ensures removing { self.new.removing ≡ unpinned view.ticket self.old.removing }
         ensures logs { self.new.core.version.behind.logs ≡ self.old.core.version.behind.logs }
     {
         self.end(view.ticket);
@@ -55,13 +65,18 @@ impl<D: Disk> Engine<D> {
             → Represents D.Held.bytes self.new.core (D.told self.new.disk) h (ended ticket l) }
         ensures fits { (h : History) (l : Layout) → Fits (D.told self.old.disk) self.old.core h l
             → Fits (D.told self.new.disk) self.new.core h (ended ticket l) }
+        ensures removes { (low : Bool) (l : Layout) → Removes low self.old.core self.old.removing l
+            → Removes low self.new.core self.new.removing (ended ticket l) }
         ensures disk { self.new.disk ≡ self.old.disk }
         ensures back { self.new.core.back ≡ self.old.core.back }
         ensures merging { self.new.merging ≡ self.old.merging }
         ensures collecting { self.new.collecting ≡ self.old.collecting }
+        ensures stock { self.new.removing.stock ≡ self.old.removing.stock }
+        ensures removing { self.new.removing ≡ unpinned ticket self.old.removing }
         ensures logs { self.new.core.version.behind.logs ≡ self.old.core.version.behind.logs }
     {
         self.core.front.end(ticket);
+        self.removing.pins.end(ticket);
     }
 
     /// The number of the last commit.

@@ -1,4 +1,4 @@
-ghost use Rattle.std.specs.Prelude.{◌≡◌, ◌+◌, ◌≤◌, ℕ, Err, None, Ok, OnOk, Some};
+ghost use Rattle.std.specs.Prelude.{◌≡◌, ◌+◌, ◌≤◌, ℕ, length, Bool, Err, None, Ok, OnOk, Some};
 ghost use Rattle.vl_back.specs.Deciding.{MayFlush};
 ghost use Rattle.vl_back.specs.Writing.{KeepsOthers};
 ghost use Rattle.vl_disk.specs.Calls.{ChangesNothing};
@@ -19,9 +19,13 @@ ghost use Rattle.vl_layout.specs.Decides.{Decides, as_before};
 ghost use Rattle.vl_layout.specs.Rulings.Flush.{flush_ruling};
 ghost use Rattle.vl_layout.specs.declared.layout.Layout.{Layout};
 ghost use Rattle.vl_model.specs.History.{History};
+ghost use Rattle.vl_engine.specs.Lent.{Opens};
+ghost use Rattle.vl_engine.specs.Removing.{Removes, lent_in};
+ghost use Rattle.vl_engine.specs.Retiring.{FlushesStock};
 
 use crate::collecting::head_of;
 use crate::flushing::{ReadyFlush, ready_flush};
+use crate::making::lent_count;
 use crate::{Engine, StepFail};
 use vl_back::{Decision, StagedFlush, StagedTable, write_and_switch};
 use vl_disk::Disk;
@@ -98,6 +102,15 @@ impl<D: Disk> Engine<D> {
             → Collects self.old.core self.old.collecting l
             → Decides (λ _ l. Collects self.new.core self.new.collecting l) h l (flush_ruling l h) (as_before l l)
             (step_outcome result) (flush_effects result) }
+
+        // What is kept of which files can go is what the layout has: the logs that it retires wait. What is pinned stays.
+        ensures removes { (low : Bool) (state : DiskState) (h : History) (l : Layout) → D.told self.old.disk ≡ Some state
+            → StandsFor D.Held.bytes self.old.core h l → Opens self.old.merging l.job
+            → (l.halted ≡ None → HasNumbers self.old.core.back l × AreLogFiles l)
+            → Collects self.old.core self.old.collecting l → Removes low self.old.core self.old.removing l
+            → Decides (λ _ l. Removes low self.new.core self.new.removing l) h l (flush_ruling l h) (as_before l l)
+            (step_outcome result) (flush_effects result) }
+        ensures pins { self.new.removing.pins ≡ self.old.removing.pins }
     {
         if let Some(name) = self.core.front.halted {
             return Err(StepFail::Halted { name });
@@ -119,6 +132,9 @@ impl<D: Disk> Engine<D> {
         ensures as_flushed { FlushesAs D.Watched D.Held.bytes self.old.disk self.new.disk self.old.core self.new.core result }
         ensures merging { self.new.merging ≡ self.old.merging }
         ensures collected { FlushesFor D.Held.bytes self.old.core self.old.collecting self.new.collecting self.new.core result }
+        ensures retires { FlushesStock self.old.core self.new.core self.old.removing.stock self.new.removing.stock
+            self.new.collecting.tally (length (lent_in self.old.merging)) result }
+        ensures pins { self.new.removing.pins ≡ self.old.removing.pins }
     {
         let Ok(ready) = ready_flush(self.alloc, &mut self.disk, &self.core) else {
             return Err(StepFail::NoMemory);
@@ -136,6 +152,12 @@ impl<D: Disk> Engine<D> {
         else {
             return Err(StepFail::NoMemory);
         };
+        let Ok(()) = self
+            .removing
+            .make_room(self.alloc, &self.core, 1, lent_count(&self.merging))
+        else {
+            return Err(StepFail::NoMemory);
+        };
         let number = self.core.back.state.next_table;
         match write_and_switch(
             &mut self.disk,
@@ -147,7 +169,10 @@ impl<D: Disk> Engine<D> {
             Ok(held) => {
                 self.core.version = version.with_table(Table::of(held, shape));
                 self.core.back.apply_flush(state);
-                self.collecting.switch(live, head_of(&self.core));
+                let head = head_of(&self.core);
+                let version = self.core.back.version_number;
+                self.removing.switch(&[number], &[], &live, head, version);
+                self.collecting.switch(live, head);
                 Ok(Some(number))
             }
             Err(name) => {

@@ -1,4 +1,4 @@
-ghost use Rattle.std.specs.Prelude.{◌≡◌, ◌<◌, ◌≤◌, ℕ, Err, None, Some, IfOk, IsSome, OnOk, map};
+ghost use Rattle.std.specs.Prelude.{◌≡◌, ◌<◌, ◌≤◌, ℕ, Err, None, Some, IfOk, IsSome, OnOk, length, map, Bool};
 ghost use Rattle.std.specs.List.{filter};
 ghost use Rattle.std.specs.Option.{ForSome};
 ghost use Rattle.vl_compact.specs.Progress.{made_of};
@@ -11,6 +11,9 @@ ghost use Rattle.vl_engine.specs.Collecting.{Collects, InstallsFor, LeadsFrom, p
 ghost use Rattle.vl_engine.specs.Installing.{HandsBack, InstallFailed, InstallLeavesDisk, InstallsAs, InstallsCore};
 ghost use Rattle.vl_engine.specs.Installing.{InstallsUnraced, IsHandedIn, IsInstallWritten, KeepsAllBut, MayInstall};
 ghost use Rattle.vl_engine.specs.Installing.{StopsInstall, WritesInstall, install_otherwise};
+ghost use Rattle.vl_engine.specs.Removing.{Removes, lent_in};
+ghost use Rattle.vl_engine.specs.Retiring.{InstallsStock, LeavesFiles, files_in};
+ghost use Rattle.vl_engine.specs.UnderWay.{IsUnderWay};
 ghost use Rattle.vl_engine.specs.Merging.{HasAllMerge, StandsOpen, install_effects, install_outcome, made_numbers};
 ghost use Rattle.vl_core.specs.Represents.{Represents};
 ghost use Rattle.vl_core.specs.MayStep.{AreLogFiles, Fits, LeavesNumbers};
@@ -28,7 +31,9 @@ ghost use Rattle.vl_version.specs.Bases.{is_input};
 ghost use Rattle.vl_version.specs.levels.LevelsLooked.{tables_of};
 
 use crate::collecting::head_of;
-use crate::installing::{ReadyInstall, ready_install, write_install};
+use crate::installing::{ReadyInstall, made_numbers, numbers_of, ready_install, write_install};
+use crate::making::lent_count;
+use crate::removing::leave_files;
 use crate::{Engine, InstallFail};
 use std::alloc::AllocError;
 use vl_compact::{Job, Parts};
@@ -120,19 +125,28 @@ impl<D: Disk> Engine<D> {
             → Decides (λ _ l. Collects self.new.core self.new.collecting l) h l (install_ruling l h o.job (made_of job o.job))
             (install_otherwise l (made_of job o.job)) (install_outcome result) (install_effects result) }
 
+        // What is kept of which files can go is what the layout has: the inputs and the logs that it retires wait, and so do the
+        // merge's files that aren't put in. It pins nothing then.
+        ensures removes { (low : Bool) (state : DiskState) (h : History) (l : Layout) (o : OpenJob) → D.told self.old.disk ≡ Some state
+            → StandsOpen D.Held.bytes self.old.core self.old.merging h l → l.job ≡ Some o → (l.halted ≡ None → AreLogFiles l)
+            → HasAllMerge D.Writer.Writer D.Held.bytes job o.job → AreLent o.lent (made_of job o.job)
+            → Collects self.old.core self.old.collecting l → Removes low self.old.core self.old.removing l
+            → Decides (λ _ l. Removes low self.new.core self.new.removing l) h l (install_ruling l h o.job (made_of job o.job))
+            (install_otherwise l (made_of job o.job)) (install_outcome result) (install_effects result) }
+
         // In memory a version is made, or nothing changes beside the open merge, unless a fault halts. A halted engine does nothing.
         ensures core { InstallsCore self.old.core self.new.core result }
         ensures halted { (name : Name) → self.old.core.front.halted ≡ Some name → result ≡ Err (fails.Halted name) }
         ensures idle { (name : Name) → self.old.core.front.halted ≡ Some name → self.new.collecting ≡ self.old.collecting }
     {
         if let Some(name) = self.core.front.halted {
-            self.merging = None;
+            self.leave(job);
             return Err(InstallFail::Halted { name });
         }
         match self.raced(&job) {
             Ok(None) => self.install_unraced(job),
             Ok(Some((key, version_number))) => {
-                self.merging = None;
+                self.leave(job);
                 Err(InstallFail::Raced {
                     key,
                     version_number,
@@ -173,9 +187,11 @@ impl<D: Disk> Engine<D> {
         ensures cause { HasCause (D.faults self.old.disk) (D.faults self.new.disk) (InstallFailed result) }
         ensures collected { InstallsFor D.Held.bytes self.old.core self.old.collecting self.new.collecting D.Writer.Writer job
             self.new.core result }
+        ensures retires { InstallsStock job self.old.core self.new.core self.old.removing self.new.removing self.new.collecting.tally
+            (length (lent_in self.old.merging)) result }
     {
         if self.core.back.has_no_version() {
-            self.merging = None;
+            self.leave(job);
             return Err(InstallFail::Exhausted(Counter::Version));
         }
         let Ok(live) = self.collecting.live_installed(self.alloc, &self.core, &job) else {
@@ -202,7 +218,22 @@ impl<D: Disk> Engine<D> {
         ensures cause { HasCause (D.faults self.old.disk) (D.faults self.new.disk) (InstallFailed result) }
         ensures collected { InstallsFor D.Held.bytes self.old.core self.old.collecting self.new.collecting D.Writer.Writer job
             self.new.core result }
+        ensures retires { InstallsStock job self.old.core self.new.core self.old.removing self.new.removing self.new.collecting.tally
+            (length (lent_in self.old.merging)) result }
     {
+        let Ok(dropped) = numbers_of(self.alloc, &job.inputs().tables) else {
+            return Err(InstallFail::NoMemory(job));
+        };
+        let Ok(added) = made_numbers(self.alloc, job.made()) else {
+            return Err(InstallFail::NoMemory(job));
+        };
+        let lent = lent_count(&self.merging);
+        let Ok(()) = self
+            .removing
+            .make_room(self.alloc, &self.core, added.len(), lent)
+        else {
+            return Err(InstallFail::NoMemory(job));
+        };
         let Ok(ready) = ready_install(self.alloc, &mut self.disk, &self.core, &job) else {
             return Err(InstallFail::NoMemory(job));
         };
@@ -212,7 +243,8 @@ impl<D: Disk> Engine<D> {
             levels,
         } = ready;
         self.merging = None;
-        let Parts { made, .. } = job.into_parts();
+        self.removing.pins.merge = None;
+        let Parts { made, leavings, .. } = job.into_parts();
         let mut levels = levels;
         match write_install(
             &mut self.disk,
@@ -224,7 +256,11 @@ impl<D: Disk> Engine<D> {
             Ok(()) => {
                 self.core.version = version.with_levels(levels.into_levels());
                 self.core.back.apply_install(staged.state);
-                self.collecting.switch(live, head_of(&self.core));
+                let head = head_of(&self.core);
+                let version = self.core.back.version_number;
+                leave_files(&mut self.removing.stock, Vec::new(self.alloc), leavings);
+                self.removing.switch(&added, &dropped, &live, head, version);
+                self.collecting.switch(live, head);
                 Ok(())
             }
             Err(name) => {
@@ -232,5 +268,21 @@ impl<D: Disk> Engine<D> {
                 Err(InstallFail::Disk { name })
             }
         }
+    }
+
+    // The merge that is open has ended. Its files, which no version needs, wait for their removal.
+    pub(super) fn leave(&mut self, job: Job<Base<D::Held, D::Reader>, D::Held, D::Writer>)
+        requires { IsUnderWay D.Watched D.Writer.Writer self.old.disk self.old.core.front.halted self.old.merging job }
+        ensures left { LeavesFiles (files_in job) self.old.removing.stock self.new.removing.stock }
+        ensures pins { self.new.removing.pins ≡ record self.old.removing.pins { merge = None } }
+        ensures merging { self.new.merging ≡ None }
+        ensures core { self.new.core ≡ self.old.core }
+        ensures disk { self.new.disk ≡ self.old.disk }
+        ensures collecting { self.new.collecting ≡ self.old.collecting }
+    {
+        self.merging = None;
+        self.removing.pins.merge = None;
+        let Parts { made, leavings, .. } = job.into_parts();
+        leave_files(&mut self.removing.stock, made, leavings);
     }
 }

@@ -1,4 +1,4 @@
-ghost use Rattle.std.specs.Prelude.{◌≡◌, ◌≢◌, ◌≤◌, Err, OnOk};
+ghost use Rattle.std.specs.Prelude.{◌≡◌, ◌≢◌, ◌≤◌, Err, OnOk, Bool};
 ghost use Rattle.vl_disk.specs.Calls.{ChangesNothing};
 ghost use Rattle.vl_disk.specs.DiskState.{DiskState};
 ghost use Rattle.vl_disk.specs.Faults.{HasCause, after_calls};
@@ -17,6 +17,7 @@ ghost use Rattle.vl_layout.specs.Rulings.Keep.{keep_ruling};
 ghost use Rattle.vl_layout.specs.declared.layout.Layout.{Layout};
 ghost use Rattle.vl_manifest.specs.declared.staged.StagedEdits.{StagedEdits};
 ghost use Rattle.vl_model.specs.History.{History};
+ghost use Rattle.vl_engine.specs.Removing.{Removes};
 
 use crate::{Engine, KeepFail};
 use vl_core::Core;
@@ -84,9 +85,16 @@ impl<D: Disk> Engine<D> {
         ensures within { (KeepFailed result → ⊥) → self.old.core.back.state.next_log ≤ self.old.core.back.next_log
             → self.new.core.back.state.next_log ≤ self.new.core.back.next_log }
 
+        // What is kept of which files can go is what the layout has, as before.
+        ensures removes { (low : Bool) (h : History) (l : Layout) → Fronts self.old.core h l
+            → Removes low self.old.core self.old.removing l
+            → Decides (λ _ l. Removes low self.new.core self.new.removing l) h l (keep_ruling l h versions) (as_before l l)
+            (keep_outcome result) (keep_effects self.old.core.back.state.keep versions result) }
+
         // What is kept of the open merge stays.
         ensures merging { self.new.merging ≡ self.old.merging }
         ensures collecting { self.new.collecting ≡ self.old.collecting }
+        ensures removing { self.new.removing ≡ self.old.removing }
         ensures logs { self.new.core.version.behind.logs ≡ self.old.core.version.behind.logs }
     {
         if let Some(name) = self.core.front.halted {
@@ -109,6 +117,7 @@ impl<D: Disk> Engine<D> {
         ensures as_kept { KeepsAs D.Watched self.old.disk self.new.disk self.old.core self.new.core versions result }
         ensures merging { self.new.merging ≡ self.old.merging }
         ensures collecting { self.new.collecting ≡ self.old.collecting }
+        ensures removing { self.new.removing ≡ self.old.removing }
         ensures logs { self.new.core.version.behind.logs ≡ self.old.core.version.behind.logs }
     {
         let since = next_since(&self.core, versions);

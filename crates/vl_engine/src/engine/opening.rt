@@ -27,14 +27,16 @@ ghost use Rattle.vl_recover.specs.opening.Intact.{IsIntact, LeavesIntact};
 ghost use Rattle.vl_recover.specs.opening.Opening.{NamesNoTable};
 ghost use Rattle.vl_recover.specs.opening.Results.{recovery_by};
 ghost use Rattle.vl_recover.specs.repairing.Steps.{MakesSome};
+ghost use Rattle.vl_engine.specs.Removing.{IsNothingRemoved, Removes, is_low};
 
-use crate::open::Collecting;
+use crate::open::{Collecting, Removing};
 use crate::{Engine, OpenError, OpenFail};
 use std::alloc::Global;
 use vl_back::Back;
 use vl_core::Core;
 use vl_disk::Disk;
 use vl_front::Front;
+use vl_pins::{Pins, Stock};
 use vl_recover::{Parts, recover};
 use vl_table::Table;
 use vl_version::{Level, Levels, Version};
@@ -74,6 +76,13 @@ impl<D: Disk> Engine<D> {
         ensures collects { (state : DiskState) (read : Image) (found : Finds read) (h : History) → D.told disk ≡ Some state
             → IsRead read state → (shown : Shown read h (last_number h))
             → IfOk result (λ engine. Collects engine.core engine.collecting (layout_at_start room (recovered found shown))) }
+
+        // Nothing is pinned, and nothing waits for its removal; which files are in use isn't kept yet.
+        ensures removing { IfOk result (λ engine. IsNothingRemoved engine.removing) }
+        ensures removes { (state : DiskState) (read : Image) (found : Finds read) (h : History) → D.told disk ≡ Some state
+            → IsRead read state → (shown : Shown read h (last_number h))
+            → IfOk result (λ engine. Removes (is_low engine.core (layout_at_start room (recovered found shown))) engine.core
+            engine.removing (layout_at_start room (recovered found shown))) }
 
         // What a crash leaves meanwhile shows what was opened; and opens as something that one could have left before.
         ensures through { (state : DiskState) (read : Image) (h : History) → D.told disk ≡ Some state → IsDurable state
@@ -174,6 +183,10 @@ impl<D: Disk> Engine<D> {
             collecting: Collecting {
                 passing: None,
                 tally: None,
+            },
+            removing: Removing {
+                pins: Pins::new(alloc),
+                stock: Stock::new(alloc),
             },
         })
     }

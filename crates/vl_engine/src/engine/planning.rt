@@ -1,10 +1,10 @@
-ghost use Rattle.std.specs.Prelude.{◌≡◌, None, Option, Some, IfOk, OnErr, OnOk};
+ghost use Rattle.std.specs.Prelude.{◌≡◌, Bool, None, Option, Some, IfOk, OnErr, OnOk};
 ghost use Rattle.std.specs.Option.{ForSome};
 ghost use Rattle.vl_compact.specs.Laid.{AreBoth};
-ghost use Rattle.vl_compact.specs.Progress.{IsNew};
+ghost use Rattle.vl_compact.specs.Progress.{IsNew, made_of};
 ghost use Rattle.vl_engine.specs.Merging.{FitsReaders, HasMerge, IsJustOpen, IsMergeFor, IsMergeOf, OpensMerge, StandsOpen, plan_outcome};
 ghost use Rattle.vl_engine.specs.Planning.{IsChosen};
-ghost use Rattle.vl_core.specs.Represents.{Represents, StandsFor};
+ghost use Rattle.vl_core.specs.Represents.{Fronts, Represents, StandsFor};
 ghost use Rattle.vl_core.specs.MayStep.{Fits};
 ghost use Rattle.vl_layout.specs.Decides.{Decides, as_before, no_effects};
 ghost use Rattle.vl_layout.specs.Rulings.Drain.{drain_ruling};
@@ -19,6 +19,10 @@ ghost use Rattle.vl_model.specs.History.{History};
 ghost use Rattle.vl_table.specs.Kept.{Files};
 ghost use Rattle.vl_table.specs.KeptBlocks.{AreKept};
 ghost use Rattle.vl_version.specs.Bases as bases;
+ghost use Rattle.vl_engine.specs.Pinning.{PinsMerge, merge_pinned};
+ghost use Rattle.vl_engine.specs.Removing.{Removes};
+ghost use Rattle.vl_engine.specs.Retiring.{LeavesFiles, files_in};
+ghost use Rattle.vl_engine.specs.UnderWay.{IsUnderWay};
 
 use crate::Engine;
 use crate::open::OpenMerge;
@@ -51,10 +55,20 @@ impl<D: Disk> Engine<D> {
             → Decides (Fits (D.told self.new.disk) self.new.core) h l (plan_ruling l h) (as_before l l)
             (plan_outcome (plan_ruling l h).answer result) no_effects }
 
+        // What is kept of which files can go is what the layout has: its version number is pinned.
+        ensures removes { (low : Bool) (h : History) (l : Layout) → StandsOpen D.Held.bytes self.old.core self.old.merging h l
+            → Removes low self.old.core self.old.removing l
+            → Decides (λ _ l. Removes low self.new.core self.new.removing l) h l (plan_ruling l h) (as_before l l)
+            (plan_outcome (plan_ruling l h).answer result) no_effects }
+        ensures stock { self.new.removing.stock ≡ self.old.removing.stock }
+        ensures removing { PinsMerge self.old.core.back.version_number self.old.removing self.new.removing result }
+
         // The merge does what the ruling's job says, and has made nothing yet.
         ensures job { (h : History) (l : Layout) → StandsOpen D.Held.bytes self.old.core self.old.merging h l
             → IfOk result (λ job. AreBoth (HasMerge D.Writer.Writer D.Held.bytes) job (plan_ruling l h).answer) }
         ensures new { IfOk result (λ job. ForSome job IsNew) }
+        // One begins only where none is open.
+        ensures open { IfOk result (λ job. ForSome job (λ _. self.old.merging ≡ None)) }
 
         // A reader that keeps no block that doesn't stand, as `reader` gives, fits its sources: look-ups by it are told.
         ensures looks { (h : History) (l : Layout) → StandsOpen D.Held.bytes self.old.core self.old.merging h l
@@ -98,10 +112,20 @@ impl<D: Disk> Engine<D> {
             → Decides (Fits (D.told self.new.disk) self.new.core) h l (drain_ruling l h segment) (as_before l l)
             (plan_outcome (drain_ruling l h segment).answer result) no_effects }
 
+        // What is kept of which files can go is what the layout has: its version number is pinned.
+        ensures removes { (low : Bool) (h : History) (l : Layout) → StandsOpen D.Held.bytes self.old.core self.old.merging h l
+            → Removes low self.old.core self.old.removing l
+            → Decides (λ _ l. Removes low self.new.core self.new.removing l) h l (drain_ruling l h segment) (as_before l l)
+            (plan_outcome (drain_ruling l h segment).answer result) no_effects }
+        ensures stock { self.new.removing.stock ≡ self.old.removing.stock }
+        ensures removing { PinsMerge self.old.core.back.version_number self.old.removing self.new.removing result }
+
         // The merge does what the ruling's job says, and has made nothing yet.
         ensures job { (h : History) (l : Layout) → StandsOpen D.Held.bytes self.old.core self.old.merging h l
             → IfOk result (λ job. AreBoth (HasMerge D.Writer.Writer D.Held.bytes) job (drain_ruling l h segment).answer) }
         ensures new { IfOk result (λ job. ForSome job IsNew) }
+        // One begins only where none is open.
+        ensures open { IfOk result (λ job. ForSome job (λ _. self.old.merging ≡ None)) }
 
         // A reader that keeps no block that doesn't stand, as `reader` gives, fits its sources: look-ups by it are told.
         ensures looks { (h : History) (l : Layout) → StandsOpen D.Held.bytes self.old.core self.old.merging h l
@@ -140,12 +164,17 @@ impl<D: Disk> Engine<D> {
             → Fits (D.told self.old.disk) self.old.core h l → IsChosen D.Held.bytes inputs h l ruling
             → Decides (Fits (D.told self.new.disk) self.new.core) h l ruling (as_before l l)
             (plan_outcome ruling.answer result) no_effects }
+        ensures removes { (low : Bool) (h : History) (l : Layout) (ruling : Ruling (Option laid_job.Job))
+            → Fronts self.old.core h l → Removes low self.old.core self.old.removing l → IsChosen D.Held.bytes inputs h l ruling
+            → Decides (λ _ l. Removes low self.new.core self.new.removing l) h l ruling (as_before l l)
+            (plan_outcome ruling.answer result) no_effects }
         ensures job { (h : History) (l : Layout) (ruling : Ruling (Option laid_job.Job))
             → StandsFor D.Held.bytes self.old.core h l → IsChosen D.Held.bytes inputs h l ruling
             → IfOk result (λ job. AreBoth (HasMerge D.Writer.Writer D.Held.bytes) job ruling.answer) }
         ensures new { IfOk result (λ job. ForSome job IsNew) }
         ensures looks { (h : History) (l : Layout) → StandsFor D.Held.bytes self.old.core h l
             → IfOk result (λ job. ForSome job (FitsReaders D.Held.bytes)) }
+        ensures removing { PinsMerge self.old.core.back.version_number self.old.removing self.new.removing result }
         ensures merging { OpensMerge self.old.merging self.new.merging result }
         ensures core { self.new.core ≡ self.old.core }
         ensures disk { self.new.disk ≡ self.old.disk }
@@ -167,6 +196,8 @@ impl<D: Disk> Engine<D> {
             → HasMerge D.Writer.Writer D.Held.bytes job j) }
         ensures new { IfOk result (λ job. IsNew job) }
         ensures begun { OnOk result (IsJustOpen self.new.merging) }
+        ensures pinned { OnOk result (self.new.removing ≡ merge_pinned (Some self.old.core.back.version_number) self.old.removing) }
+        ensures unpinned { OnErr result (self.new.removing ≡ self.old.removing) }
         ensures core { self.new.core ≡ self.old.core }
         ensures disk { self.new.disk ≡ self.old.disk }
         ensures refused { OnErr result (self.new.merging ≡ self.old.merging) }
@@ -176,6 +207,7 @@ impl<D: Disk> Engine<D> {
         let floor = self.core.front.oracle.floor();
         let keep = self.core.back.state.keep;
         self.merging = Some(OpenMerge::new(self.alloc));
+        self.removing.pins.merge = Some(self.core.back.version_number);
         Ok(Job::new(self.alloc, Base::new(version), inputs, floor, keep))
     }
 
@@ -196,9 +228,11 @@ impl<D: Disk> Engine<D> {
         }
     }
 
-    /// Gives up a merge. No call reads its files any more, and the next opening removes what is left of them. It wants no memory,
-    /// and the disk isn't asked.
+    /// Gives up a merge. No call reads its files any more, and a sweep or the next opening removes what is left of them. It wants
+    /// no memory, and the disk isn't asked.
     pub fn abandon(&mut self, job: Job<Base<D::Held, D::Reader>, D::Held, D::Writer>)
+        requires { IsUnderWay D.Watched D.Writer.Writer self.old.disk self.old.core.front.halted self.old.merging job }
+
         // So it is with whatever files of those that were lent to it it made.
         ensures stands { (h : History) (l : Layout) (o : OpenJob) (made : Made)
             → StandsOpen D.Held.bytes self.old.core self.old.merging h l → l.job ≡ Some o → AreLent o.lent made
@@ -210,12 +244,18 @@ impl<D: Disk> Engine<D> {
             → Fits (D.told self.old.disk) self.old.core h l
             → Fits (D.told self.new.disk) self.new.core h (abandon_ruling l h o.job made).layout }
 
+        // Its files wait for their removal, and it pins nothing.
+        ensures removes { (low : Bool) (h : History) (l : Layout) (o : OpenJob)
+            → StandsOpen D.Held.bytes self.old.core self.old.merging h l → l.job ≡ Some o
+            → HasMerge D.Writer.Writer D.Held.bytes job o.job → Removes low self.old.core self.old.removing l
+            → Removes low self.new.core self.new.removing (abandon_ruling l h o.job (made_of job o.job)).layout }
+        ensures left { LeavesFiles (files_in job) self.old.removing.stock self.new.removing.stock }
+
         ensures core { self.new.core ≡ self.old.core }
         ensures disk { self.new.disk ≡ self.old.disk }
         ensures merging { self.new.merging ≡ None }
         ensures collecting { self.new.collecting ≡ self.old.collecting }
     {
-        let _ = job;
-        self.merging = None;
+        self.leave(job);
     }
 }

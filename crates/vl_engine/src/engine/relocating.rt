@@ -1,4 +1,4 @@
-ghost use Rattle.std.specs.Prelude.{◌≡◌, ◌<◌, List, Some, IsErrOf, IsTrue, Err, OnOk};
+ghost use Rattle.std.specs.Prelude.{◌≡◌, ◌<◌, List, Some, IsErrOf, IsTrue, Err, OnOk, Bool};
 ghost use Rattle.std.specs.List.{AllByRecursion};
 ghost use Rattle.vl_core.specs.Carries.{Carries, SameFiles, StaysUntold};
 ghost use Rattle.vl_core.specs.MayStep.{Fits};
@@ -27,6 +27,7 @@ ghost use Rattle.vl_model.specs.declared.log_frame.LogFrame.TheVariants.{Relocat
 ghost use Rattle.vl_seglog.specs.Frames.{frame_at};
 ghost use Rattle.vl_version.specs.Bases as bases;
 ghost use Rattle.vl_version.specs.Sources.{tables_in};
+ghost use Rattle.vl_engine.specs.Removing.{Removes};
 
 use crate::relocating::{
     StagedMove, has_room, move_length, note_moves, records_to_move, stage_move,
@@ -74,6 +75,13 @@ impl<D: Disk> Engine<D> {
             → IsOfPass D.Held.bytes self.old.core pass.now.log batch looks.old h l p
             → Fits (D.told self.old.disk) self.old.core h l
             → Decides (Fits (D.told self.new.disk) self.new.core) h l (relocate_ruling l h p batch) (as_before l l)
+            (move_outcome result) (move_effects result) }
+
+        // What is kept of which files can go is what the layout has, as before.
+        ensures removes { (low : Bool) (h : History) (l : Layout) (p : layout.Pass)
+            → IsOfPass D.Held.bytes self.old.core pass.now.log batch looks.old h l p
+            → StandsOpen D.Held.bytes self.old.core self.old.merging h l → Removes low self.old.core self.old.removing l
+            → Decides (λ _ l. Removes low self.new.core self.new.removing l) h l (relocate_ruling l h p batch) (as_before l l)
             (move_outcome result) (move_effects result) }
 
         // Right behind it no record of the batch wins exactly from inside the pass's log, and none of its files is damaged.
@@ -124,6 +132,7 @@ impl<D: Disk> Engine<D> {
             { version_number = moved_version result self.old.core.back.version_number } }
         ensures logs { self.new.core.version.behind ≡ self.old.core.version.behind }
         ensures collecting { self.new.collecting ≡ self.old.collecting }
+        ensures removing { self.new.removing ≡ self.old.removing }
 
         // What was moved is noted for the open merge, and the reader fits the sources as before.
         ensures merging { MoveNotes self.old.core.back.version_number self.old.merging self.new.merging result }
@@ -146,6 +155,7 @@ impl<D: Disk> Engine<D> {
         ensures cause { MoveCounts self.old.core.front.log.number (D.faults self.old.disk) (D.faults self.new.disk)
             (D.Reader.faults looks.old.reader) (D.Reader.faults looks.new.reader) result }
         ensures collecting { self.new.collecting ≡ self.old.collecting }
+        ensures removing { self.new.removing ≡ self.old.removing }
         ensures fits { bases.Fits D.Held.bytes self.old.core.version looks.old
             → bases.Fits D.Held.bytes self.old.core.version looks.new }
     {
@@ -198,6 +208,7 @@ impl<D: Disk> Engine<D> {
             self.new.merging moved.now result }
         ensures cause { HasCause (D.faults self.old.disk) (D.faults self.new.disk) (IsErrOf result why.Failed) }
         ensures collecting { self.new.collecting ≡ self.old.collecting }
+        ensures removing { self.new.removing ≡ self.old.removing }
     {
         let number = self.core.back.version_number + 1;
         let Ok(staged) = stage_move(

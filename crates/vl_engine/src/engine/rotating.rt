@@ -1,4 +1,4 @@
-ghost use Rattle.std.specs.Prelude.{◌≡◌, ◌≤◌, ◌+◌, ℕ, Err, IfOk, None, OnOk, Some};
+ghost use Rattle.std.specs.Prelude.{◌≡◌, ◌≤◌, ◌+◌, ℕ, length, Bool, Err, IfOk, IsSome, None, OnOk, Some};
 ghost use Rattle.vl_back.specs.Writing.{KeepsOthers};
 ghost use Rattle.vl_disk.specs.Calls.{ChangesNothing};
 ghost use Rattle.vl_disk.specs.DiskState.{DiskState};
@@ -18,7 +18,11 @@ ghost use Rattle.vl_layout.specs.Rulings.Rotate.{rotate_ruling};
 ghost use Rattle.vl_layout.specs.Tidy.{IsTrueLog};
 ghost use Rattle.vl_layout.specs.declared.layout.Layout.{Layout};
 ghost use Rattle.vl_model.specs.History.{History};
+ghost use Rattle.vl_engine.specs.Lent.{Opens};
+ghost use Rattle.vl_engine.specs.Removing.{Removes, lent_in};
+ghost use Rattle.vl_engine.specs.Retiring.{SealsStock};
 
+use crate::making::lent_count;
 use crate::rotating::{refusal, stage_rotation};
 use crate::{Engine, StepFail};
 use vl_back::{Waiting, make_log};
@@ -93,6 +97,14 @@ impl<D: Disk> Engine<D> {
             → (l.halted ≡ None → HasNumbers self.old.core.back l) → Collects self.old.core self.old.collecting l
             → Decides (λ _ l. Collects self.new.core self.new.collecting l) h l (rotate_ruling l h) (as_before l l)
             (step_outcome result) (rotate_effects result) }
+
+        // What is kept of which files can go is what the layout has; what is pinned stays.
+        ensures removes { (low : Bool) (h : History) (l : Layout) → StandsFor D.Held.bytes self.old.core h l
+            → Opens self.old.merging l.job → (l.halted ≡ None → HasNumbers self.old.core.back l)
+            → Removes low self.old.core self.old.removing l
+            → Decides (λ _ l. Removes low self.new.core self.new.removing l) h l (rotate_ruling l h) (as_before l l)
+            (step_outcome result) (rotate_effects result) }
+        ensures pins { self.new.removing.pins ≡ self.old.removing.pins }
     {
         match refusal(&self.core) {
             Some(answer) => answer,
@@ -108,14 +120,24 @@ impl<D: Disk> Engine<D> {
         ensures files { KeepsOthers (names.Log self.old.core.back.next_log) (D.told self.old.disk) (D.told self.new.disk) }
         ensures merging { self.new.merging ≡ self.old.merging }
         ensures collected { SealsFor D.Held.bytes self.old.core self.old.collecting self.new.collecting result }
+        ensures sealed { SealsStock self.old.core self.old.removing.stock self.new.removing.stock (length (lent_in self.old.merging))
+            result }
+        ensures pins { self.new.removing.pins ≡ self.old.removing.pins }
     {
         let Ok(()) = self.collecting.make_room(self.alloc, &self.core) else {
+            return Err(StepFail::NoMemory);
+        };
+        let Ok(()) = self
+            .removing
+            .make_room(self.alloc, &self.core, 0, lent_count(&self.merging))
+        else {
             return Err(StepFail::NoMemory);
         };
         let length = self.core.front.log.length;
         match self.begin_log() {
             Ok(Some(number)) => {
                 self.collecting.seal((number, length));
+                self.removing.stock.add_log(number);
                 Ok(Some(number))
             }
             answer => answer,
@@ -124,12 +146,14 @@ impl<D: Disk> Engine<D> {
 
     // Begins the next log, and gives the number of the one that is sealed by that.
     fn begin_log(&mut self) -> Result<Option<u32>, StepFail>
-        requires { MayBegin self.old.core }
+        requires may { MayBegin self.old.core }
+        requires kept { IsSome self.old.removing.stock.in_use }
         ensures cause { HasCause (D.faults self.old.disk) (D.faults self.new.disk) (StepFailed result) }
         ensures as_rotated { RotatesAs D.Watched D.Held.bytes self.old.disk self.new.disk self.old.core self.new.core result }
         ensures files { KeepsOthers (names.Log self.old.core.back.next_log) (D.told self.old.disk) (D.told self.new.disk) }
         ensures merging { self.new.merging ≡ self.old.merging }
         ensures collecting { self.new.collecting ≡ self.old.collecting }
+        ensures removing { self.new.removing ≡ self.old.removing }
     {
         let Ok(()) = self.core.back.make_room() else {
             return Err(StepFail::NoMemory);

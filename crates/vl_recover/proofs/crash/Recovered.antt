@@ -159,6 +159,11 @@ repaired_faults read state before begun now same prepared is has result name fai
     (subst (λ (n : ℕ). IsFailAt (plan_view prepared.plan) n now (Disk name)) same
     (subst (λ (r : Result ManifestLog IoFail). IfErr r (IsFailAt (plan_view prepared.plan) begun now)) failed at))
 
+-- a disk that told nothing still doesn't, once it was repaired
+pub still_untold : {D : Type 0} (g : Ghosts D) (old mid : D) {failed : Type 0} → ChangesNothing g old mid failed
+    → (new : D) (plan : Plan) (log : ManifestLog) → Repairs g plan mid new (Ok log) → g.told old ≡ None → g.told new ≡ None
+still_untold g old mid no_change new plan log repairs none = repairs.done ∙ ap (option_map (repaired plan)) (no_change.told ∙ none)
+
 -- nothing was changed
 module _ {D : Type 0} (g : Ghosts D) (only_now : (disk : D) (state other : DiskState) → g.told disk ≡ Some state
     → g.states_since disk (g.moment disk) other → other ≡ state)

@@ -151,6 +151,7 @@ module _ {D V H W : Type 0} (g : Ghosts D) (w : Writers W) {s : _} (old new : D)
             subst (λ (v : Vec ℕ Global). All (λ (x : ℕ). has x v.items ≡ true) (numbers_in p.job)) (sym same) (may.drawn o before);
         distinct = may.distinct;
         tells = may.tells;
+        leavings_tell = may.leavings_tell;
       }
 
   pub can_moved : {T : Type 0} (result : Result T Halt) → OnOk result (StaysUntold (g.told old) (g.told new))

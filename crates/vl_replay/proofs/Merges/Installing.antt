@@ -37,6 +37,7 @@ use Rattle.vl_core.specs.Represents.{IsHeld, IsLive}
 use Rattle.vl_core.specs.Shown.{Shown}
 use Rattle.vl_core.specs.MayStep.{AreLogFiles, Fits, LeavesNumbers, MayStep}
 use Rattle.vl_engine.specs.Taking.{StopsTaking, Takes, file_in, file_of_table, with_files}
+use Rattle.vl_engine.specs.UnderWay.{IsUnderWay}
 use Rattle.vl_engine.specs.declared.fails.InstallFail.{InstallFail}
 use Rattle.vl_engine.specs.declared.fails.InstallFail.TheVariants as uninstalled
 use Rattle.vl_core.specs.declared.kept.Core.{Core}
@@ -94,7 +95,7 @@ use Rattle.vl_replay.proofs.Disk.Carried.{quiet_carries}
 use Rattle.vl_sequential.specs.laws.DiskSteps.{IsWatched}
 use Rattle.vl_sequential.specs.laws.HeldDisk.{stored_by}
 use Rattle.vl_replay.proofs.Disk.Stepped.{at_each, at_most}
-use Rattle.vl_replay.proofs.Merges.Handing.{handed_in}
+use Rattle.vl_replay.proofs.Merges.Handing.{handed_back, handed_in}
 use Rattle.vl_replay.proofs.Merges.Installs.{InstallsOf, IsNoHalt, install_installs}
 use Rattle.vl_replay.proofs.Names.Ending.{still_stands}
 use Rattle.vl_replay.proofs.Names.Lookups.{taken_none, thing_gone, thing_left}
@@ -145,6 +146,14 @@ pub handed_so : {D V H W : Type 0} (g : Ghosts D) (w : Writers W) {k : _} (disk 
     → CanHandIn g w disk merging old → IsHandedIn g w disk halted merging job
 handed_so g w disk halted merging name old new job was can =
     handed_in g w disk halted merging job (can (waiting_as was.its_name job) was.is)
+
+-- and given up, where it was handed back as it was and the disk was left alone
+pub back_so : {D V H W : Type 0} (g : Ghosts D) (w : Writers W) {k : _} (old new : D) (halted : Option FileName)
+    (merging merging' : Option OpenMerge) (name : Name) (before after : Option (Planned V H W k)) (job back : TheJob V H W k)
+    → WasPlanned name before after job → CanHandIn g w old merging before → (back ≡ job) × (merging' ≡ merging)
+    → g.told new ≡ g.told old → IsUnderWay g w new halted merging' back
+back_so g w old new halted merging merging' name before after job back was can same told =
+    handed_back g w old new halted merging merging' job back same told (can (waiting_as was.its_name job) was.is)
 
 -- ---- a name that stands for no merge
 

@@ -73,7 +73,9 @@ impl<D: Disk> Replayer<D> {
         match carry_out(&mut self.served, &mut self.planned, &mut self.passing, line) {
             Ok(answer) => Ok(answer),
             Err(halt) => {
-                give_up(&mut self.served, &mut self.planned, &mut self.passing);
+                // No line is carried out any more, so what is open is dropped.
+                self.planned = None;
+                self.passing = None;
                 self.halted = Some(halt);
                 Err(halt)
             }
@@ -101,6 +103,7 @@ fn give_up<D: Disk>(
     planned: &mut Option<Planned<Base<D::Held, D::Reader>, D::Held, D::Writer>>,
     passing: &mut Option<Passing<Base<D::Held, D::Reader>, D::Held>>,
 )
+    requires { CanHandIn D.Watched D.Writer.Writer served.old.engine.disk served.old.engine.merging planned.old }
     ensures disk { served.new.engine.disk ≡ served.old.engine.disk }
     ensures planned { planned.new ≡ None }
     ensures passing { passing.new ≡ None }

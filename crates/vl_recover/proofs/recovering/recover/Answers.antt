@@ -10,7 +10,7 @@ use Rattle.vl_recover.proofs.crash.IntactAfter.{intact_after, intact_throughout}
 use Rattle.vl_recover.proofs.crash.Recovered.{as_long, fault_counted, fault_of, frame_failed, frame_is, goes_on_ready}
 use Rattle.vl_recover.proofs.crash.Recovered.{calls_counted, calls_stopped, none_made, disk_repaired, repaired_again}
 use Rattle.vl_recover.proofs.crash.Recovered.{repaired_faults, repaired_meanwhile, repaired_tells, repaired_through}
-use Rattle.vl_recover.proofs.crash.Recovered.{sealed_held, opened_same, read_faults, refused_disk, still_tells}
+use Rattle.vl_recover.proofs.crash.Recovered.{sealed_held, opened_same, read_faults, refused_disk, still_tells, still_untold}
 use Rattle.vl_recover.proofs.crash.Recovered.{store_held, unchanged_again, unchanged_meanwhile, unchanged_through}
 use Rattle.vl_recover.proofs.opening.Unmoved.{call_as, no_call, reader_failed, then_call}
 use Rattle.vl_seglog.specs.declared.active.ActiveLog.{ActiveLog}
@@ -182,6 +182,11 @@ returns-in-Ok-repair-clause-tells g c state told =
     rw c.opened.ensures.disk
     (repaired_tells g.D.Watched g.met.D.Disk.only_now _ _ c.in-Ok-prepare.ensures.no_change state told _ c.in-Ok-prepare.ready.0
     (manifest_of c.repair.result) c.repair.ensures.repaired)
+
+pub returns-in-Ok-repair-clause-untold : goal.returns-in-Ok-repair-clause-untold
+returns-in-Ok-repair-clause-untold g c none =
+    rw c.opened.ensures.disk
+    (still_untold g.D.Watched _ _ c.in-Ok-prepare.ensures.no_change _ _ _ c.in-Ok-repair.ensures.repaired none)
 
 pub returns-in-Ok-repair-clause-ready : goal.returns-in-Ok-repair-clause-ready
 returns-in-Ok-repair-clause-ready g c =

@@ -1,7 +1,7 @@
 use Rattle.std.specs.Prelude.{Ok}
 use Rattle.std.proofs.Common.{refl, ap, ◌∙◌}
 use Rattle.vl_core.specs.declared.kept.Core.{Core}
-use Rattle.vl_replay.proofs.CarryingJob.{just_planned, may_hand_in}
+use Rattle.vl_replay.proofs.CarryingJob.{just_planned, lent_under_way, may_hand_in}
 use Rattle.vl_replay.proofs.CarryingTables.{all_made, halted, not_begun, one_so_far, out_is, planned_so_far, used_up}
 use Rattle.vl_replay.proofs.carrying.make_tables.Goals as goal
 
@@ -12,6 +12,13 @@ returns-in_err-reader-clause-merged g c s j planned =
     rw (out_is c.from_residual.result c.from_residual.ensures.1)
     (not_begun g.D.Watched (record { only_now = g.met.D.Disk.only_now; counts_now = g.met.D.Disk.counts_now }) g.D.Writer.Writer
     g.D.Held.HeldFile.bytes s j c.args.engine.now.disk c.args.engine.now.core c.args.engine.now.merging c.args.job.now planned)
+
+pub returns-in_err-reader-clause-under_way : goal.returns-in_err-reader-clause-under_way
+returns-in_err-reader-clause-under_way g c =
+    lent_under_way g.D.Watched g.D.Writer.Writer c.args.engine.now.disk c.args.engine.now.core.front.halted c.args.engine.now.merging
+    c.args.job.now
+    (just_planned g.D.Watched g.D.Writer.Writer c.args.engine.now.disk c.args.engine.now.merging c.args.job.now
+    c.requires.open c.requires.new)
 
 pub tables-init : goal.tables-init
 tables-init g c = record {
@@ -66,6 +73,15 @@ returns-in-Ok-Ended-clause-handed g c is =
     let lent = rw c.in-Ok-Ended.field-0-is at (c.in-Ok-Ended.ensures.lent c.tables.invariant.lent) in
     may_hand_in g.D.Watched g.D.Writer.Writer c.make_table.new.engine.disk c.make_table.new.engine.merging c.make_table.new.job
     lent.0 lent.1
+
+pub returns-in-Ok-Ended-clause-under_way : goal.returns-in-Ok-Ended-clause-under_way
+returns-in-Ok-Ended-clause-under_way g c = c.in-Ok-Ended.ensures.under_way c.tables.invariant.lent
+
+pub returns-in-Ok-Exhausted-clause-under_way : goal.returns-in-Ok-Exhausted-clause-under_way
+returns-in-Ok-Exhausted-clause-under_way g c = c.in-Ok-Exhausted.ensures.under_way c.tables.invariant.lent
+
+pub returns-in-Err-clause-under_way : goal.returns-in-Err-clause-under_way
+returns-in-Err-clause-under_way g c = c.in-Err.ensures.under_way c.tables.invariant.lent
 
 pub returns-in-Ok-Exhausted-clause-merged : goal.returns-in-Ok-Exhausted-clause-merged
 returns-in-Ok-Exhausted-clause-merged g c s j planned =

@@ -4,7 +4,9 @@ use Rattle.vl_compact.specs.Laid.{AreBoth}
 use Rattle.vl_disk.specs.DiskState.{DiskState}
 use Rattle.vl_engine.proofs.Planning.{decides_planned, fits_planned, fits_readers, is_planned, job_begun, merge_for}
 use Rattle.vl_engine.proofs.Planning.{represents_planned, stands_planned}
+use Rattle.vl_engine.proofs.BegunRemoved.{removes_planned}
 use Rattle.vl_engine.proofs.engine.Engine.begin_chosen.Goals as goal
+use Rattle.vl_engine.specs.Removing.{Removes}
 use Rattle.vl_engine.specs.Planning.{IsChosen}
 use Rattle.vl_engine.specs.Merging.{HasMerge, StandsOpen}
 use Rattle.vl_core.specs.Represents.{Represents}
@@ -13,6 +15,7 @@ use Rattle.vl_core.specs.declared.kept.Core.{Core}
 use Rattle.vl_layout.specs.Ruling.{Ruling}
 use Rattle.vl_layout.specs.Rulings.Plan.{with_job}
 use Rattle.vl_layout.specs.declared.job.Job.{Job}
+use Rattle.vl_layout.specs.declared.layout.Layout.{Layout}
 
 pub returns-in_ok-begin_merge-in-Some-clause-stands : goal.returns-in_ok-begin_merge-in-Some-clause-stands
 returns-in_ok-begin_merge-in-Some-clause-stands g c h l ruling is chosen =
@@ -70,3 +73,14 @@ pub returns-in_ok-begin_merge-in-Some-clause-looks : goal.returns-in_ok-begin_me
 returns-in_ok-begin_merge-in-Some-clause-looks g c h l is =
     fits_readers g.D.Held.HeldFile.bytes c.args.self.now.core h l c.in-Some.inputs c.in_ok-begin_merge-in-Some.field-0 is
     c.in_ok-begin_merge-in-Some.ensures.merge
+
+pub returns-in_ok-begin_merge-in-Some-clause-removes : goal.returns-in_ok-begin_merge-in-Some-clause-removes
+returns-in_ok-begin_merge-in-Some-clause-removes g c low h l ruling is removes chosen =
+    let bytes = g.D.Held.HeldFile.bytes in
+    let core = c.args.self.now.core in
+    let inputs = c.in-Some.inputs in
+    let p = is_planned bytes h l ruling inputs (subst (λ (o : Option _). IsChosen bytes o h l ruling) c.in-Some.is chosen) in
+    let after = c.begin_merge.new.self in
+    decides_planned bytes core h l ruling inputs p (λ _ (k : Layout). Removes low after.core after.removing k)
+    (removes_planned core after.core h l is c.begin_merge.ensures.core low c.args.self.now.removing after.removing removes
+    (job_begun bytes core h l ruling inputs p) c.in_ok-begin_merge-in-Some.ensures.pinned)

@@ -1,6 +1,7 @@
-use Rattle.std.proofs.Common.{◌≡◌, refl, subst, sym, true, Some}
+use Rattle.std.proofs.Common.{◌≡◌, ap, arith, refl, subst, sym, true, Some}
 use Rattle.vl_engine.proofs.Fitting.{fit_still}
 use Rattle.vl_engine.proofs.Planning.{none_lent}
+use Rattle.vl_engine.proofs.StillThere.{leaves_none, there_begun, there_told}
 use Rattle.vl_core.specs.Known.{are_known}
 use Rattle.vl_version.specs.declared.version.Version.{Version}
 use Rattle.vl_engine.proofs.engine.Engine.begin_merge.Goals as goal
@@ -18,3 +19,11 @@ pub invariant_of-self-2-clause-known : goal.invariant_of-self-2-clause-known
 invariant_of-self-2-clause-known g c =
     subst (λ (v : Version g.row.D-Held.Denot). are_known c.args.self.now.core.front.oracle.last v.active.entries ≡ true)
     (sym c.share.ensures.same) c.args.self.now.known
+
+pub invariant_of-self-2-clause-there : goal.invariant_of-self-2-clause-there
+invariant_of-self-2-clause-there g c running =
+    let before = c.args.self.now in
+    there_begun g.D.Watched g.D.Writer.Writer before.disk _ before.merging (Some c.new.result) before.removing.stock c.new.ensures.lent
+    (there_told g.D.Watched g.D.Writer.Writer before.disk before.disk before.core _ before.merging before.merging
+    before.removing.stock before.removing.stock (ap (λ (v : Version g.row.D-Held.Denot). v.behind) c.share.ensures.same) refl
+    (omega arith) refl refl refl (leaves_none g.D.Watched before.disk before.core.back.state.next_table) (before.there running))

@@ -1,8 +1,9 @@
-use Rattle.std.proofs.Common.{◌≡◌, ap, refl, subst, sym, true, ◌∙◌}
+use Rattle.std.proofs.Common.{◌≡◌, ap, arith, refl, subst, sym, true, ◌∙◌}
 use Rattle.vl_collect.specs.Passing.{Begins}
 use Rattle.vl_core.specs.Known.{are_known}
 use Rattle.vl_engine.proofs.Collected.{found_same}
 use Rattle.vl_engine.proofs.Fitting.{fit_still}
+use Rattle.vl_engine.proofs.StillThere.{leaves_none, there_told}
 use Rattle.vl_engine.proofs.engine.Engine.begin_pass.Goals as goal
 use Rattle.vl_seglog.specs.declared.sealed.SealedLog.{SealedLog}
 use Rattle.vl_version.specs.Bases.{HasSources}
@@ -17,6 +18,10 @@ invariant_of-self-2 g c = record {
   lent = c.args.self.now.lent;
   known = subst (λ (v : Version g.row.D-Held.Denot). are_known c.args.self.now.core.front.oracle.last v.active.entries ≡ true)
       (sym c.share.ensures.same) c.args.self.now.known;
+  there = λ running. there_told g.D.Watched g.D.Writer.Writer c.args.self.now.disk c.args.self.now.disk c.args.self.now.core _
+      c.args.self.now.merging c.args.self.now.merging c.args.self.now.removing.stock c.args.self.now.removing.stock
+      (ap (λ (v : Version g.row.D-Held.Denot). v.behind) c.share.ensures.same) refl (omega arith) refl refl refl
+      (leaves_none g.D.Watched c.args.self.now.disk c.args.self.now.core.back.state.next_table) (c.args.self.now.there running);
 }
 
 pub returns-clause-begins : goal.returns-clause-begins

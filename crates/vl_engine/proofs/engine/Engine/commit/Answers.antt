@@ -12,6 +12,9 @@ use Rattle.vl_front.specs.declared.decision.Decision.TheVariants as decisions
 use Rattle.vl_layout.specs.Ruling.{ended}
 use Rattle.vl_layout.specs.Rulings.Commit as answers
 use Rattle.vl_engine.proofs.Untold.{commit_untold}
+use Rattle.vl_engine.proofs.WriteRemoved.{removes_by, stock_by}
+use Rattle.vl_engine.specs.Removing.{Removes}
+use Rattle.vl_layout.specs.declared.layout.Layout.{Layout}
 use Rattle.vl_model.specs.declared.counter.Counter.TheVariants as counters
 
 pub returns-in_default-clause-carries : goal.returns-in_default-clause-carries
@@ -285,3 +288,63 @@ pub returns-in-Write-clause-untold : goal.returns-in-Write-clause-untold
 returns-in-Write-clause-untold g c =
     commit_untold g.D.Watched c.args.self.now.core c.write.new.self.core c.args.self.now.disk c.write.new.self.disk
     c.args.txn.ticket c.args.txn.writes c.write.result c.write.ensures.as_written
+
+-- ---- which files can go
+
+pub returns-in-Halted-clause-removes : goal.returns-in-Halted-clause-removes
+returns-in-Halted-clause-removes g c low h l reads is removes lives notes =
+    decides_leaving (λ _ (k : Layout). Removes low c.end.new.self.core c.end.new.self.removing k) h l _ _
+    (answers.Halted (file_of c.in-Halted.name)) (ended c.args.txn.ticket l)
+    (ruling_so c.args.self.now.core h l is c.args.txn.ticket c.args.txn.number reads c.args.txn.writes
+    (decisions.Halted c.in-Halted.name) lives
+    (λ floor remembers below. sym c.in-Halted.is ∙ c.in-Ok.ensures.decided h floor reads remembers below notes))
+    (c.end.ensures.removes low l removes)
+
+pub returns-in-Nothing-clause-removes : goal.returns-in-Nothing-clause-removes
+returns-in-Nothing-clause-removes g c low h l reads is removes lives notes =
+    decides_leaving (λ _ (k : Layout). Removes low c.end-in-Nothing.new.self.core c.end-in-Nothing.new.self.removing k) h l _ _
+    answers.Nothing (ended c.args.txn.ticket l)
+    (ruling_so c.args.self.now.core h l is c.args.txn.ticket c.args.txn.number reads c.args.txn.writes
+    decisions.Nothing lives
+    (λ floor remembers below. sym c.in-Nothing.is ∙ c.in-Ok.ensures.decided h floor reads remembers below notes))
+    (c.end-in-Nothing.ensures.removes low l removes)
+
+pub returns-in-Exhausted-clause-removes : goal.returns-in-Exhausted-clause-removes
+returns-in-Exhausted-clause-removes g c low h l reads is removes lives notes =
+    decides_leaving (λ _ (k : Layout). Removes low c.args.self.now.core c.args.self.now.removing k) h l _ _
+    (answers.Exhausted counters.Commit) l
+    (ruling_so c.args.self.now.core h l is c.args.txn.ticket c.args.txn.number reads c.args.txn.writes
+    decisions.Exhausted lives
+    (λ floor remembers below. sym c.in-Exhausted.is ∙ c.in-Ok.ensures.decided h floor reads remembers below notes))
+    removes
+
+pub returns-in-Conflict-clause-removes : goal.returns-in-Conflict-clause-removes
+returns-in-Conflict-clause-removes g c low h l reads is removes lives notes =
+    decides_leaving (λ _ (k : Layout). Removes low c.end-in-Conflict.new.self.core c.end-in-Conflict.new.self.removing k) h l _ _
+    (answers.Conflict c.in-Conflict.key c.in-Conflict.number) (ended c.args.txn.ticket l)
+    (ruling_so c.args.self.now.core h l is c.args.txn.ticket c.args.txn.number reads c.args.txn.writes
+    (decisions.Conflict c.in-Conflict.key c.in-Conflict.number) lives
+    (λ floor remembers below. sym c.in-Conflict.is ∙ c.in-Ok.ensures.decided h floor reads remembers below notes))
+    (c.end-in-Conflict.ensures.removes low l removes)
+
+pub returns-in-Full-clause-removes : goal.returns-in-Full-clause-removes
+returns-in-Full-clause-removes g c low h l reads is removes lives notes =
+    decides_leaving (λ _ (k : Layout). Removes low c.args.self.now.core c.args.self.now.removing k) h l _ _
+    (answers.Full c.in-Full.length c.in-Full.frame) l
+    (ruling_so c.args.self.now.core h l is c.args.txn.ticket c.args.txn.number reads c.args.txn.writes
+    (decisions.Full c.in-Full.length c.in-Full.frame) lives
+    (λ floor remembers below. sym c.in-Full.is ∙ c.in-Ok.ensures.decided h floor reads remembers below notes))
+    removes
+
+pub returns-in-Write-clause-removes : goal.returns-in-Write-clause-removes
+returns-in-Write-clause-removes g c low h l reads is removes lives notes =
+    removes_by g.D.Watched g.D.Held.HeldFile.bytes c.args.self.now.disk c.write.new.self.disk c.args.self.now.core
+    c.write.new.self.core h l c.args.txn.ticket c.args.txn.number reads c.args.txn.writes c.write.ensures.steps
+    (λ i. (c.write.ensures.logs i).items) low c.args.self.now.removing c.write.new.self.removing is removes
+    (ruling_so c.args.self.now.core h l is c.args.txn.ticket c.args.txn.number reads c.args.txn.writes decisions.Write lives
+    (λ floor remembers below. sym c.in-Write.is ∙ c.in-Ok.ensures.decided h floor reads remembers below notes))
+    c.write.result c.write.ensures.as_written c.write.ensures.removing
+
+pub returns-in-Write-clause-stock : goal.returns-in-Write-clause-stock
+returns-in-Write-clause-stock g c =
+    stock_by c.args.txn.ticket c.args.self.now.removing c.write.new.self.removing c.write.result c.write.ensures.removing

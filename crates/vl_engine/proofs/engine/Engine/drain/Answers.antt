@@ -1,4 +1,5 @@
 use Rattle.std.proofs.Common.{sym, ◌∙◌}
+use Rattle.vl_engine.proofs.BegunRemoved.{stock_planned}
 use Rattle.vl_engine.proofs.Planning.{drain_chosen}
 use Rattle.vl_engine.proofs.engine.Engine.drain.Goals as goal
 use Rattle.vl_layout.specs.Rulings.Drain.{drain_ruling}
@@ -26,3 +27,14 @@ returns-in-Ok-clause-job g c h l is =
     c.begin_chosen.ensures.job h l (drain_ruling l h c.args.segment) is.stands
     (drain_chosen g.D.Held.HeldFile.bytes c.args.self.now.core c.args.self.now.merging h l (sym c.is_some.ensures ∙ c.if-is_some.false)
     is c.levels.result.now c.levels.ensures c.in-Ok.inputs c.args.segment c.in-Ok.ensures)
+
+pub returns-in-Ok-clause-removes : goal.returns-in-Ok-clause-removes
+returns-in-Ok-clause-removes g c low h l is removes =
+    c.begin_chosen.ensures.removes low h l (drain_ruling l h c.args.segment) is.stands.fronts removes
+    (drain_chosen g.D.Held.HeldFile.bytes c.args.self.now.core c.args.self.now.merging h l (sym c.is_some.ensures ∙ c.if-is_some.false)
+    is c.levels.result.now c.levels.ensures c.in-Ok.inputs c.args.segment c.in-Ok.ensures)
+
+pub returns-in-Ok-clause-stock : goal.returns-in-Ok-clause-stock
+returns-in-Ok-clause-stock g c =
+    stock_planned c.args.self.now.core.back.version_number c.args.self.now.removing c.begin_chosen.new.self.removing
+    c.begin_chosen.result c.begin_chosen.ensures.removing

@@ -1,11 +1,15 @@
-use Rattle.std.proofs.Common.{refl, not}
+use Rattle.std.proofs.Common.{refl, not, subst, sym}
 use Rattle.std.specs.List.{filter}
 use Rattle.std.specs.Prelude.{◌==◌}
 use Rattle.vl_core.specs.laws.Knowing.{knows_of}
 use Rattle.vl_core.specs.laws.Represented.{represents_live}
 use Rattle.vl_core.specs.laws.Standing.{fronts_ended, stands_ended}
 use Rattle.vl_engine.proofs.Stepped.{fits_live}
+use Rattle.vl_engine.proofs.StillRemoved.{removes_live}
 use Rattle.vl_layout.specs.declared.live.Live.{Live}
+use Rattle.vl_pins.specs.Pins.{ArePinsOf}
+use Rattle.vl_pins.specs.declared.pins.Pins.{Pins}
+use Rattle.vl_pins.specs.laws.PinLaws.{pins_ended}
 use Rattle.vl_engine.proofs.engine.Engine.end.Goals as goal
 
 pub returns-clause-decides : goal.returns-clause-decides
@@ -25,3 +29,10 @@ returns-clause-represents g c h l is =
 pub returns-clause-fits : goal.returns-clause-fits
 returns-clause-fits g c h l fits =
     fits_live c.args.self.now.core _ h l _ _ refl refl (filter (λ (x : Live). not (x.ticket == c.args.ticket)) l.live) fits
+
+pub returns-clause-removes : goal.returns-clause-removes
+returns-clause-removes g c low l is =
+    let live = filter (λ (x : Live). not (x.ticket == c.args.ticket)) l.live in
+    removes_live low c.args.self.now.core _ c.args.self.now.removing _ l live refl refl refl
+    (subst (λ (p : Pins). ArePinsOf p (record l { live = live })) (sym c.end-2.ensures)
+    (pins_ended c.args.self.now.removing.pins l is.pins c.args.ticket)) is

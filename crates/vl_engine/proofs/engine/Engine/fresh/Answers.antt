@@ -2,6 +2,19 @@ use Rattle.std.proofs.Common.{arith, refl, subst, ◌≡◌, ◌∙◌}
 use Rattle.vl_disk.specs.declared.name.Name.TheVariants as names
 use Rattle.vl_core.specs.laws.Carrying.{IsWatched}
 use Rattle.vl_engine.proofs.DrawFits.{fit_drawn, fit_told, is_new, lent_failed, lent_then, log_kept, more_then, same_itself}
+use Rattle.vl_engine.proofs.DrawFits.{leaves_lending, leaves_ready}
+use Rattle.vl_engine.proofs.Committing.{decides_short}
+use Rattle.vl_engine.proofs.DrawFits.{lent_ready}
+use Rattle.vl_engine.proofs.DrawRemoved.{lent_more_in, lent_same_in, removes_drawn, removes_roomier, stand_lent, there_drawn, there_roomier}
+use Rattle.vl_engine.proofs.Retired.Kept.{opens_lent}
+use Rattle.vl_engine.proofs.Ruled.{looked_none}
+use Rattle.vl_engine.proofs.StillRemoved.{removes_halted}
+use Rattle.vl_engine.proofs.StillThere.{there_told}
+use Rattle.vl_engine.specs.Removing.{Removes}
+use Rattle.vl_core.specs.Represents.{file_of}
+use Rattle.vl_layout.specs.Rulings.Fresh.{fresh_ruling}
+use Rattle.vl_layout.specs.declared.layout.Layout.{Layout}
+use Rattle.vl_engine.proofs.Lending.{leaves_then}
 use Rattle.vl_engine.proofs.DrawSteps.{carries_done, carries_exhausted, carries_failing, carries_short, decides_drawn}
 use Rattle.vl_engine.proofs.DrawSteps.{decides_undrawn, stops_drawing, writes_err, writes_ok}
 use Rattle.vl_engine.proofs.Drawing.{fits_drawn, leaves_numbers, opens_more, opens_same, runs, stands_drawn, stands_undrawn}
@@ -46,6 +59,24 @@ invariant_of-self-in-Ok-lend_new g c =
           c.ready_fresh.new.merging ready.elsewhere ready.no_change.told ready.merging c.args.self.now.lent c.lend_new.new.disk
           c.in-Ok-lend_new.writer lends c.note_lent.new.merging c.note_lent.ensures;
       known = c.args.self.now.known;
+      there = λ running. there_drawn g.D.Watched g.D.Writer.Writer c.args.self.now.disk c.lend_new.new.disk core c.args.self.now.merging
+          c.note_lent.new.merging c.args.self.now.removing.stock c.make_room_to_leave.new.stock
+          (λ none. lends.untold (ready.no_change.told ∙ none))
+          (stand_lent core (told c.args.self.now.disk) (told c.ready_fresh.new.disk) (told c.lend_new.new.disk) ready.no_change.told
+          lends.performs.done running c.args.self.now.ready)
+          (leaves_then g.D.Watched core.back.state.next_table c.args.self.now.disk c.ready_fresh.new.disk c.lend_new.new.disk
+          (leaves_ready g.D.Watched c.args.self.now.disk c.ready_fresh.new.disk core.back.state.next_table ready.elsewhere
+          ready.no_change.told)
+          (leaves_lending g.D.Watched c.ready_fresh.new.disk c.lend_new.new.disk core.back.state.next_table lends.elsewhere lends.files
+          lends.untold)) c.args.self.now.lent
+          (lent_more_in c.args.self.now.merging c.note_lent.new.merging core.back.state.next_table
+          (more_then c.args.self.now.merging c.ready_fresh.new.merging c.note_lent.new.merging core.back.state.next_table ready.merging
+          c.note_lent.ensures))
+          (record {
+            in_use = c.make_room_to_leave.ensures.in_use;
+            trash = c.make_room_to_leave.ensures.trash;
+            capacity = c.make_room_to_leave.ensures.capacity;
+          }) c.in-Ok.ensures.room (c.args.self.now.there running);
     }
 
 pub returns-in-Ok-lend_new-clause-stands : goal.returns-in-Ok-lend_new-clause-stands
@@ -113,6 +144,7 @@ invariant_of-self-in-Err g c =
       lent = lent_failed g.D.Watched c.args.self.now.disk c.ready_fresh.new.disk core.back.state.next_table c.args.self.now.merging
           c.ready_fresh.new.merging ready.elsewhere ready.no_change.told ready.merging c.args.self.now.lent c.lend_new.new.disk _ lends;
       known = c.args.self.now.known;
+      there = λ running. absurd cc;
     }
 
 pub returns-in-Err-clause-stands : goal.returns-in-Err-clause-stands
@@ -151,7 +183,7 @@ returns-in-Err-clause-stopped g c name said =
 
 pub returns-in-Ok-lend_new-clause-empty : goal.returns-in-Ok-lend_new-clause-empty
 returns-in-Ok-lend_new-clause-empty g c state told =
-    c.in-Ok-lend_new.ensures.file state (c.in-Ok.ensures.no_change.told ∙ told)
+    c.in-Ok-lend_new.ensures.file state (c.ready_fresh.ensures.no_change.told ∙ told)
 
 pub returns-in-Err-clause-meanwhile : goal.returns-in-Err-clause-meanwhile
 returns-in-Err-clause-meanwhile g c failed =
@@ -173,3 +205,82 @@ returns-in-Ok-lend_new-clause-untold g c none =
 
 pub returns-in-Ok-lend_new-clause-within : goal.returns-in-Ok-lend_new-clause-within
 returns-in-Ok-lend_new-clause-within g c fine within = within
+
+-- ---- which files can go
+
+pub returns-in_default-make_room_to_leave-clause-carries : goal.returns-in_default-make_room_to_leave-clause-carries
+returns-in_default-make_room_to_leave-clause-carries g c h l is =
+    let watched : IsWatched g.D.Watched = record { only_now = g.met.D.Disk.only_now; counts_now = g.met.D.Disk.counts_now } in
+    carries_short g.D.Watched watched g.D.Held.HeldFile.bytes c.args.self.now.core h l c.args.self.now.disk is c.args.self.now.disk
+    (looked_none g.D.Watched c.args.self.now.disk)
+
+pub returns-in_default-make_room_to_leave-clause-refused : goal.returns-in_default-make_room_to_leave-clause-refused
+returns-in_default-make_room_to_leave-clause-refused g c = same_itself c.args.self.now.merging c.requires
+
+pub returns-in_default-make_room_to_leave-clause-removes : goal.returns-in_default-make_room_to_leave-clause-removes
+returns-in_default-make_room_to_leave-clause-removes g c low h l is numbers removes =
+    let core = c.args.self.now.core in
+    let after = (record c.args.self.now.removing { stock = c.make_room_to_leave.new.stock }) in
+    decides_short (λ _ (k : Layout). Removes low core after k) h l (fresh_ruling l h) l
+    (removes_roomier core l low c.args.self.now.removing after refl removes (record {
+      in_use = c.make_room_to_leave.ensures.in_use;
+      trash = c.make_room_to_leave.ensures.trash;
+      capacity = c.make_room_to_leave.ensures.capacity;
+    }))
+
+pub returns-in_default-ready_fresh-clause-removes : goal.returns-in_default-ready_fresh-clause-removes
+returns-in_default-ready_fresh-clause-removes g c low h l is numbers removes =
+    let core = c.args.self.now.core in
+    let after = (record c.args.self.now.removing { stock = c.make_room_to_leave.new.stock }) in
+    decides_short (λ _ (k : Layout). Removes low core after k) h l (fresh_ruling l h) l
+    (removes_roomier core l low c.args.self.now.removing after refl removes (record {
+      in_use = c.make_room_to_leave.ensures.in_use;
+      trash = c.make_room_to_leave.ensures.trash;
+      capacity = c.make_room_to_leave.ensures.capacity;
+    }))
+
+pub returns-in-Ok-lend_new-clause-removes : goal.returns-in-Ok-lend_new-clause-removes
+returns-in-Ok-lend_new-clause-removes g c low h l is numbers removes =
+    let core = c.args.self.now.core in
+    let after = (record c.args.self.now.removing { stock = c.make_room_to_leave.new.stock }) in
+    decides_drawn core h l is.stands.fronts (λ _ (k : Layout). Removes low (drawn_core core) after k) c.in_default.is numbers
+    c.if-number-gt-MAX_FILE_NUMBER.false
+    (removes_drawn core l low c.args.self.now.removing after refl removes (record {
+      in_use = c.make_room_to_leave.ensures.in_use;
+      trash = c.make_room_to_leave.ensures.trash;
+      capacity = c.make_room_to_leave.ensures.capacity;
+    })
+    c.args.self.now.merging (opens_lent c.args.self.now.merging l.job is.opens) c.in-Ok.ensures.room)
+
+pub returns-in-Err-clause-removes : goal.returns-in-Err-clause-removes
+returns-in-Err-clause-removes g c low h l is numbers removes =
+    let core = c.args.self.now.core in
+    let after = (record c.args.self.now.removing { stock = c.make_room_to_leave.new.stock }) in
+    let name = names.Table core.back.state.next_table in
+    decides_undrawn core h l is.stands.fronts (λ _ (k : Layout). Removes low _ after k) name no_effects c.in_default.is
+    (removes_halted low _ after l (file_of name) removes.pins)
+
+pub invariant_of-self-in_default-ready_fresh : goal.invariant_of-self-in_default-ready_fresh
+invariant_of-self-in_default-ready_fresh g c =
+    let before = c.args.self.now in
+    let core = before.core in
+    let next = core.back.state.next_table in
+    let ready = c.ready_fresh.ensures in
+    record {
+      ready = fit_told core (g.D.Watched.told before.disk) (g.D.Watched.told c.ready_fresh.new.disk) ready.no_change.told before.ready;
+      numbered = before.numbered;
+      lent = lent_ready g.D.Watched before.disk c.ready_fresh.new.disk next before.merging c.ready_fresh.new.merging ready.elsewhere
+          ready.no_change.told ready.merging before.lent;
+      known = before.known;
+      there = λ running. there_roomier g.D.Watched g.D.Writer.Writer c.ready_fresh.new.disk core c.ready_fresh.new.merging
+          before.removing.stock c.make_room_to_leave.new.stock (record {
+      in_use = c.make_room_to_leave.ensures.in_use;
+      trash = c.make_room_to_leave.ensures.trash;
+      capacity = c.make_room_to_leave.ensures.capacity;
+    })
+          (there_told g.D.Watched g.D.Writer.Writer before.disk c.ready_fresh.new.disk core core before.merging
+          c.ready_fresh.new.merging before.removing.stock before.removing.stock refl refl (omega arith)
+          (lent_same_in before.merging c.ready_fresh.new.merging ready.merging) refl ready.no_change.told
+          (leaves_ready g.D.Watched before.disk c.ready_fresh.new.disk next ready.elsewhere ready.no_change.told)
+          (before.there running));
+    }

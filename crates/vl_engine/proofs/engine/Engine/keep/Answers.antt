@@ -2,6 +2,7 @@ use Rattle.vl_engine.proofs.Committing.{decides_leaving}
 use Rattle.vl_engine.proofs.Flushed.{runs_on as runs_so}
 use Rattle.vl_engine.proofs.KeepSteps.{leaves_numbers}
 use Rattle.vl_engine.proofs.KeptBy.{carries_by, carries_left, carries_same, fits_by, fronts_by, is_invalid, is_some}
+use Rattle.vl_engine.proofs.KeepRemoved.{removes_by}
 use Rattle.vl_engine.proofs.KeptBy.{left_same, ruled_halted, ruled_invalid, stands_by, switched_by, within_by}
 use Rattle.vl_engine.proofs.KeptBy.{written_by}
 use Rattle.vl_core.specs.KeepFacts.{MayKeep}
@@ -177,3 +178,16 @@ pub returns-clause-untold : goal.returns-clause-untold
 returns-clause-untold g c =
     keep_untold g.D.Watched c.args.self.now.core c.switch_kept.new.self.core c.args.self.now.disk c.switch_kept.new.self.disk
     c.args.versions c.switch_kept.result c.switch_kept.ensures.as_kept
+
+pub returns-clause-removes : goal.returns-clause-removes
+returns-clause-removes g c low h l is removes =
+    let core = c.args.self.now.core in
+    let may : MayKeep core c.args.versions = record {
+      running = c.in_default.is;
+      some = is_some c.args.versions c.if-versions-eq0.false;
+      few = c.if-versions-gt-MAX_KEEP.false;
+      other = c.if-versions-self.false;
+    } in
+    removes_by g.D.Watched core c.switch_kept.new.self.core c.args.self.now.disk c.switch_kept.new.self.disk c.args.versions h l may
+    (λ i. (c.switch_kept.ensures.logs i).items) low c.args.self.now.removing c.switch_kept.new.self.removing
+    c.switch_kept.ensures.removing is removes c.switch_kept.result c.switch_kept.ensures.as_kept

@@ -125,6 +125,7 @@ invariant_of-self-in-Err g c =
           (leaves_written g.D.Watched c.ready_flush.new.disk c.write_and_switch.new.disk core.back.manifest.number
           core.back.state.next_table wrote.files wrote.untold wrote.beside)) c.args.self.now.lent;
       known = c.args.self.now.known;
+      there = λ running. absurd (let clash : Some c.in-Err.name ≡ None = running in cc);
     }
 
 pub returns-in-Err-clause-cause : goal.returns-in-Err-clause-cause
@@ -153,7 +154,7 @@ returns-in-Err-clause-as_flushed g c =
 pub returns-in-Ok-write_and_switch-clause-collected : goal.returns-in-Ok-write_and_switch-clause-collected
 returns-in-Ok-write_and_switch-clause-collected g c =
     let ready = c.in-Ok.ready in
-    has_flushed g.D.Held.HeldFile.bytes c.args.self.now.core _ c.args.self.now.collecting c.live_with.new.self c.switch.new.self
+    has_flushed g.D.Held.HeldFile.bytes c.args.self.now.core _ c.args.self.now.collecting c.live_with.new.self c.switch-2.new.self
     c.of.result (ready.version.levels.newest.items ++ all_tables ready.version.levels.deeper.items) c.in-Ok-live_with.live
     c.head_of.result c.in-Ok-live_with.ensures.readied
     (leads_same c.live_with.new.self.tally c.in-Ok-live_with.live _ _ (points_in (c.of.result ∷ [])) []
@@ -162,7 +163,7 @@ returns-in-Ok-write_and_switch-clause-collected g c =
     c.with_table.ensures.newest
     ∙ ap (λ (ls : Vec (List (Table g.row.D-Held.Denot)) Global).
     (c.of.result ∷ ready.version.levels.newest.items) ++ all_tables ls.items) c.with_table.ensures.deeper)
-    c.head_of.ensures c.switch.ensures.passing c.switch.ensures.flush
+    c.head_of.ensures c.switch-2.ensures.passing c.switch-2.ensures.flush
 
 pub returns-in-Err-clause-collected : goal.returns-in-Err-clause-collected
 returns-in-Err-clause-collected g c =

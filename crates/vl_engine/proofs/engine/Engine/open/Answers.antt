@@ -8,6 +8,7 @@ use Rattle.vl_engine.proofs.engine.Engine.open.Goals as goal
 use Rattle.vl_core.specs.Found.{recovered}
 use Rattle.vl_core.specs.Known.{are_known}
 use Rattle.vl_engine.proofs.Readable.{begun_readable}
+use Rattle.vl_engine.proofs.StartRemoved.{removes_at_start}
 use Rattle.vl_engine.proofs.TallyBegun.{sealed_begun}
 use Rattle.vl_engine.specs.Collecting.{AreSealed}
 use Rattle.vl_layout.specs.Start.{layout_at_start}
@@ -273,3 +274,13 @@ returns-clause-collects g c state read found h told is_read shown = record {
   passing = refl;
   readable = begun_readable found h shown c.args.room;
 }
+
+pub returns-clause-removes : goal.returns-clause-removes
+returns-clause-removes g c state read found h told is_read shown =
+    removes_at_start _ _ found h shown c.args.room
+    (record { live = c.new-3.ensures.live; merge = c.new-3.ensures.merge; pass = c.new-3.ensures.pass; in_use = c.new-4.ensures.in_use;
+      trash = c.new-4.ensures.trash }) (returns-clause-back g c state read found told is_read)
+    (subst (λ (logs : List (SealedLog g.row.D-Held.Denot)). AreSealed logs (layout_at_start c.args.room (recovered found shown)))
+    (sym c.new.ensures.logs)
+    (sealed_begun g.D.Held.HeldFile.bytes found h shown c.args.room c.in-Ok-recover.parts.sealed.items
+    (c.in-Ok-recover.ensures.logs state read found told is_read)))

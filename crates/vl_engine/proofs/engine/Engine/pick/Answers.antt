@@ -3,6 +3,7 @@ use Rattle.vl_core.specs.MayStep.{Fits}
 use Rattle.vl_core.specs.Pointed.{layout_logs}
 use Rattle.vl_core.specs.Represents.{Represents}
 use Rattle.vl_core.specs.declared.kept.Core.{Core}
+use Rattle.vl_engine.proofs.BegunRemoved.{removes_kept, removes_picked, stock_picked}
 use Rattle.vl_engine.proofs.Collected.{collects_kept, head_is_laid, keeps_readied}
 use Rattle.vl_engine.proofs.Committing.{decides_leaving}
 use Rattle.vl_engine.proofs.PassLaws.{fits_passing, represents_passing, stands_passing}
@@ -11,6 +12,9 @@ use Rattle.vl_engine.proofs.Picking.{tidy_then}
 use Rattle.vl_engine.proofs.engine.Engine.pick.Goals as goal
 use Rattle.vl_engine.specs.Collecting.{Collects, pick_outcome}
 use Rattle.vl_engine.specs.Merging.{StandsOpen}
+use Rattle.vl_engine.specs.Pinning.{PinsPass}
+use Rattle.vl_engine.specs.Removing.{Removes}
+use Rattle.vl_layout.specs.declared.layout.Layout.{Layout}
 use Rattle.vl_disk.specs.DiskState.{DiskState}
 use Rattle.vl_engine.specs.declared.open.OpenMerge.{OpenMerge}
 use Rattle.vl_layout.specs.Decides.{Decides, as_before, no_effects}
@@ -147,3 +151,35 @@ returns-in-Some-best-clause-pass g c h l is has =
 pub returns-in-Some-best-clause-looks : goal.returns-in-Some-best-clause-looks
 returns-in-Some-best-clause-looks g c h l is =
     pass_fits g.D.Held.HeldFile.bytes c.args.self.now.core h l is c.in-Some-best.number c.begin_pass.result c.begin_pass.ensures.begins
+
+pub returns-in-None-clause-removes : goal.returns-in-None-clause-removes
+returns-in-None-clause-removes g c low h l is has removes =
+    decides_leaving (λ _ (x : Layout). Removes low c.args.self.now.core c.args.self.now.removing x) h l (pick_ruling l h c.args.percent)
+    (as_before l l) NoRewrite l
+    (is_none l h c.args.percent (sym c.is_unfair.ensures ∙ c.if-is_unfair.false) (sym c.in_default.is ∙ has.passing)
+    (sym c.in-None.is ∙ c.best.ensures (layout_logs l) l h is.tidy
+    (c.in-Ok.ensures.readied.tallied h l is has.tally)
+    (c.head_of.ensures ∙ head_is_laid g.D.Held.HeldFile.bytes c.args.self.now.core h l is))) removes
+
+pub returns-in-Some-best-clause-removes : goal.returns-in-Some-best-clause-removes
+returns-in-Some-best-clause-removes g c low h l is has removes =
+    let b = is_some l h c.args.percent (sym c.is_unfair.ensures ∙ c.if-is_unfair.false) (sym c.in_default.is ∙ has.passing)
+    c.in-Some-best.number (sym c.in-Some-best.is
+    ∙ c.best.ensures (layout_logs l) l h is.tidy (c.in-Ok.ensures.readied.tallied h l is has.tally)
+    (c.head_of.ensures ∙ head_is_laid g.D.Held.HeldFile.bytes c.args.self.now.core h l is)) in
+    let core = c.args.self.now.core in
+    let after = c.begin_pass.new.self in
+    let version = core.back.version_number in
+    decides_begun l h c.args.percent (sym c.is_unfair.ensures ∙ c.if-is_unfair.false)
+    (sym c.in_default.is ∙ has.passing) g.D.Held.HeldFile.bytes core is c.in-Some-best.number b
+    (λ _ (x : Layout). Removes low after.core after.removing x) c.begin_pass.result
+    c.begin_pass.ensures.failed
+    (λ pass ok. removes_picked core after.core h l is.fronts c.begin_pass.ensures.core low c.args.self.now.removing after.removing removes
+    c.in-Some-best.number (subst (PinsPass version c.args.self.now.removing after.removing) ok c.begin_pass.ensures.removing))
+    (λ why err. removes_kept core after.core h l is.fronts c.begin_pass.ensures.core low c.args.self.now.removing after.removing removes
+    (subst (PinsPass version c.args.self.now.removing after.removing) err c.begin_pass.ensures.removing))
+
+pub returns-in-Some-best-clause-stock : goal.returns-in-Some-best-clause-stock
+returns-in-Some-best-clause-stock g c =
+    stock_picked c.args.self.now.core.back.version_number c.args.self.now.removing c.begin_pass.new.self.removing
+    c.begin_pass.result c.begin_pass.ensures.removing

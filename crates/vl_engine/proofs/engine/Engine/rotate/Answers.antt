@@ -5,6 +5,8 @@ use Rattle.vl_engine.proofs.Collected.{refused_undone, rotate_collects, rotate_l
 use Rattle.vl_engine.proofs.Fitted.{rotate_refused, rotated_by}
 use Rattle.vl_engine.proofs.Leaving.{rotate_within}
 use Rattle.vl_engine.proofs.RotateSteps.{leaves_numbers, running_so}
+use Rattle.vl_engine.proofs.Retired.Rotating.{rotate_leaves_so, rotate_removes}
+use Rattle.vl_engine.specs.Removing.{Removes}
 use Rattle.vl_engine.proofs.Rotated.{begins_by, calls_by, can_by, carries_as_refused, carries_by, fronts_as_refused}
 use Rattle.vl_engine.proofs.Rotated.{fronts_by, numbers_held, refused_calls, refused_no_disk, stands_as_refused}
 use Rattle.vl_engine.proofs.Rotated.{stands_by, stopped_by, untouched_by}
@@ -180,3 +182,18 @@ pub returns-in-None-clause-passing : goal.returns-in-None-clause-passing
 returns-in-None-clause-passing g c =
     rotate_passes g.D.Held.HeldFile.bytes c.args.self.now.core c.seal_active.new.self.core c.args.self.now.collecting
     c.seal_active.new.self.collecting c.seal_active.result c.seal_active.ensures.collected
+
+-- which files can go
+
+pub returns-in-Some-clause-removes : goal.returns-in-Some-clause-removes
+returns-in-Some-clause-removes g c low h l is opens has removes =
+    rotate_leaves_so g.D.Held.HeldFile.bytes c.args.self.now.core h l
+    (λ k x. Removes low c.args.self.now.core c.args.self.now.removing x) is has c.in-Some.answer c.in-Some.ensures.refused removes
+
+pub returns-in-None-clause-removes : goal.returns-in-None-clause-removes
+returns-in-None-clause-removes g c low h l is opens has removes =
+    rotate_removes g.D.Held.HeldFile.bytes g.D.Held.HeldFile.size g.met.D.Held.HeldFile.sized c.args.self.now.core
+    c.seal_active.new.self.core c.args.self.now.removing c.seal_active.new.self.removing c.args.self.now.merging h l is opens low removes
+    c.seal_active.ensures.pins g.D.Watched c.args.self.now.disk c.seal_active.new.self.disk (Fronts c.seal_active.new.self.core)
+    (rotate_effects c.seal_active.result) c.seal_active.result c.seal_active.ensures.as_rotated c.seal_active.ensures.sealed
+    (returns-in-None-clause-decides g c h l is.fronts has is.tidy.true_logs.0)

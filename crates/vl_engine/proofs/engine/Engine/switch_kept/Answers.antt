@@ -1,10 +1,31 @@
-use Rattle.std.proofs.Common.{ap, arith, refl, ℕ}
+use Rattle.std.proofs.Common.{ap, arith, refl, sym, ◌∙◌, ℕ}
 use Rattle.vl_disk.specs.DiskState.{appended}
 use Rattle.vl_disk.specs.declared.name.Name.TheVariants as names
 use Rattle.vl_engine.proofs.KeptBy.{files_in_part, files_switched, fit_by, same_after, same_by, staged_by, stops_by, writes_by}
 use Rattle.vl_engine.proofs.Lending.{leaves_switch, leaves_then, leaves_told, no_manifest, still_lent}
+use Rattle.vl_engine.proofs.StillThere.{there_still, there_told}
+use Rattle.vl_engine.proofs.There.Kept.{same_stand}
+use Rattle.vl_engine.proofs.Untold.{untold_by}
 use Rattle.vl_manifest.specs.Switching.{switched}
 use Rattle.vl_engine.proofs.engine.Engine.switch_kept.Goals as goal
+
+-- there was no memory
+
+pub invariant_of-self : goal.invariant_of-self
+invariant_of-self g c =
+    let before = c.args.self.now in
+    let next = before.core.back.state.next_table in
+    let leaves = leaves_told g.D.Watched before.disk c.stage.new.disk (names.Manifest before.core.back.manifest.number)
+    (no_manifest before.core.back.manifest.number) c.in_default.ensures.no_change.told c.in_default.ensures.elsewhere next in
+    record {
+      ready = λ state told. before.ready state (sym c.in_default.ensures.no_change.told ∙ told);
+      numbered = before.numbered;
+      lent = still_lent g.D.Watched before.disk c.stage.new.disk next next before.merging (omega arith) leaves before.lent;
+      known = before.known;
+      there = λ running. there_told g.D.Watched g.D.Writer.Writer before.disk c.stage.new.disk before.core before.core
+          before.merging before.merging before.removing.stock before.removing.stock refl refl (omega arith) refl refl
+          c.in_default.ensures.no_change.told leaves (before.there running);
+    }
 
 -- it is written
 
@@ -27,6 +48,21 @@ invariant_of-self-in-Ok-switch g c =
           (leaves_switch g.D.Watched c.stage.new.disk c.switch.new.disk core.back.manifest.number c.in-Ok.staged.frame.items _
           c.in-Ok-switch.ensures.switched core.back.state.next_table)) c.args.self.now.lent;
       known = c.args.self.now.known;
+      there = λ running. there_still g.D.Watched g.D.Writer.Writer c.args.self.now.disk c.switch.new.disk core _
+          c.args.self.now.merging c.args.self.now.merging c.args.self.now.removing.stock c.args.self.now.removing.stock
+          refl refl (omega arith) refl refl
+          (untold_by (switched core.back.manifest.number c.in-Ok.staged.frame.items) (told c.args.self.now.disk) (told c.stage.new.disk)
+          (told c.switch.new.disk) c.in-Ok.ensures.no_change.told c.in-Ok-switch.ensures.switched.performs.done)
+          (same_stand (told c.args.self.now.disk) (told c.switch.new.disk)
+          (same_after (told c.args.self.now.disk) (told c.stage.new.disk) (told c.switch.new.disk) c.in-Ok.ensures.no_change.told
+          (same_by (switched core.back.manifest.number c.in-Ok.staged.frame.items) (told c.stage.new.disk) (told c.switch.new.disk)
+          (files_switched core.back.manifest.number c.in-Ok.staged.frame.items) c.in-Ok-switch.ensures.switched.performs.done)))
+          (leaves_then g.D.Watched core.back.state.next_table c.args.self.now.disk c.stage.new.disk c.switch.new.disk
+          (leaves_told g.D.Watched c.args.self.now.disk c.stage.new.disk (names.Manifest core.back.manifest.number)
+          (no_manifest core.back.manifest.number) c.in-Ok.ensures.no_change.told c.in-Ok.ensures.elsewhere
+          core.back.state.next_table)
+          (leaves_switch g.D.Watched c.stage.new.disk c.switch.new.disk core.back.manifest.number c.in-Ok.staged.frame.items _
+          c.in-Ok-switch.ensures.switched core.back.state.next_table)) (c.args.self.now.there running);
     }
 
 pub returns-in-Ok-switch-clause-files : goal.returns-in-Ok-switch-clause-files
@@ -83,6 +119,7 @@ invariant_of-self-in-Err g c =
           (leaves_switch g.D.Watched c.stage.new.disk c.switch.new.disk core.back.manifest.number c.in-Ok.staged.frame.items _
           c.in-Err.ensures.switched core.back.state.next_table)) c.args.self.now.lent;
       known = c.args.self.now.known;
+      there = λ running. absurd cc;
     }
 
 pub returns-clause-files : goal.returns-clause-files

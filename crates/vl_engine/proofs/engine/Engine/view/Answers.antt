@@ -15,12 +15,14 @@ use Rattle.vl_model.specs.History.{last_number}
 use Rattle.vl_oracle.specs.LiveTickets.{LiveTickets}
 use Rattle.vl_seglog.specs.declared.active.ActiveLog.{ActiveLog}
 use Rattle.vl_version.specs.declared.version.Version.{Version}
+use Rattle.vl_engine.proofs.StillRemoved.{pins_here, removes_live, removes_same}
+use Rattle.vl_engine.specs.Removing.{Removes}
 use Rattle.vl_engine.proofs.engine.Engine.view.Goals as goal
 
 pub returns-in-Ok-begin-clause-decides : goal.returns-in-Ok-begin-clause-decides
 returns-in-Ok-begin-clause-decides g c h l is =
     let core = c.args.self.now.core in
-    let room = has_room core h l is (λ full. let refused = c.in-Ok-begin.ensures.too_many.1 full in cc) in
+    let room = has_room core h l is c.in-Ok-begin.ensures.room in
     decides_begun l h _ room _ _ (c.in-Ok-begin.ensures.ok.0 ∙ ticket_is core h l is)
     (c.last.ensures.last ∙ ap (λ (o : LiveTickets). o.last) c.in-Ok-begin.ensures.ok.1 ∙ is.front.last)
     (fronts_begun core h l is _ c.in-Ok-begin.ensures.log refl (c.in-Ok-begin.ensures.knows h (knows_of core h l is))
@@ -30,7 +32,7 @@ pub returns-in-Ok-begin-clause-stands : goal.returns-in-Ok-begin-clause-stands
 returns-in-Ok-begin-clause-stands g c h l is =
     let core = c.args.self.now.core in
     let f = is.fronts in
-    let room = has_room core h l f (λ full. let refused = c.in-Ok-begin.ensures.too_many.1 full in cc) in
+    let room = has_room core h l f c.in-Ok-begin.ensures.room in
     decides_begun l h _ room _ _ (c.in-Ok-begin.ensures.ok.0 ∙ ticket_is core h l f)
     (c.last.ensures.last ∙ ap (λ (o : LiveTickets). o.last) c.in-Ok-begin.ensures.ok.1 ∙ f.front.last)
     (stands_begun g.D.Held.HeldFile.bytes core _ h l is c.share.ensures.same
@@ -41,7 +43,7 @@ pub returns-in-Ok-begin-clause-represents : goal.returns-in-Ok-begin-clause-repr
 returns-in-Ok-begin-clause-represents g c h l is =
     let core = c.args.self.now.core in
     let f = is.stands.fronts in
-    let room = has_room core h l f (λ full. let refused = c.in-Ok-begin.ensures.too_many.1 full in cc) in
+    let room = has_room core h l f c.in-Ok-begin.ensures.room in
     decides_begun l h _ room _ _ (c.in-Ok-begin.ensures.ok.0 ∙ ticket_is core h l f)
     (c.last.ensures.last ∙ ap (λ (o : LiveTickets). o.last) c.in-Ok-begin.ensures.ok.1 ∙ f.front.last)
     (represents_live g.D.Held.HeldFile.bytes core _ h l refl _ _ refl
@@ -54,7 +56,7 @@ pub returns-in-Ok-begin-clause-fits : goal.returns-in-Ok-begin-clause-fits
 returns-in-Ok-begin-clause-fits g c h l is fits =
     let core = c.args.self.now.core in
     let f = is.fronts in
-    let room = has_room core h l f (λ full. let refused = c.in-Ok-begin.ensures.too_many.1 full in cc) in
+    let room = has_room core h l f c.in-Ok-begin.ensures.room in
     decides_begun l h _ room _ _ (c.in-Ok-begin.ensures.ok.0 ∙ ticket_is core h l f)
     (c.last.ensures.last ∙ ap (λ (o : LiveTickets). o.last) c.in-Ok-begin.ensures.ok.1 ∙ f.front.last)
     (fits_live core _ h l _ _ refl refl (begun l (free_ticket (tickets_of l.live)) (last_number h)).live fits)
@@ -77,7 +79,7 @@ pub returns-in-Err-clause-decides : goal.returns-in-Err-clause-decides
 returns-in-Err-clause-decides g c h l is =
     let core = c.args.self.now.core in
     decides_refused l h _ g.row.D-Held.Denot g.row.D-Reader.Denot c.in-Err.why
-    (λ many. is_full core h l is (c.in-Err.ensures.too_many.0 (cc)))
+    (λ many. is_full core h l is (c.in-Err.ensures.too_many (cc)))
     (subst (λ (f : Front). Fronts (record core { version = c.share.new.self; front = f }) h l) (sym c.in-Err.ensures.err)
     (subst (λ (v : Version g.row.D-Held.Denot). Fronts (record core { version = v }) h l) (sym c.share.ensures.same) is))
 
@@ -85,7 +87,7 @@ pub returns-in-Err-clause-stands : goal.returns-in-Err-clause-stands
 returns-in-Err-clause-stands g c h l is =
     let core = c.args.self.now.core in
     decides_refused l h _ g.row.D-Held.Denot g.row.D-Reader.Denot c.in-Err.why
-    (λ many. is_full core h l is.fronts (c.in-Err.ensures.too_many.0 (cc)))
+    (λ many. is_full core h l is.fronts (c.in-Err.ensures.too_many (cc)))
     (subst (λ (f : Front). StandsFor g.D.Held.HeldFile.bytes (record core { version = c.share.new.self; front = f }) h
     l) (sym c.in-Err.ensures.err)
     (subst (λ (v : Version g.row.D-Held.Denot). StandsFor g.D.Held.HeldFile.bytes (record core { version = v }) h l)
@@ -95,7 +97,7 @@ pub returns-in-Err-clause-represents : goal.returns-in-Err-clause-represents
 returns-in-Err-clause-represents g c h l is =
     let core = c.args.self.now.core in
     decides_refused l h _ g.row.D-Held.Denot g.row.D-Reader.Denot c.in-Err.why
-    (λ many. is_full core h l is.stands.fronts (c.in-Err.ensures.too_many.0 (cc)))
+    (λ many. is_full core h l is.stands.fronts (c.in-Err.ensures.too_many (cc)))
     (subst (λ (f : Front). Represents g.D.Held.HeldFile.bytes (record core { version = c.share.new.self; front = f })
     (g.D.Watched.told c.args.self.now.disk) h l)
     (sym c.in-Err.ensures.err)
@@ -107,7 +109,7 @@ pub returns-in-Err-clause-fits : goal.returns-in-Err-clause-fits
 returns-in-Err-clause-fits g c h l is fits =
     let core = c.args.self.now.core in
     decides_refused l h _ g.row.D-Held.Denot g.row.D-Reader.Denot c.in-Err.why
-    (λ many. is_full core h l is.fronts (c.in-Err.ensures.too_many.0 (cc)))
+    (λ many. is_full core h l is.fronts (c.in-Err.ensures.too_many (cc)))
     (fits_back core _ h l _ _ refl refl fits)
 
 pub invariant_of-self-2-clause-ready : goal.invariant_of-self-2-clause-ready
@@ -119,6 +121,25 @@ pub invariant_of-self-2-clause-known : goal.invariant_of-self-2-clause-known
 invariant_of-self-2-clause-known g c =
     let core = c.args.self.now.core in
     subst (λ (n : ℕ). are_known n c.share.new.self.active.entries ≡ true)
-    (sym (last_begun c.begin.result core.front c.begin.new.self c.begin.ensures.ok c.begin.ensures.err))
+    (sym (last_begun c.begin.result core.front c.begin.new.front c.begin.ensures.ok c.begin.ensures.err))
     (subst (λ (v : Version g.row.D-Held.Denot). are_known core.front.oracle.last v.active.entries ≡ true) (sym c.share.ensures.same)
     c.args.self.now.known)
+
+pub returns-in-Ok-begin-clause-removes : goal.returns-in-Ok-begin-clause-removes
+returns-in-Ok-begin-clause-removes g c low h l is removes =
+    let core = c.args.self.now.core in
+    let room = has_room core h l is c.in-Ok-begin.ensures.room in
+    decides_begun l h _ room _ _ (c.in-Ok-begin.ensures.ok.0 ∙ ticket_is core h l is)
+    (c.last.ensures.last ∙ ap (λ (o : LiveTickets). o.last) c.in-Ok-begin.ensures.ok.1 ∙ is.front.last)
+    (removes_live low core _ c.args.self.now.removing (record c.args.self.now.removing { pins = c.begin.new.pins }) l (begun l (free_ticket (tickets_of l.live)) (last_number h)).live
+    (ap (λ (v : Version g.row.D-Held.Denot). v.behind.logs.items) c.share.ensures.same) refl refl
+    (c.in-Ok-begin.ensures.pinned l (last_number h) (pins_here core h l is low c.args.self.now.removing removes)) removes)
+
+pub returns-in-Err-clause-removes : goal.returns-in-Err-clause-removes
+returns-in-Err-clause-removes g c low h l is removes =
+    let core = c.args.self.now.core in
+    decides_refused l h _ g.row.D-Held.Denot g.row.D-Reader.Denot c.in-Err.why
+    (λ many. is_full core h l is (c.in-Err.ensures.too_many (cc)))
+    (removes_same low core _ c.args.self.now.removing (record c.args.self.now.removing { pins = c.begin.new.pins }) l
+    (ap (λ (v : Version g.row.D-Held.Denot). v.behind.logs.items) c.share.ensures.same) refl refl
+    (c.in-Err.ensures.unpinned l (pins_here core h l is low c.args.self.now.removing removes)) removes)

@@ -1,4 +1,4 @@
-use Rattle.std.proofs.Common.{◌≡◌, ◌+◌, ◌-◌, ◌^◌, length, min, ℕ, ap, arith, sym, subst, ◌∙◌}
+use Rattle.std.proofs.Common.{refl, ◌≡◌, ◌+◌, ◌-◌, ◌^◌, length, min, ℕ, ap, arith, sym, subst, ◌∙◌}
 use Rattle.std.specs.Option.{ForSome}
 use Rattle.std.specs.Prelude.{Option, Some, true}
 use Rattle.vl_back.specs.declared.back.Back.{Back}
@@ -6,6 +6,10 @@ use Rattle.vl_disk.specs.DiskState.{DiskState}
 use Rattle.vl_disk.specs.declared.name.Name.TheVariants as names
 use Rattle.vl_engine.proofs.Fitting.{fit_still, fit_written}
 use Rattle.vl_engine.proofs.Lending.{leaves_then, still_lent}
+use Rattle.vl_engine.proofs.Filing.{same_files_handed}
+use Rattle.vl_engine.proofs.StillThere.{there_still, there_told}
+use Rattle.vl_engine.proofs.There.Kept.{same_stand}
+use Rattle.vl_engine.proofs.Untold.{untold_by}
 use Rattle.vl_engine.proofs.Written.{changed_by, hands_by, known_then, knows_alike, longer, stopped_by}
 use Rattle.vl_core.specs.Fit.{IsFitFor}
 use Rattle.vl_core.specs.Known.{are_known}
@@ -142,3 +146,43 @@ returns-clause-as_written g c =
         more = ap (λ (v : Version g.row.D-Held.Denot). v.active.entries) c.set_active.ensures ∙ staged.more;
       },
     )
+
+-- ---- which files can go
+
+pub invariant_of-self-clause-there : goal.invariant_of-self-clause-there
+invariant_of-self-clause-there g c running =
+    let before = c.args.self.now in
+    let same = c.in_default.ensures.same in
+    let back = ap (λ (b : Back). b.state.next_table) c.in_default.ensures.back in
+    there_told g.D.Watched g.D.Writer.Writer before.disk c.stage_commit.new.disk before.core c.stage_commit.new.core
+    before.merging before.merging before.removing.stock before.removing.stock
+    (ap (λ (v : Version g.row.D-Held.Denot). v.behind) c.in_default.ensures.version)
+    (ap (λ (log : ActiveLog). log.number) same.log.log) (omega (arith, back)) refl refl c.in_default.ensures.no_change.told
+    (c.in_default.ensures.lent before.core.back.state.next_table) (before.there (sym same.log.halted ∙ running))
+
+pub invariant_of-self-2-clause-there : goal.invariant_of-self-2-clause-there
+invariant_of-self-2-clause-there g c running =
+    let before = c.args.self.now in
+    let next = before.core.back.state.next_table in
+    let same = c.in-Ok.ensures.same in
+    let writes = c.args.txn.writes in
+    let number : c.stage_commit.new.core.front.log.number ≡ before.core.front.log.number
+      = ap (λ (log : ActiveLog). log.number) same.log.log in
+    let back = ap (λ (b : Back). b.state.next_table) c.in-Ok.ensures.back in
+    let hands = hands_by g.D.Watched before.core.front writes c.stage_commit.new.core.front.log.number c.in-Ok.staged.frame number
+    c.in-Ok.ensures.staged.frame before.disk c.stage_commit.new.disk c.append_durably.new.disk c.in-Ok.ensures.no_change
+    c.append_durably.ensures.time c.append_durably.ensures.tells in
+    there_still g.D.Watched g.D.Writer.Writer before.disk c.append_durably.new.disk before.core _
+    before.merging before.merging before.removing.stock before.removing.stock
+    (ap (λ (v : Version g.row.D-Held.Denot). v.behind) c.set_active.ensures
+    ∙ ap (λ (v : Version g.row.D-Held.Denot). v.behind) c.in-Ok.ensures.version)
+    (ap (λ (log : ActiveLog). log.number) c.committed.ensures.log.log ∙ c.append_durably.ensures.number ∙ number)
+    (omega (arith, back)) refl refl
+    (untold_by _ (g.D.Watched.told before.disk) (g.D.Watched.told c.stage_commit.new.disk) (g.D.Watched.told c.append_durably.new.disk)
+    c.in-Ok.ensures.no_change.told (rw c.in-Ok-append_durably.is at c.append_durably.ensures.written))
+    (same_stand (g.D.Watched.told before.disk) (g.D.Watched.told c.append_durably.new.disk)
+    (same_files_handed g.D.Watched before.disk c.append_durably.new.disk before.core before.core c.args.txn.ticket writes
+    (record { only_now = g.met.D.Disk.only_now; counts_now = g.met.D.Disk.counts_now }) hands))
+    (leaves_then g.D.Watched next before.disk c.stage_commit.new.disk c.append_durably.new.disk (c.in-Ok.ensures.lent next)
+    (c.append_durably.ensures.lent next))
+    (before.there (sym (c.committed.ensures.log.halted ∙ same.log.halted) ∙ running))

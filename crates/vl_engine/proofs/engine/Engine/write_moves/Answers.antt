@@ -7,7 +7,14 @@ use Rattle.vl_disk.specs.Disk.{Stands}
 use Rattle.vl_disk.specs.DiskState.{DiskState}
 use Rattle.vl_disk.specs.declared.name.Name.TheVariants as names
 use Rattle.vl_engine.proofs.Fitting.{fit_halted}
+use Rattle.vl_core.specs.Writing.{written}
+use Rattle.vl_engine.proofs.Filing.{files_written}
+use Rattle.vl_engine.proofs.KeptBy.{same_after, same_by}
 use Rattle.vl_engine.proofs.Lending.{leaves_then, still_lent}
+use Rattle.vl_engine.proofs.MoveRemoved.{lent_noted}
+use Rattle.vl_engine.proofs.StillThere.{there_still, there_told}
+use Rattle.vl_engine.proofs.There.Kept.{same_stand}
+use Rattle.vl_engine.proofs.Untold.{untold_by}
 use Rattle.vl_engine.proofs.RelocatingWritten.{fit_moved, lent_moved, move_changed, move_handed, move_longer, move_stopped, notes_then}
 use Rattle.vl_engine.proofs.RelocatingStaged.{staged_known}
 use Rattle.vl_model.specs.declared.entry.Entry.{Entry}
@@ -25,6 +32,9 @@ invariant_of-self g c =
       lent = still_lent g.D.Watched before.disk c.stage_move.new.disk next next before.merging (omega arith)
           (c.in_default.ensures.lent next) before.lent;
       known = before.known;
+      there = λ running. there_told g.D.Watched g.D.Writer.Writer before.disk c.stage_move.new.disk before.core before.core
+          before.merging before.merging before.removing.stock before.removing.stock refl refl (omega arith) refl refl
+          c.in_default.ensures.no_change.told (c.in_default.ensures.lent next) (before.there running);
     }
 
 pub invariant_of-self-in_default-append_durably : goal.invariant_of-self-in_default-append_durably
@@ -40,6 +50,7 @@ invariant_of-self-in_default-append_durably g c =
           (leaves_then g.D.Watched next before.disk c.stage_move.new.disk c.append_durably.new.disk (c.in-Ok.ensures.lent next)
           (c.append_durably.ensures.lent next)) before.lent;
       known = before.known;
+      there = λ running. absurd cc;
     }
 
 pub returns-in_default-append_durably-clause-as_written : goal.returns-in_default-append_durably-clause-as_written
@@ -74,6 +85,22 @@ invariant_of-self-2 g c =
       known = subst (λ (es : List Entry). are_known before.core.front.oracle.last es ≡ true)
           (sym (ap (λ (v : Version g.row.D-Held.Denot). v.active.entries) c.set_active.ensures ∙ c.in-Ok.ensures.staged.more))
           (staged_known before.core c.args.moved.now c.requires.may before.known);
+      there = λ running. there_still g.D.Watched g.D.Writer.Writer before.disk c.append_durably.new.disk before.core _
+          before.merging c.note_moves.new.merging before.removing.stock before.removing.stock
+          (ap (λ (v : Version g.row.D-Held.Denot). v.behind) c.set_active.ensures) c.append_durably.ensures.number (omega arith)
+          (lent_noted before.merging c.note_moves.new.merging c.in-Ok.staged.notes.items c.note_moves.ensures) refl
+          (untold_by _ (g.D.Watched.told before.disk) (g.D.Watched.told c.stage_move.new.disk)
+          (g.D.Watched.told c.append_durably.new.disk) c.in-Ok.ensures.no_change.told
+          (rw c.in-Ok-append_durably.is at c.append_durably.ensures.written))
+          (same_stand (g.D.Watched.told before.disk) (g.D.Watched.told c.append_durably.new.disk)
+          (same_after (g.D.Watched.told before.disk) (g.D.Watched.told c.stage_move.new.disk)
+          (g.D.Watched.told c.append_durably.new.disk) c.in-Ok.ensures.no_change.told
+          (same_by (written (names.Log before.core.front.log.number) c.in-Ok.staged.frame.frame.items)
+          (g.D.Watched.told c.stage_move.new.disk) (g.D.Watched.told c.append_durably.new.disk)
+          (files_written (names.Log before.core.front.log.number) c.in-Ok.staged.frame.frame.items)
+          (rw c.in-Ok-append_durably.is at c.append_durably.ensures.written))))
+          (leaves_then g.D.Watched next before.disk c.stage_move.new.disk c.append_durably.new.disk (c.in-Ok.ensures.lent next)
+          (c.append_durably.ensures.lent next)) (before.there running);
     }
 
 pub returns-clause-as_written : goal.returns-clause-as_written

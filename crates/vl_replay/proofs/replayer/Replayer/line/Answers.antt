@@ -19,6 +19,4 @@ returns-in-Ok-clause-after g c s stands = record {
 
 pub returns-in-Err-clause-carries : goal.returns-in-Err-clause-carries
 returns-in-Err-clause-carries g c running s stands =
-    subst (λ (d : _). CarriesOut {T = Answer} g.D.Watched IsStored Shown IsStopped c.args.self.now.served.engine.disk d
-    s (state_after s c.args.line) (Err c.in-Err.halt))
-    (sym c.give_up.ensures.disk) (c.in-Err.ensures.carries s stands)
+    c.in-Err.ensures.carries s stands

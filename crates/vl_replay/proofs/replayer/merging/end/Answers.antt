@@ -4,13 +4,14 @@ use Rattle.std.specs.Prelude.{Ok, Option}
 use Rattle.vl_compact.specs.Progress.{made_of}
 use Rattle.vl_core.specs.Represents as engine
 use Rattle.vl_core.specs.Shown.{Shown}
+use Rattle.vl_engine.specs.UnderWay.{IsUnderWay}
 use Rattle.vl_layout.specs.Jobs.{job_ended}
 use Rattle.vl_sequential.specs.Durable.{CarriesOut}
 use Rattle.vl_replay.specs.Handed.{CanHandIn}
 use Rattle.vl_replay.specs.Replaying.{Merges, state_by}
 use Rattle.vl_sequential.specs.Stored.{IsStopped, IsStored}
 use Rattle.vl_script.specs.declared.answer.Answer.TheVariants as answers
-use Rattle.vl_replay.proofs.Merges.Handing.{can_still}
+use Rattle.vl_replay.proofs.Merges.Handing.{can_still, under_way}
 use Rattle.vl_replay.proofs.Merges.Keeping.{drop_keeps_work, merges_kept}
 use Rattle.vl_sequential.specs.laws.Explained.{only_reader}
 use Rattle.vl_sequential.specs.laws.Growing.{drop_keeps}
@@ -31,6 +32,15 @@ returns-in-None-clause-makes g c s stands no_pass =
     c.end.ensures.makes s stands.serves
     (no_merge_named g.D.Writer.Writer g.D.Held.HeldFile.bytes c.args.planned.now s.store.things s.store.layout
     c.args.name stands.merges.waits other) no_pass
+
+pub abandon-requires : goal.abandon-requires
+abandon-requires g c =
+    let old = c.args.served.now.engine in
+    let (p, there, named, job, none) = took c.as_slice.result.now c.args.name c.as_slice.ensures c.args.planned.now
+    c.take_planned.new.planned c.take_planned.result c.in-Some.job
+    c.take_planned.ensures c.in-Some.is in
+    subst (λ (x : _). IsUnderWay g.D.Watched g.D.Writer.Writer old.disk old.core.front.halted old.merging x) (sym job)
+    (under_way g.D.Watched g.D.Writer.Writer old.disk old.core.front.halted old.merging p.job (c.requires p there))
 
 pub returns-in-Some-clause-makes : goal.returns-in-Some-clause-makes
 returns-in-Some-clause-makes g c s stands no_pass =

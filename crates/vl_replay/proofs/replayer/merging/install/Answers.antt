@@ -5,7 +5,7 @@ use Rattle.vl_engine.specs.Collecting.{Collects}
 use Rattle.vl_layout.specs.Store.Things.{Step}
 use Rattle.vl_sequential.specs.declared.fails.Halt.TheVariants as why
 use Rattle.vl_script.specs.declared.answer.Answer.TheVariants as answers
-use Rattle.vl_replay.proofs.Merges.Installing.{handed_so, line_carries, line_collects, line_makes, line_merges, line_named}
+use Rattle.vl_replay.proofs.Merges.Installing.{back_so, handed_so, line_carries, line_collects, line_makes, line_merges, line_named}
 use Rattle.vl_replay.proofs.Merges.Installing.{line_sound, no_merge, told_as, told_install, unknown_carries}
 use Rattle.vl_replay.proofs.Merges.Installing.{unknown_install, unknown_step, unplanned, was_planned}
 use Rattle.vl_replay.proofs.replayer.merging.install.Goals as goal
@@ -55,6 +55,15 @@ install-requires g c =
     handed_so g.D.Watched g.D.Writer.Writer c.args.served.now.engine.disk c.args.served.now.engine.core.front.halted
     c.args.served.now.engine.merging c.as_slice.result.now c.args.planned.now c.take_planned.new.planned c.in-Some.job
     (was_planned c.as_slice.result.now c.args.planned.now c.take_planned.new.planned c.in-Some.job c.in-Some.ensures) c.requires
+
+pub abandon-requires : goal.abandon-requires
+abandon-requires g c =
+    back_so g.D.Watched g.D.Writer.Writer c.args.served.now.engine.disk c.install.new.self.disk c.install.new.self.core.front.halted
+    c.args.served.now.engine.merging c.install.new.self.merging c.as_slice.result.now c.args.planned.now c.take_planned.new.planned
+    c.in-Some.job c.in-Err-NoMemory.job
+    (was_planned c.as_slice.result.now c.args.planned.now c.take_planned.new.planned c.in-Some.job c.in-Some.ensures) c.requires
+    (rw c.in-Err-NoMemory.field-0-is at c.in-Err-NoMemory.ensures.handed)
+    ((rw c.in-Err-NoMemory.field-0-is at c.in-Err-NoMemory.ensures.untouched) tt).told
 
 pub returns-in-Ok-clause-makes : goal.returns-in-Ok-clause-makes
 returns-in-Ok-clause-makes g c s stands =

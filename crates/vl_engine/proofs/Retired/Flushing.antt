@@ -1,0 +1,342 @@
+-- What a flush leaves of the files in use and of those that wait is what its ruling leaves.
+use Rattle.std.proofs.Common.{◌≡◌, ℕ, ◌+◌, ◌≤◌, ◌<◌, Bool, true, false, List, [], ◌∷◌, ◌++◌, length, map, cond, not}
+use Rattle.std.proofs.Common.{refl, ap, sym, ◌∙◌, subst, arith, append_assoc}
+use Rattle.std.specs.Prelude.{Option, None, Some, Result, Ok, Err}
+use Rattle.std.specs.Prelude.{◌==◌, ◌||◌}
+use Rattle.std.proofs.lemmas.Bool.Decides.{nat_tests}
+use Rattle.vl_back.specs.FlushEdits.{head_of}
+use Rattle.vl_core.specs.laws.FileLaws.{all_filtered}
+use Rattle.vl_core.specs.laws.WaitingLaws.{waits_first}
+use Rattle.vl_engine.proofs.Collected.{flush_by, flush_history}
+use Rattle.vl_engine.proofs.Leaving.{staged_head}
+use Rattle.vl_engine.proofs.Retired.Rotating.{same_head, short}
+use Rattle.vl_engine.specs.Collecting.{Collects, FlushesFor}
+use Rattle.vl_engine.specs.Flushing.{FlushesAs}
+use Rattle.vl_engine.specs.Retiring.{FlushesStock}
+use Rattle.vl_engine.specs.Stepping.{step_outcome}
+use Rattle.vl_engine.specs.declared.fails.StepFail.TheVariants as fails
+use Rattle.vl_engine.specs.declared.fails.StepFail.{StepFail}
+use Rattle.vl_engine.specs.declared.open.Collecting.{Collecting}
+use Rattle.vl_layout.specs.Decides.{Answered, Damaged, Decides, Effects, Failed, NoMemory, as_before}
+use Rattle.vl_layout.specs.Ruling.{StepAnswer, Stepped}
+use Rattle.vl_layout.specs.Rulings.Flush.{flush_ruling}
+use Rattle.vl_layout.specs.Sources.{number_or}
+use Rattle.vl_layout.specs.Start.{newest_first}
+use Rattle.vl_layout.specs.Stock.{IsFalling}
+use Rattle.vl_layout.specs.declared.file_name.FileName.TheVariants as files
+use Rattle.vl_layout_laws.specs.laws.Steps.{all_rising}
+use Rattle.vl_manifest.specs.declared.state.ManifestState.{ManifestState}
+use Rattle.vl_manifest.specs.declared.waiting.Waiting.{Waiting}
+use Rattle.vl_pins.specs.Files.{Has, retired_of}
+use Rattle.vl_recover.specs.opening.HeldFiles.{AreWaiting}
+use Rattle.std.specs.List.{AllByRecursion, filter, flat_map}
+use Rattle.std.specs.VecDeque.{deque_len, deque_capacity}
+use Rattle.vl_compact.specs.declared.files.Lent.{Lent}
+use Rattle.vl_core.specs.MayStep.{HasNumbers}
+use Rattle.vl_core.specs.Represents.{StandsFor}
+use Rattle.vl_core.specs.declared.kept.Core.{Core}
+use Rattle.vl_disk.specs.declared.watched.Watched.{Ghosts}
+use Rattle.vl_engine.proofs.Collected.{decides_too, head_is_laid}
+use Rattle.vl_engine.proofs.Retired.Kept.{halts_removes, opens_lent, same_pins, stays_removes}
+use Rattle.vl_engine.proofs.Retired.Laid.{Uses, aged_more, all_more, front_tables, is_stock, just_retired, switch_logs, switch_retired}
+use Rattle.vl_engine.proofs.Retired.Laid.{switch_tables, switch_waits, uses_first, used_waits}
+use Rattle.vl_engine.proofs.Retired.Changing.{map-both}
+use Rattle.vl_engine.proofs.Retired.Retiring.{all_weaker, gone_logs}
+use Rattle.vl_engine.specs.Collecting.{IsTallied, head_in}
+use Rattle.vl_engine.specs.Lent.{Opens}
+use Rattle.vl_engine.specs.Removing.{AreBelowHead, IsLogBelow, IsStockOf, Removes, all_retired, lent_in}
+use Rattle.vl_engine.specs.Retiring.{SwitchesStock, is_idle_in, is_idle_log, retiring, switching, used_in}
+use Rattle.vl_engine.specs.declared.open.OpenMerge.{OpenMerge}
+use Rattle.vl_engine.specs.declared.open.Removing.{Removing}
+use Rattle.vl_layout.specs.Jobs.{lent_numbers}
+use Rattle.vl_layout.specs.Ruling.{is_idle, retired_at, switched}
+use Rattle.vl_layout.specs.Rulings.Flush.{flushed, flushed_table}
+use Rattle.vl_layout.specs.Sources.{but_oldest, head, log_of, oldest, rising, tables}
+use Rattle.vl_layout.specs.Tidy.{log_numbers, sealed}
+use Rattle.vl_layout.specs.declared.file_name.FileName.{FileName}
+use Rattle.vl_layout.specs.declared.file_name.Retired.{Retired}
+use Rattle.vl_layout.specs.declared.layout.Layout.{Layout}
+use Rattle.vl_layout.specs.declared.segment.Segment.{Segment}
+use Rattle.vl_layout.specs.declared.table.Table as laid
+use Rattle.vl_layout_laws.specs.laws.Switches.{flushing}
+use Rattle.vl_layout_laws.specs.laws.TidyLogs.{sealed_same}
+use Rattle.vl_model.specs.History.{History}
+use Rattle.vl_model.specs.Numbers.{has}
+use Rattle.vl_pins.specs.Files.{Kept, with_tables}
+use Rattle.vl_pins.specs.Pins.{ArePinsOf}
+use Rattle.vl_stats.specs.Tallies.{IsOfLayout, IsTally, Tallied}
+use Rattle.vl_stats.specs.laws.TallyLaws.{falling_less}
+
+-- where it was done, a log waited
+pub flush_stepped : (l : Layout) (h : History) (n : ℕ) → (flush_ruling l h).answer ≡ Stepped n
+    → (o : Segment) × (oldest l.frozen ≡ Some o) × (l.halted ≡ None) × ((flush_ruling l h).layout ≡ flushed l o)
+flush_stepped l h n = flush_by l h (λ r. r.answer ≡ Stepped n
+    → (o : Segment) × (oldest l.frozen ≡ Some o) × (l.halted ≡ None) × (r.layout ≡ flushed l o))
+    (λ a no stepped. absurd (no n stepped)) (λ s runs at stepped. (s, at, runs, refl))
+
+-- ---- head
+
+none_oldest : (ss : List Segment) → oldest ss ≡ None → ss ≡ []
+none_oldest [] is = refl
+none_oldest (s ∷ ss) is = absurd (some s ss is)
+  where
+    some : (s : Segment) (ss : List Segment) → oldest (s ∷ ss) ≡ None → ⊥
+    some s [] is = let clash : Some s ≡ None = is in cc
+    some s (t ∷ ts) is = some t ts is
+
+-- the first log that waits is the oldest one
+head_waits : (covered : ℕ) (ws : List Waiting) (ss : List Segment) (a : Segment) (n : ℕ) → n ≡ a.number
+    → AreWaiting covered ws (newest_first ss) → head_of n ws ≡ number_or a (oldest ss)
+head_waits covered ws ss a n active are = by (oldest ss) refl
+  where
+    empty : (xs : List Waiting) → AreWaiting covered xs [] → head_of n xs ≡ a.number
+    empty [] is = active
+    empty (x ∷ xs) is = absurd is
+
+    first : (xs : List Waiting) (t : Segment) (ts : List Segment) → AreWaiting covered xs (t ∷ ts) → head_of n xs ≡ t.number
+    first [] t ts is = absurd is
+    first (x ∷ xs) t ts is = is.0
+
+    by : (o : Option Segment) → oldest ss ≡ o → head_of n ws ≡ number_or a o
+    by None at = empty ws (subst (λ xs. AreWaiting covered ws (newest_first xs)) (none_oldest ss at) are)
+    by (Some t) at = first ws t (newest_first (but_oldest ss)) (subst (AreWaiting covered ws) (waits_first ss t at) are)
+
+-- the oldest one is below the next
+oldest_below : (a : Segment) (ss : List Segment) (s : Segment) → oldest ss ≡ Some s → IsFalling (a ∷ ss)
+    → s.number < number_or a (oldest (but_oldest ss))
+oldest_below a [] s at falling = absurd (let clash : None ≡ Some s = at in cc)
+oldest_below a (t ∷ []) s at falling =
+    let e : t ≡ s = one t s at in subst (λ (x : Segment). x.number < a.number) e falling.0.0
+  where
+    one : (t s : Segment) → Some t ≡ Some s → t ≡ s
+    one t s e = cc
+oldest_below a (t ∷ u ∷ us) s at falling =
+    subst (λ n. s.number < n) (sym (same_head t a (but_oldest (u ∷ us)))) (oldest_below t (u ∷ us) s at falling.1)
+
+-- ---- numbers
+
+has_more : (n : ℕ) (ns ms : List ℕ) → has n ns ≡ true → has n (ns ++ ms) ≡ true
+has_more n [] ms is = absurd (let clash : false ≡ true = is in cc)
+has_more n (m ∷ ns) ms is = by (m == n) is (λ later. has_more n ns ms later)
+  where
+    by : (b : Bool) → (b || has n ns) ≡ true → (has n ns ≡ true → has n (ns ++ ms) ≡ true) → (b || has n (ns ++ ms)) ≡ true
+    by true is later = refl
+    by false is later = later is
+
+has_end : (n : ℕ) (ns : List ℕ) → has n (ns ++ n ∷ []) ≡ true
+has_end n [] = let same : (n == n) ≡ true = grind (arith, nat_tests) in ap (λ b. b || false) same
+has_end n (m ∷ ns) = ap (λ b. (m == n) || b) (has_end n ns) ∙ or_true (m == n)
+  where
+    or_true : (b : Bool) → (b || true) ≡ true
+    or_true true = refl
+    or_true false = refl
+
+-- ---- it was done
+
+module _ {H W : Type 0} {s : _} (bytes : H → Option (List ℕ)) (size : H → ℕ)
+    (sized : (held : H) (told : List ℕ) → bytes held ≡ Some told → length told ≡ size held) (before after : Core H)
+    (was now : Removing (Lent W s)) (merging : Option OpenMerge) (h : History) (l : Layout) (stands : StandsFor bytes before h l)
+    (opens : Opens merging l.job) (low : Bool) (removes : Removes low before was l) (pins : now.pins ≡ was.pins) where
+  module _ (o : Segment) (at : oldest l.frozen ≡ Some o) (running : l.halted ≡ None) (t : Tallied) (tally : IsTally t (flushed l o))
+      (after_stands : StandsFor bytes after h (flushed l o)) (n : ℕ) (n_is : n ≡ l.next_table)
+      (switches : SwitchesStock before after (n ∷ []) [] (Some t) was.stock now.stock (length (lent_in merging))) where
+    abbrev kept : Kept (Lent W s)
+    kept = used_in before was.stock
+
+    falls : IsFalling ((flushing l o).active ∷ (flushing l o).frozen)
+    falls = falling_less l.active l.frozen stands.tidy.files.stocked.falling
+
+    of : IsOfLayout t.live (head_in after) (flushed l o)
+    of = record { live_is = tally.live; head_is = head_is_laid bytes after h (flushed l o) after_stands }
+
+    uses : Uses kept l
+    uses = uses_first bytes before h l stands size sized was.stock.trash.items was.stock.in_use (removes.stock running).in_use
+
+    logs : kept.logs ≡ log_numbers (rising (sealed (flushing l o)))
+    logs = uses.logs ∙ ap (λ ss. log_numbers (rising ss)) (sym (sealed_same l o at))
+
+    version : before.back.version_number + 1 ≡ (flushing l o).version_number
+    version = ap (λ k. k + 1) stands.fronts.version
+
+    pub flushed_stock : IsStockOf after now.stock (flushed l o)
+    flushed_stock =
+        is_stock after now.stock (flushed l o)
+        (retiring (flushing l o).version_number (is_idle_log (head_in after) t.live) (with_tables (n ∷ []) kept))
+        (subst (λ v. Has now.stock (retiring v (is_idle_log (head_in after) t.live) (with_tables (n ∷ []) kept))) version
+        (switches.switched kept switches.is_ready.has))
+        (record {
+          tables = subst (λ ns. AllByRecursion (λ (x : laid.Table). has x.number ns ≡ true) (tables (flushed l o)))
+              (sym (switch_tables (flushing l o) [] falls t.live (head_in after) of (with_tables (n ∷ []) kept) logs))
+              (front_tables (λ (x : laid.Table). has x.number (kept.tables ++ n ∷ []) ≡ true) (flushed_table l o) l.levels
+              (subst (λ k. has k (kept.tables ++ n ∷ []) ≡ true) n_is (has_end n kept.tables))
+              (all_weaker (λ (x : laid.Table). has x.number kept.tables ≡ true)
+              (λ (x : laid.Table). has x.number (kept.tables ++ n ∷ []) ≡ true)
+              (λ x is. has_more x.number kept.tables (n ∷ []) is) (tables l) uses.tables));
+          logs = switch_logs (flushing l o) [] falls t.live (head_in after) of (with_tables (n ∷ []) kept) logs;
+        })
+        (ap (all_retired {L = Lent W s}) (switch_waits (flushing l o) [] falls t.live (head_in after) of (with_tables (n ∷ []) kept) logs)
+        ∙ map-both retired_of kept.trash
+        (gone_logs (flushing l o).version_number (log_numbers (rising (filter (is_idle (flushing l o)) (flushing l o).flushed))))
+        ∙ ap (λ (rs : List Retired). rs ++ all_retired {L = Lent W s}
+        (gone_logs (flushing l o).version_number (log_numbers (rising (filter (is_idle (flushing l o)) (flushing l o).flushed)))))
+        (ap (all_retired {L = Lent W s}) (used_waits before was.stock) ∙ (removes.stock running).trash)
+        ∙ ap (λ rs. l.retired ++ rs)
+        (switch_retired (flushing l o) [] falls t.live (head_in after) of (with_tables (n ∷ []) kept) logs))
+        (all_more (λ (r : Retired). r.version_number ≤ l.version_number + 1) l.retired
+        (map (retired_at (l.version_number + 1)) (map log_of (rising (filter (is_idle (flushing l o)) (flushing l o).flushed))))
+        (aged_more l.version_number (l.version_number + 1) (omega arith) l.retired (removes.stock running).aged)
+        (just_retired (l.version_number + 1) (map log_of (rising (filter (is_idle (flushing l o)) (flushing l o).flushed)))))
+        (let room = switches.room.trash in
+        let lent = ap length (opens_lent merging l.job opens) in
+        omega (arith, room, lent))
+
+    module _ (head_is : after.back.state.head ≡ head (flushed l o)) where
+      below_head : before.back.state.head ≤ head l → (k : ℕ) → k < before.back.state.head → k < after.back.state.head
+      below_head from k less =
+          let mine : head l ≡ o.number = ap (number_or l.active) at in
+          let up = oldest_below l.active l.frozen o at stands.tidy.files.stocked.falling in
+          omega (arith, from, less, mine, up, head_is)
+
+      flushed_below : AreBelowHead before l → AllByRecursion (λ (x : Segment). x.number < after.back.state.head) (flushing l o).flushed
+      flushed_below below = (
+        (let up = oldest_below l.active l.frozen o at stands.tidy.files.stocked.falling in omega (arith, up, head_is)),
+        all_weaker (λ (x : Segment). x.number < before.back.state.head) (λ (x : Segment). x.number < after.back.state.head)
+            (λ x less. below_head below.from x.number less) l.flushed below.flushed,
+      )
+
+      still_below : before.back.state.head ≤ head l → (f : FileName) → IsLogBelow before.back.state.head f → IsLogBelow after.back.state.head f
+      still_below from (files.Log k) is = below_head from k is
+      still_below from (files.Table k) is = tt
+      still_below from (files.Manifest k) is = absurd is
+
+      logs_below : (ss : List Segment) → AllByRecursion (λ (x : Segment). x.number < after.back.state.head) ss
+          → AllByRecursion (λ (r : Retired). IsLogBelow after.back.state.head r.file) (map (retired_at (l.version_number + 1)) (map log_of ss))
+      logs_below [] all = tt
+      logs_below (x ∷ ss) all = (all.0, logs_below ss all.1)
+
+      then_below : AreBelowHead before l → AreBelowHead after (flushed l o)
+      then_below below = record {
+        flushed = all_filtered (λ (x : Segment). x.number < after.back.state.head) (λ (x : Segment). not (is_idle (flushing l o) x))
+            (flushing l o).flushed (flushed_below below);
+        retired = all_more (λ (r : Retired). IsLogBelow after.back.state.head r.file) l.retired
+            (map (retired_at (l.version_number + 1)) (map log_of (rising (filter (is_idle (flushing l o)) (flushing l o).flushed))))
+            (all_weaker (λ (r : Retired). IsLogBelow before.back.state.head r.file) (λ (r : Retired). IsLogBelow after.back.state.head r.file)
+            (λ r is. still_below below.from r.file is) l.retired below.retired)
+            (logs_below (rising (filter (is_idle (flushing l o)) (flushing l o).flushed))
+            (all_rising (λ (x : Segment). x.number < after.back.state.head) (filter (is_idle (flushing l o)) (flushing l o).flushed)
+            (all_filtered (λ (x : Segment). x.number < after.back.state.head) (is_idle (flushing l o)) (flushing l o).flushed
+            (flushed_below below))));
+        from = (let e = head_is in omega (arith, e));
+      }
+
+      pub flushed_removes : Removes low after now (flushed l o)
+      flushed_removes = record {
+        pins = next (same_pins was now l pins removes.pins);
+        stock = λ runs. flushed_stock;
+        below = λ found runs. then_below (removes.below found running);
+      }
+        where
+          next : ArePinsOf now.pins l → ArePinsOf now.pins (flushed l o)
+          next are = record { live = are.live; merge = are.merge; pass = are.pass; last = (let up = are.last in omega (arith, up)) }
+
+  -- whatever is left of the tally
+  tallied_some : (kept : Option Tallied) (x : Layout) → IsTallied kept x → (t : Tallied) × (kept ≡ Some t) × IsTally t x
+  tallied_some None x is = absurd is
+  tallied_some (Some t) x is = (t, refl, is)
+
+  module _ {D : Type 0} (g : Ghosts D) (old new : D) (before_collecting now_collecting : Collecting)
+      (collects : Collects before before_collecting l) (numbers : l.halted ≡ None → HasNumbers before.back l) (effects : Effects) where
+    abbrev So : History → Layout → Type 0
+    So k x = Removes low after now x
+
+    pub flush_removes : (result : Result (Option ℕ) StepFail) → FlushesAs g bytes old new before after result
+        → FlushesFor bytes before before_collecting now_collecting after result
+        → FlushesStock before after was.stock now.stock now_collecting.tally (length (lent_in merging)) result
+        → Decides (StandsFor bytes after) h l (flush_ruling l h) (as_before l l) (step_outcome result) effects
+        → Decides So h l (flush_ruling l h) (as_before l l) (step_outcome result) effects
+    flush_removes (Ok (Some n)) did flushes switches is =
+        decides_too (StandsFor bytes after) So h l (flush_ruling l h) (as_before l l) (Answered (Stepped n)) effects is
+        (λ a same answer. done a same answer)
+        (λ same. absurd (none n same)) (λ name same. absurd (no_fail n name same))
+        (λ name place same. absurd (no_damage n name place same))
+      where
+        one : (n : ℕ) (a : StepAnswer) → Answered (Stepped n) ≡ Answered a → Stepped n ≡ a
+        one n a e = cc
+
+        same_number : (n m : ℕ) → Stepped n ≡ Stepped m → n ≡ m
+        same_number n m e = cc
+
+        none : (n : ℕ) → Answered (Stepped n) ≡ NoMemory → ⊥
+        none n e = cc
+
+        no_fail : (n : ℕ) (name : FileName) → Answered (Stepped n) ≡ Failed name → ⊥
+        no_fail n name e = cc
+
+        no_damage : (n : ℕ) (name : FileName) (place : ℕ) → Answered (Stepped n) ≡ Damaged name place → ⊥
+        no_damage n name place e = cc
+
+        after_it : (flush_ruling l h).answer ≡ Stepped n → StandsFor bytes after h (flush_ruling l h).layout
+        after_it answer = subst (λ (k : History). StandsFor bytes after k (flush_ruling l h).layout) (flush_history l h)
+            (is.answered (Stepped n) refl).1
+
+        by_tally : (x : Layout) (o : Segment) → x ≡ flushed l o → oldest l.frozen ≡ Some o → l.halted ≡ None
+            → StandsFor bytes after h x → IsTallied now_collecting.tally x → Removes low after now x
+        by_tally x o same at running after_is tallied =
+            let (t, some, tally) = tallied_some now_collecting.tally x tallied in
+            subst (λ (y : Layout). Removes low after now y) (sym same)
+            (flushed_removes o at running t (subst (IsTally t) same tally) (subst (StandsFor bytes after h) same after_is) n
+            (did.0 ∙ (numbers running).next_table)
+            (subst (λ (k : Option Tallied). SwitchesStock before after (n ∷ []) [] k was.stock now.stock (length (lent_in merging))) some
+            switches)
+            (ap (λ (m : ManifestState). m.head) did.1.back.state ∙ flush_head o at running))
+          where
+            flush_head : (o : Segment) → oldest l.frozen ≡ Some o → l.halted ≡ None → did.1.staged.state.head ≡ head (flushed l o)
+            flush_head o at running = by before.back.waiting.items refl
+                (subst (AreWaiting l.covered before.back.waiting.items) (waits_first l.frozen o at) (numbers running).waiting)
+              where
+                by : (ws : List Waiting) → before.back.waiting.items ≡ ws
+                    → AreWaiting l.covered ws (o ∷ newest_first (but_oldest l.frozen)) → did.1.staged.state.head ≡ head (flushed l o)
+                by [] are waits = absurd waits
+                by (w ∷ ws) are waits =
+                    staged_head before.back before.front.log.number did.1.staged.state w ws are did.1.of.is.says
+                    ∙ head_waits w.covered ws (but_oldest l.frozen) l.active before.front.log.number stands.fronts.number waits.2
+
+        done : (a : StepAnswer) → Answered (Stepped n) ≡ Answered a → (flush_ruling l h).answer ≡ a
+            → Removes low after now (flush_ruling l h).layout
+        done a same answer =
+            let stepped = answer ∙ sym (one n a same) in
+            let (o, at, running, layout) = flush_stepped l h n stepped in
+            by_tally (flush_ruling l h).layout o layout at running (after_it stepped)
+            (flushes.tallied h l n stands collects.tally stepped (after_it stepped))
+    flush_removes (Ok None) did flushes switches is = absurd did
+    flush_removes (Err (fails.Halted name)) did flushes switches is = absurd did
+    flush_removes (Err (fails.Exhausted counter)) did flushes switches is = absurd did
+    flush_removes (Err fails.NoMemory) did flushes switches is =
+        decides_too (StandsFor bytes after) So h l (flush_ruling l h) (as_before l l) short effects is
+        (λ a same answer. absurd (none a same))
+        (λ same. stays_removes bytes size sized before after h l stands low was now
+        (ap (λ (c : Core H). c.version.behind.logs.items) did.0) (ap (λ (c : Core H). c.back.state.head) did.0) switches pins removes)
+        (λ name same. absurd (no_fail name same)) (λ name place same. absurd (no_damage name place same))
+      where
+        none : (a : StepAnswer) → short ≡ Answered a → ⊥
+        none a e = cc
+
+        no_fail : (name : FileName) → short ≡ Failed name → ⊥
+        no_fail name e = cc
+
+        no_damage : (name : FileName) (place : ℕ) → short ≡ Damaged name place → ⊥
+        no_damage name place e = cc
+    flush_removes (Err (fails.Disk at)) did flushes switches is =
+        decides_too (StandsFor bytes after) So h l (flush_ruling l h) (as_before l l) (step_outcome (Err (fails.Disk at))) effects is
+        (λ a same answer. absurd (none at a same)) (λ same. absurd (no_memory at same))
+        (λ name same. halts_removes after low now l name (same_pins was now l pins removes.pins))
+        (λ name place same. absurd (no_damage at name place same))
+      where
+        none : (at : _) (a : StepAnswer) → step_outcome (Err (fails.Disk at)) ≡ Answered a → ⊥
+        none at a e = cc
+
+        no_memory : (at : _) → step_outcome (Err (fails.Disk at)) ≡ NoMemory → ⊥
+        no_memory at e = cc
+
+        no_damage : (at : _) (name : FileName) (place : ℕ) → step_outcome (Err (fails.Disk at)) ≡ Damaged name place → ⊥
+        no_damage at name place e = cc

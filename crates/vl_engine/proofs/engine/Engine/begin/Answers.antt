@@ -1,0 +1,14 @@
+use Rattle.std.proofs.Common.{subst}
+use Rattle.vl_engine.proofs.Beginning.{refused_so}
+use Rattle.vl_engine.specs.Removing.{Removes}
+use Rattle.vl_layout.specs.Decides.{Decides, Outcome, as_before, no_effects}
+use Rattle.vl_layout.specs.Rulings.Begin.{BeginAnswer, begin_ruling}
+use Rattle.vl_layout.specs.declared.layout.Layout.{Layout}
+use Rattle.vl_engine.proofs.engine.Engine.begin.Goals as goal
+
+pub returns-in_err-alloc-clause-removes : goal.returns-in_err-alloc-clause-removes
+returns-in_err-alloc-clause-removes g c low h l is removes =
+    subst (λ (o : Outcome BeginAnswer). Decides (λ _ (k : Layout). Removes low c.view.new.self.core c.view.new.self.removing k) h l
+    (begin_ruling l h) (as_before l l) o no_effects)
+    (refused_so c.from_residual.result c.in_err-alloc.field-0.0 c.from_residual.ensures.1)
+    (c.in_err-alloc.ensures.removes low h l is removes)

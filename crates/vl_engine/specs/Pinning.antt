@@ -1,0 +1,57 @@
+-- What is pinned while a call goes on.
+use Rattle.std.specs.Prelude.{◌≡◌, ℕ, Option, None, Some, Result, Ok, Err}
+use Rattle.vl_engine.specs.declared.engine.Done.{Done}
+use Rattle.vl_engine.specs.declared.fails.CommitFail.{CommitFail}
+use Rattle.vl_engine.specs.declared.fails.CommitFail.TheVariants as fails
+use Rattle.vl_engine.specs.declared.fails.PickFail.{PickFail}
+use Rattle.vl_engine.specs.declared.open.Removing.{Removing}
+use Rattle.vl_layout.specs.Rising.{IsRising}
+use Rattle.vl_layout.specs.Tickets.{tickets_of}
+use Rattle.vl_layout.specs.declared.layout.Layout.{Layout}
+use Rattle.vl_layout.specs.declared.live.Live.{Live}
+use Rattle.vl_oracle.specs.LiveTickets.{LiveTickets, ended}
+use Rattle.vl_pins.specs.Pins.{ArePinsOf}
+use Rattle.vl_pins.specs.declared.pins.Pins.{Pins}
+
+-- What lives is the layout's, and so are the pins; this is its version number.
+pub record PinsLive (live : LiveTickets) (pins : Pins) (version : ℕ) (l : Layout) : Type 0 where
+  pub live_are : live.tickets ≡ tickets_of l.live
+  pub rising : IsRising (λ (x : Live). x.ticket) l.live
+  pub pins_are : ArePinsOf pins l
+  pub version_is : version ≡ l.version_number
+
+abbrev pub without_pin : Option ℕ → Pins → Pins
+without_pin None pins = pins
+without_pin (Some ticket) pins = record pins { live = ended ticket pins.live }
+
+module _ {L : Type 0} where
+  -- what has this ticket pins nothing then
+  abbrev pub unpinned : ℕ → Removing L → Removing L
+  unpinned ticket kept = record kept { pins = record kept.pins { live = ended ticket kept.pins.live } }
+
+  -- so the open merge, or the open pass, pins this number, or none
+  abbrev pub merge_pinned : Option ℕ → Removing L → Removing L
+  merge_pinned version kept = record kept { pins = record kept.pins { merge = version } }
+
+  abbrev pub pass_pinned : Option ℕ → Removing L → Removing L
+  pass_pinned version kept = record kept { pins = record kept.pins { pass = version } }
+
+  -- a commit that isn't handed back ended its transaction
+  abbrev pub UnpinsAs : {H R : Type 0} → ℕ → (old new : Removing L) → Result Done (CommitFail H R) → Type 0
+  UnpinsAs ticket old new (Ok done) = new ≡ unpinned ticket old
+  UnpinsAs ticket old new (Err (fails.Halted name)) = new ≡ unpinned ticket old
+  UnpinsAs ticket old new (Err (fails.Exhausted txn)) = new ≡ old
+  UnpinsAs ticket old new (Err (fails.Conflict key number)) = new ≡ unpinned ticket old
+  UnpinsAs ticket old new (Err (fails.Full txn length frame)) = new ≡ old
+  UnpinsAs ticket old new (Err (fails.NoMemory txn)) = new ≡ old
+  UnpinsAs ticket old new (Err (fails.Disk name)) = new ≡ unpinned ticket old
+
+  -- where a merge began, or a pass
+  abbrev pub PinsMerge : {J E : Type 0} → ℕ → (old new : Removing L) → Result (Option J) E → Type 0
+  PinsMerge version old new (Ok None) = new ≡ old
+  PinsMerge version old new (Ok (Some job)) = new ≡ merge_pinned (Some version) old
+  PinsMerge version old new (Err why) = new ≡ old
+
+  abbrev pub PinsPass : {P : Type 0} → ℕ → (old new : Removing L) → Result P PickFail → Type 0
+  PinsPass version old new (Ok pass) = new ≡ pass_pinned (Some version) old
+  PinsPass version old new (Err why) = new ≡ old

@@ -1,0 +1,169 @@
+-- What a sweep does, whatever the engine stands for: to the disk, and to the files that wait.
+use Rattle.std.specs.Prelude.{◌≡◌, ◌≢◌, ◌⊎◌, ℕ, not, List, [], ◌∷◌, ◌++◌, ◌+◌, ◌-◌, length, map, min, Option, None, Some, Result, Ok, Err}
+use Rattle.std.specs.List.{AllByRecursion, filter}
+use Rattle.std.specs.Option.{ForSome}
+use Rattle.std.specs.VecDeque.{deque_capacity}
+use Rattle.vl_back.specs.Writing.{IsKept}
+use Rattle.vl_compact.specs.declared.files.Lent.{Lent}
+use Rattle.vl_core.specs.Carries.{Carries}
+use Rattle.vl_core.specs.Represents.{file_of}
+use Rattle.vl_core.specs.declared.kept.Core.{Core}
+use Rattle.vl_disk.specs.Calls.{ChangesNothing, Removes as RemovesFile}
+use Rattle.vl_disk.specs.Disk.{IsFree}
+use Rattle.vl_disk.specs.DiskState.{DiskState}
+use Rattle.vl_disk.specs.Faults.{after_calls}
+use Rattle.vl_disk.specs.Lending.{Adopts}
+use Rattle.vl_disk.specs.declared.errors.Failed.{Failed}
+use Rattle.vl_disk.specs.declared.name.Name.{Name}
+use Rattle.vl_disk.specs.declared.watched.Watched.{Ghosts}
+use Rattle.vl_disk.specs.declared.writer.Writer.{Ghosts as Writers}
+use Rattle.vl_engine.specs.declared.fails.SweepFail.TheVariants as fails
+use Rattle.vl_engine.specs.declared.fails.SweepFail.{SweepFail}
+use Rattle.vl_engine.specs.declared.open.Removing.{Removing}
+use Rattle.vl_layout.specs.Decides.{Answered, Decides, Effects, Failed as FailedAt, Otherwise, Outcome, as_before, no_effects}
+use Rattle.vl_layout.specs.Rulings.Sweep.{Halted, Removed, SweepAnswer, sweep_lost, sweep_unless}
+use Rattle.vl_layout.specs.declared.file_name.FileName.{FileName}
+use Rattle.vl_layout.specs.declared.layout.Layout.{Layout}
+use Rattle.vl_model.specs.History.{History}
+use Rattle.vl_pins.specs.Files.{is_up_to}
+use Rattle.vl_pins.specs.Pins.{bound_of, raised}
+use Rattle.vl_pins.specs.declared.pins.Pins.{Pins}
+use Rattle.vl_pins.specs.declared.retired_file.RetiredFile.{RetiredFile}
+
+-- ---- which files go
+
+-- What was retired up to this number is held by nothing: no pin is below it, nor what others may still look at.
+abbrev pub up_to : Option ℕ → ℕ → Pins → ℕ
+up_to None version pins = bound_of version pins
+up_to (Some least) version pins = min least (bound_of version pins)
+
+module _ {L : Type 0} where
+  abbrev pub ready : ℕ → List (RetiredFile L) → List (RetiredFile L)
+  ready bound trash = filter (is_up_to bound) trash
+
+  abbrev pub held : ℕ → List (RetiredFile L) → List (RetiredFile L)
+  held bound trash = filter (λ (file : RetiredFile L). not (is_up_to bound file)) trash
+
+  abbrev pub names_of : List (RetiredFile L) → List Name
+  names_of files = map (λ (file : RetiredFile L). file.name) files
+
+-- Nothing else is pinned.
+pub record PinsStay (version : ℕ) (old new : Pins) : Type 0 where
+  pub live : new.live ≡ old.live ⊎ (new.live ≡ raised version old.live)
+  pub merge : new.merge ≡ old.merge
+  pub pass : new.pass ≡ old.pass
+
+-- ---- to the disk
+
+module _ {D W : Type 0} (g : Ghosts D) (w : Writers W) where
+  -- a file that was lent is taken back first
+  abbrev pub TakesIfLent : {s : _} → Option (Lent W s) → Name → (old new : D) → Type 0
+  TakesIfLent None name old new = new ≡ old
+  TakesIfLent (Some file) name old new = Adopts g name (w.file file.writer) old new
+
+  -- a file goes, or the disk fails at that
+  pub record RemovesOne {s : _} (file : RetiredFile (Lent W s)) (old new : D) (result : Result (Unit {0}) Failed) : Type 0 where
+    pub mid : D
+    pub takes : TakesIfLent file.lent file.name old mid
+    pub removes : RemovesFile g file.name mid new result
+
+  -- so it is with what is answered, which names the file at which the disk failed
+  abbrev pub RemovesFor : {s : _} → RetiredFile (Lent W s) → (old new : D) → Result (Unit {0}) Name → Type 0
+  RemovesFor file old new (Ok done) = RemovesOne file old new (Ok tt)
+  RemovesFor file old new (Err name) = (name ≡ file.name) × (failed : Failed) × RemovesOne file old new (Err failed)
+
+  -- these go, one by one
+  abbrev pub RemovesAll : {s : _} → List (RetiredFile (Lent W s)) → (old new : D) → Type 0
+  RemovesAll [] old new = new ≡ old
+  RemovesAll (file ∷ files) old new = (mid : D) × RemovesOne file old mid (Ok tt) × RemovesAll files mid new
+
+  -- The first of these went, one by one, and it failed at the next.
+  pub record StopsRemoving {s : _} (files : List (RetiredFile (Lent W s))) (old new : D) (name : Name) : Type 0 where
+    pub before : List (RetiredFile (Lent W s))
+    pub at : RetiredFile (Lent W s)
+    pub behind : List (RetiredFile (Lent W s))
+    pub files_are : files ≡ before ++ at ∷ behind
+    pub name_is : name ≡ at.name
+    pub mid : D
+    pub went : RemovesAll before old mid
+    pub failed : Failed
+    pub stops : RemovesOne at mid new (Err failed)
+
+-- No file comes or goes but these.
+abbrev pub KeepsAllBut : List Name → (old new : Option DiskState) → Type 0
+KeepsAllBut names old new = (before now : DiskState) → old ≡ Some before → new ≡ Some now → (name : Name)
+    → AllByRecursion (λ (other : Name). name ≢ other) names → IsKept name before now
+
+-- none of these stands
+abbrev pub AreFree : List Name → DiskState → Type 0
+AreFree names disk = AllByRecursion (λ (name : Name). IsFree name disk) names
+
+-- ---- what it came to
+
+-- The files that were ready went, one by one, and the others wait. Nothing else of what is kept changes.
+pub record HasSwept {D W : Type 0} (g : Ghosts D) (w : Writers W) {s : _} (bound version : ℕ) (old new : D)
+    (before after : Removing (Lent W s)) (count : ℕ) : Type 0 where
+  pub counted : count ≡ length (ready bound before.stock.trash.items)
+  pub removes : RemovesAll g w (ready bound before.stock.trash.items) old new
+  pub waiting : after.stock.trash.items ≡ held bound before.stock.trash.items
+  pub in_use : after.stock.in_use ≡ before.stock.in_use
+  pub capacity : deque_capacity after.stock.trash ≡ deque_capacity before.stock.trash
+  pub pins : PinsStay version before.pins after.pins
+
+-- so it is with what a sweep answers: a halted engine does nothing, and a fault halts
+abbrev pub SweepsAs : {D H W : Type 0} → Ghosts D → Writers W → {s : _} → (bound : ℕ) → (old new : D) → (core after : Core H)
+    → (before now : Removing (Lent W s)) → Result ℕ SweepFail → Type 0
+SweepsAs g w bound old new core after before now (Ok count) = (core.front.halted ≡ None) × (after ≡ core)
+    × HasSwept g w bound core.back.version_number old new before now count
+SweepsAs g w bound old new core after before now (Err (fails.Halted name)) =
+    (core.front.halted ≡ Some name) × (after ≡ core) × (new ≡ old) × (now ≡ before)
+SweepsAs g w bound old new core after before now (Err (fails.Disk name)) = (core.front.halted ≡ None)
+    × (after ≡ record core { front = record core.front { halted = Some name } })
+    × StopsRemoving g w (ready bound before.stock.trash.items) old new name
+    × PinsStay core.back.version_number before.pins now.pins
+
+-- ---- as the ruling has it
+
+abbrev pub sweep_outcome : Result ℕ SweepFail → Outcome SweepAnswer
+sweep_outcome (Ok count) = Answered (Removed count)
+sweep_outcome (Err (fails.Halted name)) = Answered (Halted (file_of name))
+sweep_outcome (Err (fails.Disk name)) = FailedAt (file_of name)
+
+-- one call changes a file, for each that went
+abbrev pub sweep_effects : {L : Type 0} → ℕ → List (RetiredFile L) → Result ℕ SweepFail → Effects
+sweep_effects {L} bound trash (Ok count) =
+    record { calls = count; gone = map (λ (file : RetiredFile L). file_of file.name) (ready bound trash) }
+sweep_effects bound trash (Err why) = no_effects
+
+-- How many have gone where it fails: the one at which it failed doesn't wait any more either.
+abbrev pub gone_before : {L : Type 0} → (old new : Removing L) → ℕ
+gone_before old new = length old.stock.trash.items - (length new.stock.trash.items + 1)
+
+-- where it fails so many of the files have gone, the earliest retired first
+abbrev pub sweep_otherwise : Option ℕ → Layout → ℕ → Otherwise
+sweep_otherwise least l count = as_before l (sweep_lost least l count)
+
+-- the disk failed
+abbrev pub SweepFailed : Result ℕ SweepFail → Type 0
+SweepFailed (Ok count) = ⊥
+SweepFailed (Err (fails.Halted name)) = ⊥
+SweepFailed (Err (fails.Disk name)) = Unit {0}
+
+-- nothing was removed
+abbrev pub SweepLeavesDisk : Result ℕ SweepFail → Type 0
+SweepLeavesDisk (Ok count) = count ≡ 0
+SweepLeavesDisk (Err (fails.Halted name)) = Unit {0}
+SweepLeavesDisk (Err (fails.Disk name)) = ⊥
+
+-- A sweep comes to what the ruling says, where so many files have gone if it failed.
+abbrev pub SweepsFor : {L : Type 0} → (History → Layout → Type 0) → History → Layout → Option ℕ → (bound : ℕ) → (old new : Removing L)
+    → Result ℕ SweepFail → Type 0
+SweepsFor stands h l least bound old new result = Decides stands h l (sweep_unless l.halted least l h)
+    (sweep_otherwise least l (gone_before old new)) (sweep_outcome result) (sweep_effects bound old.stock.trash.items result)
+
+-- So it does over a disk that holds the layout.
+abbrev pub SweepCarries : {D H L : Type 0} → Ghosts D → (H → Option (List ℕ)) → (old new : D) → Core H → History → Layout
+    → Option ℕ → (bound : ℕ) → (before now : Removing L) → Result ℕ SweepFail → Type 0
+SweepCarries g bytes old new core h l least bound before now result = Carries g bytes old new core h l
+    (sweep_unless l.halted least l h) (sweep_otherwise least l (gone_before before now)) (sweep_outcome result)
+    (sweep_effects bound before.stock.trash.items result)

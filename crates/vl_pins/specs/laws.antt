@@ -1,0 +1,2 @@
+-- Laws of pins, which proofs in other crates cite.
+pub mod PinLaws

@@ -1,0 +1,30 @@
+// Laws of pins: each is the contract of a function that does nothing.
+ghost use Rattle.std.specs.Prelude.{◌≡◌, ◌≤◌, ℕ, nat_le, not};
+ghost use Rattle.vl_layout.specs.Rising.{IsRising};
+ghost use Rattle.vl_layout.specs.Ruling.{ended};
+ghost use Rattle.vl_layout.specs.Rulings.Begin.{begun};
+ghost use Rattle.vl_layout.specs.Rulings.Sweep.{is_held, pins as pins_of};
+ghost use Rattle.vl_layout.specs.Tickets.{free_ticket, tickets_of};
+ghost use Rattle.vl_layout.specs.declared.file_name.Retired.{Retired};
+ghost use Rattle.vl_layout.specs.declared.layout.Layout.{Layout};
+ghost use Rattle.vl_oracle.specs.LiveTickets as oracle;
+ghost use Rattle.vl_pins.specs.Pins.{ArePinsOf, bound_of, raised};
+ghost use Rattle.vl_pins.specs.declared.pins.Pins.{Pins};
+
+/// A pin holds a retired file exactly where the bound is below the version number that its retirement made.
+pub fn the_bound_tells_what_is_held()
+    ensures { (pins : Pins) (l : Layout) (r : Retired) → ArePinsOf pins l → r.version_number ≤ l.version_number
+        → not (is_held (pins_of l) r) ≡ nat_le r.version_number (bound_of l.version_number pins) }
+{}
+
+/// What begins and ends is pinned as the layout has it.
+pub fn pins_are_those_of_what_lives()
+    ensures begun { (pins : Pins) (l : Layout) (number : ℕ) → ArePinsOf pins l → IsRising (λ x. x.ticket) l.live
+        → ArePinsOf (record pins { live = oracle.begun (raised l.version_number pins.live) })
+        (begun l (free_ticket (tickets_of l.live)) number) }
+    ensures ended { (pins : Pins) (l : Layout) (ticket : ℕ) → ArePinsOf pins l
+        → ArePinsOf (record pins { live = oracle.ended ticket pins.live }) (ended ticket l) }
+    ensures neither { (pins : Pins) (l : Layout) → ArePinsOf pins l → IsRising (λ x. x.ticket) l.live
+        → ArePinsOf (record pins { live = oracle.ended (oracle.free_ticket pins.live)
+        (oracle.begun (raised l.version_number pins.live)) }) l }
+{}
