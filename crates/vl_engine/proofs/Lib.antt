@@ -15,6 +15,7 @@ pub mod FlushSteps
 pub mod Flushed
 mod Footers
 pub mod HandedIn
+mod InputNumbers
 pub mod InstallDisk
 pub mod InstallDiskLeaves
 pub mod InstallDiskStaged
@@ -28,9 +29,11 @@ mod KeepRemoved
 pub mod KeepSteps
 pub mod KeptBy
 pub mod Leaving
+pub mod LeftRemoved
 pub mod Lending
 pub mod LendsNew
 mod MoveRemoved
+mod OpenedThere
 mod PassLaws
 mod Picking
 mod Pinned
@@ -56,8 +59,8 @@ mod StartRemoved
 pub mod Stepped
 mod StillRemoved
 mod StillThere
-mod Switching
 pub mod Sweeps
+mod Switching
 pub mod TakenFiles
 pub mod Taking
 mod TallyBegun

@@ -1,14 +1,15 @@
 -- What is pinned is what the layout has, where something begins, is refused, and ends.
-use Rattle.std.specs.Prelude.{◌≡◌, ℕ, length, Some}
+use Rattle.std.specs.Prelude.{◌≡◌, ℕ, length, IsErrAnd, Some, Result, Ok, Err}
 use Rattle.std.proofs.Common.{sym, ap, subst, ◌∙◌}
 use Rattle.std.proofs.lemmas.List.{length-map}
-use Rattle.vl_engine.specs.Pinning.{PinsLive, without_pin}
+use Rattle.vl_engine.specs.Pinning.{PinsAs, PinsLive, without_pin}
 use Rattle.vl_layout.specs.Rulings.Begin.{begun as begun_there}
 use Rattle.vl_layout.specs.Tickets as tickets
 use Rattle.vl_layout.specs.Tickets.{tickets_of}
 use Rattle.vl_layout.specs.declared.layout.Layout.{Layout}
 use Rattle.vl_layout.specs.declared.live.Live.{Live}
 use Rattle.vl_oracle.specs.LiveTickets.{LiveTickets, begun, ended, free_ticket}
+use Rattle.vl_oracle.specs.declared.begin_fail.BeginFail.{BeginFail}
 use Rattle.vl_pins.specs.Pins.{ArePinsOf, raised}
 use Rattle.vl_pins.specs.declared.pins.Pins.{Pins}
 use Rattle.vl_pins.specs.laws.PinLaws.{pins_begun, pins_begun_ended, pins_raised}
@@ -44,3 +45,9 @@ module _ (live : LiveTickets) (pins : Pins) (version : ℕ) (l : Layout) (is : P
       (sym (then_is ∙ ap (λ (p : Pins). record p { live = ended ticket p.live }) (same ∙ ap pinned_at is.version_is)
       ∙ ap (λ (t : ℕ). record pins { live = ended t (begun (raised l.version_number pins.live)) }) free))
       (pins_begun_ended pins l is.pins_are is.rising)
+
+-- It is the same refusal that is handed on.
+pub refused_pins : {U : Type 0} (version : ℕ) (old new : Pins) (result : Result U BeginFail) (why : BeginFail)
+    → IsErrAnd result (λ e. e ≡ why) → PinsAs {T = Unit {0}} version old new (Err why) → PinsAs version old new result
+refused_pins version old new (Ok given) why is pins = absurd is
+refused_pins version old new (Err other) why is pins = pins

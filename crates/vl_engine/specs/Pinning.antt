@@ -1,5 +1,5 @@
 -- What is pinned while a call goes on.
-use Rattle.std.specs.Prelude.{◌≡◌, ℕ, Option, None, Some, Result, Ok, Err}
+use Rattle.std.specs.Prelude.{◌≡◌, ◌≢◌, ◌⊎◌, ℕ, length, Option, None, Some, Result, Ok, Err}
 use Rattle.vl_engine.specs.declared.engine.Done.{Done}
 use Rattle.vl_engine.specs.declared.fails.CommitFail.{CommitFail}
 use Rattle.vl_engine.specs.declared.fails.CommitFail.TheVariants as fails
@@ -9,8 +9,10 @@ use Rattle.vl_layout.specs.Rising.{IsRising}
 use Rattle.vl_layout.specs.Tickets.{tickets_of}
 use Rattle.vl_layout.specs.declared.layout.Layout.{Layout}
 use Rattle.vl_layout.specs.declared.live.Live.{Live}
-use Rattle.vl_oracle.specs.LiveTickets.{LiveTickets, ended}
-use Rattle.vl_pins.specs.Pins.{ArePinsOf}
+use Rattle.vl_model.specs.Limits.{max_live}
+use Rattle.vl_oracle.specs.LiveTickets.{LiveTickets, begun, ended, free_ticket}
+use Rattle.vl_oracle.specs.declared.begin_fail.BeginFail.{BeginFail}
+use Rattle.vl_pins.specs.Pins.{ArePinsOf, raised}
 use Rattle.vl_pins.specs.declared.pins.Pins.{Pins}
 
 -- What lives is the layout's, and so are the pins; this is its version number.
@@ -23,6 +25,19 @@ pub record PinsLive (live : LiveTickets) (pins : Pins) (version : ℕ) (l : Layo
 abbrev pub without_pin : Option ℕ → Pins → Pins
 without_pin None pins = pins
 without_pin (Some ticket) pins = record pins { live = ended ticket pins.live }
+
+-- the number is pinned under the next ticket, or noted as the present one
+abbrev pub pinned_next : ℕ → Pins → Pins
+pinned_next version pins = record pins { live = begun (raised version pins.live) }
+
+abbrev pub noted : ℕ → Pins → Pins
+noted version pins = record pins { live = raised version pins.live }
+
+-- What begins pins it, where not too many are pinned already; and where it is refused what was pinned is given back.
+abbrev pub PinsAs : {T : Type 0} → ℕ → (old new : Pins) → Result T BeginFail → Type 0
+PinsAs version old new (Ok given) = length old.live.tickets ≢ max_live → new ≡ pinned_next version old
+PinsAs version old new (Err why) =
+    (new ≡ old) ⊎ (new ≡ noted version old) ⊎ (new ≡ without_pin (Some (free_ticket old.live)) (pinned_next version old))
 
 module _ {L : Type 0} where
   -- what has this ticket pins nothing then

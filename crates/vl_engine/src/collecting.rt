@@ -1,10 +1,11 @@
 //! What an engine keeps of where space comes back from: how it is made, and how steps on files change it.
-ghost use Rattle.std.specs.Prelude.{◌≡◌, ◌≤◌, ◌++◌, ℕ, List, map, IfOk, OnErr, OnOk};
+ghost use Rattle.std.specs.Prelude.{◌≡◌, ◌≤◌, ◌++◌, ℕ, List, map, IfOk, IsSome, OnErr, OnOk};
 ghost use Rattle.std.specs.List.{filter};
 ghost use Rattle.std.specs.Option.{ForSome, option_map};
 ghost use Rattle.vl_core.specs.Represents.{StandsFor};
 ghost use Rattle.vl_engine.specs.Collecting.{AreSealed, IsReadied, IsTallied, Keeps, LeadsFrom, head_in, lengths_in};
 ghost use Rattle.vl_engine.specs.Collecting.{points_in, points_made};
+ghost use Rattle.vl_engine.specs.Retiring.{is_idle_in, is_idle_log};
 ghost use Rattle.vl_layout.specs.Garbage.{best as best_of_layout};
 ghost use Rattle.vl_layout.specs.Jobs.{Made};
 ghost use Rattle.vl_layout.specs.Ruling.{Stepped};
@@ -118,6 +119,7 @@ impl Collecting {
     /// Behind a switch, with the live bytes there: the logs below head of which nothing is live are left out.
     pub fn switch(&mut self, live: LiveBytes, head: u32)
         ensures passing { self.new.passing ≡ self.old.passing }
+        ensures live { IsSome self.old.tally → (n : ℕ) → is_idle_in head self.new.tally n ≡ is_idle_log head live n }
         ensures flush { (logs : Logs) (l : Layout) (h : History) (n : ℕ) → IsTidy logs l h
             → IsTallied self.old.tally l → (flush_ruling l h).answer ≡ Stepped n
             → IsOfLayout live head (flush_ruling l h).layout → IsTallied self.new.tally (flush_ruling l h).layout }
@@ -230,7 +232,8 @@ fn put_inputs<'a, H: HeldFile>(
     Ok(())
 }
 
-fn is_input<H: HeldFile>(inputs: &[u32], table: &Table<H>) -> bool
+/// Whether it is one of the tables with these numbers.
+pub fn is_input<H: HeldFile>(inputs: &[u32], table: &Table<H>) -> bool
     ensures { result ≡ is_input inputs.now table.now }
 {
     let number = table.shape().number;

@@ -1,6 +1,7 @@
 //! What an install wants of memory, and how it takes the files of a merge's tables back.
 
-ghost use Rattle.std.specs.Prelude.{◌≡◌, ◌+◌, ◌-◌, ◌^◌, ◌∷◌, [], ℕ, length, map, min, IfErr, IfOk, IsErr, OnOk};
+ghost use Rattle.std.specs.Prelude.{◌≡◌, ◌++◌, ◌+◌, ◌-◌, ◌^◌, ◌∷◌, [], ℕ, length, map, min, IfErr, IfOk, IsErr, OnOk};
+ghost use Rattle.std.specs.List.{filter};
 ghost use Rattle.std.specs.Option.{ForSome, option_copied};
 ghost use Rattle.vl_compact.specs.Replacing.{HasRoom};
 ghost use Rattle.vl_disk.specs.Calls.{ChangesNothing};
@@ -12,7 +13,10 @@ ghost use Rattle.vl_engine.specs.Installing.{InstallsAll, IsReadyFor, StopsInsta
 ghost use Rattle.vl_engine.specs.Taking.{MayTake, MayTakeAll, StopsTaking, Takes, TakesBack};
 ghost use Rattle.vl_manifest.specs.Switching.{IsStagedFor};
 ghost use Rattle.vl_table.specs.Tables.{number_of};
+ghost use Rattle.vl_version.specs.Bases.{is_input};
+ghost use Rattle.vl_version.specs.levels.LevelsLooked.{tables_of};
 
+use crate::collecting::is_input;
 use std::alloc::{AllocError, Global};
 use vl_back::{StageFail, StagedInstall};
 use vl_compact::{Job, ReadyLevels, Synced, ready_levels};
@@ -20,7 +24,7 @@ use vl_core::Core;
 use vl_disk::{Disk, HeldFile, Name, Writer};
 use vl_manifest::{ManifestLog, StagedEdits};
 use vl_table::Table;
-use vl_version::{Base, ReplacedVersion};
+use vl_version::{Base, Levels, ReplacedVersion};
 
 /// What an install is made of, before anything of it is written.
 #[derive(Drop)]
@@ -83,6 +87,38 @@ pub fn numbers_of<H: HeldFile>(alloc: Global, tables: &[Table<H>]) -> Result<Vec
         numbers.push(table.shape().number)?;
     }
     Ok(numbers)
+}
+
+/// Of all tables the numbers of those that are among these inputs, in their order.
+pub fn input_numbers<H: HeldFile>(
+    alloc: Global,
+    levels: &Levels<H>,
+    inputs: &[u32],
+) -> Result<Vec<u32>, AllocError>
+    ensures { IfOk result (λ numbers. numbers.items ≡ map number_of (filter (is_input inputs.now) (tables_of levels.now))) }
+{
+    let mut numbers = Vec::new(alloc);
+    put_inputs(&mut numbers, levels.newest(), inputs)?;
+    for level in levels.deeper() {
+        put_inputs(&mut numbers, level.as_slice(), inputs)?;
+    }
+    Ok(numbers)
+}
+
+// Puts the numbers of those of these tables behind others.
+fn put_inputs<H: HeldFile>(
+    numbers: &mut Vec<u32>,
+    tables: &[Table<H>],
+    inputs: &[u32],
+) -> Result<(), AllocError>
+    ensures { OnOk result (numbers.new.items ≡ numbers.old.items ++ map number_of (filter (is_input inputs.now) tables.now)) }
+{
+    for table in tables {
+        if is_input(inputs, table) {
+            numbers.push(table.shape().number)?;
+        }
+    }
+    Ok(())
 }
 
 /// The numbers of tables that were made.

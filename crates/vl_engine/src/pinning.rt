@@ -4,7 +4,7 @@ ghost use Rattle.vl_front.specs.Front.{Knows, SameLog};
 ghost use Rattle.vl_layout.specs.Rulings.Begin.{begun as begun_there};
 ghost use Rattle.vl_layout.specs.Tickets.{free_ticket as free_there, tickets_of};
 ghost use Rattle.vl_layout.specs.declared.layout.Layout.{Layout};
-ghost use Rattle.vl_engine.specs.Pinning.{PinsLive, without_pin};
+ghost use Rattle.vl_engine.specs.Pinning.{PinsAs, PinsLive, without_pin};
 ghost use Rattle.vl_model.specs.History.{History};
 ghost use Rattle.vl_model.specs.Limits.{max_live};
 ghost use Rattle.vl_oracle.specs.LiveTickets.{begun, free_ticket};
@@ -23,6 +23,7 @@ pub fn begin(front: &mut Front, pins: &mut Pins, version: u64) -> Result<u32, Be
     ensures err { OnErr result (front.new ≡ front.old) }
     ensures log { SameLog front.old front.new }
     ensures knows { (h : History) → Knows front.old h → Knows front.new h }
+    ensures pins { PinsAs version pins.old pins.new result }
 
     // So it is pinned as a layout has it.
     ensures pinned { (l : Layout) (number : ℕ) → PinsLive front.old.oracle pins.old version l

@@ -12,7 +12,7 @@ use Rattle.vl_engine.proofs.Leaving.{staged_head}
 use Rattle.vl_engine.proofs.Retired.Rotating.{same_head, short}
 use Rattle.vl_engine.specs.Collecting.{Collects, FlushesFor}
 use Rattle.vl_engine.specs.Flushing.{FlushesAs}
-use Rattle.vl_engine.specs.Retiring.{FlushesStock}
+use Rattle.vl_engine.specs.Retiring.{FlushesStock, IsReadied}
 use Rattle.vl_engine.specs.Stepping.{step_outcome}
 use Rattle.vl_engine.specs.declared.fails.StepFail.TheVariants as fails
 use Rattle.vl_engine.specs.declared.fails.StepFail.{StepFail}
@@ -27,7 +27,8 @@ use Rattle.vl_layout.specs.declared.file_name.FileName.TheVariants as files
 use Rattle.vl_layout_laws.specs.laws.Steps.{all_rising}
 use Rattle.vl_manifest.specs.declared.state.ManifestState.{ManifestState}
 use Rattle.vl_manifest.specs.declared.waiting.Waiting.{Waiting}
-use Rattle.vl_pins.specs.Files.{Has, retired_of}
+use Rattle.vl_pins.specs.Files.{BecomesBy, Has, HasRoom, retired_of}
+use Rattle.vl_pins.specs.declared.stock.Stock.{Stock}
 use Rattle.vl_recover.specs.opening.HeldFiles.{AreWaiting}
 use Rattle.std.specs.List.{AllByRecursion, filter, flat_map}
 use Rattle.std.specs.VecDeque.{deque_len, deque_capacity}
@@ -40,7 +41,7 @@ use Rattle.vl_engine.proofs.Collected.{decides_too, head_is_laid}
 use Rattle.vl_engine.proofs.Retired.Kept.{halts_removes, opens_lent, same_pins, stays_removes}
 use Rattle.vl_engine.proofs.Retired.Laid.{Uses, aged_more, all_more, front_tables, is_stock, just_retired, switch_logs, switch_retired}
 use Rattle.vl_engine.proofs.Retired.Laid.{switch_tables, switch_waits, uses_first, used_waits}
-use Rattle.vl_engine.proofs.Retired.Changing.{map-both}
+use Rattle.vl_engine.proofs.Retired.Changing.{map-both, no_logs, readied_for}
 use Rattle.vl_engine.proofs.Retired.Retiring.{all_weaker, gone_logs}
 use Rattle.vl_engine.specs.Collecting.{IsTallied, head_in}
 use Rattle.vl_engine.specs.Lent.{Opens}
@@ -115,7 +116,7 @@ oldest_below a (t ∷ u ∷ us) s at falling =
 
 -- ---- numbers
 
-has_more : (n : ℕ) (ns ms : List ℕ) → has n ns ≡ true → has n (ns ++ ms) ≡ true
+pub has_more : (n : ℕ) (ns ms : List ℕ) → has n ns ≡ true → has n (ns ++ ms) ≡ true
 has_more n [] ms is = absurd (let clash : false ≡ true = is in cc)
 has_more n (m ∷ ns) ms is = by (m == n) is (λ later. has_more n ns ms later)
   where
@@ -123,7 +124,7 @@ has_more n (m ∷ ns) ms is = by (m == n) is (λ later. has_more n ns ms later)
     by true is later = refl
     by false is later = later is
 
-has_end : (n : ℕ) (ns : List ℕ) → has n (ns ++ n ∷ []) ≡ true
+pub has_end : (n : ℕ) (ns : List ℕ) → has n (ns ++ n ∷ []) ≡ true
 has_end n [] = let same : (n == n) ≡ true = grind (arith, nat_tests) in ap (λ b. b || false) same
 has_end n (m ∷ ns) = ap (λ b. (m == n) || b) (has_end n ns) ∙ or_true (m == n)
   where
@@ -340,3 +341,22 @@ module _ {H W : Type 0} {s : _} (bytes : H → Option (List ℕ)) (size : H → 
 
         no_damage : (at : _) (name : FileName) (place : ℕ) → step_outcome (Err (fails.Disk at)) ≡ Damaged name place → ⊥
         no_damage at name place e = cc
+
+-- ---- what a switch did
+
+pub switches_stock : {H W : Type 0} {s : _} (before after : Core H) (added dropped : List ℕ) (head version lent counted : ℕ) (live : List (ℕ × ℕ))
+    (kept : Option Tallied) (old mid new : Stock (Lent W s)) → version ≡ before.back.version_number + 1 → head ≡ head_in after
+    → ((n : ℕ) → is_idle_in head kept n ≡ is_idle_log head live n) → counted ≡ lent → IsReadied before old mid (length added) counted
+    → BecomesBy (switching version added dropped (is_idle_log head live)) mid new
+    → ((n : ℕ) → HasRoom mid (length added) 0 n → HasRoom new 0 0 n) → SwitchesStock before after added dropped kept old new lent
+switches_stock {H} {W} {s} before after added dropped head version lent counted live kept old mid new made head_is idle same ready switched room = record {
+  readied = mid;
+  is_ready = readied_for before old mid (length added) (length added) counted lent refl same ready;
+  switched = λ (k : Kept (Lent W s)) has. subst (Has new)
+      (ap (λ v. switching v added dropped (is_idle_log head live) k) made
+      ∙ ap (λ (i : ℕ → Bool). switching (before.back.version_number + 1) added dropped i k)
+      (λ j n. sym (idle n) j)
+      ∙ ap (λ m. switching (before.back.version_number + 1) added dropped (is_idle_in m kept) k) head_is)
+      (switched k has);
+  room = room lent (no_logs mid (length added) (length added) 1 counted lent refl same ready.room);
+}

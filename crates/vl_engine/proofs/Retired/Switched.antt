@@ -12,8 +12,12 @@ use Rattle.std.proofs.lemmas.List.Elements.{All-append, All-filter, All-head, Al
 use Rattle.vl_compact.specs.declared.files.Lent.{Lent}
 use Rattle.vl_core.specs.Carries.{StaysUntold}
 use Rattle.vl_core.specs.declared.kept.Core.{Core}
-use Rattle.vl_disk.specs.Disk.{IsFree, Stands}
-use Rattle.vl_disk.specs.DiskState.{DiskState}
+use Rattle.vl_back.specs.Writing.{written}
+use Rattle.vl_disk.specs.Changes.{changed_elsewhere}
+use Rattle.vl_disk.specs.Disk.{IsChangedBy, IsFree, Stands}
+use Rattle.vl_recover.specs.laws.crash.OneName.{made_there}
+use Rattle.vl_disk.specs.DiskState.{DiskState, File, appended, lengthened, synced_file}
+use Rattle.vl_disk.specs.MadeFile.{made}
 use Rattle.vl_disk.specs.declared.name.Name.{Name}
 use Rattle.vl_disk.specs.declared.name.Name.TheVariants.{Log, Manifest, Table}
 use Rattle.vl_disk.specs.declared.watched.Watched.{Ghosts}
@@ -303,3 +307,22 @@ keeps_made {W = W} {s = s} g w old new before after a n kept untold stand up lea
       };
   left = refl;
 }
+
+-- where a table was written and named it stands
+pub made_stands : (n number : ℕ) (bytes frame : List ℕ) (old new : Option DiskState) → IsChangedBy (written n bytes number frame) old new
+    → ForSome new (Stands (Table n))
+made_stands n number bytes frame None new changed now told = absurd (let clash : None ≡ Some now = sym changed ∙ told in cc)
+made_stands n number bytes frame (Some disk) new changed now told =
+    subst (Stands (Table n)) (one (written n bytes number frame disk) now (sym changed ∙ told)) stood
+  where
+    one : (a b : DiskState) → Some a ≡ Some b → a ≡ b
+    one a b e = cc
+
+    stood : Stands (Table n) (written n bytes number frame disk)
+    stood =
+        let other : Table n ≢ Manifest number = λ e. cc in
+        subst (λ (o : Option File). IsSome o)
+        (sym ((changed_elsewhere (Manifest number) (appended (Manifest number) frame (length frame) (made (Table n) bytes disk))
+        synced_file).standing (Table n) other
+        ∙ (changed_elsewhere (Manifest number) (made (Table n) bytes disk) (lengthened frame (length frame))).standing (Table n) other
+        ∙ made_there (Table n) bytes disk)) refl

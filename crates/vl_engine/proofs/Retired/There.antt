@@ -21,7 +21,8 @@ use Rattle.vl_disk.specs.declared.watched.Watched.{Ghosts}
 use Rattle.vl_disk.specs.declared.writer.Writer.{Ghosts as Writers}
 use Rattle.vl_engine.proofs.Retired.Changing.{has_some, taken_out}
 use Rattle.vl_engine.proofs.Retired.Retiring.{has_filtered, same_either_way as either_way}
-use Rattle.vl_engine.proofs.There.Kept.{StandStill, not_free_stands, stands_not_free, told_before, waiting_kept}
+use Rattle.vl_engine.proofs.There.Kept.{StandStill, not_free_stands, stands_not_free, there_kept, told_before, told_stand}
+use Rattle.vl_engine.proofs.There.Kept.{waiting_kept}
 use Rattle.vl_engine.specs.Lent.{LeavesLent}
 use Rattle.vl_engine.specs.Removing.{HasInUse, IsThere, IsWaiting, are_distinct, are_unused, is_none_of, is_unused, lent_in}
 use Rattle.vl_engine.specs.Removing.{logs_in_use, numbers_left, standing_names, tables_in_use, with_standing}
@@ -252,13 +253,13 @@ module _ (a next : ℕ) (state : DiskState) (free : IsFree (Log next) state) whe
       off = ap not (has_last next a kept.logs ∙ ap (λ b. b || (a == next)) (next_off kept.logs is.logs) ∙ other_log a here);
     }
 
--- beside a log that didn't stand what stood stands still
-pub still_beside : (next : ℕ) (old new : Option DiskState) (before now : DiskState) → KeepsOthers (Log next) old new → old ≡ Some before
-    → new ≡ Some now → IsFree (Log next) before → (name : Name) → Stands name before → Stands name now
-still_beside next old new before now keeps was is free name stands =
+-- beside a file that didn't stand what stood stands still
+pub still_but : (last : Name) (old new : Option DiskState) (before now : DiskState) → KeepsOthers last old new → old ≡ Some before
+    → new ≡ Some now → IsFree last before → (name : Name) → Stands name before → Stands name now
+still_but last old new before now keeps was is free name stands =
     not_free_stands (get now.standing name)
     (λ (gone : get now.standing name ≡ None). stands_not_free (get before.standing name) stands
-    ((keeps before now was is name (λ (e : name ≡ Log next). stands_not_free (get before.standing name) stands
+    ((keeps before now was is name (λ (e : name ≡ last). stands_not_free (get before.standing name) stands
     (ap (get before.standing) e ∙ free))).0.0 gone))
 
 -- ---- a log that was begun
@@ -269,7 +270,7 @@ module _ {D H W : Type 0} {s : Writers W} (g : Ghosts D) (w : Writers W) (old ne
     (keeps : KeepsOthers (Log next) (g.told old) (g.told new)) (free : ForSome (g.told old) (IsFree (Log next)))
     (is : IsThere g w old before merging stock) where
   stand : StandStill (g.told old) (g.told new)
-  stand from now was told name stands = still_beside next (g.told old) (g.told new) from now keeps was told (free from was) name stands
+  stand from now was told name stands = still_but (Log next) (g.told old) (g.told new) from now keeps was told (free from was) name stands
 
   stood : (state : DiskState) → g.told old ≡ Some state → NamesStand (standing_names stock.trash.items) state
   stood state told = waiting_stand g w old before.back.state.next_table state told stock.trash.items is.waiting
@@ -305,3 +306,12 @@ module _ {D H W : Type 0} {s : Writers W} (g : Ghosts D) (w : Writers W) (old ne
         (sealed_standing before.front.log.number next was.0 (free was.0 was.1) (kept_in u stock) now (stand was.0 now was.1 told)
         (stood was.0 was.1) (from_use before was.0 stock u some (is.files was.0 was.1)) (here was.0 was.1)));
   }
+
+-- ---- where the disk was left alone, but for room
+
+pub there_quiet : {D H W : Type 0} {s : Writers W} (g : Ghosts D) (w : Writers W) (old new : D) (core : Core H) (merging : Option OpenMerge)
+    (stock : Stock (Lent W s)) → g.told new ≡ g.told old → LeavesLent g core.back.state.next_table old new
+    → IsThere g w old core merging stock → IsThere g w new core merging stock
+there_quiet g w old new core merging stock told leaves is =
+    there_kept g w old new (λ none. told ∙ none) (told_stand (g.told old) (g.told new) told) core core merging merging stock
+    (record { version = refl; log = refl; tables = omega arith }) leaves refl is

@@ -13,6 +13,7 @@ ghost use Rattle.vl_layout.specs.declared.layout.Layout.{Layout};
 ghost use Rattle.vl_model.specs.History.{History};
 ghost use Rattle.vl_table.specs.Kept.{Files};
 ghost use Rattle.vl_table.specs.KeptBlocks.{AreKept};
+ghost use Rattle.vl_engine.specs.Pinning.{PinsAs};
 ghost use Rattle.vl_engine.specs.Removing.{Removes};
 
 use crate::past::past_of;
@@ -67,6 +68,7 @@ impl<D: Disk> Engine<D> {
         ensures back { self.new.core.back ≡ self.old.core.back }
         ensures merging { self.new.merging ≡ self.old.merging }
         ensures collecting { self.new.collecting ≡ self.old.collecting }
+        ensures pins { PinsAs self.old.core.back.version_number self.old.removing.pins self.new.removing.pins result }
         ensures stock { self.new.removing.stock ≡ self.old.removing.stock }
         ensures logs { self.new.core.version.behind.logs ≡ self.old.core.version.behind.logs }
     {
@@ -122,6 +124,7 @@ impl<D: Disk> Engine<D> {
         ensures back { self.new.core.back ≡ self.old.core.back }
         ensures merging { self.new.merging ≡ self.old.merging }
         ensures collecting { self.new.collecting ≡ self.old.collecting }
+        ensures pins { PinsAs self.old.core.back.version_number self.old.removing.pins self.new.removing.pins result }
         ensures stock { self.new.removing.stock ≡ self.old.removing.stock }
         ensures logs { self.new.core.version.behind.logs ≡ self.old.core.version.behind.logs }
     {

@@ -31,7 +31,9 @@ ghost use Rattle.vl_version.specs.Bases.{is_input};
 ghost use Rattle.vl_version.specs.levels.LevelsLooked.{tables_of};
 
 use crate::collecting::head_of;
-use crate::installing::{ReadyInstall, made_numbers, numbers_of, ready_install, write_install};
+use crate::installing::{
+    ReadyInstall, input_numbers, made_numbers, numbers_of, ready_install, write_install,
+};
 use crate::making::lent_count;
 use crate::removing::leave_files;
 use crate::{Engine, InstallFail};
@@ -221,7 +223,10 @@ impl<D: Disk> Engine<D> {
         ensures retires { InstallsStock job self.old.core self.new.core self.old.removing self.new.removing self.new.collecting.tally
             (length (lent_in self.old.merging)) result }
     {
-        let Ok(dropped) = numbers_of(self.alloc, &job.inputs().tables) else {
+        let Ok(inputs) = numbers_of(self.alloc, &job.inputs().tables) else {
+            return Err(InstallFail::NoMemory(job));
+        };
+        let Ok(dropped) = input_numbers(self.alloc, self.core.version.levels(), &inputs) else {
             return Err(InstallFail::NoMemory(job));
         };
         let Ok(added) = made_numbers(self.alloc, job.made()) else {

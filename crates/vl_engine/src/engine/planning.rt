@@ -69,6 +69,9 @@ impl<D: Disk> Engine<D> {
         ensures new { IfOk result (λ job. ForSome job IsNew) }
         // One begins only where none is open.
         ensures open { IfOk result (λ job. ForSome job (λ _. self.old.merging ≡ None)) }
+        // It may be carried out, and given up.
+        ensures under_way { IfOk result (λ job. ForSome job (IsUnderWay D.Watched D.Writer.Writer self.new.disk
+            self.new.core.front.halted self.new.merging)) }
 
         // A reader that keeps no block that doesn't stand, as `reader` gives, fits its sources: look-ups by it are told.
         ensures looks { (h : History) (l : Layout) → StandsOpen D.Held.bytes self.old.core self.old.merging h l
@@ -126,6 +129,9 @@ impl<D: Disk> Engine<D> {
         ensures new { IfOk result (λ job. ForSome job IsNew) }
         // One begins only where none is open.
         ensures open { IfOk result (λ job. ForSome job (λ _. self.old.merging ≡ None)) }
+        // It may be carried out, and given up.
+        ensures under_way { IfOk result (λ job. ForSome job (IsUnderWay D.Watched D.Writer.Writer self.new.disk
+            self.new.core.front.halted self.new.merging)) }
 
         // A reader that keeps no block that doesn't stand, as `reader` gives, fits its sources: look-ups by it are told.
         ensures looks { (h : History) (l : Layout) → StandsOpen D.Held.bytes self.old.core self.old.merging h l
@@ -172,6 +178,8 @@ impl<D: Disk> Engine<D> {
             → StandsFor D.Held.bytes self.old.core h l → IsChosen D.Held.bytes inputs h l ruling
             → IfOk result (λ job. AreBoth (HasMerge D.Writer.Writer D.Held.bytes) job ruling.answer) }
         ensures new { IfOk result (λ job. ForSome job IsNew) }
+        ensures under_way { IfOk result (λ job. ForSome job (IsUnderWay D.Watched D.Writer.Writer self.new.disk
+            self.new.core.front.halted self.new.merging)) }
         ensures looks { (h : History) (l : Layout) → StandsFor D.Held.bytes self.old.core h l
             → IfOk result (λ job. ForSome job (FitsReaders D.Held.bytes)) }
         ensures removing { PinsMerge self.old.core.back.version_number self.old.removing self.new.removing result }
@@ -195,6 +203,8 @@ impl<D: Disk> Engine<D> {
         ensures has { (j : laid_job.Job) → IfOk result (λ job. IsMergeFor D.Writer.Writer D.Held.bytes job j
             → HasMerge D.Writer.Writer D.Held.bytes job j) }
         ensures new { IfOk result (λ job. IsNew job) }
+        ensures under_way { IfOk result (λ job. IsUnderWay D.Watched D.Writer.Writer self.new.disk self.new.core.front.halted
+            self.new.merging job) }
         ensures begun { OnOk result (IsJustOpen self.new.merging) }
         ensures pinned { OnOk result (self.new.removing ≡ merge_pinned (Some self.old.core.back.version_number) self.old.removing) }
         ensures unpinned { OnErr result (self.new.removing ≡ self.old.removing) }

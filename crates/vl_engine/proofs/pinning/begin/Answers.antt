@@ -1,7 +1,7 @@
-use Rattle.std.proofs.Common.{sym, ap, ◌∙◌, ◌≡◌, length, Option}
+use Rattle.std.proofs.Common.{sym, ap, ◌∙◌, ◌≡◌, inl, inr, length, Option, Some}
 use Rattle.vl_engine.proofs.Pinned.{begun_so, raised_so, same_count, unpinned_so}
 use Rattle.std.specs.Prelude.{ℕ}
-use Rattle.vl_engine.specs.Pinning.{without_pin}
+use Rattle.vl_engine.specs.Pinning.{pinned_next, without_pin}
 use Rattle.vl_engine.proofs.pinning.begin.Goals.{in-Ok, in-Err-TooMany}
 use Rattle.vl_engine.proofs.pinning.begin.Goals as goal
 
@@ -20,4 +20,21 @@ returns-in-Err-clause-unpinned c l live =
         w.in-Ok.ticket w.in-Ok.ensures.begun.0 w.in-Ok.ensures.begun.1 (c.unpin.ensures ∙ ap (λ (o : Option ℕ). without_pin o c.begin.new.self) w.pinned-is)
       | in-Err-TooMany w ↦ raised_so c.args.front.now.oracle c.args.pins.now c.args.version l live c.unpin.new.pins
         (c.unpin.ensures ∙ ap (λ (o : Option ℕ). without_pin o c.begin.new.self) w.pinned-is ∙ w.in-Err-TooMany.ensures.refused)
+    ]
+
+pub returns-in-Ok-begin-clause-pins : goal.returns-in-Ok-begin-clause-pins
+returns-in-Ok-begin-clause-pins c =
+    elim c.match-begin.branch [
+      in-Ok w ↦ λ room. w.in-Ok.ensures.begun.1
+      | in-Err-TooMany w ↦ λ room. absurd (room (w.in-Err-TooMany.ensures.too_many.0 (cc)))
+    ]
+
+pub returns-in-Err-clause-pins : goal.returns-in-Err-clause-pins
+returns-in-Err-clause-pins c =
+    elim c.match-begin.branch [
+      in-Ok w ↦ inr (inr (c.unpin.ensures ∙ ap (λ (o : Option ℕ). without_pin o c.begin.new.self) w.pinned-is
+        ∙ ap (without_pin (Some w.in-Ok.ticket)) w.in-Ok.ensures.begun.1
+        ∙ ap (λ (t : ℕ). without_pin (Some t) (pinned_next c.args.version c.args.pins.now)) w.in-Ok.ensures.begun.0))
+      | in-Err-TooMany w ↦ inr (inl (c.unpin.ensures ∙ ap (λ (o : Option ℕ). without_pin o c.begin.new.self) w.pinned-is
+        ∙ w.in-Err-TooMany.ensures.refused))
     ]

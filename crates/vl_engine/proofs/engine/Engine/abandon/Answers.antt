@@ -1,16 +1,41 @@
-use Rattle.vl_engine.proofs.Planning.{fits_abandoned, represents_abandoned, stands_abandoned}
-use Rattle.vl_engine.proofs.engine.Engine.abandon.Goals as goal
 use Rattle.std.specs.Prelude.{None, refl}
+use Rattle.std.proofs.Common.{subst, sym, ◌∙◌}
+use Rattle.vl_compact.specs.Progress.{made_of}
+use Rattle.vl_core.specs.MayStep.{Fits}
+use Rattle.vl_core.specs.Represents.{Represents, StandsFor}
+use Rattle.vl_core.specs.declared.kept.Core.{Core}
+use Rattle.vl_engine.proofs.LeftRemoved.{halted_none, merge_numbers, removes_left}
+use Rattle.vl_engine.proofs.Planning.{fits_abandoned, represents_abandoned, stands_abandoned}
+use Rattle.vl_engine.specs.Merging.{StandsOpen}
+use Rattle.vl_engine.specs.Removing.{Removes}
+use Rattle.vl_engine.specs.declared.open.OpenMerge.{OpenMerge}
+use Rattle.vl_layout.specs.Jobs.{job_ended}
+use Rattle.vl_engine.proofs.engine.Engine.abandon.Goals as goal
 
 pub returns-clause-stands : goal.returns-clause-stands
 returns-clause-stands g c h l o made is opened lent =
-    stands_abandoned g.D.Held.HeldFile.bytes c.args.self.now.core h l o made opened lent None refl is.stands
+    stands_abandoned g.D.Held.HeldFile.bytes c.leave.new.self.core h l o made opened lent c.leave.new.self.merging c.leave.ensures.merging
+    (subst (λ (x : Core g.row.D-Held.Denot). StandsFor g.D.Held.HeldFile.bytes x h l) (sym c.leave.ensures.core) is.stands)
 
 pub returns-clause-represents : goal.returns-clause-represents
 returns-clause-represents g c h l o made is opened lent =
-    represents_abandoned g.D.Held.HeldFile.bytes c.args.self.now.core h l o made opened lent
-    (g.D.Watched.told c.args.self.now.disk) is
+    represents_abandoned g.D.Held.HeldFile.bytes c.leave.new.self.core h l o made opened lent
+    (g.D.Watched.told c.leave.new.self.disk)
+    (subst (λ (d : g.row.D.Denot). Represents g.D.Held.HeldFile.bytes c.leave.new.self.core (g.D.Watched.told d) h l)
+    (sym c.leave.ensures.disk) (subst (λ (x : Core g.row.D-Held.Denot). Represents g.D.Held.HeldFile.bytes x
+    (g.D.Watched.told c.args.self.now.disk) h l) (sym c.leave.ensures.core) is))
 
 pub returns-clause-fits : goal.returns-clause-fits
 returns-clause-fits g c h l o made fits =
-    fits_abandoned c.args.self.now.core h l o.job made (g.D.Watched.told c.args.self.now.disk) fits
+    fits_abandoned c.leave.new.self.core h l o.job made (g.D.Watched.told c.leave.new.self.disk)
+    (subst (λ (d : g.row.D.Denot). Fits (g.D.Watched.told d) c.leave.new.self.core h l) (sym c.leave.ensures.disk)
+    (subst (λ (x : Core g.row.D-Held.Denot). Fits (g.D.Watched.told c.args.self.now.disk) x h l) (sym c.leave.ensures.core) fits))
+
+pub returns-clause-removes : goal.returns-clause-removes
+returns-clause-removes g c low h l o is opened has removes =
+    subst (λ (x : Core g.row.D-Held.Denot). Removes low x c.leave.new.self.removing (job_ended (made_of c.args.job o.job) l))
+    (sym c.leave.ensures.core)
+    (removes_left g.D.Watched c.args.self.now.disk c.args.self.now.core c.args.self.now.merging c.args.job c.args.self.now.removing
+    c.leave.new.self.removing c.args.self.now.there c.requires c.leave.ensures.left low l (made_of c.args.job o.job)
+    (merge_numbers g.D.Held.HeldFile.bytes c.args.job o.job has)
+    (λ runs. halted_none c.args.self.now.core.front.halted (is.stands.fronts.halted ∙ runs)) c.leave.ensures.pins removes)

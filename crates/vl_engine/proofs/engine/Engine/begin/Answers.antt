@@ -1,5 +1,6 @@
 use Rattle.std.proofs.Common.{subst}
 use Rattle.vl_engine.proofs.Beginning.{refused_so}
+use Rattle.vl_engine.proofs.Pinned.{refused_pins}
 use Rattle.vl_engine.specs.Removing.{Removes}
 use Rattle.vl_layout.specs.Decides.{Decides, Outcome, as_before, no_effects}
 use Rattle.vl_layout.specs.Rulings.Begin.{BeginAnswer, begin_ruling}
@@ -12,3 +13,8 @@ returns-in_err-alloc-clause-removes g c low h l is removes =
     (begin_ruling l h) (as_before l l) o no_effects)
     (refused_so c.from_residual.result c.in_err-alloc.field-0.0 c.from_residual.ensures.1)
     (c.in_err-alloc.ensures.removes low h l is removes)
+
+pub returns-in_err-alloc-clause-pins : goal.returns-in_err-alloc-clause-pins
+returns-in_err-alloc-clause-pins g c =
+    refused_pins c.args.self.now.core.back.version_number c.args.self.now.removing.pins c.view.new.self.removing.pins
+    c.from_residual.result c.in_err-alloc.field-0.0 c.from_residual.ensures.1 c.in_err-alloc.ensures.pins

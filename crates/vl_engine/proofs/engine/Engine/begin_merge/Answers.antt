@@ -4,6 +4,7 @@ use Rattle.vl_engine.proofs.Planning.{none_lent}
 use Rattle.vl_engine.proofs.StillThere.{leaves_none, there_begun, there_told}
 use Rattle.vl_core.specs.Known.{are_known}
 use Rattle.vl_version.specs.declared.version.Version.{Version}
+use Rattle.vl_engine.proofs.UnderWay.{just_planned}
 use Rattle.vl_engine.proofs.engine.Engine.begin_merge.Goals as goal
 
 pub invariant_of-self-2-clause-ready : goal.invariant_of-self-2-clause-ready
@@ -27,3 +28,8 @@ invariant_of-self-2-clause-there g c running =
     (there_told g.D.Watched g.D.Writer.Writer before.disk before.disk before.core _ before.merging before.merging
     before.removing.stock before.removing.stock (ap (λ (v : Version g.row.D-Held.Denot). v.behind) c.share.ensures.same) refl
     (omega arith) refl refl refl (leaves_none g.D.Watched before.disk before.core.back.state.next_table) (before.there running))
+
+pub returns-clause-under_way : goal.returns-clause-under_way
+returns-clause-under_way g c =
+    just_planned g.D.Watched g.D.Writer.Writer c.args.self.now.disk c.args.self.now.core.front.halted (Some c.new.result) c.new-3.result
+    (record { merge = c.new.result; is_open = refl; lent = c.new.ensures.lent; moved = c.new.ensures.moved }) c.new-3.ensures.new
