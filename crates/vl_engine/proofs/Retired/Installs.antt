@@ -1,5 +1,5 @@
 -- What each answer of an install leaves of the files in use and of those that wait is what its ruling leaves.
-use Rattle.std.proofs.Common.{◌≡◌, ℕ, ◌≤◌, Bool, List, length, map}
+use Rattle.std.proofs.Common.{◌≡◌, ℕ, ◌≤◌, ◌++◌, Bool, List, length, map, arith, length-append}
 use Rattle.std.proofs.Common.{refl, ap, sym, ◌∙◌, subst}
 use Rattle.std.specs.Prelude.{Option, None, Some, Result, Ok, Err}
 use Rattle.vl_back.specs.InstallStaging.{replacing_of}
@@ -13,15 +13,19 @@ use Rattle.vl_core.specs.laws.InstallDiskEdits.{install_head}
 use Rattle.vl_disk.specs.declared.watched.Watched.{Ghosts}
 use Rattle.vl_disk.specs.declared.writer.Writer.{Ghosts as Writers}
 use Rattle.vl_engine.proofs.Collected.{decides_too}
-use Rattle.vl_engine.proofs.Retired.Installing.{installed_removes}
+use Rattle.vl_engine.proofs.Retired.Installing.{installed_removes, made_are}
 use Rattle.vl_engine.proofs.Retired.Kept.{halts_removes, stays_removes}
 use Rattle.vl_engine.proofs.Switching.{install_by, install_history, install_layout}
 use Rattle.vl_engine.specs.Collecting.{Collects, InstallsFor, IsTallied}
-use Rattle.vl_engine.specs.Installing.{InstallsUnraced, IsReadyFor, install_otherwise}
+use Rattle.vl_engine.specs.Installing.{InstallsUnraced, IsHandedIn, install_otherwise, numbers_in}
+use Rattle.vl_engine.specs.UnderWay.{IsUnderWay}
+use Rattle.vl_disk.specs.declared.name.Name.{Name}
+use Rattle.vl_layout.specs.Merging.{outputs}
+use Rattle.vl_layout.specs.Sources.{numbers_of}
 use Rattle.vl_engine.specs.Merging.{HasAllMerge, StandsOpen, install_outcome}
 use Rattle.vl_engine.specs.Pinning.{merge_pinned}
 use Rattle.vl_engine.specs.Removing.{Removes}
-use Rattle.vl_engine.specs.Retiring.{InstallsInto, InstallsStock, LeavesFiles, files_in}
+use Rattle.vl_engine.specs.Retiring.{InstallsInto, InstallsStock, LeavesFiles, files_in, left_of}
 use Rattle.vl_engine.specs.declared.fails.InstallFail.TheVariants as fails
 use Rattle.vl_engine.specs.declared.fails.InstallFail.{InstallFail}
 use Rattle.vl_engine.specs.declared.open.Collecting.{Collecting}
@@ -30,7 +34,7 @@ use Rattle.vl_engine.specs.declared.open.Removing.{Removing}
 use Rattle.vl_layout.specs.Decides.{Answered, Damaged, Decides, Effects, Failed, NoMemory, Outcome}
 use Rattle.vl_layout.specs.Jobs.{AreLent, Made, job_ended}
 use Rattle.vl_layout.specs.Ruling.{Ruling, halted_at}
-use Rattle.vl_layout.specs.Rulings.Install.{Exhausted, InstallAnswer, Installed, install_ruling, installed}
+use Rattle.vl_layout.specs.Rulings.Install.{Exhausted, Halted, InstallAnswer, Installed, Raced, install_ruling, installed}
 use Rattle.vl_layout.specs.declared.file_name.FileName.{FileName}
 use Rattle.vl_layout.specs.declared.job.Job as laid_job
 use Rattle.vl_layout.specs.declared.job.OpenJob.{OpenJob}
@@ -202,3 +206,51 @@ module _ {D H R W : Type 0} (g : Ghosts D) (bytes : H → Option (List ℕ)) (w 
       (λ a e. absurd (lost_answered (file_of at) a e)) (λ e. absurd (lost_short (file_of at) e))
       (λ name same. halts_removes after low now (job_ended (made_of job o.job) l) name
       (ended_pins was now l (made_of job o.job) stock removes.pins)) (lost_damaged (file_of at)) is
+
+-- ---- the other exits
+
+-- it was answered otherwise, and the merge has ended
+pub ended_by : (S T : History → Layout → Type 0) (h : History) (l : Layout) (j : laid_job.Job) (made : Made) (a : InstallAnswer)
+    (effects : Effects) → T h (job_ended made l) → (answered a ≡ answered Installed → ⊥)
+    → Decides S h l (install_ruling l h j made) (install_otherwise l made) (answered a) effects
+    → Decides T h l (install_ruling l h j made) (install_otherwise l made) (answered a) effects
+ended_by S T h l j made a effects so other is =
+    decides_ended S T h l j made (answered a) effects other (λ b same. so) (λ e. absurd (answered_short a e))
+    (λ name e. absurd (answered_lost a name e)) (answered_damaged a) is
+
+-- memory was wanting
+pub short_by : (S T : History → Layout → Type 0) (h : History) (l : Layout) (j : laid_job.Job) (made : Made) (effects : Effects) → T h l
+    → Decides S h l (install_ruling l h j made) (install_otherwise l made) short effects
+    → Decides T h l (install_ruling l h j made) (install_otherwise l made) short effects
+short_by S T h l j made effects so is =
+    decides_ended S T h l j made short effects (short_answered Installed) (λ a e. absurd (short_answered a e)) (λ e. so)
+    (λ name e. absurd (short_lost name e)) short_damaged is
+
+pub raced_other : (key : List ℕ) (number : ℕ) → answered (Raced key number) ≡ answered Installed → ⊥
+raced_other key number e = cc
+
+pub halted_other : (name : FileName) → answered (Halted name) ≡ answered Installed → ⊥
+halted_other name e = cc
+
+-- a job that is handed in is under way
+pub way_of : {D V H W : Type 0} (g : Ghosts D) (w : Writers W) (disk : D) (halted : Option Name) (merging : Option OpenMerge) {s : _}
+    (job : Job V H W s) → IsHandedIn g w disk halted merging job → IsUnderWay g w disk halted merging job
+way_of g w disk halted merging job is = record {
+  merge = is.merge;
+  is_open = is.is_open;
+  drawn = is.drawn;
+  distinct = is.distinct;
+  tells = is.tells;
+  leavings_tell = is.leavings_tell;
+}
+
+pub fewer_leavings : {V H W : Type 0} {s : _} (job : Job V H W s) (count : ℕ) → length (files_in job) ≤ count
+    → length job.leavings.items ≤ count
+fewer_leavings {W = W} job count less =
+    let both = length-append (map left_of job.made.items) job.leavings.items in omega (arith, less, both)
+
+-- the numbers of what a merge has made that has all of its tables
+pub whole_numbers : {H R W : Type 0} (w : Writers W) (bytes : H → Option (List ℕ)) {s : _} (job : Job (Base H R) H W s) (j : laid_job.Job)
+    → HasAllMerge w bytes job j → numbers_of (made_of job j).tables ++ (made_of job j).leavings ≡ numbers_in job
+whole_numbers {W = W} w bytes job j all =
+    ap (λ (ns : List ℕ). ns ++ map (λ (f : Lent W _). f.number) job.leavings.items) (made_are w job.made.items (outputs j) all.made)
