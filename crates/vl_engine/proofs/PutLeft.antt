@@ -12,7 +12,8 @@ use Rattle.vl_compact.specs.declared.files.Lent.{Lent}
 use Rattle.vl_compact.specs.declared.files.Synced.{Synced}
 use Rattle.vl_compact.specs.declared.job.Job.{Job}
 use Rattle.vl_core.specs.declared.kept.Core.{Core}
-use Rattle.vl_disk.specs.declared.name.Name.{Name}
+use Rattle.vl_disk.specs.Disk.{IsFree}
+use Rattle.vl_disk.specs.declared.name.Name.TheVariants.{Table}
 use Rattle.vl_disk.specs.declared.watched.Watched.{Ghosts}
 use Rattle.vl_disk.specs.declared.writer.Writer.{Ghosts as Writers}
 use Rattle.vl_engine.proofs.LeftRemoved.{few, room_left, there_left}
@@ -23,6 +24,7 @@ use Rattle.vl_engine.specs.Installing.{IsHandedIn, numbers_in}
 use Rattle.vl_engine.specs.Lent.{AreLent}
 use Rattle.vl_engine.specs.Removing.{IsThere, are_distinct, lent_in, numbers_left}
 use Rattle.vl_engine.specs.Retiring.{InstallsInto, IsReadied, LeavesFiles, all_left, files_in, is_idle_in, is_idle_log, left_of, switching}
+use Rattle.vl_engine.specs.Taking.{MayTake}
 use Rattle.vl_engine.specs.UnderWay.{IsUnderWay}
 use Rattle.vl_engine.specs.declared.open.OpenMerge.{OpenMerge}
 use Rattle.vl_layout.specs.Jobs.{AreDistinct}
@@ -209,3 +211,10 @@ module _ {D W H R K : Type 0} (g : Ghosts D) {s : Writers W} (disk : D) (core : 
         (is_idle_in m kept) k) head_is)
         (switched k has_it);
   }
+
+-- The files of tables that may be taken back don't stand.
+pub free_of : {D W : Type 0} (g : Ghosts D) {s : Writers W} (old begun : D) → g.told begun ≡ g.told old → (ts : List (Synced W s))
+    → AllByRecursion (MayTake g s begun) ts → ForSome (g.told old)
+    (λ state. AllByRecursion (λ (n : ℕ). IsFree (Table n) state) (map (λ (t : Synced W s). t.number) ts))
+free_of g old begun told [] may state is = tt
+free_of g old begun told (t ∷ ts) may state is = (may.0.free state (told ∙ is), free_of g old begun told ts may.1 state is)

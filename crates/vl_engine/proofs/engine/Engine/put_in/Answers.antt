@@ -4,10 +4,16 @@ use Rattle.vl_disk.specs.declared.name.Name.TheVariants as names
 use Rattle.vl_engine.proofs.HandedIn.{made_given, may_take_all}
 use Rattle.vl_core.specs.laws.InstallDiskEdits.{install_next}
 use Rattle.vl_engine.proofs.Lending.{leaves_told, no_manifest, still_lent}
-use Rattle.std.specs.Prelude.{length, map, ◌++◌}
-use Rattle.vl_engine.proofs.PutLeft.{off_left, put_into, room_put, there_others}
+use Rattle.std.specs.List.{filter}
+use Rattle.std.specs.Prelude.{None, length, map, ◌++◌}
+use Rattle.vl_pins.specs.Files.{BecomesBy, HasRoom}
+use Rattle.vl_pins.specs.declared.pins.Pins.{Pins}
+use Rattle.vl_table.specs.Tables.{number_of}
+use Rattle.vl_version.specs.Bases.{is_input}
+use Rattle.vl_version.specs.levels.LevelsLooked.{tables_of}
+use Rattle.vl_engine.proofs.PutLeft.{free_of, off_left, put_into, room_put, there_others}
 use Rattle.vl_engine.proofs.PutThere.{there_put}
-use Rattle.vl_engine.specs.Retiring.{LeavesFiles, is_idle_log, left_of}
+use Rattle.vl_engine.specs.Retiring.{LeavesFiles, is_idle_log, left_of, switching}
 use Rattle.vl_engine.proofs.Retired.Changing.{stays_either, stays_itself, stays_readied}
 use Rattle.vl_engine.proofs.Retired.There.{there_quiet, there_used}
 use Rattle.vl_engine.proofs.Switching.{has_put_in, readied_self}
@@ -113,14 +119,20 @@ invariant_of-self-in-Ok-write_install g c =
           (subst (λ ts. InstallsAll g.D.Watched g.D.Held.HeldFile.bytes g.D.Writer.Writer ts.items core.back.manifest.number
           ready.staged.edits.frame.items c.ready_install.new.disk c.write_install.new.disk ready.levels c.write_install.new.levels)
           c.into_parts-made.ensures.made wrote.writes) c.in-Ok-ready_install.ensures.no_change.told c.in-Ok-ready_install.ensures.elsewhere
-          core _ c.leave_files.new.stock c.switch.new.self.stock refl next ?
+          core _ c.leave_files.new.stock c.switch.new.self.stock refl next (free_of g.D.Watched c.args.self.now.disk c.ready_install.new.disk c.in-Ok-ready_install.ensures.no_change.told c.args.job.made.items
+          (may_take_all g.D.Watched g.D.Writer.Writer c.args.self.now.disk c.ready_install.new.disk core.back.state.next_table
+          core.back.manifest.number c.args.job c.in-Ok-ready_install.ensures.no_change.told c.in-Ok-ready_install.ensures.elsewhere
+          core.front.halted c.args.self.now.merging c.args.self.now.lent c.requires.handed c.requires.running).each)
           (off_left g.D.Watched c.args.self.now.disk c.args.self.now.core c.args.self.now.merging c.args.job c.requires.handed c.new.result
     c.new.ensures.items c.make_room.new.self.stock c.leave_files.new.stock
     (subst (λ ls. LeavesFiles (map left_of c.new.result.items ++ ls.items) c.make_room.new.self.stock c.leave_files.new.stock)
     c.into_parts-made.ensures.leavings c.leave_files.ensures) made_room) c.in-Ok-make_room.ensures.readied.room.in_use
           (c.leave_files.ensures.in_use ∙ c.in-Ok-make_room.ensures.readied.room.is_some)
           c.apply_install.new.self.version_number c.deref-in-Ok-write_install-2.result.now
-          (is_idle_log c.head_of-head.result c.args.live) ?
+          (is_idle_log c.head_of-head.result c.args.live)
+          (subst (λ ns. BecomesBy (switching c.apply_install.new.self.version_number ns c.deref-in-Ok-write_install-2.result.now
+          (is_idle_log c.head_of-head.result c.args.live)) c.leave_files.new.stock c.switch.new.self.stock)
+          (c.deref-in-Ok-write_install.ensures.value ∙ c.in-Ok-made_numbers.ensures ∙ ap (map (λ t. t.number)) c.made.ensures) c.switch.ensures.switched)
           (there_others g.D.Watched c.args.self.now.disk c.args.self.now.core c.args.self.now.merging c.args.job c.requires.handed c.new.result
     c.new.ensures.items c.make_room.new.self.stock c.leave_files.new.stock
     (subst (λ ls. LeavesFiles (map left_of c.new.result.items ++ ls.items) c.make_room.new.self.stock c.leave_files.new.stock)
@@ -222,7 +234,10 @@ switch-requires g c =
     c.new.ensures.items c.make_room.new.self.stock c.leave_files.new.stock
     (subst (λ ls. LeavesFiles (map left_of c.new.result.items ++ ls.items) c.make_room.new.self.stock c.leave_files.new.stock)
     c.into_parts-made.ensures.leavings c.leave_files.ensures)
-    (length c.deref-in-Ok-write_install.result.now) c.lent_count-lent.result c.lent_count-lent.ensures ?
+    (length c.deref-in-Ok-write_install.result.now) c.lent_count-lent.result c.lent_count-lent.ensures
+    (subst (λ n. HasRoom c.make_room.new.self.stock n 1 c.lent_count-lent.result) (let a = c.len.ensures in let b = c.in-Ok-made_numbers.added.ok.0 in
+    let d = ap length c.deref-in-Ok-write_install.ensures.value in omega (arith, a, b, d))
+    c.in-Ok-make_room.ensures.readied.room)
 
 pub returns-in-Ok-write_install-clause-cause : goal.returns-in-Ok-write_install-clause-cause
 returns-in-Ok-write_install-clause-cause g c =
@@ -230,7 +245,7 @@ returns-in-Ok-write_install-clause-cause g c =
 
 pub returns-in-Ok-write_install-clause-retires : goal.returns-in-Ok-write_install-clause-retires
 returns-in-Ok-write_install-clause-retires g c = (
-    ?,
+    c.switch.ensures.pins ∙ ap (λ (p : Pins). record p { merge = None }) c.make_room.ensures.pins,
     put_into g.D.Watched c.args.self.now.disk c.args.self.now.core c.args.self.now.merging c.args.job c.requires.handed c.new.result
     c.new.ensures.items c.make_room.new.self.stock c.leave_files.new.stock
     (subst (λ ls. LeavesFiles (map left_of c.new.result.items ++ ls.items) c.make_room.new.self.stock c.leave_files.new.stock)
@@ -238,7 +253,13 @@ returns-in-Ok-write_install-clause-retires g c = (
     c.args.self.now.core _ c.deref-in-Ok-write_install.result.now c.deref-in-Ok-write_install-2.result.now c.head_of-head.result
     c.apply_install.new.self.version_number c.len.result c.lent_count-lent.result c.args.live c.switch-in-Ok-write_install.new.self.tally
     c.args.self.now.removing.stock c.switch.new.self.stock
-    ? ? c.apply_install.ensures.version c.head_of-head.ensures
-    (c.switch-in-Ok-write_install.ensures.live c.requires.tallied c.head_of-head.result) ? c.lent_count-lent.ensures
+    (c.deref-in-Ok-write_install.ensures.value ∙ c.in-Ok-made_numbers.ensures ∙ ap (map (λ t. t.number)) c.made.ensures)
+    (c.deref-in-Ok-write_install-2.ensures.value ∙ c.in-Ok-input_numbers.ensures
+    ∙ ap (λ ns. map number_of (filter (is_input ns) (tables_of c.levels.result.now)))
+    (c.deref-2.ensures.value ∙ c.in-Ok.ensures ∙ ap (map number_of) (c.deref.ensures.value ∙ ap (λ i. i.tables.items) c.inputs.ensures))
+    ∙ ap (λ lv. map number_of (filter (is_input (map number_of c.args.job.inputs.tables.items)) (tables_of lv))) c.levels.ensures) c.apply_install.ensures.version c.head_of-head.ensures
+    (c.switch-in-Ok-write_install.ensures.live c.requires.tallied)
+    (let a = c.len.ensures in let b = c.in-Ok-made_numbers.added.ok.0 in
+    let d = ap length c.deref-in-Ok-write_install.ensures.value in omega (arith, a, b, d)) c.lent_count-lent.ensures
     c.in-Ok-make_room.ensures.readied c.switch.ensures.switched,
   )
