@@ -68,7 +68,7 @@ use Rattle.vl_version.specs.levels.LevelsLooked.{tables_of}
 -- ---- numbers
 
 -- those of the tables that a merge made
-made_are : {W : Type 0} (w : Writers W) {s : _} (made : List (Synced W s)) (ess : List (List Entry)) → AllZip (IsTableFile w) made ess
+pub made_are : {W : Type 0} (w : Writers W) {s : _} (made : List (Synced W s)) (ess : List (List Entry)) → AllZip (IsTableFile w) made ess
     → numbers_of (tables_made (map (λ (t : Synced W s). t.number) made) ess) ≡ map (λ (t : Synced W s). t.number) made
 made_are w [] [] zip = refl
 made_are w [] (es ∷ ess) zip = absurd zip
