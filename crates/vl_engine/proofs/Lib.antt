@@ -33,6 +33,7 @@ pub mod LeftRemoved
 pub mod Lending
 pub mod LendsNew
 mod MoveRemoved
+mod OpenedThere
 mod PassLaws
 mod Picking
 mod Pinned

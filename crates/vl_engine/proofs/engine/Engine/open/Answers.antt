@@ -7,6 +7,7 @@ use Rattle.vl_core.specs.laws.Opened.{opened_stands, opening_through, opens_stil
 use Rattle.vl_engine.proofs.engine.Engine.open.Goals as goal
 use Rattle.vl_core.specs.Found.{recovered}
 use Rattle.vl_core.specs.Known.{are_known}
+use Rattle.vl_engine.proofs.OpenedThere.{opened_there}
 use Rattle.vl_engine.proofs.Readable.{begun_readable}
 use Rattle.vl_engine.proofs.StartRemoved.{removes_at_start}
 use Rattle.vl_engine.proofs.TallyBegun.{sealed_begun}
@@ -107,6 +108,51 @@ invariant_of-result g c = record {
         logs = c.new.ensures.logs;
       }) c.in-Ok-recover.ensures.numbered;
   lent = λ o is. absurd cc;
+  there = λ running. opened_there g.D.Watched g.D.Writer.Writer g.D.Held.HeldFile.bytes c.args.room c.args.disk
+      c.in-Ok-recover.parts.disk
+      (record {
+        version = c.new.result;
+        front = c.new-2.result;
+        back = record {
+          manifest = c.in-Ok-recover.parts.manifest;
+          state = c.in-Ok-recover.parts.state;
+          next_log = c.max-next_log.result;
+          version_number = 0;
+          waiting = c.in-Ok-recover.parts.waiting;
+        };
+      }) c.new-4.result c.in-Ok-recover.ensures.untold c.in-Ok-recover.ensures.repaired
+      (λ state read found told is_read.
+      let (other, unused, opened) = c.in-Ok-recover.ensures.answer state read told is_read in
+      opened_core c.in-Ok-recover.parts c.args.room
+      (record {
+        version = c.new.result;
+        front = c.new-2.result;
+        back = record {
+          manifest = c.in-Ok-recover.parts.manifest;
+          state = c.in-Ok-recover.parts.state;
+          next_log = c.max-next_log.result;
+          version_number = 0;
+          waiting = c.in-Ok-recover.parts.waiting;
+        };
+      })
+      (record {
+        last = c.new-2.ensures.oracle;
+        knows = c.new-2.ensures.knows;
+        log = c.new-2.ensures.log.0;
+        room_is = c.new-2.ensures.log.1 ∙ c.in-Ok-recover.ensures.room;
+        halted = c.new-2.ensures.log.2;
+        state = refl;
+        next_log = c.max-next_log.ensures ∙ ap (max c.in-Ok-recover.parts.state.next_log) c.saturating_add.ensures;
+        manifest = refl;
+        version_number = refl;
+        waiting = refl;
+        active = c.new.ensures.active;
+        frozen = c.new.ensures.frozen;
+        leveled = subst (AreLeveled c.in-Ok-recover.parts.levels.items) (sym c.new.ensures.levels) c.with_levels-leveled.ensures;
+        logs = c.new.ensures.logs;
+      }) read found other opened g.D.Held.HeldFile.bytes c.in-Ok-recover.ensures.active
+      (c.in-Ok-recover.ensures.tables state read told is_read) (c.in-Ok-recover.ensures.logs state read found told is_read))
+      c.new-4.ensures.in_use c.new-4.ensures.trash;
   known = ap (λ (held : Contents). are_known c.new-2.result.oracle.last held.entries) c.new.ensures.active;
 }
 
@@ -278,8 +324,13 @@ returns-clause-collects g c state read found h told is_read shown = record {
 pub returns-clause-removes : goal.returns-clause-removes
 returns-clause-removes g c state read found h told is_read shown =
     removes_at_start _ _ found h shown c.args.room
-    (record { live = c.new-3.ensures.live; merge = c.new-3.ensures.merge; pass = c.new-3.ensures.pass; in_use = c.new-4.ensures.in_use;
-      trash = c.new-4.ensures.trash }) (returns-clause-back g c state read found told is_read)
+    (record {
+      live = c.new-3.ensures.live;
+      merge = c.new-3.ensures.merge;
+      pass = c.new-3.ensures.pass;
+      in_use = c.new-4.ensures.in_use;
+      trash = c.new-4.ensures.trash;
+    }) (returns-clause-back g c state read found told is_read)
     (subst (λ (logs : List (SealedLog g.row.D-Held.Denot)). AreSealed logs (layout_at_start c.args.room (recovered found shown)))
     (sym c.new.ensures.logs)
     (sealed_begun g.D.Held.HeldFile.bytes found h shown c.args.room c.in-Ok-recover.parts.sealed.items
