@@ -275,7 +275,7 @@ one_more_table a n ts ls state free (Log m) stands is = is
 one_more_table a n ts ls state free (Table m) stands is = has_end_not n m ts is (table_off n state (Table m) free stands)
 one_more_table a n ts ls state free (Manifest m) stands is = is
 
-more_tables : (a n : ℕ) (ts ls : List ℕ) (state : DiskState) → IsFree (Table n) state → (names : List Name) → NamesStand names state
+pub more_tables : (a n : ℕ) (ts ls : List ℕ) (state : DiskState) → IsFree (Table n) state → (names : List Name) → NamesStand names state
     → are_unused a ts ls names ≡ true → are_unused a (ts ++ n ∷ []) ls names ≡ true
 more_tables a n ts ls state free [] stand is = refl
 more_tables a n ts ls state free (m ∷ ns) stand is =
