@@ -258,6 +258,7 @@ module _ {D W H V K : Type 0} (g : Ghosts D) {s : Writers W} (disk : D) (core : 
       where
         never : Some file ≡ None → ⊥
         never e = cc
+
         same : (x : Lent W s) → Some file ≡ Some x → file ≡ x
         same x e = cc
 

@@ -428,10 +428,12 @@ module _ {W : Type 0} {s : _} where
       by : (r : Bool) → nat_lt (deque_len b.trash) (deque_capacity b.trash) ≡ r
           → (kept : List (Lent W s)) × (c.trash.items ≡ a.trash.items ++ all_left kept)
       by true test =
-          let less : deque_len b.trash < deque_capacity b.trash = grind (arith, nat_tests, test) in
-          (is.some.0 ++ x ∷ [], left less ∙ ap (λ zs. zs ++ left_at x.number x ∷ []) is.some.1
-          ∙ append_assoc a.trash.items (all_left is.some.0) (left_at x.number x ∷ [])
-          ∙ ap (λ zs. a.trash.items ++ zs) (sym (left_both is.some.0 (x ∷ []))))
+          let less : deque_len b.trash < deque_capacity b.trash = grind (arith, nat_tests, test) in (
+            is.some.0 ++ x ∷ [],
+            left less ∙ ap (λ zs. zs ++ left_at x.number x ∷ []) is.some.1
+                ∙ append_assoc a.trash.items (all_left is.some.0) (left_at x.number x ∷ [])
+                ∙ ap (λ zs. a.trash.items ++ zs) (sym (left_both is.some.0 (x ∷ []))),
+          )
       by false test =
           let more : deque_capacity b.trash ≤ deque_len b.trash = grind (arith, nat_tests, test) in
           (is.some.0, ap deque_items (full more) ∙ is.some.1)

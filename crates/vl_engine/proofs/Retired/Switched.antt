@@ -42,7 +42,7 @@ use Rattle.vl_pins.specs.declared.stock.Stock.{Stock}
 -- ---- names
 
 fewer_has : (n m : ℕ) (ns : List ℕ) → not (has m ns) ≡ true → not (has m (but n ns)) ≡ true
-fewer_has n m ns is = ap not (has_filtered (λ (k : ℕ). not (k == n)) m ns ∙ by (has m ns) is) 
+fewer_has n m ns is = ap not (has_filtered (λ (k : ℕ). not (k == n)) m ns ∙ by (has m ns) is)
   where
     by : (b : Bool) → not b ≡ true → (b && not (m == n)) ≡ false
     by true is = absurd (let clash : false ≡ true = is in cc)

@@ -89,13 +89,13 @@ module _ (p : Retired → Bool) where
       by : (b : Bool) → p x ≡ b
           → filter (λ (r : Retired). not (list_any (is_same r.file) (files_of (filter p rs)))) rs ≡ filter (λ (r : Retired). not (p r)) rs
           → (if not (list_any (is_same x.file) (files_of (if b then x ∷ filter p rs else filter p rs)))
-            then x ∷ filter (λ (r : Retired). not (list_any (is_same r.file) (files_of (if b then x ∷ filter p rs else filter p rs)))) rs
-            else filter (λ (r : Retired). not (list_any (is_same r.file) (files_of (if b then x ∷ filter p rs else filter p rs)))) rs)
+          then x ∷ filter (λ (r : Retired). not (list_any (is_same r.file) (files_of (if b then x ∷ filter p rs else filter p rs)))) rs
+          else filter (λ (r : Retired). not (list_any (is_same r.file) (files_of (if b then x ∷ filter p rs else filter p rs)))) rs)
           ≡ (if not b then x ∷ filter (λ (r : Retired). not (p r)) rs else filter (λ (r : Retired). not (p r)) rs)
       by true is later =
           ap (λ (b : Bool). if not (b || list_any (is_same x.file) (files_of (filter p rs)))
-            then x ∷ filter (λ (r : Retired). not (is_same r.file x.file || list_any (is_same r.file) (files_of (filter p rs)))) rs
-            else filter (λ (r : Retired). not (is_same r.file x.file || list_any (is_same r.file) (files_of (filter p rs)))) rs)
+          then x ∷ filter (λ (r : Retired). not (is_same r.file x.file || list_any (is_same r.file) (files_of (filter p rs)))) rs
+          else filter (λ (r : Retired). not (is_same r.file x.file || list_any (is_same r.file) (files_of (filter p rs)))) rs)
           (same_file x.file)
           ∙ filter_alike (λ (r : Retired). not (is_same r.file x.file || list_any (is_same r.file) (files_of (filter p rs))))
           (λ (r : Retired). not (list_any (is_same r.file) (files_of (filter p rs)))) rs
@@ -142,6 +142,7 @@ module _ {L : Type 0} (l : Layout) (pins : Pins) (trash : List (RetiredFile L)) 
     where
       free : not (is_held (pins_of l) r) ≡ nat_le r.version_number (bound_of version pins)
       free = free_up_to l r old pins are ∙ ap (λ (v : ℕ). nat_le r.version_number (bound_of v pins)) (sym version_is)
+
       by : (o : Option ℕ) → (not (is_held (pins_of l) r) && is_retired_up_to o r) ≡ nat_le r.version_number (up_to o version pins)
       by None = and_true (not (is_held (pins_of l) r)) ∙ free
       by (Some n) = ap (λ (b : Bool). b && nat_le r.version_number n) free ∙ least_of r.version_number n (bound_of version pins)

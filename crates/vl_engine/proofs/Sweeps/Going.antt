@@ -97,14 +97,20 @@ module _ {D W : Type 0} (g : Ghosts D) (w : Writers W) {s : _} where
   one_told file files old new tell one state told = by file.lent refl one.takes
     where
       by : (o : Option (Lent W s)) → file.lent ≡ o → TakesIfLent g w o file.name old one.mid → (now : DiskState) × (g.told new ≡ Some now)
-      by None none takes = (without file.name state, one.removes.removed
-          ∙ ap (option_map (without file.name)) (ap g.told takes ∙ told))
+      by None none takes = (
+        without file.name state,
+        one.removes.removed
+            ∙ ap (option_map (without file.name)) (ap g.told takes ∙ told),
+      )
       by (Some lent) some takes = taken (w.file lent.writer) (tell.0 lent some state told) takes
         where
           taken : (o : Option File) → is_some o ≡ true → Adopts g file.name o old one.mid → (now : DiskState) × (g.told new ≡ Some now)
           taken None tells adopts = absurd (false_true tells)
-          taken (Some f) tells adopts = (without file.name (adopted file.name f state), one.removes.removed
-              ∙ ap (option_map (without file.name)) (adopts.adopted state told f refl))
+          taken (Some f) tells adopts = (
+            without file.name (adopted file.name f state),
+            one.removes.removed
+                ∙ ap (option_map (without file.name)) (adopts.adopted state told f refl),
+          )
 
   pub all_told : (files : List (RetiredFile (Lent W s))) (old new : D) → Tell old files → RemovesAll g w files old new → (name : Name)
       → AllByRecursion (λ (file : RetiredFile (Lent W s)). name ≢ file.name) files → (state : DiskState) → g.told old ≡ Some state

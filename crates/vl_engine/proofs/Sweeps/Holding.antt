@@ -171,9 +171,11 @@ module _ {D : Type 0} (g : Ghosts D) (watched : IsWatched g)
           pub fails_opens : Tells g new MayOpen
           fails_opens = ⊎_elim
               (λ (same : g.told new ≡ g.told one.mid). (mid_there.state, same ∙ mid_there.told, mid_there.opens))
-              (λ (changed : IsChangedBy (without file.name) (g.told one.mid) (g.told new)).
-              (without file.name mid_there.state, changed ∙ ap (option_map (without file.name)) mid_there.told,
-              held_opens_again b l h base (without file.name mid_there.state) tidy.levels mid_there.holds))
+              (λ (changed : IsChangedBy (without file.name) (g.told one.mid) (g.told new)). (
+                without file.name mid_there.state,
+                changed ∙ ap (option_map (without file.name)) mid_there.told,
+                held_opens_again b l h base (without file.name mid_there.state) tidy.levels mid_there.holds,
+              ))
               one.removes.failed
 
           some_is : (x y : DiskState) → Some x ≡ Some y → x ≡ y

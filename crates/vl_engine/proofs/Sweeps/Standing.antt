@@ -176,7 +176,7 @@ module _ {D W H : Type 0} (g : Ghosts D) (w : Writers W) {s : _} (old new : D) (
       room = let room = (stock runs).room in let capacity = did.2.capacity in
           let old_len = before.stock.trash.ok.0 in let new_len = now.stock.trash.ok.0 in
           let less = subst (λ (files : List (RetiredFile (Lent W s))). length files ≤ length before.stock.trash.items) (sym did.2.waiting)
-              (shorter _ before.stock.trash.items) in
+          (shorter _ before.stock.trash.items) in
           omega (arith, room, capacity, old_len, new_len, less);
     };
     below = λ is_low runs. kept_below (swept least l) (removes.below is_low runs);

@@ -124,9 +124,9 @@ invariant_of-self-in-Ok-write_install g c =
           core.back.manifest.number c.args.job c.in-Ok-ready_install.ensures.no_change.told c.in-Ok-ready_install.ensures.elsewhere
           core.front.halted c.args.self.now.merging c.args.self.now.lent c.requires.handed c.requires.running).each)
           (off_left g.D.Watched c.args.self.now.disk c.args.self.now.core c.args.self.now.merging c.args.job c.requires.handed c.new.result
-    c.new.ensures.items c.make_room.new.self.stock c.leave_files.new.stock
-    (subst (λ ls. LeavesFiles (map left_of c.new.result.items ++ ls.items) c.make_room.new.self.stock c.leave_files.new.stock)
-    c.into_parts-made.ensures.leavings c.leave_files.ensures) made_room) c.in-Ok-make_room.ensures.readied.room.in_use
+          c.new.ensures.items c.make_room.new.self.stock c.leave_files.new.stock
+          (subst (λ ls. LeavesFiles (map left_of c.new.result.items ++ ls.items) c.make_room.new.self.stock c.leave_files.new.stock)
+          c.into_parts-made.ensures.leavings c.leave_files.ensures) made_room) c.in-Ok-make_room.ensures.readied.room.in_use
           (c.leave_files.ensures.in_use ∙ c.in-Ok-make_room.ensures.readied.room.is_some)
           c.apply_install.new.self.version_number c.deref-in-Ok-write_install-2.result.now
           (is_idle_log c.head_of-head.result c.args.live)
@@ -134,9 +134,9 @@ invariant_of-self-in-Ok-write_install g c =
           (is_idle_log c.head_of-head.result c.args.live)) c.leave_files.new.stock c.switch.new.self.stock)
           (c.deref-in-Ok-write_install.ensures.value ∙ c.in-Ok-made_numbers.ensures ∙ ap (map (λ t. t.number)) c.made.ensures) c.switch.ensures.switched)
           (there_others g.D.Watched c.args.self.now.disk c.args.self.now.core c.args.self.now.merging c.args.job c.requires.handed c.new.result
-    c.new.ensures.items c.make_room.new.self.stock c.leave_files.new.stock
-    (subst (λ ls. LeavesFiles (map left_of c.new.result.items ++ ls.items) c.make_room.new.self.stock c.leave_files.new.stock)
-    c.into_parts-made.ensures.leavings c.leave_files.ensures) running c.args.self.now.lent made_room);
+          c.new.ensures.items c.make_room.new.self.stock c.leave_files.new.stock
+          (subst (λ ls. LeavesFiles (map left_of c.new.result.items ++ ls.items) c.make_room.new.self.stock c.leave_files.new.stock)
+          c.into_parts-made.ensures.leavings c.leave_files.ensures) running c.args.self.now.lent made_room);
     }
 
 pub returns-in-Ok-write_install-clause-as_installed : goal.returns-in-Ok-write_install-clause-as_installed
@@ -245,21 +245,21 @@ returns-in-Ok-write_install-clause-cause g c =
 
 pub returns-in-Ok-write_install-clause-retires : goal.returns-in-Ok-write_install-clause-retires
 returns-in-Ok-write_install-clause-retires g c = (
-    c.switch.ensures.pins ∙ ap (λ (p : Pins). record p { merge = None }) c.make_room.ensures.pins,
-    put_into g.D.Watched c.args.self.now.disk c.args.self.now.core c.args.self.now.merging c.args.job c.requires.handed c.new.result
-    c.new.ensures.items c.make_room.new.self.stock c.leave_files.new.stock
-    (subst (λ ls. LeavesFiles (map left_of c.new.result.items ++ ls.items) c.make_room.new.self.stock c.leave_files.new.stock)
-    c.into_parts-made.ensures.leavings c.leave_files.ensures)
-    c.args.self.now.core _ c.deref-in-Ok-write_install.result.now c.deref-in-Ok-write_install-2.result.now c.head_of-head.result
-    c.apply_install.new.self.version_number c.len.result c.lent_count-lent.result c.args.live c.switch-in-Ok-write_install.new.self.tally
-    c.args.self.now.removing.stock c.switch.new.self.stock
-    (c.deref-in-Ok-write_install.ensures.value ∙ c.in-Ok-made_numbers.ensures ∙ ap (map (λ t. t.number)) c.made.ensures)
-    (c.deref-in-Ok-write_install-2.ensures.value ∙ c.in-Ok-input_numbers.ensures
-    ∙ ap (λ ns. map number_of (filter (is_input ns) (tables_of c.levels.result.now)))
-    (c.deref-2.ensures.value ∙ c.in-Ok.ensures ∙ ap (map number_of) (c.deref.ensures.value ∙ ap (λ i. i.tables.items) c.inputs.ensures))
-    ∙ ap (λ lv. map number_of (filter (is_input (map number_of c.args.job.inputs.tables.items)) (tables_of lv))) c.levels.ensures) c.apply_install.ensures.version c.head_of-head.ensures
-    (c.switch-in-Ok-write_install.ensures.live c.requires.tallied)
-    (let a = c.len.ensures in let b = c.in-Ok-made_numbers.added.ok.0 in
-    let d = ap length c.deref-in-Ok-write_install.ensures.value in omega (arith, a, b, d)) c.lent_count-lent.ensures
-    c.in-Ok-make_room.ensures.readied c.switch.ensures.switched,
-  )
+  c.switch.ensures.pins ∙ ap (λ (p : Pins). record p { merge = None }) c.make_room.ensures.pins,
+  put_into g.D.Watched c.args.self.now.disk c.args.self.now.core c.args.self.now.merging c.args.job c.requires.handed c.new.result
+      c.new.ensures.items c.make_room.new.self.stock c.leave_files.new.stock
+      (subst (λ ls. LeavesFiles (map left_of c.new.result.items ++ ls.items) c.make_room.new.self.stock c.leave_files.new.stock)
+      c.into_parts-made.ensures.leavings c.leave_files.ensures)
+      c.args.self.now.core _ c.deref-in-Ok-write_install.result.now c.deref-in-Ok-write_install-2.result.now c.head_of-head.result
+      c.apply_install.new.self.version_number c.len.result c.lent_count-lent.result c.args.live c.switch-in-Ok-write_install.new.self.tally
+      c.args.self.now.removing.stock c.switch.new.self.stock
+      (c.deref-in-Ok-write_install.ensures.value ∙ c.in-Ok-made_numbers.ensures ∙ ap (map (λ t. t.number)) c.made.ensures)
+      (c.deref-in-Ok-write_install-2.ensures.value ∙ c.in-Ok-input_numbers.ensures
+      ∙ ap (λ ns. map number_of (filter (is_input ns) (tables_of c.levels.result.now)))
+      (c.deref-2.ensures.value ∙ c.in-Ok.ensures ∙ ap (map number_of) (c.deref.ensures.value ∙ ap (λ i. i.tables.items) c.inputs.ensures))
+      ∙ ap (λ lv. map number_of (filter (is_input (map number_of c.args.job.inputs.tables.items)) (tables_of lv))) c.levels.ensures) c.apply_install.ensures.version c.head_of-head.ensures
+      (c.switch-in-Ok-write_install.ensures.live c.requires.tallied)
+      (let a = c.len.ensures in let b = c.in-Ok-made_numbers.added.ok.0 in
+      let d = ap length c.deref-in-Ok-write_install.ensures.value in omega (arith, a, b, d)) c.lent_count-lent.ensures
+      c.in-Ok-make_room.ensures.readied c.switch.ensures.switched,
+)
