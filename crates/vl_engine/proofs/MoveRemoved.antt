@@ -51,7 +51,8 @@ module _ (S : Layout → Type 0) (l : Layout) (h : History) (kept : S l) (done :
       by None = by_moved (moved_of (sources l) pass.segment (last_number h) batch)
 
 -- What is told of moves leaves what was lent to a job, and its pin.
-lent_kept : (number : ℕ) (moved : List Moved) (o : Option OpenJob) → length (lent_numbers (with_moves number moved o)) ≤ length (lent_numbers o)
+lent_kept : (number : ℕ) (moved : List Moved) (o : Option OpenJob)
+    → length (lent_numbers (with_moves number moved o)) ≤ length (lent_numbers o)
 lent_kept number moved None = omega arith
 lent_kept number moved (Some job) = omega arith
 
@@ -105,5 +106,6 @@ lent_noted None (Some after) notes did = absurd did
 lent_noted (Some merge) None notes did = absurd did
 lent_noted (Some merge) (Some after) notes did = λ i. (did.0 i).items
 
-pub head_moved : (after before : Back) (number : ℕ) → after ≡ record before { version_number = number } → after.state.head ≡ before.state.head
+pub head_moved : (after before : Back) (number : ℕ) → after ≡ record before { version_number = number }
+    → after.state.head ≡ before.state.head
 head_moved after before number is = ap (λ (b : Back). b.state.head) is

@@ -103,7 +103,8 @@ module _ {D W H R K : Type 0} (g : Ghosts D) {s : Writers W} (disk : D) (core : 
   way = record {
     merge = handed.merge;
     is_open = handed.is_open;
-    drawn = subst (λ (ts : List (Synced W s)). AllByRecursion (λ (n : ℕ). has n handed.merge.lent.items ≡ true) (NumbersWith ts)) (sym none_is)
+    drawn = subst (λ (ts : List (Synced W s)). AllByRecursion (λ (n : ℕ). has n handed.merge.lent.items ≡ true) (NumbersWith ts))
+        (sym none_is)
         (back_all (λ (n : ℕ). has n handed.merge.lent.items ≡ true) made_numbers left_numbers handed.drawn);
     distinct = subst (λ (ts : List (Synced W s)). AreDistinct (NumbersWith ts)) (sym none_is)
         (back_distinct made_numbers left_numbers handed.distinct);

@@ -73,7 +73,8 @@ module _ (p : Retired → Bool) where
   abbrev gone : List Retired → List FileName
   gone rs = files_of (filter p rs)
 
-  others : (f : FileName) (rs : List Retired) → is_in f (files_of rs) ≡ false → AllByRecursion (λ (r : Retired). is_same r.file f ≡ false) rs
+  others : (f : FileName) (rs : List Retired) → is_in f (files_of rs) ≡ false
+      → AllByRecursion (λ (r : Retired). is_same r.file f ≡ false) rs
   others f [] off = tt
   others f (r ∷ rs) off = let both = or_false (is_same f r.file) (is_in f (files_of rs)) off in
       (turned f r.file both.0, others f rs both.1)
@@ -172,7 +173,8 @@ module _ {L : Type 0} (l : Layout) (pins : Pins) (trash : List (RetiredFile L)) 
   swept_count = ap length swept_are ∙ length_names (ready (up_to least version pins) trash)
 
   -- and the others are left.
-  pub left_are : AreOnce (files_of l.retired) → all_retired (held (up_to least version pins) trash) ≡ (without_files (swept least l) l).retired
+  pub left_are : AreOnce (files_of l.retired)
+      → all_retired (held (up_to least version pins) trash) ≡ (without_files (swept least l) l).retired
   left_are once = map-filter retired_of (λ (file : RetiredFile L). not (is_up_to (up_to least version pins) file))
       (λ (r : Retired). not (is_ready r)) (λ x. refl) trash ∙ ap (filter (λ (r : Retired). not (is_ready r))) trash_is
       ∙ sym (left_over is_ready l.retired once)

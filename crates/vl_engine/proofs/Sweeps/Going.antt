@@ -176,7 +176,8 @@ module _ {D W : Type 0} (g : Ghosts D) (w : Writers W) {s : _} where
   tell_after (file ∷ files) others old new tell more all = tell_after files others all.0 new
       (tell_then file files old all.0 tell (Ok tt) all.1) (tell_then file others old all.0 (tell.0, more) (Ok tt) all.1) all.2
 
-  front_apart : (xs ys : List (RetiredFile (Lent W s))) (name : Name) → AllByRecursion (λ (other : Name). name ≢ other) (names_of (xs ++ ys))
+  front_apart : (xs ys : List (RetiredFile (Lent W s))) (name : Name)
+      → AllByRecursion (λ (other : Name). name ≢ other) (names_of (xs ++ ys))
       → AllByRecursion (λ (other : Name). name ≢ other) (names_of xs) × AllByRecursion (λ (other : Name). name ≢ other) (names_of ys)
   front_apart [] ys name apart = (tt, apart)
   front_apart (x ∷ xs) ys name apart = let rest = front_apart xs ys name apart.1 in ((apart.0, rest.0), rest.1)

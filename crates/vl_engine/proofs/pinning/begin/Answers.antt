@@ -17,7 +17,8 @@ pub returns-in-Err-clause-unpinned : goal.returns-in-Err-clause-unpinned
 returns-in-Err-clause-unpinned c l live =
     elim c.match-begin.branch [
       | in-Ok w ↦ unpinned_so c.args.front.now.oracle c.args.pins.now c.args.version l live c.begin.new.self c.unpin.new.pins
-          w.in-Ok.ticket w.in-Ok.ensures.begun.0 w.in-Ok.ensures.begun.1 (c.unpin.ensures ∙ ap (λ (o : Option ℕ). without_pin o c.begin.new.self) w.pinned-is)
+          w.in-Ok.ticket w.in-Ok.ensures.begun.0 w.in-Ok.ensures.begun.1
+          (c.unpin.ensures ∙ ap (λ (o : Option ℕ). without_pin o c.begin.new.self) w.pinned-is)
       | in-Err-TooMany w ↦ raised_so c.args.front.now.oracle c.args.pins.now c.args.version l live c.unpin.new.pins
           (c.unpin.ensures ∙ ap (λ (o : Option ℕ). without_pin o c.begin.new.self) w.pinned-is ∙ w.in-Err-TooMany.ensures.refused)
     ]
