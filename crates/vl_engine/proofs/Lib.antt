@@ -39,6 +39,8 @@ mod Picking
 mod Pinned
 pub mod Planning
 pub mod PutIn
+mod PutLeft
+mod PutThere
 mod Readable
 pub mod ReadingPast
 pub mod RelocatingAnswers

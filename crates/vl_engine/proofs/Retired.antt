@@ -2,6 +2,7 @@
 pub mod Changing
 pub mod Flushing
 pub mod Installing
+pub mod Installs
 pub mod Kept
 pub mod Laid
 pub mod Retiring

@@ -132,7 +132,7 @@ install_by l h job made P left put = by l.halted
     by None = checked (race job (moved_since l.job))
     by (Some name) = left (install.Halted name) (λ e. cc)
 
-install_layout : (l : Layout) (h : History) (job : laid_job.Job) (made : Made) → (install_ruling l h job made).answer ≡ Installed
+pub install_layout : (l : Layout) (h : History) (job : laid_job.Job) (made : Made) → (install_ruling l h job made).answer ≡ Installed
     → (install_ruling l h job made).layout ≡ installed job made l
 install_layout l h job made = install_by l h job made (λ r. r.answer ≡ Installed → r.layout ≡ installed job made l)
     (λ a other is. absurd (other is)) (λ is. refl)
@@ -200,7 +200,7 @@ install_readable : (l : Layout) (h : History) (job : laid_job.Job) (made : Made)
 install_readable l h job made is = install_by l h job made (λ r. AreReadable r.layout) (λ a other. is)
     (all_filtered IsLogFile (λ (s : Segment). not (is_idle (put_in job made l) s)) l.flushed is)
 
-install_history : (l : Layout) (h : History) (job : laid_job.Job) (made : Made) → (install_ruling l h job made).history ≡ h
+pub install_history : (l : Layout) (h : History) (job : laid_job.Job) (made : Made) → (install_ruling l h job made).history ≡ h
 install_history l h job made = install_by l h job made (λ r. r.history ≡ h) (λ a other. refl) refl
 
 module _ {H : Type 0} (core : Core H) (kept : Collecting) (S : History → Layout → Type 0) (h : History) (l : Layout)

@@ -122,6 +122,8 @@ module _ {D W : Type 0} (g : Ghosts D) (w : Writers W) {s : _} (t : Synced W s) 
             (λ now during disk is. inr (during (adopted name (file_of_table w t) disk)
             (taken ∙ ap (option_map (adopted name (file_of_table w t))) is)));
         manifests = λ n. uses.elsewhere (Manifest n) (other_name n t.number) ∙ adopts.spare.elsewhere (Manifest n) (other_name n t.number);
+        others = λ n apart. uses.elsewhere (table_name n) (λ e. apart.0 (table_same n t.number e))
+            ∙ adopts.spare.elsewhere (table_name n) (λ e. apart.0 (table_same n t.number e));
       }
 
       pub one_elsewhere : SameSpareElsewhere name (g.spare old) (g.spare new)
@@ -159,6 +161,7 @@ module _ {D W : Type 0} (g : Ghosts D) (w : Writers W) {s : _} where
       as_planned = λ stop plan. plan;
     };
     manifests = λ n. refl;
+    others = λ n apart. refl;
   }
     where
       same : (o : Option DiskState) → o ≡ option_map (λ d. d) o
@@ -176,8 +179,14 @@ module _ {D W : Type 0} (g : Ghosts D) (w : Writers W) {s : _} where
         (λ now during disk is. while_behind w ts us disk now
         (during (with_files w ts disk) (first.changed ∙ ap (option_map (with_files w ts)) is)));
     manifests = λ n. second.manifests n ∙ first.manifests n;
+    others = λ n apart. let parts = both_apart n ts apart in second.others n parts.1 ∙ first.others n parts.0;
   }
     where
+      both_apart : (n : ℕ) (xs : List (Synced W s)) → AllByRecursion (λ (t : Synced W s). n ≢ t.number) (xs ++ us)
+          → AllByRecursion (λ (t : Synced W s). n ≢ t.number) xs × AllByRecursion (λ (t : Synced W s). n ≢ t.number) us
+      both_apart n [] apart = (tt, apart)
+      both_apart n (x ∷ xs) apart = let rest = both_apart n xs apart.1 in ((apart.0, rest.0), rest.1)
+
       both : (o : Option DiskState) → option_map (with_files w us) (option_map (with_files w ts) o) ≡ option_map (with_files w (ts ++ us)) o
       both None = refl
       both (Some disk) = ap (λ (d : DiskState). Some d) (sym (with_more w ts us disk))

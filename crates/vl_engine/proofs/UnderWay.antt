@@ -1,23 +1,27 @@
 -- A merge that is carried out beside the engine: what each table that it makes leaves of what an install asks.
-use Rattle.std.specs.Prelude.{◌≡◌, ℕ, ◌||◌, ◌==◌, Bool, true, false, List, [], ◌∷◌, ◌++◌, map, Option, None, Some, IsSome}
+use Rattle.std.specs.Prelude.{◌≡◌, ℕ, ◌||◌, ◌==◌, Bool, true, false, List, [], ◌∷◌, ◌++◌, map, Option, None, Some, IsSome, Err}
 use Rattle.std.specs.List.{AllByRecursion}
 use Rattle.std.specs.Option.{ForSome, option_map}
 use Rattle.std.proofs.Common.{sym, ap, subst, ◌∙◌, arith, refl}
 use Rattle.std.proofs.lemmas.Bool.Decides.{nat_tests}
 use Rattle.std.proofs.lemmas.List.{map-append}
-use Rattle.vl_compact.specs.Progress.{IsNew, KeepsAll, Takes}
+use Rattle.vl_compact.specs.Progress.{IsNew, KeepsAll, Leaves, Takes}
 use Rattle.vl_compact.specs.declared.files.Lent.{Lent}
 use Rattle.vl_compact.specs.declared.files.Synced.{Synced}
 use Rattle.vl_compact.specs.declared.job.Job.{Job}
+use Rattle.vl_core.specs.declared.kept.Core.{Core}
+use Rattle.vl_disk.specs.Calls.{ChangesNothing}
 use Rattle.vl_disk.specs.Disk.{IsChangedBy}
 use Rattle.vl_disk.specs.DiskState.{DiskState, new_file}
 use Rattle.vl_disk.specs.declared.name.Name.{Name}
 use Rattle.vl_disk.specs.declared.watched.Watched.{Ghosts}
 use Rattle.vl_disk.specs.declared.writer.Writer.{Ghosts as Writers}
-use Rattle.vl_engine.specs.Drawing.{IsLentMore, IsNewTo, IsSameJob}
+use Rattle.vl_engine.specs.Drawing.{DrawsCore, FreshLeavesDisk, IsLentMore, IsNewTo, IsSameJob, IsSameMerge}
 use Rattle.vl_engine.specs.Installing.{IsHandedIn, numbers_in}
 use Rattle.vl_engine.specs.Merging.{IsJustOpen}
 use Rattle.vl_engine.specs.UnderWay.{IsUnderWay}
+use Rattle.vl_engine.specs.declared.fails.StepFail.TheVariants as fails
+use Rattle.vl_engine.specs.declared.fails.StepFail.{StepFail}
 use Rattle.vl_engine.specs.declared.open.OpenMerge.{OpenMerge}
 use Rattle.vl_layout.specs.Jobs.{AreDistinct}
 use Rattle.vl_model.specs.Numbers.{has}
@@ -123,6 +127,22 @@ module _ {D V H W : Type 0} (g : Ghosts D) (w : Writers W) {s : _} where
     distinct = subst (λ (j : Job V H W s). AreDistinct (numbers_in j)) (sym kept) way.distinct;
     tells = λ running state is. subst (λ (j : Job V H W s). AllByRecursion (λ (t : Synced W s). IsSome (w.file t.writer)) j.made.items)
         (sym kept) (way.tells running state is);
+    leavings_tell = λ running state is. subst (λ (j : Job V H W s). AllByRecursion (λ (f : Lent W s). IsSome (w.file f.writer))
+        j.leavings.items) (sym kept) (way.leavings_tell running state is);
+  }
+
+  -- It stays one while it reads on,
+  pub still_way : (disk : D) (halted : Option Name) (merging : Option OpenMerge) (old new : Job V H W s)
+      → IsUnderWay g w disk halted merging old → KeepsAll old new → IsUnderWay g w disk halted merging new
+  still_way disk halted merging old new way kept = record {
+    merge = way.merge;
+    is_open = way.is_open;
+    drawn = subst (λ (j : Job V H W s). AllByRecursion (λ (n : ℕ). has n way.merge.lent.items ≡ true) (numbers_in j)) (sym kept) way.drawn;
+    distinct = subst (λ (j : Job V H W s). AreDistinct (numbers_in j)) (sym kept) way.distinct;
+    tells = λ running state is. subst (λ (j : Job V H W s). AllByRecursion (λ (t : Synced W s). IsSome (w.file t.writer)) j.made.items)
+        (sym kept) (way.tells running state is);
+    leavings_tell = λ running state is. subst (λ (j : Job V H W s). AllByRecursion (λ (f : Lent W s). IsSome (w.file f.writer))
+        j.leavings.items) (sym kept) (way.leavings_tell running state is);
   }
 
   -- So it stays where one more table is made, in a file that was lent for it.
@@ -147,6 +167,10 @@ module _ {D V H W : Type 0} (g : Ghosts D) (w : Writers W) {s : _} where
         (all_more (λ (t : Synced W s). IsSome (w.file t.writer)) first.made.items takes.table
         (way.tells (sym halts ∙ running) was_so.0 was_so.1)
         (takes.tells (subst (λ (o : Option _). IsSome o) (sym (empty was_so.0 was_so.1)) refl)));
+    leavings_tell = λ running state is.
+        let was_so = was_told change (g.told old) state (sym changed ∙ is) in
+        subst (λ (fs : List (Lent W s)). AllByRecursion (λ (f : Lent W s). IsSome (w.file f.writer)) fs) (sym left_are)
+        (way.leavings_tell (sym halts ∙ running) was_so.0 was_so.1);
   }
     where
       made : List ℕ
@@ -178,3 +202,117 @@ module _ {D V H W : Type 0} (g : Ghosts D) (w : Writers W) {s : _} where
 
       numbers : (P : List ℕ → Type 0) → P ((made ++ file.number ∷ []) ++ left) → P (numbers_in last)
       numbers P is = subst P (sym numbers_are) is
+
+  -- ---- no table came of it
+
+  -- where no file was lent, and unless the engine is halted then nothing was done to the disk
+  pub unlent_way : (old new : D) (before after : Option Name) (was now : Option OpenMerge) (first asked roomy : Job V H W s)
+      → IsUnderWay g w old before was first → KeepsAll first asked → IsSameJob asked roomy → IsSameMerge was now
+      → (after ≡ None → (before ≡ None) × (g.told new ≡ g.told old)) → IsUnderWay g w new after now roomy
+  unlent_way old new before after was now first asked roomy way kept same merge quiet = record {
+    merge = merge.next;
+    is_open = merge.is_open;
+    drawn = subst (λ (ns : List ℕ). AllByRecursion (λ (n : ℕ). has n merge.next.lent.items ≡ true) ns) (sym numbers_are)
+        (subst (λ (lent : List ℕ). AllByRecursion (λ (n : ℕ). has n lent ≡ true) (numbers_in first)) (sym lent_are) way.drawn);
+    distinct = subst AreDistinct (sym numbers_are) way.distinct;
+    tells = λ running state is. let so = quiet running in
+        subst (λ (ts : List (Synced W s)). AllByRecursion (λ (t : Synced W s). IsSome (w.file t.writer)) ts) (sym made_are)
+        (way.tells so.0 state (sym so.1 ∙ is));
+    leavings_tell = λ running state is. let so = quiet running in
+        subst (λ (fs : List (Lent W s)). AllByRecursion (λ (f : Lent W s). IsSome (w.file f.writer)) fs) (sym left_are)
+        (way.leavings_tell so.0 state (sym so.1 ∙ is));
+  }
+    where
+      made_are : roomy.made.items ≡ first.made.items
+      made_are = same.made ∙ ap (λ (j : Job V H W s). j.made.items) kept
+
+      left_are : roomy.leavings.items ≡ first.leavings.items
+      left_are = same.leavings ∙ ap (λ (j : Job V H W s). j.leavings.items) kept
+
+      numbers_are : numbers_in roomy ≡ numbers_in first
+      numbers_are = λ i. map (λ (t : Synced W s). t.number) (made_are i) ++ map (λ (f : Lent W s). f.number) (left_are i)
+
+      merge_is : way.merge ≡ merge.merge
+      merge_is = let e : Some way.merge ≡ Some merge.merge = sym way.is_open ∙ merge.was_open in cc
+
+      lent_are : merge.next.lent.items ≡ way.merge.lent.items
+      lent_are = merge.lent ∙ ap (λ (m : OpenMerge). m.lent.items) (sym merge_is)
+
+  -- where one was lent that didn't become a table
+  pub unfilled_way : (change : DiskState → DiskState) (old new : D) (before after : Option Name) (was now : Option OpenMerge)
+      (first asked roomy last : Job V H W s) (file : Lent W s) → IsUnderWay g w old before was first → KeepsAll first asked
+      → IsSameJob asked roomy → Leaves w file roomy last → IsLentMore was now file.number → IsNewTo was file.number
+      → ForSome (g.told old) (λ _. w.file file.writer ≡ Some new_file) → IsChangedBy change (g.told old) (g.told new) → after ≡ before
+      → IsUnderWay g w new after now last
+  unfilled_way change old new before after was now first asked roomy last file way kept same leaves lent fresh empty changed halts =
+      record {
+        merge = lent.next;
+        is_open = lent.is_open;
+        drawn = subst (λ (ns : List ℕ). AllByRecursion (λ (n : ℕ). has n lent.next.lent.items ≡ true) ns) (sym numbers_are)
+            (all_more (λ (n : ℕ). has n lent.next.lent.items ≡ true) (numbers_in first) file.number
+            (all_then (λ (n : ℕ). has n way.merge.lent.items ≡ true) (λ (n : ℕ). has n lent.next.lent.items ≡ true)
+            (numbers_in first) among way.drawn)
+            (subst (λ (ns : List ℕ). has file.number ns ≡ true) (sym lent.lent) (last_has file.number lent.merge.lent.items)));
+        distinct = subst AreDistinct (sym numbers_are) (subst AreDistinct (nothing_behind ((numbers_in first) ++ file.number ∷ []))
+            (put_in_distinct (numbers_in first) [] file.number (subst AreDistinct (sym (nothing_behind (numbers_in first))) way.distinct)
+            (ap (has file.number) (nothing_behind (numbers_in first))
+            ∙ not_among file.number way.merge.lent.items (numbers_in first) way.drawn (fresh way.merge way.is_open))));
+        tells = λ running state is.
+            let was_so = was_told change (g.told old) state (sym changed ∙ is) in
+            subst (λ (ts : List (Synced W s)). AllByRecursion (λ (t : Synced W s). IsSome (w.file t.writer)) ts) (sym made_are)
+            (way.tells (sym halts ∙ running) was_so.0 was_so.1);
+        leavings_tell = λ running state is.
+            let was_so = was_told change (g.told old) state (sym changed ∙ is) in
+            subst (λ (fs : List (Lent W s)). AllByRecursion (λ (f : Lent W s). IsSome (w.file f.writer)) fs) (sym left_are)
+            (all_more (λ (f : Lent W s). IsSome (w.file f.writer)) first.leavings.items leaves.leaving
+            (way.leavings_tell (sym halts ∙ running) was_so.0 was_so.1)
+            (leaves.tells (subst (λ (o : Option _). IsSome o) (sym (empty was_so.0 was_so.1)) refl)));
+      }
+    where
+      made_are : last.made.items ≡ first.made.items
+      made_are = ap (λ (j : Job V H W s). j.made.items) leaves.kept
+          ∙ (same.made ∙ ap (λ (j : Job V H W s). j.made.items) kept)
+
+      left_are : last.leavings.items ≡ first.leavings.items ++ leaves.leaving ∷ []
+      left_are = leaves.left ∙ ap (λ (fs : List (Lent W s)). fs ++ leaves.leaving ∷ [])
+          (same.leavings ∙ ap (λ (j : Job V H W s). j.leavings.items) kept)
+
+      merge_is : way.merge ≡ lent.merge
+      merge_is = let e : Some way.merge ≡ Some lent.merge = sym way.is_open ∙ lent.was_open in cc
+
+      among : (n : ℕ) → has n way.merge.lent.items ≡ true → has n lent.next.lent.items ≡ true
+      among n is = subst (λ (ns : List ℕ). has n ns ≡ true) (sym lent.lent)
+          (still_has n file.number lent.merge.lent.items (subst (λ (m : OpenMerge). has n m.lent.items ≡ true) merge_is is))
+
+      nothing_behind : (ns : List ℕ) → ns ++ [] ≡ ns
+      nothing_behind [] = refl
+      nothing_behind (n ∷ ns) = ap (λ (l : List ℕ). n ∷ l) (nothing_behind ns)
+
+      together : (xs ys : List ℕ) (n : ℕ) → xs ++ (ys ++ n ∷ []) ≡ (xs ++ ys) ++ n ∷ []
+      together [] ys n = refl
+      together (x ∷ xs) ys n = ap (λ (l : List ℕ). x ∷ l) (together xs ys n)
+
+      numbers_are : numbers_in last ≡ numbers_in first ++ file.number ∷ []
+      numbers_are =
+          (λ i. map (λ (t : Synced W s). t.number) (made_are i) ++ map (λ (f : Lent W s). f.number) (left_are i))
+          ∙ ap (λ (ns : List ℕ). map (λ (t : Synced W s). t.number) first.made.items ++ ns)
+          (map-append (λ (f : Lent W s). f.number) first.leavings.items (leaves.leaving ∷ [])
+          ∙ ap (λ (n : ℕ). map (λ (f : Lent W s). f.number) first.leavings.items ++ n ∷ []) leaves.number)
+          ∙ together (map (λ (t : Synced W s). t.number) first.made.items) (map (λ (f : Lent W s). f.number) first.leavings.items)
+          file.number
+
+-- where no file was lent the engine is halted then, or nothing was done to the disk
+pub quiet_draw : {D H W : Type 0} (g : Ghosts D) (s : Writers W) (old new : D) (before after : Core H) (why : StepFail)
+    → DrawsCore {W = W} before after {g = s} (Err why) → (FreshLeavesDisk {W = W} {g = s} (Err why) → ChangesNothing g old new ⊥)
+    → after.front.halted ≡ None → (before.front.halted ≡ None) × (g.told new ≡ g.told old)
+quiet_draw g s old new before after (fails.Halted name) core untouched running =
+    (sym (ap (λ (c : Core _). c.front.halted) core.1) ∙ running, (untouched tt).told)
+quiet_draw g s old new before after (fails.Exhausted counter) core untouched running =
+    (sym (ap (λ (c : Core _). c.front.halted) core.1) ∙ running, (untouched tt).told)
+quiet_draw g s old new before after fails.NoMemory core untouched running =
+    (sym (ap (λ (c : Core _). c.front.halted) core) ∙ running, (untouched tt).told)
+quiet_draw g s old new before after (fails.Disk name) core untouched running =
+    absurd (never (sym (ap (λ (c : Core _). c.front.halted) core) ∙ running))
+  where
+    never : Some name ≡ None → ⊥
+    never e = cc

@@ -1,5 +1,5 @@
 -- The tables of a merge, whose files the disk takes back, one after the other, and holds for readers.
-use Rattle.std.specs.Prelude.{◌≡◌, ◌⊎◌, ℕ, List, [], ◌∷◌, ◌++◌, map, Option, None, Some, IsSome, IsTrue}
+use Rattle.std.specs.Prelude.{◌≡◌, ◌≢◌, ◌⊎◌, ℕ, List, [], ◌∷◌, ◌++◌, map, Option, None, Some, IsSome, IsTrue}
 use Rattle.std.specs.Arc.{arc_value}
 use Rattle.std.specs.List.{AllByRecursion, AllZip}
 use Rattle.std.specs.Option.{ForSome}
@@ -55,12 +55,13 @@ module _ {D W : Type 0} (g : Ghosts D) (w : Writers W) where
     pub each : AllByRecursion (MayTake disk) ts
     pub distinct : AreDistinct (map (λ (t : Synced W s). t.number) ts)
 
-  -- These files were taken back, by no changing call. The room of manifests stays.
+  -- These files were taken back, by no changing call. The room of manifests stays, and so does that of all other tables.
   pub record Takes {s : _} (ts : List (Synced W s)) (old new : D) : Type 0 where
     pub changed : IsChangedBy (with_files w ts) (g.told old) (g.told new)
     pub calls : g.calls new ≡ g.calls old
     pub time : Elapses g old new (WhileTaking w ts)
     pub manifests : (n : ℕ) → g.spare new (Manifest n) ≡ g.spare old (Manifest n)
+    pub others : (n : ℕ) → AllByRecursion (λ (t : Synced W s). n ≢ t.number) ts → g.spare new (table_name n) ≡ g.spare old (table_name n)
 
   -- It stopped at the last file that was taken back, which couldn't be held.
   pub record StopsTaking {s : _} (made : List (Synced W s)) (old new : D) (name : Name) : Type 0 where

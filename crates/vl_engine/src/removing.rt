@@ -1,7 +1,8 @@
 //! What is kept of which files can go: how it is made, and how steps change it.
-ghost use Rattle.std.specs.Prelude.{◌≡◌, ◌++◌, ℕ, IfOk, OnErr, OnOk, length, map, slice_get};
+ghost use Rattle.std.specs.Prelude.{◌≡◌, ◌++◌, ℕ, None, IfOk, OnErr, OnOk, length, map, slice_get};
 ghost use Rattle.vl_compact.specs.declared.files.Lent.{Lent};
-ghost use Rattle.vl_engine.specs.Retiring.{IsReadied, LeavesFiles, StaysUsed, is_idle_log, left_of, logs_kept, retiring, switching, used_in};
+ghost use Rattle.vl_engine.specs.Retiring.{IsReadied, LeavesFiles, StaysUsed, files_in, is_idle_log, left_of, logs_kept};
+ghost use Rattle.vl_engine.specs.Retiring.{retiring, switching, used_in};
 ghost use Rattle.vl_pins.specs.Files.{BecomesBy, Has, HasRoom};
 ghost use Rattle.vl_pins.specs.InUse.{but};
 ghost use Rattle.vl_table.specs.Tables.{number_of};
@@ -9,7 +10,7 @@ ghost use Rattle.vl_version.specs.levels.LevelsLooked.{tables_of};
 
 use crate::open::Removing;
 use std::alloc::{AllocError, Global};
-use vl_compact::{Lent, Synced};
+use vl_compact::{Job, Lent, Parts, Synced};
 use vl_core::Core;
 use vl_disk::{HeldFile, Writer};
 use vl_pins::{InUse, Stock};
@@ -166,4 +167,17 @@ pub fn leave_files<W: Writer + Drop>(
     for file in leavings {
         stock.leave(file.number, file);
     }
+}
+
+/// The merge that is open has ended without its tables: it pins nothing, and its files wait for their removal.
+pub fn give_up<V: Drop, H: Drop, W: Writer + Drop>(
+    removing: &mut Removing<Lent<W>>,
+    job: Job<V, H, W>,
+)
+    ensures left { LeavesFiles (files_in job) removing.old.stock removing.new.stock }
+    ensures pins { removing.new.pins ≡ record removing.old.pins { merge = None } }
+{
+    removing.pins.merge = None;
+    let Parts { made, leavings, .. } = job.into_parts();
+    leave_files(&mut removing.stock, made, leavings);
 }

@@ -227,10 +227,13 @@ const USAGE: &str =
 
 /// Texts that are no line, between the bars.
 const NO_LINES: &str =
-    " |begin|begin |begin  a| begin a|begin a |begin a b|begin A|begin a_b|begin 123456789abcdefgh|Begin a\
-    |begi a|get a|get - -|get a 6|get a 6g|get a |get a 61 62|set a 61|set a 61 01 02|set a 61 01\r|setb a 61 01|setb a 61 01 256|setb a 61 01 07|setb a 61 01 +7|setb a 61 01 7 |getb a|getb a 61 7|del a\
-    |del a |del a 61 62|del a 6|delete a 61|scan a - -|scan a - - 0|scan a - - 65536|scan a - - 01|rscan a - - 1 1|scan a 6 - 1|drop|drop a b|drop A|rotate |rotate a| flush|flush 1|Flush|keep|keep 256|keep 01|keep a|getat a 61|getat a 61 01|getat a 61 18446744073709551616|getat a 6 1\
-    |stats |stats 1|Stats|pick|pick g|pick g 256|pick g 01|pick g -|pick g 1 2|pick G 1|batch|batch g 1|batch G|move|move g 1|move ";
+    " |begin|begin |begin  a| begin a|begin a |begin a b|begin A|begin a_b|begin 123456789abcdefgh|Begin a|begi a|get a\
+    |get - -|get a 6|get a 6g|get a |get a 61 62|set a 61|set a 61 01 02|set a 61 01\r|setb a 61 01|setb a 61 01 256\
+    |setb a 61 01 07|setb a 61 01 +7|setb a 61 01 7 |getb a|getb a 61 7|del a|del a |del a 61 62|del a 6|delete a 61\
+    |scan a - -|scan a - - 0|scan a - - 65536|scan a - - 01|rscan a - - 1 1|scan a 6 - 1|drop|drop a b|drop A|rotate \
+    |rotate a| flush|flush 1|Flush|keep|keep 256|keep 01|keep a|getat a 61|getat a 61 01|getat a 61 18446744073709551616\
+    |getat a 6 1|stats |stats 1|Stats|pick|pick g|pick g 256|pick g 01|pick g -|pick g 1 2|pick G 1|batch|batch g 1\
+    |batch G|move|move g 1|move ";
 
 /// The text that stands for these bytes in a table.
 fn spelled(alloc: Global, text: &str) -> Result<Vec<u8>, Fail> {

@@ -35,7 +35,7 @@ use crate::installing::{
     ReadyInstall, input_numbers, made_numbers, numbers_of, ready_install, write_install,
 };
 use crate::making::lent_count;
-use crate::removing::leave_files;
+use crate::removing::{give_up, leave_files};
 use crate::{Engine, InstallFail};
 use std::alloc::AllocError;
 use vl_compact::{Job, Parts};
@@ -142,13 +142,15 @@ impl<D: Disk> Engine<D> {
         ensures idle { (name : Name) → self.old.core.front.halted ≡ Some name → self.new.collecting ≡ self.old.collecting }
     {
         if let Some(name) = self.core.front.halted {
-            self.leave(job);
+            self.merging = None;
+            give_up(&mut self.removing, job);
             return Err(InstallFail::Halted { name });
         }
         match self.raced(&job) {
             Ok(None) => self.install_unraced(job),
             Ok(Some((key, version_number))) => {
-                self.leave(job);
+                self.merging = None;
+                give_up(&mut self.removing, job);
                 Err(InstallFail::Raced {
                     key,
                     version_number,

@@ -1,7 +1,7 @@
 use Rattle.std.proofs.Common.{ap, refl, ◌∙◌}
 use Rattle.vl_disk.specs.declared.name.Name.TheVariants.{Table}
 use Rattle.vl_core.specs.laws.Carrying.{IsWatched}
-use Rattle.vl_engine.proofs.UnderWay.{handed_in, one_more}
+use Rattle.vl_engine.proofs.UnderWay.{handed_in, one_more, quiet_draw, still_way, unfilled_way, unlent_way}
 use Rattle.vl_engine.proofs.Whole.{drawn_runs, fails, fits_asked, fits_roomy, fits_taken, has_all, has_same, is_fresh}
 use Rattle.vl_engine.proofs.Whole.{made_more, starts, unbegun, unfilled, unlent}
 use Rattle.vl_engine.specs.Drawing.{lent_new}
@@ -20,6 +20,7 @@ making-init g c =
       makes = λ h x o is stands fits is_open has looks.
           starts g.D.Watched g.D.Writer.Writer g.D.Held.HeldFile.bytes h x watched c.args.self.now.disk c.args.self.now.core
           c.args.self.now.merging c.args.job.now c.in_ok-reader.reader o is stands fits is_open has looks c.in_ok-reader.ensures.blocks;
+      pins = refl;
       collecting = refl;
       logs = refl;
     }
@@ -70,6 +71,7 @@ making-preserved g c =
           (c.in_ok-fill.ensures.next o.job reads empty had)
           (fits_taken bytes c.fresh.new.job c.fill.new.self c.fill.new.reader.looks g.D.Writer.Writer c.in_ok-file.file
           c.in_ok-fill.ensures.takes (c.fill.ensures.fits reads));
+      pins = c.fresh.ensures.pins ∙ c.making.invariant.pins;
       collecting = c.fresh.ensures.collecting ∙ c.making.invariant.collecting;
       logs = c.fresh.ensures.logs ∙ c.making.invariant.logs;
     }
@@ -148,3 +150,33 @@ returns-in_err-fill-clause-collecting g c = c.fresh.ensures.collecting ∙ c.mak
 
 pub returns-in_err-fill-clause-logs : goal.returns-in_err-fill-clause-logs
 returns-in_err-fill-clause-logs g c = c.fresh.ensures.logs ∙ c.making.invariant.logs
+
+-- it is under way yet
+
+pub returns-in_err-ready-clause-under_way : goal.returns-in_err-ready-clause-under_way
+returns-in_err-ready-clause-under_way g c =
+    still_way g.D.Watched g.D.Writer.Writer c.making.self.disk c.making.self.core.front.halted c.making.self.merging c.making.job
+    c.ready.new.self c.making.invariant.way c.ready.ensures.kept
+
+pub returns-then-not-branch-clause-under_way : goal.returns-then-not-branch-clause-under_way
+returns-then-not-branch-clause-under_way g c =
+    still_way g.D.Watched g.D.Writer.Writer c.making.self.disk c.making.self.core.front.halted c.making.self.merging c.making.job
+    c.ready.new.self c.making.invariant.way c.ready.ensures.kept
+
+pub returns-in_err-file-clause-under_way : goal.returns-in_err-file-clause-under_way
+returns-in_err-file-clause-under_way g c =
+    unlent_way g.D.Watched g.D.Writer.Writer c.making.self.disk c.fresh.new.self.disk c.making.self.core.front.halted
+    c.fresh.new.self.core.front.halted c.making.self.merging c.fresh.new.self.merging c.making.job c.ready.new.self c.fresh.new.job
+    c.making.invariant.way c.ready.ensures.kept c.fresh.ensures.job c.in_err-file.ensures.refused
+    (quiet_draw g.D.Watched g.D.Writer.Writer c.making.self.disk c.fresh.new.self.disk c.making.self.core c.fresh.new.self.core
+    c.in_err-file.field-0.0
+    c.in_err-file.ensures.core c.in_err-file.ensures.untouched)
+
+pub returns-in_err-fill-clause-under_way : goal.returns-in_err-fill-clause-under_way
+returns-in_err-fill-clause-under_way g c =
+    unfilled_way g.D.Watched g.D.Writer.Writer (lent_new (Table c.in_ok-file.file.number)) c.making.self.disk c.fresh.new.self.disk
+    c.making.self.core.front.halted c.fresh.new.self.core.front.halted c.making.self.merging c.fresh.new.self.merging c.making.job
+    c.ready.new.self c.fresh.new.job c.fill.new.self c.in_ok-file.file c.making.invariant.way c.ready.ensures.kept
+    c.fresh.ensures.job c.in_err-fill.ensures.refused c.in_ok-file.ensures.merging c.in_ok-file.ensures.fresh
+    c.in_ok-file.ensures.empty c.in_ok-file.ensures.written
+    (ap (λ (core : Core _). core.front.halted) c.in_ok-file.ensures.core)

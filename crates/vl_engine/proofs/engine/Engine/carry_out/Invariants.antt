@@ -19,6 +19,7 @@ invariant-making g l = record {
       → FitsReaders g.D.Held.HeldFile.bytes l.fn.job
       → IsMaking g.D.Watched g.D.Writer.Writer g.D.Held.HeldFile.bytes l.fn.self.disk l.self.disk l.self.core l.self.merging l.job
       l.reader h x o.job;
+  pins : l.self.removing.pins ≡ l.fn.self.removing.pins;
   collecting : l.self.collecting ≡ l.fn.self.collecting;
   logs : l.self.core.version.behind.logs ≡ l.fn.self.core.version.behind.logs;
 }

@@ -4,6 +4,18 @@ use Rattle.vl_disk.specs.declared.name.Name.TheVariants as names
 use Rattle.vl_engine.proofs.HandedIn.{made_given, may_take_all}
 use Rattle.vl_core.specs.laws.InstallDiskEdits.{install_next}
 use Rattle.vl_engine.proofs.Lending.{leaves_told, no_manifest, still_lent}
+use Rattle.std.specs.List.{filter}
+use Rattle.std.specs.Prelude.{None, length, map, ◌++◌}
+use Rattle.vl_pins.specs.Files.{BecomesBy, HasRoom}
+use Rattle.vl_pins.specs.declared.pins.Pins.{Pins}
+use Rattle.vl_table.specs.Tables.{number_of}
+use Rattle.vl_version.specs.Bases.{is_input}
+use Rattle.vl_version.specs.levels.LevelsLooked.{tables_of}
+use Rattle.vl_engine.proofs.PutLeft.{free_of, off_left, put_into, room_put, there_others}
+use Rattle.vl_engine.proofs.PutThere.{there_put}
+use Rattle.vl_engine.specs.Retiring.{LeavesFiles, is_idle_log, left_of, switching}
+use Rattle.vl_engine.proofs.Retired.Changing.{stays_either, stays_itself, stays_readied}
+use Rattle.vl_engine.proofs.Retired.There.{there_quiet, there_used}
 use Rattle.vl_engine.proofs.Switching.{has_put_in, readied_self}
 use Rattle.vl_engine.proofs.PutIn.{fit_installed, fit_uninstalled, none_open, quiet_then}
 use Rattle.vl_engine.specs.Installing.{InstallsAll, StopsInstalling}
@@ -14,8 +26,8 @@ use Rattle.vl_engine.proofs.engine.Engine.put_in.Goals as goal
 
 -- memory was wanting
 
-pub invariant_of-self : goal.invariant_of-self
-invariant_of-self g c =
+pub invariant_of-self-in_default-ready_install : goal.invariant_of-self-in_default-ready_install
+invariant_of-self-in_default-ready_install g c =
     let core = c.args.self.now.core in
     let wanted = c.ready_install.ensures in
     record {
@@ -27,7 +39,36 @@ invariant_of-self g c =
           (no_manifest core.back.manifest.number) wanted.no_change.told wanted.elsewhere core.back.state.next_table)
           c.args.self.now.lent;
       known = c.args.self.now.known;
+      there = λ running. there_quiet g.D.Watched g.D.Writer.Writer c.args.self.now.disk c.ready_install.new.disk core
+          c.args.self.now.merging c.make_room.new.self.stock wanted.no_change.told
+          (leaves_told g.D.Watched c.args.self.now.disk c.ready_install.new.disk (names.Manifest core.back.manifest.number)
+          (no_manifest core.back.manifest.number) wanted.no_change.told wanted.elsewhere core.back.state.next_table)
+          (there_used g.D.Watched g.D.Writer.Writer c.args.self.now.disk core c.args.self.now.merging c.args.self.now.removing.stock
+          c.make_room.new.self.stock (stays_either c.make_room.result core c.args.self.now.removing.stock c.make_room.new.self.stock
+          _ c.lent_count-lent.result c.make_room.ensures.readied c.make_room.ensures.refused) (c.args.self.now.there running));
     }
+
+pub invariant_of-self-in_default-make_room : goal.invariant_of-self-in_default-make_room
+invariant_of-self-in_default-make_room g c =
+    let before = c.args.self.now in
+    record {
+      ready = before.ready;
+      numbered = before.numbered;
+      lent = before.lent;
+      known = before.known;
+      there = λ running. there_used g.D.Watched g.D.Writer.Writer before.disk before.core before.merging before.removing.stock
+          c.make_room.new.self.stock (stays_either c.make_room.result before.core before.removing.stock c.make_room.new.self.stock
+          _ c.lent_count-lent.result c.make_room.ensures.readied c.make_room.ensures.refused) (before.there running);
+    }
+
+pub returns-in_default-clause-retires : goal.returns-in_default-clause-retires
+returns-in_default-clause-retires g c = (refl, stays_itself c.args.self.now.core c.args.self.now.removing.stock)
+
+pub returns-in_default-input_numbers-clause-retires : goal.returns-in_default-input_numbers-clause-retires
+returns-in_default-input_numbers-clause-retires g c = (refl, stays_itself c.args.self.now.core c.args.self.now.removing.stock)
+
+pub returns-in_default-made_numbers-clause-retires : goal.returns-in_default-made_numbers-clause-retires
+returns-in_default-made_numbers-clause-retires g c = (refl, stays_itself c.args.self.now.core c.args.self.now.removing.stock)
 
 -- what is asked before it is written
 
@@ -36,30 +77,32 @@ write_install-requires-clause-may g c =
     let core = c.args.self.now.core in
     subst (λ ts. MayTakeAll g.D.Watched g.D.Writer.Writer c.ready_install.new.disk ts.items) (sym c.into_parts-made.ensures.made)
     (may_take_all g.D.Watched g.D.Writer.Writer c.args.self.now.disk c.ready_install.new.disk core.back.state.next_table
-    core.back.manifest.number c.args.job c.in-Ok.ensures.no_change.told c.in-Ok.ensures.elsewhere core.front.halted
+    core.back.manifest.number c.args.job c.in-Ok-ready_install.ensures.no_change.told c.in-Ok-ready_install.ensures.elsewhere
+    core.front.halted
     c.args.self.now.merging c.args.self.now.lent c.requires.handed c.requires.running)
 
 pub write_install-requires-clause-stands : goal.write_install-requires-clause-stands
 write_install-requires-clause-stands g c disk told =
-    ((c.args.self.now.ready disk (sym c.in-Ok.ensures.no_change.told ∙ told)).steps c.requires.running).manifest
+    ((c.args.self.now.ready disk (sym c.in-Ok-ready_install.ensures.no_change.told ∙ told)).steps c.requires.running).manifest
 
 -- it is written
 
 pub invariant_of-self-in-Ok-write_install : goal.invariant_of-self-in-Ok-write_install
 invariant_of-self-in-Ok-write_install g c =
     let core = c.args.self.now.core in
-    let ready = c.in-Ok.ready in
+    let ready = c.in-Ok-ready_install.ready in
     let wrote = c.in-Ok-write_install.ensures in
     let others = c.apply_install.ensures.others in
     let some = c.args.self.now.numbered in
     let next = ap (λ s. s.next_table) c.apply_install.ensures.state
-    ∙ install_next _ core.back.state ready.staged.state c.in-Ok.ensures.ready.staged.says in
+    ∙ install_next _ core.back.state ready.staged.state c.in-Ok-ready_install.ensures.ready.staged.says in
     let next_log = ap (λ b. b.next_log) others in
     record {
       ready = fit_installed g.D.Watched g.D.Held.HeldFile.bytes g.D.Writer.Writer core _ c.ready_install.new.disk c.write_install.new.disk
-          (λ disk told. c.args.self.now.ready disk (sym c.in-Ok.ensures.no_change.told ∙ told)) c.args.job.made.items
+          (λ disk told. c.args.self.now.ready disk (sym c.in-Ok-ready_install.ensures.no_change.told ∙ told)) c.args.job.made.items
           (made_given g.D.Watched g.D.Writer.Writer c.args.self.now.disk c.ready_install.new.disk core.back.state.next_table
-          core.back.manifest.number c.args.job c.in-Ok.ensures.no_change.told c.in-Ok.ensures.elsewhere core.front.halted
+          core.back.manifest.number c.args.job c.in-Ok-ready_install.ensures.no_change.told c.in-Ok-ready_install.ensures.elsewhere
+          core.front.halted
           c.args.self.now.merging c.args.self.now.lent c.requires.handed)
           ready.staged.edits.frame.items ready.levels c.write_install.new.levels refl
           (subst (λ ts. InstallsAll g.D.Watched g.D.Held.HeldFile.bytes g.D.Writer.Writer ts.items core.back.manifest.number
@@ -68,21 +111,53 @@ invariant_of-self-in-Ok-write_install g c =
       numbered = (omega (arith, some, next_log), omega (arith, some, next));
       lent = none_open g.D.Watched c.write_install.new.disk c.apply_install.new.self.state.next_table;
       known = ap (λ m. are_known core.front.oracle.last m.entries)
-          (c.with_levels.ensures.active ∙ c.in-Ok.ensures.ready.version.active) ∙ c.args.self.now.known;
+          (c.with_levels.ensures.active ∙ c.in-Ok-ready_install.ensures.ready.version.active) ∙ c.args.self.now.known;
+      there = λ running.
+          let made_room = there_used g.D.Watched g.D.Writer.Writer c.args.self.now.disk core c.args.self.now.merging
+          c.args.self.now.removing.stock
+          c.make_room.new.self.stock (stays_readied core c.args.self.now.removing.stock c.make_room.new.self.stock _ _
+          c.in-Ok-make_room.ensures.readied) (c.args.self.now.there running) in
+          there_put g.D.Watched g.D.Held.HeldFile.bytes c.args.self.now.disk c.ready_install.new.disk c.write_install.new.disk
+          c.args.job.made.items core.back.manifest.number ready.staged.edits.frame.items ready.levels c.write_install.new.levels
+          (subst (λ ts. InstallsAll g.D.Watched g.D.Held.HeldFile.bytes g.D.Writer.Writer ts.items core.back.manifest.number
+          ready.staged.edits.frame.items c.ready_install.new.disk c.write_install.new.disk ready.levels c.write_install.new.levels)
+          c.into_parts-made.ensures.made wrote.writes) c.in-Ok-ready_install.ensures.no_change.told c.in-Ok-ready_install.ensures.elsewhere
+          core _ c.leave_files.new.stock c.switch.new.self.stock refl next
+          (free_of g.D.Watched c.args.self.now.disk c.ready_install.new.disk c.in-Ok-ready_install.ensures.no_change.told
+          c.args.job.made.items
+          (may_take_all g.D.Watched g.D.Writer.Writer c.args.self.now.disk c.ready_install.new.disk core.back.state.next_table
+          core.back.manifest.number c.args.job c.in-Ok-ready_install.ensures.no_change.told c.in-Ok-ready_install.ensures.elsewhere
+          core.front.halted c.args.self.now.merging c.args.self.now.lent c.requires.handed c.requires.running).each)
+          (off_left g.D.Watched c.args.self.now.disk c.args.self.now.core c.args.self.now.merging c.args.job c.requires.handed c.new.result
+          c.new.ensures.items c.make_room.new.self.stock c.leave_files.new.stock
+          (subst (λ ls. LeavesFiles (map left_of c.new.result.items ++ ls.items) c.make_room.new.self.stock c.leave_files.new.stock)
+          c.into_parts-made.ensures.leavings c.leave_files.ensures) made_room) c.in-Ok-make_room.ensures.readied.room.in_use
+          (c.leave_files.ensures.in_use ∙ c.in-Ok-make_room.ensures.readied.room.is_some)
+          c.apply_install.new.self.version_number c.deref-in-Ok-write_install-2.result.now
+          (is_idle_log c.head_of-head.result c.args.live)
+          (subst (λ ns. BecomesBy (switching c.apply_install.new.self.version_number ns c.deref-in-Ok-write_install-2.result.now
+          (is_idle_log c.head_of-head.result c.args.live)) c.leave_files.new.stock c.switch.new.self.stock)
+          (c.deref-in-Ok-write_install.ensures.value ∙ c.in-Ok-made_numbers.ensures ∙ ap (map (λ t. t.number)) c.made.ensures)
+          c.switch.ensures.switched)
+          (there_others g.D.Watched c.args.self.now.disk c.args.self.now.core c.args.self.now.merging c.args.job c.requires.handed
+          c.new.result
+          c.new.ensures.items c.make_room.new.self.stock c.leave_files.new.stock
+          (subst (λ ls. LeavesFiles (map left_of c.new.result.items ++ ls.items) c.make_room.new.self.stock c.leave_files.new.stock)
+          c.into_parts-made.ensures.leavings c.leave_files.ensures) running c.args.self.now.lent made_room);
     }
 
 pub returns-in-Ok-write_install-clause-as_installed : goal.returns-in-Ok-write_install-clause-as_installed
 returns-in-Ok-write_install-clause-as_installed g c =
     let core = c.args.self.now.core in
     let bytes = g.D.Held.HeldFile.bytes in
-    let ready = c.in-Ok.ready in
+    let ready = c.in-Ok-ready_install.ready in
     let wrote = c.in-Ok-write_install.ensures in
     let others = c.apply_install.ensures.others in
     record {
       ready = ready;
-      is_ready = c.in-Ok.ensures.ready;
+      is_ready = c.in-Ok-ready_install.ensures.ready;
       begun = c.ready_install.new.disk;
-      unchanged = c.in-Ok.ensures.no_change;
+      unchanged = c.in-Ok-ready_install.ensures.no_change;
       levels = c.write_install.new.levels;
       writes = subst (λ ts. InstallsAll g.D.Watched bytes g.D.Writer.Writer ts.items core.back.manifest.number
           ready.staged.edits.frame.items c.ready_install.new.disk c.write_install.new.disk ready.levels c.write_install.new.levels)
@@ -109,13 +184,14 @@ returns-in-Ok-write_install-clause-as_installed g c =
 pub invariant_of-self-in-Err : goal.invariant_of-self-in-Err
 invariant_of-self-in-Err g c =
     let core = c.args.self.now.core in
-    let ready = c.in-Ok.ready in
+    let ready = c.in-Ok-ready_install.ready in
     let wrote = c.in-Err.ensures in
     record {
       ready = fit_uninstalled g.D.Watched g.D.Held.HeldFile.bytes g.D.Writer.Writer core _ c.ready_install.new.disk c.write_install.new.disk
-          (λ disk told. c.args.self.now.ready disk (sym c.in-Ok.ensures.no_change.told ∙ told)) c.args.job.made.items
+          (λ disk told. c.args.self.now.ready disk (sym c.in-Ok-ready_install.ensures.no_change.told ∙ told)) c.args.job.made.items
           (made_given g.D.Watched g.D.Writer.Writer c.args.self.now.disk c.ready_install.new.disk core.back.state.next_table
-          core.back.manifest.number c.args.job c.in-Ok.ensures.no_change.told c.in-Ok.ensures.elsewhere core.front.halted
+          core.back.manifest.number c.args.job c.in-Ok-ready_install.ensures.no_change.told c.in-Ok-ready_install.ensures.elsewhere
+          core.front.halted
           c.args.self.now.merging c.args.self.now.lent c.requires.handed)
           ready.staged.edits.frame.items ready.levels c.write_install.new.levels refl c.in-Err.name
           (subst (λ ts. StopsInstalling g.D.Watched g.D.Held.HeldFile.bytes g.D.Writer.Writer ts.items core.back.manifest.number
@@ -124,18 +200,19 @@ invariant_of-self-in-Err g c =
       numbered = c.args.self.now.numbered;
       lent = none_open g.D.Watched c.write_install.new.disk core.back.state.next_table;
       known = c.args.self.now.known;
+      there = λ running. absurd cc;
     }
 
 pub returns-in-Err-clause-as_installed : goal.returns-in-Err-clause-as_installed
 returns-in-Err-clause-as_installed g c =
     let core = c.args.self.now.core in
-    let ready = c.in-Ok.ready in
+    let ready = c.in-Ok-ready_install.ready in
     let wrote = c.in-Err.ensures in
     record {
       ready = ready;
-      is_ready = c.in-Ok.ensures.ready;
+      is_ready = c.in-Ok-ready_install.ensures.ready;
       begun = c.ready_install.new.disk;
-      unchanged = c.in-Ok.ensures.no_change;
+      unchanged = c.in-Ok-ready_install.ensures.no_change;
       levels = c.write_install.new.levels;
       stops = subst (λ ts. StopsInstalling g.D.Watched g.D.Held.HeldFile.bytes g.D.Writer.Writer ts.items core.back.manifest.number
           ready.staged.edits.frame.items c.ready_install.new.disk c.write_install.new.disk ready.levels c.write_install.new.levels
@@ -148,13 +225,51 @@ returns-in-Err-clause-as_installed g c =
 
 pub returns-in-Err-clause-cause : goal.returns-in-Err-clause-cause
 returns-in-Err-clause-cause g c =
-    quiet_then _ _ _ _ (Unit {0}) c.in-Ok.ensures.no_change.cause c.in-Err.ensures.cause (λ _. tt) (λ _. refl)
+    quiet_then _ _ _ _ (Unit {0}) c.in-Ok-ready_install.ensures.no_change.cause c.in-Err.ensures.cause (λ _. tt) (λ _. refl)
 
 -- what is kept of live bytes
 
 pub returns-in-Ok-write_install-clause-collected : goal.returns-in-Ok-write_install-clause-collected
 returns-in-Ok-write_install-clause-collected g c =
     has_put_in g.D.Held.HeldFile.bytes g.D.Writer.Writer c.args.job c.args.self.now.core _ c.args.self.now.collecting
-    c.args.self.now.collecting c.switch.new.self c.args.live c.head_of.result
+    c.args.self.now.collecting c.switch-in-Ok-write_install.new.self c.args.live c.head_of-head.result
     (readied_self g.D.Held.HeldFile.bytes c.args.self.now.core c.args.self.now.collecting c.requires.tallied) c.requires.live
-    c.head_of.ensures c.switch.ensures.passing c.switch.ensures.install
+    c.head_of-head.ensures c.switch-in-Ok-write_install.ensures.passing c.switch-in-Ok-write_install.ensures.install
+
+pub switch-requires : goal.switch-requires
+switch-requires g c =
+    room_put g.D.Watched c.args.self.now.disk c.args.self.now.core c.args.self.now.merging c.args.job c.requires.handed c.new.result
+    c.new.ensures.items c.make_room.new.self.stock c.leave_files.new.stock
+    (subst (λ ls. LeavesFiles (map left_of c.new.result.items ++ ls.items) c.make_room.new.self.stock c.leave_files.new.stock)
+    c.into_parts-made.ensures.leavings c.leave_files.ensures)
+    (length c.deref-in-Ok-write_install.result.now) c.lent_count-lent.result c.lent_count-lent.ensures
+    (subst (λ n. HasRoom c.make_room.new.self.stock n 1 c.lent_count-lent.result)
+    (let a = c.len.ensures in let b = c.in-Ok-made_numbers.added.ok.0 in
+    let d = ap length c.deref-in-Ok-write_install.ensures.value in omega (arith, a, b, d))
+    c.in-Ok-make_room.ensures.readied.room)
+
+pub returns-in-Ok-write_install-clause-cause : goal.returns-in-Ok-write_install-clause-cause
+returns-in-Ok-write_install-clause-cause g c =
+    quiet_then _ _ _ _ _ c.in-Ok-ready_install.ensures.no_change.cause c.in-Ok-write_install.ensures.cause (λ x. cc) (λ x. absurd x)
+
+pub returns-in-Ok-write_install-clause-retires : goal.returns-in-Ok-write_install-clause-retires
+returns-in-Ok-write_install-clause-retires g c = (
+  c.switch.ensures.pins ∙ ap (λ (p : Pins). record p { merge = None }) c.make_room.ensures.pins,
+  put_into g.D.Watched c.args.self.now.disk c.args.self.now.core c.args.self.now.merging c.args.job c.requires.handed c.new.result
+      c.new.ensures.items c.make_room.new.self.stock c.leave_files.new.stock
+      (subst (λ ls. LeavesFiles (map left_of c.new.result.items ++ ls.items) c.make_room.new.self.stock c.leave_files.new.stock)
+      c.into_parts-made.ensures.leavings c.leave_files.ensures)
+      c.args.self.now.core _ c.deref-in-Ok-write_install.result.now c.deref-in-Ok-write_install-2.result.now c.head_of-head.result
+      c.apply_install.new.self.version_number c.len.result c.lent_count-lent.result c.args.live c.switch-in-Ok-write_install.new.self.tally
+      c.args.self.now.removing.stock c.switch.new.self.stock
+      (c.deref-in-Ok-write_install.ensures.value ∙ c.in-Ok-made_numbers.ensures ∙ ap (map (λ t. t.number)) c.made.ensures)
+      (c.deref-in-Ok-write_install-2.ensures.value ∙ c.in-Ok-input_numbers.ensures
+      ∙ ap (λ ns. map number_of (filter (is_input ns) (tables_of c.levels.result.now)))
+      (c.deref-2.ensures.value ∙ c.in-Ok.ensures ∙ ap (map number_of) (c.deref.ensures.value ∙ ap (λ i. i.tables.items) c.inputs.ensures))
+      ∙ ap (λ lv. map number_of (filter (is_input (map number_of c.args.job.inputs.tables.items)) (tables_of lv))) c.levels.ensures)
+      c.apply_install.ensures.version c.head_of-head.ensures
+      (c.switch-in-Ok-write_install.ensures.live c.requires.tallied)
+      (let a = c.len.ensures in let b = c.in-Ok-made_numbers.added.ok.0 in
+      let d = ap length c.deref-in-Ok-write_install.ensures.value in omega (arith, a, b, d)) c.lent_count-lent.ensures
+      c.in-Ok-make_room.ensures.readied c.switch.ensures.switched,
+)
