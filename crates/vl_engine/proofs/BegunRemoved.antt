@@ -26,8 +26,14 @@ module _ {H L : Type 0} (core after : Core H) (h : History) (l : Layout) (is : F
   pub removes_planned : (job : Job) → new ≡ merge_pinned (Some core.back.version_number) old → Removes low after new (with_job job l)
   removes_planned job pinned =
       removes_alike l (with_job job l) (record {
-        flushed = refl; frozen = refl; levels = refl; retired = refl; active = refl; later = omega arith; lent = omega arith;
-        running = λ e. e
+        flushed = refl;
+        frozen = refl;
+        levels = refl;
+        retired = refl;
+        active = refl;
+        later = omega arith;
+        lent = omega arith;
+        running = λ e. e;
       }) core after (ap (λ (c : Core H). c.version.behind.logs.items) same) low old new (ap (λ (c : Core H). c.back.state.head) same)
       (ap (λ (r : Removing L). r.stock) pinned)
       (subst (λ (r : Removing L). ArePinsOf r.pins (with_job job l)) (sym pinned) (record {
@@ -41,8 +47,14 @@ module _ {H L : Type 0} (core after : Core H) (h : History) (l : Layout) (is : F
   pub removes_picked : (segment : ℕ) → new ≡ pass_pinned (Some core.back.version_number) old → Removes low after new (with_pass segment l)
   removes_picked segment pinned =
       removes_alike l (with_pass segment l) (record {
-        flushed = refl; frozen = refl; levels = refl; retired = refl; active = refl; later = omega arith; lent = omega arith;
-        running = λ e. e
+        flushed = refl;
+        frozen = refl;
+        levels = refl;
+        retired = refl;
+        active = refl;
+        later = omega arith;
+        lent = omega arith;
+        running = λ e. e;
       }) core after (ap (λ (c : Core H). c.version.behind.logs.items) same) low old new (ap (λ (c : Core H). c.back.state.head) same)
       (ap (λ (r : Removing L). r.stock) pinned)
       (subst (λ (r : Removing L). ArePinsOf r.pins (with_pass segment l)) (sym pinned) (record {

@@ -200,7 +200,8 @@ module _ {D W : Type 0} {s : _} (g : Ghosts D) (w : Writers W) (disk : D) (next 
           ap (λ (b : Bool). b || has next (numbers_left trash)) apart ∙ later
 
 -- The file of the next table was made and lent to the merge.
-pub there_drawn : {D H W : Type 0} {s : _} (g : Ghosts D) (w : Writers W) (old new : D) (core : Core H) (merging now_merging : Option OpenMerge)
+pub there_drawn : {D H W : Type 0} {s : _} (g : Ghosts D) (w : Writers W) (old new : D) (core : Core H)
+    (merging now_merging : Option OpenMerge)
     (was now : Stock (Lent W s)) → StaysUntold (g.told old) (g.told new) → StandStill (g.told old) (g.told new)
     → LeavesLent g core.back.state.next_table old new → AreLent g old core.back.state.next_table merging
     → lent_in now_merging ≡ lent_in merging ++ core.back.state.next_table ∷ [] → IsRoomier was now
@@ -210,7 +211,8 @@ there_drawn {H = H} {W = W} {s = s} g w old new core merging now_merging was now
     let next = core.back.state.next_table in
     let is = there_roomier g w old core merging was now roomy there in
     record {
-      waiting = λ k d within. waiting_kept g w old new untold stand next (next + 1) (slice_index_or now.trash.items k d) (omega arith) leaves
+      waiting = λ k d within. waiting_kept g w old new untold stand next (next + 1) (slice_index_or now.trash.items k d) (omega arith)
+          leaves
           (is.waiting k d within);
       distinct = ap (λ (ns : List ℕ). are_distinct (ns ++ numbers_left now.trash.items)) more
           ∙ distinct_more next (lent_in merging) (numbers_left now.trash.items) (next_lent g old next merging lent)

@@ -44,8 +44,14 @@ module _ {D H L : Type 0} (g : Ghosts D) (before after : Core H) (disk then : D)
       (ruled_made before h l v is may)
       (decides_answered Stays h l (keep_made l h v) (as_before l l) Kept (record no_effects { calls = 2 }) refl refl
       (removes_alike l (keeping v h l) (record {
-        flushed = refl; frozen = refl; levels = refl; retired = refl; active = refl; later = omega arith; lent = omega arith;
-        running = λ e. e
+        flushed = refl;
+        frozen = refl;
+        levels = refl;
+        retired = refl;
+        active = refl;
+        later = omega arith;
+        lent = omega arith;
+        running = λ e. e;
       }) before after logs low old new (ap (λ (s : ManifestState). s.head) did.back.state) stock
       (pins_alike new.pins l (keeping v h l) refl refl refl (omega arith) pins) removes)))
   removes_by (Err (fails.Halted name)) did = absurd did

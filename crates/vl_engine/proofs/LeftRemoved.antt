@@ -23,8 +23,10 @@ use Rattle.vl_engine.proofs.There.Left.{numbers_both, standing_both}
 use Rattle.vl_engine.specs.Installing.{numbers_in}
 use Rattle.vl_engine.specs.Lent.{AreLent, IsLent}
 use Rattle.vl_engine.specs.Merging.{HasMerge}
-use Rattle.vl_engine.specs.Removing.{AreBelowHead, HasInUse, IsLeft, IsLogBelow, IsStockOf, IsThere, IsWaiting, Removes, UsesThoseOf, all_retired}
-use Rattle.vl_engine.specs.Removing.{are_distinct, are_unused, is_none_of, lent_in, logs_in_use, numbers_left, standing_names, tables_in_use}
+use Rattle.vl_engine.specs.Removing.{AreBelowHead, HasInUse, IsLeft, IsLogBelow, IsStockOf, IsThere, IsWaiting, Removes}
+use Rattle.vl_engine.specs.Removing.{UsesThoseOf, all_retired}
+use Rattle.vl_engine.specs.Removing.{are_distinct, are_unused, is_none_of, lent_in, logs_in_use, numbers_left, standing_names}
+use Rattle.vl_engine.specs.Removing.{tables_in_use}
 use Rattle.vl_engine.specs.Retiring.{LeavesFiles, all_left, files_in, left_of}
 use Rattle.vl_engine.specs.UnderWay.{IsUnderWay}
 use Rattle.vl_engine.specs.declared.open.OpenMerge.{OpenMerge}
@@ -258,6 +260,7 @@ module _ {D W H V K : Type 0} (g : Ghosts D) {s : Writers W} (disk : D) (core : 
       where
         never : Some file ≡ None → ⊥
         never e = cc
+
         same : (x : Lent W s) → Some file ≡ Some x → file ≡ x
         same x e = cc
 
@@ -266,8 +269,10 @@ module _ {D W H V K : Type 0} (g : Ghosts D) {s : Writers W} (disk : D) (core : 
     waiting_all [] all = tt
     waiting_all (f ∷ fs) all = (one_waits f all.0, waiting_all fs all.1)
 
-    fine_made : (ts : List (Synced W s)) → AllByRecursion (λ (n : ℕ). has n way.merge.lent.items ≡ true) (map (λ (t : Synced W s). t.number) ts)
-        → ForSome (g.told disk) (λ _. AllByRecursion (λ (t : Synced W s). IsSome (s.file t.writer)) ts) → AllByRecursion Fine (map left_of ts)
+    fine_made : (ts : List (Synced W s)) → AllByRecursion (λ (n : ℕ). has n way.merge.lent.items ≡ true)
+        (map (λ (t : Synced W s). t.number) ts)
+        → ForSome (g.told disk) (λ _. AllByRecursion (λ (t : Synced W s). IsSome (s.file t.writer)) ts)
+        → AllByRecursion Fine (map left_of ts)
     fine_made [] drawn tells = tt
     fine_made (t ∷ ts) drawn tells =
         ((drawn.0, λ state told. (tells state told).0), fine_made ts drawn.1 (λ state told. (tells state told).1))
@@ -299,7 +304,8 @@ module _ {D W H V K : Type 0} (g : Ghosts D) {s : Writers W} (disk : D) (core : 
     there_left = record {
       waiting = subst (All (IsWaiting g s disk core.back.state.next_table)) (sym waits_now)
           (All-append (IsWaiting g s disk core.back.state.next_table) old.trash.items (all_left (files_in job)) is.waiting
-          (All-from_recursion (IsWaiting g s disk core.back.state.next_table) (all_left (files_in job)) (waiting_all (files_in job) fine_all)));
+          (All-from_recursion (IsWaiting g s disk core.back.state.next_table) (all_left (files_in job))
+          (waiting_all (files_in job) fine_all)));
       distinct = ap (λ (files : List (RetiredFile (Lent W s))). are_distinct (numbers_left files)) waits_now
           ∙ ap are_distinct (numbers_both old.trash.items (all_left (files_in job))
           ∙ ap (λ (l : List ℕ). numbers_left old.trash.items ++ l) (numbers_all (files_in job) ∙ files_numbers job))
@@ -313,9 +319,12 @@ module _ {D W H V K : Type 0} (g : Ghosts D) {s : Writers W} (disk : D) (core : 
           let more = length_map (λ (file : Lent W s). left_at file.number file) (files_in job) in
           omega (arith, room, less, old_len, new_len, capacity, long, more);
       files = λ state told. let has_use = is.files state told in record {
-        tables = subst (λ (o : Option InUse). All (λ n. Stands (TableName n) state) (tables_in_use core.version o)) (sym left.in_use) has_use.tables;
-        logs = subst (λ (o : Option InUse). All (λ n. Stands (LogName n) state) (logs_in_use core.version o)) (sym left.in_use) has_use.logs;
-        unused = (λ i. are_unused core.front.log.number (tables_in_use core.version (left.in_use i)) (logs_in_use core.version (left.in_use i))
+        tables = subst (λ (o : Option InUse). All (λ n. Stands (TableName n) state) (tables_in_use core.version o)) (sym left.in_use)
+            has_use.tables;
+        logs = subst (λ (o : Option InUse). All (λ n. Stands (LogName n) state) (logs_in_use core.version o)) (sym left.in_use)
+            has_use.logs;
+        unused = (λ i. are_unused core.front.log.number (tables_in_use core.version (left.in_use i))
+            (logs_in_use core.version (left.in_use i))
             (standing_is i)) ∙ has_use.unused;
         active = ap (is_none_of core.front.log.number) left.in_use ∙ has_use.active;
       };
@@ -327,7 +336,8 @@ module _ {D W H V K : Type 0} (g : Ghosts D) {s : Writers W} (disk : D) (core : 
 
         standing_is : standing_names new.trash.items ≡ standing_names old.trash.items
         standing_is = ap standing_names waits_now ∙ standing_both old.trash.items (all_left (files_in job))
-            ∙ ap (λ (l : List Name). standing_names old.trash.items ++ l) (none_standing (files_in job)) ∙ nothing (standing_names old.trash.items)
+            ∙ ap (λ (l : List Name). standing_names old.trash.items ++ l) (none_standing (files_in job)) ∙
+            nothing (standing_names old.trash.items)
 
   -- ---- as the layout has them
 

@@ -51,7 +51,8 @@ module _ (S : Layout → Type 0) (l : Layout) (h : History) (kept : S l) (done :
       by None = by_moved (moved_of (sources l) pass.segment (last_number h) batch)
 
 -- What is told of moves leaves what was lent to a job, and its pin.
-lent_kept : (number : ℕ) (moved : List Moved) (o : Option OpenJob) → length (lent_numbers (with_moves number moved o)) ≤ length (lent_numbers o)
+lent_kept : (number : ℕ) (moved : List Moved) (o : Option OpenJob)
+    → length (lent_numbers (with_moves number moved o)) ≤ length (lent_numbers o)
 lent_kept number moved None = omega arith
 lent_kept number moved (Some job) = omega arith
 
@@ -70,8 +71,14 @@ module _ {H L : Type 0} (core after : Core H) (h : History) (l : Layout) (low : 
   moves : (moved : List Moved) → Removes low after new (relocated l moved)
   moves moved =
       removes_alike l (relocated l moved) (record {
-        flushed = refl; frozen = refl; levels = refl; retired = refl; active = refl; later = omega arith;
-        lent = lent_kept (l.version_number + 1) moved l.job; running = λ e. e
+        flushed = refl;
+        frozen = refl;
+        levels = refl;
+        retired = refl;
+        active = refl;
+        later = omega arith;
+        lent = lent_kept (l.version_number + 1) moved l.job;
+        running = λ e. e;
       }) core after logs low old new head (ap (λ (r : Removing L). r.stock) same)
       (pins_alike new.pins l (relocated l moved) refl (pin_kept (l.version_number + 1) moved l.job) refl (omega arith)
       (subst (λ (r : Removing L). ArePinsOf r.pins l) (sym same) removes.pins)) removes
@@ -84,8 +91,10 @@ module _ {H L : Type 0} (core after : Core H) (h : History) (l : Layout) (low : 
     answered = λ a is. ((decides.answered a is).0, left_by (λ (k : Layout). Removes low after new k) l h stays moves pass batch);
     did = decides.did;
     no_memory = λ is. (stays, (decides.no_memory is).1);
-    failed = λ name is. ((decides.failed name is).0,
-        removes_halted low after new l name (subst (λ (r : Removing L). ArePinsOf r.pins l) (sym same) removes.pins));
+    failed = λ name is. (
+      (decides.failed name is).0,
+      removes_halted low after new l name (subst (λ (r : Removing L). ArePinsOf r.pins l) (sym same) removes.pins),
+    );
     damaged = λ name place is. (stays, (decides.damaged name place is).1);
   }
 
@@ -97,5 +106,6 @@ lent_noted None (Some after) notes did = absurd did
 lent_noted (Some merge) None notes did = absurd did
 lent_noted (Some merge) (Some after) notes did = λ i. (did.0 i).items
 
-pub head_moved : (after before : Back) (number : ℕ) → after ≡ record before { version_number = number } → after.state.head ≡ before.state.head
+pub head_moved : (after before : Back) (number : ℕ) → after ≡ record before { version_number = number }
+    → after.state.head ≡ before.state.head
 head_moved after before number is = ap (λ (b : Back). b.state.head) is

@@ -103,7 +103,8 @@ module _ {D W H R K : Type 0} (g : Ghosts D) {s : Writers W} (disk : D) (core : 
   way = record {
     merge = handed.merge;
     is_open = handed.is_open;
-    drawn = subst (λ (ts : List (Synced W s)). AllByRecursion (λ (n : ℕ). has n handed.merge.lent.items ≡ true) (NumbersWith ts)) (sym none_is)
+    drawn = subst (λ (ts : List (Synced W s)). AllByRecursion (λ (n : ℕ). has n handed.merge.lent.items ≡ true) (NumbersWith ts))
+        (sym none_is)
         (back_all (λ (n : ℕ). has n handed.merge.lent.items ≡ true) made_numbers left_numbers handed.drawn);
     distinct = subst (λ (ts : List (Synced W s)). AreDistinct (NumbersWith ts)) (sym none_is)
         (back_distinct made_numbers left_numbers handed.distinct);
@@ -194,23 +195,23 @@ module _ {D W H R K : Type 0} (g : Ghosts D) {s : Writers W} (disk : D) (core : 
       → InstallsInto job before after kept old now (length (lent_in merging))
   put_into before after added dropped head version tables counted live kept old now added_is dropped_is version_is head_is idle long same
       ready switched = record {
-    readied = readied;
-    is_ready = readied_for before old readied tables (length job.made.items) counted (length (lent_in merging))
-        (long ∙ ap length added_is ∙ length-map job.made.items (λ (t : Synced W s). t.number)) same ready;
-    mid = mid;
-    left = subst (λ (fs : List (Lent W s)). LeavesFiles fs readied mid) files_are left;
-    switched = λ (k : Kept (Lent W s)) has_it. subst (Has now)
-        (ap (λ v. switching v added dropped (is_idle_log head live) k) version_is
-        ∙ ap (λ ns. switching (before.back.version_number + 1) ns dropped (is_idle_log head live) k) added_is
-        ∙ ap (λ ns. switching (before.back.version_number + 1) made_numbers ns (is_idle_log head live) k) dropped_is
-        ∙ ap (λ (i : ℕ → Bool). switching (before.back.version_number + 1) made_numbers
-        (map number_of (filter (is_input (map number_of job.inputs.tables.items)) (tables_of before.version.behind.levels))) i k)
-        (λ j n. sym (idle n) j)
-        ∙ ap (λ m. switching (before.back.version_number + 1) made_numbers
-        (map number_of (filter (is_input (map number_of job.inputs.tables.items)) (tables_of before.version.behind.levels)))
-        (is_idle_in m kept) k) head_is)
-        (switched k has_it);
-  }
+        readied = readied;
+        is_ready = readied_for before old readied tables (length job.made.items) counted (length (lent_in merging))
+            (long ∙ ap length added_is ∙ length-map job.made.items (λ (t : Synced W s). t.number)) same ready;
+        mid = mid;
+        left = subst (λ (fs : List (Lent W s)). LeavesFiles fs readied mid) files_are left;
+        switched = λ (k : Kept (Lent W s)) has_it. subst (Has now)
+            (ap (λ v. switching v added dropped (is_idle_log head live) k) version_is
+            ∙ ap (λ ns. switching (before.back.version_number + 1) ns dropped (is_idle_log head live) k) added_is
+            ∙ ap (λ ns. switching (before.back.version_number + 1) made_numbers ns (is_idle_log head live) k) dropped_is
+            ∙ ap (λ (i : ℕ → Bool). switching (before.back.version_number + 1) made_numbers
+            (map number_of (filter (is_input (map number_of job.inputs.tables.items)) (tables_of before.version.behind.levels))) i k)
+            (λ j n. sym (idle n) j)
+            ∙ ap (λ m. switching (before.back.version_number + 1) made_numbers
+            (map number_of (filter (is_input (map number_of job.inputs.tables.items)) (tables_of before.version.behind.levels)))
+            (is_idle_in m kept) k) head_is)
+            (switched k has_it);
+      }
 
 -- The files of tables that may be taken back don't stand.
 pub free_of : {D W : Type 0} (g : Ghosts D) {s : Writers W} (old begun : D) → g.told begun ≡ g.told old → (ts : List (Synced W s))

@@ -73,7 +73,8 @@ module _ {W : Type 0} (w : Writers W) {s : _} where
               apart : (m == t.number) ≡ false → m ≡ t.number → ⊥
               apart off same = grind (arith, nat_tests, off, same)
 
-  all_stand : (ts : List (Synced W s)) (disk : DiskState) → AllByRecursion (λ (n : ℕ). Stands (Table n) (with_files w ts disk)) (NumbersOf ts)
+  all_stand : (ts : List (Synced W s)) (disk : DiskState)
+      → AllByRecursion (λ (n : ℕ). Stands (Table n) (with_files w ts disk)) (NumbersOf ts)
   all_stand [] disk = tt
   all_stand (t ∷ ts) disk =
       let next = adopted (Table t.number) (file_of_table w t) disk in (
@@ -173,7 +174,8 @@ module _ {D H W : Type 0} {s : Writers W} (g : Ghosts D) (bytes : H → Option (
       named = is.named;
     }
 
-    each_waits : (trash : List (RetiredFile (Lent W s))) → AllByRecursion (λ (t : Synced W s). has t.number (numbers_left trash) ≡ false) made
+    each_waits : (trash : List (RetiredFile (Lent W s)))
+        → AllByRecursion (λ (t : Synced W s). has t.number (numbers_left trash) ≡ false) made
         → AllByRecursion (IsWaiting g s old next) trash → AllByRecursion (IsWaiting g s new next) trash
     each_waits [] off all = tt
     each_waits (file ∷ trash) off all = (

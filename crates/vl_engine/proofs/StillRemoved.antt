@@ -65,13 +65,13 @@ module _ (l k : Layout) (alike : IsAlike l k) where
   module _ {H : Type 0} (core after : Core H) (logs : after.version.behind.logs.items ≡ core.version.behind.logs.items) where
     pub stock_alike : {L : Type 0} (old new : Stock L) → new ≡ old → IsStockOf core old l → IsStockOf after new k
     stock_alike old new same is = subst (λ (s : Stock _). IsStockOf after s k) (sym same) (record {
-        in_use = subst (λ (ss : List (SealedLog H)). UsesThoseOf ss old.in_use k) (sym logs)
-            (uses_alike core.version.behind.logs.items old.in_use is.in_use);
-        trash = is.trash ∙ sym alike.retired;
-        aged = subst (AllByRecursion (λ (r : Retired). r.version_number ≤ k.version_number)) (sym alike.retired)
-            (aged_on l.retired is.aged);
-        room = let room = is.room in let few = alike.lent in omega (arith, room, few);
-      })
+      in_use = subst (λ (ss : List (SealedLog H)). UsesThoseOf ss old.in_use k) (sym logs)
+          (uses_alike core.version.behind.logs.items old.in_use is.in_use);
+      trash = is.trash ∙ sym alike.retired;
+      aged = subst (AllByRecursion (λ (r : Retired). r.version_number ≤ k.version_number)) (sym alike.retired)
+          (aged_on l.retired is.aged);
+      room = let room = is.room in let few = alike.lent in omega (arith, room, few);
+    })
 
     below_alike : after.back.state.head ≡ core.back.state.head → AreBelowHead core l → AreBelowHead after k
     below_alike same below = record {
@@ -103,7 +103,14 @@ pins_alike pins l k live job pass later are = record {
 
 pub alike_same : (l : Layout) → IsAlike l l
 alike_same l = record {
-  flushed = refl; frozen = refl; levels = refl; retired = refl; active = refl; later = omega arith; lent = omega arith; running = λ e. e
+  flushed = refl;
+  frozen = refl;
+  levels = refl;
+  retired = refl;
+  active = refl;
+  later = omega arith;
+  lent = omega arith;
+  running = λ e. e;
 }
 
 -- Once it is halted nothing is said but of pins.
@@ -129,7 +136,14 @@ pub removes_live : {H L : Type 0} (low : Bool) (core after : Core H) (old new : 
     → Removes low after new (record l { live = live })
 removes_live low core after old new l live logs head stock pins is =
     removes_alike l (record l { live = live }) (record {
-      flushed = refl; frozen = refl; levels = refl; retired = refl; active = refl; later = omega arith; lent = omega arith; running = λ e. e
+      flushed = refl;
+      frozen = refl;
+      levels = refl;
+      retired = refl;
+      active = refl;
+      later = omega arith;
+      lent = omega arith;
+      running = λ e. e;
     }) core after logs low old new head stock pins is
 
 -- What lives is pinned as the layout has it.

@@ -1,5 +1,6 @@
 -- The files in use stand, and each retired one can be removed, also behind a call that leaves the files and which of them are in use.
-use Rattle.std.specs.Prelude.{◌≡◌, ◌≤◌, ◌+◌, ◌++◌, ◌&&◌, ℕ, All, Bool, true, false, not, List, [], ◌∷◌, length, Option, None, Some, map, refl}
+use Rattle.std.specs.Prelude.{◌≡◌, ◌≤◌, ◌+◌, ◌++◌, ◌&&◌, ℕ, All, Bool, true, false, not, List, [], ◌∷◌, length, Option, None, Some}
+use Rattle.std.specs.Prelude.{map, refl}
 use Rattle.std.specs.VecDeque.{deque_capacity, deque_len}
 use Rattle.std.proofs.Common.{sym, subst, ap, ◌∙◌, arith}
 use Rattle.vl_compact.specs.declared.files.Lent.{Lent}
@@ -51,7 +52,8 @@ module _ {D H W : Type 0} {s : _} (g : Ghosts D) (w : Writers W) (old new : D) (
     (log : after.front.log.number ≡ before.front.log.number) (next : before.back.state.next_table ≤ after.back.state.next_table)
     (lent : lent_in now_merging ≡ lent_in merging) (same : now_stock ≡ stock) where
   pub there_still : StaysUntold (g.told old) (g.told new) → StandStill (g.told old) (g.told new)
-      → LeavesLent g before.back.state.next_table old new → IsThere g w old before merging stock → IsThere g w new after now_merging now_stock
+      → LeavesLent g before.back.state.next_table old new → IsThere g w old before merging stock
+      → IsThere g w new after now_merging now_stock
   there_still untold stand leaves is =
       let mid = there_kept g w old new untold stand before (record after { version = before.version }) merging now_merging stock
       (record { version = refl; log = log; tables = next }) leaves lent is in
@@ -80,7 +82,8 @@ distinct_behind (x ∷ xs) ys is = distinct_behind xs ys (and_right (not (has x 
     and_right false b both = absurd cc
 
 -- A merge began, to which nothing was lent yet.
-pub there_begun : {D H W : Type 0} {s : _} (g : Ghosts D) (w : Writers W) (disk : D) (core : Core H) (merging now_merging : Option OpenMerge)
+pub there_begun : {D H W : Type 0} {s : _} (g : Ghosts D) (w : Writers W) (disk : D) (core : Core H)
+    (merging now_merging : Option OpenMerge)
     (stock : Stock (Lent W s)) → lent_in now_merging ≡ [] → IsThere g w disk core merging stock → IsThere g w disk core now_merging stock
 there_begun g w disk core merging now_merging stock none is = record {
   waiting = is.waiting;

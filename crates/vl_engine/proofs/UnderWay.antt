@@ -247,29 +247,30 @@ module _ {D V H W : Type 0} (g : Ghosts D) (w : Writers W) {s : _} where
       → IsSameJob asked roomy → Leaves w file roomy last → IsLentMore was now file.number → IsNewTo was file.number
       → ForSome (g.told old) (λ _. w.file file.writer ≡ Some new_file) → IsChangedBy change (g.told old) (g.told new) → after ≡ before
       → IsUnderWay g w new after now last
-  unfilled_way change old new before after was now first asked roomy last file way kept same leaves lent fresh empty changed halts = record {
-    merge = lent.next;
-    is_open = lent.is_open;
-    drawn = subst (λ (ns : List ℕ). AllByRecursion (λ (n : ℕ). has n lent.next.lent.items ≡ true) ns) (sym numbers_are)
-        (all_more (λ (n : ℕ). has n lent.next.lent.items ≡ true) (numbers_in first) file.number
-        (all_then (λ (n : ℕ). has n way.merge.lent.items ≡ true) (λ (n : ℕ). has n lent.next.lent.items ≡ true)
-        (numbers_in first) among way.drawn)
-        (subst (λ (ns : List ℕ). has file.number ns ≡ true) (sym lent.lent) (last_has file.number lent.merge.lent.items)));
-    distinct = subst AreDistinct (sym numbers_are) (subst AreDistinct (nothing_behind ((numbers_in first) ++ file.number ∷ []))
-        (put_in_distinct (numbers_in first) [] file.number (subst AreDistinct (sym (nothing_behind (numbers_in first))) way.distinct)
-        (ap (has file.number) (nothing_behind (numbers_in first))
-        ∙ not_among file.number way.merge.lent.items (numbers_in first) way.drawn (fresh way.merge way.is_open))));
-    tells = λ running state is.
-        let was_so = was_told change (g.told old) state (sym changed ∙ is) in
-        subst (λ (ts : List (Synced W s)). AllByRecursion (λ (t : Synced W s). IsSome (w.file t.writer)) ts) (sym made_are)
-        (way.tells (sym halts ∙ running) was_so.0 was_so.1);
-    leavings_tell = λ running state is.
-        let was_so = was_told change (g.told old) state (sym changed ∙ is) in
-        subst (λ (fs : List (Lent W s)). AllByRecursion (λ (f : Lent W s). IsSome (w.file f.writer)) fs) (sym left_are)
-        (all_more (λ (f : Lent W s). IsSome (w.file f.writer)) first.leavings.items leaves.leaving
-        (way.leavings_tell (sym halts ∙ running) was_so.0 was_so.1)
-        (leaves.tells (subst (λ (o : Option _). IsSome o) (sym (empty was_so.0 was_so.1)) refl)));
-  }
+  unfilled_way change old new before after was now first asked roomy last file way kept same leaves lent fresh empty changed halts =
+      record {
+        merge = lent.next;
+        is_open = lent.is_open;
+        drawn = subst (λ (ns : List ℕ). AllByRecursion (λ (n : ℕ). has n lent.next.lent.items ≡ true) ns) (sym numbers_are)
+            (all_more (λ (n : ℕ). has n lent.next.lent.items ≡ true) (numbers_in first) file.number
+            (all_then (λ (n : ℕ). has n way.merge.lent.items ≡ true) (λ (n : ℕ). has n lent.next.lent.items ≡ true)
+            (numbers_in first) among way.drawn)
+            (subst (λ (ns : List ℕ). has file.number ns ≡ true) (sym lent.lent) (last_has file.number lent.merge.lent.items)));
+        distinct = subst AreDistinct (sym numbers_are) (subst AreDistinct (nothing_behind ((numbers_in first) ++ file.number ∷ []))
+            (put_in_distinct (numbers_in first) [] file.number (subst AreDistinct (sym (nothing_behind (numbers_in first))) way.distinct)
+            (ap (has file.number) (nothing_behind (numbers_in first))
+            ∙ not_among file.number way.merge.lent.items (numbers_in first) way.drawn (fresh way.merge way.is_open))));
+        tells = λ running state is.
+            let was_so = was_told change (g.told old) state (sym changed ∙ is) in
+            subst (λ (ts : List (Synced W s)). AllByRecursion (λ (t : Synced W s). IsSome (w.file t.writer)) ts) (sym made_are)
+            (way.tells (sym halts ∙ running) was_so.0 was_so.1);
+        leavings_tell = λ running state is.
+            let was_so = was_told change (g.told old) state (sym changed ∙ is) in
+            subst (λ (fs : List (Lent W s)). AllByRecursion (λ (f : Lent W s). IsSome (w.file f.writer)) fs) (sym left_are)
+            (all_more (λ (f : Lent W s). IsSome (w.file f.writer)) first.leavings.items leaves.leaving
+            (way.leavings_tell (sym halts ∙ running) was_so.0 was_so.1)
+            (leaves.tells (subst (λ (o : Option _). IsSome o) (sym (empty was_so.0 was_so.1)) refl)));
+      }
     where
       made_are : last.made.items ≡ first.made.items
       made_are = ap (λ (j : Job V H W s). j.made.items) leaves.kept
@@ -300,7 +301,8 @@ module _ {D V H W : Type 0} (g : Ghosts D) (w : Writers W) {s : _} where
           ∙ ap (λ (ns : List ℕ). map (λ (t : Synced W s). t.number) first.made.items ++ ns)
           (map-append (λ (f : Lent W s). f.number) first.leavings.items (leaves.leaving ∷ [])
           ∙ ap (λ (n : ℕ). map (λ (f : Lent W s). f.number) first.leavings.items ++ n ∷ []) leaves.number)
-          ∙ together (map (λ (t : Synced W s). t.number) first.made.items) (map (λ (f : Lent W s). f.number) first.leavings.items) file.number
+          ∙ together (map (λ (t : Synced W s). t.number) first.made.items) (map (λ (f : Lent W s). f.number) first.leavings.items)
+          file.number
 
 -- where no file was lent the engine is halted then, or nothing was done to the disk
 pub quiet_draw : {D H W : Type 0} (g : Ghosts D) (s : Writers W) (old new : D) (before after : Core H) (why : StepFail)

@@ -68,8 +68,14 @@ module _ {D H : Type 0} (g : Ghosts D) (bytes : H → Option (List ℕ)) (disk t
   longer same =
       let k = (committed l h t).layout in
       removes_alike l k (record {
-        flushed = refl; frozen = refl; levels = refl; retired = refl; active = refl; later = omega arith; lent = omega arith;
-        running = λ e. e
+        flushed = refl;
+        frozen = refl;
+        levels = refl;
+        retired = refl;
+        active = refl;
+        later = omega arith;
+        lent = omega arith;
+        running = λ e. e;
       }) before after logs low old new head (ap (λ (r : Removing L). r.stock) same)
       (pins_alike new.pins (ended ticket l) k refl refl refl (omega arith) (ended_pins same)) removes
 

@@ -7,7 +7,7 @@ mod space;
 mod stock;
 
 use crate::refusals::{go_on, not_opened};
-use crate::space::collect_once;
+use crate::space::{collect_once, sweep_once};
 use crate::stock::{add, change, label, make_room, merge_once, rows};
 use anyhow::{Result, bail};
 use std::env;
@@ -103,14 +103,16 @@ fn overtake<D: Disk>(rt: &HostRuntime, store: &mut Engine<D>) -> Result<()> {
     Ok(())
 }
 
-/// Merges tables until no level of them is due.
+/// Merges tables until no level of them is due, and removes the files that are needless then.
 fn while_due<D: Disk>(rt: &HostRuntime, store: &mut Engine<D>) -> Result<()> {
     for _ in 0..MOST_MERGES {
         let Some(kept) = merge_once(store)? else {
-            return Ok(());
+            break;
         };
         println!(rt; "tables were merged, which keeps {kept} entries")?;
     }
+    let count = sweep_once(store)?;
+    println!(rt; "{count} needless files were removed")?;
     Ok(())
 }
 

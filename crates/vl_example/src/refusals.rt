@@ -2,7 +2,9 @@
 
 use crate::stock::make_room;
 use anyhow::{Error, Result, anyhow};
-use vlstore::{CommitFail, Disk, Engine, MergeFail, MoveFail, OpenError, PickFail, StepFail};
+use vlstore::{
+    CommitFail, Disk, Engine, MergeFail, MoveFail, OpenError, PickFail, StepFail, SweepFail,
+};
 
 /// Why a store wasn't opened, and what may be done.
 pub fn not_opened(why: OpenError) -> Error {
@@ -64,6 +66,15 @@ pub fn not_merged(fail: MergeFail) -> Error {
         MergeFail::Exhausted(counter) => anyhow!("no number is left: {counter:?}"),
         MergeFail::Raced => anyhow!("a record was moved meanwhile: merge again"),
         MergeFail::NoMemory => anyhow!("no memory: try again"),
+    }
+}
+
+/// Why not all files were removed that could go, and what may be done. The store's contents stand, and so they do when it is opened
+/// again.
+pub fn not_swept(fail: SweepFail) -> Error {
+    match fail {
+        SweepFail::Halted { name } => anyhow!("the disk failed at {name:?}: open again"),
+        SweepFail::Disk { name } => anyhow!("the disk failed at {name:?}: open again"),
     }
 }
 

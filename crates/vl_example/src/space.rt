@@ -1,6 +1,6 @@
-//! How a service gets space back from logs whose values were mostly overwritten.
+//! How a service gets space back: from logs whose values were mostly overwritten, and from files that nothing needs any more.
 
-use crate::refusals::{not_done, not_moved, not_picked};
+use crate::refusals::{not_done, not_moved, not_picked, not_swept};
 use anyhow::Result;
 use std::alloc::Global;
 use vlstore::{Base, Batch, Disk, Engine, MoveFail, Pass, PickFail};
@@ -9,7 +9,7 @@ use vlstore::{Base, Batch, Disk, Engine, MoveFail, Pass, PickFail};
 const MOST_BATCHES: u32 = 1000;
 
 /// Moves the values that still count out of the log of which the greatest share is garbage, if that is at least so many per cent,
-/// and gives how many were moved. The log goes once a merge drops what still leads into it, and the store is opened again.
+/// and gives how many were moved. A sweep removes the log once a merge has dropped what still leads into it.
 pub fn collect_once<D: Disk>(
     alloc: Global,
     store: &mut Engine<D>,
@@ -23,6 +23,14 @@ pub fn collect_once<D: Disk>(
     let moved = move_all(alloc, store, &mut pass);
     store.end_pass(pass);
     Ok(Some(moved?))
+}
+
+/// Removes the files that nothing needs any more, and gives how many went. A service does so behind its merges.
+pub fn sweep_once<D: Disk>(store: &mut Engine<D>) -> Result<u64> {
+    match store.sweep() {
+        Ok(count) => Ok(count),
+        Err(fail) => Err(not_swept(fail)),
+    }
 }
 
 /// Moves batch after batch of a pass. What is read with is made anew for each, since a rotation may have come between.

@@ -1,5 +1,6 @@
 -- What becomes of the files that a stock has.
-use Rattle.std.proofs.Common.{◌≡◌, ℕ, ◌+◌, ◌≤◌, Bool, true, false, List, ◌++◌, ◌∷◌, [], Some, refl, sym, ap, ◌∙◌, subst, arith, vec_len, vec_capacity}
+use Rattle.std.proofs.Common.{◌≡◌, ℕ, ◌+◌, ◌≤◌, Bool, true, false, List, ◌++◌, ◌∷◌, [], Some, refl, sym, ap, ◌∙◌, subst, arith}
+use Rattle.std.proofs.Common.{vec_len, vec_capacity}
 use Rattle.std.specs.Prelude.{Option, None, Result, Ok, Err, IfOk, OnOk, cond}
 use Rattle.std.specs.VecDeque.{deque_len, deque_capacity}
 use Rattle.vl_disk.specs.declared.name.Name.{Name}

@@ -25,6 +25,8 @@ pub fn pins_are_those_of_what_lives()
     ensures ended { (pins : Pins) (l : Layout) (ticket : ℕ) → ArePinsOf pins l
         → ArePinsOf (record pins { live = oracle.ended ticket pins.live }) (ended ticket l) }
     ensures neither { (pins : Pins) (l : Layout) → ArePinsOf pins l → IsRising (λ x. x.ticket) l.live
-        → ArePinsOf (record pins { live = oracle.ended (oracle.free_ticket pins.live)
-        (oracle.begun (raised l.version_number pins.live)) }) l }
+        → ArePinsOf (record pins {
+          live = oracle.ended (oracle.free_ticket pins.live)
+              (oracle.begun (raised l.version_number pins.live));
+        }) l }
 {}

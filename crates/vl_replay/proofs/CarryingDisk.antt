@@ -22,19 +22,19 @@ use Rattle.vl_mem.specs.laws.CrashChance.{IsTornByPieces}
 use Rattle.vl_model.specs.History.{History}
 use Rattle.vl_recover.specs.crash.Held.{AllSettled}
 use Rattle.vl_recover.specs.crash.Starts.{MayOpen}
-use Rattle.vl_replay.specs.Between.{ShowsBetween}
+use Rattle.vl_sequential.specs.Between.{ShowsBetween}
 use Rattle.vl_replay.specs.Drawn.{DrawsOn, drawn_state}
-use Rattle.vl_replay.specs.Durable.{CrashesShow, HoldsState, Leaves, Tells}
-use Rattle.vl_replay.specs.Halts.{HaltsByDisk}
-use Rattle.vl_replay.specs.Sequential.{State, history_of}
-use Rattle.vl_replay.specs.Stopped.{StopsStep}
-use Rattle.vl_replay.specs.Stored.{IsStopped, IsStored}
-use Rattle.vl_replay.specs.declared.fails.Halt.{Halt}
+use Rattle.vl_sequential.specs.Durable.{CrashesShow, HoldsState, Leaves, Tells}
+use Rattle.vl_sequential.specs.Halts.{HaltsByDisk}
+use Rattle.vl_sequential.specs.Sequential.{State, history_of}
+use Rattle.vl_sequential.specs.Stopped.{StopsStep}
+use Rattle.vl_sequential.specs.Stored.{IsStopped, IsStored}
+use Rattle.vl_sequential.specs.declared.fails.Halt.{Halt}
 use Rattle.vl_replay.proofs.CarryingLists.{calls_then, drawn_none, state_then}
-use Rattle.vl_replay.proofs.Disk.Betweens.{extends_itself}
-use Rattle.vl_replay.proofs.Disk.DiskSteps.{IsWatched, opens_again, rests_until}
-use Rattle.vl_replay.proofs.Disk.Shown.{shown_stays, stored_exactly}
-use Rattle.vl_replay.proofs.Trials.TornSteps.{making_torn, settled_torn}
+use Rattle.vl_sequential.specs.laws.Betweens.{extends_itself}
+use Rattle.vl_sequential.specs.laws.DiskSteps.{IsWatched, opens_again, rests_until}
+use Rattle.vl_sequential.specs.laws.ShownDisk.{shown_stays, stored_exactly}
+use Rattle.vl_sequential.specs.laws.TornSteps.{making_torn, settled_torn}
 
 -- ---- what isn't durable
 

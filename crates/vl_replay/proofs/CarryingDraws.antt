@@ -38,19 +38,19 @@ use Rattle.vl_model.specs.Limits.{max_file_number}
 use Rattle.vl_model.specs.declared.counter.Counter.{Counter}
 use Rattle.vl_model.specs.declared.counter.Counter.TheVariants as counters
 use Rattle.vl_recover.specs.crash.Alike.{IsLeft}
-use Rattle.vl_replay.specs.Between.{ShowsBetween}
+use Rattle.vl_sequential.specs.Between.{ShowsBetween}
 use Rattle.vl_replay.specs.Drawn.{DrawsOn, IsServing, drawn_state}
-use Rattle.vl_replay.specs.Durable.{CrashesShow, HoldsState}
-use Rattle.vl_replay.specs.Halts.{HaltsByDisk}
+use Rattle.vl_sequential.specs.Durable.{CrashesShow, HoldsState}
+use Rattle.vl_sequential.specs.Halts.{HaltsByDisk}
 use Rattle.vl_replay.specs.Rounds.{round_by}
-use Rattle.vl_replay.specs.Sequential.{State, history_of}
-use Rattle.vl_replay.specs.Stopped.{AreNumberedUpTo, StopsStep}
-use Rattle.vl_replay.specs.Stored.{IsStored}
-use Rattle.vl_replay.specs.declared.fails.Halt.{Halt}
+use Rattle.vl_sequential.specs.Sequential.{State, history_of}
+use Rattle.vl_sequential.specs.Stopped.{AreNumberedUpTo, StopsStep}
+use Rattle.vl_sequential.specs.Stored.{IsStored}
+use Rattle.vl_sequential.specs.declared.fails.Halt.{Halt}
 use Rattle.vl_replay.proofs.CarryingDisk.{fresh_torn, stays}
 use Rattle.vl_replay.proofs.CarryingLists.{drawn_none}
-use Rattle.vl_replay.proofs.Disk.DiskSteps.{IsWatched}
-use Rattle.vl_replay.proofs.Disk.Held.{stored_by}
+use Rattle.vl_sequential.specs.laws.DiskSteps.{IsWatched}
+use Rattle.vl_sequential.specs.laws.HeldDisk.{stored_by}
 
 -- ---- the ruling
 

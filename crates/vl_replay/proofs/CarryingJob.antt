@@ -9,21 +9,26 @@ use Rattle.std.proofs.lemmas.List.Elements.{All-from_recursion}
 use Rattle.vl_compact.specs.Keys.{behind}
 use Rattle.vl_compact.specs.Laid.{AreTablesOf}
 use Rattle.vl_compact.specs.Lending.{FailsWriting, HasFailed, IsSteady, Wanted}
-use Rattle.vl_compact.specs.Progress.{FailsWith, IsNew, IsTableFile, KeepsAll, Takes}
+use Rattle.vl_compact.specs.Progress.{FailsWith, IsNew, IsTableFile, KeepsAll, Leaves, Takes}
 use Rattle.vl_compact.specs.Reading.{Counts, FailsReading, IsMemory, IsOfFiles, IsOfSources, MayWhere, NoneRose, counts}
 use Rattle.vl_compact.specs.declared.files.Lent.{Lent}
 use Rattle.vl_compact.specs.declared.files.Synced.{Synced}
 use Rattle.vl_compact.specs.declared.job.Job.{Job as TheJob}
 use Rattle.vl_compact.specs.declared.job_reader.JobReader.{JobReader}
+use Rattle.vl_disk.specs.Calls.{ChangesNothing}
 use Rattle.vl_disk.specs.DiskState.{new_file}
 use Rattle.vl_disk.specs.Faults.{Rose}
 use Rattle.vl_disk.specs.declared.name.Name.{Name}
 use Rattle.vl_disk.specs.declared.watched.Watched.{Ghosts}
 use Rattle.vl_disk.specs.declared.writer.Writer.{Ghosts as Writers}
 use Rattle.vl_core.specs.Carries.{StaysUntold}
-use Rattle.vl_engine.specs.Drawing.{IsLentMore, IsNewTo, IsSameJob}
+use Rattle.vl_core.specs.declared.kept.Core.{Core}
+use Rattle.vl_engine.specs.Drawing.{DrawsCore, FreshLeavesDisk, IsLentMore, IsNewTo, IsSameJob, IsSameMerge}
 use Rattle.vl_engine.specs.Installing.{numbers_in}
 use Rattle.vl_engine.specs.Merging.{HasMerge, IsJustOpen, made_numbers}
+use Rattle.vl_engine.specs.UnderWay.{IsUnderWay}
+use Rattle.vl_engine.specs.declared.fails.StepFail.{StepFail}
+use Rattle.vl_engine.specs.declared.fails.StepFail.TheVariants as fails
 use Rattle.vl_engine.specs.declared.open.OpenMerge.{OpenMerge}
 use Rattle.vl_layout.specs.Jobs.{AreDistinct}
 use Rattle.vl_layout.specs.Merging.{merged_entries, outputs}
@@ -44,8 +49,8 @@ use Rattle.vl_table.specs.laws.TrueBlocks.{no_bad_block}
 use Rattle.vl_version.specs.Bases.{Fits}
 use Rattle.vl_version.specs.Sources.{tables_in}
 use Rattle.vl_version.specs.declared.base.Base.{Base}
-use Rattle.vl_replay.specs.Failing.{ByReader, ByWriter, ReaderFailed, beside}
-use Rattle.vl_replay.specs.Halts.{HaltsByDisk, HaltsByReader}
+use Rattle.vl_sequential.specs.Failing.{ByReader, ByWriter, ReaderFailed, beside}
+use Rattle.vl_sequential.specs.Halts.{HaltsByDisk, HaltsByReader}
 use Rattle.vl_replay.specs.Handed.{MayHandIn, are_distinct}
 use Rattle.vl_replay.specs.Rounds.{HasLent, halt_by}
 use Rattle.vl_replay.proofs.CarryingLists.{all_among, all_more, apart_all, more_distinct}
@@ -240,6 +245,21 @@ telling : {A : Type 0} (old new : Option A) (x : A) → (old ≡ None → new �
 telling None new x stays is = absurd (let no : None ≡ Some x = sym (stays refl) ∙ is in cc)
 telling (Some y) new x stays is = (y, refl)
 
+none_tell : {W : Type 0} (w : Writers W) {s : _} (fs : List (Lent W s)) → fs ≡ []
+    → AllByRecursion (λ (f : Lent W s). IsSome (w.file f.writer)) fs
+none_tell {W} w {s} fs none =
+    subst (λ (fs : List (Lent W s)). AllByRecursion (λ (f : Lent W s). IsSome (w.file f.writer)) fs) (sym none) tt
+
+-- Unless the disk failed at the file that wasn't lent, it was left alone.
+pub unlent_tells : {D H W : Type 0} (g : Ghosts D) (w : Writers W) (before after : Core H) (old new : D) (fail : StepFail)
+    → DrawsCore {W = W} before after {g = w} (Err fail) → (FreshLeavesDisk {W = W} {g = w} (Err fail) → ChangesNothing g old new ⊥)
+    → after.front.halted ≡ None → StaysUntold (g.told old) (g.told new)
+unlent_tells g w before after old new (fails.Halted name) core untouched running none = (untouched tt).told ∙ none
+unlent_tells g w before after old new (fails.Exhausted counter) core untouched running none = (untouched tt).told ∙ none
+unlent_tells g w before after old new fails.NoMemory core untouched running none = (untouched tt).told ∙ none
+unlent_tells g w before after old new (fails.Disk name) core untouched running none =
+    absurd (let no : None ≡ Some name = sym running ∙ ap (λ (c : Core _). c.front.halted) core in cc)
+
 module _ {D V H W : Type 0} (g : Ghosts D) (w : Writers W) {s : _} where
   -- One that was just planned has none.
   pub just_planned : (disk : D) (merging : Option OpenMerge) (job : TheJob V H W s) → IsJustOpen merging → IsNew job
@@ -296,6 +316,12 @@ module _ {D V H W : Type 0} (g : Ghosts D) (w : Writers W) {s : _} where
       merge_is : lent.merge ≡ more.merge
       merge_is = let e : Some lent.merge ≡ Some more.merge = sym lent.is_open ∙ more.was_open in cc
 
+  lent_numbers : (disk : D) (merging : Option OpenMerge) (job : TheJob V H W s) (lent : HasLent g w disk merging job)
+      → numbers_in job ≡ lent.merge.lent.items
+  lent_numbers disk merging job lent =
+      ap (λ (fs : List (Lent W s)). made_numbers job ++ map (λ (f : Lent W s). f.number) fs) lent.no_leavings
+      ∙ (append-nil (made_numbers job) ∙ lent.files)
+
   -- One that has ended can be handed in.
   pub may_hand_in : (disk : D) (merging : Option OpenMerge) (job : TheJob V H W s) → HasLent g w disk merging job → job.ended ≡ true
       → MayHandIn g w disk merging job
@@ -307,11 +333,96 @@ module _ {D V H W : Type 0} (g : Ghosts D) (w : Writers W) {s : _} where
         (subst (AllByRecursion (λ (n : ℕ). has n lent.merge.lent.items ≡ true)) (sym numbers_are) (all_among lent.merge.lent.items)));
     distinct = ap are_distinct numbers_are ∙ apart_all lent.merge.lent.items lent.distinct;
     tells = λ state told. All-from_recursion (λ (t : Synced W s). IsSome (w.file t.writer)) job.made.items (lent.tells state told);
+    leavings_tell = λ state told. All-from_recursion (λ (f : Lent W s). IsSome (w.file f.writer)) job.leavings.items
+        (none_tell w job.leavings.items lent.no_leavings);
   }
     where
       its_merge : (merge : OpenMerge) → merging ≡ Some merge → lent.merge ≡ merge
       its_merge merge is = let e : Some lent.merge ≡ Some merge = sym lent.is_open ∙ is in cc
 
       numbers_are : numbers_in job ≡ lent.merge.lent.items
-      numbers_are = ap (λ (fs : List (Lent W s)). made_numbers job ++ map (λ (f : Lent W s). f.number) fs) lent.no_leavings
-          ∙ (append-nil (made_numbers job) ∙ lent.files)
+      numbers_are = lent_numbers disk merging job lent
+
+  -- ---- so that it can be given up
+
+  -- its files are just those that were lent to the open merge
+  its_files : (disk : D) (halted : Option Name) (merging : Option OpenMerge) (job : TheJob V H W s) (merge : OpenMerge)
+      → merging ≡ Some merge → numbers_in job ≡ merge.lent.items → AreDistinct merge.lent.items
+      → (halted ≡ None → ForSome (g.told disk) (λ _. AllByRecursion (λ (t : Synced W s). IsSome (w.file t.writer)) job.made.items))
+      → (halted ≡ None → ForSome (g.told disk) (λ _. AllByRecursion (λ (f : Lent W s). IsSome (w.file f.writer)) job.leavings.items))
+      → IsUnderWay g w disk halted merging job
+  its_files disk halted merging job merge is numbers distinct tells leavings_tell = record {
+    merge = merge;
+    is_open = is;
+    drawn = subst (AllByRecursion (λ (n : ℕ). has n merge.lent.items ≡ true)) (sym numbers) (all_among merge.lent.items);
+    distinct = subst AreDistinct (sym numbers) distinct;
+    tells = tells;
+    leavings_tell = leavings_tell;
+  }
+
+  -- where each of them became a table
+  pub lent_under_way : (disk : D) (halted : Option Name) (merging : Option OpenMerge) (job : TheJob V H W s)
+      → HasLent g w disk merging job → IsUnderWay g w disk halted merging job
+  lent_under_way disk halted merging job lent =
+      its_files disk halted merging job lent.merge lent.is_open (lent_numbers disk merging job lent) lent.distinct
+      (λ running. lent.tells) (λ running state told. none_tell w job.leavings.items lent.no_leavings)
+
+  -- where it was lent no more
+  pub refused_under_way : (old new : D) (halted : Option Name) (was now : Option OpenMerge) (first asked roomy : TheJob V H W s)
+      → HasLent g w old was first → KeepsAll first asked → IsSameJob asked roomy → IsSameMerge was now
+      → (halted ≡ None → StaysUntold (g.told old) (g.told new)) → IsUnderWay g w new halted now roomy
+  refused_under_way old new halted was now first asked roomy lent kept same stays untold =
+      its_files new halted now roomy stays.next stays.is_open
+      (ap (λ (ts : List (Synced W s)). map (λ (t : Synced W s). t.number) ts ++ map (λ (f : Lent W s). f.number) roomy.leavings.items)
+      made_are
+      ∙ (ap (λ (fs : List (Lent W s)). made_numbers first ++ map (λ (f : Lent W s). f.number) fs) none_left
+      ∙ (append-nil (made_numbers first) ∙ (lent.files ∙ lent_are))))
+      (subst AreDistinct lent_are lent.distinct)
+      (λ running state told. let (before, was_told) = telling (g.told old) (g.told new) state (untold running) told in
+      subst (λ (ts : List (Synced W s)). AllByRecursion (λ (t : Synced W s). IsSome (w.file t.writer)) ts) (sym made_are)
+      (lent.tells before was_told))
+      (λ running state told. none_tell w roomy.leavings.items none_left)
+    where
+      made_are : roomy.made.items ≡ first.made.items
+      made_are = same.made ∙ ap (λ (x : TheJob V H W s). x.made.items) kept
+
+      none_left : roomy.leavings.items ≡ []
+      none_left = same.leavings ∙ (ap (λ (x : TheJob V H W s). x.leavings.items) kept ∙ lent.no_leavings)
+
+      lent_are : lent.merge.lent.items ≡ stays.next.lent.items
+      lent_are =
+          let e : Some lent.merge ≡ Some stays.merge = sym lent.is_open ∙ stays.was_open in
+          let merge_is : lent.merge ≡ stays.merge = cc in
+          ap (λ (m : OpenMerge). m.lent.items) merge_is ∙ sym stays.lent
+
+  -- where the last one became no table
+  pub left_under_way : (old new : D) (halted : Option Name) (was now : Option OpenMerge) (first asked roomy last : TheJob V H W s)
+      (file : Lent W s) → HasLent g w old was first → KeepsAll first asked → IsSameJob asked roomy → Leaves w file roomy last
+      → IsLentMore was now file.number → IsNewTo was file.number → ForSome (g.told old) (λ _. w.file file.writer ≡ Some new_file)
+      → StaysUntold (g.told old) (g.told new) → IsUnderWay g w new halted now last
+  left_under_way old new halted was now first asked roomy last file lent kept same leaves more apart empty untold =
+      its_files new halted now last more.next more.is_open
+      (ap (λ (ts : List (Synced W s)). map (λ (t : Synced W s). t.number) ts ++ map (λ (f : Lent W s). f.number) last.leavings.items)
+      made_are
+      ∙ (ap (λ (fs : List (Lent W s)). made_numbers first ++ map (λ (f : Lent W s). f.number) fs) left_is
+      ∙ (ap (λ (n : ℕ). made_numbers first ++ n ∷ []) leaves.number
+      ∙ (ap (λ (ns : List ℕ). ns ++ file.number ∷ []) (lent.files ∙ ap (λ (m : OpenMerge). m.lent.items) merge_is) ∙ sym more.lent))))
+      (subst AreDistinct (sym more.lent) (more_distinct more.merge.lent.items file.number
+      (subst (λ (m : OpenMerge). AreDistinct m.lent.items) merge_is lent.distinct) (apart more.merge more.was_open)))
+      (λ running state told. let (before, was_told) = telling (g.told old) (g.told new) state untold told in
+      subst (λ (ts : List (Synced W s)). AllByRecursion (λ (t : Synced W s). IsSome (w.file t.writer)) ts) (sym made_are)
+      (lent.tells before was_told))
+      (λ running state told. let (before, was_told) = telling (g.told old) (g.told new) state untold told in
+      subst (λ (fs : List (Lent W s)). AllByRecursion (λ (f : Lent W s). IsSome (w.file f.writer)) fs) (sym left_is)
+      (leaves.tells (subst (λ (o : Option _). IsSome o) (sym (empty before was_told)) refl), tt))
+    where
+      made_are : last.made.items ≡ first.made.items
+      made_are = ap (λ (x : TheJob V H W s). x.made.items) leaves.kept
+          ∙ (same.made ∙ ap (λ (x : TheJob V H W s). x.made.items) kept)
+
+      left_is : last.leavings.items ≡ leaves.leaving ∷ []
+      left_is = leaves.left ∙ ap (λ (fs : List (Lent W s)). fs ++ leaves.leaving ∷ [])
+          (same.leavings ∙ (ap (λ (x : TheJob V H W s). x.leavings.items) kept ∙ lent.no_leavings))
+
+      merge_is : lent.merge ≡ more.merge
+      merge_is = let e : Some lent.merge ≡ Some more.merge = sym lent.is_open ∙ more.was_open in cc

@@ -11,7 +11,7 @@ use Rattle.vl_layout.specs.declared.layout.Layout.{Layout}
 use Rattle.vl_model.specs.Numbers.{has}
 use Rattle.vl_replay.specs.Drawn.{drawn_all, drawn_state, numbers_from}
 use Rattle.vl_replay.specs.Handed.{are_distinct}
-use Rattle.vl_replay.specs.Sequential.{State}
+use Rattle.vl_sequential.specs.Sequential.{State}
 
 suc_is : (n : ℕ) → suc n ≡ n + 1
 suc_is n = omega arith

@@ -27,19 +27,19 @@ use Rattle.vl_table.specs.declared.fault.TableFault.TheVariants as faults
 use Rattle.vl_version.specs.Bases.{Fits, HasSources}
 use Rattle.vl_version.specs.declared.base.Base.{Base}
 use Rattle.vl_replay.specs.Drawn.{IsServing, drawn_state}
-use Rattle.vl_replay.specs.Halts.{HaltsByDisk}
+use Rattle.vl_sequential.specs.Halts.{HaltsByDisk}
 use Rattle.vl_replay.specs.Rounds.{EndsRound, IsUnderWay, Rounds, halt_by, round_by}
-use Rattle.vl_replay.specs.Sequential.{State, history_of}
+use Rattle.vl_sequential.specs.Sequential.{State, history_of}
 use Rattle.vl_replay.specs.declared.carrying.Round.{Round}
 use Rattle.vl_replay.specs.declared.carrying.Round.TheVariants as rounds
-use Rattle.vl_replay.specs.declared.fails.Halt.{Halt}
+use Rattle.vl_sequential.specs.declared.fails.Halt.{Halt}
 use Rattle.vl_replay.proofs.CarryingDisk.{rests}
 use Rattle.vl_replay.proofs.CarryingDraws.{Came, Draws, exhausted_came, exhausted_is, exhausted_past, failed_came}
 use Rattle.vl_replay.proofs.CarryingDraws.{failed_fits, failed_name, lent_came, lent_fits, lent_number, never_halted}
 use Rattle.vl_replay.proofs.CarryingDraws.{short_came}
 use Rattle.vl_replay.proofs.CarryingJob.{not_by_disk}
 use Rattle.vl_replay.proofs.CarryingLists.{drawn_none}
-use Rattle.vl_replay.proofs.Disk.DiskSteps.{IsWatched}
+use Rattle.vl_sequential.specs.laws.DiskSteps.{IsWatched}
 
 none_one : ◌≡◌ {A = ℕ} 0 1 → ⊥
 none_one e = cc

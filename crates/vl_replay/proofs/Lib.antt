@@ -5,10 +5,11 @@ pub mod CarryingLists
 pub mod CarryingRounds
 pub mod CarryingTables
 pub mod Disk
+pub mod Lines
 pub mod Merges
 pub mod Names
 pub mod Openings
+pub mod Passes
 pub mod Runs
 pub mod Serving
 pub mod Trials
-pub mod Words

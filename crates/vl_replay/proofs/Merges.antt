@@ -1,4 +1,5 @@
 -- The lines of merges.
+pub mod Choosing
 pub mod Counting
 pub mod Filling
 pub mod Keeping

@@ -1,7 +1,2 @@
 -- A store that was opened: what is kept and stored of it, and what is printed of it.
 pub mod Begun
-pub mod Numbered
-pub mod NumbersLeft
-pub mod Recovering
-pub mod Starting
-mod TextRows

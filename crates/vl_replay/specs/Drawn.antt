@@ -26,14 +26,14 @@ use Rattle.vl_model.specs.declared.counter.Counter.{Counter}
 use Rattle.vl_model.specs.declared.counter.Counter.TheVariants as counters
 use Rattle.vl_recover.specs.crash.Starts.{MayOpen}
 use Rattle.vl_version.specs.declared.base.Base.{Base}
-use Rattle.vl_replay.specs.Between.{HasPassed}
-use Rattle.vl_replay.specs.Durable.{CrashesShow, HoldsState, Tells}
-use Rattle.vl_replay.specs.Halts.{HaltsByDisk}
-use Rattle.vl_replay.specs.Sequential.{State, history_of}
-use Rattle.vl_replay.specs.Stopped.{StopsStep}
-use Rattle.vl_replay.specs.Stored.{IsStored}
-use Rattle.vl_replay.specs.declared.fails.Halt.{Halt}
-use Rattle.vl_replay.specs.declared.fails.Halt.TheVariants as halts
+use Rattle.vl_sequential.specs.Between.{HasPassed}
+use Rattle.vl_sequential.specs.Durable.{CrashesShow, HoldsState, Tells}
+use Rattle.vl_sequential.specs.Halts.{HaltsByDisk}
+use Rattle.vl_sequential.specs.Sequential.{State, history_of}
+use Rattle.vl_sequential.specs.Stopped.{StopsStep}
+use Rattle.vl_sequential.specs.Stored.{IsStored}
+use Rattle.vl_sequential.specs.declared.fails.Halt.{Halt}
+use Rattle.vl_sequential.specs.declared.fails.Halt.TheVariants as halts
 
 -- ---- the layout
 

@@ -1,6 +1,7 @@
 -- What is so of a merge that waits for its install, so that it can be handed in to the engine.
 use Rattle.std.specs.Prelude.{◌≡◌, ℕ, Bool, true, ◌&&◌, not, is_some, List, [], ◌∷◌, Option, IsSome, All}
-use Rattle.std.specs.Option.{ForSome}
+use Rattle.std.specs.Option.{ForSome, option_map}
+use Rattle.vl_compact.specs.declared.files.Lent.{Lent}
 use Rattle.vl_compact.specs.declared.files.Synced.{Synced}
 use Rattle.vl_compact.specs.declared.job.Job.{Job}
 use Rattle.vl_disk.specs.declared.watched.Watched.{Ghosts}
@@ -24,7 +25,12 @@ pub record MayHandIn {D V H W : Type 0} (g : Ghosts D) (w : Writers W) (disk : D
   pub drawn : ForSome merging (λ (o : OpenMerge). All (λ (n : ℕ). has n o.lent.items ≡ true) (numbers_in job))
   pub distinct : are_distinct (numbers_in job) ≡ true
   pub tells : ForSome (g.told disk) (λ _. All (λ (t : Synced W s). IsSome (w.file t.writer)) job.made.items)
+  pub leavings_tell : ForSome (g.told disk) (λ _. All (λ (f : Lent W s). IsSome (w.file f.writer)) job.leavings.items)
 
 -- so it is of the one that waits
 abbrev pub CanHandIn : {D V H W : Type 0} → Ghosts D → Writers W → D → Option OpenMerge → {s : _} → Option (Planned V H W s) → Type 0
 CanHandIn g w disk merging {s} planned = ForSome planned (λ (p : Planned _ _ _ s). MayHandIn g w disk merging p.job)
+
+-- The files that were lent to the open merge are the same, whatever was moved meanwhile.
+abbrev pub KeepsLent : (old new : Option OpenMerge) → Type 0
+KeepsLent old new = option_map (λ (o : OpenMerge). o.lent) new ≡ option_map (λ (o : OpenMerge). o.lent) old

@@ -5,19 +5,19 @@ use Rattle.vl_disk.specs.declared.watched.Watched.{Ghosts}
 use Rattle.vl_io.specs.declared.sink.Sink as sink
 use Rattle.vl_io.specs.declared.source.Source as source
 use Rattle.vl_mem.specs.declared.outcome.Outcome.{Outcome}
-use Rattle.vl_replay.specs.Endings.{status_of}
-use Rattle.vl_replay.specs.Failing.{beside}
-use Rattle.vl_replay.specs.Reading.{streams}
-use Rattle.vl_replay.specs.Runs.{outside}
-use Rattle.vl_replay.specs.Sequential.{State}
-use Rattle.vl_replay.specs.Start.{StartsIn}
-use Rattle.vl_replay.specs.Trying.{trial_of}
-use Rattle.vl_replay.specs.declared.ending.Ending.{Ending}
-use Rattle.vl_replay.specs.declared.ending.Ending.TheVariants.{BadWords}
+use Rattle.vl_sequential.specs.Endings.{status_of}
+use Rattle.vl_sequential.specs.Failing.{beside}
+use Rattle.vl_sequential.specs.Reading.{streams}
+use Rattle.vl_sequential.specs.Runs.{outside}
+use Rattle.vl_sequential.specs.Sequential.{State}
+use Rattle.vl_sequential.specs.Start.{StartsIn}
+use Rattle.vl_sequential.specs.Trying.{trial_of}
+use Rattle.vl_sequential.specs.declared.ending.Ending.{Ending}
+use Rattle.vl_sequential.specs.declared.ending.Ending.TheVariants.{BadWords}
 use Rattle.vl_replay.specs.Run.{AreNotPlain, AskFor, EndsBy, FailedAtTables, FailedToRead, HasCountedFault}
 use Rattle.vl_replay.specs.Run.{StatusOfAnswers, StatusOfTrial, TellsOfInput}
-use Rattle.vl_replay.specs.declared.command_line.words.Command.{Command}
-use Rattle.vl_replay.specs.declared.command_line.words.Command.TheVariants.{Replay, Trial}
+use Rattle.vl_sequential.specs.declared.words.Command.{Command}
+use Rattle.vl_sequential.specs.declared.words.Command.TheVariants.{Replay, Trial}
 
 -- the folder that the second word names, and the working folder where there is none
 abbrev pub folder_of : List (List ℕ) → List ℕ

@@ -1,5 +1,5 @@
 -- What the loop sees of a replayer: for which state it stands, its disk, and whether it takes lines.
-use Rattle.std.specs.Prelude.{◌≡◌, ◌≤◌, ◌+◌, ℕ, List, [], Option, None, Some, Result, IfOk, IfErr, IsTrue}
+use Rattle.std.specs.Prelude.{◌≡◌, ◌≤◌, ◌+◌, ℕ, List, Option, None, Some, Result, IfOk, IfErr, IsTrue}
 use Rattle.vl_disk.specs.DiskState.{DiskState}
 use Rattle.vl_disk.specs.Faults.{after_calls}
 use Rattle.vl_disk.specs.declared.watched.Watched.{Ghosts}
@@ -21,16 +21,18 @@ use Rattle.vl_layout.specs.declared.job.Job.{Job}
 use Rattle.vl_layout.specs.declared.job.OpenJob.{OpenJob}
 use Rattle.vl_layout.specs.declared.layout.Layout.{Layout}
 use Rattle.vl_version.specs.declared.base.Base.{Base}
-use Rattle.vl_replay.specs.Sequential.{IsTold, State, files_behind, history_of}
+use Rattle.vl_replay.specs.Passing.{PassesIn}
+use Rattle.vl_sequential.specs.Sequential.{IsTold, State, files_behind, history_of}
 use Rattle.vl_replay.specs.Standing.{Stand}
-use Rattle.vl_replay.specs.declared.fails.Halt.{Halt}
-use Rattle.vl_replay.specs.declared.fails.Halt.TheVariants.{NoMemory}
+use Rattle.vl_sequential.specs.declared.fails.Halt.{Halt}
+use Rattle.vl_sequential.specs.declared.fails.Halt.TheVariants.{NoMemory}
 use Rattle.vl_replay.specs.declared.replayer.open.Open.{Open}
 use Rattle.vl_script.specs.declared.answer.Answer.{Answer}
 use Rattle.vl_replay.specs.declared.replayer.Replayer.{Replayer}
 use Rattle.vl_replay.specs.declared.replayer.Served.{Served}
+use Rattle.vl_replay.specs.declared.replayer.passing.Passing.{Passing}
 use Rattle.vl_replay.specs.declared.replayer.planned.Planned.{Planned}
-use Rattle.vl_replay.specs.laws.Laws.{IsSound}
+use Rattle.vl_sequential.specs.laws.Laws.{IsSound}
 
 -- The engine stands for the state's layout and history, and its names for what they stand for there. So it is over a disk that
 -- tells this, which holds the layout where a store might be opened on it at first.
@@ -62,7 +64,7 @@ NamesNoMerge name s = (job : Job) (made : Made) → thing_in s.store.things name
 -- ---- the merge that waits for its install
 
 -- It is the open one, and has all of its merge. Its name stands for it in the state, with the tables that it made, which were lent
--- to it; and no other name stands for a merge. Nothing was moved since it was planned.
+-- to it; and no other name stands for a merge.
 pub record IsWaiting {W H R : Type 0} (writers : Writers W) (bytes : H → Option (List ℕ)) {g : _} (planned : Planned (Base H R) H W g)
     (ts : List (Name × Thing)) (l : Layout) : Type 0 where
   pub open_job : OpenJob
@@ -71,7 +73,6 @@ pub record IsWaiting {W H R : Type 0} (writers : Writers W) (bytes : H → Optio
   pub there : thing_in ts planned.name ≡ Some (AJob open_job.job (made_of planned.job open_job.job))
   pub only : (name : Name) (job : Job) (made : Made) → thing_in ts name ≡ Some (AJob job made) → name ≡ planned.name
   pub lent : AreLent open_job.lent (made_of planned.job open_job.job)
-  pub unmoved : open_job.moved ≡ []
 
 -- so it is with the one that waits; and where none does, none is open, and no name stands for one
 abbrev pub Waits : {W H R : Type 0} → Writers W → (H → Option (List ℕ)) → {g : _} → Option (Planned (Base H R) H W g)
@@ -98,17 +99,35 @@ MergesIn writers bytes merging planned store = Merges writers bytes merging plan
 
 -- A store and the merge that waits stand for this state, over its disk and of files that tell these bytes: the engine and what reads
 -- do, and the merges are the state's.
-pub record StandsWith {D Held Reader Writer : Type 0} {watched : _} {held : _} {cloned : _} {read : _} {write : _} {w : _}
+pub record StandsMerging {D Held Reader Writer : Type 0} {watched : _} {held : _} {cloned : _} {read : _} {write : _} {w : _}
     (g : Ghosts D) (writers : Writers Writer) (bytes : Held → Option (List ℕ))
     (served : Served D Held Reader Writer watched held cloned read write) (planned : Option (Planned (Base Held Reader) Held Writer w))
     (s : State) : Type 0 where
   pub serves : ServesFor g bytes served s
   pub merges : MergesIn writers bytes served.engine.merging planned s.store
 
+-- So do a store and the pass that is open, and what the engine keeps of the open merge is the layout's job.
+pub record StandsPassing {D Held Reader Writer : Type 0} {watched : _} {held : _} {cloned : _} {read : _} {write : _}
+    (g : Ghosts D) (bytes : Held → Option (List ℕ))
+    (served : Served D Held Reader Writer watched held cloned read write) (passing : Option (Passing (Base Held Reader) Held))
+    (s : State) : Type 0 where
+  pub serves : ServesFor g bytes served s
+  pub opens : Opens served.engine.merging s.store.layout.job
+  pub passes : PassesIn bytes served.engine.core served.engine.collecting passing s.store
+
+-- And so all of them do.
+pub record StandsWith {D Held Reader Writer : Type 0} {watched : _} {held : _} {cloned : _} {read : _} {write : _} {w : _}
+    (g : Ghosts D) (writers : Writers Writer) (bytes : Held → Option (List ℕ))
+    (served : Served D Held Reader Writer watched held cloned read write) (planned : Option (Planned (Base Held Reader) Held Writer w))
+    (passing : Option (Passing (Base Held Reader) Held)) (s : State) : Type 0 where
+  pub serves : ServesFor g bytes served s
+  pub merges : MergesIn writers bytes served.engine.merging planned s.store
+  pub passes : PassesIn bytes served.engine.core served.engine.collecting passing s.store
+
 -- so a replayer does
 abbrev pub StandsFor : {D Held Reader Writer : Type 0} {watched : _} {held : _} {cloned : _} {read : _} {write : _}
     → Ghosts D → Writers Writer → (Held → Option (List ℕ)) → Replayer D Held Reader Writer watched held cloned read write → State → Type 0
-StandsFor g writers bytes replayer s = StandsWith g writers bytes replayer.served replayer.planned s
+StandsFor g writers bytes replayer s = StandsWith g writers bytes replayer.served replayer.planned replayer.passing s
 
 -- it takes lines: none was halted
 abbrev pub TakesLines : {D Held Reader Writer : Type 0} {watched : _} {held : _} {cloned : _} {read : _} {write : _}
@@ -120,7 +139,7 @@ TakesLines replayer = replayer.halted ≡ None
 abbrev pub state_by : State → Step → State
 state_by s x = record s { store = x.state; calls = after_calls x.calls s.calls }
 
--- so it is with a merge's plan, which makes a file by each of its calls
+-- so it is with a line that plans a merge, which makes a file by each of its calls
 abbrev pub state_by_plan : State → Step → State
 state_by_plan s x = record (state_by s x) { files = s.files + x.calls }
 

@@ -25,14 +25,14 @@ use Rattle.vl_table.specs.declared.fault.TableFault.TheVariants as faults
 use Rattle.vl_version.specs.Bases.{Fits}
 use Rattle.vl_version.specs.declared.base.Base.{Base}
 use Rattle.vl_replay.specs.Drawn.{DrawsOn, IsServing, drawn_state}
-use Rattle.vl_replay.specs.Durable.{HoldsState}
-use Rattle.vl_replay.specs.Halts.{HaltsByDisk}
-use Rattle.vl_replay.specs.Sequential.{State}
-use Rattle.vl_replay.specs.Stored.{IsStored}
+use Rattle.vl_sequential.specs.Durable.{HoldsState}
+use Rattle.vl_sequential.specs.Halts.{HaltsByDisk}
+use Rattle.vl_sequential.specs.Sequential.{State}
+use Rattle.vl_sequential.specs.Stored.{IsStored}
 use Rattle.vl_replay.specs.declared.carrying.Round.{Round}
 use Rattle.vl_replay.specs.declared.carrying.Round.TheVariants as rounds
-use Rattle.vl_replay.specs.declared.fails.Halt.{Halt}
-use Rattle.vl_replay.specs.declared.fails.Halt.TheVariants as halts
+use Rattle.vl_sequential.specs.declared.fails.Halt.{Halt}
+use Rattle.vl_sequential.specs.declared.fails.Halt.TheVariants as halts
 
 -- ---- how a line ends
 

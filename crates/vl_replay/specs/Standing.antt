@@ -16,9 +16,9 @@ use Rattle.vl_model.specs.History.{History}
 use Rattle.vl_model.specs.Keys.{key_cmp, tagged}
 use Rattle.vl_model.specs.declared.change.Change.{Change}
 use Rattle.vl_model.specs.declared.change.Change.TheVariants as changes
-use Rattle.vl_replay.specs.Readers.{IsReader, IsWithoutTables}
-use Rattle.vl_replay.specs.declared.fails.Halt.{Halt}
-use Rattle.vl_replay.specs.declared.fails.Halt.TheVariants as halts
+use Rattle.vl_sequential.specs.Readers.{IsReader, IsWithoutTables}
+use Rattle.vl_sequential.specs.declared.fails.Halt.{Halt}
+use Rattle.vl_sequential.specs.declared.fails.Halt.TheVariants as halts
 use Rattle.vl_replay.specs.declared.replayer.open.Open.{Open}
 use Rattle.vl_script.specs.declared.answer.Answer.{Answer}
 use Rattle.vl_script.specs.declared.answer.Answer.TheVariants as answers
@@ -65,6 +65,7 @@ pub record IsTransaction {H R : Type 0} (bytes : H → Option (List ℕ)) (txn :
 abbrev pub Corresponds : {H R : Type 0} → (H → Option (List ℕ)) → History → Layout → Option (Thing H R) → Option store.Thing → Type 0
 Corresponds bytes h l None None = Unit {0}
 Corresponds bytes h l None (Some (AJob job made)) = Unit {0}
+Corresponds bytes h l None (Some (APass pass batch)) = Unit {0}
 Corresponds bytes h l (Some (Transaction txn)) (Some (ATransaction t b)) = IsTransaction bytes txn t h l × (beginning txn.past ≡ b)
 Corresponds bytes h l (Some (View view)) (Some (AView v b)) =
     (asked_view view ≡ v) × SeesAlone bytes view h × IsLive l view.ticket view.number

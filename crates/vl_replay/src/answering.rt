@@ -2,31 +2,31 @@
 ghost use Rattle.std.specs.Prelude.{◌≡◌, ◌≢◌, None, Some, IfOk, OnOk};
 ghost use Rattle.std.specs.Option.{option_map};
 ghost use Rattle.vl_disk.specs.Faults.{Rose, HasCause};
-ghost use Rattle.vl_replay.specs.Sequential.{State};
+ghost use Rattle.vl_sequential.specs.Sequential.{State};
 ghost use Rattle.vl_replay.specs.Replaying.{StandsFor, TakesLines, disk_of};
-ghost use Rattle.vl_replay.specs.Exchanges.{exchange_at, state_behind};
-ghost use Rattle.vl_replay.specs.Endings.{TheDisk, TheSink, TheSource, CountsFaultsOf, CutsAnswer, EndsAs, culprit_of, line_number};
-ghost use Rattle.vl_replay.specs.Runs.{Script};
-ghost use Rattle.vl_replay.specs.Durable.{HoldsState, CarriesOut};
-ghost use Rattle.vl_replay.specs.Stored.{IsStopped, IsStored};
+ghost use Rattle.vl_sequential.specs.Exchanges.{exchange_at, state_behind};
+ghost use Rattle.vl_sequential.specs.Endings.{TheDisk, TheSink, TheSource, CountsFaultsOf, CutsAnswer, EndsAs, culprit_of, line_number};
+ghost use Rattle.vl_sequential.specs.Runs.{Script};
+ghost use Rattle.vl_sequential.specs.Durable.{HoldsState, CarriesOut};
+ghost use Rattle.vl_sequential.specs.Stored.{IsStopped, IsStored};
 ghost use Rattle.vl_core.specs.Shown.{Shown};
-ghost use Rattle.vl_replay.specs.Steps.{IsAnswered, IsNext, EndsAtBadLine, PrintsStep, DiskSteps};
-ghost use Rattle.vl_replay.specs.Failing.{IsTableRead, ReaderFailed, beside};
-ghost use Rattle.vl_replay.specs.Halts.{HaltsByDamage, HaltsByDisk, HaltsByRead, HaltsByReader};
-ghost use Rattle.vl_replay.specs.Reading.{AnswersText, EndsBadly, IsLine, ReadsText};
-ghost use Rattle.vl_replay.specs.declared.fails.Refusal.{Refusal};
+ghost use Rattle.vl_sequential.specs.Steps.{IsAnswered, IsNext, EndsAtBadLine, PrintsStep, DiskSteps};
+ghost use Rattle.vl_sequential.specs.Failing.{IsTableRead, ReaderFailed, beside};
+ghost use Rattle.vl_sequential.specs.Halts.{HaltsByDamage, HaltsByDisk, HaltsByRead, HaltsByReader};
+ghost use Rattle.vl_sequential.specs.Reading.{AnswersText, EndsBadly, IsLine, ReadsText};
+ghost use Rattle.vl_sequential.specs.declared.fails.Refusal.{Refusal};
 
-use crate::ending::{DISK_FAULT, Ending, NO_MEMORY, OnFault, end_at_fault, finish};
-use crate::fails::Halt;
-use crate::refusing::end_at_damage;
 use crate::replayer::Replayer;
 use std::alloc::Global;
 use vl_disk::Disk;
 use vl_io::Sink;
 use vl_script::{NUMBER_ROOM, parse_line, print_answer, print_bad_line};
+use vl_sequential::{
+    DISK_FAULT, Ending, Halt, NO_MEMORY, OnFault, end_at_damage, end_at_fault, finish,
+};
 
-/// Carries out a text as a line, and gives the text of its answer; None where it is a bad line. The room for the answer to
-/// a commit is there before the commit, so that no commit stands whose answer found no memory.
+/// Carries out a text as a line, and gives the text of its answer; None where it is a bad line. The room for an answer by a
+/// number is there before the line is carried out, so that no commit, move, rotation or merge stands whose answer found no memory.
 fn execute_line<D: Disk>(
     alloc: Global,
     replayer: &mut Replayer<D>,
@@ -40,7 +40,7 @@ fn execute_line<D: Disk>(
         → CarriesOut D.Watched IsStored Shown IsStopped (disk_of replayer.old) (disk_of replayer.new) s
         (state_behind s (exchange_at s text.now)) result }
     ensures cause { HasCause (D.faults (disk_of replayer.old)) (D.faults (disk_of replayer.new)) (HaltsByDisk result) }
-    // What a store has isn't damaged, and can be read without its reader unless it has tables. A reader counts its fault.
+    // What a store has isn't damaged. Only a line that reads tables, or goes on with a pass, asks a reader, which counts its fault.
     ensures readable { (s : State) → StandsFor D.Watched D.Writer.Writer D.Held.bytes replayer.old s
         → HaltsByRead result → IsTableRead (exchange_at s text.now) }
     ensures undamaged { (s : State) → StandsFor D.Watched D.Writer.Writer D.Held.bytes replayer.old s → HaltsByDamage result → ⊥ }

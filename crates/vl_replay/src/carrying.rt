@@ -4,21 +4,22 @@ ghost use Rattle.vl_compact.specs.Progress.{IsNew};
 ghost use Rattle.vl_disk.specs.Faults.{HasCause};
 ghost use Rattle.vl_engine.specs.Drawing.{drawn_core};
 ghost use Rattle.vl_engine.specs.Merging.{IsJustOpen};
+ghost use Rattle.vl_engine.specs.UnderWay.{IsUnderWay as MayGiveUp};
 ghost use Rattle.vl_layout.specs.declared.job.Job as laid;
 ghost use Rattle.vl_replay.specs.Drawn.{IsPlanned, Merged};
-ghost use Rattle.vl_replay.specs.Failing.{ReaderFailed, beside};
-ghost use Rattle.vl_replay.specs.Halts.{HaltsByDisk, HaltsByReader};
+ghost use Rattle.vl_sequential.specs.Failing.{ReaderFailed, beside};
+ghost use Rattle.vl_sequential.specs.Halts.{HaltsByDisk, HaltsByReader};
 ghost use Rattle.vl_replay.specs.Handed.{MayHandIn};
 ghost use Rattle.vl_replay.specs.Rounds.{HasLent, IsUnderWay, Rounds, StillLent, halt_by, round_by};
-ghost use Rattle.vl_replay.specs.Sequential.{State};
+ghost use Rattle.vl_sequential.specs.Sequential.{State};
 ghost use Rattle.vl_replay.specs.declared.carrying.Round.TheVariants.{Made};
 
-use crate::fails::Halt;
 use std::alloc::Global;
 use vl_compact::{Job, JobReader};
 use vl_disk::Disk;
 use vl_engine::{Engine, StepFail};
 use vl_model::Counter;
+use vl_sequential::Halt;
 use vl_table::{BlockReader, TableFault};
 use vl_version::Base;
 
@@ -51,9 +52,15 @@ pub fn make_tables<D: Disk>(
     ensures fault { engine.old.core.front.halted ≡ None
         → HaltsByReader result → ReaderFailed (beside D.Reader.faults D.Writer.faults) }
 
+    // What is kept of statistics and of passes stays.
+    ensures collecting { engine.new.collecting ≡ engine.old.collecting }
+    ensures logs { engine.new.core.version.behind.logs ≡ engine.old.core.version.behind.logs }
+
     // A merge that has all of its tables can be handed in.
     ensures handed { result ≡ Ok None
         → MayHandIn D.Watched D.Writer.Writer engine.new.disk engine.new.merging job.new }
+    // However it ends, the merge can be given up.
+    ensures under_way { MayGiveUp D.Watched D.Writer.Writer engine.new.disk engine.new.core.front.halted engine.new.merging job.new }
 {
     let mut reader = engine.reader()?;
     'tables: loop {
@@ -83,6 +90,10 @@ fn make_table<D: Disk>(
         → HaltsByReader result → ReaderFailed (beside D.Reader.faults D.Writer.faults) }
     ensures lent { HasLent D.Watched D.Writer.Writer engine.old.disk engine.old.merging job.old
         → StillLent (HasLent D.Watched D.Writer.Writer engine.new.disk engine.new.merging job.new) (job.new.ended ≡ true) result }
+    ensures under_way { HasLent D.Watched D.Writer.Writer engine.old.disk engine.old.merging job.old
+        → MayGiveUp D.Watched D.Writer.Writer engine.new.disk engine.new.core.front.halted engine.new.merging job.new }
+    ensures collecting { engine.new.collecting ≡ engine.old.collecting }
+    ensures logs { engine.new.core.version.behind.logs ≡ engine.old.core.version.behind.logs }
     // Each table takes a number of its own.
     ensures drawn { result ≡ Ok Made
         → (engine.old.core.back.state.next_table < 2 ^ 32) × (engine.new.core ≡ drawn_core engine.old.core) }

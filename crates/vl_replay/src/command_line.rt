@@ -1,39 +1,36 @@
 //! The top call: words and a script in, answers and a status out.
 
-mod words;
-
 ghost use Rattle.std.specs.Prelude.{◌≡◌, ◌≢◌, ◌<◌, ◌⊎◌, ℕ, List, map, string_bytes, Some};
 ghost use Rattle.vl_disk.specs.Crash.{Image};
 ghost use Rattle.vl_disk.specs.DiskState.{DiskState};
 ghost use Rattle.vl_disk.specs.Faults.{Rose};
 ghost use Rattle.vl_disk.specs.Started.{IsRead};
 ghost use Rattle.vl_script.specs.Script.{lines_of};
-ghost use Rattle.vl_replay.specs.Sequential.{State};
-ghost use Rattle.vl_replay.specs.Endings.{status_of};
-ghost use Rattle.vl_replay.specs.Exchanges.{exchanges_from, AreExplained};
-ghost use Rattle.vl_replay.specs.Failing.{beside};
-ghost use Rattle.vl_replay.specs.Opening.{IsRefused};
-ghost use Rattle.vl_replay.specs.Reading.{streams};
-ghost use Rattle.vl_replay.specs.Runs.{outside};
-ghost use Rattle.vl_replay.specs.Start.{StartsIn, StaysOpenable};
-ghost use Rattle.vl_replay.specs.Steps.{IsRefusedRun};
-ghost use Rattle.vl_replay.specs.declared.ending.Ending.{Ending as HowEnded};
-ghost use Rattle.vl_replay.specs.declared.fails.Refusal.{Refusal};
-ghost use Rattle.vl_replay.specs.Trial.{begun};
-ghost use Rattle.vl_replay.specs.Trying.{trial_of};
+ghost use Rattle.vl_sequential.specs.Sequential.{State};
+ghost use Rattle.vl_sequential.specs.Endings.{status_of};
+ghost use Rattle.vl_sequential.specs.Exchanges.{exchanges_from, AreExplained};
+ghost use Rattle.vl_sequential.specs.Failing.{beside};
+ghost use Rattle.vl_sequential.specs.Opening.{IsRefused};
+ghost use Rattle.vl_sequential.specs.Reading.{streams};
+ghost use Rattle.vl_sequential.specs.Runs.{outside};
+ghost use Rattle.vl_sequential.specs.Start.{StartsIn, StaysOpenable};
+ghost use Rattle.vl_sequential.specs.Steps.{IsRefusedRun};
+ghost use Rattle.vl_sequential.specs.declared.ending.Ending.{Ending as HowEnded};
+ghost use Rattle.vl_sequential.specs.declared.fails.Refusal.{Refusal};
+ghost use Rattle.vl_sequential.specs.Trial.{begun};
+ghost use Rattle.vl_sequential.specs.Trying.{trial_of};
 ghost use Rattle.vl_mem.specs.declared.outcome.Outcome.{Outcome};
 ghost use Rattle.vl_replay.specs.Run.{AreNotPlain, AskFor, EndsBy, FailedAtTables, FailedToRead, HasCountedFault};
 ghost use Rattle.vl_replay.specs.Run.{MetDamage, StatusOfAnswers, StatusOfTrial, StatusWithoutOpening, TellsOfInput};
-ghost use Rattle.vl_replay.specs.declared.command_line.words.Command.{Command as Commands};
+ghost use Rattle.vl_sequential.specs.declared.words.Command.{Command as Commands};
 
-use crate::command_line::words::{Command, command_in};
-use crate::ending::{Ended, Ending, NO_MEMORY, USAGE, finish};
 use crate::running::replay;
 use crate::trying::trial;
 use std::alloc::Global;
 use vl_disk::Disk;
 use vl_io::{Sink, Source};
 use vl_model::reads_without_conflict_stay_explained;
+use vl_sequential::{Command, Ended, Ending, NO_MEMORY, USAGE, command_in, finish};
 
 /// How a run ended: the process's status, as docs/SCRIPT.md lists them, and the disk.
 pub struct CommandEnded<D> {
@@ -68,8 +65,8 @@ pub fn run<S: Source, K: Sink, D: Disk>(
         → S.left source.old ≡ Some input
         → StatusOfTrial (trial_of stop input outcome) (K.held sink.old) (K.held sink.new) (S.left source.new) result.status }
 
-    // What was read is explained by the history at the reader's own number. This is a law of the sequential store's answers,
-    // and says nothing of the body. It stands here so that this contract has the whole headline.
+    // What was read is explained by the history at the reader's own number, and that grows by accepted commits alone. This is a law
+    // of the sequential store's answers, and says nothing of the body. It stands here so that this contract has the whole headline.
     ensures explained { (s : State) (input : List ℕ) → StartsIn D.Watched disk s
         → AreExplained (exchanges_from s (lines_of input)) }
     ensures explained_in_trial { (input : List ℕ) → AreExplained (exchanges_from begun (lines_of input)) }

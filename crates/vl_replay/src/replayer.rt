@@ -2,23 +2,27 @@
 ghost use Rattle.vl_replay.specs.Handed.{CanHandIn};
 
 mod beginning;
+pub mod choice;
+mod collecting;
 mod committing;
 mod dropping;
 mod lines;
 mod merging;
 pub mod open;
 mod opening;
+pub mod passing;
 pub mod planned;
 mod reading;
 mod stepping;
 mod writing;
 
-use crate::fails::Halt;
 use open::Open;
+use passing::Passing;
 use planned::Planned;
 use std::alloc::Global;
 use vl_disk::Disk;
 use vl_engine::Engine;
+use vl_sequential::Halt;
 use vl_version::Base;
 
 /// A store on a disk, and what reads it under a name.
@@ -36,6 +40,8 @@ pub struct Replayer<D: Disk> {
     served: Served<D>,
     /// The merge that waits for its install, with a name of its own.
     planned: Option<Planned<Base<D::Held, D::Reader>, D::Held, D::Writer>>,
+    /// The pass that is open, with a name of its own.
+    passing: Option<Passing<Base<D::Held, D::Reader>, D::Held>>,
     /// Why a line was given no answer, after which none is.
     halted: Option<Halt>,
     // The merge can be handed in to the engine.

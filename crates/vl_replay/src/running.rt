@@ -3,33 +3,33 @@ ghost use Rattle.std.specs.Prelude.{◌≡◌, ◌≢◌, ◌⊎◌, ◌+◌, �
 ghost use Rattle.vl_disk.specs.Crash.{Image};
 ghost use Rattle.vl_disk.specs.DiskState.{DiskState};
 ghost use Rattle.vl_disk.specs.Started.{IsRead};
-ghost use Rattle.vl_replay.specs.Sequential.{State};
+ghost use Rattle.vl_sequential.specs.Sequential.{State};
 ghost use Rattle.vl_replay.specs.Replaying.{StandsFor, TakesLines, disk_of};
-ghost use Rattle.vl_replay.specs.Exchanges.{exchange_at, state_behind};
-ghost use Rattle.vl_replay.specs.Endings.{TheDisk, TheSink, TheSource, CountsFaultsOf, EndsAs, culprit_of, line_number};
+ghost use Rattle.vl_sequential.specs.Exchanges.{exchange_at, state_behind};
+ghost use Rattle.vl_sequential.specs.Endings.{TheDisk, TheSink, TheSource, CountsFaultsOf, EndsAs, culprit_of, line_number};
 ghost use Rattle.std.specs.Option.{option_map};
 ghost use Rattle.vl_disk.specs.Faults.{Rose};
-ghost use Rattle.vl_replay.specs.Runs.{Script, script_of, outside, EndsRun};
-ghost use Rattle.vl_replay.specs.Failing.{ReaderFailed, beside};
-ghost use Rattle.vl_replay.specs.Durable.{HoldsState, DiskEndsFrom};
-ghost use Rattle.vl_replay.specs.Stored.{IsStopped, IsStored};
+ghost use Rattle.vl_sequential.specs.Runs.{Script, script_of, outside, EndsRun};
+ghost use Rattle.vl_sequential.specs.Failing.{ReaderFailed, beside};
+ghost use Rattle.vl_sequential.specs.Durable.{HoldsState, DiskEndsFrom};
+ghost use Rattle.vl_sequential.specs.Stored.{IsStopped, IsStored};
 ghost use Rattle.vl_core.specs.Shown.{Shown};
-ghost use Rattle.vl_replay.specs.Start.{AnswersInput, EndsAtTables, StartsIn, StaysOpenable};
-ghost use Rattle.vl_replay.specs.Opening.{IsRefused};
-ghost use Rattle.vl_replay.specs.declared.fails.Refusal.{Refusal};
-ghost use Rattle.vl_replay.specs.Reading.{AnswersText, HasRead, ReadsInput, ReadsOn, Streams, streams};
-ghost use Rattle.vl_replay.specs.Steps.{IsNext, PrintsStep, DiskSteps, kept, HasToDo, Steps, IsRefusedRun, EndsWithoutOpening};
+ghost use Rattle.vl_sequential.specs.Start.{AnswersInput, EndsAtTables, StartsIn, StaysOpenable};
+ghost use Rattle.vl_sequential.specs.Opening.{IsRefused};
+ghost use Rattle.vl_sequential.specs.declared.fails.Refusal.{Refusal};
+ghost use Rattle.vl_sequential.specs.Reading.{AnswersText, HasRead, ReadsInput, ReadsOn, Streams, streams};
+ghost use Rattle.vl_sequential.specs.Steps.{IsNext, PrintsStep, DiskSteps, kept, HasToDo, Steps, IsRefusedRun, EndsWithoutOpening};
 
 use crate::answering::{answer, end_at_bad_line};
-use crate::ending::{Ended, Ending, NO_MEMORY, OnFault, READ_FAULT, finish};
-use crate::fails::InputFail;
-use crate::input::{Buffer, Next, read_line};
-use crate::refusing::end_unopened;
 use crate::replayer::Replayer;
 use std::alloc::Global;
 use vl_disk::Disk;
 use vl_io::{Sink, Source};
 use vl_recover::OpenFail;
+use vl_sequential::{
+    Buffer, Ended, Ending, InputFail, NO_MEMORY, Next, OnFault, READ_FAULT, end_unopened, finish,
+    read_line,
+};
 
 /// A run under way: what was read and not yet answered, the store, and how many lines were answered.
 #[derive(Drop)]
@@ -90,7 +90,8 @@ impl<D: Disk> Progress<D> {
         ensures printed { (script : Script) → StandsFor D.Watched D.Writer.Writer D.Held.bytes self.old.replayer script.start
             → self.old.answered ≡ line_number script.before → IsNext script self.old.line.items
             → PrintsStep (Rose (D.faults (disk_of self.old.replayer)) (D.faults (disk_of self.new.replayer))) script
-            self.old.line.items (StandsFor D.Watched D.Writer.Writer D.Held.bytes self.new.replayer) result (K.held sink.old) (K.held sink.new) }
+            self.old.line.items (StandsFor D.Watched D.Writer.Writer D.Held.bytes self.new.replayer) result
+            (K.held sink.old) (K.held sink.new) }
         ensures moves { (s : State) → StandsFor D.Watched D.Writer.Writer D.Held.bytes self.old.replayer s
             → HoldsState D.Watched IsStored s (disk_of self.old.replayer)
             → DiskSteps D.Watched IsStored Shown IsStopped (disk_of self.old.replayer) (disk_of self.new.replayer) s

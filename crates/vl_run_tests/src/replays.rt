@@ -9,7 +9,8 @@ use vl_mem::MemDisk;
 use vl_replay::{CommandEnded, Halt, run};
 
 /// Runs over an empty disk, one a line. Between the bars stand the words, the numbers of the call of the source and of the sink
-/// that fail, the input, what is printed, and the status. A `;` stands for a line's end, and `*n*` for n bytes, spelled.
+/// that fail, the input, what is printed, and the status. A `;` stands for a line's end, `*n*` for n bytes `66`, spelled, and
+/// `*bn*` for n bytes `bb`.
 const RUNS: &str = "\
     replay .|||||0\n\
     replay .|||begin a;set a 61 01;commit a;view b;get b 61;|ok 0;ok;ok 1;ok 1;value 01;|0\n\
@@ -126,6 +127,52 @@ const RUNS: &str = "\
     trial 49 0|||begin t;set t 61 *65*;commit t;rotate;flush;begin t;del t 61;commit t;rotate;flush;begin t;set t 62 01;commit t;\
         rotate;flush;begin t;set t 63 01;commit t;rotate;flush;plan j;install j;|ok 0;ok;ok 1;ok 1;ok 1;ok 1;ok;ok 2;ok 2;ok 2;ok 2;\
         ok;ok 3;ok 3;ok 3;ok 3;ok;ok 4;ok 4;ok 4;ok 2;ok;reopened 4;rows 2;62 01;63 01;|0\n\
+    replay .|||begin t;set t 61 *64*;set t 62 *65*;commit t;rotate;flush;stats;|ok 0;ok;ok;ok 1;ok 1;ok 1;segments 2;\
+        segment 1 bytes 172 live 74;segment 2 bytes 0 live 0;|0\n\
+    replay .|||begin t;set t 61 *65*;commit t;rotate;flush;view v;begin t;set t 61 *b65*;commit t;rotate;flush;pick g 1;batch g;\
+        move g;batch g;drop g;get v 61;view w;get w 61;stats;|ok 0;ok;ok 1;ok 1;ok 1;ok 1;ok 1;ok;ok 2;ok 2;ok 2;ok 1;found 1;\
+        moved 1;end;ok;value *65*;ok 2;value *b65*;segments 3;segment 1 bytes 99 live 74;segment 2 bytes 99 live 74;\
+        segment 3 bytes 99 live 0;|0\n\
+    replay .|||begin t;set t 61 *65*;commit t;rotate;flush;begin t;del t 61;commit t;rotate;flush;begin t;set t 62 01;commit t;\
+        rotate;flush;begin t;set t 63 01;commit t;rotate;flush;pick g 1;batch g;plan j;move g;install j;view v;get v 61;plan k;\
+        install k;get v 61;drop v;drop g;|ok 0;ok;ok 1;ok 1;ok 1;ok 1;ok;ok 2;ok 2;ok 2;ok 2;ok;ok 3;ok 3;ok 3;ok 3;ok;ok 4;ok 4;\
+        ok 4;ok 1;found 1;ok 2;moved 1;raced 61;ok 4;none;ok 3;ok;none;ok;ok;|0\n\
+    replay .|||begin t;set t 61 *65*;commit t;rotate;flush;begin t;del t 61;commit t;rotate;flush;begin t;set t 62 01;commit t;\
+        rotate;flush;begin t;set t 63 01;commit t;rotate;flush;pick g 1;batch g;plan j;install j;move g;batch g;drop g;view v;\
+        get v 61;get v 62;|ok 0;ok;ok 1;ok 1;ok 1;ok 1;ok;ok 2;ok 2;ok 2;ok 2;ok;ok 3;ok 3;ok 3;ok 3;ok;ok 4;ok 4;ok 4;ok 1;found 1;\
+        ok 2;ok;moved 0;end;ok;ok 4;none;value 01;|0\n\
+    replay .|||begin t;set t 61 *65*;commit t;rotate;flush;pick g 26;pick g 25;batch g;move g;batch g;drop g;stats;|ok 0;ok;ok 1;\
+        ok 1;ok 1;norewrite;ok 1;found 1;moved 1;end;ok;segments 2;segment 1 bytes 99 live 74;segment 2 bytes 99 live 0;|0\n\
+    replay .|||begin t;set t 61 *65*;commit t;rotate;flush;pick g 1;batch g;move g;drop g;rotate;flush;rotate;view w;get w 61;stats;|\
+        ok 0;ok;ok 1;ok 1;ok 1;ok 1;found 1;moved 1;ok;ok 2;ok 2;idle;ok 1;value *65*;segments 3;segment 1 bytes 99 live 74;\
+        segment 2 bytes 99 live 74;segment 3 bytes 0 live 0;|0\n\
+    replay .|||begin t;set t 61 *65*;commit t;rotate;flush;begin t;del t 61;commit t;rotate;flush;begin t;set t 62 01;commit t;\
+        rotate;flush;begin t;set t 63 01;commit t;rotate;stats;flush;stats;plan j;stats;install j;stats;pick g 1;|ok 0;ok;ok 1;ok 1;\
+        ok 1;ok 1;ok;ok 2;ok 2;ok 2;ok 2;ok;ok 3;ok 3;ok 3;ok 3;ok;ok 4;ok 4;segments 3;segment 1 bytes 99 live 74;\
+        segment 4 bytes 35 live 0;segment 5 bytes 0 live 0;ok 4;segments 2;segment 1 bytes 99 live 74;segment 5 bytes 0 live 0;ok 2;\
+        segments 2;segment 1 bytes 99 live 74;segment 5 bytes 0 live 0;ok;segments 1;segment 5 bytes 0 live 0;norewrite;|0\n\
+    replay .|||pick g 0;pick g 100;pick g 50;batch g;move g;drop g;|invalid;invalid;norewrite;unknown g;unknown g;unknown g;|0\n\
+    replay .|||begin t;set t 61 *65*;commit t;rotate;flush;pick g 1;pick h 1;pick h 0;pick g 1;begin g;view g;plan g;get g 61;\
+        move g;batch g;batch g;drop g;pick g 25;drop g;pick g 26;|ok 0;ok;ok 1;ok 1;ok 1;ok 1;rejected 1;invalid;taken g;taken g;\
+        taken g;taken g;unknown g;idle;found 1;taken g;ok;ok 1;ok;norewrite;|0\n\
+    trial 16 0|||begin t;set t 61 *65*;commit t;rotate;flush;pick g 1;batch g;move g;|ok 0;ok;ok 1;ok 1;ok 1;ok 1;found 1;\
+        reopened 1;rows 1;61 *65*;|0\n\
+    trial 16 1|||begin t;set t 61 *65*;commit t;rotate;flush;pick g 1;batch g;move g;|ok 0;ok;ok 1;ok 1;ok 1;ok 1;found 1;\
+        reopened 1;rows 1;61 *65*;|0\n\
+    trial 16 2|||begin t;set t 61 *65*;commit t;rotate;flush;pick g 1;batch g;move g;|ok 0;ok;ok 1;ok 1;ok 1;ok 1;found 1;\
+        reopened 1;rows 1;61 *65*;|0\n\
+    trial 17 0|||begin t;set t 61 *65*;commit t;rotate;flush;pick g 1;batch g;move g;|ok 0;ok;ok 1;ok 1;ok 1;ok 1;found 1;\
+        reopened 1;rows 1;61 *65*;|0\n\
+    trial 17 1|||begin t;set t 61 *65*;commit t;rotate;flush;pick g 1;batch g;move g;|ok 0;ok;ok 1;ok 1;ok 1;ok 1;found 1;\
+        reopened 1;rows 1;61 *65*;|0\n\
+    trial 17 2|||begin t;set t 61 *65*;commit t;rotate;flush;pick g 1;batch g;move g;|ok 0;ok;ok 1;ok 1;ok 1;ok 1;found 1;\
+        reopened 1;rows 1;61 *65*;|0\n\
+    trial 18 0|||begin t;set t 61 *65*;commit t;rotate;flush;pick g 1;batch g;move g;|ok 0;ok;ok 1;ok 1;ok 1;ok 1;found 1;moved 1;\
+        reopened 1;rows 1;61 *65*;|0\n\
+    trial 18 1|||begin t;set t 61 *65*;commit t;rotate;flush;pick g 1;batch g;move g;|ok 0;ok;ok 1;ok 1;ok 1;ok 1;found 1;moved 1;\
+        reopened 1;rows 1;61 *65*;|0\n\
+    trial 18 2|||begin t;set t 61 *65*;commit t;rotate;flush;pick g 1;batch g;move g;|ok 0;ok;ok 1;ok 1;ok 1;ok 1;found 1;moved 1;\
+        reopened 1;rows 1;61 *65*;|0\n\
     trial 1000000 0|||begin a;set a 61 01;commit a;|ok 0;ok;ok 1;reopened 1;rows 1;61 01;|0";
 
 /// Three commits: of two keys, of a deletion, and of an empty value. They make the calls 7 and 8, 9 and 10, 11 and 12.
@@ -180,9 +227,13 @@ const USAGE: &str =
 
 /// Texts that are no line, between the bars.
 const NO_LINES: &str =
-    " |begin|begin |begin  a| begin a|begin a |begin a b|begin A|begin a_b|begin 123456789abcdefgh|Begin a\
-    |begi a|get a|get - -|get a 6|get a 6g|get a |get a 61 62|set a 61|set a 61 01 02|set a 61 01\r|setb a 61 01|setb a 61 01 256|setb a 61 01 07|setb a 61 01 +7|setb a 61 01 7 |getb a|getb a 61 7|del a\
-    |del a |del a 61 62|del a 6|delete a 61|scan a - -|scan a - - 0|scan a - - 65536|scan a - - 01|rscan a - - 1 1|scan a 6 - 1|drop|drop a b|drop A|rotate |rotate a| flush|flush 1|Flush|keep|keep 256|keep 01|keep a|getat a 61|getat a 61 01|getat a 61 18446744073709551616|getat a 6 1";
+    " |begin|begin |begin  a| begin a|begin a |begin a b|begin A|begin a_b|begin 123456789abcdefgh|Begin a|begi a|get a\
+    |get - -|get a 6|get a 6g|get a |get a 61 62|set a 61|set a 61 01 02|set a 61 01\r|setb a 61 01|setb a 61 01 256\
+    |setb a 61 01 07|setb a 61 01 +7|setb a 61 01 7 |getb a|getb a 61 7|del a|del a |del a 61 62|del a 6|delete a 61\
+    |scan a - -|scan a - - 0|scan a - - 65536|scan a - - 01|rscan a - - 1 1|scan a 6 - 1|drop|drop a b|drop A|rotate \
+    |rotate a| flush|flush 1|Flush|keep|keep 256|keep 01|keep a|getat a 61|getat a 61 01|getat a 61 18446744073709551616\
+    |getat a 6 1|stats |stats 1|Stats|pick|pick g|pick g 256|pick g 01|pick g -|pick g 1 2|pick G 1|batch|batch g 1\
+    |batch G|move|move g 1|move ";
 
 /// The text that stands for these bytes in a table.
 fn spelled(alloc: Global, text: &str) -> Result<Vec<u8>, Fail> {
@@ -190,15 +241,25 @@ fn spelled(alloc: Global, text: &str) -> Result<Vec<u8>, Fail> {
     let mut is_count = false;
     for piece in text.split('*') {
         if is_count {
-            let count: usize = piece.parse().unwrap_or(0);
-            let end = bytes.len().saturating_add(count.saturating_mul(2));
-            bytes.resize(end, b'6')?;
+            push_digits(&mut bytes, piece)?;
         } else {
             push_lines(&mut bytes, piece)?;
         }
         is_count = !is_count;
     }
     Ok(bytes)
+}
+
+/// Appends the digits of so many bytes `66`, or `bb` where a `b` stands in front of the number.
+fn push_digits(bytes: &mut Vec<u8>, text: &str) -> Result<(), Fail> {
+    let (digit, count) = match text.strip_prefix('b') {
+        Some(count) => (b'b', count),
+        None => (b'6', text),
+    };
+    let count: usize = count.parse().unwrap_or(0);
+    let end = bytes.len().saturating_add(count.saturating_mul(2));
+    bytes.resize(end, digit)?;
+    Ok(())
 }
 
 fn push_lines(bytes: &mut Vec<u8>, text: &str) -> Result<(), Fail> {

@@ -8,7 +8,7 @@ use Rattle.std.proofs.lemmas.List.Splits.{slice_split_none, slice_split_first}
 use Rattle.std.proofs.lemmas.List.Sums.{fails_before_first}
 use Rattle.std.proofs.lemmas.Bool.Decides.{nat_tests}
 use Rattle.vl_script.specs.declared.line.Line.{Line}
-use Rattle.vl_script.specs.Script.{words_of, alone, ident_alone, ident_and_key, get_at_of, keep_of, set_of, with_number}
+use Rattle.vl_script.specs.Script.{words_of, alone, ident_alone, ident_and_key, ident_and_number, get_at_of, keep_of, set_of, with_number}
 
 passed_end : (first end : ℕ) → cond (ltb first end) (Some first) None ≡ None → end ≤ first
 passed_end first end e = grind (arith, nat_tests)
@@ -50,11 +50,11 @@ words_behind_begins (Some text) e = words_of_begins text.now
 words_behind_begins None e = cc
 
 module _ (rest : Option (Bor (List ℕ))) (more : is_some rest ≡ true) where
-  -- behind rotate and flush there are no words
+  -- behind rotate, flush and stats there are no words
   pub alone_of_more : (line : Line) → alone line (words_behind rest) ≡ None
   alone_of_more line = rw (words_behind_begins rest more).2 refl
 
-  -- behind the one word that begin, view, commit, drop, plan and install want, there is none
+  -- behind the one word that begin, view, commit, drop, plan, install, batch and move want, there is none
   pub ident_alone_of_more : (name : List ℕ) → ident_alone (name ∷ words_behind rest) ≡ None
   ident_alone_of_more name = rw (words_behind_begins rest more).2 refl
 
@@ -65,6 +65,10 @@ module _ (rest : Option (Bor (List ℕ))) (more : is_some rest ≡ true) where
   -- nor behind the one that keep wants
   pub keep_of_more : (versions : List ℕ) → keep_of (versions ∷ words_behind rest) ≡ None
   keep_of_more versions = rw (words_behind_begins rest more).2 refl
+
+  -- nor behind the two that pick and drain want
+  pub ident_and_number_of_more : (most : ℕ) (name number : List ℕ) → ident_and_number most (name ∷ number ∷ words_behind rest) ≡ None
+  ident_and_number_of_more most name number = rw (words_behind_begins rest more).2 refl
 
   -- nor behind the three that getat wants
   pub get_at_of_more : (name key number : List ℕ) → get_at_of (name ∷ key ∷ number ∷ words_behind rest) ≡ None

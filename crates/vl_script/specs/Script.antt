@@ -15,11 +15,13 @@ use Rattle.vl_model.specs.Keys.{Row}
 use Rattle.vl_script.specs.Numbers.{number_of}
 use Rattle.vl_script.specs.declared.line.Line.{Line}
 use Rattle.vl_script.specs.declared.line.Line.TheVariants.{Begin, View, Get, Set, SetTagged, GetTagged, GetAt, Scan, Delete, Commit, Drop}
-use Rattle.vl_script.specs.declared.line.Line.TheVariants.{Rotate, Flush, Keep, Plan, Install}
+use Rattle.vl_script.specs.declared.line.Line.TheVariants.{Rotate, Flush, Keep, Plan, Drain, Install, Stats, Pick, Batch, Move}
 use Rattle.vl_script.specs.declared.answer.Answer.{Answer}
 use Rattle.vl_script.specs.declared.answer.Answer.TheVariants.{Done, Number, Found, FoundTagged, NoValue, Dropped, Rows, Taken, Unknown}
 use Rattle.vl_script.specs.declared.answer.Answer.TheVariants.{ReadOnly, Invalid, TooBig, TooMany, Nothing, Conflict}
 use Rattle.vl_script.specs.declared.answer.Answer.TheVariants.{Full, Idle, Exhausted, Raced}
+use Rattle.vl_script.specs.declared.answer.Answer.TheVariants.{Rejected, NoRewrite, FoundRecords, End, Moved, Segments}
+use Rattle.vl_script.specs.declared.answer.SegmentLine.{SegmentLine}
 
 -- the longest line, in bytes without its end
 abbrev pub longest_line : ℕ
@@ -60,12 +62,12 @@ abbrev pub ◌>>=◌ : {A B : Type 0} → Option A → (A → Option B) → Opti
 None >>= f = None
 Some x >>= f = f x
 
--- no words stand behind rotate and flush
+-- no words stand behind rotate, flush and stats
 abbrev pub alone : Line → List (List ℕ) → Option Line
 alone line [] = Some line
 alone line (word ∷ words) = None
 
--- the word behind begin, view, commit, drop, plan and install
+-- the word behind begin, view, commit, drop, plan, install, batch and move
 abbrev pub ident_alone : List (List ℕ) → Option (List ℕ)
 ident_alone (name ∷ []) = ident_of name
 ident_alone words = None
@@ -88,6 +90,19 @@ get_at_of words = None
 abbrev pub keep_of : List (List ℕ) → Option Line
 keep_of (versions ∷ []) = option_map Keep (number_of 255 versions)
 keep_of words = None
+
+-- a name, and a number up to a limit
+abbrev pub ident_and_number : (most : ℕ) → List (List ℕ) → Option (List ℕ × ℕ)
+ident_and_number most (name ∷ number ∷ []) = number_of most number >>= λ n. option_map (λ t. (t, n)) (ident_of name)
+ident_and_number most words = None
+
+-- the words behind pick
+abbrev pub pick_of : List (List ℕ) → Option Line
+pick_of words = option_map (λ w. Pick w.0 w.1) (ident_and_number 255 words)
+
+-- the words behind drain, with a log's number that may be any of 32 bits
+abbrev pub drain_of : List (List ℕ) → Option Line
+drain_of words = option_map (λ w. Drain w.0 w.1) (ident_and_number 4294967295 words)
 
 -- a name and two strings of bytes
 abbrev pub ident_and_two : (name first second : List ℕ) → Option (List ℕ × List ℕ × List ℕ)
@@ -132,8 +147,13 @@ line_of_words (command ∷ words) =
     else (if bytes_eq command (codes "flush") then alone Flush words
     else (if bytes_eq command (codes "keep") then keep_of words
     else (if bytes_eq command (codes "plan") then option_map Plan (ident_alone words)
+    else (if bytes_eq command (codes "drain") then drain_of words
     else (if bytes_eq command (codes "install") then option_map Install (ident_alone words)
-    else None))))))))))))))))
+    else (if bytes_eq command (codes "stats") then alone Stats words
+    else (if bytes_eq command (codes "pick") then pick_of words
+    else (if bytes_eq command (codes "batch") then option_map Batch (ident_alone words)
+    else (if bytes_eq command (codes "move") then option_map Move (ident_alone words)
+    else None)))))))))))))))))))))
 
 -- the line that these bytes are, without the line's end
 abbrev pub line_of : List ℕ → Option Line
@@ -163,6 +183,15 @@ row_text row = as_line (bytes_text row.0 ++ (32 ∷ []) ++ bytes_text row.1.byte
 abbrev pub rows_text : List Row → List ℕ
 rows_text rows = as_line (codes "rows " ++ decimal (length rows)) ++ flat_map row_text rows
 
+-- a log's number, how long it is, and how much of it is live
+abbrev pub segment_text : SegmentLine → List ℕ
+segment_text s = as_line
+    (codes "segment " ++ decimal s.segment ++ codes " bytes " ++ decimal s.bytes ++ codes " live " ++ decimal s.live)
+
+-- how many logs there are, and a line for each
+abbrev pub segments_text : List SegmentLine → List ℕ
+segments_text segments = as_line (codes "segments " ++ decimal (length segments)) ++ flat_map segment_text segments
+
 -- what is printed for an answer
 abbrev pub text_of : Answer → List ℕ
 text_of Done = as_line (codes "ok")
@@ -184,3 +213,9 @@ text_of Full = as_line (codes "full")
 text_of Idle = as_line (codes "idle")
 text_of (Raced key) = as_line (codes "raced " ++ bytes_text key)
 text_of (Exhausted counter) = as_line (codes "exhausted " ++ counter_text counter)
+text_of (Rejected segment) = as_line (codes "rejected " ++ decimal segment)
+text_of NoRewrite = as_line (codes "norewrite")
+text_of (FoundRecords count) = as_line (codes "found " ++ decimal count)
+text_of End = as_line (codes "end")
+text_of (Moved count) = as_line (codes "moved " ++ decimal count)
+text_of (Segments segments) = segments_text segments.items

@@ -6,7 +6,7 @@ use vl_model::{Counter, Key, Value};
 pub enum Answer {
     /// `ok`
     Done,
-    /// `ok N`: the number of the last commit, at a begin or a view, or of the commit that was made.
+    /// `ok N`: a number, as that of the last commit at a begin or a view, or of the commit or the table that was made.
     Number { number: u64 },
     /// `value V`
     Found { value: Value },
@@ -34,12 +34,32 @@ pub enum Answer {
     Nothing,
     /// `conflict K n`: the least key that the transaction read and a later commit named, and the last such commit.
     Conflict { key: Key, number: u64 },
-    /// `full`: the log has no room for the commit.
+    /// `full`: the log has no room for the commit or the move.
     Full,
-    /// `idle`: there is nothing to seal, to write or to merge.
+    /// `idle`: there is nothing to seal, to write, to merge or to move.
     Idle,
     /// `raced K`: the least key of which a merge dropped a deletion and a value was moved meanwhile.
     Raced { key: Key },
     /// `exhausted W`: there is no next number of this kind.
     Exhausted { counter: Counter },
+    /// `rejected S`: a pass over this log is open.
+    Rejected { segment: u32 },
+    /// `norewrite`: no log has so great a share of garbage.
+    NoRewrite,
+    /// `found c`: so many records are in the batch that waits now.
+    FoundRecords { count: u64 },
+    /// `end`: the pass has no more records.
+    End,
+    /// `moved c`: so many records were written again.
+    Moved { count: u64 },
+    /// `segments c`, and c lines `segment S bytes B live L`: the logs, by rising numbers.
+    Segments { segments: Vec<SegmentLine> },
+}
+
+/// What is printed of a log: its number, its bytes behind the header, and how many of them are live.
+#[derive(Drop)]
+pub struct SegmentLine {
+    pub segment: u32,
+    pub bytes: u64,
+    pub live: u64,
 }

@@ -10,7 +10,7 @@ mod numbers;
 mod parse;
 mod print;
 
-pub use answer::Answer;
+pub use answer::{Answer, SegmentLine};
 pub use finding::find_byte;
 pub use limits::{MAX_IDENT_BYTES, MAX_LINE_BYTES};
 pub use line::{Ident, Line};

@@ -1,6 +1,6 @@
 use vl_model::{Bytes, Way};
 
-/// A name that a script gives to a transaction, a view or a merge: 1 to 16 of `a` to `z` and `0` to `9`.
+/// A name that a script gives to a transaction, a view, a merge or a pass: 1 to 16 of `a` to `z` and `0` to `9`.
 pub type Ident = Bytes;
 
 /// A line of a script, as docs/SCRIPT.md spells it. Its key and its value have any length.
@@ -61,7 +61,7 @@ pub enum Line {
     Commit {
         name: Ident,
     },
-    /// `drop X`: ends a transaction, a view or a merge, and nothing of it stays.
+    /// `drop X`: ends a transaction, a view, a merge or a pass, and nothing of it stays.
     Drop {
         name: Ident,
     },
@@ -73,6 +73,11 @@ pub enum Line {
     Plan {
         name: Ident,
     },
+    /// `drain J S`: merges the first table that leads into log S, alone, into files beside it.
+    Drain {
+        name: Ident,
+        segment: u32,
+    },
     /// `install J`: puts a merge's tables into the place of those that it merged.
     Install {
         name: Ident,
@@ -80,5 +85,20 @@ pub enum Line {
     /// `keep V`: says how many of the newest versions of a key merges are to keep, with V from 0 to 255.
     Keep {
         versions: u8,
+    },
+    /// `stats`: tells how long each log is, and how much of it is live.
+    Stats,
+    /// `pick G P`: begins a pass over the log with the greatest share of garbage, of P per cent at least, with P from 0 to 255.
+    Pick {
+        name: Ident,
+        percent: u8,
+    },
+    /// `batch G`: finds the next records of a pass that are to be moved.
+    Batch {
+        name: Ident,
+    },
+    /// `move G`: writes again what of the batch that waits is still live.
+    Move {
+        name: Ident,
     },
 }

@@ -2,8 +2,8 @@ ghost use Rattle.std.specs.Prelude.{◌≡◌, ◌∷◌, [], ◌&&◌, ◌<◌,
 ghost use Rattle.std.specs.List.{list_all};
 ghost use Rattle.std.specs.Option.{option_map_or};
 ghost use Rattle.vl_script.specs.Script.{longest_ident, is_ident_byte, ident_of, bytes_of, words_of, line_of};
-ghost use Rattle.vl_script.specs.Script.{alone, ident_alone, named_key, ident_and_key, ident_and_two, with_number};
-ghost use Rattle.vl_script.specs.Script.{set_of, set_tagged_of, get_at_of, scan_of, keep_of};
+ghost use Rattle.vl_script.specs.Script.{alone, ident_alone, named_key, ident_and_key, ident_and_two, ident_and_number, with_number};
+ghost use Rattle.vl_script.specs.Script.{set_of, set_tagged_of, get_at_of, scan_of, keep_of, pick_of, drain_of};
 
 use crate::digits::decode;
 use crate::{Ident, Line, MAX_IDENT_BYTES, MAX_LINE_BYTES, find_byte, parse_number};
@@ -50,8 +50,18 @@ pub fn parse_line(alloc: Global, text: &[u8]) -> Result<Option<Line>, AllocError
         Ok(parse_keep(rest))
     } else if command == b"plan".as_slice() {
         Ok(parse_ident_alone(alloc, rest)?.map(|name| Line::Plan { name }))
+    } else if command == b"drain".as_slice() {
+        parse_drain(alloc, rest)
     } else if command == b"install".as_slice() {
         Ok(parse_ident_alone(alloc, rest)?.map(|name| Line::Install { name }))
+    } else if command == b"stats".as_slice() {
+        Ok(parse_alone(rest, Line::Stats))
+    } else if command == b"pick".as_slice() {
+        parse_pick(alloc, rest)
+    } else if command == b"batch".as_slice() {
+        Ok(parse_ident_alone(alloc, rest)?.map(|name| Line::Batch { name }))
+    } else if command == b"move".as_slice() {
+        Ok(parse_ident_alone(alloc, rest)?.map(|name| Line::Move { name }))
     } else {
         Ok(None)
     }
@@ -149,6 +159,49 @@ fn parse_keep(rest: Option<&[u8]>) -> Option<Line>
     Some(Line::Keep {
         versions: versions as u8,
     })
+}
+
+fn parse_pick(alloc: Global, rest: Option<&[u8]>) -> Result<Option<Line>, AllocError>
+    ensures { IfOk result (λ line. line ≡ pick_of (option_map_or (λ rest. words_of rest.now) rest.entry [])) }
+{
+    let words = parse_ident_and_number(alloc, rest, 255)?;
+    Ok(words.map(|(name, percent)| Line::Pick {
+        name,
+        percent: percent as u8,
+    }))
+}
+
+fn parse_drain(alloc: Global, rest: Option<&[u8]>) -> Result<Option<Line>, AllocError>
+    ensures { IfOk result (λ line. line ≡ drain_of (option_map_or (λ rest. words_of rest.now) rest.entry [])) }
+{
+    let words = parse_ident_and_number(alloc, rest, u64::from(u32::MAX))?;
+    Ok(words.map(|(name, segment)| Line::Drain {
+        name,
+        segment: segment as u32,
+    }))
+}
+
+// A name, and a number that isn't over a limit.
+#[tactic(auto, using(crate::proofs::ScriptWords::ident_and_number_of_more))]
+fn parse_ident_and_number(
+    alloc: Global,
+    rest: Option<&[u8]>,
+    most: u64,
+) -> Result<Option<(Ident, u64)>, AllocError>
+    ensures words { IfOk result (λ words. words ≡ ident_and_number most (option_map_or (λ rest. words_of rest.now) rest.entry [])) }
+    ensures within { IfOk result (λ words. IfSome words (λ w. w.1 ≤ most)) }
+{
+    let Some((name, Some(rest))) = rest.map(next_word) else {
+        return Ok(None);
+    };
+    let (number, None) = next_word(rest) else {
+        return Ok(None);
+    };
+    let Some(number) = parse_number(number, most) else {
+        return Ok(None);
+    };
+    let name = parse_ident(alloc, name)?;
+    Ok(name.map(|name| (name, number)))
 }
 
 #[tactic(auto, using(crate::proofs::ScriptWords::set_of_more))]

@@ -1,23 +1,26 @@
 ghost use Rattle.std.specs.Prelude.{◌≡◌, ◌+◌, ◌≤◌, ◌++◌, ◌∷◌, ℕ, [], codes, length, vec_capacity};
 ghost use Rattle.std.specs.Prelude.{IsOk, IfOk, OnOk};
 ghost use Rattle.std.specs.Fmt.{decimal};
-ghost use Rattle.vl_script.specs.Script.{bytes_text, counter_text, row_text, rows_text, text_of};
-ghost use Rattle.vl_script.specs.declared.answer.Answer.TheVariants.{Conflict, Done, Found, FoundTagged, Number, Raced};
+ghost use Rattle.vl_script.specs.Script.{bytes_text, counter_text, row_text, rows_text, segment_text, segments_text, text_of};
+ghost use Rattle.vl_script.specs.declared.answer.Answer.TheVariants.{Conflict, Done, Found, FoundTagged, Moved, Number, Raced};
 
-use crate::Answer;
+use crate::{Answer, SegmentLine};
 use std::alloc::{AllocError, Global};
 use vl_model::{Bytes, Counter, Key, Value};
 
 /// The room, in bytes, that the text of an answer with a number takes at most.
-pub const NUMBER_ROOM: usize = 24;
+pub const NUMBER_ROOM: usize = 27;
 
 /// Appends what is printed for an answer: its text, and its line's end. Where memory is missing, some first bytes of it may
-/// have been appended. An answer with a number wants none where the text has `NUMBER_ROOM` left, and `ok` neither.
+/// have been appended. What a line answers that changed files wants none where the text has `NUMBER_ROOM` left: a number, `ok`
+/// alone, and how many records were moved.
 pub fn print_answer(alloc: Global, text: &mut Vec<u8>, answer: &Answer) -> Result<(), AllocError>
     ensures text { OnOk result (text.new.items ≡ text.old.items ++ text_of answer.now) }
     ensures room { (number : ℕ) → answer.now ≡ Number number
         → length text.old.items + NUMBER_ROOM ≤ vec_capacity text.old → IsOk result }
     ensures room_for_ok { answer.now ≡ Done → length text.old.items + NUMBER_ROOM ≤ vec_capacity text.old → IsOk result }
+    ensures room_for_moved { (count : ℕ) → answer.now ≡ Moved count
+        → length text.old.items + NUMBER_ROOM ≤ vec_capacity text.old → IsOk result }
 {
     match answer {
         Answer::Done => print_line(text, b"ok", b""),
@@ -41,7 +44,42 @@ pub fn print_answer(alloc: Global, text: &mut Vec<u8>, answer: &Answer) -> Resul
         Answer::Exhausted { counter } => {
             print_line(text, b"exhausted ", counter_name(*counter).as_bytes())
         }
+        Answer::Rejected { segment } => print_number(text, b"rejected ", u64::from(*segment)),
+        Answer::NoRewrite => print_line(text, b"norewrite", b""),
+        Answer::FoundRecords { count } => print_number(text, b"found ", *count),
+        Answer::End => print_line(text, b"end", b""),
+        Answer::Moved { count } => print_number(text, b"moved ", *count),
+        Answer::Segments { segments } => print_segments(text, segments),
     }
+}
+
+// How many logs there are, and a line for each.
+fn print_segments(text: &mut Vec<u8>, segments: &[SegmentLine]) -> Result<(), AllocError>
+    ensures { OnOk result (text.new.items ≡ text.old.items ++ segments_text segments.now) }
+{
+    print_number(text, b"segments ", segments.len() as u64)?;
+    for segment in segments {
+        print_segment(text, segment)?;
+    }
+    Ok(())
+}
+
+fn print_segment(text: &mut Vec<u8>, segment: &SegmentLine) -> Result<(), AllocError>
+    ensures { OnOk result (text.new.items ≡ text.old.items ++ segment_text segment.now) }
+{
+    push_number(text, b"segment ", u64::from(segment.segment))?;
+    push_number(text, b" bytes ", segment.bytes)?;
+    print_number(text, b" live ", segment.live)
+}
+
+// Without the line's end.
+fn push_number(text: &mut Vec<u8>, front: &[u8], number: u64) -> Result<(), AllocError>
+    ensures { OnOk result (text.new.items ≡ text.old.items ++ front.now ++ decimal number) }
+{
+    let mut digits = itoa::Buffer::new();
+    text.extend_from_slice(front)?;
+    text.extend_from_slice(digits.format(number).as_bytes())?;
+    Ok(())
 }
 
 /// Appends how many rows there are, and a line for each, with its key and its value. Where memory is missing, some first bytes

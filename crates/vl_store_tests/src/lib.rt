@@ -4,6 +4,8 @@
 #[cfg(test)]
 mod opening;
 #[cfg(test)]
+mod statistics;
+#[cfg(test)]
 mod stores;
 #[cfg(test)]
 mod tables;

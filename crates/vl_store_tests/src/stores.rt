@@ -44,7 +44,7 @@ pub fn outcome_of(
         words.push(String::from_str(alloc, word)?)?;
     }
     let mut source = SliceSource::new(input.as_bytes(), Vec::new(alloc));
-    let mut sink = VecSink::new(alloc, 4096, Vec::new(alloc))?;
+    let mut sink = VecSink::new(alloc, 16_384, Vec::new(alloc))?;
     let CommandEnded { status, disk } = run(alloc, words.as_slice(), &mut source, &mut sink, disk);
     Ok((status, sink.into_bytes(), disk))
 }

@@ -212,6 +212,7 @@ fn a_step_on_files_that_fails_ends_a_run_and_loses_nothing(rt: HostRuntime) -> R
     Ok(())
 }
 
+/// Its record of 73 bytes is moved by a frame of 99 in the present format.
 #[test]
 fn a_store_of_format_1_with_a_table_is_read(rt: HostRuntime) -> Result<(), Fail> {
     let alloc = rt.alloc();
@@ -219,10 +220,12 @@ fn a_store_of_format_1_with_a_table_is_read(rt: HostRuntime) -> Result<(), Fail>
     let files = with(alloc, files, Name::Log(2), &OLD_SECOND_LOG_HEADER)?;
     let files = with(alloc, files, Name::Table(1), &OLD_TABLE)?;
     let case = plain(
-        "view v\ngetb v 62\ngetb v 61\n",
+        "view v\ngetb v 62\ngetb v 61\npick g 1\nbatch g\nmove g\nstats\n",
         "ok 1\n\
         value aaaaaaaaaaaaaaaaaaaaaaaaaaaaaaaaaaaaaaaaaaaaaaaaaaaaaaaaaaaaaaaaaaaaaaaaaaaaaaaaaaaaaaaaaaaaaaaaaaaaaaaaaaaaaaaaaaaaaaaaaaaaaaaaaa byte 0\n\
-        value aaaaaaaaaaaaaaaaaaaaaaaaaaaaaaaaaaaaaaaaaaaaaaaaaaaaaaaaaaaaaaaaaaaaaaaaaaaaaaaaaaaaaaaaaaaaaaaaaaaaaaaaaaaaaaaaaaaaaaaaaaaaaaaa byte 0\n",
+        value aaaaaaaaaaaaaaaaaaaaaaaaaaaaaaaaaaaaaaaaaaaaaaaaaaaaaaaaaaaaaaaaaaaaaaaaaaaaaaaaaaaaaaaaaaaaaaaaaaaaaaaaaaaaaaaaaaaaaaaaaaaaaaaa byte 0\n\
+        ok 1\nfound 1\nmoved 1\n\
+        segments 2\nsegment 1 bytes 170 live 73\nsegment 2 bytes 99 live 0\n",
         0,
     );
     let (status, printed, _) = outcome_over(alloc, &case, started(alloc, files, &[])?)?;

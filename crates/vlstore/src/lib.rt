@@ -7,7 +7,8 @@ pub use vl_compact::{Job, JobReader, Lent};
 pub use vl_disk::{Disk, HeldFile, Name, Reader, Writer};
 pub use vl_engine::{
     AtFail, BeginFail, CommitFail, Done, Engine, Found, InstallFail, KeepFail, MergeFail, MoveFail,
-    OpenError, OpenFail, PickFail, ReadFail, ReadFault, Rows, SetFail, StepFail, Txn, View,
+    OpenError, OpenFail, PickFail, ReadFail, ReadFault, Rows, SetFail, StepFail, SweepFail, Txn,
+    View,
 };
 pub use vl_folder::FolderDisk;
 pub use vl_layout::SegmentStat;

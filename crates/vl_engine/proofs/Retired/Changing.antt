@@ -1,5 +1,6 @@
 -- What becomes of the files that a stock has, where several are changed one after the other.
-use Rattle.std.proofs.Common.{◌≡◌, ℕ, zero, suc, ◌+◌, ◌-◌, ◌^◌, ◌≤◌, ◌<◌, ◌⊎◌, inl, inr, Bool, true, false, cond, not, ◌||◌, List, [], ◌∷◌, ◌++◌, length, map}
+use Rattle.std.proofs.Common.{◌≡◌, ℕ, zero, suc, ◌+◌, ◌-◌, ◌^◌, ◌≤◌, ◌<◌, ◌⊎◌, inl, inr, Bool, true, false, cond, not, ◌||◌, List}
+use Rattle.std.proofs.Common.{[], ◌∷◌, ◌++◌, length, map}
 use Rattle.std.proofs.Common.{refl, ap, sym, ◌∙◌, subst, arith, append_assoc, length-append, take}
 use Rattle.std.proofs.Props.{props}
 use Rattle.std.proofs.lemmas.Bool.Decides.{nat_tests}
@@ -428,10 +429,12 @@ module _ {W : Type 0} {s : _} where
       by : (r : Bool) → nat_lt (deque_len b.trash) (deque_capacity b.trash) ≡ r
           → (kept : List (Lent W s)) × (c.trash.items ≡ a.trash.items ++ all_left kept)
       by true test =
-          let less : deque_len b.trash < deque_capacity b.trash = grind (arith, nat_tests, test) in
-          (is.some.0 ++ x ∷ [], left less ∙ ap (λ zs. zs ++ left_at x.number x ∷ []) is.some.1
-          ∙ append_assoc a.trash.items (all_left is.some.0) (left_at x.number x ∷ [])
-          ∙ ap (λ zs. a.trash.items ++ zs) (sym (left_both is.some.0 (x ∷ []))))
+          let less : deque_len b.trash < deque_capacity b.trash = grind (arith, nat_tests, test) in (
+            is.some.0 ++ x ∷ [],
+            left less ∙ ap (λ zs. zs ++ left_at x.number x ∷ []) is.some.1
+                ∙ append_assoc a.trash.items (all_left is.some.0) (left_at x.number x ∷ [])
+                ∙ ap (λ zs. a.trash.items ++ zs) (sym (left_both is.some.0 (x ∷ []))),
+          )
       by false test =
           let more : deque_capacity b.trash ≤ deque_len b.trash = grind (arith, nat_tests, test) in
           (is.some.0, ap deque_items (full more) ∙ is.some.1)

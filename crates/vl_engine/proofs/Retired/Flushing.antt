@@ -205,13 +205,15 @@ module _ {H W : Type 0} {s : _} (bytes : H → Option (List ℕ)) (size : H → 
             (λ x less. below_head below.from x.number less) l.flushed below.flushed,
       )
 
-      still_below : before.back.state.head ≤ head l → (f : FileName) → IsLogBelow before.back.state.head f → IsLogBelow after.back.state.head f
+      still_below : before.back.state.head ≤ head l → (f : FileName) → IsLogBelow before.back.state.head f
+          → IsLogBelow after.back.state.head f
       still_below from (files.Log k) is = below_head from k is
       still_below from (files.Table k) is = tt
       still_below from (files.Manifest k) is = absurd is
 
       logs_below : (ss : List Segment) → AllByRecursion (λ (x : Segment). x.number < after.back.state.head) ss
-          → AllByRecursion (λ (r : Retired). IsLogBelow after.back.state.head r.file) (map (retired_at (l.version_number + 1)) (map log_of ss))
+          → AllByRecursion (λ (r : Retired). IsLogBelow after.back.state.head r.file)
+          (map (retired_at (l.version_number + 1)) (map log_of ss))
       logs_below [] all = tt
       logs_below (x ∷ ss) all = (all.0, logs_below ss all.1)
 
@@ -221,7 +223,8 @@ module _ {H W : Type 0} {s : _} (bytes : H → Option (List ℕ)) (size : H → 
             (flushing l o).flushed (flushed_below below);
         retired = all_more (λ (r : Retired). IsLogBelow after.back.state.head r.file) l.retired
             (map (retired_at (l.version_number + 1)) (map log_of (rising (filter (is_idle (flushing l o)) (flushing l o).flushed))))
-            (all_weaker (λ (r : Retired). IsLogBelow before.back.state.head r.file) (λ (r : Retired). IsLogBelow after.back.state.head r.file)
+            (all_weaker (λ (r : Retired). IsLogBelow before.back.state.head r.file)
+            (λ (r : Retired). IsLogBelow after.back.state.head r.file)
             (λ r is. still_below below.from r.file is) l.retired below.retired)
             (logs_below (rising (filter (is_idle (flushing l o)) (flushing l o).flushed))
             (all_rising (λ (x : Segment). x.number < after.back.state.head) (filter (is_idle (flushing l o)) (flushing l o).flushed)
@@ -344,19 +347,21 @@ module _ {H W : Type 0} {s : _} (bytes : H → Option (List ℕ)) (size : H → 
 
 -- ---- what a switch did
 
-pub switches_stock : {H W : Type 0} {s : _} (before after : Core H) (added dropped : List ℕ) (head version lent counted : ℕ) (live : List (ℕ × ℕ))
+pub switches_stock : {H W : Type 0} {s : _} (before after : Core H) (added dropped : List ℕ) (head version lent counted : ℕ)
+    (live : List (ℕ × ℕ))
     (kept : Option Tallied) (old mid new : Stock (Lent W s)) → version ≡ before.back.version_number + 1 → head ≡ head_in after
     → ((n : ℕ) → is_idle_in head kept n ≡ is_idle_log head live n) → counted ≡ lent → IsReadied before old mid (length added) counted
     → BecomesBy (switching version added dropped (is_idle_log head live)) mid new
     → ((n : ℕ) → HasRoom mid (length added) 0 n → HasRoom new 0 0 n) → SwitchesStock before after added dropped kept old new lent
-switches_stock {H} {W} {s} before after added dropped head version lent counted live kept old mid new made head_is idle same ready switched room = record {
-  readied = mid;
-  is_ready = readied_for before old mid (length added) (length added) counted lent refl same ready;
-  switched = λ (k : Kept (Lent W s)) has. subst (Has new)
-      (ap (λ v. switching v added dropped (is_idle_log head live) k) made
-      ∙ ap (λ (i : ℕ → Bool). switching (before.back.version_number + 1) added dropped i k)
-      (λ j n. sym (idle n) j)
-      ∙ ap (λ m. switching (before.back.version_number + 1) added dropped (is_idle_in m kept) k) head_is)
-      (switched k has);
-  room = room lent (no_logs mid (length added) (length added) 1 counted lent refl same ready.room);
-}
+switches_stock {H} {W} {s} before after added dropped head version lent counted live kept old mid new made head_is idle same ready
+    switched room = record {
+      readied = mid;
+      is_ready = readied_for before old mid (length added) (length added) counted lent refl same ready;
+      switched = λ (k : Kept (Lent W s)) has. subst (Has new)
+          (ap (λ v. switching v added dropped (is_idle_log head live) k) made
+          ∙ ap (λ (i : ℕ → Bool). switching (before.back.version_number + 1) added dropped i k)
+          (λ j n. sym (idle n) j)
+          ∙ ap (λ m. switching (before.back.version_number + 1) added dropped (is_idle_in m kept) k) head_is)
+          (switched k has);
+      room = room lent (no_logs mid (length added) (length added) 1 counted lent refl same ready.room);
+    }

@@ -82,7 +82,8 @@ inputs_are bytes ns [] [] zip = refl
 inputs_are bytes ns [] (u ∷ us) zip = absurd zip
 inputs_are bytes ns (t ∷ ts) [] zip = absurd zip
 inputs_are bytes ns (t ∷ ts) (u ∷ us) zip =
-    by (is_input ns t) (is_among ns u) (ap (λ (n : ℕ). list_any (λ (number : ℕ). number == n) ns) zip.0.number) (inputs_are bytes ns ts us zip.1)
+    by (is_input ns t) (is_among ns u) (ap (λ (n : ℕ). list_any (λ (number : ℕ). number == n) ns) zip.0.number)
+    (inputs_are bytes ns ts us zip.1)
   where
     by : (a b : Bool) → a ≡ b → map number_of (filter (is_input ns) ts) ≡ numbers_of (filter (is_among ns) us)
         → map number_of (cond a (t ∷ filter (is_input ns) ts) (filter (is_input ns) ts))
@@ -124,7 +125,8 @@ distinct_numbers : (p : laid.Table → Bool) (ts : List laid.Table) → IsDistin
 distinct_numbers p [] distinct = tt
 distinct_numbers p (t ∷ ts) distinct = by (p t) (off ts distinct.0) (distinct_numbers p ts distinct.1)
   where
-    off : (us : List laid.Table) → AllByRecursion (λ (u : laid.Table). u.number ≢ t.number) us → has t.number (numbers_of (filter p us)) ≡ false
+    off : (us : List laid.Table) → AllByRecursion (λ (u : laid.Table). u.number ≢ t.number) us
+        → has t.number (numbers_of (filter p us)) ≡ false
     off [] all = refl
     off (u ∷ us) all = keep (p u) (u.number == t.number) refl (off us all.1)
       where
@@ -149,7 +151,8 @@ all_passed P p (t ∷ ts) all = by (p t) (all_passed P p ts all.1)
     by true later = (all.0, later)
     by false later = later
 
-all_numbers : (P : ℕ → Type 0) (ts : List laid.Table) → AllByRecursion P (numbers_of ts) → AllByRecursion (λ (t : laid.Table). P t.number) ts
+all_numbers : (P : ℕ → Type 0) (ts : List laid.Table) → AllByRecursion P (numbers_of ts)
+    → AllByRecursion (λ (t : laid.Table). P t.number) ts
 all_numbers P [] all = tt
 all_numbers P (t ∷ ts) all = (all.0, all_numbers P ts all.1)
 
@@ -266,7 +269,8 @@ module _ {H R W : Type 0} (bytes : H → Option (List ℕ)) (w : Writers W) (siz
       all_numbers (λ n. has n third.tables ≡ true) made_here.tables
       (both (numbers_of made_here.tables)
       (subst (λ ns. AllByRecursion (λ n. has n second.tables ≡ true) ns) (sym numbers)
-      (all_weaker (λ n. has n added ≡ true) (λ n. has n second.tables ≡ true) (λ n is. has_back n kept.tables added is) added (all_there added)))
+      (all_weaker (λ n. has n added ≡ true) (λ n. has n second.tables ≡ true) (λ n is. has_back n kept.tables added is) added
+      (all_there added)))
       (front (numbers_of made_here.tables) made_here.leavings lent.drawn))
     where
       front : (ns ms : List ℕ) → AllByRecursion (λ n. has n o.lent ≡ true) (ns ++ ms) → AllByRecursion (λ n. has n o.lent ≡ true) ns
@@ -325,8 +329,10 @@ module _ {H R W : Type 0} (bytes : H → Option (List ℕ)) (w : Writers W) (siz
   pub installed_stock : IsStockOf after now.stock (installed o.job (made_of job o.job) l)
   installed_stock =
       is_stock after now.stock (installed o.job (made_of job o.job) l) (retiring (l.version_number + 1) idle third)
-      (subst (λ (ns : List ℕ). Has now.stock (retiring (l.version_number + 1) idle (tables_retired (l.version_number + 1) ns second))) dropped_are
-      (subst (λ v. Has now.stock (retiring v idle (tables_retired v (map number_of (filter (is_input (map number_of job.inputs.tables.items))
+      (subst (λ (ns : List ℕ). Has now.stock (retiring (l.version_number + 1) idle (tables_retired (l.version_number + 1) ns second)))
+      dropped_are
+      (subst (λ v. Has now.stock (retiring v idle
+      (tables_retired v (map number_of (filter (is_input (map number_of job.inputs.tables.items))
       (tables_of before.version.behind.levels))) second))) version
       (puts.switched (record kept { trash = kept.trash ++ all_left job.leavings.items }) has_left)))
       (record {
@@ -356,7 +362,8 @@ module _ {H R W : Type 0} (bytes : H → Option (List ℕ)) (w : Writers W) (siz
     loose_below (n ∷ ns) = (tt, loose_below ns)
 
     logs_below : (ss : List Segment) → AllByRecursion (λ (x : Segment). x.number < after.back.state.head) ss
-        → AllByRecursion (λ (r : Retired). IsLogBelow after.back.state.head r.file) (map (retired_at (l.version_number + 1)) (map log_of ss))
+        → AllByRecursion (λ (r : Retired). IsLogBelow after.back.state.head r.file)
+        (map (retired_at (l.version_number + 1)) (map log_of ss))
     logs_below [] all = tt
     logs_below (x ∷ ss) all = (all.0, logs_below ss all.1)
 

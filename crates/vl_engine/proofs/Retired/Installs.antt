@@ -144,7 +144,8 @@ module _ {D H R W : Type 0} (g : Ghosts D) (bytes : H → Option (List ℕ)) (w 
   tallied_some None x is = absurd is
   tallied_some (Some t) x is = (t, refl, is)
 
-  put : InstallsUnraced g bytes w job old new before after (Ok tt) → InstallsFor bytes before was_collecting now_collecting w job after (Ok tt)
+  put : InstallsUnraced g bytes w job old new before after (Ok tt)
+      → InstallsFor bytes before was_collecting now_collecting w job after (Ok tt)
       → InstallsStock job before after was now now_collecting.tally count (Ok tt)
       → (install_ruling l h o.job (made_of job o.job)).answer ≡ Installed
       → StandsFor bytes after h (install_ruling l h o.job (made_of job o.job)).layout

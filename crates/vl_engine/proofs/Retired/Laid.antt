@@ -260,7 +260,8 @@ all_more P [] ys a b = b
 all_more P (x ∷ xs) ys a b = (a.0, all_more P xs ys a.1 b)
 
 -- those that retire now are retired at the version number
-pub just_retired : (version : ℕ) (fs : List FileName) → AllByRecursion (λ (r : Retired). r.version_number ≤ version) (map (retired_at version) fs)
+pub just_retired : (version : ℕ) (fs : List FileName)
+    → AllByRecursion (λ (r : Retired). r.version_number ≤ version) (map (retired_at version) fs)
 just_retired version [] = tt
 just_retired version (f ∷ fs) = (omega arith, just_retired version fs)
 

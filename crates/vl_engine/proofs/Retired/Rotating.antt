@@ -136,7 +136,8 @@ module _ {H W : Type 0} {s : _} (bytes : H → Option (List ℕ)) (size : H → 
         decides_too S So h l (rotate_ruling l h) (as_before l l) NoMemory effects is
         (λ a same answer. absurd (none a same))
         (λ same. stays_removes bytes size sized before after h l stands low was now
-        (ap (λ (v : Version H). v.behind.logs.items) did.0.version) (ap (λ (m : ManifestState). m.head) did.0.back.state) seals pins removes)
+        (ap (λ (v : Version H). v.behind.logs.items) did.0.version) (ap (λ (m : ManifestState). m.head) did.0.back.state) seals pins
+        removes)
         (λ name same. absurd (no_fail name same)) (λ name place same. absurd (no_damage name place same))
       where
         none : (a : StepAnswer) → short ≡ Answered a → ⊥

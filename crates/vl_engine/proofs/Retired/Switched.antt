@@ -42,7 +42,7 @@ use Rattle.vl_pins.specs.declared.stock.Stock.{Stock}
 -- ---- names
 
 fewer_has : (n m : ℕ) (ns : List ℕ) → not (has m ns) ≡ true → not (has m (but n ns)) ≡ true
-fewer_has n m ns is = ap not (has_filtered (λ (k : ℕ). not (k == n)) m ns ∙ by (has m ns) is) 
+fewer_has n m ns is = ap not (has_filtered (λ (k : ℕ). not (k == n)) m ns ∙ by (has m ns) is)
   where
     by : (b : Bool) → not b ≡ true → (b && not (m == n)) ≡ false
     by true is = absurd (let clash : false ≡ true = is in cc)
@@ -71,7 +71,8 @@ in_end f (n ∷ ns) last other is =
 
 -- One name more, where others stay unused and none of them is that one.
 module _ (a : ℕ) (ts ls us ks : List ℕ) (last : Name)
-    (still : (name : Name) → is_unused a ts ls name ≡ true → (is_unused a us ks name ≡ true) × (is_same (file_of name) (file_of last) ≡ false))
+    (still : (name : Name) → is_unused a ts ls name ≡ true → (is_unused a us ks name ≡ true)
+    × (is_same (file_of name) (file_of last) ≡ false))
     (here : is_unused a us ks last ≡ true) where
   more_unused : (names : List Name) → are_unused a ts ls names ≡ true → are_unused a us ks (names ++ last ∷ []) ≡ true
   more_unused [] is = both_true (is_unused a us ks last && true) true (both_true (is_unused a us ks last) true here refl) refl
@@ -148,7 +149,8 @@ module _ {D W : Type 0} {s : Writers W} (g : Ghosts D) (w : Writers W) (disk : D
     pub standing : ForSome (g.told disk) (Standing a kept)
     pub left : numbers_left kept.trash ≡ numbers
 
-  waits_gone : (version : ℕ) (name : Name) → ForSome (g.told disk) (Stands name) → IsWaiting g w disk next_table (gone_at {L = Lent W s} version name)
+  waits_gone : (version : ℕ) (name : Name) → ForSome (g.told disk) (Stands name)
+      → IsWaiting g w disk next_table (gone_at {L = Lent W s} version name)
   waits_gone version name stands = record {
     stands = λ none. stands;
     left = λ f some. absurd (let clash : None ≡ Some f = some in cc);
@@ -250,7 +252,8 @@ there_by {W = W} {s = s} g w disk core merging stock kept numbers has is distinc
 
 -- ---- tables that come into use
 
-table_off : (n : ℕ) (state : DiskState) (name : Name) → IsFree (Table n) state → Stands name state → is_same (file_of name) (file_of (Table n)) ≡ false
+table_off : (n : ℕ) (state : DiskState) (name : Name) → IsFree (Table n) state → Stands name state
+    → is_same (file_of name) (file_of (Table n)) ≡ false
 table_off n state (Log m) free stands = refl
 table_off n state (Manifest m) free stands = refl
 table_off n state (Table m) free stands = by (m == n) refl

@@ -103,7 +103,8 @@ module _ {H W : Type 0} {s : Writers W} (core : Core H) (state : DiskState) wher
       → HasInUse core stock state
   to_use stock kept has standing =
       let now = subst (λ (k : Kept (Lent W s)). Standing core.front.log.number k state) has.kept_are standing in record {
-        tables = subst (λ (o : Option InUse). All (λ n. Stands (Table n) state) (tables_in_use core.version o)) (sym has.is_some) now.tables;
+        tables = subst (λ (o : Option InUse). All (λ n. Stands (Table n) state) (tables_in_use core.version o)) (sym has.is_some)
+            now.tables;
         logs = subst (λ (o : Option InUse). All (λ n. Stands (Log n) state) (logs_in_use core.version o)) (sym has.is_some) now.logs;
         unused = (λ i. are_unused core.front.log.number (tables_in_use core.version (has.is_some i))
             (logs_in_use core.version (has.is_some i)) (standing_names stock.trash.items)) ∙ now.unused;
@@ -126,7 +127,8 @@ module _ {H W : Type 0} {s : Writers W} (core : Core H) (state : DiskState) wher
     where
       by : (o : Option InUse) → All (λ n. Stands (Table n) state) (tables_in_use core.version o)
           → All (λ n. Stands (Log n) state) (logs_in_use core.version o)
-          → are_unused core.front.log.number (tables_in_use core.version o) (logs_in_use core.version o) (standing_names stock.trash.items) ≡ true
+          → are_unused core.front.log.number (tables_in_use core.version o) (logs_in_use core.version o)
+          (standing_names stock.trash.items) ≡ true
           → is_none_of core.front.log.number o ≡ true
           → Standing core.front.log.number (used_by core stock.trash.items o) state
       by None tables logs unused active = record {
@@ -144,7 +146,8 @@ module _ {D H W : Type 0} {s : Writers W} (g : Ghosts D) (w : Writers W) (disk :
     (was now : Stock (Lent W s)) where
   pub there_used : StaysUsed core was now → IsThere g w disk core merging was → IsThere g w disk core merging now
   there_used stays is = record {
-    waiting = subst (λ (ts : List (RetiredFile (Lent W s))). All (IsWaiting g w disk core.back.state.next_table) ts) (sym stays.trash) is.waiting;
+    waiting = subst (λ (ts : List (RetiredFile (Lent W s))). All (IsWaiting g w disk core.back.state.next_table) ts) (sym stays.trash)
+        is.waiting;
     distinct = ap (λ (ts : List (RetiredFile (Lent W s))). are_distinct (lent_in merging ++ numbers_left ts)) stays.trash ∙ is.distinct;
     room =
         let a = is.room in
@@ -202,7 +205,8 @@ module _ (a next : ℕ) (state : DiskState) (free : IsFree (Log next) state) whe
 
   one_next : (ts ls : List ℕ) (name : Name) → Stands name state → is_unused a ts ls name ≡ true → is_unused next ts ls name ≡ true
   one_next ts ls (Log n) stands is =
-      both_true (not (has n ls)) (not (n == next)) (and_parts (not (has n ls)) (not (n == a)) is).0 (not_false (n == next) (other_log n stands))
+      both_true (not (has n ls)) (not (n == next)) (and_parts (not (has n ls)) (not (n == a)) is).0
+      (not_false (n == next) (other_log n stands))
   one_next ts ls (Table n) stands is = is
   one_next ts ls (Manifest n) stands is = is
 
@@ -295,7 +299,8 @@ module _ {D H W : Type 0} {s : Writers W} (g : Ghosts D) (w : Writers W) (old ne
       → Has sealed (log_sealed before.front.log.number (kept_in u stock))
       → ForSome (g.told old) (Stands (Log before.front.log.number)) → IsThere g w new after then_merging sealed
   there_sealed between sealed then_merging then trash same has here = record {
-    waiting = subst (λ (ts : List (RetiredFile (Lent W s))). All (IsWaiting g w new after.back.state.next_table) ts) (sym (ap deque_items trash))
+    waiting = subst (λ (ts : List (RetiredFile (Lent W s))). All (IsWaiting g w new after.back.state.next_table) ts)
+        (sym (ap deque_items trash))
         then.waiting;
     distinct = ap (λ (ts : List (RetiredFile (Lent W s))). are_distinct (lent_in then_merging ++ numbers_left ts)) (ap deque_items trash)
         ∙ then.distinct;

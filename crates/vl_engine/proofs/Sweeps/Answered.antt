@@ -1,5 +1,6 @@
 -- What a sweep comes to, over each disk and over one that holds the layout.
-use Rattle.std.specs.Prelude.{◌≡◌, ◌≢◌, ◌⊎◌, ◌≤◌, ◌++◌, ℕ, List, [], ◌∷◌, length, Option, None, Some, Result, Ok, Err, IfOk, OnOk, is_some, true}
+use Rattle.std.specs.Prelude.{◌≡◌, ◌≢◌, ◌⊎◌, ◌≤◌, ◌++◌, ℕ, List, [], ◌∷◌, length, Option, None, Some, Result, Ok, Err, IfOk, OnOk}
+use Rattle.std.specs.Prelude.{is_some, true}
 use Rattle.std.specs.Prelude.{Bool, refl, take, unwrap_or, zero, suc}
 use Rattle.std.specs.FinMap.{get}
 use Rattle.std.specs.List.{AllByRecursion}
@@ -30,12 +31,14 @@ use Rattle.vl_disk.specs.declared.writer.Writer.{Ghosts as Writers}
 use Rattle.vl_engine.proofs.Leaving.{base_numbers, manifest_held}
 use Rattle.vl_engine.proofs.Stepped.{fits_halted}
 use Rattle.vl_engine.proofs.Sweeps.Freed.{all_filtered, all_then}
-use Rattle.vl_engine.proofs.Sweeps.Going.{Tell, all_calls, all_free, all_kept, all_told, all_untold, stops_kept, stops_untold, tell_mid, tell_parts}
+use Rattle.vl_engine.proofs.Sweeps.Going.{Tell, all_calls, all_free, all_kept, all_told, all_untold, stops_kept, stops_untold}
+use Rattle.vl_engine.proofs.Sweeps.Going.{tell_mid, tell_parts}
 use Rattle.vl_engine.proofs.Sweeps.Holding.{AreOut, Kept, all_keep, fails_base, fails_opens, fails_shows}
 use Rattle.vl_engine.proofs.Sweeps.Outside.{outside, waiting_not_active}
 use Rattle.vl_engine.proofs.Sweeps.Standing.{Leaves, count_is, leaves_stands, running, sweeps_for}
 use Rattle.vl_engine.specs.Removing.{IsThere, IsWaiting, Removes}
-use Rattle.vl_engine.specs.Sweeping.{AreFree, KeepsAllBut, RemovesAll, StopsRemoving, SweepCarries, SweepFailed, SweepLeavesDisk, SweepsAs, SweepsFor}
+use Rattle.vl_engine.specs.Sweeping.{AreFree, KeepsAllBut, RemovesAll, StopsRemoving, SweepCarries, SweepFailed, SweepLeavesDisk}
+use Rattle.vl_engine.specs.Sweeping.{SweepsAs, SweepsFor}
 use Rattle.vl_engine.specs.Sweeping.{gone_before, names_of, ready, sweep_effects, sweep_otherwise, sweep_outcome, up_to}
 use Rattle.vl_engine.specs.declared.fails.SweepFail.TheVariants as fails
 use Rattle.vl_engine.specs.declared.fails.SweepFail.{SweepFail}
@@ -79,7 +82,8 @@ module _ {D W : Type 0} (g : Ghosts D) (w : Writers W) {s : _} {H : Type 0} (cor
 
   tell : core.front.halted ≡ None → Tell g w old files
   tell runs = all_then (IsWaiting g w old core.back.state.next_table)
-      (λ (file : RetiredFile (Lent W s)). ForSome file.lent (λ (lent : Lent W s). ForSome (g.told old) (λ _. is_some (w.file lent.writer) ≡ true)))
+      (λ (file : RetiredFile (Lent W s)). ForSome file.lent
+      (λ (lent : Lent W s). ForSome (g.told old) (λ _. is_some (w.file lent.writer) ≡ true)))
       (λ file waiting lent some. (waiting.left lent some).tells) files (waits runs)
 
   -- ---- whatever the disk tells
@@ -144,7 +148,8 @@ module _ {D W : Type 0} (g : Ghosts D) (w : Writers W) {s : _} {H : Type 0} (cor
         → Leaves (Fits (g.told new) after) h l least (gone_before before now) result
     leaves_fits fits (Ok count) did = subst (λ (c : Core H). Fits (g.told new) c h (without_files (swept least l) l)) (sym did.1) (record {
       running = λ runs. let may = fits.running runs in
-          let told = all_told g w files old new (tell did.0) did.2.removes (names.Log l.active.number) (not_active runs) may.state may.told_is in
+          let told = all_told g w files old new (tell did.0) did.2.removes (names.Log l.active.number) (not_active runs) may.state
+          may.told_is in
           record {
             numbers = record { next_log = may.numbers.next_log; next_table = may.numbers.next_table; waiting = may.numbers.waiting };
             files = may.files;
@@ -156,7 +161,8 @@ module _ {D W : Type 0} (g : Ghosts D) (w : Writers W) {s : _} {H : Type 0} (cor
     })
     leaves_fits fits (Err (fails.Halted name)) did =
         subst (λ (c : Core H). Fits (g.told new) c h l) (sym did.1) (subst (λ (d : D). Fits (g.told d) core h l) (sym did.2) fits)
-    leaves_fits fits (Err (fails.Disk name)) did = fits_halted (g.told new) after h (sweep_lost least l (gone_before before now)) (file_of name)
+    leaves_fits fits (Err (fails.Disk name)) did =
+        fits_halted (g.told new) after h (sweep_lost least l (gone_before before now)) (file_of name)
 
   -- ---- a disk that holds the layout
 
@@ -221,7 +227,8 @@ module _ {D W : Type 0} (g : Ghosts D) (w : Writers W) {s : _} {H : Type 0} (cor
         stop_leaves within state told image o left opens =
             let holds_base = fails_base g watched lawful held.base l h held.is_base is.stands.tidy old w stops.at parts.1.0.0 stops.mid
             mid_kept (tell_mid g w files old new name stops (tell none)).0 parts.1.0.1 new stops.failed stops.stops state told in
-            let same = held_state held.base.state state (manifest_held held.base l h held.is_base state holds_base) image o left.left opens in
+            let same = held_state held.base.state state (manifest_held held.base l h held.is_base state holds_base) image o left.left
+            opens in
             let (log, table, head) = base_numbers core.back held.base l h held.is_base is.stands.tidy held.state held.holds held.back_is
             within o same in
             let given = ap (λ (x : ManifestState). x.next_table) same in
@@ -238,20 +245,21 @@ module _ {D W : Type 0} (g : Ghosts D) (w : Writers W) {s : _} {H : Type 0} (cor
     -- what it represents
     represents : (result : Result ℕ SweepFail) → SweepsAs g w bound old new core after before now result
         → Leaves (Represents bytes after (g.told new)) h l least (gone_before before now) result
-    represents (Ok count) did = subst (λ (c : Core H). Represents bytes c (g.told new) h (without_files (swept least l) l)) (sym did.1) (record {
-      stands = subst (λ (c : Core H). StandsFor bytes c h (without_files (swept least l) l)) did.1
-          (leaves_stands g w old new bytes core after before now h l true is.stands removes least (Ok count) did);
-      held = λ runs. let kept = all_went did.0 did.2.removes in let was = held did.0 in
-          held_aside l.job (without_files (swept least l) l).retired h l core.back (g.told new) (record {
-            state = kept.state;
-            told_is = kept.told;
-            base = was.base;
-            is_base = was.is_base;
-            back_is = was.back_is;
-            holds = kept.holds;
-            begun = kept.begun;
-          });
-    })
+    represents (Ok count) did = subst (λ (c : Core H). Represents bytes c (g.told new) h (without_files (swept least l) l)) (sym did.1)
+        (record {
+          stands = subst (λ (c : Core H). StandsFor bytes c h (without_files (swept least l) l)) did.1
+              (leaves_stands g w old new bytes core after before now h l true is.stands removes least (Ok count) did);
+          held = λ runs. let kept = all_went did.0 did.2.removes in let was = held did.0 in
+              held_aside l.job (without_files (swept least l) l).retired h l core.back (g.told new) (record {
+                state = kept.state;
+                told_is = kept.told;
+                base = was.base;
+                is_base = was.is_base;
+                back_is = was.back_is;
+                holds = kept.holds;
+                begun = kept.begun;
+              });
+        })
     represents (Err (fails.Halted name)) did = subst (λ (c : Core H). Represents bytes c (g.told new) h l) (sym did.1)
         (subst (λ (d : D). Represents bytes core (g.told d) h l) (sym did.2) is)
     represents (Err (fails.Disk name)) did = represents_halted bytes after (g.told new) h (sweep_lost least l (gone_before before now)) name
@@ -281,7 +289,8 @@ module _ {D W : Type 0} (g : Ghosts D) (w : Writers W) {s : _} {H : Type 0} (cor
     called : (result : Result ℕ SweepFail) → SweepsAs g w bound old new core after before now result → (a : SweepAnswer)
         → sweep_outcome result ≡ Answered a → g.calls new ≡ after_calls (sweep_unless l.halted least l h).calls (g.calls old)
     called (Ok count) did a said = let runs = runs_of did.0 in all_calls g w files old new did.2.removes
-        ∙ ap (λ (n : ℕ). after_calls n (g.calls old)) (sym (count_is g w old new bytes core after before now h l true is.stands removes least runs))
+        ∙ ap (λ (n : ℕ). after_calls n (g.calls old))
+        (sym (count_is g w old new bytes core after before now h l true is.stands removes least runs))
         ∙ ap (λ (o : Option FileName). after_calls (sweep_unless o least l h).calls (g.calls old)) (sym runs)
     called (Err (fails.Halted name)) did a said =
         let halted = sym is.stands.fronts.halted ∙ ap (option_map file_of) did.0 in

@@ -73,7 +73,8 @@ module _ (p : Retired → Bool) where
   abbrev gone : List Retired → List FileName
   gone rs = files_of (filter p rs)
 
-  others : (f : FileName) (rs : List Retired) → is_in f (files_of rs) ≡ false → AllByRecursion (λ (r : Retired). is_same r.file f ≡ false) rs
+  others : (f : FileName) (rs : List Retired) → is_in f (files_of rs) ≡ false
+      → AllByRecursion (λ (r : Retired). is_same r.file f ≡ false) rs
   others f [] off = tt
   others f (r ∷ rs) off = let both = or_false (is_same f r.file) (is_in f (files_of rs)) off in
       (turned f r.file both.0, others f rs both.1)
@@ -89,13 +90,13 @@ module _ (p : Retired → Bool) where
       by : (b : Bool) → p x ≡ b
           → filter (λ (r : Retired). not (list_any (is_same r.file) (files_of (filter p rs)))) rs ≡ filter (λ (r : Retired). not (p r)) rs
           → (if not (list_any (is_same x.file) (files_of (if b then x ∷ filter p rs else filter p rs)))
-            then x ∷ filter (λ (r : Retired). not (list_any (is_same r.file) (files_of (if b then x ∷ filter p rs else filter p rs)))) rs
-            else filter (λ (r : Retired). not (list_any (is_same r.file) (files_of (if b then x ∷ filter p rs else filter p rs)))) rs)
+          then x ∷ filter (λ (r : Retired). not (list_any (is_same r.file) (files_of (if b then x ∷ filter p rs else filter p rs)))) rs
+          else filter (λ (r : Retired). not (list_any (is_same r.file) (files_of (if b then x ∷ filter p rs else filter p rs)))) rs)
           ≡ (if not b then x ∷ filter (λ (r : Retired). not (p r)) rs else filter (λ (r : Retired). not (p r)) rs)
       by true is later =
           ap (λ (b : Bool). if not (b || list_any (is_same x.file) (files_of (filter p rs)))
-            then x ∷ filter (λ (r : Retired). not (is_same r.file x.file || list_any (is_same r.file) (files_of (filter p rs)))) rs
-            else filter (λ (r : Retired). not (is_same r.file x.file || list_any (is_same r.file) (files_of (filter p rs)))) rs)
+          then x ∷ filter (λ (r : Retired). not (is_same r.file x.file || list_any (is_same r.file) (files_of (filter p rs)))) rs
+          else filter (λ (r : Retired). not (is_same r.file x.file || list_any (is_same r.file) (files_of (filter p rs)))) rs)
           (same_file x.file)
           ∙ filter_alike (λ (r : Retired). not (is_same r.file x.file || list_any (is_same r.file) (files_of (filter p rs))))
           (λ (r : Retired). not (list_any (is_same r.file) (files_of (filter p rs)))) rs
@@ -142,6 +143,7 @@ module _ {L : Type 0} (l : Layout) (pins : Pins) (trash : List (RetiredFile L)) 
     where
       free : not (is_held (pins_of l) r) ≡ nat_le r.version_number (bound_of version pins)
       free = free_up_to l r old pins are ∙ ap (λ (v : ℕ). nat_le r.version_number (bound_of v pins)) (sym version_is)
+
       by : (o : Option ℕ) → (not (is_held (pins_of l) r) && is_retired_up_to o r) ≡ nat_le r.version_number (up_to o version pins)
       by None = and_true (not (is_held (pins_of l) r)) ∙ free
       by (Some n) = ap (λ (b : Bool). b && nat_le r.version_number n) free ∙ least_of r.version_number n (bound_of version pins)
@@ -171,7 +173,8 @@ module _ {L : Type 0} (l : Layout) (pins : Pins) (trash : List (RetiredFile L)) 
   swept_count = ap length swept_are ∙ length_names (ready (up_to least version pins) trash)
 
   -- and the others are left.
-  pub left_are : AreOnce (files_of l.retired) → all_retired (held (up_to least version pins) trash) ≡ (without_files (swept least l) l).retired
+  pub left_are : AreOnce (files_of l.retired)
+      → all_retired (held (up_to least version pins) trash) ≡ (without_files (swept least l) l).retired
   left_are once = map-filter retired_of (λ (file : RetiredFile L). not (is_up_to (up_to least version pins) file))
       (λ (r : Retired). not (is_ready r)) (λ x. refl) trash ∙ ap (filter (λ (r : Retired). not (is_ready r))) trash_is
       ∙ sym (left_over is_ready l.retired once)

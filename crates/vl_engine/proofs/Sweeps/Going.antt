@@ -97,14 +97,20 @@ module _ {D W : Type 0} (g : Ghosts D) (w : Writers W) {s : _} where
   one_told file files old new tell one state told = by file.lent refl one.takes
     where
       by : (o : Option (Lent W s)) → file.lent ≡ o → TakesIfLent g w o file.name old one.mid → (now : DiskState) × (g.told new ≡ Some now)
-      by None none takes = (without file.name state, one.removes.removed
-          ∙ ap (option_map (without file.name)) (ap g.told takes ∙ told))
+      by None none takes = (
+        without file.name state,
+        one.removes.removed
+            ∙ ap (option_map (without file.name)) (ap g.told takes ∙ told),
+      )
       by (Some lent) some takes = taken (w.file lent.writer) (tell.0 lent some state told) takes
         where
           taken : (o : Option File) → is_some o ≡ true → Adopts g file.name o old one.mid → (now : DiskState) × (g.told new ≡ Some now)
           taken None tells adopts = absurd (false_true tells)
-          taken (Some f) tells adopts = (without file.name (adopted file.name f state), one.removes.removed
-              ∙ ap (option_map (without file.name)) (adopts.adopted state told f refl))
+          taken (Some f) tells adopts = (
+            without file.name (adopted file.name f state),
+            one.removes.removed
+                ∙ ap (option_map (without file.name)) (adopts.adopted state told f refl),
+          )
 
   pub all_told : (files : List (RetiredFile (Lent W s))) (old new : D) → Tell old files → RemovesAll g w files old new → (name : Name)
       → AllByRecursion (λ (file : RetiredFile (Lent W s)). name ≢ file.name) files → (state : DiskState) → g.told old ≡ Some state
@@ -170,7 +176,8 @@ module _ {D W : Type 0} (g : Ghosts D) (w : Writers W) {s : _} where
   tell_after (file ∷ files) others old new tell more all = tell_after files others all.0 new
       (tell_then file files old all.0 tell (Ok tt) all.1) (tell_then file others old all.0 (tell.0, more) (Ok tt) all.1) all.2
 
-  front_apart : (xs ys : List (RetiredFile (Lent W s))) (name : Name) → AllByRecursion (λ (other : Name). name ≢ other) (names_of (xs ++ ys))
+  front_apart : (xs ys : List (RetiredFile (Lent W s))) (name : Name)
+      → AllByRecursion (λ (other : Name). name ≢ other) (names_of (xs ++ ys))
       → AllByRecursion (λ (other : Name). name ≢ other) (names_of xs) × AllByRecursion (λ (other : Name). name ≢ other) (names_of ys)
   front_apart [] ys name apart = (tt, apart)
   front_apart (x ∷ xs) ys name apart = let rest = front_apart xs ys name apart.1 in ((apart.0, rest.0), rest.1)

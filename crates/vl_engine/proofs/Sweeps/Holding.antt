@@ -1,5 +1,6 @@
 -- Over a disk that holds the layout: each file that goes leaves it held, and what a crash leaves meanwhile shows the history.
-use Rattle.std.specs.Prelude.{◌≡◌, ◌≢◌, ◌⊎◌, ◌≤◌, ◌<◌, ◌++◌, ℕ, List, [], ◌∷◌, Option, None, Some, Result, Ok, Err, is_some, true, false, refl}
+use Rattle.std.specs.Prelude.{◌≡◌, ◌≢◌, ◌⊎◌, ◌≤◌, ◌<◌, ◌++◌, ℕ, List, [], ◌∷◌, Option, None, Some, Result, Ok, Err, is_some, true}
+use Rattle.std.specs.Prelude.{false, refl}
 use Rattle.std.specs.FinMap.{get}
 use Rattle.std.specs.List.{AllByRecursion}
 use Rattle.std.specs.Option.{ForSome, option_map}
@@ -66,7 +67,8 @@ begun_without name from to disk begun n least less nowhere = ⊎_elim
     }))
     (same_or_other (Table n) name)
 
-begun_adopted : (name : Name) (file : File) (from to : ℕ) (disk : DiskState) → AreBegun from to disk → AreBegun from to (adopted name file disk)
+begun_adopted : (name : Name) (file : File) (from to : ℕ) (disk : DiskState) → AreBegun from to disk
+    → AreBegun from to (adopted name file disk)
 begun_adopted name file from to disk begun n least less nowhere = ⊎_elim
     (λ (same : Table n ≡ name). never (sym (get_inserted disk.standing name file)
     ∙ ap (get (adopted name file disk).standing) (sym same) ∙ nowhere.free))
@@ -120,16 +122,19 @@ module _ {D : Type 0} (g : Ghosts D) (watched : IsWatched g)
         beside = nothing_elsewhere file.name kept.state;
       }
 
-      between_lent : (n : ℕ) → file.name ≡ Table n → (mid : D) (o : Option File) → is_some o ≡ true → Adopts g file.name o old mid → Between mid
+      between_lent : (n : ℕ) → file.name ≡ Table n → (mid : D) (o : Option File) → is_some o ≡ true → Adopts g file.name o old mid
+          → Between mid
       between_lent n is mid None some adopts = absurd (false_true some)
       between_lent n is mid (Some f) some adopts = let told_mid = adopts.adopted kept.state kept.told f refl in
           record {
             state = adopted file.name f kept.state;
             told = told_mid;
-            shows = goes_by g (LeavesBetween h h) start old mid kept.state (WhileAdopting file.name (Some f)) kept.told kept.shows adopts.time
+            shows = goes_by g (LeavesBetween h h) start old mid kept.state (WhileAdopting file.name (Some f)) kept.told kept.shows
+                adopts.time
                 (adopting_leaves_so b l h file.name out base tidy kept.state kept.holds f);
             leaves = taking_leaves b l h file.name out base tidy kept.state kept.holds f;
-            holds = taken_holds b l h file.name out base tidy kept.state kept.holds f (lawful mid (adopted file.name f kept.state) told_mid);
+            holds = taken_holds b l h file.name out base tidy kept.state kept.holds f
+                (lawful mid (adopted file.name f kept.state) told_mid);
             begun = begun_without file.name b.state.next_table l.next_table (adopted file.name f kept.state)
                 (begun_adopted file.name f b.state.next_table l.next_table kept.state kept.begun);
             opens = taken_opens_again b l h file.name out base tidy kept.state kept.holds f n is
@@ -140,13 +145,15 @@ module _ {D : Type 0} (g : Ghosts D) (watched : IsWatched g)
             };
           }
 
-      between : ForSome file.lent (λ (lent : Lent W s). file.name ≡ Table lent.number) → (mid : D) → TakesIfLent g w file.lent file.name old mid
+      between : ForSome file.lent (λ (lent : Lent W s). file.name ≡ Table lent.number) → (mid : D)
+          → TakesIfLent g w file.lent file.name old mid
           → Between mid
       between named mid takes = by file.lent refl takes
         where
           by : (o : Option (Lent W s)) → file.lent ≡ o → TakesIfLent g w o file.name old mid → Between mid
           by None none same = subst Between (sym same) between_stood
-          by (Some lent) some adopts = between_lent lent.number (named lent some) mid (w.file lent.writer) (tell lent some kept.state kept.told) adopts
+          by (Some lent) some adopts = between_lent lent.number (named lent some) mid (w.file lent.writer)
+              (tell lent some kept.state kept.told) adopts
 
       module _ (named : ForSome file.lent (λ (lent : Lent W s). file.name ≡ Table lent.number)) (new : D) where
         pub goes_kept : RemovesOne g w file old new (Ok tt) → Kept new
@@ -165,15 +172,18 @@ module _ {D : Type 0} (g : Ghosts D) (watched : IsWatched g)
           mid_there = between named one.mid one.takes
 
           pub fails_shows : CrashesShow g start new h h
-          fails_shows = goes_by g (LeavesBetween h h) start one.mid new mid_there.state (WhileRemoving file.name) mid_there.told mid_there.shows
+          fails_shows = goes_by g (LeavesBetween h h) start one.mid new mid_there.state (WhileRemoving file.name) mid_there.told
+              mid_there.shows
               one.removes.as_call.time mid_there.leaves
 
           pub fails_opens : Tells g new MayOpen
           fails_opens = ⊎_elim
               (λ (same : g.told new ≡ g.told one.mid). (mid_there.state, same ∙ mid_there.told, mid_there.opens))
-              (λ (changed : IsChangedBy (without file.name) (g.told one.mid) (g.told new)).
-              (without file.name mid_there.state, changed ∙ ap (option_map (without file.name)) mid_there.told,
-              held_opens_again b l h base (without file.name mid_there.state) tidy.levels mid_there.holds))
+              (λ (changed : IsChangedBy (without file.name) (g.told one.mid) (g.told new)). (
+                without file.name mid_there.state,
+                changed ∙ ap (option_map (without file.name)) mid_there.told,
+                held_opens_again b l h base (without file.name mid_there.state) tidy.levels mid_there.holds,
+              ))
               one.removes.failed
 
           some_is : (x y : DiskState) → Some x ≡ Some y → x ≡ y

@@ -38,7 +38,8 @@ other_table : (f : FileName) (name : Name) → file_of name ≡ f → (ts : List
     → AllByRecursion (λ (t : laid.Table). names.Table t.number ≢ name) ts
 other_table f name is [] off = tt
 other_table f name is (t ∷ ts) off = let both = or_false (is_same f (table_of t)) (is_in f (map table_of ts)) off in (
-  λ (same : names.Table t.number ≡ name). false_true (sym both.0 ∙ ap (λ (g : FileName). is_same g (table_of t)) (sym is ∙ ap file_of (sym same))
+  λ (same : names.Table t.number ≡ name). false_true
+      (sym both.0 ∙ ap (λ (g : FileName). is_same g (table_of t)) (sym is ∙ ap file_of (sym same))
       ∙ same_file (table_of t)),
   other_table f name is ts both.1,
 )
@@ -66,7 +67,8 @@ all_both : {X : Type 0} (P Q R : X → Type 0) → ((x : X) → P x → Q x → 
 all_both P Q R both [] p q = tt
 all_both P Q R both (x ∷ xs) p q = (both x p.0 q.0, all_both P Q R both xs p.1 q.1)
 
-all_mapped : {X Y : Type 0} (P : Y → Type 0) (f : X → Y) (xs : List X) → AllByRecursion P (map f xs) → AllByRecursion (λ (x : X). P (f x)) xs
+all_mapped : {X Y : Type 0} (P : Y → Type 0) (f : X → Y) (xs : List X) → AllByRecursion P (map f xs)
+    → AllByRecursion (λ (x : X). P (f x)) xs
 all_mapped P f [] all = tt
 all_mapped P f (x ∷ xs) all = (all.0, all_mapped P f xs all.1)
 
@@ -127,7 +129,8 @@ module _ {H : Type 0} (core : Core H) (b : Base) (l : Layout) (head : core.back.
       never e = cc
   no_manifest (Manifest n) low m same = low
 
-  each_out : (r : Retired) → IsUnneeded (needed l) r → (is_in r.file (files_of l.retired) ≡ true) × IsLogBelow core.back.state.head r.file → Out r
+  each_out : (r : Retired) → IsUnneeded (needed l) r → (is_in r.file (files_of l.retired) ≡ true) × IsLogBelow core.back.state.head r.file
+      → Out r
   each_out r off (there, low) name is = record {
     tables = other_table r.file name is (tables l) (off_parts r.file (map table_of (tables l))
         (flat_map pointed_logs (tables l)) (off_parts r.file (map table_of (tables l) ++ flat_map pointed_logs (tables l))
@@ -142,7 +145,8 @@ module _ {H : Type 0} (core : Core H) (b : Base) (l : Layout) (head : core.back.
   outside trash is = all_then (λ (file : RetiredFile _). Out (retired_of file)) (λ (file : RetiredFile _). IsOutside b l file.name)
       (λ file out. out file.name refl) trash
       (all_mapped Out retired_of trash (subst (AllByRecursion Out) (sym is)
-      (all_both (IsUnneeded (needed l)) (λ (r : Retired). (is_in r.file (files_of l.retired) ≡ true) × IsLogBelow core.back.state.head r.file) Out
+      (all_both (IsUnneeded (needed l)) (λ (r : Retired). (is_in r.file (files_of l.retired) ≡ true)
+      × IsLogBelow core.back.state.head r.file) Out
       each_out l.retired unneeded
       (all_both (λ (r : Retired). is_in r.file (files_of l.retired) ≡ true) (λ (r : Retired). IsLogBelow core.back.state.head r.file)
       (λ (r : Retired). (is_in r.file (files_of l.retired) ≡ true) × IsLogBelow core.back.state.head r.file)
@@ -150,7 +154,8 @@ module _ {H : Type 0} (core : Core H) (b : Base) (l : Layout) (head : core.back.
 
 -- so the active log is none of the files that wait
 pub waiting_not_active : {L : Type 0} (l : Layout) (trash : List (RetiredFile L)) → all_retired trash ≡ l.retired
-    → AllByRecursion (IsUnneeded (needed l)) l.retired → AllByRecursion (λ (file : RetiredFile L). names.Log l.active.number ≢ file.name) trash
+    → AllByRecursion (IsUnneeded (needed l)) l.retired
+    → AllByRecursion (λ (file : RetiredFile L). names.Log l.active.number ≢ file.name) trash
 waiting_not_active {L} l trash is unneeded = all_then (λ (file : RetiredFile L). NotActive l (retired_of file))
     (λ (file : RetiredFile L). names.Log l.active.number ≢ file.name) (λ file other. other file.name refl) trash
     (all_mapped (NotActive l) retired_of trash (subst (AllByRecursion (NotActive l)) (sym is) (not_active l unneeded)))

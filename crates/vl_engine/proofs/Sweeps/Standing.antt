@@ -1,5 +1,6 @@
 -- What a sweep comes to in memory, as the ruling has it.
-use Rattle.std.specs.Prelude.{if◌then◌else◌, ◌≡◌, ◌⊎◌, ◌≤◌, ◌+◌, ◌++◌, ℕ, Bool, List, [], ◌∷◌, length, map, take, Option, None, Some, Result, Ok, Err, true, false, refl}
+use Rattle.std.specs.Prelude.{if◌then◌else◌, ◌≡◌, ◌⊎◌, ◌≤◌, ◌+◌, ◌++◌, ℕ, Bool, List, [], ◌∷◌, length, map, take, Option, None}
+use Rattle.std.specs.Prelude.{Some, Result, Ok, Err, true, false, refl}
 use Rattle.std.specs.List.{AllByRecursion, filter, list_any}
 use Rattle.std.specs.Option.{option_map}
 use Rattle.std.specs.VecDeque.{deque_capacity, deque_len}
@@ -114,7 +115,8 @@ module _ {D W H : Type 0} (g : Ghosts D) (w : Writers W) {s : _} (old new : D) (
   pub leaves_open : (merging later : Option OpenMerge) → later ≡ merging → Opens merging l.job → (result : Result ℕ SweepFail)
       → Leaves (StandsFor bytes after) h l least (gone_before before now) result
       → Leaves (StandsOpen bytes after later) h l least (gone_before before now) result
-  leaves_open merging later same opens (Ok count) stands = record { stands = stands; opens = subst (λ (m : Option OpenMerge). Opens m l.job) (sym same) opens }
+  leaves_open merging later same opens (Ok count) stands =
+      record { stands = stands; opens = subst (λ (m : Option OpenMerge). Opens m l.job) (sym same) opens }
   leaves_open merging later same opens (Err (fails.Halted name)) stands =
       record { stands = stands; opens = subst (λ (m : Option OpenMerge). Opens m l.job) (sym same) opens }
   leaves_open merging later same opens (Err (fails.Disk name)) stands =
@@ -141,7 +143,8 @@ module _ {D W H : Type 0} (g : Ghosts D) (w : Writers W) {s : _} (old new : D) (
   pins_without : (files : List FileName) → ArePinsOf now.pins l → ArePinsOf now.pins (without_files files l)
   pins_without files are = record { live = are.live; merge = are.merge; pass = are.pass; last = are.last }
 
-  pins_halted : (name : FileName) (files : List FileName) → ArePinsOf now.pins l → ArePinsOf now.pins (halted_at name (without_files files l))
+  pins_halted : (name : FileName) (files : List FileName) → ArePinsOf now.pins l
+      → ArePinsOf now.pins (halted_at name (without_files files l))
   pins_halted name files are = record { live = are.live; merge = are.merge; pass = are.pass; last = are.last }
 
   uses_without : (logs : List _) (o : Option _) (files : List FileName) → UsesThoseOf {H = H} logs o l
@@ -176,13 +179,14 @@ module _ {D W H : Type 0} (g : Ghosts D) (w : Writers W) {s : _} (old new : D) (
       room = let room = (stock runs).room in let capacity = did.2.capacity in
           let old_len = before.stock.trash.ok.0 in let new_len = now.stock.trash.ok.0 in
           let less = subst (λ (files : List (RetiredFile (Lent W s))). length files ≤ length before.stock.trash.items) (sym did.2.waiting)
-              (shorter _ before.stock.trash.items) in
+          (shorter _ before.stock.trash.items) in
           omega (arith, room, capacity, old_len, new_len, less);
     };
     below = λ is_low runs. kept_below (swept least l) (removes.below is_low runs);
   })
   leaves_removes (Err (fails.Halted name)) did =
-      subst (λ (c : Core H). Removes low c now l) (sym did.1) (subst (λ (k : Removing (Lent W s)). Removes low core k l) (sym did.3) removes)
+      subst (λ (c : Core H). Removes low c now l) (sym did.1)
+      (subst (λ (k : Removing (Lent W s)). Removes low core k l) (sym did.3) removes)
   leaves_removes (Err (fails.Disk name)) did = record {
     pins = pins_halted (file_of name) (take (gone_before before now) (swept least l)) (pins_stay did.3);
     stock = λ runs. absurd (never (file_of name) runs);
@@ -197,7 +201,8 @@ module _ {D W H : Type 0} (g : Ghosts D) (w : Writers W) {s : _} (old new : D) (
       → Leaves (λ _ x. Collects after later x) h l least (gone_before before now) result
   leaves_collects kept later same has (Ok count) did =
       collects_same core after kept later (without_files (swept least l) l) (ap (λ (c : Core H). c.version.behind.logs.items) did.1) same
-      (collects_alike core kept l (without_files (swept least l) l) (record { frozen = refl; flushed = refl; levels = refl; pass = refl }) has)
+      (collects_alike core kept l (without_files (swept least l) l) (record { frozen = refl; flushed = refl; levels = refl; pass = refl })
+      has)
   leaves_collects kept later same has (Err (fails.Halted name)) did =
       collects_same core after kept later l (ap (λ (c : Core H). c.version.behind.logs.items) did.1) same has
   leaves_collects kept later same has (Err (fails.Disk name)) did =

@@ -351,6 +351,7 @@ module _ {D W : Type 0} (g : Ghosts D) (w : Writers W) {s : _} {H : Type 0} (cor
     where
       has_use : HasInUse core stock was
       has_use = is.files was is_was
+
       by : (o : Option (Lent W s)) → file.lent ≡ o → ⊥
       by None stood = unused_apart core.front.log.number (tables_in_use core.version stock.in_use) (logs_in_use core.version stock.in_use)
           file.name (standing_names before) (standing_names behind)
@@ -398,6 +399,7 @@ module _ {D W : Type 0} (g : Ghosts D) (w : Writers W) {s : _} {H : Type 0} (cor
     where
       has_use : HasInUse core stock was
       has_use = is.files was is_was
+
       by : (o : Option (Lent W s)) → file.lent ≡ o → ⊥
       by None stood = not_true (has n (tables_in_use core.version stock.in_use))
           (subst (λ (name : Name). is_unused core.front.log.number (tables_in_use core.version stock.in_use)
@@ -421,6 +423,7 @@ module _ {D W : Type 0} (g : Ghosts D) (w : Writers W) {s : _} {H : Type 0} (cor
     where
       has_use : HasInUse core stock was
       has_use = is.files was is_was
+
       by : (o : Option (Lent W s)) → file.lent ≡ o → ⊥
       by None stood = not_true (has n (logs_in_use core.version stock.in_use))
           (and_left (not (has n (logs_in_use core.version stock.in_use))) (not (n == core.front.log.number))
@@ -437,8 +440,10 @@ module _ {D W : Type 0} (g : Ghosts D) (w : Writers W) {s : _} {H : Type 0} (cor
     where
       active : ℕ
       active = core.front.log.number
+
       has_use : HasInUse core stock was
       has_use = is.files was is_was
+
       by : (o : Option (Lent W s)) → file.lent ≡ o → ⊥
       by None stood = not_true (active == active)
           (and_right (not (has active (logs_in_use core.version stock.in_use))) (not (active == active))
@@ -455,6 +460,7 @@ module _ {D W : Type 0} (g : Ghosts D) (w : Writers W) {s : _} {H : Type 0} (cor
     where
       has_use : HasInUse core stock was
       has_use = is.files was is_was
+
       by : (o : Option (Lent W s)) → file.lent ≡ o → ⊥
       by None stood = false_true (subst (λ (name : Name). is_unused core.front.log.number (tables_in_use core.version stock.in_use)
           (logs_in_use core.version stock.in_use) name ≡ true) (sym same)
@@ -553,6 +559,7 @@ module _ {D W : Type 0} (g : Ghosts D) (w : Writers W) {s : _} {H : Type 0} (cor
           → Log n ≢ file.name
       by_log n was is_was free None none = free_apart (Log n) was is_was free none
       by_log n was is_was free (Some x) some = log_apart n x some
+
       by_table : (n : ℕ) (was : DiskState) → g.told old ≡ Some was → next ≤ n → IsFree (Table n) was → (o : Option (Lent W s))
           → file.lent ≡ o → Table n ≢ file.name
       by_table n was is_was above free None none = free_apart (Table n) was is_was free none

@@ -77,7 +77,8 @@ module _ {L : Type 0} (bound : ℕ) where
       ∙ ap (λ (l : List (RetiredFile L)). l ++ filter (is_up_to bound) (file ∷ is.behind)) is.held
       ∙ filter_yes (is_up_to bound) file is.behind is.free
       ∙ ap (λ (l : List (RetiredFile L)). file ∷ l ++ filter (is_up_to bound) is.behind) (sym is.held)
-      ∙ ap (λ (l : List (RetiredFile L)). file ∷ l) (sym (filter_both (is_up_to bound) is.before is.behind) ∙ ap (ready bound) (sym is.new_are))
+      ∙ ap (λ (l : List (RetiredFile L)). file ∷ l)
+      (sym (filter_both (is_up_to bound) is.before is.behind) ∙ ap (ready bound) (sym is.new_are))
 
   pub taken_held : (old new : List (RetiredFile L)) (file : RetiredFile L) → IsTaken bound old new file
       → held bound old ≡ held bound new
@@ -173,19 +174,20 @@ module _ {D W H : Type 0} (g : Ghosts D) (w : Writers W) {s : _} (core : Core H)
       (subst (AllByRecursion (IsWaiting g w old core.back.state.next_table)) taken.old_are
       (recursion_from_All (IsWaiting g w old core.back.state.next_table) stock.trash.items is.waiting))
 
-  module _ (in_use : left.in_use ≡ stock.in_use) (new : D) (result : Result (Unit {0}) Failed) (one : RemovesOne g w file old new result) where
-    goes : Goes g (is_some file.lent) file.name old new
-    goes = one_goes g w file old new result (λ lent some. (taken_waits.left lent some).tells) one
+  module _ (in_use : left.in_use ≡ stock.in_use) (new : D) (result : Result (Unit {0}) Failed) (one : RemovesOne g w file old new result)
+    where
+      goes : Goes g (is_some file.lent) file.name old new
+      goes = one_goes g w file old new result (λ lent some. (taken_waits.left lent some).tells) one
 
-    pub taken_there : deque_len left.trash + 1 ≡ deque_len stock.trash → deque_capacity left.trash ≡ deque_capacity stock.trash
-        → IsThere g w new core merging left
-    taken_there len capacity = there_on g w core merging taken.before taken.behind file stock left taken.old_are taken.new_are in_use
-        old new goes is (omega (arith, len)) capacity
+      pub taken_there : deque_len left.trash + 1 ≡ deque_len stock.trash → deque_capacity left.trash ≡ deque_capacity stock.trash
+          → IsThere g w new core merging left
+      taken_there len capacity = there_on g w core merging taken.before taken.behind file stock left taken.old_are taken.new_are in_use
+          old new goes is (omega (arith, len)) capacity
 
-    pub taken_lent : AreLent g old core.back.state.next_table merging → AreLent g new core.back.state.next_table merging
-    taken_lent = lent_still g w core merging taken.before taken.behind file stock left taken.old_are taken.new_are in_use
-        old new goes is
+      pub taken_lent : AreLent g old core.back.state.next_table merging → AreLent g new core.back.state.next_table merging
+      taken_lent = lent_still g w core merging taken.before taken.behind file stock left taken.old_are taken.new_are in_use
+          old new goes is
 
-    pub taken_fit : ForSome (g.told old) (IsFitFor core) → ForSome (g.told new) (IsFitFor core)
-    taken_fit = fit_still g w core merging taken.before taken.behind file stock left taken.old_are taken.new_are in_use
-        old new goes is
+      pub taken_fit : ForSome (g.told old) (IsFitFor core) → ForSome (g.told new) (IsFitFor core)
+      taken_fit = fit_still g w core merging taken.before taken.behind file stock left taken.old_are taken.new_are in_use
+          old new goes is

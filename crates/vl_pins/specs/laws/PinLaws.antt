@@ -155,8 +155,10 @@ module _ (pins : Pins) (l : Layout) (are : ArePinsOf pins l) where
 
 -- and where it ends before the layout has it.
 pub pins_begun_ended : (pins : Pins) (l : Layout) → ArePinsOf pins l → IsRising (λ (x : Live). x.ticket) l.live
-    → ArePinsOf (record pins { live = oracle.ended (oracle.free_ticket pins.live)
-    (oracle.begun (raised l.version_number pins.live)) }) l
+    → ArePinsOf (record pins {
+      live = oracle.ended (oracle.free_ticket pins.live)
+          (oracle.begun (raised l.version_number pins.live));
+    }) l
 pins_begun_ended pins l are rising =
     let t = tickets.free_ticket (tickets_of l.live) in
     let then = pins_ended (record pins { live = oracle.begun (raised l.version_number pins.live) }) (begun l t 0)

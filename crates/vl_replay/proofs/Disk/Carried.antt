@@ -14,18 +14,18 @@ use Rattle.vl_layout.specs.Tidy.{IsTidy}
 use Rattle.vl_layout.specs.declared.layout.Layout.{Layout}
 use Rattle.vl_layout.specs.declared.live.Live.{Live}
 use Rattle.vl_model.specs.History.{History}
-use Rattle.vl_replay.specs.Durable.{CarriesOut, HoldsState, LeadsTo}
-use Rattle.vl_replay.specs.Halts.{HaltsByDisk}
+use Rattle.vl_sequential.specs.Durable.{CarriesOut, HoldsState, LeadsTo}
+use Rattle.vl_sequential.specs.Halts.{HaltsByDisk}
 use Rattle.vl_replay.specs.Replaying.{MakesStep, state_by}
-use Rattle.vl_replay.specs.Sequential.{State, history_of}
-use Rattle.vl_replay.specs.Stored.{IsStopped, IsStored}
-use Rattle.vl_replay.specs.declared.fails.Halt.{Halt}
+use Rattle.vl_sequential.specs.Sequential.{State, history_of}
+use Rattle.vl_sequential.specs.Stored.{IsStopped, IsStored}
+use Rattle.vl_sequential.specs.declared.fails.Halt.{Halt}
 use Rattle.vl_replay.specs.declared.replayer.open.Open.{Open}
-use Rattle.vl_replay.specs.laws.Growing.{Keeps}
+use Rattle.vl_sequential.specs.laws.Growing.{Keeps}
 use Rattle.vl_script.specs.declared.answer.Answer.{Answer}
-use Rattle.vl_replay.proofs.Disk.Betweens.{extends_same}
-use Rattle.vl_replay.proofs.Disk.DiskSteps.{IsWatched, opens_again, rests_until}
-use Rattle.vl_replay.proofs.Disk.Shown.{shown_stays, stored_exactly}
+use Rattle.vl_sequential.specs.laws.Betweens.{extends_same}
+use Rattle.vl_sequential.specs.laws.DiskSteps.{IsWatched, opens_again, rests_until}
+use Rattle.vl_sequential.specs.laws.ShownDisk.{shown_stays, stored_exactly}
 
 -- what lives is held by no disk
 live_base : (b : Base) (l : Layout) (live : List Live) (h : History) → IsBase b l h → IsBase b (record l { live = live }) h

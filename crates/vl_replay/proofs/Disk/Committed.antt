@@ -1,5 +1,5 @@
 -- What a commit does to a disk that holds the state before it, by what the engine carried out.
-use Rattle.std.proofs.Common.{◌≡◌, ◌≤◌, ℕ, ◌+◌, List, length, refl, ap, sym, ◌∙◌, subst, arith}
+use Rattle.std.proofs.Common.{◌≡◌, ◌≤◌, ℕ, ◌+◌, inl, List, length, refl, ap, sym, ◌∙◌, subst, arith}
 use Rattle.std.specs.Prelude.{Option, None, Some, Ok, Err, Result, OnOk, IsErrAnd, IsTrue, T}
 use Rattle.std.specs.FinMap.{entries, entries_sorted, is_sorted}
 use Rattle.std.specs.Option.{option_map}
@@ -45,23 +45,23 @@ use Rattle.vl_model.specs.Keys.{key_cmp}
 use Rattle.vl_model.specs.declared.change.Change.{Change}
 use Rattle.vl_model.specs.declared.counter.Counter.{Counter}
 use Rattle.vl_recover.specs.laws.crash.TornFrames as torn
-use Rattle.vl_replay.specs.Durable.{CarriesOut, CrashesShow, HoldsCommits, HoldsState, LeadsTo, StopsWithin, Tells}
-use Rattle.vl_replay.specs.Halts.{HaltsByDisk, HaltsByRead}
+use Rattle.vl_sequential.specs.Durable.{CarriesOut, CrashesShow, HoldsCommits, HoldsState, LeadsTo, StopsWithin, Tells}
+use Rattle.vl_sequential.specs.Halts.{HaltsByDisk, HaltsByRead}
 use Rattle.vl_replay.specs.Replaying.{StandsIn, state_by}
-use Rattle.vl_replay.specs.Sequential.{State, history_of}
+use Rattle.vl_sequential.specs.Sequential.{State, history_of}
 use Rattle.vl_replay.specs.Standing.{IsTransaction}
-use Rattle.vl_replay.specs.Stopped.{AreNumberedUpTo, Commits, append_failed, frame_behind, log_of, sync_failed}
-use Rattle.vl_replay.specs.Stored.{IsStopped, IsStored}
-use Rattle.vl_replay.specs.declared.fails.Halt.{Halt}
-use Rattle.vl_replay.specs.declared.fails.Halt.TheVariants as why
+use Rattle.vl_sequential.specs.Stopped.{AreNumberedUpTo, ByFrame, append_failed, frame_behind, log_of, sync_failed}
+use Rattle.vl_sequential.specs.Stored.{IsStopped, IsStored}
+use Rattle.vl_sequential.specs.declared.fails.Halt.{Halt}
+use Rattle.vl_sequential.specs.declared.fails.Halt.TheVariants as why
 use Rattle.vl_replay.specs.declared.replayer.open.Open.{Open}
-use Rattle.vl_replay.specs.laws.Growing.{Keeps, history_more}
+use Rattle.vl_sequential.specs.laws.Growing.{Keeps, history_more}
 use Rattle.vl_script.specs.declared.answer.Answer.{Answer}
 use Rattle.vl_seglog.specs.Frames.{frame_at, frames_grammar}
-use Rattle.vl_replay.proofs.Disk.Held.{stored_as, stored_by}
+use Rattle.vl_sequential.specs.laws.HeldDisk.{stored_as, stored_by}
 use Rattle.vl_replay.proofs.Names.CommitMaking.{answers_ruling, ruling_of}
 use Rattle.vl_replay.proofs.Names.Serving.{represents}
-use Rattle.vl_replay.proofs.Openings.Numbered.{changed_numbered}
+use Rattle.vl_sequential.specs.laws.Numbered.{changed_numbered}
 
 -- ---- a step by the answer on it
 
@@ -333,7 +333,7 @@ module _ {D H R : Type 0} (g : Ghosts D) (bytes : H → Option (List ℕ)) (befo
       abbrev whole : List ℕ
       whole = frame_behind s (commit_frame (history_of s) t.writes)
 
-      commits : HoldsState g IsStored s old → Commits IsStored s (state_by s (committing s name t b))
+      commits : HoldsState g IsStored s old → ByFrame IsStored s (state_by s (committing s name t b))
       commits held =
           let (disk, told, stored) = held.there in
           let has = subst (λ (n : ℕ). HasFrame (frames_grammar n) (commit_frame (history_of s) t.writes))
@@ -365,8 +365,7 @@ module _ {D H R : Type 0} (g : Ghosts D) (bytes : H → Option (List ℕ)) (befo
                 (changed_numbered s.files (log_of s) _ (appended (log_of s) whole (length whole) disk)
                 (changed_numbered s.files (log_of s) _ disk stored.numbered))
                 stored.next stored.next_log stored.next_drawn;
-            writes = t.writes;
-            one_more = ap (λ (x : Step). x.state.commits) step_then;
+            commits = inl (t.writes, ap (λ (x : Step). x.state.commits) step_then);
             files = refl;
           }
 

@@ -26,21 +26,21 @@ use Rattle.vl_layout.specs.declared.layout.Layout.{Layout}
 use Rattle.vl_mem.specs.laws.CrashChance.{IsTornByPieces}
 use Rattle.vl_model.specs.History.{History, last_number}
 use Rattle.vl_recover.specs.crash.Alike.{IsLeft}
-use Rattle.vl_replay.specs.Between.{ShowsBetween}
-use Rattle.vl_replay.specs.Durable.{CarriesOut, CrashesShow, HoldsCommits, HoldsState, LeadsTo, StopsWithin}
-use Rattle.vl_replay.specs.Halts.{HaltsByRead}
+use Rattle.vl_sequential.specs.Between.{ShowsBetween}
+use Rattle.vl_sequential.specs.Durable.{CarriesOut, CrashesShow, HoldsCommits, HoldsState, LeadsTo, StopsWithin}
+use Rattle.vl_sequential.specs.Halts.{HaltsByRead}
 use Rattle.vl_replay.specs.Replaying.{StandsIn, state_by}
-use Rattle.vl_replay.specs.Sequential.{State, history_of}
+use Rattle.vl_sequential.specs.Sequential.{State, history_of}
 use Rattle.vl_replay.specs.Standing.{told_keep}
-use Rattle.vl_replay.specs.Stopped.{AreNumberedUpTo, StopsStep, step_failed}
-use Rattle.vl_replay.specs.Stored.{IsStopped, IsStored}
-use Rattle.vl_replay.specs.declared.fails.Halt.{Halt}
-use Rattle.vl_replay.specs.declared.fails.Halt.TheVariants as why
+use Rattle.vl_sequential.specs.Stopped.{AreNumberedUpTo, StopsStep, step_failed}
+use Rattle.vl_sequential.specs.Stored.{IsStopped, IsStored}
+use Rattle.vl_sequential.specs.declared.fails.Halt.{Halt}
+use Rattle.vl_sequential.specs.declared.fails.Halt.TheVariants as why
 use Rattle.vl_replay.specs.declared.replayer.open.Open.{Open}
 use Rattle.vl_script.specs.declared.answer.Answer.{Answer}
 use Rattle.vl_replay.proofs.Disk.Committed.{numbered_still}
-use Rattle.vl_replay.proofs.Disk.DiskSteps.{IsWatched}
-use Rattle.vl_replay.proofs.Disk.Held.{stored_by}
+use Rattle.vl_sequential.specs.laws.DiskSteps.{IsWatched}
+use Rattle.vl_sequential.specs.laws.HeldDisk.{stored_by}
 use Rattle.vl_replay.proofs.Disk.Stepped.{at_each, at_most}
 use Rattle.vl_replay.proofs.Names.KeepMaking.{KeepsOf, keep_failed}
 use Rattle.vl_replay.proofs.Names.Serving.{represents}

@@ -1,23 +1,18 @@
--- What a plan line does to a disk that holds the state before it, by what carrying out the merge did.
-use Rattle.std.proofs.Common.{◌≡◌, ◌⊎◌, ⊎_elim, inl, inr, ℕ, zero, suc, ◌+◌, ◌<◌, ◌≤◌, List, [], length, refl, ap, sym, ◌∙◌, subst, arith}
-use Rattle.std.specs.Prelude.{Option, None, Some, Result, Ok, Err, IsTrue, OnOk}
+-- What a line that plans a merge does to a disk that holds the state before it, by what carrying out the merge did.
+use Rattle.std.proofs.Common.{◌≡◌, ◌⊎◌, inl, inr, ℕ, zero, suc, ◌+◌, ◌<◌, ◌≤◌, List, [], length, refl, ap, sym, ◌∙◌, subst, arith}
+use Rattle.std.specs.Prelude.{Option, None, Some, Result, Ok, Err, IsTrue}
 use Rattle.vl_disk.specs.DiskState.{DiskState}
-use Rattle.vl_disk.specs.Faults.{after_calls}
-use Rattle.vl_disk.specs.declared.name.Name.{Name as FileName}
-use Rattle.vl_disk.specs.declared.name.Name.TheVariants.{Table as TableFile}
 use Rattle.vl_disk.specs.declared.watched.Watched.{Ghosts}
 use Rattle.vl_core.specs.Held.{Base, Holds, IsBase}
 use Rattle.vl_core.specs.Pointed.{layout_logs}
 use Rattle.vl_core.specs.Represents as engine
 use Rattle.vl_core.specs.Shown.{Shown}
 use Rattle.vl_core.specs.declared.kept.Core.{Core}
-use Rattle.vl_layout.specs.Jobs.{Made, job_ended}
 use Rattle.vl_layout.specs.Merging.{outputs}
-use Rattle.vl_layout.specs.Rulings.Plan.{plan_ruling, with_job}
+use Rattle.vl_layout.specs.Rulings.Plan.{with_job}
 use Rattle.vl_layout.specs.Store.Commits.{Commits, history_in}
 use Rattle.vl_layout.specs.Store.Dispatch.{fill}
 use Rattle.vl_layout.specs.Store.Lines.{Name}
-use Rattle.vl_layout.specs.Store.Things as things
 use Rattle.vl_layout.specs.Store.Things.{Step, Thing, thing_of}
 use Rattle.vl_layout.specs.Tidy.{IsTidy}
 use Rattle.vl_layout.specs.declared.job.Job.{Job}
@@ -25,26 +20,26 @@ use Rattle.vl_layout.specs.declared.layout.Layout.{Layout}
 use Rattle.vl_model.specs.History.{History}
 use Rattle.vl_model.specs.Limits.{max_file_number}
 use Rattle.vl_model.specs.declared.counter.Counter.{Counter}
-use Rattle.vl_replay.specs.Drawn.{DrawsOn, drawn_all, drawn_state}
-use Rattle.vl_replay.specs.Durable.{CarriesOut, CrashesShow, HoldsCommits, HoldsState, LeadsTo, StopsWithin}
-use Rattle.vl_replay.specs.Failing.{IsTableBetween}
-use Rattle.vl_replay.specs.Halts.{HaltsByDisk, HaltsByRead}
+use Rattle.vl_replay.specs.Choosing.{line_for}
+use Rattle.vl_replay.specs.declared.replayer.choice.Choice.{Choice}
+use Rattle.vl_replay.specs.Drawn.{DrawsOn, drawn_state}
+use Rattle.vl_sequential.specs.Durable.{CrashesShow, HoldsCommits, HoldsState, LeadsTo, StopsWithin}
+use Rattle.vl_sequential.specs.Halts.{HaltsByDisk, HaltsByRead}
 use Rattle.vl_replay.specs.Replaying.{state_by_plan}
-use Rattle.vl_replay.specs.Sequential.{State, history_of, state_after, step_to}
-use Rattle.vl_replay.specs.Stopped.{AreNumberedUpTo, GivesUpTo, StopsStep, step_failed}
-use Rattle.vl_replay.specs.Stored.{IsStopped, IsStored}
-use Rattle.vl_replay.specs.declared.fails.Halt.{Halt}
-use Rattle.vl_replay.specs.declared.fails.Halt.TheVariants as halts
+use Rattle.vl_sequential.specs.Sequential.{State, history_of, state_after, step_to}
+use Rattle.vl_sequential.specs.Stopped.{AreNumberedUpTo, GivesUpTo, step_failed}
+use Rattle.vl_sequential.specs.Stored.{IsStopped, IsStored}
+use Rattle.vl_sequential.specs.declared.fails.Halt.{Halt}
+use Rattle.vl_sequential.specs.declared.fails.Halt.TheVariants as halts
 use Rattle.vl_replay.specs.declared.replayer.open.Open.{Open}
-use Rattle.vl_replay.specs.laws.Growing.{plan_commits}
-use Rattle.vl_replay.specs.laws.Laws.{IsSound}
+use Rattle.vl_sequential.specs.laws.Laws.{IsSound}
 use Rattle.vl_replay.specs.Standing.{Stand, open_in}
 use Rattle.vl_script.specs.declared.answer.Answer.{Answer}
 use Rattle.vl_script.specs.declared.answer.Answer.TheVariants as answers
-use Rattle.vl_script.specs.declared.line.Line.TheVariants as lines
-use Rattle.vl_replay.proofs.Disk.DiskSteps.{IsWatched}
-use Rattle.vl_replay.proofs.Disk.Held.{stored_by}
-use Rattle.vl_replay.proofs.Merges.Filling.{drawn_next, fill_more}
+use Rattle.vl_sequential.specs.laws.DiskSteps.{IsWatched}
+use Rattle.vl_sequential.specs.laws.HeldDisk.{stored_by}
+use Rattle.vl_replay.proofs.Merges.Choosing.{behind_for, commits_for, counted_step, files_for, step_for}
+use Rattle.vl_replay.proofs.Merges.Filling.{fill_more}
 use Rattle.vl_replay.proofs.Merges.Planned.{Plans, drawn_beside, planned_beside}
 use Rattle.vl_replay.proofs.Merges.Planning.{fills, planned_state, whole, whole_is}
 
@@ -128,7 +123,7 @@ drawn_none t disk stored = record {
 
 module _ {D H R : Type 0} (g : Ghosts D) (watched : IsWatched g) (bytes : H → Option (List ℕ)) (old new : D) (s : State)
     (name : Name) (j : Job)
-    (plans : Plans s.store.layout (history_of s) j) (os : List (Open H R))
+    (choice : Choice) (plans : Plans choice s.store.layout (history_of s) j) (os : List (Open H R))
     (names : Stand bytes os s.store.things (history_of s) s.store.layout)
     (sound : IsSound s) (running : s.store.layout.halted ≡ None) (bare : thing_of s.store name ≡ None) (free : open_in os name ≡ None)
     (tidy : IsTidy (layout_logs s.store.layout) s.store.layout (history_of s)) where
@@ -139,13 +134,13 @@ module _ {D H R : Type 0} (g : Ghosts D) (watched : IsWatched g) (bytes : H → 
   l = s.store.layout
 
   abbrev behind : State
-  behind = state_after s (lines.Plan name)
+  behind = state_after s (line_for choice name)
 
   abbrev line : Step
-  line = step_to s (lines.Plan name)
+  line = step_to s (line_for choice name)
 
   commits_stay : behind.store.commits ≡ s.store.commits
-  commits_stay = plan_commits s.store name (plan_ruling l h) (thing_of s.store name)
+  commits_stay = commits_for choice s name
 
   -- before it is carried out the disk holds the state with the open merge
   pub planned_held : (core : Core H) → (IsTrue s.openable → engine.Represents bytes core (g.told old) h (with_job j l))
@@ -171,7 +166,7 @@ module _ {D H R : Type 0} (g : Ghosts D) (watched : IsWatched g) (bytes : H → 
     -- so many calls it makes at least
     calls_least : (few : count ≤ length (outputs j)) → (count ≡ 0) ⊎ (l.next_table + count ≤ max_file_number + 1) → count ≤ line.calls
     calls_least few fits =
-        let same = ap (λ (x : Step). x.calls) (fills s name j plans running bare) in
+        let same = ap (λ (x : Step). x.calls) (step_for choice s name ∙ ap counted_step (fills s name j choice plans running bare)) in
         let least = of count few fits in omega (arith, same, least)
       where
         of : (n : ℕ) → n ≤ length (outputs j) → (n ≡ 0) ⊎ (l.next_table + n ≤ max_file_number + 1)
@@ -187,7 +182,8 @@ module _ {D H R : Type 0} (g : Ghosts D) (watched : IsWatched g) (bytes : H → 
         → behind.files ≡ s.files → HoldsState g IsStored s new
     unchanged_held fine few fits same =
         let least = calls_least few fits in
-        let none : count ≡ 0 = omega (arith, least, same) in
+        let made = files_for choice s name in
+        let none : count ≡ 0 = omega (arith, least, same, made) in
         let held = subst (λ (n : ℕ). HoldsState g IsStored (drawn_state n (planned_state j s)) new) none (drew.held fine) in
         record {
           calls = held.calls;
@@ -209,7 +205,7 @@ module _ {D H R : Type 0} (g : Ghosts D) (watched : IsWatched g) (bytes : H → 
     stops failed clean few fits =
         let (now, told, step) = drew.stopped failed clean in
         let more : count < line.calls = (
-        let same = ap (λ (x : Step). x.calls) (fills s name j plans running bare) in
+        let same = ap (λ (x : Step). x.calls) (step_for choice s name ∙ ap counted_step (fills s name j choice plans running bare)) in
         let some = fill_more s.store name j (outputs j) (with_job j l) [] 0 count running few fits in omega (arith, same, some)
         ) in
         record {
@@ -233,7 +229,7 @@ module _ {D H R : Type 0} (g : Ghosts D) (watched : IsWatched g) (bytes : H → 
             next = step.next;
             head = step.head;
             torn = step.torn;
-          }) (let up = step.few in omega (arith, more, up));
+          }) (let up = step.few in let made = files_for choice s name in omega (arith, more, up, made));
         }
 
     -- ---- by how it ended
@@ -261,8 +257,9 @@ module _ {D H R : Type 0} (g : Ghosts D) (watched : IsWatched g) (bytes : H → 
         answered : HoldsState g IsStored behind new
         answered =
             let held = subst (λ (n : ℕ). HoldsState g IsStored (drawn_state n (planned_state j s)) new) all (drew.held fine) in
-            subst (λ (x : Step). HoldsState g IsStored (state_by_plan s x) new)
-            (sym (whole_is s name j plans running bare total_fits)) (record {
+            subst (λ (t : State). HoldsState g IsStored t new) (sym (behind_for choice s name))
+            (subst (λ (x : Step). HoldsState g IsStored (state_by_plan s x) new)
+            (sym (whole_is s name j choice plans running bare total_fits)) (record {
               calls = held.calls;
               there = (
                 held.there.0,
@@ -270,7 +267,7 @@ module _ {D H R : Type 0} (g : Ghosts D) (watched : IsWatched g) (bytes : H → 
                 things_stored (drawn_state (length (outputs j)) (planned_state j s)) (whole s name j).state.things
                     held.there.0 held.there.2,
               );
-            })
+            }))
 
     -- it stopped without an answer
     pub halted_leads : (halt : Halt) → result ≡ Err halt → (few : count ≤ length (outputs j)) → (count ≡ 0)

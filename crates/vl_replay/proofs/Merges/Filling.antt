@@ -1,9 +1,9 @@
 -- What a plan line comes to in the sequential store, by how many numbers were drawn.
-use Rattle.std.proofs.Common.{◌≡◌, ◌⊎◌, ⊎_elim, inl, inr, ℕ, zero, suc, ◌+◌, ◌<◌, ◌≤◌, Bool, true, false, cond, List}
-use Rattle.std.proofs.Common.{[], ◌∷◌, ◌++◌, length, refl, ap, sym, ◌∙◌, subst, arith}
+use Rattle.std.proofs.Common.{◌≡◌, ◌⊎◌, inl, inr, ℕ, zero, suc, ◌+◌, ◌<◌, ◌≤◌, Bool, true, false, cond, List}
+use Rattle.std.proofs.Common.{[], ◌∷◌, ◌++◌, length, refl, ap, sym, ◌∙◌, arith}
 use Rattle.std.proofs.lemmas.Bool.Decides.{nat_tests}
 use Rattle.std.proofs.lemmas.List.{append_assoc, append-nil}
-use Rattle.std.specs.Prelude.{Option, None, Some, nat_lt}
+use Rattle.std.specs.Prelude.{Option, None, Some}
 use Rattle.vl_layout.specs.Jobs.{Made, job_ended}
 use Rattle.vl_layout.specs.Merging.{kept}
 use Rattle.vl_layout.specs.Ruling.{Ruling, has_no_number, leaving}

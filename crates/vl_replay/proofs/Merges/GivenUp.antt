@@ -1,12 +1,11 @@
--- A plan line whose merge was given up: no number was left for a table, or it stopped without an answer.
-use Rattle.std.proofs.Common.{◌≡◌, ◌⊎◌, ⊎_elim, inl, inr, ℕ, ◌+◌, ◌-◌, ◌<◌, ◌≤◌, false, List, [], length, refl, ap, sym, ◌∙◌, subst, arith}
+-- A line that plans a merge, which was given up: no number was left for a table, or it stopped without an answer.
+use Rattle.std.proofs.Common.{◌≡◌, ⊎_elim, inr, ℕ, ◌+◌, ◌-◌, ◌<◌, ◌≤◌, false, List, [], length, refl, ap, sym, ◌∙◌, subst, arith}
 use Rattle.std.proofs.lemmas.Bool.{cases_lt}
 use Rattle.std.specs.Prelude.{Option, None, Some, Result, Ok, Err, IsTrue}
 use Rattle.std.specs.Option.{is_some, option_map}
 use Rattle.vl_compact.specs.declared.job.Job.{Job as TheJob}
 use Rattle.vl_disk.specs.DiskState.{DiskState}
 use Rattle.vl_disk.specs.declared.name.Name.{Name as FileName}
-use Rattle.vl_disk.specs.declared.name.Name.TheVariants.{Table as TableFile}
 use Rattle.vl_disk.specs.declared.watched.Watched.{Ghosts}
 use Rattle.vl_disk.specs.declared.writer.Writer.{Ghosts as Writers}
 use Rattle.vl_engine.specs.Merging.{StandsOpen}
@@ -19,10 +18,10 @@ use Rattle.vl_layout.specs.Jobs.{AreLent, Made, job_ended}
 use Rattle.vl_layout.specs.Merging.{outputs}
 use Rattle.vl_layout.specs.Ruling.{pin_of}
 use Rattle.vl_layout.specs.Rulings.Abandon.{abandon_ruling}
-use Rattle.vl_layout.specs.Rulings.Plan.{plan_ruling, with_job}
+use Rattle.vl_layout.specs.Rulings.Plan.{with_job}
 use Rattle.vl_layout.specs.Store.Commits.{Commits, history_in}
 use Rattle.vl_layout.specs.Store.Lines.{Name}
-use Rattle.vl_layout.specs.Store.Things.{AJob, Step, Thing, thing_in, thing_of}
+use Rattle.vl_layout.specs.Store.Things.{AJob, Step, thing_in, thing_of}
 use Rattle.vl_layout.specs.declared.job.Job.{Job}
 use Rattle.vl_layout.specs.declared.job.OpenJob.{OpenJob}
 use Rattle.vl_layout.specs.declared.layout.Layout.{Layout}
@@ -30,32 +29,33 @@ use Rattle.vl_model.specs.History.{History}
 use Rattle.vl_model.specs.Limits.{max_file_number}
 use Rattle.vl_model.specs.declared.counter.Counter.{Counter}
 use Rattle.vl_version.specs.declared.base.Base.{Base}
+use Rattle.vl_replay.specs.Choosing.{line_for}
+use Rattle.vl_replay.specs.declared.replayer.choice.Choice.{Choice}
 use Rattle.vl_replay.specs.Drawn.{DrawsOn, EndsMerging, IsServing, Merged, drawn_all, drawn_state, numbers_from}
-use Rattle.vl_replay.specs.Durable.{CarriesOut, CrashesShow, HoldsState, LeadsTo}
-use Rattle.vl_replay.specs.Failing.{FailsAt, HasTables}
-use Rattle.vl_replay.specs.Halts.{HaltsByDamage, HaltsByDisk, HaltsByRead, HaltsByReader}
+use Rattle.vl_sequential.specs.Durable.{CarriesOut, CrashesShow, HoldsState, LeadsTo}
+use Rattle.vl_sequential.specs.Failing.{FailsAt, HasTables}
+use Rattle.vl_sequential.specs.Halts.{HaltsByDamage, HaltsByDisk, HaltsByRead, HaltsByReader}
 use Rattle.vl_replay.specs.Replaying.{MakesStep, Merges, StandsIn, state_by_plan}
-use Rattle.vl_replay.specs.Sequential.{State, history_of, state_after, step_to}
-use Rattle.vl_replay.specs.Stopped.{AreNumberedUpTo}
-use Rattle.vl_replay.specs.Stored.{IsStopped, IsStored}
-use Rattle.vl_replay.specs.declared.fails.Halt.{Halt}
-use Rattle.vl_replay.specs.declared.fails.Halt.TheVariants as halts
+use Rattle.vl_sequential.specs.Sequential.{State, history_of, state_after, step_to}
+use Rattle.vl_sequential.specs.Stopped.{AreNumberedUpTo}
+use Rattle.vl_sequential.specs.Stored.{IsStopped, IsStored}
+use Rattle.vl_sequential.specs.declared.fails.Halt.{Halt}
+use Rattle.vl_sequential.specs.declared.fails.Halt.TheVariants as halts
 use Rattle.vl_replay.specs.declared.replayer.open.Open.{Open}
-use Rattle.vl_replay.specs.laws.Growing.{plan_commits}
 use Rattle.vl_replay.specs.Standing.{open_in}
 use Rattle.vl_script.specs.declared.answer.Answer.{Answer}
 use Rattle.vl_script.specs.declared.answer.Answer.TheVariants as answers
-use Rattle.vl_script.specs.declared.line.Line.TheVariants as lines
-use Rattle.vl_replay.proofs.Disk.Betweens.{extends_same}
-use Rattle.vl_replay.proofs.Disk.DiskSteps.{IsWatched, opens_again, rests_until}
-use Rattle.vl_replay.proofs.Disk.Held.{stored_by}
-use Rattle.vl_replay.proofs.Disk.Shown.{shown_stays, stored_exactly}
+use Rattle.vl_sequential.specs.laws.Betweens.{extends_same}
+use Rattle.vl_sequential.specs.laws.DiskSteps.{IsWatched, opens_again, rests_until}
+use Rattle.vl_sequential.specs.laws.HeldDisk.{stored_by}
+use Rattle.vl_sequential.specs.laws.ShownDisk.{shown_stays, stored_exactly}
 use Rattle.vl_replay.proofs.Merges.Carrying.{halted_leads}
+use Rattle.vl_replay.proofs.Merges.Choosing.{behind_for, commits_for, fails_for}
 use Rattle.vl_replay.proofs.Merges.Filling.{drawn_next}
 use Rattle.vl_replay.proofs.Merges.Planned.{Plans}
 use Rattle.vl_replay.proofs.Merges.PlanLine.{WasMerged}
 use Rattle.vl_replay.proofs.Merges.Planning.{given_up, given_up_is, given_up_makes, given_up_waits, lent_there, made}
-use Rattle.vl_replay.proofs.Merges.Planning.{planned_state, some_lent, total_of, whole, whole_is}
+use Rattle.vl_replay.proofs.Merges.Planning.{planned_state, some_lent, total_of, whole_is}
 
 -- where none waits there is none
 pub none_of : {T : Type 0} (o : Option T) → is_some o ≡ false → o ≡ None
@@ -84,10 +84,11 @@ not_halted bytes core h l stands running = unmapped core.front.halted engine.fil
 
 -- ---- memory ran out before one was planned
 
-pub unplanned_leads : {D : Type 0} (g : Ghosts D) (watched : IsWatched g) (old new : D) → new ≡ old → (s : State) (name : Name)
-    → CarriesOut {T = Answer} g IsStored Shown IsStopped old new s (state_after s (lines.Plan name)) (Err halts.NoMemory)
-unplanned_leads {D} g watched old new same s name held =
-    let after : State = state_after s (lines.Plan name) in
+pub unplanned_leads : {D : Type 0} (g : Ghosts D) (watched : IsWatched g) (old new : D) → new ≡ old
+    → (choice : Choice) (s : State) (name : Name)
+    → CarriesOut {T = Answer} g IsStored Shown IsStopped old new s (state_after s (line_for choice name)) (Err halts.NoMemory)
+unplanned_leads {D} g watched old new same choice s name held =
+    let after : State = state_after s (line_for choice name) in
     subst (λ (d : D). LeadsTo {T = Answer} g IsStored Shown IsStopped old d s after (Err halts.NoMemory)) (sym same) (record {
       answered = tt;
       no_commit = λ out. (s, refl, refl, held.there);
@@ -96,7 +97,7 @@ unplanned_leads {D} g watched old new same s name held =
       tells = opens_again g watched IsStored Shown IsStopped shown_stays stored_exactly s old held;
       through = rests_until g watched IsStored Shown IsStopped shown_stays stored_exactly s (history_of after)
           (extends_same (history_of s) (history_of after)
-          (ap history_in (plan_commits s.store name (plan_ruling s.store.layout (history_of s)) (thing_of s.store name)))) old held;
+          (ap history_in (commits_for choice s name))) old held;
       stopped = λ by. absurd by;
     })
 
@@ -153,28 +154,30 @@ module _ {H : Type 0} (bytes : H → Option (List ℕ)) (seen now : Option DiskS
 -- ---- the line
 
 -- where one more number might be drawn, the line draws it
-pub next_above : (s : State) (name : Name) (j : Job) → Plans s.store.layout (history_of s) j
+pub next_above : (s : State) (name : Name) (j : Job) (choice : Choice) → Plans choice s.store.layout (history_of s) j
     → s.store.layout.halted ≡ None → thing_of s.store name ≡ None
     → (count : ℕ) → count < total_of j → s.store.layout.next_table + count ≤ max_file_number
-    → s.store.layout.next_table + count < (state_after s (lines.Plan name)).store.layout.next_table
-next_above s name j plans running bare count few fits =
+    → s.store.layout.next_table + count < (state_after s (line_for choice name)).store.layout.next_table
+next_above s name j choice plans running bare count few fits =
     ⊎_elim
     (λ (less : max_file_number + 1 < s.store.layout.next_table + total_of j).
     let most : ℕ = (max_file_number + 1) - s.store.layout.next_table in
-    let step = given_up_is s name j plans running bare most (omega (arith, less, fits)) (inr (omega (arith, fits))) (omega (arith, fits)) in
+    let step = given_up_is s name j choice plans running bare most (omega (arith, less, fits)) (inr (omega (arith, fits)))
+    (omega (arith, fits)) in
     let next = ap (λ (x : Step). x.state.layout.next_table) step ∙ drawn_next most (with_job j s.store.layout) in
     omega (arith, next, fits))
     (λ (all : s.store.layout.next_table + total_of j ≤ max_file_number + 1).
-    let step = whole_is s name j plans running bare (inr all) in
+    let step = whole_is s name j choice plans running bare (inr all) in
     let next = ap (λ (x : Step). x.state.layout.next_table) step ∙ drawn_next (total_of j) (with_job j s.store.layout) in
     omega (arith, next, few))
     (cases_lt (max_file_number + 1) (s.store.layout.next_table + total_of j))
 
 module _ {D W H R : Type 0} (g : Ghosts D) (watched : IsWatched g) (w : Writers W) (bytes : H → Option (List ℕ)) {k : Writers W}
     (old new : D) (before core : Core H) (merging : Option OpenMerge) (os : List (Open H R)) (s : State)
-    (stands : StandsIn bytes (g.told old) before os s) (name : Name) (bare : thing_of s.store name ≡ None) (free : open_in os name ≡ None)
+    (stands : StandsIn bytes (g.told old) before os s) (choice : Choice) (name : Name) (bare : thing_of s.store name ≡ None)
+    (free : open_in os name ≡ None)
     (job : TheJob (Base H R) H W k) (result : Result (Option Counter) Halt)
-    (was : WasMerged g w bytes old new core merging job s result) where
+    (was : WasMerged g w bytes old new core merging job choice s result) where
   abbrev h : History
   h = history_of s
 
@@ -182,12 +185,12 @@ module _ {D W H R : Type 0} (g : Ghosts D) (watched : IsWatched g) (w : Writers 
   l = s.store.layout
 
   abbrev behind : State
-  behind = state_after s (lines.Plan name)
+  behind = state_after s (line_for choice name)
 
   abbrev j : Job
   j = was.j
 
-  abbrev plans : Plans s.store.layout (history_of s) was.j
+  abbrev plans : Plans choice s.store.layout (history_of s) was.j
   plans = was.plans
 
   abbrev merged : Merged g w bytes old new core merging job (planned_state was.j s) was.j result
@@ -210,39 +213,40 @@ module _ {D W H R : Type 0} (g : Ghosts D) (watched : IsWatched g) (w : Writers 
     its_serves : IsServing bytes now after merging' (ended_state s name j merged.count)
     its_serves = ended_serves bytes (g.told new) now core after merging merging' did s name j merged.count merged.few (merged.serves fine)
 
-    pub exhausted_makes : MakesStep bytes now after os s (step_to s (lines.Plan name)) (Ok (answers.Exhausted counter))
-    exhausted_makes = given_up_makes bytes now after os s name j plans stands.names stands.sound stands.running bare
+    pub exhausted_makes : MakesStep bytes now after os s (step_to s (line_for choice name)) (Ok (answers.Exhausted counter))
+    exhausted_makes = given_up_makes bytes now after os s name j choice plans stands.names stands.sound stands.running bare
         free merging' merged.count ends.0 merged.fits ends.2
         its_serves counter ends.1
 
     pub exhausted_merges : {m : Writers W}
         → ((other : Name) (job' : Job) (made' : Made) → thing_in s.store.things other ≡ Some (AJob job' made') → ⊥)
-        → let x = step_to s (lines.Plan name) in Merges {H = H} {R = R} w bytes {g = m} merging' None x.state.things x.state.layout
-    exhausted_merges {m} none = given_up_waits bytes now after os s name j plans stands.names stands.sound
+        → let x = step_to s (line_for choice name) in Merges {H = H} {R = R} w bytes {g = m} merging' None x.state.things x.state.layout
+    exhausted_merges {m} none = given_up_waits bytes now after os s name j choice plans stands.names stands.sound
         stands.running bare free merging' merged.count ends.0 merged.fits ends.2
         its_serves w m none
 
     pub exhausted_leads : now ≡ g.told new → HoldsState g IsStored s old
         → LeadsTo {T = Answer} g IsStored Shown IsStopped old new s behind (Ok (answers.Exhausted counter))
     exhausted_leads same held = record {
-      answered = subst (λ (x : Step). HoldsState g IsStored (state_by_plan s x) new) (sym step) (record {
-        calls = (drawn.held fine).calls;
-        there = stored_by bytes after (g.told new) (state_by_plan s (given_up s name j merged.count)) h
-            (ended_layout s name j merged.count) refl refl
-            its.openable its_serves.running
-            (subst (λ (d : Option DiskState). engine.Represents bytes after d h (ended_layout s name j merged.count)) same
-            (ended_represents bytes (g.told new) now core after merging merging' did s name j merged.count merged.few
-            (merged.serves fine) its.openable))
-            its_serves.within its.next_log its.next_drawn
-            (λ state told. subst (AreNumberedUpTo (s.files + merged.count))
-            (some_same (drawn.held fine).there.0 state (sym (drawn.held fine).there.1 ∙ told)) its.numbered);
-      });
+      answered = subst (λ (t : State). HoldsState g IsStored t new) (sym (behind_for choice s name))
+          (subst (λ (x : Step). HoldsState g IsStored (state_by_plan s x) new) (sym step) (record {
+            calls = (drawn.held fine).calls;
+            there = stored_by bytes after (g.told new) (state_by_plan s (given_up s name j merged.count)) h
+                (ended_layout s name j merged.count) refl refl
+                its.openable its_serves.running
+                (subst (λ (d : Option DiskState). engine.Represents bytes after d h (ended_layout s name j merged.count)) same
+                (ended_represents bytes (g.told new) now core after merging merging' did s name j merged.count merged.few
+                (merged.serves fine) its.openable))
+                its_serves.within its.next_log its.next_drawn
+                (λ state told. subst (AreNumberedUpTo (s.files + merged.count))
+                (some_same (drawn.held fine).there.0 state (sym (drawn.held fine).there.1 ∙ told)) its.numbered);
+          }));
       no_commit = λ out. absurd cc;
       unread = λ by. absurd by;
       unchanged = λ by still. absurd by;
       tells = drawn.tells;
       through = subst (λ (p : Commits). CrashesShow g Shown old new h (history_in p))
-          (sym (plan_commits s.store name (plan_ruling l h) (thing_of s.store name))) drawn.through;
+          (sym (commits_for choice s name)) drawn.through;
       stopped = λ by. absurd by;
     }
       where
@@ -252,8 +256,8 @@ module _ {D W H R : Type 0} (g : Ghosts D) (watched : IsWatched g) (w : Writers 
         its : IsStored (drawn_state merged.count (planned_state j s)) (drawn.held fine).there.0
         its = (drawn.held fine).there.2
 
-        step : step_to s (lines.Plan name) ≡ given_up s name j merged.count
-        step = given_up_is s name j plans stands.running bare merged.count ends.0 merged.fits ends.2
+        step : step_to s (line_for choice name) ≡ given_up s name j merged.count
+        step = given_up_is s name j choice plans stands.running bare merged.count ends.0 merged.fits ends.2
 
   -- ---- it stopped without an answer
 
@@ -270,7 +274,7 @@ module _ {D W H R : Type 0} (g : Ghosts D) (watched : IsWatched g) (w : Writers 
     where_failed (halts.Damaged file place) far by = absurd by
 
     pub stopped_leads : HoldsState g IsStored s old → LeadsTo {T = Answer} g IsStored Shown IsStopped old new s behind (Err halt)
-    stopped_leads held = halted_leads g watched bytes old new s name j plans os stands.names stands.sound stands.running
+    stopped_leads held = halted_leads g watched bytes old new s name j choice plans os stands.names stands.sound stands.running
         bare free stands.engine.tidy
         merged.count result (drew held) halt is merged.few merged.fits
         (λ by. where_failed halt stopped_ends (subst (λ (r : Result (Option Counter) Halt). HaltsByDisk r) is by))
@@ -288,20 +292,20 @@ module _ {D W H R : Type 0} (g : Ghosts D) (watched : IsWatched g) (w : Writers 
         of (halts.Damaged file place) far damaged = far
 
     pub stopped_named : (manifest : ℕ) (file : FileName)
-        → ◌≡◌ {A = Result Answer Halt} (Err halt) (Err (halts.Disk file)) → FailsAt manifest (lines.Plan name) s file
+        → ◌≡◌ {A = Result Answer Halt} (Err halt) (Err (halts.Disk file)) → FailsAt manifest (line_for choice name) s file
     stopped_named manifest file at = of halt stopped_ends (same_halt at)
       where
         same_halt : ◌≡◌ {A = Result Answer Halt} (Err halt) (Err (halts.Disk file)) → halt ≡ halts.Disk file
         same_halt e = cc
 
         of : (e : Halt) → EndsMerging w bytes job (planned_state j s) j merged.count (Err e) → e ≡ halts.Disk file
-            → FailsAt manifest (lines.Plan name) s file
+            → FailsAt manifest (line_for choice name) s file
         of halts.NoMemory far same = absurd cc
-        of (halts.Disk other) far same = (
+        of (halts.Disk other) far same = fails_for choice manifest s name file (
           l.next_table + merged.count,
           sym (its_file other same) ∙ far.2,
           omega arith,
-          next_above s name j plans stands.running bare merged.count far.0 far.1,
+          next_above s name j choice plans stands.running bare merged.count far.0 far.1,
         )
           where
             its_file : (f : FileName) → halts.Disk f ≡ halts.Disk file → f ≡ file

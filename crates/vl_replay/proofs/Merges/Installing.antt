@@ -4,7 +4,7 @@ use Rattle.std.proofs.Common.{◌∷◌, ◌++◌, map, refl, ap, sym, ◌∙◌
 use Rattle.std.proofs.lemmas.Bool.Decides.{nat_tests}
 use Rattle.std.proofs.lemmas.List.Elements.{recursion_from_All}
 use Rattle.std.specs.List.{AllByRecursion, AllZip}
-use Rattle.std.specs.Option.{option_map}
+use Rattle.std.specs.Option.{ForSome, option_map}
 use Rattle.std.specs.Prelude.{◌≢◌, Option, None, Some, IsSome, Ok, Err, Result, OnOk, nat_le}
 use Rattle.vl_back.specs.Writing.{IsKept}
 use Rattle.vl_compact.specs.Progress.{IsTableFile, made_of}
@@ -25,6 +25,7 @@ use Rattle.vl_disk.specs.declared.writer.Writer.{Ghosts as Writers}
 use Rattle.vl_disk.specs.laws.NameMap.{get_inserted, get_inserted_other, same_or_other}
 use Rattle.std.specs.FinMap.{get}
 use Rattle.vl_core.specs.Carries.{Carries}
+use Rattle.vl_engine.specs.Collecting.{Collects}
 use Rattle.vl_engine.specs.Installing.{InstallFailed, InstallLeavesDisk, IsHandedIn, KeepsAllBut, MayInstall}
 use Rattle.vl_engine.specs.Installing.{StopsInstall, StopsSwitching, WritesInstall, at_manifest, at_table}
 use Rattle.vl_engine.specs.Installing.{install_otherwise, numbers_in}
@@ -36,9 +37,11 @@ use Rattle.vl_core.specs.Represents.{IsHeld, IsLive}
 use Rattle.vl_core.specs.Shown.{Shown}
 use Rattle.vl_core.specs.MayStep.{AreLogFiles, Fits, LeavesNumbers, MayStep}
 use Rattle.vl_engine.specs.Taking.{StopsTaking, Takes, file_in, file_of_table, with_files}
+use Rattle.vl_engine.specs.UnderWay.{IsUnderWay}
 use Rattle.vl_engine.specs.declared.fails.InstallFail.{InstallFail}
 use Rattle.vl_engine.specs.declared.fails.InstallFail.TheVariants as uninstalled
 use Rattle.vl_core.specs.declared.kept.Core.{Core}
+use Rattle.vl_engine.specs.declared.open.Collecting.{Collecting}
 use Rattle.vl_engine.specs.declared.open.OpenMerge.{OpenMerge}
 use Rattle.vl_core.specs.laws.InstallRulings.{GoesOn, install_made_so, install_version}
 use Rattle.vl_layout.specs.Decides.{Answered, Decides}
@@ -46,7 +49,7 @@ use Rattle.vl_layout.specs.Jobs.{AreLent, Made, tables_made}
 use Rattle.vl_layout.specs.Merging.{outputs}
 use Rattle.vl_layout.specs.Ruling.{Ruling}
 use Rattle.vl_layout.specs.Rulings.Install as rulings
-use Rattle.vl_layout.specs.Rulings.Install.{InstallAnswer, install_ruling}
+use Rattle.vl_layout.specs.Rulings.Install.{InstallAnswer, install_ruling, race}
 use Rattle.vl_layout.specs.Sources.{numbers_of}
 use Rattle.vl_layout.specs.Store.Dispatch.{install_by, install_told}
 use Rattle.vl_layout.specs.Store.Lines as store_lines
@@ -66,40 +69,40 @@ use Rattle.vl_model.specs.declared.entry.Entry.{Entry}
 use Rattle.vl_recover.specs.crash.Alike.{IsLeft}
 use Rattle.vl_recover.specs.crash.Held.{AllSettled}
 use Rattle.vl_version.specs.declared.base.Base.{Base}
-use Rattle.vl_replay.specs.Between.{ShowsBetween}
-use Rattle.vl_replay.specs.Durable.{CarriesOut, CrashesShow, HoldsCommits, HoldsState, LeadsTo, StopsWithin}
-use Rattle.vl_replay.specs.Failing.{IsTableOf}
-use Rattle.vl_replay.specs.Halts.{HaltsByDisk, HaltsByRead}
+use Rattle.vl_sequential.specs.Between.{ShowsBetween}
+use Rattle.vl_sequential.specs.Durable.{CarriesOut, CrashesShow, HoldsCommits, HoldsState, LeadsTo, StopsWithin}
+use Rattle.vl_sequential.specs.Failing.{IsTableOf}
+use Rattle.vl_sequential.specs.Halts.{HaltsByDisk, HaltsByRead}
 use Rattle.vl_replay.specs.Handed.{CanHandIn}
 use Rattle.vl_replay.specs.Replaying.{IsWaiting, MakesStep, Merges, StandsIn, TakesPlanned, Waits, state_by}
-use Rattle.vl_replay.specs.Sequential.{IsTold, State, history_of, state_after, step_to, without_lengths}
+use Rattle.vl_sequential.specs.Sequential.{IsTold, State, history_of, state_after, step_to, without_lengths}
 use Rattle.vl_replay.specs.Standing.{Corresponds, Stand, open_in}
-use Rattle.vl_replay.specs.Stopped.{AreNumberedUpTo, StopsStep, step_failed}
-use Rattle.vl_replay.specs.Stored.{IsStopped, IsStored}
-use Rattle.vl_replay.specs.declared.fails.Halt.{Halt}
-use Rattle.vl_replay.specs.declared.fails.Halt.TheVariants as why
+use Rattle.vl_sequential.specs.Stopped.{AreNumberedUpTo, StopsStep, step_failed}
+use Rattle.vl_sequential.specs.Stored.{IsStopped, IsStored}
+use Rattle.vl_sequential.specs.declared.fails.Halt.{Halt}
+use Rattle.vl_sequential.specs.declared.fails.Halt.TheVariants as why
 use Rattle.vl_replay.specs.declared.replayer.open.Open.{Open}
 use Rattle.vl_replay.specs.declared.replayer.open.Thing.{Thing as OpenThing}
 use Rattle.vl_replay.specs.declared.replayer.open.Thing.TheVariants.{Transaction, View}
 use Rattle.vl_replay.specs.declared.replayer.planned.Planned.{Planned}
-use Rattle.vl_replay.specs.laws.Growing.{Keeps}
-use Rattle.vl_replay.specs.laws.Laws.{IsSound, state_after-sound}
+use Rattle.vl_sequential.specs.laws.Growing.{Keeps}
+use Rattle.vl_sequential.specs.laws.Laws.{IsSound, state_after-sound}
 use Rattle.vl_script.specs.declared.answer.Answer.{Answer}
 use Rattle.vl_script.specs.declared.answer.Answer.TheVariants as answers
 use Rattle.vl_script.specs.declared.line.Line.TheVariants as lines
-use Rattle.vl_replay.proofs.Disk.Betweens.{extends_itself}
+use Rattle.vl_sequential.specs.laws.Betweens.{extends_itself}
 use Rattle.vl_replay.proofs.Disk.Carried.{quiet_carries}
-use Rattle.vl_replay.proofs.Disk.DiskSteps.{IsWatched}
-use Rattle.vl_replay.proofs.Disk.Held.{stored_by}
+use Rattle.vl_sequential.specs.laws.DiskSteps.{IsWatched}
+use Rattle.vl_sequential.specs.laws.HeldDisk.{stored_by}
 use Rattle.vl_replay.proofs.Disk.Stepped.{at_each, at_most}
-use Rattle.vl_replay.proofs.Merges.Handing.{handed_in}
-use Rattle.vl_replay.proofs.Merges.Installs.{InstallsOf, IsNoHalt, install_installs, unraced}
+use Rattle.vl_replay.proofs.Merges.Handing.{handed_back, handed_in}
+use Rattle.vl_replay.proofs.Merges.Installs.{InstallsOf, IsNoHalt, install_installs}
 use Rattle.vl_replay.proofs.Names.Ending.{still_stands}
 use Rattle.vl_replay.proofs.Names.Lookups.{taken_none, thing_gone, thing_left}
 use Rattle.vl_replay.proofs.Names.Making.{only_makes}
 use Rattle.vl_replay.proofs.Names.Serving.{represents}
 use Rattle.vl_replay.proofs.Names.Standings.{same_or_not, stands_without}
-use Rattle.vl_replay.proofs.Trials.TornSteps.{settled_torn, switching_torn}
+use Rattle.vl_sequential.specs.laws.TornSteps.{settled_torn, switching_torn}
 
 none_some : {T : Type 0} (x : T) → None ≡ Some x → ⊥
 none_some x e = cc
@@ -143,6 +146,14 @@ pub handed_so : {D V H W : Type 0} (g : Ghosts D) (w : Writers W) {k : _} (disk 
     → CanHandIn g w disk merging old → IsHandedIn g w disk halted merging job
 handed_so g w disk halted merging name old new job was can =
     handed_in g w disk halted merging job (can (waiting_as was.its_name job) was.is)
+
+-- and given up, where it was handed back as it was and the disk was left alone
+pub back_so : {D V H W : Type 0} (g : Ghosts D) (w : Writers W) {k : _} (old new : D) (halted : Option FileName)
+    (merging merging' : Option OpenMerge) (name : Name) (before after : Option (Planned V H W k)) (job back : TheJob V H W k)
+    → WasPlanned name before after job → CanHandIn g w old merging before → (back ≡ job) × (merging' ≡ merging)
+    → g.told new ≡ g.told old → IsUnderWay g w new halted merging' back
+back_so g w old new halted merging merging' name before after job back was can same told =
+    handed_back g w old new halted merging merging' job back same told (can (waiting_as was.its_name job) was.is)
 
 -- ---- a name that stands for no merge
 
@@ -323,6 +334,16 @@ told_install (Err (uninstalled.Raced key number)) = Ok (answers.Raced key)
 told_install (Err (uninstalled.Exhausted counter)) = Ok (answers.Exhausted counter)
 told_install (Err (uninstalled.NoMemory job)) = Err why.NoMemory
 told_install (Err (uninstalled.Disk file)) = Err (why.Disk file)
+
+-- what every answer gives is so where a line is answered
+on_answered : {V H W : Type 0} {k : _} (P : Type 0) (result : Result (Unit {0}) (InstallFail V H W k))
+    → ((a : InstallAnswer) → install_outcome result ≡ Answered a → P) → OnOk (told_install result) P
+on_answered P (Ok done) each = each rulings.Installed refl
+on_answered P (Err (uninstalled.Halted file)) each = tt
+on_answered P (Err (uninstalled.Raced key number)) each = each (rulings.Raced key number) refl
+on_answered P (Err (uninstalled.Exhausted counter)) each = each (rulings.Exhausted counter) refl
+on_answered P (Err (uninstalled.NoMemory job)) each = tt
+on_answered P (Err (uninstalled.Disk file)) each = tt
 
 -- by the fail that it was
 pub told_as : {V H W : Type 0} {k : _} (result : Result (Unit {0}) (InstallFail V H W k)) (fail other : InstallFail V H W k)
@@ -670,6 +691,15 @@ module _ {D H R W : Type 0} (g : Ghosts D) (w : Writers W) (bytes : H → Option
 
 -- ---- by what the engine says
 
+-- no deletion was moved since, as the engine keeps it, and so as the layout's open job has it
+unraced_as : (merging : Option OpenMerge) (opened : Option OpenJob) (o : OpenJob) → Opens merging opened → opened ≡ Some o
+    → ForSome merging (λ (merge : OpenMerge). race o.job merge.moved.items ≡ None) → race o.job o.moved ≡ None
+unraced_as None None o opens is unraced = absurd (none_some o is)
+unraced_as None (Some laid) o opens is unraced = absurd opens
+unraced_as (Some merge) None o opens is unraced = absurd opens
+unraced_as (Some merge) (Some laid) o opens is unraced =
+    ap (race o.job) (ap (λ (x : OpenJob). x.moved) (sym (some_same laid o is)) ∙ sym opens.moved) ∙ unraced merge refl
+
 -- a number that is among these has what each of them has
 each_has : (P : ℕ → Type 0) (ns : List ℕ) (n : ℕ) → AllByRecursion P ns → has n ns ≡ true → P n
 each_has P [] n all is = absurd cc
@@ -722,6 +752,8 @@ module _ {D H R W : Type 0} (g : Ghosts D) (w : Writers W) (bytes : H → Option
     pub stopped : (name : FileName) → result ≡ Err (uninstalled.Disk name)
         → StopsInstall job before.back.manifest.number (g.calls old) (g.calls new) name
     pub failed : InstallFailed result → MayInstall before
+    pub unraced : (j : Job) → HasAllMerge w bytes job j → InstallFailed result
+        → ForSome merging (λ (merge : OpenMerge). race j merge.moved.items ≡ None)
     pub meanwhile : InstallFailed result → WritesInstall g bytes w job before old new
     pub leaves : (h : History) (l : Layout) (now : DiskState) → engine.Represents bytes before (g.told old) h l
         → before.back.state.next_log ≤ before.back.next_log → InstallFailed result → g.told new ≡ Some now
@@ -758,11 +790,12 @@ module _ {D H R W : Type 0} (g : Ghosts D) (w : Writers W) (bytes : H → Option
         let next = may_step.numbers.next_table in
         omega (arith, below, next)
 
-    goes_on : MayInstall before → GoesOn layout waits.open_job
-    goes_on may = record {
+    goes_on : InstallFailed result → MayInstall before → GoesOn layout waits.open_job
+    goes_on failed may = record {
       running = stands.running;
       open_is = waits.is_open;
-      unraced = unraced waits.open_job.job waits.open_job.moved waits.unmoved;
+      unraced = unraced_as merging layout.job waits.open_job opens waits.is_open
+          (says.unraced waits.open_job.job waits.has failed);
       version = sym (install_version layout before.back.version_number stands.engine.fronts.version)
           ∙ some_left before.back.version_number may.version;
     }
@@ -785,7 +818,8 @@ module _ {D H R W : Type 0} (g : Ghosts D) (w : Writers W) (bytes : H → Option
           let (calls_made, most, calls) = install_made_calls job _ _ _ file (says.stopped file is) in
           let may = says.failed failed in
           record {
-            ruled = sym (ap (λ (r : Ruling InstallAnswer). r.calls) (install_made_so layout its_history waits.open_job _ (goes_on may)));
+            ruled = sym (ap (λ (r : Ruling InstallAnswer). r.calls)
+                (install_made_so layout its_history waits.open_job _ (goes_on failed may)));
             calls_made = calls_made;
             most = most;
             calls = calls;
@@ -794,6 +828,27 @@ module _ {D H R W : Type 0} (g : Ghosts D) (w : Writers W) (bytes : H → Option
                 waits.open_job.job waits.has (λ state told_old. handed.tells may.running state told_old) (says.meanwhile failed) now told;
           };
     }
+
+    -- ---- what is kept of where space comes back from
+
+    module _ (kept kept' : Collecting) (collects : (state : DiskState) (h : History) (l : Layout) (o : OpenJob) → g.told old ≡ Some state
+        → StandsOpen bytes before merging h l → l.job ≡ Some o → (l.halted ≡ None → AreLogFiles l) → HasAllMerge w bytes job o.job
+        → AreLent o.lent (made_of job o.job) → Collects before kept l
+        → Decides (λ (_ : History) (m : Layout). Collects after kept' m) h l (install_ruling l h o.job (made_of job o.job))
+        (install_otherwise l (made_of job o.job)) (install_outcome result) (install_effects result))
+        (collected : Collects before kept layout) where
+      collects_so : Decides (λ (_ : History) (m : Layout). Collects after kept' m) its_history layout
+          (install_ruling layout its_history waits.open_job.job (made_of job waits.open_job.job))
+          (install_otherwise layout (made_of job waits.open_job.job)) (install_outcome result) (install_effects result)
+      collects_so = collects may_step.state its_history layout waits.open_job may_step.told_is stands_open waits.is_open
+          (λ running. may_step.files) waits.has waits.lent collected
+
+      -- it is that of the layout behind the line
+      pub still_collects : (a : InstallAnswer) → install_outcome result ≡ Answered a
+          → Collects after kept' (step_to s (lines.Install name)).state.layout
+      still_collects a is = subst (λ (x : Step). Collects after kept' x.state.layout)
+          (sym (step_is g w bytes before after old new merging' os s stands name (waiting_as its_name job) named waits))
+          (collects_so.answered a is).1
 
 -- ---- the line, by what its call takes out, and by what the engine says
 
@@ -862,3 +917,18 @@ module _ {D H R W : Type 0} (g : Ghosts D) (w : Writers W) (bytes : H → Option
       at_file (Err (uninstalled.Exhausted counter)) e = absurd cc
       at_file (Err (uninstalled.NoMemory job)) e = absurd cc
       at_file (Err (uninstalled.Disk name)) e = let same : name ≡ file = cc in ap (λ (n : FileName). Err (uninstalled.Disk n)) same
+
+  pub line_collects : (kept kept' : Collecting)
+      → ((state : DiskState) (h : History) (l : Layout) (o : OpenJob) → g.told old ≡ Some state
+      → StandsOpen bytes before merging h l → l.job ≡ Some o → (l.halted ≡ None → AreLogFiles l) → HasAllMerge w bytes job o.job
+      → AreLent o.lent (made_of job o.job) → Collects before kept l
+      → Decides (λ (_ : History) (m : Layout). Collects after kept' m) h l (install_ruling l h o.job (made_of job o.job))
+      (install_otherwise l (made_of job o.job)) (install_outcome result) (install_effects result))
+      → Collects before kept s.store.layout → (told : Result Answer Halt) → told_install result ≡ told
+      → OnOk told (Collects after kept' (step_to s (lines.Install name)).state.layout)
+  line_collects kept kept' collects collected told is =
+      subst (λ (x : Result Answer Halt). OnOk x (Collects after kept' (step_to s (lines.Install name)).state.layout)) is
+      (on_answered (Collects after kept' (step_to s (lines.Install name)).state.layout) result
+      (still_collects g w bytes before after old new merging merging' job watched
+      (handed_so g w old before.front.halted merging q planned planned' job was can) lent os s stands merges.opens name was.its_name
+      own_name waited result says kept kept' collects collected))

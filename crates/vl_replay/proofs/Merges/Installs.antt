@@ -1,14 +1,13 @@
 -- What the ruling on an install leaves of a layout and of its names.
-use Rattle.std.proofs.Common.{◌≡◌, ℕ, ◌+◌, ◌-◌, ◌==◌, Bool, true, false, cond, not, List, [], ◌∷◌, ◌++◌, map, refl, ap, sym, ◌∙◌}
+use Rattle.std.proofs.Common.{◌≡◌, ℕ, ◌-◌, ◌==◌, Bool, true, false, cond, not, List, [], ◌∷◌, ◌++◌, map, refl, ap, sym, ◌∙◌}
 use Rattle.std.specs.List.{filter, flat_map}
 use Rattle.std.specs.Prelude.{Option, None, Some}
 use Rattle.vl_layout.specs.Jobs.{Made, job_ended, loose}
 use Rattle.vl_layout.specs.Levels.{at_level, in_key_order, is_among, is_before, replaced, without}
-use Rattle.vl_layout.specs.Merging.{needless}
 use Rattle.vl_layout.specs.Ruling.{Ruling, has_no_version, is_idle, leaving, retired_at}
 use Rattle.vl_layout.specs.Rulings.Install as rulings
 use Rattle.vl_layout.specs.Rulings.Install.{InstallAnswer, install_checked, install_ruling, install_unless, installed}
-use Rattle.vl_layout.specs.Rulings.Install.{moved_among, moved_since, race}
+use Rattle.vl_layout.specs.Rulings.Install.{moved_since, race}
 use Rattle.vl_layout.specs.Sources.{log_of, rising, table_of, tables}
 use Rattle.vl_layout.specs.declared.file_name.FileName.{FileName}
 use Rattle.vl_layout.specs.declared.file_name.Retired.{Retired}
@@ -17,11 +16,10 @@ use Rattle.vl_layout.specs.declared.job.Target.{Target}
 use Rattle.vl_layout.specs.declared.job.Target.TheVariants.{InPlace, Level}
 use Rattle.vl_layout.specs.declared.layout.Layout.{Layout}
 use Rattle.vl_layout.specs.declared.table.Table.{Table}
-use Rattle.vl_model.specs.Conflicts.{Named, first_of}
+use Rattle.vl_model.specs.Conflicts.{Named}
 use Rattle.vl_model.specs.History.{History}
 use Rattle.vl_model.specs.declared.counter.Counter.TheVariants as counter
-use Rattle.vl_model.specs.declared.entry.Entry.{Entry}
-use Rattle.vl_replay.specs.Readers.{IsWithoutTables, is_table}
+use Rattle.vl_sequential.specs.Readers.{IsWithoutTables, is_table}
 use Rattle.vl_replay.proofs.Names.StepMaking.{none_before}
 
 -- ---- lists that have nothing
@@ -226,12 +224,3 @@ module _ (l : Layout) (h : History) (job : Job) (made : Made) where
       of : (halted : Option FileName) → l.halted ≡ halted → InstallsOf l h (install_unless halted l h job made)
       of (Some file) is = ended_installs (rulings.Halted file) (λ running. absurd (some_none file (sym is ∙ running)))
       of None is = by_race (race job (moved_since l.job))
-
--- ---- no deletion was moved
-
-moved_none : (es : List Entry) → moved_among [] es ≡ []
-moved_none [] = refl
-moved_none (e ∷ es) = moved_none es
-
-pub unraced : (job : Job) (moved : List Named) → moved ≡ [] → race job moved ≡ None
-unraced job moved none = ap (race job) none ∙ ap first_of (moved_none (needless job))

@@ -1,6 +1,6 @@
 -- A merge that the engine has planned is one that is to be carried out in the planned state.
 use Rattle.std.proofs.Common.{◌≡◌, ◌≤◌, ℕ, List, [], refl, sym, subst}
-use Rattle.std.specs.Prelude.{Option, None, Some, IsTrue}
+use Rattle.std.specs.Prelude.{Option, IsTrue}
 use Rattle.vl_compact.specs.declared.job.Job.{Job as TheJob}
 use Rattle.vl_disk.specs.DiskState.{DiskState}
 use Rattle.vl_disk.specs.declared.writer.Writer.{Ghosts as Writers}
@@ -10,12 +10,13 @@ use Rattle.vl_core.specs.MayStep.{Fits}
 use Rattle.vl_core.specs.declared.kept.Core.{Core}
 use Rattle.vl_engine.specs.declared.open.OpenMerge.{OpenMerge}
 use Rattle.vl_layout.specs.Ruling.{Ruling, pin_of}
-use Rattle.vl_layout.specs.Rulings.Plan.{plan_ruling}
 use Rattle.vl_layout.specs.declared.job.Job.{Job}
 use Rattle.vl_version.specs.declared.base.Base.{Base}
+use Rattle.vl_replay.specs.Choosing.{chosen}
 use Rattle.vl_replay.specs.Drawn.{IsPlanned}
 use Rattle.vl_replay.specs.Replaying.{StandsIn}
-use Rattle.vl_replay.specs.Sequential.{State, history_of}
+use Rattle.vl_sequential.specs.Sequential.{State, history_of}
+use Rattle.vl_replay.specs.declared.replayer.choice.Choice.{Choice}
 use Rattle.vl_replay.specs.declared.replayer.open.Open.{Open}
 use Rattle.vl_replay.proofs.Merges.Planned.{Plans}
 use Rattle.vl_replay.proofs.Merges.Planning.{planned_state}
@@ -23,9 +24,9 @@ use Rattle.vl_replay.proofs.Merges.Planning.{planned_state}
 module _ {W H R : Type 0} (w k : Writers W) (bytes : H → Option (List ℕ)) (told : Option DiskState)
     (before after : Core H) (merging : Option OpenMerge)
     (os : List (Open H R)) (s : State) (stands : StandsIn bytes told before os s) (job : TheJob (Base H R) H W k) (j : Job)
-    (plans : Plans s.store.layout (history_of s) j) (core : after ≡ before) where
+    (choice : Choice) (plans : Plans choice s.store.layout (history_of s) j) (core : after ≡ before) where
   abbrev ruling : Ruling (Option Job)
-  ruling = plan_ruling s.store.layout (history_of s)
+  ruling = chosen choice s.store.layout (history_of s)
 
   pub opened_planned : StandsOpen bytes after merging ruling.history ruling.layout → Fits told after ruling.history ruling.layout
       → (IsTrue s.openable → engine.Represents bytes after told ruling.history ruling.layout) → HasMerge w bytes job j

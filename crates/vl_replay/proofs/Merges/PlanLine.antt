@@ -1,11 +1,10 @@
--- What a plan line makes of a state, and does to a disk that holds it, by what the engine's calls are said to have done.
-use Rattle.std.proofs.Common.{◌≡◌, ◌⊎◌, ℕ, min, ◌+◌, ◌-◌, ◌^◌, ◌≤◌, Bool, true, false, List, length, refl, ap, sym, ◌∙◌, subst, arith}
-use Rattle.std.specs.Prelude.{Option, None, Some, IsTrue, Result, Ok, Err, IfOk, OnOk, is_some}
+-- What a line that plans a merge makes of a state, and does to a disk that holds it, by what the engine's calls are said to have
+-- done.
+use Rattle.std.proofs.Common.{◌≡◌, ◌⊎◌, ℕ, min, ◌+◌, ◌-◌, ◌^◌, ◌≤◌, true, false, List, length, refl, ap, sym, ◌∙◌, subst, arith}
+use Rattle.std.specs.Prelude.{Option, None, Some, IsTrue, Result, Ok, IfOk, is_some}
 use Rattle.std.specs.Option.{ForSome}
 use Rattle.vl_compact.specs.Laid.{AreBoth}
 use Rattle.vl_compact.specs.declared.job.Job.{Job as TheJob}
-use Rattle.vl_disk.specs.DiskState.{DiskState}
-use Rattle.vl_disk.specs.Faults.{after_calls}
 use Rattle.vl_disk.specs.declared.watched.Watched.{Ghosts}
 use Rattle.vl_disk.specs.declared.writer.Writer.{Ghosts as Writers}
 use Rattle.vl_engine.specs.Merging.{FitsReaders, HasAllMerge, HasMerge, OpensMerge, StandsOpen, plan_outcome}
@@ -18,7 +17,7 @@ use Rattle.vl_layout.specs.Decides.{Answered, Decides, as_before, no_effects}
 use Rattle.vl_layout.specs.Jobs.{Made}
 use Rattle.vl_layout.specs.Merging.{merged_entries, outputs}
 use Rattle.vl_layout.specs.Ruling.{Ruling, leaving}
-use Rattle.vl_layout.specs.Rulings.Plan.{plan_ruling, with_job}
+use Rattle.vl_layout.specs.Rulings.Plan.{with_job}
 use Rattle.vl_layout.specs.Store.Dispatch.{plan_as, planned_by}
 use Rattle.vl_layout.specs.Store.Lines as store_lines
 use Rattle.vl_layout.specs.Store.Lines.{Name}
@@ -30,64 +29,55 @@ use Rattle.vl_model.specs.History.{History}
 use Rattle.vl_model.specs.Limits.{max_file_number}
 use Rattle.vl_model.specs.declared.counter.Counter.{Counter}
 use Rattle.vl_version.specs.declared.base.Base.{Base}
+use Rattle.vl_replay.specs.Choosing.{chosen, line_for}
+use Rattle.vl_replay.specs.declared.replayer.choice.Choice.{Choice}
 use Rattle.vl_replay.specs.Drawn.{EndsMerging, HasTablesFrom, IsPlanned, IsServing, Merged, drawn_state}
-use Rattle.vl_replay.specs.Durable.{CarriesOut, HoldsState}
-use Rattle.vl_replay.specs.Halts.{HaltsByDisk}
+use Rattle.vl_sequential.specs.Durable.{CarriesOut, HoldsState}
+use Rattle.vl_sequential.specs.Halts.{HaltsByDisk}
 use Rattle.vl_replay.specs.Handed.{CanHandIn, MayHandIn}
-use Rattle.vl_replay.specs.Replaying.{MakesStep, Merges, StandsIn, Waits}
-use Rattle.vl_replay.specs.Sequential.{IsTold, State, counted, history_of, state_after, step_to}
+use Rattle.vl_replay.specs.Replaying.{MakesStep, Merges, StandsIn, Waits, state_by_plan}
+use Rattle.vl_sequential.specs.Sequential.{IsTold, State, history_of, state_after, step_to}
 use Rattle.vl_replay.specs.Standing.{open_in}
-use Rattle.vl_replay.specs.Stored.{IsStopped, IsStored}
-use Rattle.vl_replay.specs.declared.fails.Halt.{Halt}
+use Rattle.vl_sequential.specs.Stored.{IsStopped, IsStored}
+use Rattle.vl_sequential.specs.declared.fails.Halt.{Halt}
 use Rattle.vl_replay.specs.declared.replayer.open.Open.{Open}
 use Rattle.vl_replay.specs.declared.replayer.planned.Planned.{Planned}
 use Rattle.vl_script.specs.declared.answer.Answer.{Answer}
 use Rattle.vl_script.specs.declared.answer.Answer.TheVariants as answers
-use Rattle.vl_script.specs.declared.line.Line.TheVariants as lines
 use Rattle.vl_replay.proofs.Disk.Carried.{quiet_carries}
-use Rattle.vl_replay.proofs.Disk.DiskSteps.{IsWatched}
+use Rattle.vl_sequential.specs.laws.DiskSteps.{IsWatched}
 use Rattle.vl_replay.proofs.Merges.Carrying.{planned_held, whole_leads}
+use Rattle.vl_replay.proofs.Merges.Choosing.{behind_for, counted_step, step_for}
 use Rattle.vl_replay.proofs.Merges.Keeping.{KeepsMerges, same_jobs}
 use Rattle.vl_replay.proofs.Merges.Opened.{opened_planned}
 use Rattle.vl_replay.proofs.Merges.Planned.{Plans, plan_busy, plan_none, plan_some}
 use Rattle.vl_replay.proofs.Merges.Planning.{planned_state, whole_makes, whole_waits}
-use Rattle.vl_replay.proofs.Merges.Waiting.{is_waiting, merges_behind, waiting_free, waiting_there}
-use Rattle.vl_replay.proofs.Names.BeginMaking.{bare_of, some_there}
+use Rattle.vl_replay.proofs.Merges.Waiting.{merges_behind}
 
 -- ---- none is planned
 
-taken_by : (s : things.State) (name : Name) (r : Ruling (Option Job)) (o : Option Thing) → is_some o ≡ true
-    → plan_as s name r o ≡ only (store_lines.Taken name) s
-taken_by s name r None is = absurd cc
-taken_by s name r (Some x) is = refl
-
--- the name is in use
-pub taken_step : (s : State) (name : Name) → is_some (thing_of s.store name) ≡ true
-    → step_to s (lines.Plan name) ≡ only (store_lines.Taken name) s.store
-taken_step s name is =
-    ap (λ (x : Step). record x { answer = counted x.answer })
-    (taken_by s.store name (plan_ruling s.store.layout (history_of s)) (thing_of s.store name) is)
-
--- no merge is due, or one is open
-pub idle_step : (s : State) (name : Name) → thing_of s.store name ≡ None
-    → plan_ruling s.store.layout (history_of s) ≡ leaving None (history_of s) s.store.layout
-    → step_to s (lines.Plan name) ≡ only store_lines.Idle s.store
-idle_step s name bare is =
-    ap (λ (x : Step). record x { answer = counted x.answer })
-    (ap (plan_as s.store name (plan_ruling s.store.layout (history_of s))) bare
+-- there is none of these tables, or one is open
+pub idle_step : (choice : Choice) (s : State) (name : Name) → thing_of s.store name ≡ None
+    → chosen choice s.store.layout (history_of s) ≡ leaving None (history_of s) s.store.layout
+    → step_to s (line_for choice name) ≡ only store_lines.Idle s.store
+idle_step choice s name bare is =
+    step_for choice s name ∙ ap counted_step
+    (ap (plan_as s.store name (chosen choice s.store.layout (history_of s))) bare
     ∙ ap (λ (r : Ruling (Option Job)). planned_by s.store name r r.answer) is)
 
 -- such a line leaves the state
-same_state : (s : State) (name : Name) (answer : store_lines.Answer) → step_to s (lines.Plan name) ≡ only answer s.store
-    → state_after s (lines.Plan name) ≡ s
-same_state s name answer is =
-    ap (λ (x : Step). record { store = x.state; calls = after_calls x.calls s.calls; files = s.files + x.calls; openable = s.openable }) is
+same_state : (choice : Choice) (s : State) (name : Name) (answer : store_lines.Answer)
+    → step_to s (line_for choice name) ≡ only answer s.store
+    → state_after s (line_for choice name) ≡ s
+same_state choice s name answer is =
+    behind_for choice s name
+    ∙ ap (state_by_plan s) is
     ∙ ap (λ (n : ℕ). record s { files = n }) (let sum : s.files + 0 ≡ s.files = omega arith in sum)
 
 module _ {D H R : Type 0} (g : Ghosts D) (watched : IsWatched g) (bytes : H → Option (List ℕ)) (before after : Core H) (old new : D)
     (os : List (Open H R)) (s : State) (stands : StandsIn bytes (g.told old) before os s) (core : after ≡ before) (disk : new ≡ old)
-    (name : Name) (told : Answer) (answer : store_lines.Answer) (same : IsTold told answer)
-    (is : step_to s (lines.Plan name) ≡ only answer s.store) where
+    (choice : Choice) (name : Name) (told : Answer) (answer : store_lines.Answer) (same : IsTold told answer)
+    (is : step_to s (line_for choice name) ≡ only answer s.store) where
   still_made : MakesStep bytes (g.told new) after os s (only answer s.store) (Ok told)
   still_made = (
     same,
@@ -95,53 +85,33 @@ module _ {D H R : Type 0} (g : Ghosts D) (watched : IsWatched g) (bytes : H → 
         (subst (λ (c : Core H). StandsIn bytes (g.told old) c os s) (sym core) stands),
   )
 
-  pub unplanned_makes : MakesStep bytes (g.told new) after os s (step_to s (lines.Plan name)) (Ok told)
+  pub unplanned_makes : MakesStep bytes (g.told new) after os s (step_to s (line_for choice name)) (Ok told)
   unplanned_makes = subst (λ (x : Step). MakesStep bytes (g.told new) after os s x (Ok told)) (sym is) still_made
 
-  pub unplanned_carries : CarriesOut g IsStored Shown IsStopped old new s (state_after s (lines.Plan name)) (Ok told)
+  pub unplanned_carries : CarriesOut g IsStored Shown IsStopped old new s (state_after s (line_for choice name)) (Ok told)
   unplanned_carries = subst (λ (t : State). CarriesOut {T = Answer} g IsStored Shown IsStopped old new s t (Ok told))
-      (sym (same_state s name answer is))
+      (sym (same_state choice s name answer is))
       (quiet_carries g watched bytes (g.told new) after os s (only answer s.store)
       (record { commits = refl; layout = refl; calls = refl }) (Ok told) still_made (λ halts. halts) old new disk)
 
 module _ {W H R : Type 0} (w : Writers W) (bytes : H → Option (List ℕ)) {k : Writers W} (merging merging' : Option OpenMerge)
     (planned planned' : Option (Planned (Base H R) H W k)) (same : merging' ≡ merging) (still : planned' ≡ planned) (s : State)
-    (merges : Merges w bytes merging planned s.store.things s.store.layout) (name : Name) (answer : store_lines.Answer)
-    (is : step_to s (lines.Plan name) ≡ only answer s.store) where
-  pub unplanned_merges : let x = step_to s (lines.Plan name) in Merges w bytes merging' planned' x.state.things x.state.layout
-  unplanned_merges = merges_behind w bytes merging merging' planned planned' same still s.store (step_to s (lines.Plan name))
+    (merges : Merges w bytes merging planned s.store.things s.store.layout) (choice : Choice) (name : Name)
+    (answer : store_lines.Answer)
+    (is : step_to s (line_for choice name) ≡ only answer s.store) where
+  pub unplanned_merges : let x = step_to s (line_for choice name) in Merges w bytes merging' planned' x.state.things x.state.layout
+  unplanned_merges = merges_behind w bytes merging merging' planned planned' same still s.store (step_to s (line_for choice name))
       (subst (KeepsMerges s.store) (sym is) (record { job = refl; jobs = same_jobs s.store.things s.store.things refl })) merges
 
--- ---- which names are in use
-
-module _ {W H R : Type 0} (w : Writers W) (bytes : H → Option (List ℕ)) {k : Writers W} (planned : Option (Planned (Base H R) H W k))
-    (told : Option DiskState) (core : Core H) (os : List (Open H R)) (s : State) (stands : StandsIn bytes told core os s)
-    (waits : Waits w bytes planned s.store.things s.store.layout) (name : Name) where
-  -- a reader has it
-  pub opened_taken : is_some (open_in os name) ≡ true → step_to s (lines.Plan name) ≡ only (store_lines.Taken name) s.store
-  opened_taken is = taken_step s name
-      (some_there H R bytes (history_of s) s.store.layout (open_in os name) (thing_of s.store name) is (stands.names.each name))
-
-  -- the merge that waits has it, by the name as the call had it
-  module _ (q : Name) (same : q ≡ name) (waiting : Bool) (waiting_is : waiting ≡ is_waiting w bytes {g = k} q planned) where
-    pub waiting_taken : waiting ≡ true → step_to s (lines.Plan name) ≡ only (store_lines.Taken name) s.store
-    waiting_taken is = taken_step s name (waiting_there w bytes {g = k} planned s.store.things s.store.layout name waits
-        (subst (λ (n : Name). is_waiting w bytes {g = k} n planned ≡ true) same (sym waiting_is ∙ is)))
-
-    -- neither has
-    pub neither_taken : waiting ≡ false → open_in os name ≡ None → thing_of s.store name ≡ None
-    neither_taken is free =
-        bare_of bytes (history_of s) s.store.layout (open_in os name) (thing_of s.store name) free (stands.names.each name)
-        (waiting_free w bytes {g = k} planned s.store.things s.store.layout name waits
-        (subst (λ (n : Name). is_waiting w bytes {g = k} n planned ≡ false) same (sym waiting_is ∙ is)))
+-- ---- the merge that waits
 
 -- while one waits another isn't planned
 pub waiting_idle : {W H R : Type 0} (w : Writers W) (bytes : H → Option (List ℕ)) {k : Writers W}
     (planned : Option (Planned (Base H R) H W k))
-    (s : State) → Waits w bytes planned s.store.things s.store.layout → is_some planned ≡ true
-    → plan_ruling s.store.layout (history_of s) ≡ leaving None (history_of s) s.store.layout
-waiting_idle w bytes None s waits is = absurd cc
-waiting_idle w bytes (Some p) s waits is = plan_busy s.store.layout (history_of s) waits.open_job waits.is_open
+    (choice : Choice) (s : State) → Waits w bytes planned s.store.things s.store.layout → is_some planned ≡ true
+    → chosen choice s.store.layout (history_of s) ≡ leaving None (history_of s) s.store.layout
+waiting_idle w bytes None choice s waits is = absurd cc
+waiting_idle w bytes (Some p) choice s waits is = plan_busy choice s.store.layout (history_of s) waits.open_job waits.is_open
 
 -- and where none waits no name stands for a merge
 pub none_waits : {W H R : Type 0} (w : Writers W) (bytes : H → Option (List ℕ)) {k : Writers W}
@@ -155,9 +125,10 @@ none_waits w bytes (Some p) s waits is = absurd cc
 
 -- A merge was planned, which was carried out, or stopped.
 pub record WasMerged {D H R W : Type 0} (g : Ghosts D) (w : Writers W) (bytes : H → Option (List ℕ)) (old new : D) (core : Core H)
-    (merging : Option OpenMerge) {k : _} (job : TheJob (Base H R) H W k) (s : State) (result : Result (Option Counter) Halt) : Type 0 where
+    (merging : Option OpenMerge) {k : _} (job : TheJob (Base H R) H W k) (choice : Choice) (s : State)
+    (result : Result (Option Counter) Halt) : Type 0 where
   pub j : Job
-  pub plans : Plans s.store.layout (history_of s) j
+  pub plans : Plans choice s.store.layout (history_of s) j
   pub merged : Merged g w bytes old new core merging job (planned_state j s) j result
   -- a disk that held the state held it with the open merge too
   pub held : HoldsState g IsStored s old → HoldsState g IsStored (planned_state j s) old
@@ -166,7 +137,7 @@ module _ {D H R W E : Type 0} (g : Ghosts D) (w : Writers W) (bytes : H → Opti
     (before after : Core H) (old new : D)
     (merging merging' : Option OpenMerge) (os : List (Open H R)) (s : State) (stands : StandsIn bytes (g.told old) before os s)
     (result : Result (Option (TheJob (Base H R) H W k)) E)
-    (core : after ≡ before) (disk : new ≡ old) where
+    (core : after ≡ before) (disk : new ≡ old) (choice : Choice) where
   abbrev h : History
   h = history_of s
 
@@ -174,13 +145,13 @@ module _ {D H R W E : Type 0} (g : Ghosts D) (w : Writers W) (bytes : H → Opti
   l = s.store.layout
 
   abbrev ruling : Ruling (Option Job)
-  ruling = plan_ruling l h
+  ruling = chosen choice l h
 
   -- none was due
   pub none_due : Decides (StandsOpen bytes after merging') h l ruling (as_before l l) (plan_outcome ruling.answer result) no_effects
       → result ≡ Ok None → ruling ≡ leaving None h l
   none_due decides is =
-      plan_none l h (sym (decides.answered None (ap (plan_outcome ruling.answer) is)).0)
+      plan_none choice l h (sym (decides.answered None (ap (plan_outcome ruling.answer) is)).0)
 
   -- the open merge stays then
   pub still_open : result ≡ Ok None → OpensMerge merging merging' result → merging' ≡ merging
@@ -210,8 +181,8 @@ module _ {D H R W E : Type 0} (g : Ghosts D) (w : Writers W) (bytes : H → Opti
     looks_so = subst (λ (r : Result (Option (TheJob (Base H R) H W k)) E). IfOk r
         (λ o. ForSome o (FitsReaders {R = R} bytes {g = k}))) is looks job refl
 
-    plans_it : Plans l h job_is.0
-    plans_it = plan_some l h job_is.0 job_is.1
+    plans_it : Plans choice l h job_is.0
+    plans_it = plan_some choice l h job_is.0 job_is.1
 
     represented : IsTrue s.openable → engine.Represents bytes after (g.told new) ruling.history ruling.layout
     represented openable = ((represents_so openable).answered ruling.answer answered).1
@@ -219,13 +190,13 @@ module _ {D H R W E : Type 0} (g : Ghosts D) (w : Writers W) (bytes : H → Opti
     planned_it : IsPlanned w bytes (g.told new) after merging' job (planned_state job_is.0 s) job_is.0
     planned_it =
         opened_planned w k bytes (g.told new) before after merging' os s
-        (subst (λ (d : D). StandsIn bytes (g.told d) before os s) (sym disk) stands) job job_is.0 plans_it core
+        (subst (λ (d : D). StandsIn bytes (g.told d) before os s) (sym disk) stands) job job_is.0 choice plans_it core
         (stands_so.answered ruling.answer answered).1 (fits_so.answered ruling.answer answered).1 represented job_is.2 looks_so
 
     module _ (watched : IsWatched g) (name : Name) (bare : thing_of s.store name ≡ None) (free : open_in os name ≡ None) where
       disk_held : HoldsState g IsStored s old → HoldsState g IsStored (planned_state job_is.0 s) old
       disk_held =
-          planned_held g watched bytes old old s name job_is.0 plans_it os stands.names stands.sound stands.running bare
+          planned_held g watched bytes old old s name job_is.0 choice plans_it os stands.names stands.sound stands.running bare
           free stands.engine.tidy after
           (λ openable. subst (λ (d : D). engine.Represents bytes after (g.told d) h (with_job job_is.0 l)) disk
           (subst (λ (r : Ruling (Option Job)). engine.Represents bytes after (g.told new) r.history r.layout)
@@ -237,7 +208,7 @@ module _ {D H R W E : Type 0} (g : Ghosts D) (w : Writers W) (bytes : H → Opti
           (told : Result (Option Counter) Halt)
           → ((t : State) (j : Job) → IsPlanned w bytes (g.told new) after merging' job t j
           → Merged g w bytes new new' core' merging'' job' t j told)
-          → WasMerged g w bytes old new' core' merging'' job' s told
+          → WasMerged g w bytes old new' core' merging'' job' choice s told
       was_merged core' new' merging'' job' told merges = record {
         j = job_is.0;
         plans = plans_it;
@@ -251,8 +222,9 @@ module _ {D H R W E : Type 0} (g : Ghosts D) (w : Writers W) (bytes : H → Opti
 module _ {D H R W : Type 0} (g : Ghosts D) (watched : IsWatched g) (w : Writers W) (bytes : H → Option (List ℕ))
     {k : Writers W} (before core : Core H)
     (old new : D) (merging : Option OpenMerge) (job : TheJob (Base H R) H W k) (os : List (Open H R)) (s : State)
-    (stands : StandsIn bytes (g.told old) before os s) (name : Name) (bare : thing_of s.store name ≡ None) (free : open_in os name ≡ None)
-    (result : Result (Option Counter) Halt) (was : WasMerged g w bytes old new core merging job s result) (is : result ≡ Ok None) where
+    (stands : StandsIn bytes (g.told old) before os s) (choice : Choice) (name : Name) (bare : thing_of s.store name ≡ None)
+    (free : open_in os name ≡ None) (result : Result (Option Counter) Halt)
+    (was : WasMerged g w bytes old new core merging job choice s result) (is : result ≡ Ok None) where
   abbrev j : Job
   j = was.j
 
@@ -267,23 +239,23 @@ module _ {D H R W : Type 0} (g : Ghosts D) (watched : IsWatched g) (w : Writers 
       (was.merged.serves (λ halts. subst (λ (r : Result (Option Counter) Halt). HaltsByDisk r) is halts))
 
   pub merge_makes : (number : ℕ) → ((i : Job) → HasAllMerge w bytes job i → number ≡ min (length (merged_entries i)) (2 ^ 64 - 1))
-      → MakesStep bytes (g.told new) core os s (step_to s (lines.Plan name)) (Ok (answers.Number number))
+      → MakesStep bytes (g.told new) core os s (step_to s (line_for choice name)) (Ok (answers.Number number))
   merge_makes number counts =
-      whole_makes bytes (g.told new) core os s name j was.plans stands.names stands.sound stands.running bare free
+      whole_makes bytes (g.told new) core os s name j choice was.plans stands.names stands.sound stands.running bare free
       merging all serving number
       (counts j ends.1.has)
 
   pub merge_waits : ((other : Name) (job' : Job) (made : Made) → things.thing_in s.store.things other ≡ Some (AJob job' made) → ⊥)
-      → let x = step_to s (lines.Plan name) in Merges w bytes merging (Some (record { name = name; job = job }))
+      → let x = step_to s (line_for choice name) in Merges w bytes merging (Some (record { name = name; job = job }))
       x.state.things x.state.layout
   merge_waits none =
-      whole_waits bytes (g.told new) core os s name j was.plans stands.names stands.sound stands.running bare free
+      whole_waits bytes (g.told new) core os s name j choice was.plans stands.names stands.sound stands.running bare free
       merging all serving w k job ends.1 none
 
-  pub merge_carries : (number : ℕ) → CarriesOut g IsStored Shown IsStopped old new s (state_after s (lines.Plan name))
+  pub merge_carries : (number : ℕ) → CarriesOut g IsStored Shown IsStopped old new s (state_after s (line_for choice name))
       (Ok (answers.Number number))
   merge_carries number held =
-      whole_leads g watched bytes old new s name j was.plans os stands.names stands.sound stands.running bare free
+      whole_leads g watched bytes old new s name j choice was.plans os stands.names stands.sound stands.running bare free
       stands.engine.tidy was.merged.count result
       (was.merged.disk (was.held held)) is ends.0 was.merged.fits number
 

@@ -1,24 +1,26 @@
--- What the ruling on a plan leaves, where it plans a merge: a job of tables that stand.
+-- What the ruling on a plan or a drain leaves, where it plans a merge: a job of tables that stand.
 use Rattle.std.proofs.Common.{◌≡◌, ℕ, zero, suc, ◌+◌, ◌==◌, Bool, true, false, cond, ◌&&◌, List, [], ◌∷◌, ◌++◌, refl}
 use Rattle.std.proofs.Common.{ap, sym, ◌∙◌, subst, arith}
 use Rattle.std.proofs.lemmas.Bool.Decides.{nat_tests}
-use Rattle.std.specs.List.{filter, flat_map}
+use Rattle.std.specs.List.{flat_map}
 use Rattle.std.specs.Prelude.{Option, None, Some, nat_le, nat_lt}
-use Rattle.vl_layout.specs.Jobs.{Made}
-use Rattle.vl_layout.specs.Levels.{due_from, due_tables, inputs_at, is_due, level_bytes}
-use Rattle.vl_layout.specs.Ruling.{Ruling, leaving, pin_of}
+use Rattle.vl_layout.specs.Levels.{due_from, due_tables, first_into, inputs_at, is_due, level_bytes}
+use Rattle.vl_layout.specs.Ruling.{leaving}
+use Rattle.vl_layout.specs.Rulings.Drain.{drain_of, drain_ruling, drain_unless}
 use Rattle.vl_layout.specs.Rulings.Fresh.{drawn}
 use Rattle.vl_layout.specs.Rulings.Plan.{job_of, plan_of, plan_ruling, plan_unless, planned, with_job}
 use Rattle.vl_layout.specs.Sources.{tables}
-use Rattle.vl_layout.specs.declared.file_name.Retired.{Retired}
 use Rattle.vl_layout.specs.declared.job.Job.{Job}
 use Rattle.vl_layout.specs.declared.job.OpenJob.{OpenJob}
-use Rattle.vl_layout.specs.declared.job.Target.TheVariants.{Level}
+use Rattle.vl_layout.specs.declared.job.Target.TheVariants.{InPlace, Level}
 use Rattle.vl_layout.specs.declared.layout.Layout.{Layout}
 use Rattle.vl_layout.specs.declared.table.Table.{Table}
 use Rattle.vl_model.specs.History.{History}
+use Rattle.vl_replay.specs.Choosing.{chosen}
 use Rattle.vl_replay.specs.Drawn.{drawn_all}
-use Rattle.vl_replay.specs.Durable.{without_merges}
+use Rattle.vl_replay.specs.declared.replayer.choice.Choice.{Choice}
+use Rattle.vl_replay.specs.declared.replayer.choice.Choice.TheVariants.{Due, LeadsInto}
+use Rattle.vl_sequential.specs.Durable.{without_merges}
 
 none_some : {T : Type 0} (x : T) → None ≡ Some x → ⊥
 none_some x e = cc
@@ -60,17 +62,17 @@ due_stand level (ts ∷ deeper) n is none =
     by true due is later none = due_some level ts due none
     by false due is later none = later is
 
-module _ (l : Layout) (h : History) where
-  -- what was planned
-  pub record Plans (job : Job) : Type 0 where
-    pub none : l.job ≡ None
-    pub ruled : plan_ruling l h ≡ planned l h job
-    pub tables : tables l ≡ [] → ⊥
+-- what was planned
+pub record Plans (choice : Choice) (l : Layout) (h : History) (job : Job) : Type 0 where
+  pub none : l.job ≡ None
+  pub ruled : chosen choice l h ≡ planned l h job
+  pub tables : tables l ≡ [] → ⊥
 
-  pub plan_some : (job : Job) → (plan_ruling l h).answer ≡ Some job → Plans job
-  plan_some job is = of l.job refl is
+module _ (l : Layout) (h : History) where
+  due_planned : (job : Job) → (plan_ruling l h).answer ≡ Some job → Plans Due l h job
+  due_planned job is = of l.job refl is
     where
-      due : (o : Option ℕ) → due_from 0 l.levels ≡ o → l.job ≡ None → (plan_of l h o).answer ≡ Some job → Plans job
+      due : (o : Option ℕ) → due_from 0 l.levels ≡ o → l.job ≡ None → (plan_of l h o).answer ≡ Some job → Plans Due l h job
       due None due_is none is = absurd (none_some job is)
       due (Some level) due_is none is =
           let same : job_of l h (inputs_at level l.levels) (Level (level + 1)) ≡ job = some_same _ _ is in
@@ -81,13 +83,12 @@ module _ (l : Layout) (h : History) where
             tables = due_stand 0 l.levels level due_is;
           }
 
-      of : (o : Option OpenJob) → l.job ≡ o → (plan_unless o l h).answer ≡ Some job → Plans job
+      of : (o : Option OpenJob) → l.job ≡ o → (plan_unless o l h).answer ≡ Some job → Plans Due l h job
       of (Some other) busy is = absurd (none_some job is)
       of None none is = due (due_from 0 l.levels) refl none is
 
-  -- none was
-  pub plan_none : (plan_ruling l h).answer ≡ None → plan_ruling l h ≡ leaving None h l
-  plan_none is = of l.job is
+  none_due : (plan_ruling l h).answer ≡ None → plan_ruling l h ≡ leaving None h l
+  none_due is = of l.job is
     where
       due : (o : Option ℕ) → (plan_of l h o).answer ≡ None → plan_of l h o ≡ leaving None h l
       due None is = refl
@@ -97,9 +98,51 @@ module _ (l : Layout) (h : History) where
       of (Some other) is = refl
       of None is = due (due_from 0 l.levels) is
 
-  -- while one is open none is planned
-  pub plan_busy : (other : OpenJob) → l.job ≡ Some other → plan_ruling l h ≡ leaving None h l
-  plan_busy other is = ap (λ (o : Option OpenJob). plan_unless o l h) is
+  module _ (segment : ℕ) where
+    drain_planned : (job : Job) → (drain_ruling l h segment).answer ≡ Some job → Plans (LeadsInto segment) l h job
+    drain_planned job is = of l.job refl is
+      where
+        first : (o : Option Table) → first_into segment (tables l) ≡ o → l.job ≡ None → (drain_of l h o).answer ≡ Some job
+            → Plans (LeadsInto segment) l h job
+        first None first_is none is = absurd (none_some job is)
+        first (Some t) first_is none is =
+            let same : job_of l h (t ∷ []) InPlace ≡ job = some_same _ _ is in
+            record {
+              none = none;
+              ruled = ap (λ (o : Option OpenJob). drain_unless o l h segment) none ∙ ap (λ (o : Option Table). drain_of l h o) first_is
+                  ∙ ap (planned l h) same;
+              tables = λ bare. none_some t (subst (λ (ts : List Table). first_into segment ts ≡ Some t) bare first_is);
+            }
+
+        of : (o : Option OpenJob) → l.job ≡ o → (drain_unless o l h segment).answer ≡ Some job → Plans (LeadsInto segment) l h job
+        of (Some other) busy is = absurd (none_some job is)
+        of None none is = first (first_into segment (tables l)) refl none is
+
+    none_leads : (drain_ruling l h segment).answer ≡ None → drain_ruling l h segment ≡ leaving None h l
+    none_leads is = of l.job is
+      where
+        first : (o : Option Table) → (drain_of l h o).answer ≡ None → drain_of l h o ≡ leaving None h l
+        first None is = refl
+        first (Some t) is = absurd (none_some _ (sym is))
+
+        of : (o : Option OpenJob) → (drain_unless o l h segment).answer ≡ None → drain_unless o l h segment ≡ leaving None h l
+        of (Some other) is = refl
+        of None is = first (first_into segment (tables l)) is
+
+-- one was
+pub plan_some : (choice : Choice) (l : Layout) (h : History) (job : Job) → (chosen choice l h).answer ≡ Some job → Plans choice l h job
+plan_some Due l h job is = due_planned l h job is
+plan_some (LeadsInto segment) l h job is = drain_planned l h segment job is
+
+-- none was
+pub plan_none : (choice : Choice) (l : Layout) (h : History) → (chosen choice l h).answer ≡ None → chosen choice l h ≡ leaving None h l
+plan_none Due l h is = none_due l h is
+plan_none (LeadsInto segment) l h is = none_leads l h segment is
+
+-- while one is open none is planned
+pub plan_busy : (choice : Choice) (l : Layout) (h : History) (other : OpenJob) → l.job ≡ Some other → chosen choice l h ≡ leaving None h l
+plan_busy Due l h other is = ap (λ (o : Option OpenJob). plan_unless o l h) is
+plan_busy (LeadsInto segment) l h other is = ap (λ (o : Option OpenJob). drain_unless o l h segment) is
 
 -- numbers that were drawn for it, and the job itself, aren't counted
 pub drawn_beside : (n : ℕ) (l : Layout) → without_merges (drawn_all n l) ≡ without_merges l

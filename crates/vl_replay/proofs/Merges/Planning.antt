@@ -1,35 +1,25 @@
--- What a plan line makes, by what carrying out the merge came to.
-use Rattle.std.proofs.Common.{◌≡◌, ◌⊎◌, ⊎_elim, inl, inr, ℕ, zero, suc, min, ◌+◌, ◌-◌, ◌^◌, ◌<◌, ◌≤◌, List, [], ◌∷◌}
-use Rattle.std.proofs.Common.{◌++◌, length, refl, ap, sym, ◌∙◌, subst, arith}
-use Rattle.std.specs.Prelude.{Option, None, Some, Result, Ok, Err, IsTrue, OnOk}
+-- What a line makes that plans a merge, by what carrying out the merge came to.
+use Rattle.std.proofs.Common.{◌≡◌, ◌⊎◌, ⊎_elim, ℕ, min, ◌+◌, ◌-◌, ◌^◌, ◌<◌, ◌≤◌, List, []}
+use Rattle.std.proofs.Common.{length, refl, ap, sym, ◌∙◌, subst, arith}
+use Rattle.std.specs.Prelude.{Option, None, Some, Ok}
 use Rattle.std.specs.List.{filter}
-use Rattle.vl_compact.specs.Progress.{made_of as made_by}
 use Rattle.vl_compact.specs.declared.job.Job.{Job as TheJob}
 use Rattle.vl_disk.specs.DiskState.{DiskState}
-use Rattle.vl_disk.specs.Faults.{after_calls}
-use Rattle.vl_disk.specs.declared.watched.Watched.{Ghosts}
 use Rattle.vl_disk.specs.declared.writer.Writer.{Ghosts as Writers}
-use Rattle.vl_engine.specs.Lent.{Opens}
-use Rattle.vl_engine.specs.Merging.{FitsReaders, HasMerge, StandsOpen}
-use Rattle.vl_core.specs.Represents as engine
-use Rattle.vl_core.specs.Represents.{IsHeld, IsLive}
-use Rattle.vl_core.specs.Shown.{Shown}
-use Rattle.vl_core.specs.MayStep.{Fits}
+use Rattle.vl_core.specs.Represents.{IsLive}
 use Rattle.vl_core.specs.declared.kept.Core.{Core}
 use Rattle.vl_engine.specs.declared.open.OpenMerge.{OpenMerge}
 use Rattle.vl_layout.specs.Jobs.{AreLent, Made, job_ended}
 use Rattle.vl_layout.specs.Merging.{kept, merged_entries, outputs}
-use Rattle.vl_layout.specs.Ruling.{Ruling, leaving, pin_of}
-use Rattle.vl_layout.specs.Rulings.Plan.{plan_ruling, with_job}
+use Rattle.vl_layout.specs.Ruling.{Ruling, pin_of}
+use Rattle.vl_layout.specs.Rulings.Plan.{with_job}
 use Rattle.vl_layout.specs.Sources.{tables}
 use Rattle.vl_layout.specs.Store.Dispatch.{fill, made_of, plan_as, planned_by}
 use Rattle.vl_layout.specs.Store.Lines as store_lines
 use Rattle.vl_layout.specs.Store.Lines.{Name}
-use Rattle.vl_layout.specs.Store.Things as things
-use Rattle.vl_layout.specs.Store.Things.{AJob, Step, Thing, named, only, thing_in, thing_of, with_thing}
+use Rattle.vl_layout.specs.Store.Things.{AJob, Step, Thing, named, thing_in, thing_of, with_thing}
 use Rattle.vl_layout.specs.declared.file_name.Retired.{Retired}
 use Rattle.vl_layout.specs.declared.job.Job.{Job}
-use Rattle.vl_layout.specs.declared.job.OpenJob.{OpenJob}
 use Rattle.vl_layout.specs.declared.layout.Layout.{Layout}
 use Rattle.vl_layout.specs.declared.live.Live.{Live}
 use Rattle.vl_layout.specs.declared.table.Table.{Table}
@@ -38,28 +28,22 @@ use Rattle.vl_model.specs.Limits.{max_file_number}
 use Rattle.vl_model.specs.declared.counter.Counter.{Counter}
 use Rattle.vl_model.specs.declared.counter.Counter.TheVariants as counters
 use Rattle.vl_version.specs.declared.base.Base.{Base}
-use Rattle.vl_replay.specs.Drawn.{DrawsOn, HasTablesFrom, IsPlanned, IsServing, Merged, drawn_all, drawn_state, numbers_from}
-use Rattle.vl_replay.specs.Durable.{HoldsCommits, HoldsState, LeadsTo, StopsWithin, without_merges}
-use Rattle.vl_replay.specs.Halts.{HaltsByDisk, HaltsByRead}
-use Rattle.vl_replay.specs.Readers.{IsReader, IsWithoutTables, is_table}
-use Rattle.vl_replay.specs.Replaying.{IsWaiting, MakesStep, Merges, StandsIn, state_by, state_by_plan}
-use Rattle.vl_replay.specs.Sequential.{IsTold, State, answer_for, counted, history_of, state_after, step_to}
+use Rattle.vl_replay.specs.Drawn.{HasTablesFrom, IsServing, drawn_all, drawn_state, numbers_from}
+use Rattle.vl_sequential.specs.Readers.{IsReader, IsWithoutTables, is_table}
+use Rattle.vl_replay.specs.Replaying.{MakesStep, Merges, StandsIn, state_by}
+use Rattle.vl_sequential.specs.Sequential.{State, history_of, step_to}
 use Rattle.vl_replay.specs.Standing.{Corresponds, Stand, open_in}
-use Rattle.vl_replay.specs.Stopped.{StopsStep, step_failed}
-use Rattle.vl_replay.specs.Stored.{IsStopped, IsStored}
-use Rattle.vl_replay.specs.declared.fails.Halt.{Halt}
-use Rattle.vl_replay.specs.declared.fails.Halt.TheVariants as halts
 use Rattle.vl_replay.specs.declared.replayer.open.Open.{Open}
-use Rattle.vl_replay.specs.declared.replayer.planned.Planned.{Planned}
-use Rattle.vl_replay.specs.laws.Laws.{IsSound, state_after-sound}
-use Rattle.vl_script.specs.declared.answer.Answer.{Answer}
+use Rattle.vl_sequential.specs.laws.Laws.{IsSound, state_after-sound}
 use Rattle.vl_script.specs.declared.answer.Answer.TheVariants as answers
-use Rattle.vl_script.specs.declared.line.Line.TheVariants as lines
-use Rattle.vl_replay.proofs.Disk.Betweens.{extends_itself}
+use Rattle.vl_sequential.specs.laws.Betweens.{extends_itself}
+use Rattle.vl_replay.specs.Choosing.{chosen, line_for}
+use Rattle.vl_replay.specs.declared.replayer.choice.Choice.{Choice}
+use Rattle.vl_replay.proofs.Merges.Choosing.{counted_step, step_for}
 use Rattle.vl_replay.proofs.Merges.Counting.{kept_many, made_lent}
-use Rattle.vl_replay.proofs.Merges.Filling.{drawn_halted, drawn_lent, drawn_levels, drawn_live, drawn_next}
-use Rattle.vl_replay.proofs.Merges.Filling.{drawn_retired, fill_all, fill_more, fill_some}
-use Rattle.vl_replay.proofs.Merges.Planned.{Plans, drawn_beside, planned_beside}
+use Rattle.vl_replay.proofs.Merges.Filling.{drawn_lent, drawn_levels, drawn_live}
+use Rattle.vl_replay.proofs.Merges.Filling.{drawn_retired, fill_all, fill_some}
+use Rattle.vl_replay.proofs.Merges.Planned.{Plans}
 use Rattle.vl_replay.proofs.Names.Ending.{still_stands}
 use Rattle.vl_replay.proofs.Names.Lookups.{thing_beside, thing_put}
 use Rattle.vl_replay.proofs.Names.Standings.{same_or_not}
@@ -176,14 +160,14 @@ module _ (s : State) (name : Name) (j : Job) where
     calls = count;
   }
 
-  module _ (plans : Plans s.store.layout (history_of s) j) (running : s.store.layout.halted ≡ None)
+  module _ (choice : Choice) (plans : Plans choice s.store.layout (history_of s) j) (running : s.store.layout.halted ≡ None)
       (bare : thing_of s.store name ≡ None) where
-    pub fills : plan_as s.store name (plan_ruling l h) (thing_of s.store name) ≡ fill s.store name j opened (outputs j) [] 0
-    fills = ap (plan_as s.store name (plan_ruling l h)) bare
+    pub fills : plan_as s.store name (chosen choice l h) (thing_of s.store name) ≡ fill s.store name j opened (outputs j) [] 0
+    fills = ap (plan_as s.store name (chosen choice l h)) bare
         ∙ ap (λ (r : Ruling (Option Job)). planned_by s.store name r r.answer) plans.ruled
 
-    pub whole_is : (total_of j ≡ 0) ⊎ (l.next_table + total_of j ≤ max_file_number + 1) → step_to s (lines.Plan name) ≡ whole
-    whole_is all = ap (λ (x : Step). record x { answer = counted x.answer })
+    pub whole_is : (total_of j ≡ 0) ⊎ (l.next_table + total_of j ≤ max_file_number + 1) → step_to s (line_for choice name) ≡ whole
+    whole_is all = step_for choice s name ∙ ap counted_step
         (fills ∙ fill_all s.store name j (outputs j) opened [] 0 running all)
         ∙ ap (λ (n : ℕ). record {
           answer = store_lines.Number (min (length (kept j)) (2 ^ 64 - 1));
@@ -195,9 +179,9 @@ module _ (s : State) (name : Name) (j : Job) where
 
     pub given_up_is : (count : ℕ) → count < total_of j → (count ≡ 0) ⊎ (l.next_table + count ≤ max_file_number + 1)
         → max_file_number < l.next_table + count
-        → step_to s (lines.Plan name) ≡ given_up count
+        → step_to s (line_for choice name) ≡ given_up count
     given_up_is count few fits none =
-        ap (λ (x : Step). record x { answer = counted x.answer })
+        step_for choice s name ∙ ap counted_step
         (fills ∙ fill_some s.store name j (outputs j) opened [] 0 count running few fits none)
         ∙ ap (λ (n : ℕ). record {
           answer = store_lines.Exhausted counters.Table;
@@ -219,7 +203,7 @@ module _ (s : State) (name : Name) (j : Job) where
 
 module _ {H R : Type 0} (bytes : H → Option (List ℕ)) (told : Option DiskState) (core : Core H) (os : List (Open H R))
     (s : State) (name : Name) (j : Job)
-    (plans : Plans s.store.layout (history_of s) j)
+    (choice : Choice) (plans : Plans choice s.store.layout (history_of s) j)
     (names : Stand bytes os s.store.things (history_of s) s.store.layout) (sound : IsSound s)
     (running : s.store.layout.halted ≡ None) (bare : thing_of s.store name ≡ None) (free : open_in os name ≡ None) where
   module _ (merging : Option OpenMerge) (all : (total_of j ≡ 0) ⊎ (s.store.layout.next_table + total_of j ≤ max_file_number + 1))
@@ -230,8 +214,8 @@ module _ {H R : Type 0} (bytes : H → Option (List ℕ)) (told : Option DiskSta
       names = names_with bytes (history_of s) s.store.layout (drawn_all (total_of j) (with_job j s.store.layout))
           (drawn_is_beside (total_of j) j s.store.layout) os s.store.things names
           name free j (made s name j (total_of j));
-      sound = subst (λ (x : Step). IsSound (state_by s x)) (whole_is s name j plans running bare all)
-          (state_after-sound s (lines.Plan name) sound);
+      sound = subst (λ (x : Step). IsSound (state_by s x)) (whole_is s name j choice plans running bare all)
+          (state_after-sound s (line_for choice name) sound);
       held = serves.held;
       running = serves.running;
       fits = serves.fits;
@@ -240,9 +224,9 @@ module _ {H R : Type 0} (bytes : H → Option (List ℕ)) (told : Option DiskSta
 
     -- it is told how many entries were kept
     pub whole_makes : (number : ℕ) → number ≡ min (length (merged_entries j)) (2 ^ 64 - 1)
-        → MakesStep bytes told core os s (step_to s (lines.Plan name)) (Ok (answers.Number number))
+        → MakesStep bytes told core os s (step_to s (line_for choice name)) (Ok (answers.Number number))
     whole_makes number is = subst (λ (x : Step). MakesStep bytes told core os s x (Ok (answers.Number number)))
-        (sym (whole_is s name j plans running bare all)) (
+        (sym (whole_is s name j choice plans running bare all)) (
           ap store_lines.Number (is ∙ ap (λ (n : ℕ). min n (2 ^ 64 - 1)) (kept_many j)),
           whole_stands,
         )
@@ -250,14 +234,19 @@ module _ {H R : Type 0} (bytes : H → Option (List ℕ)) (told : Option DiskSta
     -- and waits
     pub whole_waits : {W : Type 0} (w k : Writers W) (job : TheJob (Base H R) H W k) → HasTablesFrom w bytes job j s.store.layout.next_table
         → ((other : Name) (job' : Job) (made' : Made) → thing_in s.store.things other ≡ Some (AJob job' made') → ⊥)
-        → let x = step_to s (lines.Plan name) in
+        → let x = step_to s (line_for choice name) in
         Merges w bytes merging (Some (record { name = name; job = job })) x.state.things x.state.layout
     whole_waits w k job has none = subst
         (λ (x : Step). Merges w bytes merging (Some (record { name = name; job = job })) x.state.things x.state.layout)
-        (sym (whole_is s name j plans running bare all)) (record {
+        (sym (whole_is s name j choice plans running bare all)) (record {
           opens = serves.opens;
           waits = record {
-            open_job = record { job = j; pin = pin_of s.store.layout; moved = []; lent = numbers_from s.store.layout.next_table (total_of j) };
+            open_job = record {
+              job = j;
+              pin = pin_of s.store.layout;
+              moved = [];
+              lent = numbers_from s.store.layout.next_table (total_of j);
+            };
             is_open = lent_there s name j (total_of j);
             has = has.has;
             there = thing_put name (AJob j (made s name j (total_of j))) s.store.things ∙ ap (λ (m : Made). Some (AJob j m)) (sym has.made);
@@ -268,7 +257,6 @@ module _ {H R : Type 0} (bytes : H → Option (List ℕ)) (told : Option DiskSta
                 (same_or_not other name);
             lent = subst (AreLent (numbers_from s.store.layout.next_table (total_of j))) (sym has.made)
                 (some_lent s name j (total_of j) (omega arith));
-            unmoved = refl;
           };
         })
 
@@ -281,9 +269,9 @@ module _ {H R : Type 0} (bytes : H → Option (List ℕ)) (told : Option DiskSta
             { layout = job_ended (made s name j count) (drawn_all count (with_job j s.store.layout)) };
       })) where
     pub given_up_makes : (counter : Counter) → counter ≡ counters.Table
-        → MakesStep bytes told core os s (step_to s (lines.Plan name)) (Ok (answers.Exhausted counter))
+        → MakesStep bytes told core os s (step_to s (line_for choice name)) (Ok (answers.Exhausted counter))
     given_up_makes counter is = subst (λ (x : Step). MakesStep bytes told core os s x (Ok (answers.Exhausted counter)))
-        (sym (given_up_is s name j plans running bare count few fits none)) (
+        (sym (given_up_is s name j choice plans running bare count few fits none)) (
           ap store_lines.Exhausted is,
           (record {
             engine = serves.stands;
@@ -292,7 +280,7 @@ module _ {H R : Type 0} (bytes : H → Option (List ℕ)) (told : Option DiskSta
                 (ended_is_beside (made s name j count) s.store.layout (drawn_all count (with_job j s.store.layout))
                 (drawn_is_beside count j s.store.layout)) os s.store.things names;
             sound = subst (λ (x : Step). IsSound (state_by s x))
-                (given_up_is s name j plans running bare count few fits none) (state_after-sound s (lines.Plan name) sound);
+                (given_up_is s name j choice plans running bare count few fits none) (state_after-sound s (line_for choice name) sound);
             held = serves.held;
             running = serves.running;
             fits = serves.fits;
@@ -302,10 +290,10 @@ module _ {H R : Type 0} (bytes : H → Option (List ℕ)) (told : Option DiskSta
 
     pub given_up_waits : {W : Type 0} (w k : Writers W)
         → ((other : Name) (job' : Job) (made' : Made) → thing_in s.store.things other ≡ Some (AJob job' made') → ⊥)
-        → let x = step_to s (lines.Plan name) in Merges {H = H} {R = R} w bytes {g = k} merging None x.state.things x.state.layout
+        → let x = step_to s (line_for choice name) in Merges {H = H} {R = R} w bytes {g = k} merging None x.state.things x.state.layout
     given_up_waits w k free' = subst
         (λ (x : Step). Merges {H = H} {R = R} w bytes {g = k} merging None x.state.things x.state.layout)
-        (sym (given_up_is s name j plans running bare count few fits none)) (record {
+        (sym (given_up_is s name j choice plans running bare count few fits none)) (record {
           opens = serves.opens;
           waits = (refl, free');
         })

@@ -1,5 +1,5 @@
 -- The merge that waits, behind lines that leave it alone, and which names are in use.
-use Rattle.std.proofs.Common.{◌≡◌, ◌⊎◌, ⊎_elim, inl, inr, ℕ, Bool, true, false, ◌||◌, List, [], refl, ap, sym, ◌∙◌, subst}
+use Rattle.std.proofs.Common.{◌≡◌, ℕ, Bool, true, false, List, [], refl, ap, sym, ◌∙◌, subst}
 use Rattle.std.specs.Prelude.{Option, None, Some, OnOk, Result, Ok, Err}
 use Rattle.std.specs.Option.{is_some, option_map_or}
 use Rattle.std.specs.Str.{bytes_eq}
@@ -13,18 +13,12 @@ use Rattle.vl_layout.specs.Store.Lines.{Name}
 use Rattle.vl_layout.specs.Store.Things as things
 use Rattle.vl_layout.specs.Store.Things.{AJob, Step, Thing, thing_in}
 use Rattle.vl_layout.specs.declared.job.Job.{Job}
-use Rattle.vl_layout.specs.declared.job.OpenJob.{OpenJob}
 use Rattle.vl_layout.specs.declared.layout.Layout.{Layout}
-use Rattle.vl_model.specs.History.{History}
 use Rattle.vl_version.specs.declared.base.Base.{Base}
-use Rattle.vl_replay.specs.Replaying.{IsWaiting, Merges, TakesPlanned, Waits}
-use Rattle.vl_replay.specs.Standing.{Corresponds, Stand, open_in}
-use Rattle.vl_replay.specs.declared.fails.Halt.{Halt}
-use Rattle.vl_replay.specs.declared.replayer.open.Open.{Open}
+use Rattle.vl_replay.specs.Replaying.{Merges, TakesPlanned, Waits}
+use Rattle.vl_sequential.specs.declared.fails.Halt.{Halt}
 use Rattle.vl_replay.specs.declared.replayer.planned.Planned.{Planned}
 use Rattle.vl_replay.proofs.Merges.Keeping.{KeepsMerges, SameJobs}
-use Rattle.vl_replay.proofs.Names.BeginMaking.{some_there}
-use Rattle.vl_replay.proofs.Names.Reading.{no_reader}
 
 pub on_ok_of : {T : Type 0} (r : Result T Halt) (P : Type 0) → P → OnOk r P
 on_ok_of (Ok x) P p = p
@@ -46,7 +40,6 @@ module _ {W H R : Type 0} (writers : Writers W) (bytes : H → Option (List ℕ)
     there = jobs.still _ _ _ waits.there;
     only = λ name j made is. waits.only name j made (jobs.ours name j made is);
     lent = waits.lent;
-    unmoved = waits.unmoved;
   }
 
   module _ (merging merging' : Option OpenMerge) (planned planned' : Option (Planned (Base H R) H W g))
@@ -105,24 +98,6 @@ module _ {W H R : Type 0} (writers : Writers W) (bytes : H → Option (List ℕ)
     where
       true_false : true ≡ false → ⊥
       true_false e = cc
-
-  -- whether the name is in use
-  pub used_is : (os : List (Open H R)) (h : History) (l : Layout) (ts : List (Name × Thing))
-      (planned : Option (Planned (Base H R) H W g)) (name : Name)
-      → Stand bytes os ts h l → Waits writers bytes planned ts l → (taken : Bool) → taken ≡ is_some (open_in os name)
-      → (waiting : Bool) → waiting ≡ is_waiting name planned
-      → (taken || waiting) ≡ is_some (thing_in ts name)
-  used_is os h l ts planned name stand waits true is waiting waits_is =
-      sym (some_there H R bytes h l (open_in os name) (thing_in ts name) (sym is) (stand.each name))
-  used_is os h l ts planned name stand waits false is true waits_is = sym (waiting_there planned ts l name waits (sym waits_is))
-  used_is os h l ts planned name stand waits false is false waits_is =
-      no_reader H R bytes h l (λ (o : Option Thing). thing_in ts name ≡ o → false ≡ is_some o) (thing_in ts name)
-      (subst (λ (o : _). Corresponds bytes h l o (thing_in ts name)) (none_of (open_in os name) (sym is)) (stand.each name))
-      (λ there. refl) (λ job made there. absurd (waiting_free planned ts l name waits (sym waits_is) job made there)) refl
-    where
-      none_of : {T : Type 0} (o : Option T) → is_some o ≡ false → o ≡ None
-      none_of None e = refl
-      none_of (Some x) e = absurd cc
 
 -- ---- it was taken out, or not
 

@@ -23,23 +23,24 @@ use Rattle.vl_layout.specs.Store.Lines as store_lines
 use Rattle.vl_layout.specs.Store.Lines.{Name}
 use Rattle.vl_layout.specs.Store.Reading.{a_transaction, a_view, begin_as, begun_by}
 use Rattle.vl_layout.specs.Store.Things as store
-use Rattle.vl_layout.specs.Store.Things.{AJob, ATransaction, AView, Step, named, only, thing_of, without_thing}
+use Rattle.vl_layout.specs.Relocation.{Candidate, Pass}
+use Rattle.vl_layout.specs.Store.Things.{AJob, APass, ATransaction, AView, Step, named, only, thing_of, without_thing}
 use Rattle.vl_layout.specs.Tickets.{free_ticket, tickets_of}
 use Rattle.vl_layout.specs.laws.LowShows.{floor-begun}
 use Rattle.vl_layout.specs.declared.layout.Layout.{Layout}
 use Rattle.vl_model.specs.History.{History, last_number}
 use Rattle.vl_model.specs.Limits.{max_live}
 use Rattle.vl_replay.specs.Replaying.{MakesStep, StandsIn, state_by}
-use Rattle.vl_replay.specs.Sequential.{IsTold, State, history_of}
+use Rattle.vl_sequential.specs.Sequential.{IsTold, State, history_of}
 use Rattle.vl_replay.specs.Standing.{Corresponds, IsTaken, Stand, open_in, ticket_of}
 use Rattle.vl_replay.specs.declared.replayer.open.Open.{Open}
 use Rattle.vl_replay.specs.declared.replayer.open.Thing.{Thing}
 use Rattle.vl_replay.specs.declared.replayer.open.Thing.TheVariants.{Transaction, View}
-use Rattle.vl_replay.specs.laws.Laws.{IsSound, state_after-sound}
+use Rattle.vl_sequential.specs.laws.Laws.{IsSound, state_after-sound}
 use Rattle.vl_script.specs.declared.answer.Answer.{Answer}
 use Rattle.vl_script.specs.declared.answer.Answer.TheVariants as answers
 use Rattle.vl_script.specs.declared.line.Line.TheVariants as lines
-use Rattle.vl_replay.proofs.Disk.Betweens.{extends_itself}
+use Rattle.vl_sequential.specs.laws.Betweens.{extends_itself}
 use Rattle.vl_replay.proofs.Names.Ending.{begins_transaction, begins_view, ends_so}
 use Rattle.vl_layout.specs.Jobs.{Made}
 use Rattle.vl_layout.specs.declared.job.Job.{Job}
@@ -225,52 +226,34 @@ some_there H R bytes h l (Some (Transaction txn)) None used is = absurd is
 some_there H R bytes h l (Some (View view)) None used is = absurd is
 some_there H R bytes h l (Some x) (Some z) used is = refl
 
-there_is : (y : Option store.Thing) → is_some y ≡ true → (z : store.Thing) × (y ≡ Some z)
-there_is None used = absurd cc
-there_is (Some z) used = (z, refl)
-
-pub taken_makes : {H R : Type 0} (bytes : H → Option (List ℕ)) (seen : Option DiskState) (core : Core H) (os : List (Open H R)) (s : State)
-    (stands : StandsIn bytes seen core os s)
-    (name : Name) (thing : Beginning → ℕ → ℕ → store.Thing) → is_some (thing_of s.store name) ≡ true
-    → MakesStep bytes seen core os s (begin_as s.store name thing (thing_of s.store name)) (Ok (answers.Taken name))
-taken_makes {H} {R} bytes seen core os s stands name thing used =
-    let (z, there) = there_is (thing_of s.store name) used in
-    only_makes bytes seen core os s stands os (begin_as s.store name thing (thing_of s.store name)) (answers.Taken name)
-    (store_lines.Taken name)
-    (ap (begin_as s.store name thing) there) refl stands.names
-
--- ---- by the test of whether it is in use
-
-module _ {H R : Type 0} (os slice : List (Open H R)) (value : slice ≡ os) (q name : Name) (same : q ≡ name)
-    (test : Bool) (is : test ≡ is_some (open_in slice q)) where
-  tested : is_some (open_in os name) ≡ test
-  tested = ap (λ (xs : List (Open H R)). is_some (open_in xs name)) (sym value)
-      ∙ ap (λ (n : Name). is_some (open_in slice n)) (sym same) ∙ sym is
-
-  pub taken_of : test ≡ true → is_some (open_in os name) ≡ true
-  taken_of it = tested ∙ it
-
-  pub free_of : test ≡ false → open_in os name ≡ None
-  free_of it = none_or_some (open_in os name) (tested ∙ it)
-
--- a name that no reader has and no merge stands for nothing
+-- a name that no reader has, no merge and no pass stands for nothing
 pub bare_of : {H R : Type 0} (bytes : H → Option (List ℕ)) (h : History) (l : Layout) (o : Option (Thing H R))
     (y : Option store.Thing) → o ≡ None
-    → Corresponds bytes h l o y → ((job : Job) (made : Made) → y ≡ Some (AJob job made) → ⊥) → y ≡ None
-bare_of {H} {R} bytes h l o y none is no_merge =
+    → Corresponds bytes h l o y → ((job : Job) (made : Made) → y ≡ Some (AJob job made) → ⊥)
+    → ((pass : Pass) (batch : Option (List Candidate)) → y ≡ Some (APass pass batch) → ⊥) → y ≡ None
+bare_of {H} {R} bytes h l o y none is no_merge no_pass =
     no_reader H R bytes h l (λ (z : Option store.Thing). y ≡ z → y ≡ None) y
     (subst (λ (x : Option (Thing H R)). Corresponds bytes h l x y) none is)
-    (λ same. same) (λ job made same. absurd (no_merge job made same)) refl
+    (λ same. same) (λ job made same. absurd (no_merge job made same)) (λ pass batch same. absurd (no_pass pass batch same)) refl
 
 -- it is told that it stands for nothing
 pub unnamed_makes : {H R : Type 0} (bytes : H → Option (List ℕ)) (seen : Option DiskState) (core : Core H)
     (os : List (Open H R)) (s : State)
     (stands : StandsIn bytes seen core os s) (left : List (Open H R)) (name : Name) → IsTaken os left name None
     → ((job : Job) (made : Made) → thing_of s.store name ≡ Some (AJob job made) → ⊥)
+    → ((pass : Pass) (batch : Option (List Candidate)) → thing_of s.store name ≡ Some (APass pass batch) → ⊥)
     → (x : Option store.Thing → Step) → x None ≡ only (store_lines.Unknown name) s.store
     → MakesStep bytes seen core left s (x (thing_of s.store name)) (Ok (answers.Unknown name))
-unnamed_makes bytes seen core os s stands left name taken none x is =
+unnamed_makes bytes seen core os s stands left name taken none no_pass x is =
     only_makes bytes seen core os s stands left (x (thing_of s.store name)) (answers.Unknown name) (store_lines.Unknown name)
     (ap x (bare_of bytes (history_of s) s.store.layout (open_in os name) (thing_of s.store name) taken.found
-    (stands.names.each name) none) ∙ is) refl
+    (stands.names.each name) none no_pass) ∙ is) refl
     (none_taken bytes (history_of s) s.store.layout os left s.store.things name stands.names taken)
+
+-- where a name stands for nothing no reader has it
+pub unread_of : {H R : Type 0} (bytes : H → Option (List ℕ)) (h : History) (l : Layout) (o : Option (Thing H R)) (y : Option store.Thing)
+    → Corresponds bytes h l o y → y ≡ None → o ≡ None
+unread_of bytes h l None y is none = refl
+unread_of bytes h l (Some (Transaction txn)) None is none = absurd is
+unread_of bytes h l (Some (View view)) None is none = absurd is
+unread_of bytes h l (Some thing) (Some z) is none = absurd cc

@@ -32,16 +32,16 @@ use Rattle.vl_model.specs.Limits.{max_commit_number}
 use Rattle.vl_model.specs.declared.counter.Counter.{Counter}
 use Rattle.vl_model.specs.declared.counter.Counter.TheVariants.{Commit as CommitNumber}
 use Rattle.vl_replay.specs.Replaying.{MakesStep, StandsIn, state_by}
-use Rattle.vl_replay.specs.Sequential.{IsTold, State, history_of}
+use Rattle.vl_sequential.specs.Sequential.{IsTold, State, history_of}
 use Rattle.vl_replay.specs.Standing.{IsTaken, IsTransaction, Stand}
 use Rattle.vl_replay.specs.declared.replayer.open.Open.{Open}
 use Rattle.vl_replay.specs.declared.replayer.open.Thing.TheVariants.{Transaction}
-use Rattle.vl_replay.specs.laws.Growing.{history_more}
-use Rattle.vl_replay.specs.laws.Laws.{IsSound, state_after-sound}
+use Rattle.vl_sequential.specs.laws.Growing.{history_more}
+use Rattle.vl_sequential.specs.laws.Laws.{IsSound, state_after-sound}
 use Rattle.vl_script.specs.declared.answer.Answer.{Answer}
 use Rattle.vl_script.specs.declared.answer.Answer.TheVariants as answers
 use Rattle.vl_script.specs.declared.line.Line.TheVariants as lines
-use Rattle.vl_replay.proofs.Disk.Betweens.{extends_one}
+use Rattle.vl_sequential.specs.laws.Betweens.{extends_one}
 use Rattle.vl_replay.proofs.Names.BeginMaking.{ended_stands, stands_as}
 use Rattle.vl_replay.proofs.Names.Ending.{ends_so}
 use Rattle.vl_replay.proofs.Names.Making.{txn_back}

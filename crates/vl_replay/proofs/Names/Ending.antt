@@ -32,12 +32,12 @@ use Rattle.vl_layout.specs.Tickets.{free_ticket, tickets_of}
 use Rattle.vl_layout.specs.declared.layout.Layout.{Layout}
 use Rattle.vl_model.specs.History.{Extends, History, last_number}
 use Rattle.vl_model.specs.laws.ExplainedLaws.{explained-extends}
-use Rattle.vl_replay.specs.Readers.{IsReader, IsWithoutTables}
+use Rattle.vl_sequential.specs.Readers.{IsReader, IsWithoutTables}
 use Rattle.vl_replay.specs.Standing.{Corresponds, IsTaken, Stand, open_in, ticket_of}
 use Rattle.vl_replay.specs.declared.replayer.open.Open.{Open}
 use Rattle.vl_replay.specs.declared.replayer.open.Thing.{Thing}
 use Rattle.vl_replay.specs.declared.replayer.open.Thing.TheVariants.{Transaction, View}
-use Rattle.vl_replay.proofs.Disk.Betweens.{extends_itself, last-extends}
+use Rattle.vl_sequential.specs.laws.Betweens.{extends_itself, last-extends}
 use Rattle.vl_replay.proofs.Names.Lookups.{taken_none}
 use Rattle.vl_replay.proofs.Names.Reading.{it_reads}
 use Rattle.vl_replay.proofs.Names.Standings.{stands_with, stands_without}
@@ -115,7 +115,7 @@ module _ {H R : Type 0} (bytes : H → Option (List ℕ)) (h k : History) (l m :
   still_stands None (Some (ATransaction t b)) on is = absurd is
   still_stands None (Some (AView v b)) on is = absurd is
   still_stands None (Some (AJob job made)) on is = tt
-  still_stands None (Some (APass pass batch)) on is = absurd is
+  still_stands None (Some (APass pass batch)) on is = tt
   still_stands (Some (Transaction txn)) None on is = absurd is
   still_stands (Some (Transaction txn)) (Some (ATransaction t b)) on (is, began) = (
     (record {

@@ -19,15 +19,15 @@ use Rattle.vl_layout.specs.declared.file_name.FileName.{FileName}
 use Rattle.vl_layout.specs.declared.layout.Layout.{Layout}
 use Rattle.vl_layout.specs.declared.live.Live.{Live}
 use Rattle.vl_model.specs.History.{History}
-use Rattle.vl_replay.specs.Halts.{HaltsByDisk, HaltsByRead}
-use Rattle.vl_replay.specs.Readers.{IsWithoutTables}
+use Rattle.vl_sequential.specs.Halts.{HaltsByDisk, HaltsByRead}
+use Rattle.vl_sequential.specs.Readers.{IsWithoutTables}
 use Rattle.vl_replay.specs.Replaying.{MakesStep, StandsIn, state_by}
-use Rattle.vl_replay.specs.Sequential.{State, history_of, without_lengths}
+use Rattle.vl_sequential.specs.Sequential.{State, history_of, without_lengths}
 use Rattle.vl_replay.specs.Standing.{Stand, told_keep}
-use Rattle.vl_replay.specs.declared.fails.Halt.{Halt}
+use Rattle.vl_sequential.specs.declared.fails.Halt.{Halt}
 use Rattle.vl_replay.specs.declared.replayer.open.Open.{Open}
-use Rattle.vl_replay.specs.laws.Laws.{IsSound}
-use Rattle.vl_replay.proofs.Disk.Betweens.{extends_itself}
+use Rattle.vl_sequential.specs.laws.Laws.{IsSound}
+use Rattle.vl_sequential.specs.laws.Betweens.{extends_itself}
 use Rattle.vl_replay.proofs.Names.Ending.{still_stands}
 use Rattle.vl_replay.proofs.Names.Serving.{Serves}
 use Rattle.vl_script.specs.declared.answer.Answer.{Answer}

@@ -1,12 +1,12 @@
 -- Looking names up, where one is put, or taken out.
 use Rattle.std.proofs.Common.{◌≡◌, ◌+◌, ◌<◌, ℕ, zero, suc, Bool, true, false, true≢false, cond, not, List, [], ◌∷◌}
-use Rattle.std.proofs.Common.{◌++◌, ◌≤◌, drop, get_or, length, refl, ap, sym, ◌∙◌, subst, arith}
+use Rattle.std.proofs.Common.{◌++◌, drop, get_or, length, refl, ap, sym, ◌∙◌, subst, arith}
 use Rattle.std.specs.Prelude.{Option, None, Some}
 use Rattle.std.specs.List.{remove, slice_index_or}
 use Rattle.std.specs.Option.{is_some, option_map}
 use Rattle.std.specs.Ordering.{eq_by_cmp}
 use Rattle.std.specs.Str.{bytes_eq}
-use Rattle.std.proofs.lemmas.List.{drop_all, drop_more}
+use Rattle.std.proofs.lemmas.List.{drop_more}
 use Rattle.std.proofs.lemmas.Slice.Eq.{bytes_eq-Decides}
 use Rattle.std.proofs.lemmas.Map.Text.{is_eq-slice_cmp}
 use Rattle.vl_layout.specs.Store.Lines.{Name}
@@ -85,10 +85,6 @@ behind_some (Some n) at is = (n, refl, same (n + 1) at is ∙ (let one : n + 1 �
   where
     same : (a b : ℕ) → Some a ≡ Some b → b ≡ a
     same a b e = cc
-
-none_more : (x : Option ℕ) → x ≡ option_map (λ n. n + 0) x
-none_more None = refl
-none_more (Some n) = ap (λ (m : ℕ). Some m) (let same : n ≡ n + 0 = omega arith in same)
 
 one_more : (at : ℕ) (x : Option ℕ) → option_map (λ n. n + at) (option_map (λ n. n + 1) x) ≡ option_map (λ n. n + (at + 1)) x
 one_more at None = refl
@@ -239,9 +235,6 @@ module _ {H R : Type 0} where
   abbrev pub PlaceFrom : Name → List (Open H R) → ℕ → Type 0
   PlaceFrom name os at = place_of name os ≡ option_map (λ n. n + at) (place_of name (drop at os))
 
-  pub place_begins : (name : Name) (os : List (Open H R)) → PlaceFrom name os 0
-  place_begins name os = none_more (place_of name os)
-
   here_is : (name : Name) (os : List (Open H R)) (at : ℕ) (o : Open H R) → at < length os → o ≡ get_or os at o → (b : Bool)
       → bytes_eq name o.name ≡ b
       → place_of name (drop at os) ≡ cond b (Some 0) (option_map (λ n. n + 1) (place_of name (drop (at + 1) os)))
@@ -259,10 +252,6 @@ module _ {H R : Type 0} where
   place_found name os at o within is same from =
       sym (from ∙ ap (option_map (λ n. n + at)) (here_is name os at o within is true same)
       ∙ ap (λ (m : ℕ). Some m) (let first : 0 + at ≡ at = omega arith in first))
-
-  pub place_ends : (name : Name) (os : List (Open H R)) (at : ℕ) → length os ≤ at → PlaceFrom name os at → None ≡ place_of name os
-  place_ends name os at past from = sym
-      (from ∙ ap (λ (xs : List (Open H R)). option_map (λ n. n + at) (place_of name xs)) (drop_all at os past))
 
   -- What stands at a name's place is taken out.
   pub taken_at : (name : Name) (os new : List (Open H R)) (at : ℕ) (o : Open H R) → Some at ≡ place_of name os → AreOnce os

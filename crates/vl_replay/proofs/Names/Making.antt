@@ -18,7 +18,8 @@ use Rattle.vl_layout.specs.Store.Lines as store_lines
 use Rattle.vl_layout.specs.Store.Lines.{Name}
 use Rattle.vl_layout.specs.Store.Reading.{write_by}
 use Rattle.vl_layout.specs.Store.Things as store
-use Rattle.vl_layout.specs.Store.Things.{AJob, ATransaction, AView, Step, only, thing_in, thing_of}
+use Rattle.vl_layout.specs.Store.Things.{AJob, APass, ATransaction, AView, Step, only, thing_in, thing_of}
+use Rattle.vl_layout.specs.Relocation.{Candidate, Pass}
 use Rattle.vl_layout.specs.declared.layout.Layout.{Layout}
 use Rattle.vl_model.specs.History.{History}
 use Rattle.vl_model.specs.Reads.{Read}
@@ -27,16 +28,16 @@ use Rattle.vl_model.specs.declared.change.Change.TheVariants.{Delete as Deletes,
 use Rattle.vl_txn.specs.Refusals.{IsWritten}
 use Rattle.vl_txn.specs.declared.set_fail.SetFail.{SetFail}
 use Rattle.vl_replay.specs.Replaying.{MakesStep, StandsIn, state_by}
-use Rattle.vl_replay.specs.Sequential.{IsTold, State, history_of}
+use Rattle.vl_sequential.specs.Sequential.{IsTold, State, history_of}
 use Rattle.vl_layout.specs.Jobs.{Made}
 use Rattle.vl_layout.specs.declared.job.Job.{Job}
-use Rattle.vl_replay.specs.Readers.{IsWithoutTables}
+use Rattle.vl_sequential.specs.Readers.{IsWithoutTables}
 use Rattle.vl_replay.specs.Standing.{Corresponds, IsTaken, IsTransaction, Stand, open_in, told_write}
-use Rattle.vl_replay.specs.declared.fails.Halt.{Halt}
+use Rattle.vl_sequential.specs.declared.fails.Halt.{Halt}
 use Rattle.vl_replay.specs.declared.replayer.open.Open.{Open}
 use Rattle.vl_replay.specs.declared.replayer.open.Thing.{Thing}
 use Rattle.vl_replay.specs.declared.replayer.open.Thing.TheVariants.{Transaction, View}
-use Rattle.vl_replay.specs.laws.Laws.{IsSound, state_after-sound}
+use Rattle.vl_sequential.specs.laws.Laws.{IsSound, state_after-sound}
 use Rattle.vl_script.specs.declared.answer.Answer.{Answer}
 use Rattle.vl_script.specs.declared.answer.Answer.TheVariants as answers
 use Rattle.vl_script.specs.declared.line.Line.TheVariants as lines
@@ -136,18 +137,20 @@ module _ {H R : Type 0} (bytes : H → Option (List ℕ)) (seen : Option DiskSta
     -- the name stands for no reader
     pub nothing_there : IsTaken os left name None → (P : Option store.Thing → Type 0) → P None
         → ((job : Job) (made : Made) → P (Some (AJob job made)))
+        → ((pass : Pass) (batch : Option (List Candidate)) → P (Some (APass pass batch)))
         → P (thing_of s.store name)
-    nothing_there taken P none merge =
+    nothing_there taken P none merge passes =
         no_reader H R bytes h l P (thing_of s.store name)
         (subst (λ (o : Option (Thing H R)). Corresponds bytes h l o (thing_of s.store name)) taken.found
-        (stands.names.each name)) none merge
+        (stands.names.each name)) none merge passes
 
     pub unknown_makes : IsTaken os left name None → (x : Option store.Thing → Step) → x None ≡ only (store_lines.Unknown name) s.store
         → ((job : Job) (made : Made) → x (Some (AJob job made)) ≡ only (store_lines.Unknown name) s.store)
+        → ((pass : Pass) (batch : Option (List Candidate)) → x (Some (APass pass batch)) ≡ only (store_lines.Unknown name) s.store)
         → MakesStep bytes seen core left s (x (thing_of s.store name)) (Ok (answers.Unknown name))
-    unknown_makes taken x is merge =
+    unknown_makes taken x is merge passes =
         only_makes left (x (thing_of s.store name)) (answers.Unknown name) (store_lines.Unknown name)
-        (nothing_there taken (λ (o : Option store.Thing). x o ≡ only (store_lines.Unknown name) s.store) is merge) refl
+        (nothing_there taken (λ (o : Option store.Thing). x o ≡ only (store_lines.Unknown name) s.store) is merge passes) refl
         (none_taken bytes h l os left ts name stands.names taken)
 
     module _ (view : EngineView H R) (taken : IsTaken os left name (Some (View view))) where

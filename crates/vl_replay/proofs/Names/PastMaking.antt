@@ -22,12 +22,12 @@ use Rattle.vl_model.specs.History.{History}
 use Rattle.vl_model.specs.Keys.{Stored}
 use Rattle.vl_model.specs.Reads.{Read}
 use Rattle.vl_model.specs.Versions.{low}
-use Rattle.vl_replay.specs.Failing.{ReaderFailed}
-use Rattle.vl_replay.specs.Halts.{HaltsByDamage, HaltsByDisk, HaltsByReader}
+use Rattle.vl_sequential.specs.Failing.{ReaderFailed}
+use Rattle.vl_sequential.specs.Halts.{HaltsByDamage, HaltsByDisk, HaltsByReader}
 use Rattle.vl_replay.specs.Replaying.{MakesStep, OnlyNoMemory, StandsIn}
-use Rattle.vl_replay.specs.Sequential.{State, history_of, without_lengths}
+use Rattle.vl_sequential.specs.Sequential.{State, history_of, without_lengths}
 use Rattle.vl_replay.specs.Standing.{IsTaken, Stand, told_past, told_value}
-use Rattle.vl_replay.specs.declared.fails.Halt.{Halt}
+use Rattle.vl_sequential.specs.declared.fails.Halt.{Halt}
 use Rattle.vl_replay.specs.declared.replayer.open.Open.{Open}
 use Rattle.vl_replay.specs.declared.replayer.open.Thing.TheVariants.{Transaction, View}
 use Rattle.vl_script.specs.declared.answer.Answer.{Answer}

@@ -9,16 +9,17 @@ use Rattle.vl_core.specs.declared.kept.Core.{Core}
 use Rattle.vl_layout.specs.Store.Lines.{Name}
 use Rattle.vl_layout.specs.Store.Things as store
 use Rattle.vl_layout.specs.Store.Lines as store_lines
-use Rattle.vl_layout.specs.Store.Things.{AJob, Step, only, thing_of}
+use Rattle.vl_layout.specs.Relocation.{Candidate, Pass}
+use Rattle.vl_layout.specs.Store.Things.{AJob, APass, Step, only, thing_of}
 use Rattle.vl_layout.specs.Jobs.{Made}
 use Rattle.vl_layout.specs.declared.job.Job.{Job}
 use Rattle.vl_layout.specs.declared.layout.Layout.{Layout}
 use Rattle.vl_model.specs.History.{History}
 use Rattle.vl_model.specs.Keys.{key_cmp}
 use Rattle.vl_replay.specs.Replaying.{MakesStep, StandsIn}
-use Rattle.vl_replay.specs.Sequential.{State}
+use Rattle.vl_sequential.specs.Sequential.{State}
 use Rattle.vl_replay.specs.Standing.{AreOnce, Corresponds, IsTaken, Stand, open_in, place_of}
-use Rattle.vl_replay.specs.declared.fails.Halt.{Halt}
+use Rattle.vl_sequential.specs.declared.fails.Halt.{Halt}
 use Rattle.vl_replay.specs.declared.replayer.open.Open.{Open}
 use Rattle.vl_replay.specs.declared.replayer.open.Thing.{Thing}
 use Rattle.vl_script.specs.declared.answer.Answer.{Answer}
@@ -148,10 +149,11 @@ module _ {H R : Type 0} (bytes : H → Option (List ℕ)) (seen : Option DiskSta
   -- the name isn't in use
   pub free_returns : place_of q slice ≡ None → (x : Option store.Thing → Step) → x None ≡ only (store_lines.Unknown name) s.store
       → ((job : Job) (made : Made) → x (Some (AJob job made)) ≡ only (store_lines.Unknown name) s.store)
+      → ((pass : Pass) (batch : Option (List Candidate)) → x (Some (APass pass batch)) ≡ only (store_lines.Unknown name) s.store)
       → MakesStep bytes seen core os s (x (thing_of s.store name)) (Ok (answers.Unknown name))
-  free_returns is x unknown merge =
+  free_returns is x unknown merge passes =
       unknown_makes bytes seen core os s stands os name
-      (taken_none name os stands.names.once (place_none name os (place_is None is))) x unknown merge
+      (taken_none name os stands.names.once (place_none name os (place_is None is))) x unknown merge passes
 
   module _ (at : ℕ) (is : place_of q slice ≡ Some at) (o : Open H R) (there : o ≡ slice_index_or os at o) where
     -- what stands there, as if it had been taken out

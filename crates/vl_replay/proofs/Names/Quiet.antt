@@ -20,10 +20,10 @@ use Rattle.vl_model.specs.Limits.{max_key_bytes}
 use Rattle.vl_model.specs.declared.change.Change.{Change}
 use Rattle.vl_model.specs.declared.way.Way.{Way}
 use Rattle.vl_replay.specs.Replaying.{StandsIn, state_by}
-use Rattle.vl_replay.specs.Sequential.{State, history_of}
+use Rattle.vl_sequential.specs.Sequential.{State, history_of}
 use Rattle.vl_replay.specs.Standing.{Stand}
 use Rattle.vl_replay.specs.declared.replayer.open.Open.{Open}
-use Rattle.vl_replay.specs.laws.Laws.{IsSound}
+use Rattle.vl_sequential.specs.laws.Laws.{IsSound}
 
 -- the commits and the layout stay
 pub record IsQuiet (s : store.State) (x : Step) : Type 0 where

@@ -27,14 +27,14 @@ use Rattle.vl_txn.specs.Refusals.{refused_key}
 use Rattle.vl_txn.specs.declared.key_fail.KeyFail.{KeyFail}
 use Rattle.vl_txn.specs.declared.key_fail.KeyFail.TheVariants.{EmptyKey, KeyTooLong}
 use Rattle.vl_replay.specs.Replaying.{MakesStep, OnlyNoMemory, StandsIn, state_by}
-use Rattle.vl_replay.specs.Sequential.{State, as_told, history_of, without_lengths}
+use Rattle.vl_sequential.specs.Sequential.{State, as_told, history_of, without_lengths}
 use Rattle.vl_replay.specs.Standing.{IsTaken, tell_of, told_by, told_value}
-use Rattle.vl_replay.specs.Failing.{ReaderFailed}
-use Rattle.vl_replay.specs.Halts.{HaltsByDamage, HaltsByDisk, HaltsByReader}
-use Rattle.vl_replay.specs.declared.fails.Halt.{Halt}
+use Rattle.vl_sequential.specs.Failing.{ReaderFailed}
+use Rattle.vl_sequential.specs.Halts.{HaltsByDamage, HaltsByReader}
+use Rattle.vl_sequential.specs.declared.fails.Halt.{Halt}
 use Rattle.vl_replay.specs.declared.replayer.open.Open.{Open}
 use Rattle.vl_replay.specs.declared.replayer.open.Thing.TheVariants.{Transaction, View}
-use Rattle.vl_replay.specs.laws.Laws.{IsSound, state_after-sound}
+use Rattle.vl_sequential.specs.laws.Laws.{IsSound, state_after-sound}
 use Rattle.vl_script.specs.declared.answer.Answer.{Answer}
 use Rattle.vl_script.specs.declared.answer.Answer.TheVariants as answers
 use Rattle.vl_script.specs.declared.line.Line.TheVariants as lines
@@ -95,23 +95,11 @@ sound_told tell (Err unread.NoMemory) sound near = refl
 sound_told tell (Err (unread.Disk name)) sound near = absurd (near tt)
 sound_told tell (Err (unread.Damaged name place)) sound near = absurd (sound tt)
 
-pub not_by_disk : {V : Type 0} (tell : V → Answer) (result : Result V ReadFail) → HaltsByDisk (told_by tell result) → ⊥
-not_by_disk tell (Ok value) halts = halts
-not_by_disk tell (Err unread.EmptyKey) halts = halts
-not_by_disk tell (Err unread.KeyTooLong) halts = halts
-not_by_disk tell (Err unread.NoMemory) halts = halts
-not_by_disk tell (Err (unread.Disk name)) halts = halts
-not_by_disk tell (Err (unread.Damaged name place)) halts = halts
-
 -- so it is with what a call answers that tells it
 pub call_sound : {V : Type 0} (tell : V → Answer) (read : Result V ReadFail) (result : Result Answer Halt)
     → result ≡ told_by tell read → IsSoundRead read
     → (ReadFailed read → ⊥) → OnlyNoMemory result
 call_sound tell read result is sound near = subst (λ (r : Result Answer Halt). OnlyNoMemory r) (sym is) (sound_told tell read sound near)
-
-pub call_not_by_disk : {V : Type 0} (tell : V → Answer) (read : Result V ReadFail) (result : Result Answer Halt)
-    → result ≡ told_by tell read → HaltsByDisk result → ⊥
-call_not_by_disk tell read result is halts = not_by_disk tell read (subst (λ (r : Result Answer Halt). HaltsByDisk r) is halts)
 
 -- no damage is told where none was met,
 undamaged_told : {V : Type 0} (tell : V → Answer) (result : Result V ReadFail) → IsSoundRead result

@@ -12,7 +12,6 @@ use Rattle.vl_engine.specs.declared.txn.Txn.{Txn}
 use Rattle.vl_engine.specs.declared.view.View.{View as EngineView}
 use Rattle.vl_layout.specs.AtAnswer.{Beginning}
 use Rattle.vl_layout.specs.Rulings.Commit.{Transaction as ATxn}
-use Rattle.vl_layout.specs.Sources.{tables}
 use Rattle.vl_layout.specs.Store.Commits.{history_in, value_in}
 use Rattle.vl_layout.specs.Store.Lines.{Answer, Invalid, Name}
 use Rattle.vl_layout.specs.Store.Reading.{get_by, get_own}
@@ -28,8 +27,9 @@ use Rattle.vl_model.specs.declared.change.Change.{Change}
 use Rattle.vl_txn.specs.Reads.{with_get}
 use Rattle.vl_replay.specs.Standing.{Corresponds, IsTaken, IsTransaction, Stand, open_in, ticket_of}
 use Rattle.vl_layout.specs.Jobs.{Made}
+use Rattle.vl_layout.specs.Relocation.{Candidate, Pass}
 use Rattle.vl_layout.specs.declared.job.Job.{Job}
-use Rattle.vl_replay.specs.Readers.{IsReader, IsWithoutTables}
+use Rattle.vl_sequential.specs.Readers.{IsReader, IsWithoutTables}
 use Rattle.vl_replay.specs.declared.replayer.open.Open.{Open}
 use Rattle.vl_replay.specs.declared.replayer.open.Thing.{Thing}
 use Rattle.vl_replay.specs.declared.replayer.open.Thing.TheVariants.{Transaction, View}
@@ -102,15 +102,16 @@ module _ {H R : Type 0} (bytes : H → Option (List ℕ)) (h : History) (l : Lay
       (λ other z apart at reads same. apart
       (stand.apart other name z x at is reads (it_reads os left ts name old x stand taken is) (sym same ∙ sym ticket)))
 
--- nothing that reads, on both sides: what holds of nothing and of each merge holds of it
+-- nothing that reads, on both sides: what holds of nothing, of each merge and of each pass holds of it
 pub no_reader : (H R : Type 0) (bytes : H → Option (List ℕ)) (h : History) (l : Layout)
     (P : Option store.Thing → Type 0) (y : Option store.Thing)
-    → Corresponds {H = H} {R = R} bytes h l None y → P None → ((job : Job) (made : Made) → P (Some (AJob job made))) → P y
-no_reader H R bytes h l P None is none merge = none
-no_reader H R bytes h l P (Some (ATransaction t b)) is none merge = absurd is
-no_reader H R bytes h l P (Some (AView v b)) is none merge = absurd is
-no_reader H R bytes h l P (Some (AJob job made)) is none merge = merge job made
-no_reader H R bytes h l P (Some (APass pass batch)) is none merge = absurd is
+    → Corresponds {H = H} {R = R} bytes h l None y → P None → ((job : Job) (made : Made) → P (Some (AJob job made)))
+    → ((pass : Pass) (batch : Option (List Candidate)) → P (Some (APass pass batch))) → P y
+no_reader H R bytes h l P None is none merge passes = none
+no_reader H R bytes h l P (Some (ATransaction t b)) is none merge passes = absurd is
+no_reader H R bytes h l P (Some (AView v b)) is none merge passes = absurd is
+no_reader H R bytes h l P (Some (AJob job made)) is none merge passes = merge job made
+no_reader H R bytes h l P (Some (APass pass batch)) is none merge passes = passes pass batch
 
 -- ---- a read of a key in a transaction
 
@@ -165,7 +166,8 @@ module _ {H R : Type 0} (bytes : H → Option (List ℕ)) (s : store.State) (pro
             (record {
               same = only_notes_asked txn new noted.reads keeps ∙ ap (λ (u : ATxn). record u { reads = noted.reads }) is.same;
               sees = subst (Sees bytes new h)
-                  (on_false (is_some (get txn.writes key)) t.reads (t.reads ++ KeyRead key (value_at h txn.number key) ∷ []) (ap is_some own)
+                  (on_false (is_some (get txn.writes key)) t.reads (t.reads ++ KeyRead key (value_at h txn.number key) ∷ [])
+                  (ap is_some own)
                   ∙ ap (λ (v : Option Stored). t.reads ++ KeyRead key v ∷ []) (sym value)) sees;
               live = subst (λ (x : Txn H R). IsLive s.layout x.ticket x.number) (sym keeps) is.live;
               near = λ none. subst (λ (x : Txn H R). IsInMemory x.version) (sym keeps) (is.near none);

@@ -10,12 +10,13 @@ use Rattle.vl_layout.specs.Store.Lines as store_lines
 use Rattle.vl_layout.specs.Store.Lines.{Name}
 use Rattle.vl_layout.specs.Store.Things as store
 use Rattle.vl_layout.specs.Jobs.{Made}
-use Rattle.vl_layout.specs.Store.Things.{AJob, AView, Step, only, thing_of}
+use Rattle.vl_layout.specs.Relocation.{Candidate, Pass}
+use Rattle.vl_layout.specs.Store.Things.{AJob, APass, AView, Step, only, thing_of}
 use Rattle.vl_layout.specs.declared.job.Job.{Job}
 use Rattle.vl_replay.specs.Replaying.{MakesStep, StandsIn, state_by}
-use Rattle.vl_replay.specs.Sequential.{State, state_after, step_to}
+use Rattle.vl_sequential.specs.Sequential.{State, state_after, step_to}
 use Rattle.vl_replay.specs.Standing.{AreOnce, IsTaken}
-use Rattle.vl_replay.specs.declared.fails.Halt.{Halt}
+use Rattle.vl_sequential.specs.declared.fails.Halt.{Halt}
 use Rattle.vl_replay.specs.declared.replayer.open.Open.{Open}
 use Rattle.vl_replay.specs.declared.replayer.open.Thing.{Thing}
 use Rattle.vl_replay.specs.declared.replayer.open.Thing.TheVariants.{View}
@@ -40,8 +41,10 @@ module _ {H R : Type 0} (bytes : H → Option (List ℕ)) (seen : Option DiskSta
   pub unknown_returns : (AreOnce os → IsTaken os left q None) → (x : Option store.Thing → Step)
       → x None ≡ only (store_lines.Unknown name) s.store
       → ((job : Job) (made : Made) → x (Some (AJob job made)) ≡ only (store_lines.Unknown name) s.store)
+      → ((pass : Pass) (batch : Option (List Candidate)) → x (Some (APass pass batch)) ≡ only (store_lines.Unknown name) s.store)
       → MakesStep bytes seen core left s (x (thing_of s.store name)) (Ok (answers.Unknown name))
-  unknown_returns taken x is merge = unknown_makes bytes seen core os s stands left name (taken_as None taken) x is merge
+  unknown_returns taken x is merge passes =
+      unknown_makes bytes seen core os s stands left name (taken_as None taken) x is merge passes
 
   pub read_only_returns : (view : EngineView H R) (new : List (Open H R)) (found : Thing H R) → found ≡ View view
       → (AreOnce os → IsTaken os left q (Some found))

@@ -24,12 +24,12 @@ use Rattle.vl_txn.specs.Reads as noting
 use Rattle.vl_txn.specs.declared.key_fail.KeyFail.{KeyFail}
 use Rattle.vl_txn.specs.declared.key_fail.KeyFail.TheVariants.{EmptyKey, KeyTooLong}
 use Rattle.vl_replay.specs.Replaying.{MakesStep, StandsIn}
-use Rattle.vl_replay.specs.Sequential.{IsTold, State, history_of, without_lengths}
+use Rattle.vl_sequential.specs.Sequential.{IsTold, State, history_of, without_lengths}
 use Rattle.vl_replay.specs.Standing.{IsTaken, told_by}
 use Rattle.vl_replay.specs.declared.replayer.open.Open.{Open}
 use Rattle.vl_replay.specs.declared.replayer.open.Thing.TheVariants.{Transaction, View}
-use Rattle.vl_replay.specs.laws.Explained.{rows_are}
-use Rattle.vl_replay.specs.laws.Laws.{state_after-sound}
+use Rattle.vl_sequential.specs.laws.Explained.{rows_are}
+use Rattle.vl_sequential.specs.laws.Laws.{state_after-sound}
 use Rattle.vl_script.specs.declared.answer.Answer.{Answer}
 use Rattle.vl_script.specs.declared.answer.Answer.TheVariants as answers
 use Rattle.vl_script.specs.declared.line.Line.TheVariants as lines

@@ -24,7 +24,7 @@ use Rattle.vl_txn.specs.Reads as noting
 use Rattle.vl_replay.specs.Standing.{IsTaken, IsTransaction, Stand}
 use Rattle.vl_replay.specs.declared.replayer.open.Open.{Open}
 use Rattle.vl_replay.specs.declared.replayer.open.Thing.TheVariants.{Transaction}
-use Rattle.vl_replay.specs.laws.Explained.{rows_are}
+use Rattle.vl_sequential.specs.laws.Explained.{rows_are}
 use Rattle.vl_replay.proofs.Names.Lookups.{on_true}
 use Rattle.vl_replay.proofs.Names.Reading.{put_back}
 

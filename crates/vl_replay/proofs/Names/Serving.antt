@@ -10,7 +10,7 @@ use Rattle.vl_layout.specs.Ruling.{Ruling}
 use Rattle.vl_layout.specs.declared.layout.Layout.{Layout}
 use Rattle.vl_model.specs.History.{History}
 use Rattle.vl_replay.specs.Replaying.{StandsIn}
-use Rattle.vl_replay.specs.Sequential.{State, history_of}
+use Rattle.vl_sequential.specs.Sequential.{State, history_of}
 use Rattle.vl_replay.specs.declared.replayer.open.Open.{Open}
 
 pub record Serves {H : Type 0} (bytes : H → Option (List ℕ)) (seen : Option DiskState) (openable : Bool) (core : Core H)

@@ -8,7 +8,7 @@ use Rattle.vl_layout.specs.Store.Things.{named, thing_in, without_name}
 use Rattle.vl_layout.specs.declared.layout.Layout.{Layout}
 use Rattle.vl_model.specs.History.{History}
 use Rattle.vl_model.specs.Keys.{key_cmp}
-use Rattle.vl_replay.specs.Readers.{IsReader}
+use Rattle.vl_sequential.specs.Readers.{IsReader}
 use Rattle.vl_replay.specs.Standing.{Corresponds, IsTaken, Stand, open_in, ticket_of}
 use Rattle.vl_replay.specs.declared.replayer.open.Open.{Open}
 use Rattle.vl_replay.specs.declared.replayer.open.Thing.{Thing}

@@ -33,16 +33,16 @@ use Rattle.vl_model.specs.History.{History}
 use Rattle.vl_model.specs.Limits.{max_file_number, max_version_number}
 use Rattle.vl_model.specs.declared.counter.Counter.TheVariants as counter
 use Rattle.vl_model.specs.declared.log_frame.LogFrame.{LogFrame}
-use Rattle.vl_replay.specs.Halts.{HaltsByDisk, HaltsByRead}
+use Rattle.vl_sequential.specs.Halts.{HaltsByDisk, HaltsByRead}
 use Rattle.vl_layout.specs.declared.file_name.Retired.{Retired}
-use Rattle.vl_replay.specs.Readers.{IsWithoutTables, is_table}
+use Rattle.vl_sequential.specs.Readers.{IsWithoutTables, is_table}
 use Rattle.vl_replay.specs.Replaying.{MakesStep, StandsIn, state_by}
-use Rattle.vl_replay.specs.Sequential.{State, files_behind, history_of, without_lengths}
+use Rattle.vl_sequential.specs.Sequential.{State, files_behind, history_of, without_lengths}
 use Rattle.vl_replay.specs.Standing.{Stand, told_step}
-use Rattle.vl_replay.specs.declared.fails.Halt.{Halt}
+use Rattle.vl_sequential.specs.declared.fails.Halt.{Halt}
 use Rattle.vl_replay.specs.declared.replayer.open.Open.{Open}
-use Rattle.vl_replay.specs.laws.Laws.{IsSound}
-use Rattle.vl_replay.proofs.Disk.Betweens.{extends_itself}
+use Rattle.vl_sequential.specs.laws.Laws.{IsSound}
+use Rattle.vl_sequential.specs.laws.Betweens.{extends_itself}
 use Rattle.vl_replay.proofs.Names.Ending.{still_stands}
 use Rattle.vl_replay.proofs.Names.Serving.{Serves}
 use Rattle.vl_script.specs.declared.answer.Answer.{Answer}

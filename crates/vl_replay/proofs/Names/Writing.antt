@@ -27,7 +27,7 @@ use Rattle.vl_model.specs.declared.change.Change.{Change}
 use Rattle.vl_txn.specs.Refusals.{IsWritten, fits_transaction, refused_write}
 use Rattle.vl_txn.specs.declared.set_fail.SetFail.{SetFail}
 use Rattle.vl_txn.specs.declared.set_fail.SetFail.TheVariants.{EmptyKey, KeyTooLong, NoMemory, TooBig, ValueTooLong}
-use Rattle.vl_replay.specs.Sequential.{IsTold, without_lengths}
+use Rattle.vl_sequential.specs.Sequential.{IsTold, without_lengths}
 use Rattle.vl_replay.specs.Standing.{IsTaken, IsTransaction, Stand, told_write}
 use Rattle.vl_replay.specs.declared.replayer.open.Open.{Open}
 use Rattle.vl_replay.specs.declared.replayer.open.Thing.TheVariants.{Transaction}

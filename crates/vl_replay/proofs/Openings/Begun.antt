@@ -1,6 +1,6 @@
 -- What a replayer stands for that was just opened, and what its disk holds, by what the engine's opening gave.
 use Rattle.std.proofs.Common.{◌≡◌, ◌≤◌, ℕ, List, [], refl, ap, sym, ◌∙◌, subst, arith}
-use Rattle.std.specs.Prelude.{IsTrue, Option, length}
+use Rattle.std.specs.Prelude.{IsTrue, None, Option, Some, length}
 use Rattle.vl_disk.specs.DiskState.{DiskState}
 use Rattle.vl_disk.specs.Faults.{after_calls}
 use Rattle.vl_disk.specs.declared.watched.Watched.{Ghosts}
@@ -8,24 +8,29 @@ use Rattle.vl_core.specs.Found.{IsBackAtStart, recovered}
 use Rattle.vl_core.specs.Represents as engine
 use Rattle.vl_core.specs.MayStep.{Fits}
 use Rattle.vl_core.specs.declared.kept.Core.{Core}
+use Rattle.vl_engine.specs.Collecting.{Collects}
+use Rattle.vl_engine.specs.declared.open.Collecting.{Collecting}
+use Rattle.vl_layout.specs.Relocation.{Candidate, Pass}
 use Rattle.vl_layout.specs.Start.{layout_at_start}
 use Rattle.vl_layout.specs.Store.Lines.{Name}
 use Rattle.vl_layout.specs.Store.Things as store
+use Rattle.vl_layout.specs.Store.Things.{APass, thing_in}
 use Rattle.vl_layout.specs.declared.layout.Layout.{Layout}
 use Rattle.vl_model.specs.History.{History}
 use Rattle.vl_model.specs.Limits.{max_room}
 use Rattle.vl_recover.specs.crash.Meanwhile.{IsRepaired}
 use Rattle.vl_recover.specs.opening.Answers.{calls_to_open}
-use Rattle.vl_replay.specs.Durable.{HoldsState}
+use Rattle.vl_sequential.specs.Durable.{HoldsState}
+use Rattle.vl_replay.specs.Passing.{PassesIn}
 use Rattle.vl_replay.specs.Replaying.{StandsIn}
-use Rattle.vl_replay.specs.Sequential.{State, history_of}
+use Rattle.vl_sequential.specs.Sequential.{State, history_of}
 use Rattle.vl_replay.specs.Standing.{Stand}
-use Rattle.vl_replay.specs.Start.{StartsIn, start_proper}
-use Rattle.vl_replay.specs.Stored.{IsStored}
+use Rattle.vl_sequential.specs.Start.{StartsIn, start_proper}
+use Rattle.vl_sequential.specs.Stored.{IsStored}
 use Rattle.vl_replay.specs.declared.replayer.open.Open.{Open}
-use Rattle.vl_replay.specs.laws.Explained.{none_sound}
-use Rattle.vl_replay.proofs.Disk.Held.{stored_by}
-use Rattle.vl_replay.proofs.Openings.Recovering.{opened_numbered}
+use Rattle.vl_sequential.specs.laws.Explained.{none_sound}
+use Rattle.vl_sequential.specs.laws.HeldDisk.{stored_by}
+use Rattle.vl_sequential.specs.laws.Recovering.{opened_numbered}
 
 -- where no name stands for anything none does here
 none_stand : {H R : Type 0} (bytes : H → Option (List ℕ)) (h : History) (l : Layout) → Stand {R = R} bytes [] [] h l
@@ -73,3 +78,18 @@ module _ {D H : Type 0} (g : Ghosts D) (bytes : H → Option (List ℕ)) (disk :
             (omega (arith, log, next)) table
             (λ state told. opened_numbered g disk s starts state (subst (IsRepaired starts.read starts.state) told repaired));
       }
+
+  -- No pass is open.
+  pub opened_passes : {R : Type 0} (collecting : Collecting) → Collects core collecting its
+      → PassesIn {H = H} {R = R} bytes core collecting None s.store
+  opened_passes collecting collects = record {
+    collects = subst (Collects core collecting) (sym starts.layout) collects;
+    is_open = (
+      ap (λ (l : Layout). l.pass) starts.layout,
+      λ name p batch there. absurd (none_there p batch
+          (subst (λ (ts : List (Name × store.Thing)). thing_in ts name ≡ Some (APass p batch)) starts.things there)),
+    );
+  }
+    where
+      none_there : (p : Pass) (batch : Option (List Candidate)) → None ≡ Some (APass p batch) → ⊥
+      none_there p batch e = cc

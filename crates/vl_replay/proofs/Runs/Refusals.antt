@@ -1,24 +1,20 @@
--- Reads of a disk give one refusal at most, and none where the disk opens; and what a refusal puts.
+-- Reads of a disk give one refusal at most, and none where the disk opens.
 use Rattle.std.proofs.Common.{◌≡◌, ◌⊎◌, ⊎_elim, inl, inr, refl, sym, ap, subst, ◌∙◌}
 use Rattle.std.specs.Prelude.{None, Some, Result, Ok, Err}
 use Rattle.vl_disk.specs.Crash.{Image}
-use Rattle.vl_io.specs.declared.sink.Sink as sink
 use Rattle.vl_model.specs.declared.counter.Counter.{Counter}
 use Rattle.vl_recover.specs.opening.Answers.{Finds, used_up}
 use Rattle.vl_recover.specs.laws.opening.OneFinding.{same_used_up}
 use Rattle.vl_recover.specs.opening.Opening.{Opens}
 use Rattle.vl_recover.specs.opening.Opening as openings
 use Rattle.vl_recover.specs.laws.opening.OpeningLaws.{single_opening}
-use Rattle.vl_replay.specs.Endings.{refusal_line}
 use Rattle.vl_recover.specs.declared.fails.OpenError.{OpenError}
 use Rattle.vl_recover.specs.declared.fails.OpenError.TheVariants as why
-use Rattle.vl_replay.specs.Opening.{IsRefused, why_refused}
+use Rattle.vl_sequential.specs.Opening.{IsRefused, why_refused}
 use Rattle.vl_engine.specs.Opening.{IsFault, AnswersOpening}
-use Rattle.vl_replay.specs.Steps.{CameFirst, EndsFor, EndsUnopened, Finishes}
-use Rattle.vl_replay.specs.declared.ending.Ending.{Ending}
-use Rattle.vl_replay.specs.declared.ending.Ending.TheVariants.{Refused}
-use Rattle.vl_replay.specs.declared.fails.Refusal.{Refusal}
-use Rattle.vl_replay.specs.declared.fails.Refusal.TheVariants.{NotAStore, NewerFormat, Damaged, Exhausted}
+use Rattle.vl_sequential.specs.Steps.{CameFirst, EndsFor}
+use Rattle.vl_sequential.specs.declared.fails.Refusal.{Refusal}
+use Rattle.vl_sequential.specs.declared.fails.Refusal.TheVariants.{NotAStore, NewerFormat, Damaged, Exhausted}
 
 -- ---- one refusal
 
@@ -125,16 +121,3 @@ first_for reason how refusal for is = ⊎_elim
     (λ (same : how ≡ reason). subst (λ (w : OpenError). (w ≡ why_refused refusal) ⊎ CameFirst w) (sym same) is)
     (λ (out : (how ≡ why.NoMemory) × ((other : Refusal) × (reason ≡ why_refused other))). inr (subst CameFirst (sym out.0) tt))
     for
-
--- ---- what a refusal puts
-
-module _ {K : Type 0} (k : sink.Ghosts K) (old new : K) where
-  pub refused_so : (refusal : Refusal) (result : Ending) → Finishes k old new (refusal_line refusal) (Refused refusal)
-      result → EndsUnopened k old new (why_refused refusal) result
-  refused_so NotAStore result finishes = (why_refused NotAStore, inl refl, (refusal_line NotAStore, refl, finishes))
-  refused_so (NewerFormat format) result
-      finishes = (why_refused (NewerFormat format), inl refl, (refusal_line (NewerFormat format), refl, finishes))
-  refused_so (Damaged name place) result
-      finishes = (why_refused (Damaged name place), inl refl, (refusal_line (Damaged name place), refl, finishes))
-  refused_so (Exhausted counter) result
-      finishes = (why_refused (Exhausted counter), inl refl, (refusal_line (Exhausted counter), refl, finishes))

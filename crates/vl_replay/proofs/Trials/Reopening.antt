@@ -21,30 +21,31 @@ use Rattle.vl_recover.specs.opening.Results.{counted, recovery_by}
 use Rattle.vl_recover.specs.declared.fails.OpenFail.{OpenFail}
 use Rattle.vl_recover.specs.declared.fails.OpenError.{OpenError}
 use Rattle.vl_recover.specs.declared.fails.OpenError.TheVariants as why
-use Rattle.vl_replay.specs.Durable.{HoldsState, Tells}
-use Rattle.vl_replay.specs.Endings.{no_memory_line}
-use Rattle.vl_replay.specs.Opening.{IsRefused, disk_behind, ending_unopened}
+use Rattle.vl_sequential.specs.Durable.{HoldsState, Tells}
+use Rattle.vl_sequential.specs.Endings.{no_memory_line}
+use Rattle.vl_sequential.specs.Opening.{IsRefused, ending_unopened}
+use Rattle.vl_replay.specs.Opened.{disk_behind}
 use Rattle.vl_engine.specs.Opening.{AnswersOpening, IsDiskFault, IsFault, reader_faults, why_of}
 use Rattle.std.specs.Prelude.{Option as Maybe}
 use Rattle.vl_mem.specs.CrashImage.{crash_image}
 use Rattle.vl_model.specs.History.{last_number}
-use Rattle.vl_replay.specs.Reopens.{Reopens}
+use Rattle.vl_sequential.specs.Reopens.{Reopens}
 use Rattle.vl_disk.specs.declared.writer.Writer.{Ghosts as Writers}
 use Rattle.vl_replay.specs.Replaying.{StandsFor, disk_of}
-use Rattle.vl_replay.specs.Start.{StartsIn}
+use Rattle.vl_sequential.specs.Start.{StartsIn}
 use Rattle.vl_core.specs.Found.{IsDurable}
-use Rattle.vl_replay.specs.laws.StartLaws.{empty_stay, finds_nothing, no_commits, started_durable, starts_empty}
-use Rattle.vl_replay.specs.Steps.{EndsUnopened, Finishes, FinishesBy}
-use Rattle.vl_replay.specs.Stored.{IsStored}
-use Rattle.vl_replay.specs.Trial.{begun}
-use Rattle.vl_replay.specs.Trying.{IsOnTrial, StopsOpening}
-use Rattle.vl_replay.specs.declared.ending.Ending.{Ending}
-use Rattle.vl_replay.specs.declared.ending.Ending.TheVariants.{NoMemory}
-use Rattle.vl_replay.specs.declared.fails.Refusal.{Refusal}
-use Rattle.vl_replay.specs.declared.fails.Refusal.TheVariants as refusals
+use Rattle.vl_sequential.specs.laws.StartLaws.{empty_stay, finds_nothing, no_commits, started_durable, starts_empty}
+use Rattle.vl_sequential.specs.Steps.{EndsUnopened, Finishes, FinishesBy}
+use Rattle.vl_sequential.specs.Stored.{IsStored}
+use Rattle.vl_sequential.specs.Trial.{begun}
+use Rattle.vl_sequential.specs.Trying.{IsOnTrial, StopsOpening}
+use Rattle.vl_sequential.specs.declared.ending.Ending.{Ending}
+use Rattle.vl_sequential.specs.declared.ending.Ending.TheVariants.{NoMemory}
+use Rattle.vl_sequential.specs.declared.fails.Refusal.{Refusal}
+use Rattle.vl_sequential.specs.declared.fails.Refusal.TheVariants as refusals
 use Rattle.vl_replay.specs.declared.replayer.Replayer.{Replayer}
-use Rattle.vl_replay.proofs.Openings.NumbersLeft.{reopens_not_refused}
-use Rattle.vl_replay.proofs.Trials.OpeningStopped.{opening_reopens}
+use Rattle.vl_sequential.specs.laws.NumbersLeft.{reopens_not_refused}
+use Rattle.vl_sequential.specs.laws.OpeningStopped.{opening_reopens}
 use Rattle.vl_replay.proofs.Runs.Refusals.{opened_not_refused}
 
 some_list : (a b : List ℕ) → Some a ≡ Some b → a ≡ b
@@ -148,8 +149,8 @@ module _ (image : Image) (h : History) (m : ℕ) (disk : StoppingDisk) (started 
     (again : Reopens image h m) where
   -- where it isn't opened, memory ran out
   pub only_memory : (reason : OpenError)
-      → ((state : DiskState) (read : Image) → memory.ghosts.told disk ≡ Some state → IsRead read state → AnswersBy read (recovery_by reason))
-      → (IsFault (Some reason) → ⊥) → reason ≡ why.NoMemory
+      → ((state : DiskState) (read : Image) → memory.ghosts.told disk ≡ Some state → IsRead read state
+      → AnswersBy read (recovery_by reason)) → (IsFault (Some reason) → ⊥) → reason ≡ why.NoMemory
   only_memory reason answers sound = of reason (answers (state_on disk) image refl (started_read image (state_on disk) started)) sound
     where
       not_refused : (refusal : Refusal) → IsRefused image refusal → ⊥

@@ -1,30 +1,29 @@
 //! Begins of transactions and views.
-ghost use Rattle.std.specs.Prelude.{◌≡◌};
+ghost use Rattle.std.specs.Prelude.{◌≡◌, None};
 ghost use Rattle.vl_layout.specs.Store.Reading.{a_transaction, a_view, begin_as};
 ghost use Rattle.vl_layout.specs.Store.Things.{thing_of};
-ghost use Rattle.vl_replay.specs.Replaying.{MakesStep, NamesNoMerge, OnlyNoMemory, ServesFor};
-ghost use Rattle.vl_replay.specs.Sequential.{State};
+ghost use Rattle.vl_replay.specs.Replaying.{MakesStep, OnlyNoMemory, ServesFor};
+ghost use Rattle.vl_sequential.specs.Sequential.{State};
 
-use crate::fails::Halt;
 use crate::replayer::Served;
-use crate::replayer::open::{Thing, is_taken, put};
+use crate::replayer::open::{Thing, put};
 use vl_disk::Disk;
 use vl_engine::BeginFail;
 use vl_script::{Answer, Ident};
+use vl_sequential::Halt;
 
 impl<D: Disk> Served<D> {
-    /// Begins a transaction of this name.
+    /// Begins a transaction of this name, which is free.
     pub(super) fn begin(&mut self, name: Ident) -> Result<Answer, Halt>
-        ensures makes { (s : State) → ServesFor D.Watched D.Held.bytes self.old s
-            → NamesNoMerge name s → MakesStep D.Held.bytes (D.told self.new.engine.disk) self.new.engine.core self.new.opens.items s
+        ensures makes { (s : State) → ServesFor D.Watched D.Held.bytes self.old s → thing_of s.store name ≡ None
+            → MakesStep D.Held.bytes (D.told self.new.engine.disk) self.new.engine.core self.new.opens.items s
             (begin_as s.store name a_transaction (thing_of s.store name)) result }
         ensures fails { OnlyNoMemory result }
         ensures disk { self.new.engine.disk ≡ self.old.engine.disk }
         ensures merging { self.new.engine.merging ≡ self.old.engine.merging }
+        ensures collecting { self.new.engine.collecting ≡ self.old.engine.collecting }
+        ensures logs { self.new.engine.core.version.behind.logs ≡ self.old.engine.core.version.behind.logs }
     {
-        if is_taken(&self.opens, name.as_slice()) {
-            return Ok(Answer::Taken { name });
-        }
         match self.engine.begin() {
             Ok(txn) => {
                 let number = txn.number();
@@ -36,18 +35,17 @@ impl<D: Disk> Served<D> {
         }
     }
 
-    /// Begins a view of this name.
+    /// Begins a view of this name, which is free.
     pub(super) fn view(&mut self, name: Ident) -> Result<Answer, Halt>
-        ensures makes { (s : State) → ServesFor D.Watched D.Held.bytes self.old s
-            → NamesNoMerge name s → MakesStep D.Held.bytes (D.told self.new.engine.disk) self.new.engine.core self.new.opens.items s
+        ensures makes { (s : State) → ServesFor D.Watched D.Held.bytes self.old s → thing_of s.store name ≡ None
+            → MakesStep D.Held.bytes (D.told self.new.engine.disk) self.new.engine.core self.new.opens.items s
             (begin_as s.store name a_view (thing_of s.store name)) result }
         ensures fails { OnlyNoMemory result }
         ensures disk { self.new.engine.disk ≡ self.old.engine.disk }
         ensures merging { self.new.engine.merging ≡ self.old.engine.merging }
+        ensures collecting { self.new.engine.collecting ≡ self.old.engine.collecting }
+        ensures logs { self.new.engine.core.version.behind.logs ≡ self.old.engine.core.version.behind.logs }
     {
-        if is_taken(&self.opens, name.as_slice()) {
-            return Ok(Answer::Taken { name });
-        }
         match self.engine.view() {
             Ok(view) => {
                 let number = view.number();

@@ -7,20 +7,20 @@ ghost use Rattle.vl_core.specs.Carries.{StaysUntold};
 ghost use Rattle.vl_core.specs.Shown.{Shown};
 ghost use Rattle.vl_layout.specs.Store.Reading.{commit_by};
 ghost use Rattle.vl_layout.specs.Store.Things.{thing_of};
-ghost use Rattle.vl_replay.specs.Durable.{CarriesOut};
-ghost use Rattle.vl_replay.specs.Halts.{HaltsByDisk, HaltsByRead};
+ghost use Rattle.vl_sequential.specs.Durable.{CarriesOut};
+ghost use Rattle.vl_sequential.specs.Halts.{HaltsByDisk, HaltsByRead};
 ghost use Rattle.vl_replay.specs.Replaying.{MakesStep, ServesFor, state_by};
-ghost use Rattle.vl_replay.specs.Sequential.{State};
-ghost use Rattle.vl_replay.specs.Stored.{IsStopped, IsStored};
-ghost use Rattle.vl_replay.specs.declared.fails.Halt.TheVariants as halts;
+ghost use Rattle.vl_sequential.specs.Sequential.{State};
+ghost use Rattle.vl_sequential.specs.Stored.{IsStopped, IsStored};
+ghost use Rattle.vl_sequential.specs.declared.fails.Halt.TheVariants as halts;
 
-use crate::fails::Halt;
 use crate::replayer::Served;
 use crate::replayer::open::{Thing, put, take_out};
 use vl_disk::Disk;
 use vl_engine::{CommitFail, Done};
 use vl_model::Counter;
 use vl_script::{Answer, Ident};
+use vl_sequential::Halt;
 
 impl<D: Disk> Served<D> {
     /// Makes the transaction of this name the next commit. Where it lives on it keeps its name.
@@ -36,6 +36,8 @@ impl<D: Disk> Served<D> {
         ensures named { (s : State) (file : Name) → ServesFor D.Watched D.Held.bytes self.old s
             → result ≡ Err (halts.Disk file) → file ≡ names.Log s.store.layout.active.number }
         ensures merging { self.new.engine.merging ≡ self.old.engine.merging }
+        ensures collecting { self.new.engine.collecting ≡ self.old.engine.collecting }
+        ensures logs { self.new.engine.core.version.behind.logs ≡ self.old.engine.core.version.behind.logs }
         ensures untold { OnOk result (StaysUntold (D.told self.old.engine.disk) (D.told self.new.engine.disk)) }
     {
         match take_out(&mut self.opens, name.as_slice()) {

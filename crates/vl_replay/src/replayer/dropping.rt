@@ -2,8 +2,9 @@
 ghost use Rattle.std.specs.Prelude.{◌≡◌, Ok};
 ghost use Rattle.vl_layout.specs.Store.Dispatch.{drop_by};
 ghost use Rattle.vl_layout.specs.Store.Things.{thing_of};
+ghost use Rattle.vl_replay.specs.Passing.{NamesNoPass};
 ghost use Rattle.vl_replay.specs.Replaying.{MakesStep, NamesNoMerge, ServesFor};
-ghost use Rattle.vl_replay.specs.Sequential.{State};
+ghost use Rattle.vl_sequential.specs.Sequential.{State};
 
 use crate::replayer::Served;
 use crate::replayer::open::{Thing, take_out};
@@ -14,10 +15,13 @@ impl<D: Disk> Served<D> {
     /// Ends the transaction or the view that the name stands for, and nothing of it stays.
     pub(super) fn end(&mut self, name: Ident) -> Answer
         ensures makes { (s : State) → ServesFor D.Watched D.Held.bytes self.old s
-            → NamesNoMerge name s → MakesStep D.Held.bytes (D.told self.new.engine.disk) self.new.engine.core self.new.opens.items s
+            → NamesNoMerge name s → NamesNoPass name s
+            → MakesStep D.Held.bytes (D.told self.new.engine.disk) self.new.engine.core self.new.opens.items s
             (drop_by s.store name (thing_of s.store name)) (Ok result) }
         ensures disk { self.new.engine.disk ≡ self.old.engine.disk }
         ensures merging { self.new.engine.merging ≡ self.old.engine.merging }
+        ensures collecting { self.new.engine.collecting ≡ self.old.engine.collecting }
+        ensures logs { self.new.engine.core.version.behind.logs ≡ self.old.engine.core.version.behind.logs }
     {
         match take_out(&mut self.opens, name.as_slice()) {
             None => Answer::Unknown { name },

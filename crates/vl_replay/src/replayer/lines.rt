@@ -1,25 +1,34 @@
 //! A script's lines, one after the other.
-ghost use Rattle.std.specs.Prelude.{◌≡◌, Err, IfOk, None, OnOk, Some};
+ghost use Rattle.std.specs.Prelude.{◌≡◌, ◌||◌, Err, false, IfOk, None, OnOk, Some};
+ghost use Rattle.std.specs.Option.{is_some, option_map, option_map_or};
+ghost use Rattle.std.specs.Str.{bytes_eq};
 ghost use Rattle.vl_disk.specs.Faults.{HasCause};
 ghost use Rattle.vl_disk.specs.declared.name.Name.{Name};
-ghost use Rattle.vl_replay.specs.Asking.{AsksForRow};
+ghost use Rattle.vl_sequential.specs.Asking.{AsksForRow};
 ghost use Rattle.vl_core.specs.Shown.{Shown};
-ghost use Rattle.vl_replay.specs.Durable.{CarriesOut};
-ghost use Rattle.vl_replay.specs.Failing.{FailsAt, ReaderFailed, ReadsTables, beside};
-ghost use Rattle.vl_replay.specs.Halts.{HaltsByDamage, HaltsByDisk, HaltsByRead, HaltsByReader};
+ghost use Rattle.vl_sequential.specs.Durable.{CarriesOut};
+ghost use Rattle.vl_sequential.specs.Failing.{FailsAt, ReaderFailed, ReadsTables, beside};
+ghost use Rattle.vl_sequential.specs.Halts.{HaltsByDamage, HaltsByDisk, HaltsByRead, HaltsByReader};
 ghost use Rattle.vl_replay.specs.Handed.{CanHandIn};
+ghost use Rattle.vl_replay.specs.Passing.{PassesIn, TellsUsed, name_made};
 ghost use Rattle.vl_replay.specs.Replaying.{MakesStep, MergesIn, StandsFor, StandsWith, TakesLines, disk_of};
-ghost use Rattle.vl_replay.specs.Sequential.{IsTold, State, answer_to, state_after, step_to};
-ghost use Rattle.vl_replay.specs.Stored.{IsStopped, IsStored};
-ghost use Rattle.vl_replay.specs.declared.fails.Halt.{Halt as Halts};
-ghost use Rattle.vl_replay.specs.declared.fails.Halt.TheVariants as halts;
+ghost use Rattle.vl_sequential.specs.Sequential.{IsTold, State, answer_to, state_after, step_to};
+ghost use Rattle.vl_replay.specs.Standing.{open_in};
+ghost use Rattle.vl_sequential.specs.Stored.{IsStopped, IsStored};
+ghost use Rattle.vl_sequential.specs.declared.fails.Halt.{Halt as Halts};
+ghost use Rattle.vl_sequential.specs.declared.fails.Halt.TheVariants as halts;
 
-use crate::fails::Halt;
-use crate::replayer::merging::{begin, end, install, plan, view};
+use crate::replayer::choice::Choice;
+use crate::replayer::collecting::{batch, end, is_passing, move_batch, pick, stats};
+use crate::replayer::merging::{install, is_planned, plan};
+use crate::replayer::open::{Open, is_taken};
+use crate::replayer::passing::Passing;
 use crate::replayer::planned::Planned;
 use crate::replayer::{Replayer, Served};
-use vl_disk::Disk;
-use vl_script::{Answer, Line};
+use std::alloc::AllocError;
+use vl_disk::{Disk, Writer};
+use vl_script::{Answer, Ident, Line};
+use vl_sequential::Halt;
 use vl_version::Base;
 
 impl<D: Disk> Replayer<D> {
@@ -39,11 +48,14 @@ impl<D: Disk> Replayer<D> {
 
         // Over a disk that holds the state: where there is an answer it holds the state behind the line, in which a commit has
         // made two calls and its log is longer by a frame, a rotation three for a new log, a flush five for a table and a
-        // longer manifest, a merge's plan one for each table, and its install two for a longer manifest. However the line ends, a store may be opened on the disk again.
+        // longer manifest, a plan or a drain one for each table, and an install two for a longer manifest. A move that moved
+        // something has made two, and the log that takes commits is longer by its frame. However the line ends, a store may be
+        // opened on the disk again.
         ensures carries { TakesLines self.old → (s : State) → StandsFor D.Watched D.Writer.Writer D.Held.bytes self.old s
             → CarriesOut D.Watched IsStored Shown IsStopped (disk_of self.old) (disk_of self.new) s (state_after s line) result }
 
-        // What the store has isn't damaged, and can be read without its reader unless it has tables. A reader counts its fault.
+        // What the store has isn't damaged. Only a line that reads tables, or goes on with a pass, asks a reader, which counts its
+        // fault.
         ensures sound { TakesLines self.old → (s : State) → StandsFor D.Watched D.Writer.Writer D.Held.bytes self.old s
             → HaltsByRead result → ReadsTables line s }
         ensures undamaged { TakesLines self.old → (s : State) → StandsFor D.Watched D.Writer.Writer D.Held.bytes self.old s
@@ -58,71 +70,133 @@ impl<D: Disk> Replayer<D> {
         if let Some(halt) = self.halted {
             return Err(halt);
         }
-        match carry_out(&mut self.served, &mut self.planned, line) {
+        match carry_out(&mut self.served, &mut self.planned, &mut self.passing, line) {
             Ok(answer) => Ok(answer),
             Err(halt) => {
-                give_up(&mut self.served, &mut self.planned);
+                // No line is carried out any more, so what is open is dropped.
+                self.planned = None;
+                self.passing = None;
                 self.halted = Some(halt);
                 Err(halt)
             }
         }
     }
 
-    /// The disk. What is open is ended: a merge that waits is given up.
+    /// The disk. What is open is ended: a merge that waits and a pass are given up.
     pub fn close(self) -> D
         ensures { result ≡ disk_of self }
     {
         let Replayer {
             mut served,
             mut planned,
+            mut passing,
             ..
         } = self;
-        give_up(&mut served, &mut planned);
+        give_up(&mut served, &mut planned, &mut passing);
         served.engine.close()
     }
 }
 
-// Gives up the merge that waits.
+// Gives up the merge that waits, and the pass that is open.
 fn give_up<D: Disk>(
     served: &mut Served<D>,
     planned: &mut Option<Planned<Base<D::Held, D::Reader>, D::Held, D::Writer>>,
+    passing: &mut Option<Passing<Base<D::Held, D::Reader>, D::Held>>,
 )
+    requires { CanHandIn D.Watched D.Writer.Writer served.old.engine.disk served.old.engine.merging planned.old }
     ensures disk { served.new.engine.disk ≡ served.old.engine.disk }
     ensures planned { planned.new ≡ None }
+    ensures passing { passing.new ≡ None }
 {
     if let Some(Planned { job, .. }) = planned.take() {
         served.engine.abandon(job);
     }
+    if let Some(Passing { pass, .. }) = passing.take() {
+        served.engine.end_pass(pass);
+    }
+}
+
+// The name that a line lets stand for something.
+fn name_made(line: &Line) -> Option<&Ident>
+    ensures { option_map (λ name. name.now) result ≡ name_made line.now }
+{
+    match line {
+        Line::Begin { name }
+        | Line::View { name }
+        | Line::Plan { name }
+        | Line::Drain { name, .. }
+        | Line::Pick { name, .. } => Some(name),
+        _ => None,
+    }
+}
+
+// That name, where it stands for something already.
+fn name_in_use<D: Disk>(
+    served: &Served<D>,
+    planned: &Option<Planned<Base<D::Held, D::Reader>, D::Held, D::Writer>>,
+    passing: &Option<Passing<Base<D::Held, D::Reader>, D::Held>>,
+    line: &Line,
+) -> Result<Option<Ident>, AllocError>
+    ensures { (s : State) → StandsWith D.Watched D.Writer.Writer D.Held.bytes served.now planned.now passing.now s
+        → IfOk result (TellsUsed s line.now) }
+{
+    let Some(name) = name_made(line) else {
+        return Ok(None);
+    };
+    if !is_used(&served.opens, planned, passing, name.as_slice()) {
+        return Ok(None);
+    }
+    Ok(Some(name.share()?))
+}
+
+// Whether a reader, the merge that waits or the pass that is open has this name.
+fn is_used<H, R, V, W: Writer>(
+    opens: &[Open<H, R>],
+    planned: &Option<Planned<V, H, W>>,
+    passing: &Option<Passing<V, H>>,
+    name: &[u8],
+) -> bool
+    ensures { result ≡ (is_some (open_in opens.now name.now)
+        || (option_map_or (λ waiting. bytes_eq name.now waiting.name) planned.now false
+        || option_map_or (λ going. bytes_eq name.now going.name) passing.now false)) }
+{
+    is_taken(opens, name) || is_planned(planned, name) || is_passing(passing, name)
 }
 
 // Carries a line out, by what it asks for.
 fn carry_out<D: Disk>(
     served: &mut Served<D>,
     planned: &mut Option<Planned<Base<D::Held, D::Reader>, D::Held, D::Writer>>,
+    passing: &mut Option<Passing<Base<D::Held, D::Reader>, D::Held>>,
     line: Line,
 ) -> Result<Answer, Halt>
     requires rows { AsksForRow line }
     requires handed { CanHandIn D.Watched D.Writer.Writer served.old.engine.disk served.old.engine.merging planned.old }
-    ensures makes { (s : State) → StandsWith D.Watched D.Writer.Writer D.Held.bytes served.old planned.old s
+    ensures makes { (s : State) → StandsWith D.Watched D.Writer.Writer D.Held.bytes served.old planned.old passing.old s
         → MakesStep D.Held.bytes (D.told served.new.engine.disk) served.new.engine.core served.new.opens.items s (step_to s line) result }
-    ensures merges { (s : State) → StandsWith D.Watched D.Writer.Writer D.Held.bytes served.old planned.old s
+    ensures merges { (s : State) → StandsWith D.Watched D.Writer.Writer D.Held.bytes served.old planned.old passing.old s
         → OnOk result (MergesIn D.Writer.Writer D.Held.bytes served.new.engine.merging planned.new (step_to s line).state) }
-    ensures carries { (s : State) → StandsWith D.Watched D.Writer.Writer D.Held.bytes served.old planned.old s
+    ensures passes { (s : State) → StandsWith D.Watched D.Writer.Writer D.Held.bytes served.old planned.old passing.old s
+        → OnOk result (PassesIn D.Held.bytes served.new.engine.core served.new.engine.collecting passing.new (step_to s line).state) }
+    ensures carries { (s : State) → StandsWith D.Watched D.Writer.Writer D.Held.bytes served.old planned.old passing.old s
         → CarriesOut D.Watched IsStored Shown IsStopped served.old.engine.disk served.new.engine.disk s (state_after s line) result }
-    ensures sound { (s : State) → StandsWith D.Watched D.Writer.Writer D.Held.bytes served.old planned.old s
+    ensures sound { (s : State) → StandsWith D.Watched D.Writer.Writer D.Held.bytes served.old planned.old passing.old s
         → HaltsByRead result → ReadsTables line s }
-    ensures undamaged { (s : State) → StandsWith D.Watched D.Writer.Writer D.Held.bytes served.old planned.old s
+    ensures undamaged { (s : State) → StandsWith D.Watched D.Writer.Writer D.Held.bytes served.old planned.old passing.old s
         → HaltsByDamage result → ⊥ }
-    ensures fault { (s : State) → StandsWith D.Watched D.Writer.Writer D.Held.bytes served.old planned.old s
+    ensures fault { (s : State) → StandsWith D.Watched D.Writer.Writer D.Held.bytes served.old planned.old passing.old s
         → HaltsByReader result → ReaderFailed (beside D.Reader.faults D.Writer.faults) }
     ensures cause { HasCause (D.faults served.old.engine.disk) (D.faults served.new.engine.disk) (HaltsByDisk result) }
-    ensures named { (s : State) (name : Name) → StandsWith D.Watched D.Writer.Writer D.Held.bytes served.old planned.old s
+    ensures named { (s : State) (name : Name) → StandsWith D.Watched D.Writer.Writer D.Held.bytes served.old planned.old passing.old s
         → result ≡ Err (halts.Disk name) → FailsAt served.old.engine.core.back.manifest.number line s name }
     ensures handed { OnOk result (CanHandIn D.Watched D.Writer.Writer served.new.engine.disk served.new.engine.merging planned.new) }
 {
+    if let Some(name) = name_in_use(served, planned, passing, &line)? {
+        return Ok(Answer::Taken { name });
+    }
     match line {
-        Line::Begin { name } => begin(served, planned, name),
-        Line::View { name } => view(served, planned, name),
+        Line::Begin { name } => served.begin(name),
+        Line::View { name } => served.view(name),
         Line::Get { name, key } => served.read(name, key, false),
         Line::GetTagged { name, key } => served.read(name, key, true),
         Line::GetAt { name, key, number } => served.get_at(name, key, number),
@@ -142,11 +216,16 @@ fn carry_out<D: Disk>(
             way,
         } => served.scan(name, low, high, limit, way),
         Line::Commit { name } => served.commit(name),
-        Line::Drop { name } => Ok(end(served, planned, name)),
+        Line::Drop { name } => Ok(end(served, planned, passing, name)),
         Line::Rotate => served.rotate(),
         Line::Flush => served.flush(),
         Line::Keep { versions } => served.keep(versions),
-        Line::Plan { name } => plan(served, planned, name),
+        Line::Plan { name } => plan(served, planned, Choice::Due, name),
+        Line::Drain { name, segment } => plan(served, planned, Choice::LeadsInto(segment), name),
         Line::Install { name } => install(served, planned, name),
+        Line::Stats => stats(served),
+        Line::Pick { name, percent } => pick(served, passing, name, percent),
+        Line::Batch { name } => batch(served, passing, name),
+        Line::Move { name } => move_batch(served, passing, name),
     }
 }

@@ -1,36 +1,46 @@
-//! Lines that a merge has to do with: those of merges, and those that ask whether a name is free.
-ghost use Rattle.std.specs.Prelude.{◌≡◌, false, Err, None, Ok, OnOk, Some};
-ghost use Rattle.std.specs.Option.{is_some, option_map_or};
+//! Lines of merges.
+ghost use Rattle.std.specs.Prelude.{◌≡◌, false, Err, IfOk, None, Ok, OnOk, Some};
+ghost use Rattle.std.specs.Option.{ForSome, is_some, option_map_or};
 ghost use Rattle.std.specs.Str.{bytes_eq};
 ghost use Rattle.vl_disk.specs.Faults.{HasCause};
 ghost use Rattle.vl_disk.specs.declared.name.Name.{Name};
+ghost use Rattle.vl_compact.specs.Laid.{AreBoth};
+ghost use Rattle.vl_compact.specs.Progress.{IsNew};
+ghost use Rattle.vl_core.specs.MayStep.{Fits};
+ghost use Rattle.vl_core.specs.Represents.{Represents};
 ghost use Rattle.vl_core.specs.Shown.{Shown};
+ghost use Rattle.vl_engine.specs.Collecting.{Collects};
+ghost use Rattle.vl_engine.specs.Merging.{FitsReaders, HasMerge, OpensMerge, StandsOpen, plan_outcome};
+ghost use Rattle.vl_layout.specs.Decides.{Decides, as_before, no_effects};
 ghost use Rattle.vl_layout.specs.Store.Dispatch.{drop_by};
-ghost use Rattle.vl_layout.specs.Store.Reading.{a_transaction, a_view, begin_as};
 ghost use Rattle.vl_layout.specs.Store.Things.{thing_of};
-ghost use Rattle.vl_replay.specs.Durable.{CarriesOut};
-ghost use Rattle.vl_replay.specs.Failing.{FailsAt, HasTables, ReaderFailed, beside};
-ghost use Rattle.vl_replay.specs.Halts.{HaltsByDamage, HaltsByDisk, HaltsByRead, HaltsByReader};
+ghost use Rattle.vl_layout.specs.declared.layout.Layout.{Layout};
+ghost use Rattle.vl_model.specs.History.{History};
+ghost use Rattle.vl_replay.specs.Choosing.{chosen, line_for};
+ghost use Rattle.vl_sequential.specs.Durable.{CarriesOut};
+ghost use Rattle.vl_sequential.specs.Failing.{FailsAt, HasTables, ReaderFailed, beside};
+ghost use Rattle.vl_sequential.specs.Halts.{HaltsByDamage, HaltsByDisk, HaltsByRead, HaltsByReader};
 ghost use Rattle.vl_replay.specs.Handed.{CanHandIn};
-ghost use Rattle.vl_replay.specs.Replaying.{MakesStep, MergesIn, OnlyNoMemory, StandsWith, TakesPlanned, state_by};
-ghost use Rattle.vl_replay.specs.Sequential.{State, state_after, step_to};
-ghost use Rattle.vl_replay.specs.Stored.{IsStopped, IsStored};
-ghost use Rattle.vl_replay.specs.declared.fails.Halt.TheVariants as halts;
+ghost use Rattle.vl_replay.specs.Passing.{NamesNoPass};
+ghost use Rattle.vl_replay.specs.Replaying.{MakesStep, MergesIn, StandsMerging, TakesPlanned, state_by};
+ghost use Rattle.vl_sequential.specs.Sequential.{State, state_after, step_to};
+ghost use Rattle.vl_sequential.specs.Stored.{IsStopped, IsStored};
+ghost use Rattle.vl_sequential.specs.declared.fails.Halt.TheVariants as halts;
 ghost use Rattle.vl_script.specs.declared.line.Line.TheVariants as lines;
 
 use crate::carrying::make_tables;
-use crate::fails::Halt;
 use crate::replayer::Served;
-use crate::replayer::open::is_taken;
+use crate::replayer::choice::Choice;
 use crate::replayer::planned::Planned;
 use vl_compact::Job;
-use vl_disk::{Disk, Writer};
-use vl_engine::InstallFail;
+use vl_disk::{Disk, NoMemory, Writer};
+use vl_engine::{Engine, InstallFail};
 use vl_script::{Answer, Ident};
+use vl_sequential::Halt;
 use vl_version::Base;
 
 /// Whether the merge that waits has this name.
-fn is_planned<V, H, W: Writer>(planned: &Option<Planned<V, H, W>>, name: &[u8]) -> bool
+pub(super) fn is_planned<V, H, W: Writer>(planned: &Option<Planned<V, H, W>>, name: &[u8]) -> bool
     ensures { result ≡ option_map_or (λ waiting. bytes_eq name.now waiting.name) planned.now false }
 {
     match planned {
@@ -55,59 +65,23 @@ fn take_planned<V, H, W: Writer>(
     }
 }
 
-/// Begins a transaction of this name, where it is free.
-pub(super) fn begin<D: Disk>(
-    served: &mut Served<D>,
-    planned: &Option<Planned<Base<D::Held, D::Reader>, D::Held, D::Writer>>,
-    name: Ident,
-) -> Result<Answer, Halt>
-    ensures makes { (s : State) → StandsWith D.Watched D.Writer.Writer D.Held.bytes served.old planned.now s
-        → MakesStep D.Held.bytes (D.told served.new.engine.disk) served.new.engine.core served.new.opens.items s
-        (begin_as s.store name a_transaction (thing_of s.store name)) result }
-    ensures fails { OnlyNoMemory result }
-    ensures disk { served.new.engine.disk ≡ served.old.engine.disk }
-    ensures merging { served.new.engine.merging ≡ served.old.engine.merging }
-{
-    if is_planned(planned, name.as_slice()) {
-        return Ok(Answer::Taken { name });
-    }
-    served.begin(name)
-}
-
-/// Begins a view of this name, where it is free.
-pub(super) fn view<D: Disk>(
-    served: &mut Served<D>,
-    planned: &Option<Planned<Base<D::Held, D::Reader>, D::Held, D::Writer>>,
-    name: Ident,
-) -> Result<Answer, Halt>
-    ensures makes { (s : State) → StandsWith D.Watched D.Writer.Writer D.Held.bytes served.old planned.now s
-        → MakesStep D.Held.bytes (D.told served.new.engine.disk) served.new.engine.core served.new.opens.items s
-        (begin_as s.store name a_view (thing_of s.store name)) result }
-    ensures fails { OnlyNoMemory result }
-    ensures disk { served.new.engine.disk ≡ served.old.engine.disk }
-    ensures merging { served.new.engine.merging ≡ served.old.engine.merging }
-{
-    if is_planned(planned, name.as_slice()) {
-        return Ok(Answer::Taken { name });
-    }
-    served.view(name)
-}
-
-/// Ends what the name stands for, and nothing of it stays.
+/// Ends what the name stands for, unless it is a pass, and nothing of it stays.
 pub(super) fn end<D: Disk>(
     served: &mut Served<D>,
     planned: &mut Option<Planned<Base<D::Held, D::Reader>, D::Held, D::Writer>>,
     name: Ident,
 ) -> Answer
     requires { CanHandIn D.Watched D.Writer.Writer served.old.engine.disk served.old.engine.merging planned.old }
-    ensures makes { (s : State) → StandsWith D.Watched D.Writer.Writer D.Held.bytes served.old planned.old s
+    ensures makes { (s : State) → StandsMerging D.Watched D.Writer.Writer D.Held.bytes served.old planned.old s → NamesNoPass name s
         → MakesStep D.Held.bytes (D.told served.new.engine.disk) served.new.engine.core served.new.opens.items s
         (drop_by s.store name (thing_of s.store name)) (Ok result) }
-    ensures merges { (s : State) → StandsWith D.Watched D.Writer.Writer D.Held.bytes served.old planned.old s
+    ensures merges { (s : State) → StandsMerging D.Watched D.Writer.Writer D.Held.bytes served.old planned.old s → NamesNoPass name s
         → MergesIn D.Writer.Writer D.Held.bytes served.new.engine.merging planned.new (drop_by s.store name (thing_of s.store name)).state }
-    ensures carries { (s : State) → StandsWith D.Watched D.Writer.Writer D.Held.bytes served.old planned.old s
+    ensures carries { (s : State) → StandsMerging D.Watched D.Writer.Writer D.Held.bytes served.old planned.old s → NamesNoPass name s
         → CarriesOut D.Watched IsStored Shown IsStopped served.old.engine.disk served.new.engine.disk s
         (state_by s (drop_by s.store name (thing_of s.store name))) (Ok result) }
+    ensures collecting { served.new.engine.collecting ≡ served.old.engine.collecting }
+    ensures logs { served.new.engine.core.version.behind.logs ≡ served.old.engine.core.version.behind.logs }
     ensures disk { served.new.engine.disk ≡ served.old.engine.disk }
     ensures handed { CanHandIn D.Watched D.Writer.Writer served.new.engine.disk served.new.engine.merging planned.new }
 {
@@ -120,41 +94,49 @@ pub(super) fn end<D: Disk>(
     }
 }
 
-/// Plans the merge that is due first, and makes its tables in files that the engine lends. It waits then for its install.
+/// Plans the merge of these tables, under this name, which is free, and makes its tables in files that the engine lends. It waits
+/// then for its install.
 /// Where it stops before it has all of them, it is given up.
 pub(super) fn plan<D: Disk>(
     served: &mut Served<D>,
     planned: &mut Option<Planned<Base<D::Held, D::Reader>, D::Held, D::Writer>>,
+    choice: Choice,
     name: Ident,
 ) -> Result<Answer, Halt>
     requires { CanHandIn D.Watched D.Writer.Writer served.old.engine.disk served.old.engine.merging planned.old }
-    ensures makes { (s : State) → StandsWith D.Watched D.Writer.Writer D.Held.bytes served.old planned.old s
+    ensures makes { (s : State) → StandsMerging D.Watched D.Writer.Writer D.Held.bytes served.old planned.old s
+        → thing_of s.store name ≡ None
         → MakesStep D.Held.bytes (D.told served.new.engine.disk) served.new.engine.core served.new.opens.items s
-        (step_to s (lines.Plan name)) result }
-    ensures merges { (s : State) → StandsWith D.Watched D.Writer.Writer D.Held.bytes served.old planned.old s
-        → OnOk result (MergesIn D.Writer.Writer D.Held.bytes served.new.engine.merging planned.new (step_to s (lines.Plan name)).state) }
-    ensures carries { (s : State) → StandsWith D.Watched D.Writer.Writer D.Held.bytes served.old planned.old s
+        (step_to s (line_for choice name)) result }
+    ensures merges { (s : State) → StandsMerging D.Watched D.Writer.Writer D.Held.bytes served.old planned.old s
+        → thing_of s.store name ≡ None
+        → OnOk result (MergesIn D.Writer.Writer D.Held.bytes served.new.engine.merging planned.new
+        (step_to s (line_for choice name)).state) }
+    ensures carries { (s : State) → StandsMerging D.Watched D.Writer.Writer D.Held.bytes served.old planned.old s
+        → thing_of s.store name ≡ None
         → CarriesOut D.Watched IsStored Shown IsStopped served.old.engine.disk served.new.engine.disk s
-        (state_after s (lines.Plan name)) result }
+        (state_after s (line_for choice name)) result }
     // A read, or a write beside the disk, fails only where tables are merged. What it reads isn't damaged.
-    ensures sound { (s : State) → StandsWith D.Watched D.Writer.Writer D.Held.bytes served.old planned.old s
+    ensures sound { (s : State) → StandsMerging D.Watched D.Writer.Writer D.Held.bytes served.old planned.old s
+        → thing_of s.store name ≡ None
         → HaltsByRead result → HasTables s }
-    ensures undamaged { (s : State) → StandsWith D.Watched D.Writer.Writer D.Held.bytes served.old planned.old s
+    ensures undamaged { (s : State) → StandsMerging D.Watched D.Writer.Writer D.Held.bytes served.old planned.old s
+        → thing_of s.store name ≡ None
         → HaltsByDamage result → ⊥ }
-    ensures fault { (s : State) → StandsWith D.Watched D.Writer.Writer D.Held.bytes served.old planned.old s
+    ensures fault { (s : State) → StandsMerging D.Watched D.Writer.Writer D.Held.bytes served.old planned.old s
         → HaltsByReader result → ReaderFailed (beside D.Reader.faults D.Writer.faults) }
     ensures cause { HasCause (D.faults served.old.engine.disk) (D.faults served.new.engine.disk) (HaltsByDisk result) }
-    ensures named { (s : State) (file : Name) → StandsWith D.Watched D.Writer.Writer D.Held.bytes served.old planned.old s
-        → result ≡ Err (halts.Disk file) → FailsAt served.old.engine.core.back.manifest.number (lines.Plan name) s file }
+    ensures named { (s : State) (file : Name) → StandsMerging D.Watched D.Writer.Writer D.Held.bytes served.old planned.old s
+        → thing_of s.store name ≡ None
+        → result ≡ Err (halts.Disk file) → FailsAt served.old.engine.core.back.manifest.number (line_for choice name) s file }
+    ensures collecting { served.new.engine.collecting ≡ served.old.engine.collecting }
+    ensures logs { served.new.engine.core.version.behind.logs ≡ served.old.engine.core.version.behind.logs }
     ensures handed { OnOk result (CanHandIn D.Watched D.Writer.Writer served.new.engine.disk served.new.engine.merging planned.new) }
 {
-    if is_taken(&served.opens, name.as_slice()) || is_planned(planned, name.as_slice()) {
-        return Ok(Answer::Taken { name });
-    }
     if planned.is_some() {
         return Ok(Answer::Idle);
     }
-    let Some(job) = served.engine.plan()? else {
+    let Some(job) = choose(&mut served.engine, choice)? else {
         return Ok(Answer::Idle);
     };
     let mut job = job;
@@ -175,6 +157,38 @@ pub(super) fn plan<D: Disk>(
     }
 }
 
+// Has the engine plan the merge of these tables.
+fn choose<D: Disk>(
+    engine: &mut Engine<D>,
+    choice: Choice,
+) -> Result<Option<Job<Base<D::Held, D::Reader>, D::Held, D::Writer>>, NoMemory>
+    ensures stands { (h : History) (l : Layout) → StandsOpen D.Held.bytes engine.old.core engine.old.merging h l
+        → Decides (StandsOpen D.Held.bytes engine.new.core engine.new.merging) h l (chosen choice l h) (as_before l l)
+        (plan_outcome (chosen choice l h).answer result) no_effects }
+    ensures represents { (h : History) (l : Layout) → Represents D.Held.bytes engine.old.core (D.told engine.old.disk) h l
+        → StandsOpen D.Held.bytes engine.old.core engine.old.merging h l
+        → Decides (Represents D.Held.bytes engine.new.core (D.told engine.new.disk)) h l (chosen choice l h) (as_before l l)
+        (plan_outcome (chosen choice l h).answer result) no_effects }
+    ensures fits { (h : History) (l : Layout) → StandsOpen D.Held.bytes engine.old.core engine.old.merging h l
+        → Fits (D.told engine.old.disk) engine.old.core h l
+        → Decides (Fits (D.told engine.new.disk) engine.new.core) h l (chosen choice l h) (as_before l l)
+        (plan_outcome (chosen choice l h).answer result) no_effects }
+    ensures job { (h : History) (l : Layout) → StandsOpen D.Held.bytes engine.old.core engine.old.merging h l
+        → IfOk result (λ job. AreBoth (HasMerge D.Writer.Writer D.Held.bytes) job (chosen choice l h).answer) }
+    ensures new { IfOk result (λ job. ForSome job IsNew) }
+    ensures looks { (h : History) (l : Layout) → StandsOpen D.Held.bytes engine.old.core engine.old.merging h l
+        → IfOk result (λ job. ForSome job (FitsReaders D.Held.bytes)) }
+    ensures merging { OpensMerge engine.old.merging engine.new.merging result }
+    ensures core { engine.new.core ≡ engine.old.core }
+    ensures disk { engine.new.disk ≡ engine.old.disk }
+    ensures collecting { engine.new.collecting ≡ engine.old.collecting }
+{
+    match choice {
+        Choice::Due => engine.plan(),
+        Choice::LeadsInto(segment) => engine.drain(segment),
+    }
+}
+
 /// Puts the tables of the merge of this name into the place of those that it merged. It has ended then, whatever is answered.
 pub(super) fn install<D: Disk>(
     served: &mut Served<D>,
@@ -182,18 +196,21 @@ pub(super) fn install<D: Disk>(
     name: Ident,
 ) -> Result<Answer, Halt>
     requires { CanHandIn D.Watched D.Writer.Writer served.old.engine.disk served.old.engine.merging planned.old }
-    ensures makes { (s : State) → StandsWith D.Watched D.Writer.Writer D.Held.bytes served.old planned.old s
+    ensures makes { (s : State) → StandsMerging D.Watched D.Writer.Writer D.Held.bytes served.old planned.old s
         → MakesStep D.Held.bytes (D.told served.new.engine.disk) served.new.engine.core served.new.opens.items s
         (step_to s (lines.Install name)) result }
-    ensures merges { (s : State) → StandsWith D.Watched D.Writer.Writer D.Held.bytes served.old planned.old s
+    ensures merges { (s : State) → StandsMerging D.Watched D.Writer.Writer D.Held.bytes served.old planned.old s
         → OnOk result (MergesIn D.Writer.Writer D.Held.bytes served.new.engine.merging planned.new (step_to s (lines.Install name)).state) }
-    ensures carries { (s : State) → StandsWith D.Watched D.Writer.Writer D.Held.bytes served.old planned.old s
+    ensures carries { (s : State) → StandsMerging D.Watched D.Writer.Writer D.Held.bytes served.old planned.old s
         → CarriesOut D.Watched IsStored Shown IsStopped served.old.engine.disk served.new.engine.disk s
         (state_after s (lines.Install name)) result }
-    ensures sound { (s : State) → StandsWith D.Watched D.Writer.Writer D.Held.bytes served.old planned.old s → HaltsByRead result → ⊥ }
+    ensures sound { (s : State) → StandsMerging D.Watched D.Writer.Writer D.Held.bytes served.old planned.old s → HaltsByRead result → ⊥ }
     ensures cause { HasCause (D.faults served.old.engine.disk) (D.faults served.new.engine.disk) (HaltsByDisk result) }
-    ensures named { (s : State) (file : Name) → StandsWith D.Watched D.Writer.Writer D.Held.bytes served.old planned.old s
+    ensures named { (s : State) (file : Name) → StandsMerging D.Watched D.Writer.Writer D.Held.bytes served.old planned.old s
         → result ≡ Err (halts.Disk file) → FailsAt served.old.engine.core.back.manifest.number (lines.Install name) s file }
+    ensures collects { (s : State) → StandsMerging D.Watched D.Writer.Writer D.Held.bytes served.old planned.old s
+        → Collects served.old.engine.core served.old.engine.collecting s.store.layout
+        → OnOk result (Collects served.new.engine.core served.new.engine.collecting (step_to s (lines.Install name)).state.layout) }
     ensures handed { OnOk result (CanHandIn D.Watched D.Writer.Writer served.new.engine.disk served.new.engine.merging planned.new) }
 {
     let Some(job) = take_planned(planned, name.as_slice()) else {

@@ -12,13 +12,14 @@ ghost use Rattle.vl_recover.specs.crash.Meanwhile.{FaultsAt, IsMeanwhile};
 ghost use Rattle.vl_recover.specs.crash.Starts.{MayOpen};
 ghost use Rattle.vl_recover.specs.opening.Opening.{NamesNoTable};
 ghost use Rattle.vl_recover.specs.opening.Results.{recovery_by};
-ghost use Rattle.vl_replay.specs.Durable.{CrashesShow, HoldsState, IsAsBefore, StillTells, Tells};
-ghost use Rattle.vl_replay.specs.Opening.{IsRefused, disk_behind};
+ghost use Rattle.vl_sequential.specs.Durable.{CrashesShow, HoldsState, IsAsBefore, StillTells, Tells};
+ghost use Rattle.vl_sequential.specs.Opening.{IsRefused};
+ghost use Rattle.vl_replay.specs.Opened.{disk_behind};
 ghost use Rattle.vl_replay.specs.Replaying.{StandsFor, TakesLines, disk_of};
-ghost use Rattle.vl_replay.specs.Sequential.{State, history_of};
-ghost use Rattle.vl_replay.specs.Start.{StartsIn};
-ghost use Rattle.vl_replay.specs.Stored.{IsStored};
-ghost use Rattle.vl_replay.specs.declared.fails.Refusal.{Refusal};
+ghost use Rattle.vl_sequential.specs.Sequential.{State, history_of};
+ghost use Rattle.vl_sequential.specs.Start.{StartsIn};
+ghost use Rattle.vl_sequential.specs.Stored.{IsStored};
+ghost use Rattle.vl_sequential.specs.declared.fails.Refusal.{Refusal};
 
 use crate::replayer::{Replayer, Served};
 use std::alloc::Global;
@@ -84,6 +85,7 @@ impl<D: Disk> Replayer<D> {
                     opens: Vec::new(alloc),
                 },
                 planned: None,
+                passing: None,
                 halted: None,
             }),
             Err(fail) => Err(fail),

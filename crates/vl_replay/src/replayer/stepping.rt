@@ -5,26 +5,27 @@ ghost use Rattle.vl_disk.specs.declared.name.Name.{Name};
 ghost use Rattle.vl_disk.specs.declared.name.Name.TheVariants as names;
 ghost use Rattle.vl_core.specs.Carries.{StaysUntold};
 ghost use Rattle.vl_core.specs.Shown.{Shown};
+ghost use Rattle.vl_engine.specs.Collecting.{Collects};
 ghost use Rattle.vl_layout.specs.Rulings.Flush.{flush_ruling};
 ghost use Rattle.vl_layout.specs.Rulings.Keep.{keep_ruling};
 ghost use Rattle.vl_layout.specs.Rulings.Rotate.{rotate_ruling};
 ghost use Rattle.vl_layout.specs.Store.Dispatch.{keep_by, step_by};
-ghost use Rattle.vl_replay.specs.Durable.{CarriesOut};
-ghost use Rattle.vl_replay.specs.Halts.{HaltsByDisk, HaltsByRead};
+ghost use Rattle.vl_sequential.specs.Durable.{CarriesOut};
+ghost use Rattle.vl_sequential.specs.Halts.{HaltsByDisk, HaltsByRead};
 ghost use Rattle.vl_replay.specs.Replaying.{MakesStep, ServesFor, state_by, state_by_step};
-ghost use Rattle.vl_replay.specs.Sequential.{State, history_of};
+ghost use Rattle.vl_sequential.specs.Sequential.{State, history_of};
 ghost use Rattle.vl_replay.specs.Standing.{told_keep, told_step};
-ghost use Rattle.vl_replay.specs.Stored.{IsStopped, IsStored};
-ghost use Rattle.vl_replay.specs.declared.fails.Halt.TheVariants as halts;
+ghost use Rattle.vl_sequential.specs.Stored.{IsStopped, IsStored};
+ghost use Rattle.vl_sequential.specs.declared.fails.Halt.TheVariants as halts;
 
-use crate::fails::Halt;
 use crate::replayer::Served;
 use vl_disk::Disk;
 use vl_engine::{KeepFail, StepFail};
 use vl_script::Answer;
+use vl_sequential::Halt;
 
 impl<D: Disk> Served<D> {
-    /// Seals the log that takes commits and begins a new one, where a commit stands in it.
+    /// Seals the log that takes commits and begins a new one, where something stands in it: a commit, or records that were moved.
     pub(super) fn rotate(&mut self) -> Result<Answer, Halt>
         ensures makes { (s : State) → ServesFor D.Watched D.Held.bytes self.old s
             → MakesStep D.Held.bytes (D.told self.new.engine.disk) self.new.engine.core self.new.opens.items s
@@ -38,6 +39,9 @@ impl<D: Disk> Served<D> {
             → result ≡ Err (halts.Disk file)
             → (file ≡ names.Log s.store.layout.active.number) ⊎ (file ≡ names.Log s.store.layout.next_log) }
         ensures merging { self.new.engine.merging ≡ self.old.engine.merging }
+        ensures collects { (s : State) → ServesFor D.Watched D.Held.bytes self.old s
+            → Collects self.old.engine.core self.old.engine.collecting s.store.layout
+            → OnOk result (Collects self.new.engine.core self.new.engine.collecting (rotate_ruling s.store.layout (history_of s)).layout) }
         ensures untold { OnOk result (StaysUntold (D.told self.old.engine.disk) (D.told self.new.engine.disk)) }
     {
         told(self.engine.rotate())
@@ -58,6 +62,9 @@ impl<D: Disk> Served<D> {
             → (file ≡ names.Table s.store.layout.next_table)
             ⊎ (file ≡ names.Manifest self.old.engine.core.back.manifest.number) }
         ensures merging { self.new.engine.merging ≡ self.old.engine.merging }
+        ensures collects { (s : State) → ServesFor D.Watched D.Held.bytes self.old s
+            → Collects self.old.engine.core self.old.engine.collecting s.store.layout
+            → OnOk result (Collects self.new.engine.core self.new.engine.collecting (flush_ruling s.store.layout (history_of s)).layout) }
         ensures untold { OnOk result (StaysUntold (D.told self.old.engine.disk) (D.told self.new.engine.disk)) }
     {
         told(self.engine.flush())
@@ -76,6 +83,8 @@ impl<D: Disk> Served<D> {
         ensures named { (file : Name) → result ≡ Err (halts.Disk file)
             → file ≡ names.Manifest self.old.engine.core.back.manifest.number }
         ensures merging { self.new.engine.merging ≡ self.old.engine.merging }
+        ensures collecting { self.new.engine.collecting ≡ self.old.engine.collecting }
+        ensures logs { self.new.engine.core.version.behind.logs ≡ self.old.engine.core.version.behind.logs }
         ensures untold { OnOk result (StaysUntold (D.told self.old.engine.disk) (D.told self.new.engine.disk)) }
     {
         told_keep(self.engine.keep(versions))

@@ -2,17 +2,17 @@ use Rattle.std.proofs.Common.{◌++◌, ℕ, List, length, sym, ap, ◌∙◌, a
 use Rattle.std.specs.Prelude.{Err, is_ok, is_err}
 use Rattle.std.specs.Option.{option_map}
 use Rattle.vl_script.specs.Script.{text_of}
-use Rattle.vl_replay.specs.Exchanges.{exchanged}
+use Rattle.vl_sequential.specs.Exchanges.{exchanged}
 use Rattle.vl_replay.specs.Replaying.{disk_of}
-use Rattle.vl_replay.specs.Sequential.{answer_to}
-use Rattle.vl_replay.specs.declared.fails.Halt.TheVariants as why
-use Rattle.vl_replay.proofs.Runs.Asking.{line_asks}
-use Rattle.vl_replay.proofs.Runs.Ends.{exchange_at-answered}
-use Rattle.vl_replay.proofs.Disk.Halting.{by_disk_still, by_read_still, out_not_by_disk, out_readable}
-use Rattle.vl_replay.proofs.Runs.Extending.{is_told_text}
-use Rattle.vl_replay.proofs.Runs.Texts.{by_damage_still, by_reader_still, carries_nothing, carries_bad, carries_line}
-use Rattle.vl_replay.proofs.Runs.Texts.{kept_without_number, of_ok, ok_not_err, ok_not_out, out_not_by_reader}
-use Rattle.vl_replay.proofs.Runs.Texts.{out_undamaged, same_halt}
+use Rattle.vl_sequential.specs.Sequential.{answer_to}
+use Rattle.vl_sequential.specs.declared.fails.Halt.TheVariants as why
+use Rattle.vl_sequential.specs.laws.AskingLaws.{line_asks}
+use Rattle.vl_sequential.specs.laws.Ends.{exchange_at-answered}
+use Rattle.vl_sequential.specs.laws.Halting.{by_disk_still, by_read_still, out_not_by_disk, out_readable}
+use Rattle.vl_sequential.specs.laws.Extending.{is_told_text}
+use Rattle.vl_sequential.specs.laws.Texts.{by_damage_still, by_reader_still, carries_nothing, carries_bad, carries_line}
+use Rattle.vl_sequential.specs.laws.Texts.{kept_without_number, of_ok, ok_not_err, ok_not_out, out_not_by_reader}
+use Rattle.vl_sequential.specs.laws.Texts.{out_undamaged, same_halt}
 use Rattle.vl_replay.proofs.answering.execute_line.Goals as goal
 
 pub line-requires : goal.line-requires
@@ -78,6 +78,9 @@ returns-in_err-print_answer-clause-carries g c s stands held =
     (omega (arith, ap length c.in_ok-out.ensures.items, c.in_ok-out.ensures.capacity))) (ap is_err c.in_err-print_answer.was))
     (λ is_done. ok_not_err c.print_answer.result
     (c.print_answer.ensures.room_for_ok is_done
+    (omega (arith, ap length c.in_ok-out.ensures.items, c.in_ok-out.ensures.capacity))) (ap is_err c.in_err-print_answer.was))
+    (λ count is_moved. ok_not_err c.print_answer.result
+    (c.print_answer.ensures.room_for_moved count is_moved
     (omega (arith, ap length c.in_ok-out.ensures.items, c.in_ok-out.ensures.capacity))) (ap is_err c.in_err-print_answer.was))
     (of_ok c.line.result _ ok carried.answered))
 

@@ -1,7 +1,8 @@
-use Rattle.vl_replay.specs.Sequential.{history_of}
+use Rattle.vl_sequential.specs.Sequential.{history_of}
 use Rattle.vl_replay.specs.declared.carrying.Round.{Round}
-use Rattle.vl_replay.proofs.CarryingJob.{filling_failed, fits_kept, fits_same, fits_taken, has_same, one_lent}
-use Rattle.vl_replay.proofs.CarryingJob.{reading_failed, sound_filling, sound_reading, still_lent}
+use Rattle.vl_replay.proofs.CarryingJob.{filling_failed, fits_kept, fits_same, fits_taken, has_same, left_under_way, lent_under_way}
+use Rattle.vl_replay.proofs.CarryingJob.{one_lent, reading_failed, refused_under_way, sound_filling, sound_reading, still_lent}
+use Rattle.vl_replay.proofs.CarryingJob.{unlent_tells}
 use Rattle.vl_replay.proofs.CarryingRounds.{ended, filled, is_fresh, unfilled, unlent, unread}
 use Rattle.vl_replay.proofs.carrying.make_table.Goals as goal
 
@@ -22,7 +23,21 @@ returns-in-Ok-false-clause-lent g c lent = (
   c.in-Ok-false.ensures.asked.1 c.in-Ok-false.field-0-test,
 )
 
+pub returns-in-Ok-false-clause-under_way : goal.returns-in-Ok-false-clause-under_way
+returns-in-Ok-false-clause-under_way g c lent =
+    lent_under_way g.D.Watched g.D.Writer.Writer c.args.engine.now.disk c.args.engine.now.core.front.halted c.args.engine.now.merging
+    c.ready.new.self
+    (still_lent g.D.Watched g.D.Writer.Writer c.args.engine.now.disk c.args.engine.now.merging c.args.job.now c.ready.new.self
+    c.ready.ensures.kept lent)
+
 -- ---- it couldn't read on
+
+pub returns-in-Err-clause-under_way : goal.returns-in-Err-clause-under_way
+returns-in-Err-clause-under_way g c lent =
+    lent_under_way g.D.Watched g.D.Writer.Writer c.args.engine.now.disk c.args.engine.now.core.front.halted c.args.engine.now.merging
+    c.ready.new.self
+    (still_lent g.D.Watched g.D.Writer.Writer c.args.engine.now.disk c.args.engine.now.merging c.args.job.now c.ready.new.self
+    c.ready.ensures.kept lent)
 
 pub returns-in-Err-clause-rounds : goal.returns-in-Err-clause-rounds
 returns-in-Err-clause-rounds g c s j way =
@@ -69,7 +84,23 @@ returns-in-Err-fresh-clause-rounds g c s j way =
       within = c.in-Err-fresh.ensures.within;
     }))
 
+pub returns-in-Err-fresh-clause-under_way : goal.returns-in-Err-fresh-clause-under_way
+returns-in-Err-fresh-clause-under_way g c lent =
+    refused_under_way g.D.Watched g.D.Writer.Writer c.args.engine.now.disk c.fresh.new.self.disk c.fresh.new.self.core.front.halted
+    c.args.engine.now.merging c.fresh.new.self.merging c.args.job.now c.ready.new.self c.fresh.new.job lent c.ready.ensures.kept
+    c.fresh.ensures.job c.in-Err-fresh.ensures.refused
+    (unlent_tells g.D.Watched g.D.Writer.Writer c.args.engine.now.core c.fresh.new.self.core c.args.engine.now.disk
+    c.fresh.new.self.disk c.in-Err-fresh.fail c.in-Err-fresh.ensures.core c.in-Err-fresh.ensures.untouched)
+
 -- ---- the file became a table
+
+pub returns-in-Ok-fill-clause-under_way : goal.returns-in-Ok-fill-clause-under_way
+returns-in-Ok-fill-clause-under_way g c lent =
+    lent_under_way g.D.Watched g.D.Writer.Writer c.fresh.new.self.disk c.fresh.new.self.core.front.halted c.fresh.new.self.merging
+    c.fill.new.self
+    (one_lent g.D.Watched g.D.Writer.Writer c.args.engine.now.disk c.fresh.new.self.disk c.args.engine.now.merging c.fresh.new.self.merging
+    c.args.job.now c.ready.new.self c.fresh.new.job c.fill.new.self c.in-Ok.file lent c.ready.ensures.kept c.fresh.ensures.job
+    c.in-Ok-fill.ensures.takes c.in-Ok.ensures.merging c.in-Ok.ensures.fresh c.in-Ok.ensures.empty c.in-Ok.ensures.untold)
 
 pub returns-in-Ok-fill-clause-rounds : goal.returns-in-Ok-fill-clause-rounds
 returns-in-Ok-fill-clause-rounds g c s j way =
@@ -117,6 +148,13 @@ returns-in-Ok-fill-clause-lent g c lent =
     c.in-Ok-fill.ensures.takes c.in-Ok.ensures.merging c.in-Ok.ensures.fresh c.in-Ok.ensures.empty c.in-Ok.ensures.untold
 
 -- ---- the file couldn't be filled
+
+pub returns-in-Err-fill-clause-under_way : goal.returns-in-Err-fill-clause-under_way
+returns-in-Err-fill-clause-under_way g c lent =
+    left_under_way g.D.Watched g.D.Writer.Writer c.args.engine.now.disk c.fresh.new.self.disk c.fresh.new.self.core.front.halted
+    c.args.engine.now.merging c.fresh.new.self.merging c.args.job.now c.ready.new.self c.fresh.new.job c.fill.new.self c.in-Ok.file
+    lent c.ready.ensures.kept c.fresh.ensures.job c.in-Err-fill.ensures.refused c.in-Ok.ensures.merging c.in-Ok.ensures.fresh
+    c.in-Ok.ensures.empty c.in-Ok.ensures.untold
 
 pub returns-in-Err-fill-clause-rounds : goal.returns-in-Err-fill-clause-rounds
 returns-in-Err-fill-clause-rounds g c s j way =

@@ -1,7 +1,7 @@
 use Rattle.std.specs.Prelude.{Ok}
 use Rattle.std.proofs.Common.{refl, ap, ◌∙◌}
 use Rattle.vl_core.specs.declared.kept.Core.{Core}
-use Rattle.vl_replay.proofs.CarryingJob.{just_planned, may_hand_in}
+use Rattle.vl_replay.proofs.CarryingJob.{just_planned, lent_under_way, may_hand_in}
 use Rattle.vl_replay.proofs.CarryingTables.{all_made, halted, not_begun, one_so_far, out_is, planned_so_far, used_up}
 use Rattle.vl_replay.proofs.carrying.make_tables.Goals as goal
 
@@ -13,10 +13,19 @@ returns-in_err-reader-clause-merged g c s j planned =
     (not_begun g.D.Watched (record { only_now = g.met.D.Disk.only_now; counts_now = g.met.D.Disk.counts_now }) g.D.Writer.Writer
     g.D.Held.HeldFile.bytes s j c.args.engine.now.disk c.args.engine.now.core c.args.engine.now.merging c.args.job.now planned)
 
+pub returns-in_err-reader-clause-under_way : goal.returns-in_err-reader-clause-under_way
+returns-in_err-reader-clause-under_way g c =
+    lent_under_way g.D.Watched g.D.Writer.Writer c.args.engine.now.disk c.args.engine.now.core.front.halted c.args.engine.now.merging
+    c.args.job.now
+    (just_planned g.D.Watched g.D.Writer.Writer c.args.engine.now.disk c.args.engine.now.merging c.args.job.now
+    c.requires.open c.requires.new)
+
 pub tables-init : goal.tables-init
 tables-init g c = record {
   lent = just_planned g.D.Watched g.D.Writer.Writer c.args.engine.now.disk c.args.engine.now.merging c.args.job.now
       c.requires.open c.requires.new;
+  collecting = refl;
+  logs = refl;
   steady = refl;
   running = λ running. running;
   so_far = λ s j planned.
@@ -33,6 +42,8 @@ tables-preserved g c =
     let lent = rw c.in-Ok-Made.field-0-is at (c.in-Ok-Made.ensures.lent c.tables.invariant.lent) in
     record {
       lent = lent;
+      collecting = c.in-Ok-Made.ensures.collecting ∙ c.tables.invariant.collecting;
+      logs = c.in-Ok-Made.ensures.logs ∙ c.tables.invariant.logs;
       steady = c.in-Ok-Made.ensures.cause.steady (λ by. by) ∙ c.tables.invariant.steady;
       running = λ running. ap (λ (core : Core _). core.front.halted) (c.in-Ok-Made.ensures.drawn (ap Ok c.in-Ok-Made.field-0-is)).1
           ∙ c.tables.invariant.running running;
@@ -62,6 +73,15 @@ returns-in-Ok-Ended-clause-handed g c is =
     let lent = rw c.in-Ok-Ended.field-0-is at (c.in-Ok-Ended.ensures.lent c.tables.invariant.lent) in
     may_hand_in g.D.Watched g.D.Writer.Writer c.make_table.new.engine.disk c.make_table.new.engine.merging c.make_table.new.job
     lent.0 lent.1
+
+pub returns-in-Ok-Ended-clause-under_way : goal.returns-in-Ok-Ended-clause-under_way
+returns-in-Ok-Ended-clause-under_way g c = c.in-Ok-Ended.ensures.under_way c.tables.invariant.lent
+
+pub returns-in-Ok-Exhausted-clause-under_way : goal.returns-in-Ok-Exhausted-clause-under_way
+returns-in-Ok-Exhausted-clause-under_way g c = c.in-Ok-Exhausted.ensures.under_way c.tables.invariant.lent
+
+pub returns-in-Err-clause-under_way : goal.returns-in-Err-clause-under_way
+returns-in-Err-clause-under_way g c = c.in-Err.ensures.under_way c.tables.invariant.lent
 
 pub returns-in-Ok-Exhausted-clause-merged : goal.returns-in-Ok-Exhausted-clause-merged
 returns-in-Ok-Exhausted-clause-merged g c s j planned =

@@ -2,13 +2,15 @@ use Rattle.std.specs.Prelude.{◌≡◌, ◌-◌, ◌^◌, None}
 use Rattle.vl_layout.specs.declared.job.Job.{Job}
 use Rattle.vl_replay.specs.Drawn.{IsPlanned}
 use Rattle.vl_replay.specs.Rounds.{HasLent}
-use Rattle.vl_replay.specs.Sequential.{State}
+use Rattle.vl_sequential.specs.Sequential.{State}
 use Rattle.vl_replay.proofs.CarryingTables.{SoFar}
 use Rattle.vl_replay.proofs.carrying.make_tables.Given as goal
 
 abbrev pub invariant-tables : goal.invariant-tables
 invariant-tables g l = record {
   lent : HasLent g.D.Watched g.D.Writer.Writer l.engine.disk l.engine.merging l.job;
+  collecting : l.engine.collecting ≡ l.fn.engine.collecting;
+  logs : l.engine.core.version.behind.logs ≡ l.fn.engine.core.version.behind.logs;
   steady : g.D.Watched.faults l.engine.disk ≡ g.D.Watched.faults l.fn.engine.disk;
   running : l.fn.engine.core.front.halted ≡ None → l.engine.core.front.halted ≡ None;
   so_far : (s : State) (j : Job)

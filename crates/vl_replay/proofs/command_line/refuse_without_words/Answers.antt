@@ -1,5 +1,5 @@
 use Rattle.std.proofs.Common.{refl}
-use Rattle.vl_replay.specs.Endings.{no_memory_line}
+use Rattle.vl_sequential.specs.Endings.{no_memory_line}
 use Rattle.vl_replay.proofs.command_line.refuse_without_words.Goals as goal
 
 pub returns : goal.returns

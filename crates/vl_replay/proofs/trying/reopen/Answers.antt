@@ -6,8 +6,8 @@ use Rattle.vl_mem.specs.CrashImage.{crash_image}
 use Rattle.vl_mem.specs.StoppingDisk.{state_on}
 use Rattle.vl_model.specs.History.{last_number}
 use Rattle.vl_model.specs.Limits.{max_room}
-use Rattle.vl_replay.specs.Steps.{Finishes}
-use Rattle.vl_replay.specs.declared.ending.Ending.TheVariants.{Complete}
+use Rattle.vl_sequential.specs.Steps.{Finishes}
+use Rattle.vl_sequential.specs.declared.ending.Ending.TheVariants.{Complete}
 use Rattle.vl_replay.proofs.Trials.Reopening.{memory_line, only_memory}
 use Rattle.vl_replay.proofs.Trials.TrialEnds.{not_by_disk}
 use Rattle.vl_replay.proofs.trying.reopen.Goals as goal

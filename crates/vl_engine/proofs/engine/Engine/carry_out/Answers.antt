@@ -168,7 +168,8 @@ returns-in_err-file-clause-under_way g c =
     unlent_way g.D.Watched g.D.Writer.Writer c.making.self.disk c.fresh.new.self.disk c.making.self.core.front.halted
     c.fresh.new.self.core.front.halted c.making.self.merging c.fresh.new.self.merging c.making.job c.ready.new.self c.fresh.new.job
     c.making.invariant.way c.ready.ensures.kept c.fresh.ensures.job c.in_err-file.ensures.refused
-    (quiet_draw g.D.Watched g.D.Writer.Writer c.making.self.disk c.fresh.new.self.disk c.making.self.core c.fresh.new.self.core c.in_err-file.field-0.0
+    (quiet_draw g.D.Watched g.D.Writer.Writer c.making.self.disk c.fresh.new.self.disk c.making.self.core c.fresh.new.self.core
+    c.in_err-file.field-0.0
     c.in_err-file.ensures.core c.in_err-file.ensures.untouched)
 
 pub returns-in_err-fill-clause-under_way : goal.returns-in_err-fill-clause-under_way

@@ -274,10 +274,10 @@ invariant_of-self-in_default-ready_fresh g c =
       known = before.known;
       there = λ running. there_roomier g.D.Watched g.D.Writer.Writer c.ready_fresh.new.disk core c.ready_fresh.new.merging
           before.removing.stock c.make_room_to_leave.new.stock (record {
-      in_use = c.make_room_to_leave.ensures.in_use;
-      trash = c.make_room_to_leave.ensures.trash;
-      capacity = c.make_room_to_leave.ensures.capacity;
-    })
+            in_use = c.make_room_to_leave.ensures.in_use;
+            trash = c.make_room_to_leave.ensures.trash;
+            capacity = c.make_room_to_leave.ensures.capacity;
+          })
           (there_told g.D.Watched g.D.Writer.Writer before.disk c.ready_fresh.new.disk core core before.merging
           c.ready_fresh.new.merging before.removing.stock before.removing.stock refl refl (omega arith)
           (lent_same_in before.merging c.ready_fresh.new.merging ready.merging) refl ready.no_change.told

@@ -15,7 +15,8 @@ invariant_of-self g c = let was = c.args.self.now in
       there = λ running. there_left g.D.Watched was.disk was.core was.merging c.args.job was.removing.stock c.leave_files.new.stock
           (was.there running) c.requires
           (subst (λ (files : List (Lent g.row.D-Writer.Denot g.D.Writer.Writer)). LeavesFiles files was.removing.stock
-          c.leave_files.new.stock) (λ i. map left_of (c.into_parts-made.ensures.made i).items ++ (c.into_parts-made.ensures.leavings i).items)
+          c.leave_files.new.stock) (λ i. map left_of (c.into_parts-made.ensures.made i).items ++
+          (c.into_parts-made.ensures.leavings i).items)
           c.leave_files.ensures) running was.lent;
     }
   where

@@ -91,14 +91,16 @@ invariant_of-self-in-Ok-write_and_switch g c =
           (is_idle_log c.head_of-head.result c.in-Ok-live_with.live) (with_tables (number ∷ []) (kept_in room.in_use stock))
           (keeps_made g.D.Watched g.D.Writer.Writer old new core.back.state.next_table c.apply_flush.new.self.state.next_table
           core.front.log.number number (kept_in room.in_use stock) (λ none. wrote.untold (quiet ∙ none))
-          (λ from now was is name stands. still_but (names.Table number) (told old) (told new) from now keeps was is (free from was) name stands)
+          (λ from now was is name stands. still_but (names.Table number) (told old) (told new) from now keeps was is (free from was) name
+          stands)
           (omega (arith, next))
           (leaves_then g.D.Watched core.back.state.next_table old c.ready_flush.new.disk new c.in-Ok.ensures.lent
           (leaves_written g.D.Watched c.ready_flush.new.disk new core.back.manifest.number number wrote.files wrote.untold wrote.beside))
           free (made_stands number _ _ _ (told c.ready_flush.new.disk) (told new) wrote.writes.done) was.waiting
           (λ state is. from_use core state stock room.in_use room.is_some (was.files state is))))
           was.distinct
-          (let has = (c.switch.ensures.room c.lent_count.result (no_logs stock 1 1 1 c.lent_count.result c.lent_count.result refl refl room)).trash in
+          (let has = (c.switch.ensures.room c.lent_count.result
+          (no_logs stock 1 1 1 c.lent_count.result c.lent_count.result refl refl room)).trash in
           let count = c.lent_count.ensures in
           omega (arith, has, count));
     }
@@ -193,7 +195,8 @@ returns-in-Err-clause-as_flushed g c =
 pub returns-in-Ok-write_and_switch-clause-collected : goal.returns-in-Ok-write_and_switch-clause-collected
 returns-in-Ok-write_and_switch-clause-collected g c =
     let ready = c.in-Ok.ready in
-    has_flushed g.D.Held.HeldFile.bytes c.args.self.now.core _ c.args.self.now.collecting c.live_with.new.self c.switch-in-Ok-write_and_switch.new.self
+    has_flushed g.D.Held.HeldFile.bytes c.args.self.now.core _ c.args.self.now.collecting c.live_with.new.self
+    c.switch-in-Ok-write_and_switch.new.self
     c.of.result (ready.version.levels.newest.items ++ all_tables ready.version.levels.deeper.items) c.in-Ok-live_with.live
     c.head_of-head.result c.in-Ok-live_with.ensures.readied
     (leads_same c.live_with.new.self.tally c.in-Ok-live_with.live _ _ (points_in (c.of.result ∷ [])) []

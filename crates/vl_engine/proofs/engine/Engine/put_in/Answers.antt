@@ -77,7 +77,8 @@ write_install-requires-clause-may g c =
     let core = c.args.self.now.core in
     subst (λ ts. MayTakeAll g.D.Watched g.D.Writer.Writer c.ready_install.new.disk ts.items) (sym c.into_parts-made.ensures.made)
     (may_take_all g.D.Watched g.D.Writer.Writer c.args.self.now.disk c.ready_install.new.disk core.back.state.next_table
-    core.back.manifest.number c.args.job c.in-Ok-ready_install.ensures.no_change.told c.in-Ok-ready_install.ensures.elsewhere core.front.halted
+    core.back.manifest.number c.args.job c.in-Ok-ready_install.ensures.no_change.told c.in-Ok-ready_install.ensures.elsewhere
+    core.front.halted
     c.args.self.now.merging c.args.self.now.lent c.requires.handed c.requires.running)
 
 pub write_install-requires-clause-stands : goal.write_install-requires-clause-stands
@@ -100,7 +101,8 @@ invariant_of-self-in-Ok-write_install g c =
       ready = fit_installed g.D.Watched g.D.Held.HeldFile.bytes g.D.Writer.Writer core _ c.ready_install.new.disk c.write_install.new.disk
           (λ disk told. c.args.self.now.ready disk (sym c.in-Ok-ready_install.ensures.no_change.told ∙ told)) c.args.job.made.items
           (made_given g.D.Watched g.D.Writer.Writer c.args.self.now.disk c.ready_install.new.disk core.back.state.next_table
-          core.back.manifest.number c.args.job c.in-Ok-ready_install.ensures.no_change.told c.in-Ok-ready_install.ensures.elsewhere core.front.halted
+          core.back.manifest.number c.args.job c.in-Ok-ready_install.ensures.no_change.told c.in-Ok-ready_install.ensures.elsewhere
+          core.front.halted
           c.args.self.now.merging c.args.self.now.lent c.requires.handed)
           ready.staged.edits.frame.items ready.levels c.write_install.new.levels refl
           (subst (λ ts. InstallsAll g.D.Watched g.D.Held.HeldFile.bytes g.D.Writer.Writer ts.items core.back.manifest.number
@@ -111,7 +113,8 @@ invariant_of-self-in-Ok-write_install g c =
       known = ap (λ m. are_known core.front.oracle.last m.entries)
           (c.with_levels.ensures.active ∙ c.in-Ok-ready_install.ensures.ready.version.active) ∙ c.args.self.now.known;
       there = λ running.
-          let made_room = there_used g.D.Watched g.D.Writer.Writer c.args.self.now.disk core c.args.self.now.merging c.args.self.now.removing.stock
+          let made_room = there_used g.D.Watched g.D.Writer.Writer c.args.self.now.disk core c.args.self.now.merging
+          c.args.self.now.removing.stock
           c.make_room.new.self.stock (stays_readied core c.args.self.now.removing.stock c.make_room.new.self.stock _ _
           c.in-Ok-make_room.ensures.readied) (c.args.self.now.there running) in
           there_put g.D.Watched g.D.Held.HeldFile.bytes c.args.self.now.disk c.ready_install.new.disk c.write_install.new.disk
@@ -119,24 +122,28 @@ invariant_of-self-in-Ok-write_install g c =
           (subst (λ ts. InstallsAll g.D.Watched g.D.Held.HeldFile.bytes g.D.Writer.Writer ts.items core.back.manifest.number
           ready.staged.edits.frame.items c.ready_install.new.disk c.write_install.new.disk ready.levels c.write_install.new.levels)
           c.into_parts-made.ensures.made wrote.writes) c.in-Ok-ready_install.ensures.no_change.told c.in-Ok-ready_install.ensures.elsewhere
-          core _ c.leave_files.new.stock c.switch.new.self.stock refl next (free_of g.D.Watched c.args.self.now.disk c.ready_install.new.disk c.in-Ok-ready_install.ensures.no_change.told c.args.job.made.items
+          core _ c.leave_files.new.stock c.switch.new.self.stock refl next
+          (free_of g.D.Watched c.args.self.now.disk c.ready_install.new.disk c.in-Ok-ready_install.ensures.no_change.told
+          c.args.job.made.items
           (may_take_all g.D.Watched g.D.Writer.Writer c.args.self.now.disk c.ready_install.new.disk core.back.state.next_table
           core.back.manifest.number c.args.job c.in-Ok-ready_install.ensures.no_change.told c.in-Ok-ready_install.ensures.elsewhere
           core.front.halted c.args.self.now.merging c.args.self.now.lent c.requires.handed c.requires.running).each)
           (off_left g.D.Watched c.args.self.now.disk c.args.self.now.core c.args.self.now.merging c.args.job c.requires.handed c.new.result
-    c.new.ensures.items c.make_room.new.self.stock c.leave_files.new.stock
-    (subst (λ ls. LeavesFiles (map left_of c.new.result.items ++ ls.items) c.make_room.new.self.stock c.leave_files.new.stock)
-    c.into_parts-made.ensures.leavings c.leave_files.ensures) made_room) c.in-Ok-make_room.ensures.readied.room.in_use
+          c.new.ensures.items c.make_room.new.self.stock c.leave_files.new.stock
+          (subst (λ ls. LeavesFiles (map left_of c.new.result.items ++ ls.items) c.make_room.new.self.stock c.leave_files.new.stock)
+          c.into_parts-made.ensures.leavings c.leave_files.ensures) made_room) c.in-Ok-make_room.ensures.readied.room.in_use
           (c.leave_files.ensures.in_use ∙ c.in-Ok-make_room.ensures.readied.room.is_some)
           c.apply_install.new.self.version_number c.deref-in-Ok-write_install-2.result.now
           (is_idle_log c.head_of-head.result c.args.live)
           (subst (λ ns. BecomesBy (switching c.apply_install.new.self.version_number ns c.deref-in-Ok-write_install-2.result.now
           (is_idle_log c.head_of-head.result c.args.live)) c.leave_files.new.stock c.switch.new.self.stock)
-          (c.deref-in-Ok-write_install.ensures.value ∙ c.in-Ok-made_numbers.ensures ∙ ap (map (λ t. t.number)) c.made.ensures) c.switch.ensures.switched)
-          (there_others g.D.Watched c.args.self.now.disk c.args.self.now.core c.args.self.now.merging c.args.job c.requires.handed c.new.result
-    c.new.ensures.items c.make_room.new.self.stock c.leave_files.new.stock
-    (subst (λ ls. LeavesFiles (map left_of c.new.result.items ++ ls.items) c.make_room.new.self.stock c.leave_files.new.stock)
-    c.into_parts-made.ensures.leavings c.leave_files.ensures) running c.args.self.now.lent made_room);
+          (c.deref-in-Ok-write_install.ensures.value ∙ c.in-Ok-made_numbers.ensures ∙ ap (map (λ t. t.number)) c.made.ensures)
+          c.switch.ensures.switched)
+          (there_others g.D.Watched c.args.self.now.disk c.args.self.now.core c.args.self.now.merging c.args.job c.requires.handed
+          c.new.result
+          c.new.ensures.items c.make_room.new.self.stock c.leave_files.new.stock
+          (subst (λ ls. LeavesFiles (map left_of c.new.result.items ++ ls.items) c.make_room.new.self.stock c.leave_files.new.stock)
+          c.into_parts-made.ensures.leavings c.leave_files.ensures) running c.args.self.now.lent made_room);
     }
 
 pub returns-in-Ok-write_install-clause-as_installed : goal.returns-in-Ok-write_install-clause-as_installed
@@ -183,7 +190,8 @@ invariant_of-self-in-Err g c =
       ready = fit_uninstalled g.D.Watched g.D.Held.HeldFile.bytes g.D.Writer.Writer core _ c.ready_install.new.disk c.write_install.new.disk
           (λ disk told. c.args.self.now.ready disk (sym c.in-Ok-ready_install.ensures.no_change.told ∙ told)) c.args.job.made.items
           (made_given g.D.Watched g.D.Writer.Writer c.args.self.now.disk c.ready_install.new.disk core.back.state.next_table
-          core.back.manifest.number c.args.job c.in-Ok-ready_install.ensures.no_change.told c.in-Ok-ready_install.ensures.elsewhere core.front.halted
+          core.back.manifest.number c.args.job c.in-Ok-ready_install.ensures.no_change.told c.in-Ok-ready_install.ensures.elsewhere
+          core.front.halted
           c.args.self.now.merging c.args.self.now.lent c.requires.handed)
           ready.staged.edits.frame.items ready.levels c.write_install.new.levels refl c.in-Err.name
           (subst (λ ts. StopsInstalling g.D.Watched g.D.Held.HeldFile.bytes g.D.Writer.Writer ts.items core.back.manifest.number
@@ -235,7 +243,8 @@ switch-requires g c =
     (subst (λ ls. LeavesFiles (map left_of c.new.result.items ++ ls.items) c.make_room.new.self.stock c.leave_files.new.stock)
     c.into_parts-made.ensures.leavings c.leave_files.ensures)
     (length c.deref-in-Ok-write_install.result.now) c.lent_count-lent.result c.lent_count-lent.ensures
-    (subst (λ n. HasRoom c.make_room.new.self.stock n 1 c.lent_count-lent.result) (let a = c.len.ensures in let b = c.in-Ok-made_numbers.added.ok.0 in
+    (subst (λ n. HasRoom c.make_room.new.self.stock n 1 c.lent_count-lent.result)
+    (let a = c.len.ensures in let b = c.in-Ok-made_numbers.added.ok.0 in
     let d = ap length c.deref-in-Ok-write_install.ensures.value in omega (arith, a, b, d))
     c.in-Ok-make_room.ensures.readied.room)
 
@@ -245,21 +254,22 @@ returns-in-Ok-write_install-clause-cause g c =
 
 pub returns-in-Ok-write_install-clause-retires : goal.returns-in-Ok-write_install-clause-retires
 returns-in-Ok-write_install-clause-retires g c = (
-    c.switch.ensures.pins ∙ ap (λ (p : Pins). record p { merge = None }) c.make_room.ensures.pins,
-    put_into g.D.Watched c.args.self.now.disk c.args.self.now.core c.args.self.now.merging c.args.job c.requires.handed c.new.result
-    c.new.ensures.items c.make_room.new.self.stock c.leave_files.new.stock
-    (subst (λ ls. LeavesFiles (map left_of c.new.result.items ++ ls.items) c.make_room.new.self.stock c.leave_files.new.stock)
-    c.into_parts-made.ensures.leavings c.leave_files.ensures)
-    c.args.self.now.core _ c.deref-in-Ok-write_install.result.now c.deref-in-Ok-write_install-2.result.now c.head_of-head.result
-    c.apply_install.new.self.version_number c.len.result c.lent_count-lent.result c.args.live c.switch-in-Ok-write_install.new.self.tally
-    c.args.self.now.removing.stock c.switch.new.self.stock
-    (c.deref-in-Ok-write_install.ensures.value ∙ c.in-Ok-made_numbers.ensures ∙ ap (map (λ t. t.number)) c.made.ensures)
-    (c.deref-in-Ok-write_install-2.ensures.value ∙ c.in-Ok-input_numbers.ensures
-    ∙ ap (λ ns. map number_of (filter (is_input ns) (tables_of c.levels.result.now)))
-    (c.deref-2.ensures.value ∙ c.in-Ok.ensures ∙ ap (map number_of) (c.deref.ensures.value ∙ ap (λ i. i.tables.items) c.inputs.ensures))
-    ∙ ap (λ lv. map number_of (filter (is_input (map number_of c.args.job.inputs.tables.items)) (tables_of lv))) c.levels.ensures) c.apply_install.ensures.version c.head_of-head.ensures
-    (c.switch-in-Ok-write_install.ensures.live c.requires.tallied)
-    (let a = c.len.ensures in let b = c.in-Ok-made_numbers.added.ok.0 in
-    let d = ap length c.deref-in-Ok-write_install.ensures.value in omega (arith, a, b, d)) c.lent_count-lent.ensures
-    c.in-Ok-make_room.ensures.readied c.switch.ensures.switched,
-  )
+  c.switch.ensures.pins ∙ ap (λ (p : Pins). record p { merge = None }) c.make_room.ensures.pins,
+  put_into g.D.Watched c.args.self.now.disk c.args.self.now.core c.args.self.now.merging c.args.job c.requires.handed c.new.result
+      c.new.ensures.items c.make_room.new.self.stock c.leave_files.new.stock
+      (subst (λ ls. LeavesFiles (map left_of c.new.result.items ++ ls.items) c.make_room.new.self.stock c.leave_files.new.stock)
+      c.into_parts-made.ensures.leavings c.leave_files.ensures)
+      c.args.self.now.core _ c.deref-in-Ok-write_install.result.now c.deref-in-Ok-write_install-2.result.now c.head_of-head.result
+      c.apply_install.new.self.version_number c.len.result c.lent_count-lent.result c.args.live c.switch-in-Ok-write_install.new.self.tally
+      c.args.self.now.removing.stock c.switch.new.self.stock
+      (c.deref-in-Ok-write_install.ensures.value ∙ c.in-Ok-made_numbers.ensures ∙ ap (map (λ t. t.number)) c.made.ensures)
+      (c.deref-in-Ok-write_install-2.ensures.value ∙ c.in-Ok-input_numbers.ensures
+      ∙ ap (λ ns. map number_of (filter (is_input ns) (tables_of c.levels.result.now)))
+      (c.deref-2.ensures.value ∙ c.in-Ok.ensures ∙ ap (map number_of) (c.deref.ensures.value ∙ ap (λ i. i.tables.items) c.inputs.ensures))
+      ∙ ap (λ lv. map number_of (filter (is_input (map number_of c.args.job.inputs.tables.items)) (tables_of lv))) c.levels.ensures)
+      c.apply_install.ensures.version c.head_of-head.ensures
+      (c.switch-in-Ok-write_install.ensures.live c.requires.tallied)
+      (let a = c.len.ensures in let b = c.in-Ok-made_numbers.added.ok.0 in
+      let d = ap length c.deref-in-Ok-write_install.ensures.value in omega (arith, a, b, d)) c.lent_count-lent.ensures
+      c.in-Ok-make_room.ensures.readied c.switch.ensures.switched,
+)

@@ -7,10 +7,12 @@ use Rattle.vl_engine.specs.Sweeping.{HasSwept}
 use Rattle.vl_engine.proofs.engine.Engine.sweep_up_to.Goals as goal
 
 pub remove_file-requires : goal.remove_file-requires
-remove_file-requires g c = let now = c.loop-file.self in
-    (now.core.back.state.next_table, taken_waits g.D.Watched g.D.Writer.Writer now.core now.merging now.removing.stock
-    c.take_up_to.new.self c.bound-bound.result c.in-Some-take_up_to.file c.in-Some-take_up_to.ensures.taken now.disk
-    (now.there (ap (λ (x : Core g.row.D-Held.Denot). x.front.halted) c.loop-file.invariant.core ∙ c.loop-file.invariant.running)))
+remove_file-requires g c = let now = c.loop-file.self in (
+  now.core.back.state.next_table,
+  taken_waits g.D.Watched g.D.Writer.Writer now.core now.merging now.removing.stock
+      c.take_up_to.new.self c.bound-bound.result c.in-Some-take_up_to.file c.in-Some-take_up_to.ensures.taken now.disk
+      (now.there (ap (λ (x : Core g.row.D-Held.Denot). x.front.halted) c.loop-file.invariant.core ∙ c.loop-file.invariant.running)),
+)
 
 pub invariant_of-self : goal.invariant_of-self
 invariant_of-self g c = let now = c.loop-file.self in
@@ -75,12 +77,15 @@ invariant_of-self-in-Err g c = let now = c.loop-file.self in
     never e = cc
 
 pub returns-clause-as_swept : goal.returns-clause-as_swept
-returns-clause-as_swept g c = let was = c.loop-file.invariant in let took = c.in_default-take_up_to.ensures in
-    (was.running, was.core, subst (λ (b : ℕ). HasSwept g.D.Watched g.D.Writer.Writer b c.args.self.now.core.back.version_number
-    c.args.self.now.disk c.loop-file.self.disk c.args.self.now.removing
-    (record { pins = c.loop-file.self.removing.pins; stock = c.take_up_to.new.self }) c.loop-file.count) was.bound
-    (has_swept g.D.Watched g.D.Writer.Writer c.bound-bound.result c.args.self.now.removing.stock.trash.items
-    c.loop-file.self.removing.stock.trash.items c.args.self.now.disk c.loop-file.self.disk c.loop-file.count was.gone
-    c.args.self.now.core.back.version_number c.args.self.now.removing
-    (record { pins = c.loop-file.self.removing.pins; stock = c.take_up_to.new.self }) refl took.taken (took.in_use ∙ was.in_use)
-    (took.capacity ∙ was.capacity) was.pins))
+returns-clause-as_swept g c = let was = c.loop-file.invariant in let took = c.in_default-take_up_to.ensures in (
+  was.running,
+  was.core,
+  subst (λ (b : ℕ). HasSwept g.D.Watched g.D.Writer.Writer b c.args.self.now.core.back.version_number
+      c.args.self.now.disk c.loop-file.self.disk c.args.self.now.removing
+      (record { pins = c.loop-file.self.removing.pins; stock = c.take_up_to.new.self }) c.loop-file.count) was.bound
+      (has_swept g.D.Watched g.D.Writer.Writer c.bound-bound.result c.args.self.now.removing.stock.trash.items
+      c.loop-file.self.removing.stock.trash.items c.args.self.now.disk c.loop-file.self.disk c.loop-file.count was.gone
+      c.args.self.now.core.back.version_number c.args.self.now.removing
+      (record { pins = c.loop-file.self.removing.pins; stock = c.take_up_to.new.self }) refl took.taken (took.in_use ∙ was.in_use)
+      (took.capacity ∙ was.capacity) was.pins),
+)

@@ -131,7 +131,8 @@ returns-in-Ok-begin-clause-removes g c low h l is removes =
     let room = has_room core h l is c.in-Ok-begin.ensures.room in
     decides_begun l h _ room _ _ (c.in-Ok-begin.ensures.ok.0 ∙ ticket_is core h l is)
     (c.last.ensures.last ∙ ap (λ (o : LiveTickets). o.last) c.in-Ok-begin.ensures.ok.1 ∙ is.front.last)
-    (removes_live low core _ c.args.self.now.removing (record c.args.self.now.removing { pins = c.begin.new.pins }) l (begun l (free_ticket (tickets_of l.live)) (last_number h)).live
+    (removes_live low core _ c.args.self.now.removing (record c.args.self.now.removing { pins = c.begin.new.pins }) l
+    (begun l (free_ticket (tickets_of l.live)) (last_number h)).live
     (ap (λ (v : Version g.row.D-Held.Denot). v.behind.logs.items) c.share.ensures.same) refl refl
     (c.in-Ok-begin.ensures.pinned l (last_number h) (pins_here core h l is low c.args.self.now.removing removes)) removes)
 

@@ -167,7 +167,7 @@ invariant_of-self-2-clause-there g c running =
     let same = c.in-Ok.ensures.same in
     let writes = c.args.txn.writes in
     let number : c.stage_commit.new.core.front.log.number ≡ before.core.front.log.number
-      = ap (λ (log : ActiveLog). log.number) same.log.log in
+    = ap (λ (log : ActiveLog). log.number) same.log.log in
     let back = ap (λ (b : Back). b.state.next_table) c.in-Ok.ensures.back in
     let hands = hands_by g.D.Watched before.core.front writes c.stage_commit.new.core.front.log.number c.in-Ok.staged.frame number
     c.in-Ok.ensures.staged.frame before.disk c.stage_commit.new.disk c.append_durably.new.disk c.in-Ok.ensures.no_change

@@ -9,4 +9,5 @@ pub returns-clause-kept : goal.returns-clause-kept
 returns-clause-kept g c = kept_still _ _ c.room_in.ensures.same c.reserve.ensures.items
 
 pub returns-clause-room : goal.returns-clause-room
-returns-clause-room g c = roomy_then _ c.args.tables c.args.lent c.in_ok-all.all c.reserve.result c.in_ok-all.ensures.room c.reserve.ensures.ok
+returns-clause-room g c = roomy_then _ c.args.tables c.args.lent c.in_ok-all.all c.reserve.result c.in_ok-all.ensures.room
+    c.reserve.ensures.ok

@@ -2,12 +2,10 @@
 use Rattle.std.proofs.Common.{sym, subst}
 use Rattle.std.specs.Prelude.{Err}
 use Rattle.vl_core.specs.Shown.{Shown}
-use Rattle.vl_replay.specs.Durable.{CarriesOut}
-use Rattle.vl_replay.specs.Sequential.{state_after}
-use Rattle.vl_replay.specs.Stored.{IsStopped, IsStored}
+use Rattle.vl_sequential.specs.Durable.{CarriesOut}
+use Rattle.vl_sequential.specs.Sequential.{state_after}
+use Rattle.vl_sequential.specs.Stored.{IsStopped, IsStored}
 use Rattle.vl_script.specs.declared.answer.Answer.{Answer}
-use Rattle.vl_replay.proofs.Merges.Carrying.{whole_leads}
-use Rattle.vl_replay.proofs.Merges.Opened.{opened_planned}
 use Rattle.vl_replay.proofs.Names.Returning.{stands_after}
 use Rattle.vl_replay.proofs.replayer.Replayer.line.Goals as goal
 
@@ -16,10 +14,9 @@ returns-in-Ok-clause-after g c s stands = record {
   serves = stands_after g.D.Held.HeldFile.bytes (g.D.Watched.told c.carry_out.new.served.engine.disk) c.carry_out.new.served.engine.core
       c.carry_out.new.served.opens.items s c.args.line (c.in-Ok.ensures.makes s stands).1;
   merges = c.in-Ok.ensures.merges s stands;
+  passes = c.in-Ok.ensures.passes s stands;
 }
 
 pub returns-in-Err-clause-carries : goal.returns-in-Err-clause-carries
 returns-in-Err-clause-carries g c running s stands =
-    subst (λ (d : _). CarriesOut {T = Answer} g.D.Watched IsStored Shown IsStopped c.args.self.now.served.engine.disk d
-    s (state_after s c.args.line) (Err c.in-Err.halt))
-    (sym c.give_up.ensures.disk) (c.in-Err.ensures.carries s stands)
+    c.in-Err.ensures.carries s stands

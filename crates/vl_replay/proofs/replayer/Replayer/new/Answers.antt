@@ -3,10 +3,10 @@ use Rattle.vl_layout.specs.declared.layout.Layout.{Layout}
 use Rattle.vl_replay.proofs.Merges.Waiting.{none_merges}
 use Rattle.vl_core.specs.Found.{IsDurable}
 use Rattle.vl_recover.specs.laws.opening.OneFinding.{opened_not}
-use Rattle.vl_replay.specs.Sequential.{history_of}
-use Rattle.vl_replay.proofs.Openings.Begun.{opened_holds, opened_stands}
-use Rattle.vl_replay.proofs.Openings.Recovering.{refused_not}
-use Rattle.vl_replay.proofs.Openings.Starting.{at_most}
+use Rattle.vl_sequential.specs.Sequential.{history_of}
+use Rattle.vl_replay.proofs.Openings.Begun.{opened_holds, opened_passes, opened_stands}
+use Rattle.vl_sequential.specs.laws.Recovering.{refused_not}
+use Rattle.vl_sequential.specs.laws.Starting.{at_most}
 use Rattle.vl_replay.proofs.replayer.Replayer.new.Goals as goal
 
 pub returns-in-Err-clause-refused : goal.returns-in-Err-clause-refused
@@ -61,6 +61,9 @@ returns-in-Ok-clause-store g c s starts = record {
       (starts.openable openable) starts.is_read starts.shown);
   merges = none_merges g.D.Writer.Writer g.D.Held.HeldFile.bytes _ c.in-Ok.ensures.merging s.store.things s.store.layout
       (ap (λ (l : Layout). l.job) starts.layout) starts.things;
+  passes = opened_passes g.D.Watched g.D.Held.HeldFile.bytes c.args.disk s starts c.in-Ok.engine.core
+      (c.in-Ok.ensures.back starts.state starts.read starts.found starts.told starts.is_read) c.in-Ok.engine.collecting
+      (c.in-Ok.ensures.collects starts.state starts.read starts.found (history_of s) starts.told starts.is_read starts.shown);
 }
 
 pub returns-in-Ok-clause-holds : goal.returns-in-Ok-clause-holds

@@ -8,10 +8,10 @@ use Rattle.vl_layout.specs.Store.Reading.{commit_by}
 use Rattle.vl_layout.specs.Store.Lines.{Unknown}
 use Rattle.vl_layout.specs.Store.Things.{Thing, only, thing_of}
 use Rattle.vl_model.specs.declared.counter.Counter.TheVariants as counters
-use Rattle.vl_replay.specs.Sequential.{history_of}
+use Rattle.vl_sequential.specs.Sequential.{history_of}
 use Rattle.vl_replay.proofs.Names.CommitMaking.{conflict_makes, decided_so, exhausted_makes, full_makes, never_halted}
 use Rattle.vl_replay.proofs.Names.CommitMaking.{failed_so, handed_so, nothing_makes, number_makes, outcome_done, outcome_fail}
-use Rattle.vl_replay.specs.declared.fails.Halt.TheVariants as halts
+use Rattle.vl_sequential.specs.declared.fails.Halt.TheVariants as halts
 use Rattle.vl_script.specs.declared.answer.Answer.TheVariants as answers
 use Rattle.vl_replay.proofs.Disk.Carried.{quiet_carries}
 use Rattle.vl_replay.proofs.Disk.Committed.{answered_carries, carries_short, exhausted_carries, failed_carries}
@@ -26,6 +26,7 @@ returns-in-None-clause-makes g c s stands =
     unknown_returns g.D.Held.HeldFile.bytes _ c.args.self.now.engine.core c.args.self.now.opens.items
     c.take_out.new.opens.items s stands
     c.as_slice.result.now c.args.name c.as_slice.ensures c.in-None.ensures (commit_by s.store c.args.name) refl (λ job made. refl)
+    (λ pass batch. refl)
 
 pub returns-in-Some-View-clause-makes : goal.returns-in-Some-View-clause-makes
 returns-in-Some-View-clause-makes g c s stands =
@@ -202,7 +203,8 @@ returns-in-None-clause-carries g c s stands =
     seen core left s
     (commit_by s.store c.args.name (thing_of s.store c.args.name))
     (only_keeps s.store _ _ (nothing_there bytes seen core os s stands left c.args.name taken
-    (λ (o : Option Thing). commit_by s.store c.args.name o ≡ only (Unknown c.args.name) s.store) refl (λ job made. refl)))
+    (λ (o : Option Thing). commit_by s.store c.args.name o ≡ only (Unknown c.args.name) s.store) refl (λ job made. refl)
+    (λ pass batch. refl)))
     _ (returns-in-None-clause-makes g c s stands) (λ halts. halts) c.args.self.now.engine.disk c.args.self.now.engine.disk refl
 
 pub returns-in-Some-View-clause-carries : goal.returns-in-Some-View-clause-carries

@@ -1,24 +1,24 @@
 -- What the name stood for has ended, and the name is free.
 use Rattle.std.proofs.Common.{refl}
 use Rattle.vl_layout.specs.Store.Dispatch.{drop_by}
-use Rattle.vl_replay.specs.Sequential.{history_of}
+use Rattle.vl_sequential.specs.Sequential.{history_of}
 use Rattle.vl_replay.proofs.Names.BeginMaking.{transaction_ends, unnamed_makes, view_ends}
 use Rattle.vl_replay.proofs.Names.Returning.{taken_as, taken_out}
 use Rattle.vl_replay.proofs.Names.Serving.{represents}
 use Rattle.vl_replay.proofs.replayer.Served.end.Goals as goal
 
 pub returns-in-None-clause-makes : goal.returns-in-None-clause-makes
-returns-in-None-clause-makes g c s stands none =
+returns-in-None-clause-makes g c s stands none no_pass =
     let bytes = g.D.Held.HeldFile.bytes in
     let core = c.args.self.now.engine.core in
     let seen = g.D.Watched.told c.args.self.now.engine.disk in
     let os = c.args.self.now.opens.items in
     let left = c.take_out.new.opens.items in
     let taken = taken_as bytes seen core os left s stands c.as_slice.result.now c.args.name c.as_slice.ensures _ c.in-None.ensures in
-    unnamed_makes bytes seen core os s stands left c.args.name taken none (drop_by s.store c.args.name) refl
+    unnamed_makes bytes seen core os s stands left c.args.name taken none no_pass (drop_by s.store c.args.name) refl
 
 pub returns-in-Some-View-clause-makes : goal.returns-in-Some-View-clause-makes
-returns-in-Some-View-clause-makes g c s stands none =
+returns-in-Some-View-clause-makes g c s stands none no_pass =
     let bytes = g.D.Held.HeldFile.bytes in
     let core = c.args.self.now.engine.core in
     let seen = g.D.Watched.told c.args.self.now.engine.disk in
@@ -36,7 +36,7 @@ returns-in-Some-View-clause-makes g c s stands none =
     })
 
 pub returns-clause-makes : goal.returns-clause-makes
-returns-clause-makes g c s stands none =
+returns-clause-makes g c s stands none no_pass =
     let bytes = g.D.Held.HeldFile.bytes in
     let core = c.args.self.now.engine.core in
     let seen = g.D.Watched.told c.args.self.now.engine.disk in

@@ -1,23 +1,25 @@
 -- A flush is answered as its ruling has it, and carried out so.
 use Rattle.std.proofs.Common.{◌≡◌, ◌⊎◌, ap, sym, ◌∙◌, subst, arith}
-use Rattle.std.specs.Prelude.{ℕ, Result}
+use Rattle.std.specs.Prelude.{ℕ, Result, OnOk}
 use Rattle.vl_disk.specs.declared.name.Name.TheVariants as names
+use Rattle.vl_engine.specs.Collecting.{Collects}
 use Rattle.vl_engine.specs.Stepping.{step_outcome}
 use Rattle.vl_layout.specs.Ruling.{Ruling, StepAnswer}
 use Rattle.vl_layout.specs.Rulings.Flush.{flush_ruling}
 use Rattle.vl_layout.specs.Store.Dispatch.{step_by, step_told}
-use Rattle.vl_replay.specs.Halts.{HaltsByRead}
+use Rattle.vl_sequential.specs.Halts.{HaltsByRead}
 use Rattle.vl_replay.specs.Replaying.{MakesStep}
-use Rattle.vl_replay.specs.Sequential.{files_behind, history_of}
-use Rattle.vl_replay.specs.declared.fails.Halt.{Halt}
-use Rattle.vl_replay.specs.laws.Laws.{state_after-sound}
+use Rattle.vl_sequential.specs.Sequential.{files_behind, history_of}
+use Rattle.vl_sequential.specs.declared.fails.Halt.{Halt}
+use Rattle.vl_sequential.specs.laws.Laws.{state_after-sound}
 use Rattle.vl_script.specs.declared.answer.Answer.{Answer}
 use Rattle.vl_script.specs.declared.line.Line.TheVariants as lines
 use Rattle.vl_replay.proofs.Disk.Stepped.{failed_at, halted_at, flush_made, flush_named, step_carries}
 use Rattle.vl_replay.proofs.Names.Serving.{decides_all, represents}
 use Rattle.vl_replay.proofs.Names.StepMaking.{flush_leaves, may_go, step_cause, step_makes, step_sound}
 use Rattle.vl_core.specs.laws.FlushRulings.{flush_made as flush_ruled, flush_made_so, flush_waits}
-use Rattle.vl_replay.proofs.Disk.Torn.{flush_torn}
+use Rattle.vl_sequential.specs.laws.Torn.{flush_torn}
+use Rattle.vl_replay.proofs.Passes.Stepping.{step_leaves}
 use Rattle.vl_replay.proofs.replayer.Served.flush.Goals as goal
 
 pub returns-clause-makes : goal.returns-clause-makes
@@ -118,3 +120,13 @@ returns-clause-carries g c s stands =
           };
     })
     c.told.result c.told.ensures
+
+pub returns-clause-collects : goal.returns-clause-collects
+returns-clause-collects g c s stands collects =
+    let new = c.flush.new.self in
+    let h = history_of s in
+    let l = s.store.layout in
+    let fits = stands.fits.running stands.running in
+    subst (λ (x : Result Answer Halt). OnOk x (Collects new.core new.collecting (flush_ruling l h).layout)) (sym c.told.ensures)
+    (step_leaves (λ _ m. Collects new.core new.collecting m) h l (flush_ruling l h) _ _ c.flush.result
+    (c.flush.ensures.collects fits.state h l fits.told_is stands.engine (λ running. (fits.numbers, fits.files)) collects))

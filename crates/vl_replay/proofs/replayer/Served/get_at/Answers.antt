@@ -2,7 +2,7 @@
 use Rattle.std.proofs.Common.{◌∙◌, ℕ, List, refl, ap, sym, arith}
 use Rattle.vl_layout.specs.Store.Reading.{get_at_by}
 use Rattle.vl_layout.specs.Store.Things.{thing_of}
-use Rattle.vl_replay.specs.Sequential.{history_of}
+use Rattle.vl_sequential.specs.Sequential.{history_of}
 use Rattle.vl_replay.specs.declared.replayer.open.Thing.TheVariants.{Transaction, View}
 use Rattle.vl_replay.proofs.Names.Lookups.{place_there, without_open}
 use Rattle.vl_replay.proofs.Names.Making.{its, itself}
@@ -15,7 +15,7 @@ returns-in_default-clause-makes g c s stands =
     free_returns g.D.Held.HeldFile.bytes _ c.args.self.now.engine.core c.args.self.now.opens.items s stands
     c.deref.result.now c.deref.ensures.value c.as_slice.result.now c.args.name c.as_slice.ensures (sym
     c.place.ensures ∙ c.in_default.is)
-    (get_at_by s.store c.args.name c.args.key c.args.number) refl (λ job made. refl)
+    (get_at_by s.store c.args.name c.args.key c.args.number) refl (λ job made. refl) (λ pass batch. refl)
 
 pub index_mut-requires : goal.index_mut-requires
 index_mut-requires g c =

@@ -1,23 +1,25 @@
 -- A rotation is answered as its ruling has it, and carried out so.
 use Rattle.std.proofs.Common.{◌≡◌, ◌⊎◌, ap, sym, ◌∙◌, subst, arith}
-use Rattle.std.specs.Prelude.{ℕ, Result}
+use Rattle.std.specs.Prelude.{ℕ, Result, OnOk}
 use Rattle.vl_disk.specs.declared.name.Name.TheVariants as names
+use Rattle.vl_engine.specs.Collecting.{Collects}
 use Rattle.vl_engine.specs.Stepping.{step_outcome}
 use Rattle.vl_layout.specs.Ruling.{Ruling, StepAnswer}
 use Rattle.vl_layout.specs.Rulings.Rotate.{rotate_ruling}
 use Rattle.vl_layout.specs.Store.Dispatch.{step_by, step_told}
-use Rattle.vl_replay.specs.Halts.{HaltsByRead}
+use Rattle.vl_sequential.specs.Halts.{HaltsByRead}
 use Rattle.vl_replay.specs.Replaying.{MakesStep}
-use Rattle.vl_replay.specs.Sequential.{files_behind, history_of}
-use Rattle.vl_replay.specs.declared.fails.Halt.{Halt}
-use Rattle.vl_replay.specs.laws.Laws.{state_after-sound}
+use Rattle.vl_sequential.specs.Sequential.{files_behind, history_of}
+use Rattle.vl_sequential.specs.declared.fails.Halt.{Halt}
+use Rattle.vl_sequential.specs.laws.Laws.{state_after-sound}
 use Rattle.vl_script.specs.declared.answer.Answer.{Answer}
 use Rattle.vl_script.specs.declared.line.Line.TheVariants as lines
 use Rattle.vl_replay.proofs.Disk.Stepped.{failed_at, halted_at, rotate_made, rotate_named, step_carries}
 use Rattle.vl_replay.proofs.Names.Serving.{decides_all, represents}
 use Rattle.vl_replay.proofs.Names.StepMaking.{rotate_leaves, step_cause, step_makes, step_sound}
 use Rattle.vl_core.specs.laws.RotateRulings.{made_ruled, rotate_made as rotate_ruled}
-use Rattle.vl_replay.proofs.Disk.Torn.{rotate_torn}
+use Rattle.vl_sequential.specs.laws.Torn.{rotate_torn}
+use Rattle.vl_replay.proofs.Passes.Stepping.{step_leaves}
 use Rattle.vl_replay.proofs.replayer.Served.rotate.Goals as goal
 
 pub returns-clause-makes : goal.returns-clause-makes
@@ -122,3 +124,13 @@ returns-clause-carries g c s stands =
           };
     })
     c.told.result c.told.ensures
+
+pub returns-clause-collects : goal.returns-clause-collects
+returns-clause-collects g c s stands collects =
+    let new = c.rotate.new.self in
+    let h = history_of s in
+    let l = s.store.layout in
+    let fits = stands.fits.running stands.running in
+    subst (λ (x : Result Answer Halt). OnOk x (Collects new.core new.collecting (rotate_ruling l h).layout)) (sym c.told.ensures)
+    (step_leaves (λ _ m. Collects new.core new.collecting m) h l (rotate_ruling l h) _ _ c.rotate.result
+    (c.rotate.ensures.collects h l stands.engine (λ running. fits.numbers) collects))

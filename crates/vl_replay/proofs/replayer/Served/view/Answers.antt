@@ -4,35 +4,25 @@ use Rattle.std.specs.Prelude.{Ok}
 use Rattle.vl_core.specs.laws.VersionLaws.{laid_in_memory}
 use Rattle.vl_layout.specs.Store.Reading.{a_view, begin_as}
 use Rattle.vl_layout.specs.Store.Things.{thing_of}
-use Rattle.vl_replay.specs.Sequential.{history_of}
+use Rattle.vl_sequential.specs.Sequential.{history_of}
 use Rattle.vl_replay.specs.Standing.{open_in}
-use Rattle.vl_replay.specs.laws.Laws.{state_after-sound}
-use Rattle.vl_replay.proofs.Names.BeginMaking.{bare_of, free_of, some_there, taken_makes, taken_of, too_many_makes, view_makes}
+use Rattle.vl_sequential.specs.laws.Laws.{state_after-sound}
+use Rattle.vl_replay.proofs.Names.BeginMaking.{too_many_makes, view_makes, unread_of}
 use Rattle.vl_replay.proofs.Names.Returning.{returns_so}
 use Rattle.vl_replay.proofs.Names.Serving.{decides_all, represents}
 use Rattle.vl_replay.proofs.replayer.Served.view.Goals as goal
 use Rattle.vl_script.specs.declared.answer.Answer.TheVariants as answers
 use Rattle.vl_script.specs.declared.line.Line.TheVariants as lines
 
-pub returns-then-is_taken-clause-makes : goal.returns-then-is_taken-clause-makes
-returns-then-is_taken-clause-makes g c s stands none =
-    let os = c.args.self.now.opens.items in
-    taken_makes g.D.Held.HeldFile.bytes _ c.args.self.now.engine.core os s stands c.args.name a_view
-    (some_there _ _ g.D.Held.HeldFile.bytes (history_of s) s.store.layout (open_in os c.args.name) (thing_of s.store c.args.name)
-    (taken_of c.args.self.now.opens.items c.deref.result.now c.deref.ensures.value c.as_slice.result.now c.args.name
-    c.as_slice.ensures c.is_taken.result c.is_taken.ensures c.if-is_taken.true) (stands.names.each c.args.name))
-
 pub returns-in-Ok-clause-makes : goal.returns-in-Ok-clause-makes
-returns-in-Ok-clause-makes g c s stands none =
+returns-in-Ok-clause-makes g c s stands bare =
     let bytes = g.D.Held.HeldFile.bytes in
     let core = c.args.self.now.engine.core in
     let seen = g.D.Watched.told c.args.self.now.engine.disk in
     let now = g.D.Watched.told c.view.new.self.disk in
     let os = c.args.self.now.opens.items in
-    let free = free_of os c.deref.result.now c.deref.ensures.value c.as_slice.result.now c.args.name
-    c.as_slice.ensures c.is_taken.result c.is_taken.ensures c.if-is_taken.false in
-    let bare = bare_of bytes (history_of s) s.store.layout (open_in os c.args.name) (thing_of s.store c.args.name) free
-    (stands.names.each c.args.name) none in
+    let free = unread_of bytes (history_of s) s.store.layout (open_in os c.args.name) (thing_of s.store c.args.name)
+    (stands.names.each c.args.name) bare in
     returns_so bytes now c.view.new.self.core _ c.put.new.opens.items s
     (begin_as s.store c.args.name a_view (thing_of s.store c.args.name)) (begin_as s.store c.args.name a_view
     (thing_of s.store c.args.name)) _ _
@@ -47,16 +37,14 @@ returns-in-Ok-clause-makes g c s stands none =
     (λ openable. c.in-Ok.ensures.represents (history_of s) s.store.layout (represents bytes seen core os s stands openable))))
 
 pub returns-in-Err-TooMany-clause-makes : goal.returns-in-Err-TooMany-clause-makes
-returns-in-Err-TooMany-clause-makes g c s stands none =
+returns-in-Err-TooMany-clause-makes g c s stands bare =
     let bytes = g.D.Held.HeldFile.bytes in
     let core = c.args.self.now.engine.core in
     let seen = g.D.Watched.told c.args.self.now.engine.disk in
     let now = g.D.Watched.told c.view.new.self.disk in
     let os = c.args.self.now.opens.items in
-    let free = free_of os c.deref.result.now c.deref.ensures.value c.as_slice.result.now c.args.name
-    c.as_slice.ensures c.is_taken.result c.is_taken.ensures c.if-is_taken.false in
-    let bare = bare_of bytes (history_of s) s.store.layout (open_in os c.args.name) (thing_of s.store c.args.name) free
-    (stands.names.each c.args.name) none in
+    let free = unread_of bytes (history_of s) s.store.layout (open_in os c.args.name) (thing_of s.store c.args.name)
+    (stands.names.each c.args.name) bare in
     too_many_makes bytes seen now core c.view.new.self.core os s stands
     c.view.ensures.back c.args.name a_view
     (state_after-sound s (lines.View c.args.name) stands.sound) bare

@@ -16,7 +16,7 @@ returns-in_default-clause-makes g c s stands =
     free_returns g.D.Held.HeldFile.bytes _ c.args.self.now.engine.core c.args.self.now.opens.items s stands
     c.deref.result.now c.deref.ensures.value c.as_slice.result.now c.args.name c.as_slice.ensures (sym
     c.place.ensures ∙ c.in_default.is)
-    (write_by s.store c.args.name c.args.key (change_of c.args.value)) refl (λ job made. refl)
+    (write_by s.store c.args.name c.args.key (change_of c.args.value)) refl (λ job made. refl) (λ pass batch. refl)
 
 pub index_mut-requires : goal.index_mut-requires
 index_mut-requires g c =

@@ -3,35 +3,82 @@ use Rattle.std.proofs.Common.{ap, refl, sym, subst}
 use Rattle.std.specs.Prelude.{Ok, OnOk}
 use Rattle.vl_core.specs.Shown.{Shown}
 use Rattle.vl_layout.specs.Store.Reading.{a_transaction, a_view, answer_of, answer_with_tag}
-use Rattle.vl_layout.specs.Store.Things.{thing_of}
+use Rattle.vl_layout.specs.Store.Things.{Step, thing_of}
 use Rattle.vl_model.specs.Keys.{tagged, untagged}
 use Rattle.vl_model.specs.declared.change.Change.TheVariants as changes
-use Rattle.vl_replay.specs.Durable.{CarriesOut}
-use Rattle.vl_replay.specs.Failing.{FailsAt, ReadsTables}
+use Rattle.vl_sequential.specs.Durable.{CarriesOut}
+use Rattle.vl_sequential.specs.Failing.{FailsAt, ReadsTables}
 use Rattle.vl_replay.specs.Replaying.{MakesStep, MergesIn}
-use Rattle.vl_replay.specs.Sequential.{state_after, step_to}
-use Rattle.vl_replay.specs.Stored.{IsStopped, IsStored}
-use Rattle.vl_replay.specs.laws.Growing.{begin_keeps, get_at_keeps, get_keeps, scan_keeps, write_keeps}
+use Rattle.vl_sequential.specs.Sequential.{answer_to, history_of, state_after, step_to}
+use Rattle.vl_sequential.specs.Stored.{IsStopped, IsStored}
+use Rattle.vl_sequential.specs.laws.Growing.{batch_keeps, begin_keeps, get_at_keeps, get_keeps, scan_keeps, stats_keeps, write_keeps}
 use Rattle.vl_script.specs.declared.line.Line.{Line}
 use Rattle.vl_script.specs.declared.line.Line.TheVariants as lines
 use Rattle.vl_replay.proofs.Disk.Carried.{quiet_carries}
-use Rattle.vl_replay.proofs.Merges.Keeping.{commit_keeps_merges, flush_keeps_merges, get_at_keeps_merges}
-use Rattle.vl_replay.proofs.Merges.Keeping.{get_keeps_merges, keep_keeps_merges, rotate_keeps_merges}
-use Rattle.vl_replay.proofs.Merges.Keeping.{scan_keeps_merges, transaction_keeps_merges, view_keeps_merges}
-use Rattle.vl_replay.proofs.Merges.Keeping.{write_keeps_merges}
+use Rattle.vl_replay.proofs.Merges.Keeping.{commit_keeps_work, flush_keeps_merges, flush_keeps_passes, get_at_keeps_work}
+use Rattle.vl_replay.proofs.Merges.Keeping.{get_keeps_work, keep_keeps_work, merges_kept, rotate_keeps_merges, rotate_keeps_passes}
+use Rattle.vl_replay.proofs.Merges.Keeping.{scan_keeps_work, transaction_keeps_work, view_keeps_work, write_keeps_work}
+use Rattle.vl_replay.proofs.Lines.Moves.{can_moved, merges_answered, move_tells}
+use Rattle.vl_replay.proofs.Lines.Parts.{merging_of, passing_of}
+use Rattle.vl_replay.proofs.Lines.Passed.{bare_no_pass, batch_keeps_merges, install_passes, plan_passes}
+use Rattle.vl_replay.proofs.Lines.Unmoved.{free_name, leaves_carries, taken_leaves, taken_makes, taken_step}
+use Rattle.vl_replay.proofs.Lines.Unmoved.{unanswered_carries, used_line}
 use Rattle.vl_replay.proofs.Merges.Handing.{can_answered, can_same}
 use Rattle.vl_replay.proofs.Merges.Waiting.{merges_behind, on_ok_of}
-use Rattle.vl_replay.proofs.Disk.Halting.{not_by_disk}
+use Rattle.vl_sequential.specs.laws.Halting.{not_by_disk, out_not_by_disk}
 use Rattle.vl_replay.proofs.Names.Halts.{by_the_reader, damage_is_read, no_cause, not_at, not_by_damage, not_by_read}
 use Rattle.vl_replay.proofs.Names.Halts.{not_by_reader, reader_is_read}
+use Rattle.vl_replay.proofs.Passes.Picking.{pick_keeps_merges}
+use Rattle.vl_replay.proofs.Passes.Standing.{passes_behind}
+use Rattle.vl_replay.proofs.Passes.Stepping.{passes_stepped}
+use Rattle.vl_core.specs.laws.Lasting.{flush_lasts, rotate_lasts}
+use Rattle.vl_replay.specs.declared.replayer.choice.Choice.TheVariants.{Due, LeadsInto}
+use Rattle.vl_replay.specs.Passing.{PassesIn, name_made}
 use Rattle.vl_replay.proofs.replayer.lines.carry_out.Goals as goal
+
+-- ---- a name in use
+
+pub returns-in_err-name-clause-carries : goal.returns-in_err-name-clause-carries
+returns-in_err-name-clause-carries g c s stands =
+    unanswered_carries g.D.Watched (record { only_now = g.met.D.Disk.only_now; counts_now = g.met.D.Disk.counts_now }) s
+    c.args.served.now.engine.disk c.args.line c.from_residual.result c.from_residual.ensures.0
+    (out_not_by_disk c.from_residual.result c.from_residual.ensures.1)
+
+pub returns-in-Some-clause-makes : goal.returns-in-Some-clause-makes
+returns-in-Some-clause-makes g c s stands =
+    taken_makes s c.args.line c.in-Some.name (used_line s c.args.line c.in-Some.is (c.in_ok-name.ensures s stands))
+    g.D.Held.HeldFile.bytes (g.D.Watched.told c.args.served.now.engine.disk) c.args.served.now.engine.core c.args.served.now.opens.items
+    stands.serves
+
+pub returns-in-Some-clause-merges : goal.returns-in-Some-clause-merges
+returns-in-Some-clause-merges g c s stands =
+    subst (λ (x : Step). MergesIn g.D.Writer.Writer g.D.Held.HeldFile.bytes c.args.served.now.engine.merging c.args.planned.now x.state)
+    (sym (taken_step s c.args.line c.in-Some.name (used_line s c.args.line c.in-Some.is (c.in_ok-name.ensures s stands))))
+    stands.merges
+
+pub returns-in-Some-clause-passes : goal.returns-in-Some-clause-passes
+returns-in-Some-clause-passes g c s stands =
+    subst (λ (x : Step). PassesIn g.D.Held.HeldFile.bytes c.args.served.now.engine.core c.args.served.now.engine.collecting
+    c.args.passing.now x.state)
+    (sym (taken_step s c.args.line c.in-Some.name (used_line s c.args.line c.in-Some.is (c.in_ok-name.ensures s stands))))
+    stands.passes
+
+pub returns-in-Some-clause-carries : goal.returns-in-Some-clause-carries
+returns-in-Some-clause-carries g c s stands =
+    leaves_carries g.D.Watched (record { only_now = g.met.D.Disk.only_now; counts_now = g.met.D.Disk.counts_now }) s
+    c.args.served.now.engine.disk
+    (state_after s c.args.line) _ (taken_leaves s c.args.line c.in-Some.name
+    (used_line s c.args.line c.in-Some.is (c.in_ok-name.ensures s stands)))
+
+-- ---- each line
 
 pub returns-in-Begin-clause-makes : goal.returns-in-Begin-clause-makes
 returns-in-Begin-clause-makes g c s stands =
-    subst (λ (line : Line). MakesStep g.D.Held.HeldFile.bytes (g.D.Watched.told c.begin.new.served.engine.disk)
-    c.begin.new.served.engine.core
-    c.begin.new.served.opens.items s (step_to s line) c.begin.result)
-    (sym c.in-Begin.is) (c.begin.ensures.makes s stands)
+    subst (λ (line : Line). MakesStep g.D.Held.HeldFile.bytes (g.D.Watched.told c.begin.new.self.engine.disk)
+    c.begin.new.self.engine.core
+    c.begin.new.self.opens.items s (step_to s line) c.begin.result)
+    (sym c.in-Begin.is) (c.begin.ensures.makes s stands.serves
+    (free_name s c.args.line c.in_default.is (c.in_ok-name.ensures s stands) (ap name_made c.in-Begin.is)))
 
 pub returns-in-Begin-clause-sound : goal.returns-in-Begin-clause-sound
 returns-in-Begin-clause-sound g c s stands halts = absurd (not_by_read c.begin.result c.begin.ensures.fails halts)
@@ -49,22 +96,24 @@ returns-in-Begin-clause-cause g c = no_cause _ _ _ (ap (λ disk. g.D.Watched.fau
 pub returns-in-Begin-clause-carries : goal.returns-in-Begin-clause-carries
 returns-in-Begin-clause-carries g c s stands =
     subst (λ (line : Line). CarriesOut g.D.Watched IsStored Shown IsStopped c.args.served.now.engine.disk
-    c.begin.new.served.engine.disk s (state_after s line) c.begin.result) (sym c.in-Begin.is)
+    c.begin.new.self.engine.disk s (state_after s line) c.begin.result) (sym c.in-Begin.is)
     (quiet_carries g.D.Watched (record { only_now = g.met.D.Disk.only_now; counts_now = g.met.D.Disk.counts_now })
     g.D.Held.HeldFile.bytes
-    (g.D.Watched.told c.begin.new.served.engine.disk) c.begin.new.served.engine.core c.begin.new.served.opens.items s
+    (g.D.Watched.told c.begin.new.self.engine.disk) c.begin.new.self.engine.core c.begin.new.self.opens.items s
     (step_to s (lines.Begin c.in-Begin.name))
     (begin_keeps s.store c.in-Begin.name a_transaction (thing_of s.store c.in-Begin.name)) c.begin.result
-    (c.begin.ensures.makes s stands) (not_by_disk c.begin.result c.begin.ensures.fails) c.args.served.now.engine.disk
-    c.begin.new.served.engine.disk
+    (c.begin.ensures.makes s stands.serves (free_name s c.args.line c.in_default.is (c.in_ok-name.ensures s stands)
+    (ap name_made c.in-Begin.is))) (not_by_disk c.begin.result c.begin.ensures.fails) c.args.served.now.engine.disk
+    c.begin.new.self.engine.disk
     c.begin.ensures.disk)
 
 pub returns-in-View-clause-makes : goal.returns-in-View-clause-makes
 returns-in-View-clause-makes g c s stands =
-    subst (λ (line : Line). MakesStep g.D.Held.HeldFile.bytes (g.D.Watched.told c.view.new.served.engine.disk)
-    c.view.new.served.engine.core c.view.new.served.opens.items
+    subst (λ (line : Line). MakesStep g.D.Held.HeldFile.bytes (g.D.Watched.told c.view.new.self.engine.disk)
+    c.view.new.self.engine.core c.view.new.self.opens.items
     s (step_to s line) c.view.result)
-    (sym c.in-View.is) (c.view.ensures.makes s stands)
+    (sym c.in-View.is) (c.view.ensures.makes s stands.serves
+    (free_name s c.args.line c.in_default.is (c.in_ok-name.ensures s stands) (ap name_made c.in-View.is)))
 
 pub returns-in-View-clause-sound : goal.returns-in-View-clause-sound
 returns-in-View-clause-sound g c s stands halts = absurd (not_by_read c.view.result c.view.ensures.fails halts)
@@ -82,14 +131,15 @@ returns-in-View-clause-cause g c = no_cause _ _ _ (ap (λ disk. g.D.Watched.faul
 pub returns-in-View-clause-carries : goal.returns-in-View-clause-carries
 returns-in-View-clause-carries g c s stands =
     subst (λ (line : Line). CarriesOut g.D.Watched IsStored Shown IsStopped c.args.served.now.engine.disk
-    c.view.new.served.engine.disk s (state_after s line) c.view.result) (sym c.in-View.is)
+    c.view.new.self.engine.disk s (state_after s line) c.view.result) (sym c.in-View.is)
     (quiet_carries g.D.Watched (record { only_now = g.met.D.Disk.only_now; counts_now = g.met.D.Disk.counts_now })
     g.D.Held.HeldFile.bytes
-    (g.D.Watched.told c.view.new.served.engine.disk) c.view.new.served.engine.core c.view.new.served.opens.items s
+    (g.D.Watched.told c.view.new.self.engine.disk) c.view.new.self.engine.core c.view.new.self.opens.items s
     (step_to s (lines.View c.in-View.name)) (begin_keeps
     s.store c.in-View.name a_view (thing_of s.store c.in-View.name)) c.view.result
-    (c.view.ensures.makes s stands) (not_by_disk c.view.result c.view.ensures.fails) c.args.served.now.engine.disk
-    c.view.new.served.engine.disk c.view.ensures.disk)
+    (c.view.ensures.makes s stands.serves (free_name s c.args.line c.in_default.is (c.in_ok-name.ensures s stands)
+    (ap name_made c.in-View.is))) (not_by_disk c.view.result c.view.ensures.fails) c.args.served.now.engine.disk
+    c.view.new.self.engine.disk c.view.ensures.disk)
 
 pub returns-in-Get-clause-makes : goal.returns-in-Get-clause-makes
 returns-in-Get-clause-makes g c s stands =
@@ -493,34 +543,35 @@ returns-in-Keep-clause-named g c s file stands is =
 pub returns-in-Begin-clause-merges : goal.returns-in-Begin-clause-merges
 returns-in-Begin-clause-merges g c s stands =
     subst (λ (line : Line). OnOk c.begin.result
-    (MergesIn g.D.Writer.Writer g.D.Held.HeldFile.bytes c.begin.new.served.engine.merging c.args.planned.now
+    (MergesIn g.D.Writer.Writer g.D.Held.HeldFile.bytes c.begin.new.self.engine.merging c.args.planned.now
     (step_to s line).state)) (sym c.in-Begin.is)
     (on_ok_of c.begin.result _
     (merges_behind g.D.Writer.Writer g.D.Held.HeldFile.bytes c.args.served.now.engine.merging
-    c.begin.new.served.engine.merging c.args.planned.now c.args.planned.now
+    c.begin.new.self.engine.merging c.args.planned.now c.args.planned.now
     c.begin.ensures.merging refl s.store (step_to s (lines.Begin c.in-Begin.name))
-    (transaction_keeps_merges s.store c.in-Begin.name) stands.merges))
+    (merges_kept s.store _ (transaction_keeps_work s.store c.in-Begin.name)) stands.merges))
 
 pub returns-in-Begin-clause-handed : goal.returns-in-Begin-clause-handed
 returns-in-Begin-clause-handed g c =
-    can_same g.D.Watched g.D.Writer.Writer c.args.served.now.engine.disk c.begin.new.served.engine.disk
-    c.args.served.now.engine.merging c.begin.new.served.engine.merging c.args.planned.now
+    can_same g.D.Watched g.D.Writer.Writer c.args.served.now.engine.disk c.begin.new.self.engine.disk
+    c.args.served.now.engine.merging c.begin.new.self.engine.merging c.args.planned.now
     c.begin.ensures.merging c.begin.result c.begin.ensures.disk c.requires.handed
 
 pub returns-in-View-clause-merges : goal.returns-in-View-clause-merges
 returns-in-View-clause-merges g c s stands =
     subst (λ (line : Line). OnOk c.view.result
-    (MergesIn g.D.Writer.Writer g.D.Held.HeldFile.bytes c.view.new.served.engine.merging c.args.planned.now
+    (MergesIn g.D.Writer.Writer g.D.Held.HeldFile.bytes c.view.new.self.engine.merging c.args.planned.now
     (step_to s line).state)) (sym c.in-View.is)
     (on_ok_of c.view.result _
     (merges_behind g.D.Writer.Writer g.D.Held.HeldFile.bytes c.args.served.now.engine.merging
-    c.view.new.served.engine.merging c.args.planned.now c.args.planned.now
-    c.view.ensures.merging refl s.store (step_to s (lines.View c.in-View.name)) (view_keeps_merges s.store c.in-View.name) stands.merges))
+    c.view.new.self.engine.merging c.args.planned.now c.args.planned.now
+    c.view.ensures.merging refl s.store (step_to s (lines.View c.in-View.name))
+    (merges_kept s.store _ (view_keeps_work s.store c.in-View.name)) stands.merges))
 
 pub returns-in-View-clause-handed : goal.returns-in-View-clause-handed
 returns-in-View-clause-handed g c =
-    can_same g.D.Watched g.D.Writer.Writer c.args.served.now.engine.disk c.view.new.served.engine.disk
-    c.args.served.now.engine.merging c.view.new.served.engine.merging c.args.planned.now
+    can_same g.D.Watched g.D.Writer.Writer c.args.served.now.engine.disk c.view.new.self.engine.disk
+    c.args.served.now.engine.merging c.view.new.self.engine.merging c.args.planned.now
     c.view.ensures.merging c.view.result c.view.ensures.disk c.requires.handed
 
 pub returns-in-Get-clause-merges : goal.returns-in-Get-clause-merges
@@ -532,7 +583,8 @@ returns-in-Get-clause-merges g c s stands =
     (merges_behind g.D.Writer.Writer g.D.Held.HeldFile.bytes c.args.served.now.engine.merging
     c.read.new.self.engine.merging c.args.planned.now c.args.planned.now
     (ap (λ e. e.merging) c.read.ensures.engine) refl s.store (step_to s (lines.Get c.in-Get.name c.in-Get.key))
-    (get_keeps_merges s.store c.in-Get.name answer_of c.in-Get.key (thing_of s.store c.in-Get.name) refl) stands.merges))
+    (merges_kept s.store _ (get_keeps_work s.store c.in-Get.name answer_of c.in-Get.key (thing_of s.store c.in-Get.name) refl))
+    stands.merges))
 
 pub returns-in-Get-clause-handed : goal.returns-in-Get-clause-handed
 returns-in-Get-clause-handed g c =
@@ -550,8 +602,8 @@ returns-in-GetTagged-clause-merges g c s stands =
     c.read-in-GetTagged.new.self.engine.merging c.args.planned.now c.args.planned.now
     (ap (λ e. e.merging) c.read-in-GetTagged.ensures.engine) refl s.store
     (step_to s (lines.GetTagged c.in-GetTagged.name c.in-GetTagged.key))
-    (get_keeps_merges s.store c.in-GetTagged.name answer_with_tag c.in-GetTagged.key
-    (thing_of s.store c.in-GetTagged.name) refl) stands.merges))
+    (merges_kept s.store _ (get_keeps_work s.store c.in-GetTagged.name answer_with_tag c.in-GetTagged.key
+    (thing_of s.store c.in-GetTagged.name) refl)) stands.merges))
 
 pub returns-in-GetTagged-clause-handed : goal.returns-in-GetTagged-clause-handed
 returns-in-GetTagged-clause-handed g c =
@@ -570,7 +622,8 @@ returns-in-GetAt-clause-merges g c s stands =
     c.get_at.new.self.engine.merging c.args.planned.now c.args.planned.now
     (ap (λ e. e.merging) c.get_at.ensures.engine) refl s.store
     (step_to s (lines.GetAt c.in-GetAt.name c.in-GetAt.key c.in-GetAt.number))
-    (get_at_keeps_merges s.store c.in-GetAt.name c.in-GetAt.key c.in-GetAt.number (thing_of s.store c.in-GetAt.name)) stands.merges))
+    (merges_kept s.store _ (get_at_keeps_work s.store c.in-GetAt.name c.in-GetAt.key c.in-GetAt.number (thing_of s.store c.in-GetAt.name)))
+    stands.merges))
 
 pub returns-in-GetAt-clause-handed : goal.returns-in-GetAt-clause-handed
 returns-in-GetAt-clause-handed g c =
@@ -588,8 +641,8 @@ returns-in-Set-clause-merges g c s stands =
     c.write.new.self.engine.merging c.args.planned.now c.args.planned.now
     (ap (λ e. e.merging) c.write.ensures.engine) refl s.store
     (step_to s (lines.Set c.in-Set.name c.in-Set.key c.in-Set.value))
-    (write_keeps_merges s.store c.in-Set.name c.in-Set.key (changes.Set (untagged c.in-Set.value))
-    (thing_of s.store c.in-Set.name) refl) stands.merges))
+    (merges_kept s.store _ (write_keeps_work s.store c.in-Set.name c.in-Set.key (changes.Set (untagged c.in-Set.value))
+    (thing_of s.store c.in-Set.name) refl)) stands.merges))
 
 pub returns-in-Set-clause-handed : goal.returns-in-Set-clause-handed
 returns-in-Set-clause-handed g c =
@@ -607,8 +660,8 @@ returns-in-SetTagged-clause-merges g c s stands =
     c.write-in-SetTagged.new.self.engine.merging c.args.planned.now c.args.planned.now
     (ap (λ e. e.merging) c.write-in-SetTagged.ensures.engine) refl s.store
     (step_to s (lines.SetTagged c.in-SetTagged.name c.in-SetTagged.key c.in-SetTagged.value c.in-SetTagged.tag))
-    (write_keeps_merges s.store c.in-SetTagged.name c.in-SetTagged.key
-    (changes.Set (tagged c.in-SetTagged.value c.in-SetTagged.tag)) (thing_of s.store c.in-SetTagged.name) refl) stands.merges))
+    (merges_kept s.store _ (write_keeps_work s.store c.in-SetTagged.name c.in-SetTagged.key
+    (changes.Set (tagged c.in-SetTagged.value c.in-SetTagged.tag)) (thing_of s.store c.in-SetTagged.name) refl)) stands.merges))
 
 pub returns-in-SetTagged-clause-handed : goal.returns-in-SetTagged-clause-handed
 returns-in-SetTagged-clause-handed g c =
@@ -627,7 +680,8 @@ returns-in-Delete-clause-merges g c s stands =
     c.write-in-Delete.new.self.engine.merging c.args.planned.now c.args.planned.now
     (ap (λ e. e.merging) c.write-in-Delete.ensures.engine) refl s.store
     (step_to s (lines.Delete c.in-Delete.name c.in-Delete.key))
-    (write_keeps_merges s.store c.in-Delete.name c.in-Delete.key changes.Delete (thing_of s.store c.in-Delete.name) refl) stands.merges))
+    (merges_kept s.store _ (write_keeps_work s.store c.in-Delete.name c.in-Delete.key changes.Delete (thing_of s.store c.in-Delete.name)
+    refl)) stands.merges))
 
 pub returns-in-Delete-clause-handed : goal.returns-in-Delete-clause-handed
 returns-in-Delete-clause-handed g c =
@@ -646,8 +700,8 @@ returns-in-Scan-clause-merges g c s stands =
     c.scan.new.self.engine.merging c.args.planned.now c.args.planned.now
     (ap (λ e. e.merging) c.scan.ensures.engine) refl s.store
     (step_to s (lines.Scan c.in-Scan.name c.in-Scan.low c.in-Scan.high c.in-Scan.limit c.in-Scan.way))
-    (scan_keeps_merges s.store c.in-Scan.way c.in-Scan.name c.in-Scan.low c.in-Scan.high c.in-Scan.limit
-    (thing_of s.store c.in-Scan.name) refl) stands.merges))
+    (merges_kept s.store _ (scan_keeps_work s.store c.in-Scan.way c.in-Scan.name c.in-Scan.low c.in-Scan.high c.in-Scan.limit
+    (thing_of s.store c.in-Scan.name) refl)) stands.merges))
 
 pub returns-in-Scan-clause-handed : goal.returns-in-Scan-clause-handed
 returns-in-Scan-clause-handed g c =
@@ -664,7 +718,7 @@ returns-in-Commit-clause-merges g c s stands =
     (merges_behind g.D.Writer.Writer g.D.Held.HeldFile.bytes c.args.served.now.engine.merging
     c.commit.new.self.engine.merging c.args.planned.now c.args.planned.now
     c.commit.ensures.merging refl s.store (step_to s (lines.Commit c.in-Commit.name))
-    (commit_keeps_merges s.store c.in-Commit.name (thing_of s.store c.in-Commit.name) refl) stands.merges))
+    (merges_kept s.store _ (commit_keeps_work s.store c.in-Commit.name (thing_of s.store c.in-Commit.name) refl)) stands.merges))
 
 pub returns-in-Commit-clause-handed : goal.returns-in-Commit-clause-handed
 returns-in-Commit-clause-handed g c =
@@ -713,7 +767,7 @@ returns-in-Keep-clause-merges g c s stands =
     (merges_behind g.D.Writer.Writer g.D.Held.HeldFile.bytes c.args.served.now.engine.merging
     c.keep.new.self.engine.merging c.args.planned.now c.args.planned.now
     c.keep.ensures.merging refl s.store (step_to s (lines.Keep c.in-Keep.versions))
-    (keep_keeps_merges s.store c.in-Keep.versions) stands.merges))
+    (merges_kept s.store _ (keep_keeps_work s.store c.in-Keep.versions)) stands.merges))
 
 pub returns-in-Keep-clause-handed : goal.returns-in-Keep-clause-handed
 returns-in-Keep-clause-handed g c =
@@ -732,63 +786,542 @@ returns-in-Drop-clause-merges g c s stands =
 pub returns-in-Plan-clause-makes : goal.returns-in-Plan-clause-makes
 returns-in-Plan-clause-makes g c s stands =
     subst (λ (line : Line). MakesStep g.D.Held.HeldFile.bytes (g.D.Watched.told c.plan.new.served.engine.disk) c.plan.new.served.engine.core
-    c.plan.new.served.opens.items s (step_to s line) c.plan.result) (sym c.in-Plan.is) (c.plan.ensures.makes s stands)
+    c.plan.new.served.opens.items s (step_to s line) c.plan.result) (sym c.in-Plan.is)
+    (c.plan.ensures.makes s (merging_of stands) (free_name s c.args.line c.in_default.is (c.in_ok-name.ensures s stands)
+    (ap name_made c.in-Plan.is)))
+
+pub returns-in-Drain-clause-makes : goal.returns-in-Drain-clause-makes
+returns-in-Drain-clause-makes g c s stands =
+    subst (λ (line : Line). MakesStep g.D.Held.HeldFile.bytes (g.D.Watched.told c.plan-in-Drain.new.served.engine.disk)
+    c.plan-in-Drain.new.served.engine.core c.plan-in-Drain.new.served.opens.items s (step_to s line) c.plan-in-Drain.result)
+    (sym c.in-Drain.is)
+    (c.plan-in-Drain.ensures.makes s (merging_of stands) (free_name s c.args.line c.in_default.is (c.in_ok-name.ensures s stands)
+    (ap name_made c.in-Drain.is)))
 
 pub returns-in-Plan-clause-merges : goal.returns-in-Plan-clause-merges
 returns-in-Plan-clause-merges g c s stands =
     subst (λ (line : Line). OnOk c.plan.result
     (MergesIn g.D.Writer.Writer g.D.Held.HeldFile.bytes c.plan.new.served.engine.merging c.plan.new.planned
     (step_to s line).state)) (sym c.in-Plan.is)
-    (c.plan.ensures.merges s stands)
+    (c.plan.ensures.merges s (merging_of stands) (free_name s c.args.line c.in_default.is (c.in_ok-name.ensures s stands)
+    (ap name_made c.in-Plan.is)))
+
+pub returns-in-Drain-clause-merges : goal.returns-in-Drain-clause-merges
+returns-in-Drain-clause-merges g c s stands =
+    subst (λ (line : Line). OnOk c.plan-in-Drain.result
+    (MergesIn g.D.Writer.Writer g.D.Held.HeldFile.bytes c.plan-in-Drain.new.served.engine.merging c.plan-in-Drain.new.planned
+    (step_to s line).state)) (sym c.in-Drain.is)
+    (c.plan-in-Drain.ensures.merges s (merging_of stands) (free_name s c.args.line c.in_default.is (c.in_ok-name.ensures s stands)
+    (ap name_made c.in-Drain.is)))
 
 pub returns-in-Plan-clause-carries : goal.returns-in-Plan-clause-carries
 returns-in-Plan-clause-carries g c s stands =
     subst (λ (line : Line). CarriesOut g.D.Watched IsStored Shown IsStopped c.args.served.now.engine.disk
-    c.plan.new.served.engine.disk s (state_after s line) c.plan.result) (sym c.in-Plan.is) (c.plan.ensures.carries s stands)
+    c.plan.new.served.engine.disk s (state_after s line) c.plan.result) (sym c.in-Plan.is)
+    (c.plan.ensures.carries s (merging_of stands) (free_name s c.args.line c.in_default.is (c.in_ok-name.ensures s stands)
+    (ap name_made c.in-Plan.is)))
+
+pub returns-in-Drain-clause-carries : goal.returns-in-Drain-clause-carries
+returns-in-Drain-clause-carries g c s stands =
+    subst (λ (line : Line). CarriesOut g.D.Watched IsStored Shown IsStopped c.args.served.now.engine.disk
+    c.plan-in-Drain.new.served.engine.disk s (state_after s line) c.plan-in-Drain.result) (sym c.in-Drain.is)
+    (c.plan-in-Drain.ensures.carries s (merging_of stands) (free_name s c.args.line c.in_default.is (c.in_ok-name.ensures s stands)
+    (ap name_made c.in-Drain.is)))
 
 pub returns-in-Plan-clause-named : goal.returns-in-Plan-clause-named
 returns-in-Plan-clause-named g c s file stands is =
     subst (λ (line : Line). FailsAt c.args.served.now.engine.core.back.manifest.number line s file) (sym c.in-Plan.is)
-    (c.plan.ensures.named s file stands is)
+    (c.plan.ensures.named s file (merging_of stands) (free_name s c.args.line c.in_default.is (c.in_ok-name.ensures s stands)
+    (ap name_made c.in-Plan.is)) is)
+
+pub returns-in-Drain-clause-named : goal.returns-in-Drain-clause-named
+returns-in-Drain-clause-named g c s file stands is =
+    subst (λ (line : Line). FailsAt c.args.served.now.engine.core.back.manifest.number line s file) (sym c.in-Drain.is)
+    (c.plan-in-Drain.ensures.named s file (merging_of stands) (free_name s c.args.line c.in_default.is (c.in_ok-name.ensures s stands)
+    (ap name_made c.in-Drain.is)) is)
 
 pub returns-in-Plan-clause-sound : goal.returns-in-Plan-clause-sound
 returns-in-Plan-clause-sound g c s stands halts =
-    subst (λ (line : Line). ReadsTables line s) (sym c.in-Plan.is) (c.plan.ensures.sound s stands halts)
+    subst (λ (line : Line). ReadsTables line s) (sym c.in-Plan.is)
+    (c.plan.ensures.sound s (merging_of stands) (free_name s c.args.line c.in_default.is (c.in_ok-name.ensures s stands)
+    (ap name_made c.in-Plan.is)) halts)
+
+pub returns-in-Drain-clause-sound : goal.returns-in-Drain-clause-sound
+returns-in-Drain-clause-sound g c s stands halts =
+    subst (λ (line : Line). ReadsTables line s) (sym c.in-Drain.is)
+    (c.plan-in-Drain.ensures.sound s (merging_of stands) (free_name s c.args.line c.in_default.is (c.in_ok-name.ensures s stands)
+    (ap name_made c.in-Drain.is)) halts)
 
 pub returns-in-Plan-clause-undamaged : goal.returns-in-Plan-clause-undamaged
-returns-in-Plan-clause-undamaged g c s stands = c.plan.ensures.undamaged s stands
+returns-in-Plan-clause-undamaged g c s stands =
+    c.plan.ensures.undamaged s (merging_of stands) (free_name s c.args.line c.in_default.is (c.in_ok-name.ensures s stands)
+    (ap name_made c.in-Plan.is))
+
+pub returns-in-Drain-clause-undamaged : goal.returns-in-Drain-clause-undamaged
+returns-in-Drain-clause-undamaged g c s stands =
+    c.plan-in-Drain.ensures.undamaged s (merging_of stands) (free_name s c.args.line c.in_default.is (c.in_ok-name.ensures s stands)
+    (ap name_made c.in-Drain.is))
 
 pub returns-in-Plan-clause-fault : goal.returns-in-Plan-clause-fault
-returns-in-Plan-clause-fault g c s stands = c.plan.ensures.fault s stands
+returns-in-Plan-clause-fault g c s stands = c.plan.ensures.fault s (merging_of stands)
+
+pub returns-in-Drain-clause-fault : goal.returns-in-Drain-clause-fault
+returns-in-Drain-clause-fault g c s stands = c.plan-in-Drain.ensures.fault s (merging_of stands)
 
 pub returns-in-Install-clause-makes : goal.returns-in-Install-clause-makes
 returns-in-Install-clause-makes g c s stands =
     subst (λ (line : Line). MakesStep g.D.Held.HeldFile.bytes (g.D.Watched.told c.install.new.served.engine.disk)
     c.install.new.served.engine.core
-    c.install.new.served.opens.items s (step_to s line) c.install.result) (sym c.in-Install.is) (c.install.ensures.makes s stands)
+    c.install.new.served.opens.items s (step_to s line) c.install.result) (sym c.in-Install.is)
+    (c.install.ensures.makes s (merging_of stands))
 
 pub returns-in-Install-clause-merges : goal.returns-in-Install-clause-merges
 returns-in-Install-clause-merges g c s stands =
     subst (λ (line : Line). OnOk c.install.result
     (MergesIn g.D.Writer.Writer g.D.Held.HeldFile.bytes c.install.new.served.engine.merging c.install.new.planned
     (step_to s line).state)) (sym c.in-Install.is)
-    (c.install.ensures.merges s stands)
+    (c.install.ensures.merges s (merging_of stands))
 
 pub returns-in-Install-clause-carries : goal.returns-in-Install-clause-carries
 returns-in-Install-clause-carries g c s stands =
     subst (λ (line : Line). CarriesOut g.D.Watched IsStored Shown IsStopped c.args.served.now.engine.disk
-    c.install.new.served.engine.disk s (state_after s line) c.install.result) (sym c.in-Install.is) (c.install.ensures.carries s stands)
+    c.install.new.served.engine.disk s (state_after s line) c.install.result) (sym c.in-Install.is)
+    (c.install.ensures.carries s (merging_of stands))
 
 pub returns-in-Install-clause-named : goal.returns-in-Install-clause-named
 returns-in-Install-clause-named g c s file stands is =
     subst (λ (line : Line). FailsAt c.args.served.now.engine.core.back.manifest.number line s file) (sym c.in-Install.is)
-    (c.install.ensures.named s file stands is)
+    (c.install.ensures.named s file (merging_of stands) is)
 
 pub returns-in-Install-clause-sound : goal.returns-in-Install-clause-sound
-returns-in-Install-clause-sound g c s stands halts = absurd (c.install.ensures.sound s stands halts)
+returns-in-Install-clause-sound g c s stands halts = absurd (c.install.ensures.sound s (merging_of stands) halts)
 
 pub returns-in-Install-clause-undamaged : goal.returns-in-Install-clause-undamaged
-returns-in-Install-clause-undamaged g c s stands halts = c.install.ensures.sound s stands (damage_is_read c.install.result halts)
+returns-in-Install-clause-undamaged g c s stands halts =
+    c.install.ensures.sound s (merging_of stands) (damage_is_read c.install.result halts)
 
 pub returns-in-Install-clause-fault : goal.returns-in-Install-clause-fault
-returns-in-Install-clause-fault g c s stands halts = absurd (c.install.ensures.sound s stands (reader_is_read c.install.result halts))
+returns-in-Install-clause-fault g c s stands halts =
+    absurd (c.install.ensures.sound s (merging_of stands) (reader_is_read c.install.result halts))
+
+pub returns-in-Plan-clause-passes : goal.returns-in-Plan-clause-passes
+returns-in-Plan-clause-passes g c s stands =
+    subst (λ (line : Line). OnOk c.plan.result (PassesIn g.D.Held.HeldFile.bytes c.plan.new.served.engine.core
+    c.plan.new.served.engine.collecting c.args.passing.now
+    (step_to s line).state)) (sym c.in-Plan.is)
+    (on_ok_of c.plan.result _
+    (plan_passes s.store c.in-Plan.name (bare_no_pass _ (free_name s c.args.line c.in_default.is (c.in_ok-name.ensures s stands)
+    (ap name_made c.in-Plan.is))) g.D.Held.HeldFile.bytes c.args.served.now.engine.core c.plan.new.served.engine.core
+    c.args.served.now.engine.collecting c.plan.new.served.engine.collecting c.args.passing.now c.plan.ensures.logs c.plan.ensures.collecting
+    Due stands.passes))
+
+pub returns-in-Drain-clause-passes : goal.returns-in-Drain-clause-passes
+returns-in-Drain-clause-passes g c s stands =
+    subst (λ (line : Line). OnOk c.plan-in-Drain.result (PassesIn g.D.Held.HeldFile.bytes c.plan-in-Drain.new.served.engine.core
+    c.plan-in-Drain.new.served.engine.collecting c.args.passing.now
+    (step_to s line).state)) (sym c.in-Drain.is)
+    (on_ok_of c.plan-in-Drain.result _
+    (plan_passes s.store c.in-Drain.name (bare_no_pass _ (free_name s c.args.line c.in_default.is (c.in_ok-name.ensures s stands)
+    (ap name_made c.in-Drain.is))) g.D.Held.HeldFile.bytes c.args.served.now.engine.core c.plan-in-Drain.new.served.engine.core
+    c.args.served.now.engine.collecting c.plan-in-Drain.new.served.engine.collecting c.args.passing.now
+    c.plan-in-Drain.ensures.logs c.plan-in-Drain.ensures.collecting (LeadsInto c.in-Drain.segment) stands.passes))
+
+pub returns-in-Install-clause-passes : goal.returns-in-Install-clause-passes
+returns-in-Install-clause-passes g c s stands =
+    subst (λ (line : Line). OnOk c.install.result (PassesIn g.D.Held.HeldFile.bytes c.install.new.served.engine.core
+    c.install.new.served.engine.collecting c.args.passing.now
+    (step_to s line).state)) (sym c.in-Install.is)
+    (install_passes s.store c.in-Install.name g.D.Held.HeldFile.bytes c.args.served.now.engine.core c.install.new.served.engine.core
+    c.args.served.now.engine.collecting c.install.new.served.engine.collecting c.args.passing.now c.install.result stands.serves.engine.tidy
+    (c.install.ensures.collects s (merging_of stands) stands.passes.collects) stands.passes)
+
+-- ---- passes, which these lines leave alone
+
+pub returns-in-Begin-clause-passes : goal.returns-in-Begin-clause-passes
+returns-in-Begin-clause-passes g c s stands =
+    subst (λ (line : Line). OnOk c.begin.result
+    (PassesIn g.D.Held.HeldFile.bytes c.begin.new.self.engine.core c.begin.new.self.engine.collecting c.args.passing.now
+    (step_to s line).state)) (sym c.in-Begin.is)
+    (on_ok_of c.begin.result _
+    (passes_behind g.D.Held.HeldFile.bytes c.args.served.now.engine.core c.begin.new.self.engine.core
+    c.args.served.now.engine.collecting c.begin.new.self.engine.collecting c.args.passing.now s.store
+    (step_to s (lines.Begin c.in-Begin.name)) c.begin.ensures.logs c.begin.ensures.collecting
+    (transaction_keeps_work s.store c.in-Begin.name) stands.passes))
+
+pub returns-in-View-clause-passes : goal.returns-in-View-clause-passes
+returns-in-View-clause-passes g c s stands =
+    subst (λ (line : Line). OnOk c.view.result
+    (PassesIn g.D.Held.HeldFile.bytes c.view.new.self.engine.core c.view.new.self.engine.collecting c.args.passing.now
+    (step_to s line).state)) (sym c.in-View.is)
+    (on_ok_of c.view.result _
+    (passes_behind g.D.Held.HeldFile.bytes c.args.served.now.engine.core c.view.new.self.engine.core
+    c.args.served.now.engine.collecting c.view.new.self.engine.collecting c.args.passing.now s.store
+    (step_to s (lines.View c.in-View.name)) c.view.ensures.logs c.view.ensures.collecting
+    (view_keeps_work s.store c.in-View.name) stands.passes))
+
+pub returns-in-Get-clause-passes : goal.returns-in-Get-clause-passes
+returns-in-Get-clause-passes g c s stands =
+    subst (λ (line : Line). OnOk c.read.result
+    (PassesIn g.D.Held.HeldFile.bytes c.read.new.self.engine.core c.read.new.self.engine.collecting c.args.passing.now
+    (step_to s line).state)) (sym c.in-Get.is)
+    (on_ok_of c.read.result _
+    (passes_behind g.D.Held.HeldFile.bytes c.args.served.now.engine.core c.read.new.self.engine.core
+    c.args.served.now.engine.collecting c.read.new.self.engine.collecting c.args.passing.now s.store
+    (step_to s (lines.Get c.in-Get.name c.in-Get.key)) (ap (λ e. e.core.version.behind.logs) c.read.ensures.engine)
+    (ap (λ e. e.collecting) c.read.ensures.engine)
+    (get_keeps_work s.store c.in-Get.name answer_of c.in-Get.key (thing_of s.store c.in-Get.name) refl) stands.passes))
+
+pub returns-in-GetTagged-clause-passes : goal.returns-in-GetTagged-clause-passes
+returns-in-GetTagged-clause-passes g c s stands =
+    subst (λ (line : Line). OnOk c.read-in-GetTagged.result
+    (PassesIn g.D.Held.HeldFile.bytes c.read-in-GetTagged.new.self.engine.core c.read-in-GetTagged.new.self.engine.collecting
+    c.args.passing.now
+    (step_to s line).state)) (sym c.in-GetTagged.is)
+    (on_ok_of c.read-in-GetTagged.result _
+    (passes_behind g.D.Held.HeldFile.bytes c.args.served.now.engine.core c.read-in-GetTagged.new.self.engine.core
+    c.args.served.now.engine.collecting c.read-in-GetTagged.new.self.engine.collecting c.args.passing.now s.store
+    (step_to s (lines.GetTagged c.in-GetTagged.name c.in-GetTagged.key))
+    (ap (λ e. e.core.version.behind.logs) c.read-in-GetTagged.ensures.engine) (ap (λ e. e.collecting) c.read-in-GetTagged.ensures.engine)
+    (get_keeps_work s.store c.in-GetTagged.name answer_with_tag c.in-GetTagged.key
+    (thing_of s.store c.in-GetTagged.name) refl) stands.passes))
+
+pub returns-in-GetAt-clause-passes : goal.returns-in-GetAt-clause-passes
+returns-in-GetAt-clause-passes g c s stands =
+    subst (λ (line : Line). OnOk c.get_at.result
+    (PassesIn g.D.Held.HeldFile.bytes c.get_at.new.self.engine.core c.get_at.new.self.engine.collecting c.args.passing.now
+    (step_to s line).state)) (sym c.in-GetAt.is)
+    (on_ok_of c.get_at.result _
+    (passes_behind g.D.Held.HeldFile.bytes c.args.served.now.engine.core c.get_at.new.self.engine.core
+    c.args.served.now.engine.collecting c.get_at.new.self.engine.collecting c.args.passing.now s.store
+    (step_to s (lines.GetAt c.in-GetAt.name c.in-GetAt.key c.in-GetAt.number))
+    (ap (λ e. e.core.version.behind.logs) c.get_at.ensures.engine) (ap (λ e. e.collecting) c.get_at.ensures.engine)
+    (get_at_keeps_work s.store c.in-GetAt.name c.in-GetAt.key c.in-GetAt.number (thing_of s.store c.in-GetAt.name)) stands.passes))
+
+pub returns-in-Set-clause-passes : goal.returns-in-Set-clause-passes
+returns-in-Set-clause-passes g c s stands =
+    subst (λ (line : Line). OnOk c.write.result
+    (PassesIn g.D.Held.HeldFile.bytes c.write.new.self.engine.core c.write.new.self.engine.collecting c.args.passing.now
+    (step_to s line).state)) (sym c.in-Set.is)
+    (on_ok_of c.write.result _
+    (passes_behind g.D.Held.HeldFile.bytes c.args.served.now.engine.core c.write.new.self.engine.core
+    c.args.served.now.engine.collecting c.write.new.self.engine.collecting c.args.passing.now s.store
+    (step_to s (lines.Set c.in-Set.name c.in-Set.key c.in-Set.value)) (ap (λ e. e.core.version.behind.logs) c.write.ensures.engine)
+    (ap (λ e. e.collecting) c.write.ensures.engine)
+    (write_keeps_work s.store c.in-Set.name c.in-Set.key (changes.Set (untagged c.in-Set.value))
+    (thing_of s.store c.in-Set.name) refl) stands.passes))
+
+pub returns-in-SetTagged-clause-passes : goal.returns-in-SetTagged-clause-passes
+returns-in-SetTagged-clause-passes g c s stands =
+    subst (λ (line : Line). OnOk c.write-in-SetTagged.result
+    (PassesIn g.D.Held.HeldFile.bytes c.write-in-SetTagged.new.self.engine.core c.write-in-SetTagged.new.self.engine.collecting
+    c.args.passing.now
+    (step_to s line).state)) (sym c.in-SetTagged.is)
+    (on_ok_of c.write-in-SetTagged.result _
+    (passes_behind g.D.Held.HeldFile.bytes c.args.served.now.engine.core c.write-in-SetTagged.new.self.engine.core
+    c.args.served.now.engine.collecting c.write-in-SetTagged.new.self.engine.collecting c.args.passing.now s.store
+    (step_to s (lines.SetTagged c.in-SetTagged.name c.in-SetTagged.key c.in-SetTagged.value c.in-SetTagged.tag))
+    (ap (λ e. e.core.version.behind.logs) c.write-in-SetTagged.ensures.engine) (ap (λ e. e.collecting) c.write-in-SetTagged.ensures.engine)
+    (write_keeps_work s.store c.in-SetTagged.name c.in-SetTagged.key
+    (changes.Set (tagged c.in-SetTagged.value c.in-SetTagged.tag)) (thing_of s.store c.in-SetTagged.name) refl) stands.passes))
+
+pub returns-in-Delete-clause-passes : goal.returns-in-Delete-clause-passes
+returns-in-Delete-clause-passes g c s stands =
+    subst (λ (line : Line). OnOk c.write-in-Delete.result
+    (PassesIn g.D.Held.HeldFile.bytes c.write-in-Delete.new.self.engine.core c.write-in-Delete.new.self.engine.collecting c.args.passing.now
+    (step_to s line).state)) (sym c.in-Delete.is)
+    (on_ok_of c.write-in-Delete.result _
+    (passes_behind g.D.Held.HeldFile.bytes c.args.served.now.engine.core c.write-in-Delete.new.self.engine.core
+    c.args.served.now.engine.collecting c.write-in-Delete.new.self.engine.collecting c.args.passing.now s.store
+    (step_to s (lines.Delete c.in-Delete.name c.in-Delete.key)) (ap (λ e. e.core.version.behind.logs) c.write-in-Delete.ensures.engine)
+    (ap (λ e. e.collecting) c.write-in-Delete.ensures.engine)
+    (write_keeps_work s.store c.in-Delete.name c.in-Delete.key changes.Delete (thing_of s.store c.in-Delete.name) refl) stands.passes))
+
+pub returns-in-Scan-clause-passes : goal.returns-in-Scan-clause-passes
+returns-in-Scan-clause-passes g c s stands =
+    subst (λ (line : Line). OnOk c.scan.result
+    (PassesIn g.D.Held.HeldFile.bytes c.scan.new.self.engine.core c.scan.new.self.engine.collecting c.args.passing.now
+    (step_to s line).state)) (sym c.in-Scan.is)
+    (on_ok_of c.scan.result _
+    (passes_behind g.D.Held.HeldFile.bytes c.args.served.now.engine.core c.scan.new.self.engine.core
+    c.args.served.now.engine.collecting c.scan.new.self.engine.collecting c.args.passing.now s.store
+    (step_to s (lines.Scan c.in-Scan.name c.in-Scan.low c.in-Scan.high c.in-Scan.limit c.in-Scan.way))
+    (ap (λ e. e.core.version.behind.logs) c.scan.ensures.engine) (ap (λ e. e.collecting) c.scan.ensures.engine)
+    (scan_keeps_work s.store c.in-Scan.way c.in-Scan.name c.in-Scan.low c.in-Scan.high c.in-Scan.limit
+    (thing_of s.store c.in-Scan.name) refl) stands.passes))
+
+pub returns-in-Commit-clause-passes : goal.returns-in-Commit-clause-passes
+returns-in-Commit-clause-passes g c s stands =
+    subst (λ (line : Line). OnOk c.commit.result
+    (PassesIn g.D.Held.HeldFile.bytes c.commit.new.self.engine.core c.commit.new.self.engine.collecting c.args.passing.now
+    (step_to s line).state)) (sym c.in-Commit.is)
+    (on_ok_of c.commit.result _
+    (passes_behind g.D.Held.HeldFile.bytes c.args.served.now.engine.core c.commit.new.self.engine.core
+    c.args.served.now.engine.collecting c.commit.new.self.engine.collecting c.args.passing.now s.store
+    (step_to s (lines.Commit c.in-Commit.name)) c.commit.ensures.logs c.commit.ensures.collecting
+    (commit_keeps_work s.store c.in-Commit.name (thing_of s.store c.in-Commit.name) refl) stands.passes))
+
+pub returns-in-Keep-clause-passes : goal.returns-in-Keep-clause-passes
+returns-in-Keep-clause-passes g c s stands =
+    subst (λ (line : Line). OnOk c.keep.result
+    (PassesIn g.D.Held.HeldFile.bytes c.keep.new.self.engine.core c.keep.new.self.engine.collecting c.args.passing.now
+    (step_to s line).state)) (sym c.in-Keep.is)
+    (on_ok_of c.keep.result _
+    (passes_behind g.D.Held.HeldFile.bytes c.args.served.now.engine.core c.keep.new.self.engine.core
+    c.args.served.now.engine.collecting c.keep.new.self.engine.collecting c.args.passing.now s.store
+    (step_to s (lines.Keep c.in-Keep.versions)) c.keep.ensures.logs c.keep.ensures.collecting
+    (keep_keeps_work s.store c.in-Keep.versions) stands.passes))
+
+pub returns-in-Drop-clause-passes : goal.returns-in-Drop-clause-passes
+returns-in-Drop-clause-passes g c s stands =
+    subst (λ (line : Line). PassesIn g.D.Held.HeldFile.bytes c.end.new.served.engine.core c.end.new.served.engine.collecting
+    c.end.new.passing (step_to s line).state) (sym c.in-Drop.is)
+    (c.end.ensures.passes s stands)
+
+pub returns-in-Rotate-clause-passes : goal.returns-in-Rotate-clause-passes
+returns-in-Rotate-clause-passes g c s stands =
+    let bytes = g.D.Held.HeldFile.bytes in
+    subst (λ (line : Line). OnOk c.rotate.result (PassesIn bytes c.rotate.new.self.engine.core c.rotate.new.self.engine.collecting
+    c.args.passing.now (step_to s line).state))
+    (sym c.in-Rotate.is)
+    (passes_stepped bytes c.args.served.now.engine.core c.rotate.new.self.engine.core c.args.served.now.engine.collecting
+    c.rotate.new.self.engine.collecting
+    c.args.passing.now s.store (step_to s lines.Rotate) c.rotate.result (rotate_keeps_passes s.store)
+    (λ log lasts. rotate_lasts bytes log s.store.layout (history_of s) lasts stands.serves.engine.tidy)
+    (c.rotate.ensures.collects s stands.serves stands.passes.collects) stands.passes)
+
+pub returns-in-Flush-clause-passes : goal.returns-in-Flush-clause-passes
+returns-in-Flush-clause-passes g c s stands =
+    let bytes = g.D.Held.HeldFile.bytes in
+    subst (λ (line : Line). OnOk c.flush.result (PassesIn bytes c.flush.new.self.engine.core c.flush.new.self.engine.collecting
+    c.args.passing.now (step_to s line).state))
+    (sym c.in-Flush.is)
+    (passes_stepped bytes c.args.served.now.engine.core c.flush.new.self.engine.core c.args.served.now.engine.collecting
+    c.flush.new.self.engine.collecting
+    c.args.passing.now s.store (step_to s lines.Flush) c.flush.result (flush_keeps_passes s.store)
+    (λ log lasts. flush_lasts bytes log s.store.layout (history_of s) lasts stands.serves.engine.tidy)
+    (c.flush.ensures.collects s stands.serves stands.passes.collects) stands.passes)
+
+-- ---- lines of passes
+
+pub returns-in-Stats-clause-makes : goal.returns-in-Stats-clause-makes
+returns-in-Stats-clause-makes g c s stands =
+    subst (λ (line : Line). MakesStep g.D.Held.HeldFile.bytes (g.D.Watched.told c.args.served.now.engine.disk) c.args.served.now.engine.core
+    c.args.served.now.opens.items s (step_to s line) c.stats.result) (sym c.in-Stats.is)
+    (c.stats.ensures.makes s c.args.passing.now (passing_of stands))
+
+pub returns-in-Stats-clause-merges : goal.returns-in-Stats-clause-merges
+returns-in-Stats-clause-merges g c s stands =
+    subst (λ (line : Line). OnOk c.stats.result (MergesIn g.D.Writer.Writer g.D.Held.HeldFile.bytes c.args.served.now.engine.merging
+    c.args.planned.now
+    (step_to s line).state)) (sym c.in-Stats.is) (on_ok_of c.stats.result _ stands.merges)
+
+pub returns-in-Stats-clause-passes : goal.returns-in-Stats-clause-passes
+returns-in-Stats-clause-passes g c s stands =
+    subst (λ (line : Line). OnOk c.stats.result (PassesIn g.D.Held.HeldFile.bytes c.args.served.now.engine.core
+    c.args.served.now.engine.collecting c.args.passing.now
+    (step_to s line).state)) (sym c.in-Stats.is) (on_ok_of c.stats.result _ stands.passes)
+
+pub returns-in-Stats-clause-carries : goal.returns-in-Stats-clause-carries
+returns-in-Stats-clause-carries g c s stands =
+    subst (λ (line : Line). CarriesOut g.D.Watched IsStored Shown IsStopped c.args.served.now.engine.disk c.args.served.now.engine.disk
+    s (state_after s line) c.stats.result) (sym c.in-Stats.is)
+    (quiet_carries g.D.Watched (record { only_now = g.met.D.Disk.only_now; counts_now = g.met.D.Disk.counts_now })
+    g.D.Held.HeldFile.bytes (g.D.Watched.told c.args.served.now.engine.disk) c.args.served.now.engine.core c.args.served.now.opens.items s
+    (step_to s lines.Stats)
+    (stats_keeps s.store (answer_to s lines.Stats)) c.stats.result
+    (c.stats.ensures.makes s c.args.passing.now (passing_of stands)) (not_by_disk c.stats.result c.stats.ensures.fails)
+    c.args.served.now.engine.disk c.args.served.now.engine.disk refl)
+
+pub returns-in-Stats-clause-sound : goal.returns-in-Stats-clause-sound
+returns-in-Stats-clause-sound g c s stands halts =
+    absurd (not_by_read c.stats.result c.stats.ensures.fails halts)
+
+pub returns-in-Stats-clause-undamaged : goal.returns-in-Stats-clause-undamaged
+returns-in-Stats-clause-undamaged g c s stands halts =
+    not_by_damage c.stats.result c.stats.ensures.fails halts
+
+pub returns-in-Stats-clause-fault : goal.returns-in-Stats-clause-fault
+returns-in-Stats-clause-fault g c s stands halts =
+    absurd (not_by_reader c.stats.result c.stats.ensures.fails halts)
+
+pub returns-in-Stats-clause-named : goal.returns-in-Stats-clause-named
+returns-in-Stats-clause-named g c s file stands is =
+    not_at c.stats.result (not_by_disk c.stats.result c.stats.ensures.fails) file is
+
+pub returns-in-Stats-clause-cause : goal.returns-in-Stats-clause-cause
+returns-in-Stats-clause-cause g c =
+    no_cause _ _ _ refl (not_by_disk c.stats.result c.stats.ensures.fails)
+
+pub returns-in-Stats-clause-handed : goal.returns-in-Stats-clause-handed
+returns-in-Stats-clause-handed g c =
+    on_ok_of c.stats.result _ c.requires.handed
+
+pub returns-in-Pick-clause-makes : goal.returns-in-Pick-clause-makes
+returns-in-Pick-clause-makes g c s stands =
+    subst (λ (line : Line). MakesStep g.D.Held.HeldFile.bytes (g.D.Watched.told c.pick.new.served.engine.disk) c.pick.new.served.engine.core
+    c.pick.new.served.opens.items s (step_to s line) c.pick.result) (sym c.in-Pick.is)
+    (c.pick.ensures.makes s (passing_of stands) (free_name s c.args.line c.in_default.is (c.in_ok-name.ensures s stands)
+    (ap name_made c.in-Pick.is)))
+
+pub returns-in-Pick-clause-merges : goal.returns-in-Pick-clause-merges
+returns-in-Pick-clause-merges g c s stands =
+    subst (λ (line : Line). OnOk c.pick.result (MergesIn g.D.Writer.Writer g.D.Held.HeldFile.bytes c.pick.new.served.engine.merging
+    c.args.planned.now
+    (step_to s line).state)) (sym c.in-Pick.is)
+    (on_ok_of c.pick.result _
+    (merges_behind g.D.Writer.Writer g.D.Held.HeldFile.bytes c.args.served.now.engine.merging c.pick.new.served.engine.merging
+    c.args.planned.now c.args.planned.now
+    c.pick.ensures.merging refl s.store (step_to s (lines.Pick c.in-Pick.name c.in-Pick.percent))
+    (pick_keeps_merges s c.in-Pick.name c.in-Pick.percent (free_name s c.args.line c.in_default.is (c.in_ok-name.ensures s stands)
+    (ap name_made c.in-Pick.is))) stands.merges))
+
+pub returns-in-Pick-clause-passes : goal.returns-in-Pick-clause-passes
+returns-in-Pick-clause-passes g c s stands =
+    subst (λ (line : Line). OnOk c.pick.result (PassesIn g.D.Held.HeldFile.bytes c.pick.new.served.engine.core
+    c.pick.new.served.engine.collecting c.pick.new.passing
+    (step_to s line).state)) (sym c.in-Pick.is) (c.pick.ensures.passes s (passing_of stands)
+    (free_name s c.args.line c.in_default.is (c.in_ok-name.ensures s stands) (ap name_made c.in-Pick.is)))
+
+pub returns-in-Pick-clause-carries : goal.returns-in-Pick-clause-carries
+returns-in-Pick-clause-carries g c s stands =
+    subst (λ (line : Line). CarriesOut g.D.Watched IsStored Shown IsStopped c.args.served.now.engine.disk c.pick.new.served.engine.disk
+    s (state_after s line) c.pick.result) (sym c.in-Pick.is)
+    (c.pick.ensures.carries s (passing_of stands) (free_name s c.args.line c.in_default.is (c.in_ok-name.ensures s stands)
+    (ap name_made c.in-Pick.is)))
+
+pub returns-in-Pick-clause-sound : goal.returns-in-Pick-clause-sound
+returns-in-Pick-clause-sound g c s stands halts =
+    absurd (not_by_read c.pick.result c.pick.ensures.fails halts)
+
+pub returns-in-Pick-clause-undamaged : goal.returns-in-Pick-clause-undamaged
+returns-in-Pick-clause-undamaged g c s stands halts =
+    not_by_damage c.pick.result c.pick.ensures.fails halts
+
+pub returns-in-Pick-clause-fault : goal.returns-in-Pick-clause-fault
+returns-in-Pick-clause-fault g c s stands halts =
+    absurd (not_by_reader c.pick.result c.pick.ensures.fails halts)
+
+pub returns-in-Pick-clause-named : goal.returns-in-Pick-clause-named
+returns-in-Pick-clause-named g c s file stands is =
+    not_at c.pick.result (not_by_disk c.pick.result c.pick.ensures.fails) file is
+
+pub returns-in-Pick-clause-cause : goal.returns-in-Pick-clause-cause
+returns-in-Pick-clause-cause g c =
+    no_cause _ _ _ (ap (λ disk. g.D.Watched.faults disk) c.pick.ensures.disk) (not_by_disk c.pick.result c.pick.ensures.fails)
+
+pub returns-in-Pick-clause-handed : goal.returns-in-Pick-clause-handed
+returns-in-Pick-clause-handed g c =
+    can_same g.D.Watched g.D.Writer.Writer c.args.served.now.engine.disk c.pick.new.served.engine.disk c.args.served.now.engine.merging
+    c.pick.new.served.engine.merging c.args.planned.now c.pick.ensures.merging c.pick.result c.pick.ensures.disk c.requires.handed
+
+pub returns-in-Batch-clause-makes : goal.returns-in-Batch-clause-makes
+returns-in-Batch-clause-makes g c s stands =
+    subst (λ (line : Line). MakesStep g.D.Held.HeldFile.bytes (g.D.Watched.told c.args.served.now.engine.disk) c.args.served.now.engine.core
+    c.args.served.now.opens.items s (step_to s line) c.batch.result) (sym c.in-Batch.is)
+    (c.batch.ensures.makes s (passing_of stands))
+
+pub returns-in-Batch-clause-merges : goal.returns-in-Batch-clause-merges
+returns-in-Batch-clause-merges g c s stands =
+    subst (λ (line : Line). OnOk c.batch.result (MergesIn g.D.Writer.Writer g.D.Held.HeldFile.bytes c.args.served.now.engine.merging
+    c.args.planned.now
+    (step_to s line).state)) (sym c.in-Batch.is)
+    (on_ok_of c.batch.result _
+    (merges_behind g.D.Writer.Writer g.D.Held.HeldFile.bytes c.args.served.now.engine.merging c.args.served.now.engine.merging
+    c.args.planned.now c.args.planned.now
+    refl refl s.store (step_to s (lines.Batch c.in-Batch.name))
+    (batch_keeps_merges s.store c.in-Batch.name (thing_of s.store c.in-Batch.name) refl) stands.merges))
+
+pub returns-in-Batch-clause-passes : goal.returns-in-Batch-clause-passes
+returns-in-Batch-clause-passes g c s stands =
+    subst (λ (line : Line). OnOk c.batch.result (PassesIn g.D.Held.HeldFile.bytes c.args.served.now.engine.core
+    c.args.served.now.engine.collecting c.batch.new.passing
+    (step_to s line).state)) (sym c.in-Batch.is) (c.batch.ensures.passes s (passing_of stands))
+
+pub returns-in-Batch-clause-carries : goal.returns-in-Batch-clause-carries
+returns-in-Batch-clause-carries g c s stands =
+    subst (λ (line : Line). CarriesOut g.D.Watched IsStored Shown IsStopped c.args.served.now.engine.disk c.args.served.now.engine.disk
+    s (state_after s line) c.batch.result) (sym c.in-Batch.is)
+    (quiet_carries g.D.Watched (record { only_now = g.met.D.Disk.only_now; counts_now = g.met.D.Disk.counts_now })
+    g.D.Held.HeldFile.bytes (g.D.Watched.told c.args.served.now.engine.disk) c.args.served.now.engine.core c.args.served.now.opens.items s
+    (step_to s (lines.Batch c.in-Batch.name))
+    (batch_keeps s.store c.in-Batch.name (thing_of s.store c.in-Batch.name)) c.batch.result
+    (c.batch.ensures.makes s (passing_of stands)) c.batch.ensures.not_the_disk
+    c.args.served.now.engine.disk c.args.served.now.engine.disk refl)
+
+pub returns-in-Batch-clause-sound : goal.returns-in-Batch-clause-sound
+returns-in-Batch-clause-sound g c s stands halts =
+    subst (λ (line : Line). ReadsTables line s) (sym c.in-Batch.is) (c.batch.ensures.sound s (passing_of stands) halts)
+
+pub returns-in-Batch-clause-undamaged : goal.returns-in-Batch-clause-undamaged
+returns-in-Batch-clause-undamaged g c s stands =
+    c.batch.ensures.undamaged s (passing_of stands)
+
+pub returns-in-Batch-clause-fault : goal.returns-in-Batch-clause-fault
+returns-in-Batch-clause-fault g c s stands halts =
+    by_the_reader g.D.Reader.Reader.faults g.D.Writer.Writer.faults (c.batch.ensures.fault halts)
+
+pub returns-in-Batch-clause-cause : goal.returns-in-Batch-clause-cause
+returns-in-Batch-clause-cause g c =
+    no_cause _ _ _ refl c.batch.ensures.not_the_disk
+
+pub returns-in-Batch-clause-named : goal.returns-in-Batch-clause-named
+returns-in-Batch-clause-named g c s file stands is =
+    not_at c.batch.result c.batch.ensures.not_the_disk file is
+
+pub returns-in-Batch-clause-handed : goal.returns-in-Batch-clause-handed
+returns-in-Batch-clause-handed g c =
+    on_ok_of c.batch.result _ c.requires.handed
+
+pub returns-in-Move-clause-makes : goal.returns-in-Move-clause-makes
+returns-in-Move-clause-makes g c s stands =
+    subst (λ (line : Line). MakesStep g.D.Held.HeldFile.bytes (g.D.Watched.told c.move_batch.new.served.engine.disk)
+    c.move_batch.new.served.engine.core
+    c.move_batch.new.served.opens.items s (step_to s line) c.move_batch.result) (sym c.in-Move.is)
+    (c.move_batch.ensures.makes s (passing_of stands))
+
+pub returns-in-Move-clause-merges : goal.returns-in-Move-clause-merges
+returns-in-Move-clause-merges g c s stands =
+    subst (λ (line : Line). OnOk c.move_batch.result
+    (MergesIn g.D.Writer.Writer g.D.Held.HeldFile.bytes c.move_batch.new.served.engine.merging c.args.planned.now (step_to s line).state))
+    (sym c.in-Move.is)
+    (merges_answered g.D.Writer.Writer g.D.Held.HeldFile.bytes c.move_batch.result c.args.served.now.engine.merging
+    c.move_batch.new.served.engine.merging c.args.planned.now
+    s.store (step_to s (lines.Move c.in-Move.name)) (move_tells s.store c.in-Move.name (thing_of s.store c.in-Move.name) refl)
+    (c.move_batch.ensures.opens s (passing_of stands)) stands.merges)
+
+pub returns-in-Move-clause-passes : goal.returns-in-Move-clause-passes
+returns-in-Move-clause-passes g c s stands =
+    subst (λ (line : Line). OnOk c.move_batch.result
+    (PassesIn g.D.Held.HeldFile.bytes c.move_batch.new.served.engine.core c.move_batch.new.served.engine.collecting c.move_batch.new.passing
+    (step_to s line).state)) (sym c.in-Move.is)
+    (c.move_batch.ensures.passes s (passing_of stands))
+
+pub returns-in-Move-clause-carries : goal.returns-in-Move-clause-carries
+returns-in-Move-clause-carries g c s stands =
+    subst (λ (line : Line). CarriesOut g.D.Watched IsStored Shown IsStopped c.args.served.now.engine.disk
+    c.move_batch.new.served.engine.disk
+    s (state_after s line) c.move_batch.result) (sym c.in-Move.is) (c.move_batch.ensures.carries s (passing_of stands))
+
+pub returns-in-Move-clause-sound : goal.returns-in-Move-clause-sound
+returns-in-Move-clause-sound g c s stands halts =
+    subst (λ (line : Line). ReadsTables line s) (sym c.in-Move.is) (c.move_batch.ensures.sound s (passing_of stands) halts)
+
+pub returns-in-Move-clause-undamaged : goal.returns-in-Move-clause-undamaged
+returns-in-Move-clause-undamaged g c s stands =
+    c.move_batch.ensures.undamaged s (passing_of stands)
+
+pub returns-in-Move-clause-fault : goal.returns-in-Move-clause-fault
+returns-in-Move-clause-fault g c s stands halts =
+    by_the_reader g.D.Reader.Reader.faults g.D.Writer.Writer.faults (c.move_batch.ensures.fault s (passing_of stands) halts)
+
+pub returns-in-Move-clause-named : goal.returns-in-Move-clause-named
+returns-in-Move-clause-named g c s file stands is =
+    subst (λ (line : Line). FailsAt c.args.served.now.engine.core.back.manifest.number line s file) (sym c.in-Move.is)
+    (c.move_batch.ensures.named s file (passing_of stands) is)
+
+pub returns-in-Move-clause-handed : goal.returns-in-Move-clause-handed
+returns-in-Move-clause-handed g c =
+    can_moved g.D.Watched g.D.Writer.Writer c.args.served.now.engine.disk c.move_batch.new.served.engine.disk
+    c.args.served.now.engine.merging
+    c.move_batch.new.served.engine.merging c.args.planned.now c.move_batch.ensures.merging c.move_batch.result c.move_batch.ensures.untold
+    c.requires.handed

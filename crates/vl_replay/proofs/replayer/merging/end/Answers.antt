@@ -4,19 +4,20 @@ use Rattle.std.specs.Prelude.{Ok, Option}
 use Rattle.vl_compact.specs.Progress.{made_of}
 use Rattle.vl_core.specs.Represents as engine
 use Rattle.vl_core.specs.Shown.{Shown}
+use Rattle.vl_engine.specs.UnderWay.{IsUnderWay}
 use Rattle.vl_layout.specs.Jobs.{job_ended}
-use Rattle.vl_replay.specs.Durable.{CarriesOut}
+use Rattle.vl_sequential.specs.Durable.{CarriesOut}
 use Rattle.vl_replay.specs.Handed.{CanHandIn}
 use Rattle.vl_replay.specs.Replaying.{Merges, state_by}
-use Rattle.vl_replay.specs.Stored.{IsStopped, IsStored}
+use Rattle.vl_sequential.specs.Stored.{IsStopped, IsStored}
 use Rattle.vl_script.specs.declared.answer.Answer.TheVariants as answers
-use Rattle.vl_replay.proofs.Merges.Handing.{can_still}
-use Rattle.vl_replay.proofs.Merges.Keeping.{drop_keeps_merges}
-use Rattle.vl_replay.specs.laws.Explained.{only_reader}
-use Rattle.vl_replay.specs.laws.Growing.{drop_keeps}
+use Rattle.vl_replay.proofs.Merges.Handing.{can_still, under_way}
+use Rattle.vl_replay.proofs.Merges.Keeping.{drop_keeps_work, merges_kept}
+use Rattle.vl_sequential.specs.laws.Explained.{only_reader}
+use Rattle.vl_sequential.specs.laws.Growing.{drop_keeps}
 use Rattle.vl_layout.specs.Store.Dispatch.{drop_by}
 use Rattle.vl_layout.specs.Store.Things.{thing_of}
-use Rattle.vl_replay.specs.Sequential.{history_of}
+use Rattle.vl_sequential.specs.Sequential.{history_of}
 use Rattle.vl_replay.proofs.Disk.Carried.{quiet_carries}
 use Rattle.vl_replay.proofs.Merges.Dropping.{drop_carries, drop_makes, drop_merges}
 use Rattle.vl_replay.proofs.Merges.Waiting.{merges_behind, no_merge_named, took, took_none}
@@ -24,16 +25,25 @@ use Rattle.vl_replay.proofs.Names.Serving.{represents}
 use Rattle.vl_replay.proofs.replayer.merging.end.Goals as goal
 
 pub returns-in-None-clause-makes : goal.returns-in-None-clause-makes
-returns-in-None-clause-makes g c s stands =
+returns-in-None-clause-makes g c s stands no_pass =
     let (still, other) = took_none c.as_slice.result.now c.args.name c.as_slice.ensures c.args.planned.now
     c.take_planned.new.planned c.take_planned.result
     c.take_planned.ensures c.in-None.is in
     c.end.ensures.makes s stands.serves
     (no_merge_named g.D.Writer.Writer g.D.Held.HeldFile.bytes c.args.planned.now s.store.things s.store.layout
-    c.args.name stands.merges.waits other)
+    c.args.name stands.merges.waits other) no_pass
+
+pub abandon-requires : goal.abandon-requires
+abandon-requires g c =
+    let old = c.args.served.now.engine in
+    let (p, there, named, job, none) = took c.as_slice.result.now c.args.name c.as_slice.ensures c.args.planned.now
+    c.take_planned.new.planned c.take_planned.result c.in-Some.job
+    c.take_planned.ensures c.in-Some.is in
+    subst (λ (x : _). IsUnderWay g.D.Watched g.D.Writer.Writer old.disk old.core.front.halted old.merging x) (sym job)
+    (under_way g.D.Watched g.D.Writer.Writer old.disk old.core.front.halted old.merging p.job (c.requires p there))
 
 pub returns-in-Some-clause-makes : goal.returns-in-Some-clause-makes
-returns-in-Some-clause-makes g c s stands =
+returns-in-Some-clause-makes g c s stands no_pass =
     let bytes = g.D.Held.HeldFile.bytes in
     let old = c.args.served.now.engine in
     let new = c.abandon.new.self in
@@ -55,7 +65,7 @@ returns-in-Some-clause-makes g c s stands =
     (represents bytes seen old.core c.args.served.now.opens.items s stands.serves openable) merges.waits.is_open merges.waits.lent)
 
 pub returns-in-Some-clause-merges : goal.returns-in-Some-clause-merges
-returns-in-Some-clause-merges g c s stands =
+returns-in-Some-clause-merges g c s stands no_pass =
     let bytes = g.D.Held.HeldFile.bytes in
     let old = c.args.served.now.engine in
     let new = c.abandon.new.self in
@@ -79,7 +89,7 @@ returns-in-Some-clause-merges g c s stands =
     (represents bytes seen old.core c.args.served.now.opens.items s stands.serves openable) merges.waits.is_open merges.waits.lent))
 
 pub returns-in-Some-clause-carries : goal.returns-in-Some-clause-carries
-returns-in-Some-clause-carries g c s stands =
+returns-in-Some-clause-carries g c s stands no_pass =
     let bytes = g.D.Held.HeldFile.bytes in
     let old = c.args.served.now.engine in
     let new = c.abandon.new.self in
@@ -102,7 +112,7 @@ returns-in-Some-clause-carries g c s stands =
     (represents bytes seen old.core c.args.served.now.opens.items s stands.serves openable) merges.waits.is_open merges.waits.lent)))
 
 pub returns-in-None-clause-merges : goal.returns-in-None-clause-merges
-returns-in-None-clause-merges g c s stands =
+returns-in-None-clause-merges g c s stands no_pass =
     let (still, other) = took_none c.as_slice.result.now c.args.name c.as_slice.ensures c.args.planned.now
     c.take_planned.new.planned c.take_planned.result
     c.take_planned.ensures c.in-None.is in
@@ -111,11 +121,12 @@ returns-in-None-clause-merges g c s stands =
     merges_behind g.D.Writer.Writer g.D.Held.HeldFile.bytes c.args.served.now.engine.merging
     c.end.new.self.engine.merging c.args.planned.now c.take_planned.new.planned
     c.end.ensures.merging still s.store (drop_by s.store c.args.name (thing_of s.store c.args.name))
-    (drop_keeps_merges s.store c.args.name (thing_of s.store c.args.name) refl
-    (only_reader (history_of s) s.store stands.serves.sound c.args.name none)) stands.merges
+    (merges_kept s.store (drop_by s.store c.args.name (thing_of s.store c.args.name))
+    (drop_keeps_work s.store c.args.name (thing_of s.store c.args.name) refl
+    (only_reader s.store c.args.name none no_pass))) stands.merges
 
 pub returns-in-None-clause-carries : goal.returns-in-None-clause-carries
-returns-in-None-clause-carries g c s stands =
+returns-in-None-clause-carries g c s stands no_pass =
     let (still, other) = took_none c.as_slice.result.now c.args.name c.as_slice.ensures c.args.planned.now
     c.take_planned.new.planned c.take_planned.result
     c.take_planned.ensures c.in-None.is in
@@ -125,8 +136,9 @@ returns-in-None-clause-carries g c s stands =
     g.D.Held.HeldFile.bytes (g.D.Watched.told c.end.new.self.engine.disk) c.end.new.self.engine.core c.end.new.self.opens.items s
     (drop_by s.store c.args.name (thing_of s.store c.args.name))
     (drop_keeps s.store c.args.name (thing_of s.store c.args.name)
-    (only_reader (history_of s) s.store stands.serves.sound c.args.name none)) (Ok c.end.result)
-    (c.end.ensures.makes s stands.serves none) (λ halts. halts) c.args.served.now.engine.disk c.end.new.self.engine.disk c.end.ensures.disk
+    (only_reader s.store c.args.name none no_pass)) (Ok c.end.result)
+    (c.end.ensures.makes s stands.serves none no_pass) (λ halts. halts)
+    c.args.served.now.engine.disk c.end.new.self.engine.disk c.end.ensures.disk
 
 pub returns-in-None-clause-handed : goal.returns-in-None-clause-handed
 returns-in-None-clause-handed g c =

@@ -1,9 +1,11 @@
 -- An install is answered as its ruling has it, and carried out so.
-use Rattle.std.proofs.Common.{ap, sym, ◌∙◌, refl}
+use Rattle.std.proofs.Common.{ap, sym, ◌∙◌, refl, subst}
 use Rattle.std.specs.Prelude.{Err, Ok}
-use Rattle.vl_replay.specs.declared.fails.Halt.TheVariants as why
+use Rattle.vl_engine.specs.Collecting.{Collects}
+use Rattle.vl_layout.specs.Store.Things.{Step}
+use Rattle.vl_sequential.specs.declared.fails.Halt.TheVariants as why
 use Rattle.vl_script.specs.declared.answer.Answer.TheVariants as answers
-use Rattle.vl_replay.proofs.Merges.Installing.{handed_so, line_carries, line_makes, line_merges, line_named}
+use Rattle.vl_replay.proofs.Merges.Installing.{back_so, handed_so, line_carries, line_collects, line_makes, line_merges, line_named}
 use Rattle.vl_replay.proofs.Merges.Installing.{line_sound, no_merge, told_as, told_install, unknown_carries}
 use Rattle.vl_replay.proofs.Merges.Installing.{unknown_install, unknown_step, unplanned, was_planned}
 use Rattle.vl_replay.proofs.replayer.merging.install.Goals as goal
@@ -31,6 +33,16 @@ returns-in_default-clause-carries g c s stands =
     (no_merge s c.args.name g.D.Writer.Writer bytes c.args.planned.now stands.merges.waits
     (λ p there named. apart p there (named ∙ sym c.as_slice.ensures))))
 
+pub returns-in_default-clause-collects : goal.returns-in_default-clause-collects
+returns-in_default-clause-collects g c s stands collected =
+    let bytes = g.D.Held.HeldFile.bytes in
+    let (still, apart) = unplanned c.as_slice.result.now c.args.planned.now c.take_planned.new.planned c.in_default.ensures in
+    subst (λ (x : Step). Collects c.args.served.now.engine.core c.args.served.now.engine.collecting x.state.layout)
+    (sym (unknown_step s c.args.name
+    (no_merge s c.args.name g.D.Writer.Writer bytes c.args.planned.now stands.merges.waits
+    (λ p there named. apart p there (named ∙ sym c.as_slice.ensures)))))
+    collected
+
 pub returns-in_default-clause-handed : goal.returns-in_default-clause-handed
 returns-in_default-clause-handed g c p is =
     let (still, apart) = unplanned c.as_slice.result.now c.args.planned.now c.take_planned.new.planned c.in_default.ensures in
@@ -43,6 +55,15 @@ install-requires g c =
     handed_so g.D.Watched g.D.Writer.Writer c.args.served.now.engine.disk c.args.served.now.engine.core.front.halted
     c.args.served.now.engine.merging c.as_slice.result.now c.args.planned.now c.take_planned.new.planned c.in-Some.job
     (was_planned c.as_slice.result.now c.args.planned.now c.take_planned.new.planned c.in-Some.job c.in-Some.ensures) c.requires
+
+pub abandon-requires : goal.abandon-requires
+abandon-requires g c =
+    back_so g.D.Watched g.D.Writer.Writer c.args.served.now.engine.disk c.install.new.self.disk c.install.new.self.core.front.halted
+    c.args.served.now.engine.merging c.install.new.self.merging c.as_slice.result.now c.args.planned.now c.take_planned.new.planned
+    c.in-Some.job c.in-Err-NoMemory.job
+    (was_planned c.as_slice.result.now c.args.planned.now c.take_planned.new.planned c.in-Some.job c.in-Some.ensures) c.requires
+    (rw c.in-Err-NoMemory.field-0-is at c.in-Err-NoMemory.ensures.handed)
+    ((rw c.in-Err-NoMemory.field-0-is at c.in-Err-NoMemory.ensures.untouched) tt).told
 
 pub returns-in-Ok-clause-makes : goal.returns-in-Ok-clause-makes
 returns-in-Ok-clause-makes g c s stands =
@@ -59,6 +80,7 @@ returns-in-Ok-clause-makes g c s stands =
       files = c.install.ensures.files;
       stopped = c.install.ensures.stopped;
       failed = c.install.ensures.failed;
+      unraced = c.install.ensures.unraced;
       meanwhile = c.install.ensures.meanwhile;
       leaves = c.install.ensures.leaves;
       within = c.install.ensures.within;
@@ -80,10 +102,34 @@ returns-in-Ok-clause-merges g c s stands =
       files = c.install.ensures.files;
       stopped = c.install.ensures.stopped;
       failed = c.install.ensures.failed;
+      unraced = c.install.ensures.unraced;
       meanwhile = c.install.ensures.meanwhile;
       leaves = c.install.ensures.leaves;
       within = c.install.ensures.within;
     })
+    (Ok answers.Done) (ap told_install c.in-Ok.is)
+
+pub returns-in-Ok-clause-collects : goal.returns-in-Ok-clause-collects
+returns-in-Ok-clause-collects g c s stands collected =
+    line_collects g.D.Watched g.D.Writer.Writer g.D.Held.HeldFile.bytes c.args.served.now.engine.core c.install.new.self.core
+    c.args.served.now.engine.disk c.install.new.self.disk c.args.served.now.engine.merging c.install.new.self.merging c.in-Some.job
+    (record { only_now = g.met.D.Disk.only_now; counts_now = g.met.D.Disk.counts_now }) c.args.served.now.engine.lent
+    c.args.served.now.opens.items s stands.serves c.as_slice.result.now c.args.name c.as_slice.ensures c.args.planned.now
+    c.take_planned.new.planned stands.merges c.requires c.in-Some.ensures c.install.result
+    (record {
+      decides = c.install.ensures.stands;
+      carries = c.install.ensures.carries;
+      fits = c.install.ensures.fits;
+      untouched = c.install.ensures.untouched;
+      files = c.install.ensures.files;
+      stopped = c.install.ensures.stopped;
+      failed = c.install.ensures.failed;
+      unraced = c.install.ensures.unraced;
+      meanwhile = c.install.ensures.meanwhile;
+      leaves = c.install.ensures.leaves;
+      within = c.install.ensures.within;
+    })
+    c.args.served.now.engine.collecting c.install.new.self.collecting c.install.ensures.collects collected
     (Ok answers.Done) (ap told_install c.in-Ok.is)
 
 pub returns-in-Ok-clause-carries : goal.returns-in-Ok-clause-carries
@@ -101,6 +147,7 @@ returns-in-Ok-clause-carries g c s stands =
       files = c.install.ensures.files;
       stopped = c.install.ensures.stopped;
       failed = c.install.ensures.failed;
+      unraced = c.install.ensures.unraced;
       meanwhile = c.install.ensures.meanwhile;
       leaves = c.install.ensures.leaves;
       within = c.install.ensures.within;
@@ -122,6 +169,7 @@ returns-in-Err-Raced-clause-makes g c s stands =
       files = c.install.ensures.files;
       stopped = c.install.ensures.stopped;
       failed = c.install.ensures.failed;
+      unraced = c.install.ensures.unraced;
       meanwhile = c.install.ensures.meanwhile;
       leaves = c.install.ensures.leaves;
       within = c.install.ensures.within;
@@ -143,10 +191,34 @@ returns-in-Err-Raced-clause-merges g c s stands =
       files = c.install.ensures.files;
       stopped = c.install.ensures.stopped;
       failed = c.install.ensures.failed;
+      unraced = c.install.ensures.unraced;
       meanwhile = c.install.ensures.meanwhile;
       leaves = c.install.ensures.leaves;
       within = c.install.ensures.within;
     })
+    (Ok (answers.Raced c.in-Err-Raced.key)) (told_as c.install.result c.in-Err-Raced.field-0 _ c.in-Err-Raced.is c.in-Err-Raced.field-0-is)
+
+pub returns-in-Err-Raced-clause-collects : goal.returns-in-Err-Raced-clause-collects
+returns-in-Err-Raced-clause-collects g c s stands collected =
+    line_collects g.D.Watched g.D.Writer.Writer g.D.Held.HeldFile.bytes c.args.served.now.engine.core c.install.new.self.core
+    c.args.served.now.engine.disk c.install.new.self.disk c.args.served.now.engine.merging c.install.new.self.merging c.in-Some.job
+    (record { only_now = g.met.D.Disk.only_now; counts_now = g.met.D.Disk.counts_now }) c.args.served.now.engine.lent
+    c.args.served.now.opens.items s stands.serves c.as_slice.result.now c.args.name c.as_slice.ensures c.args.planned.now
+    c.take_planned.new.planned stands.merges c.requires c.in-Some.ensures c.install.result
+    (record {
+      decides = c.install.ensures.stands;
+      carries = c.install.ensures.carries;
+      fits = c.install.ensures.fits;
+      untouched = c.install.ensures.untouched;
+      files = c.install.ensures.files;
+      stopped = c.install.ensures.stopped;
+      failed = c.install.ensures.failed;
+      unraced = c.install.ensures.unraced;
+      meanwhile = c.install.ensures.meanwhile;
+      leaves = c.install.ensures.leaves;
+      within = c.install.ensures.within;
+    })
+    c.args.served.now.engine.collecting c.install.new.self.collecting c.install.ensures.collects collected
     (Ok (answers.Raced c.in-Err-Raced.key)) (told_as c.install.result c.in-Err-Raced.field-0 _ c.in-Err-Raced.is c.in-Err-Raced.field-0-is)
 
 pub returns-in-Err-Raced-clause-carries : goal.returns-in-Err-Raced-clause-carries
@@ -164,6 +236,7 @@ returns-in-Err-Raced-clause-carries g c s stands =
       files = c.install.ensures.files;
       stopped = c.install.ensures.stopped;
       failed = c.install.ensures.failed;
+      unraced = c.install.ensures.unraced;
       meanwhile = c.install.ensures.meanwhile;
       leaves = c.install.ensures.leaves;
       within = c.install.ensures.within;
@@ -186,6 +259,7 @@ returns-in-Err-Exhausted-clause-makes g c s stands =
       files = c.install.ensures.files;
       stopped = c.install.ensures.stopped;
       failed = c.install.ensures.failed;
+      unraced = c.install.ensures.unraced;
       meanwhile = c.install.ensures.meanwhile;
       leaves = c.install.ensures.leaves;
       within = c.install.ensures.within;
@@ -208,10 +282,35 @@ returns-in-Err-Exhausted-clause-merges g c s stands =
       files = c.install.ensures.files;
       stopped = c.install.ensures.stopped;
       failed = c.install.ensures.failed;
+      unraced = c.install.ensures.unraced;
       meanwhile = c.install.ensures.meanwhile;
       leaves = c.install.ensures.leaves;
       within = c.install.ensures.within;
     })
+    (Ok (answers.Exhausted c.in-Err-Exhausted.counter))
+    (told_as c.install.result c.in-Err-Exhausted.field-0 _ c.in-Err-Exhausted.is c.in-Err-Exhausted.field-0-is)
+
+pub returns-in-Err-Exhausted-clause-collects : goal.returns-in-Err-Exhausted-clause-collects
+returns-in-Err-Exhausted-clause-collects g c s stands collected =
+    line_collects g.D.Watched g.D.Writer.Writer g.D.Held.HeldFile.bytes c.args.served.now.engine.core c.install.new.self.core
+    c.args.served.now.engine.disk c.install.new.self.disk c.args.served.now.engine.merging c.install.new.self.merging c.in-Some.job
+    (record { only_now = g.met.D.Disk.only_now; counts_now = g.met.D.Disk.counts_now }) c.args.served.now.engine.lent
+    c.args.served.now.opens.items s stands.serves c.as_slice.result.now c.args.name c.as_slice.ensures c.args.planned.now
+    c.take_planned.new.planned stands.merges c.requires c.in-Some.ensures c.install.result
+    (record {
+      decides = c.install.ensures.stands;
+      carries = c.install.ensures.carries;
+      fits = c.install.ensures.fits;
+      untouched = c.install.ensures.untouched;
+      files = c.install.ensures.files;
+      stopped = c.install.ensures.stopped;
+      failed = c.install.ensures.failed;
+      unraced = c.install.ensures.unraced;
+      meanwhile = c.install.ensures.meanwhile;
+      leaves = c.install.ensures.leaves;
+      within = c.install.ensures.within;
+    })
+    c.args.served.now.engine.collecting c.install.new.self.collecting c.install.ensures.collects collected
     (Ok (answers.Exhausted c.in-Err-Exhausted.counter))
     (told_as c.install.result c.in-Err-Exhausted.field-0 _ c.in-Err-Exhausted.is c.in-Err-Exhausted.field-0-is)
 
@@ -230,6 +329,7 @@ returns-in-Err-Exhausted-clause-carries g c s stands =
       files = c.install.ensures.files;
       stopped = c.install.ensures.stopped;
       failed = c.install.ensures.failed;
+      unraced = c.install.ensures.unraced;
       meanwhile = c.install.ensures.meanwhile;
       leaves = c.install.ensures.leaves;
       within = c.install.ensures.within;
@@ -253,6 +353,7 @@ returns-in-Err-NoMemory-clause-carries g c s stands =
       files = c.install.ensures.files;
       stopped = c.install.ensures.stopped;
       failed = c.install.ensures.failed;
+      unraced = c.install.ensures.unraced;
       meanwhile = c.install.ensures.meanwhile;
       leaves = c.install.ensures.leaves;
       within = c.install.ensures.within;
@@ -275,6 +376,7 @@ returns-in-Err-Disk-clause-carries g c s stands =
       files = c.install.ensures.files;
       stopped = c.install.ensures.stopped;
       failed = c.install.ensures.failed;
+      unraced = c.install.ensures.unraced;
       meanwhile = c.install.ensures.meanwhile;
       leaves = c.install.ensures.leaves;
       within = c.install.ensures.within;
@@ -297,6 +399,7 @@ returns-in-Err-Disk-clause-named g c s file stands is =
       files = c.install.ensures.files;
       stopped = c.install.ensures.stopped;
       failed = c.install.ensures.failed;
+      unraced = c.install.ensures.unraced;
       meanwhile = c.install.ensures.meanwhile;
       leaves = c.install.ensures.leaves;
       within = c.install.ensures.within;
@@ -318,6 +421,7 @@ returns-clause-carries g c s stands =
       files = c.install.ensures.files;
       stopped = c.install.ensures.stopped;
       failed = c.install.ensures.failed;
+      unraced = c.install.ensures.unraced;
       meanwhile = c.install.ensures.meanwhile;
       leaves = c.install.ensures.leaves;
       within = c.install.ensures.within;
@@ -340,6 +444,7 @@ returns-clause-sound g c s stands =
       files = c.install.ensures.files;
       stopped = c.install.ensures.stopped;
       failed = c.install.ensures.failed;
+      unraced = c.install.ensures.unraced;
       meanwhile = c.install.ensures.meanwhile;
       leaves = c.install.ensures.leaves;
       within = c.install.ensures.within;

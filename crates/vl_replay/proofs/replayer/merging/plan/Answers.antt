@@ -1,232 +1,172 @@
--- A plan is answered as the store has it, and carried out so.
+-- A merge is planned as the store has it, and carried out so.
 use Rattle.std.proofs.Common.{◌∙◌, ◌≡◌, ap, refl, subst, sym}
-use Rattle.std.specs.Prelude.{Err, None, Ok, Option, Result, Some}
+use Rattle.std.specs.Prelude.{Err, None, Ok, Option, Result}
 use Rattle.vl_core.specs.Shown.{Shown}
 use Rattle.vl_core.specs.declared.kept.Core.{Core}
 use Rattle.vl_layout.specs.Store.Lines as store_lines
 use Rattle.vl_layout.specs.Store.Things.{only, thing_of}
-use Rattle.vl_replay.specs.Durable.{CarriesOut, LeadsTo}
-use Rattle.vl_replay.specs.Replaying.{Merges, StandsWith}
-use Rattle.vl_replay.specs.Sequential.{State, history_of, state_after, step_to}
-use Rattle.vl_replay.specs.Stored.{IsStopped, IsStored}
-use Rattle.vl_replay.specs.declared.fails.Halt.{Halt}
+use Rattle.vl_sequential.specs.Durable.{CarriesOut, LeadsTo}
+use Rattle.vl_replay.specs.Choosing.{line_for}
+use Rattle.vl_replay.specs.Replaying.{Merges, StandsMerging}
+use Rattle.vl_sequential.specs.Sequential.{State, history_of, state_after, step_to}
+use Rattle.vl_sequential.specs.Stored.{IsStopped, IsStored}
+use Rattle.vl_sequential.specs.declared.fails.Halt.{Halt}
 use Rattle.vl_script.specs.declared.answer.Answer.{Answer}
 use Rattle.vl_script.specs.declared.answer.Answer.TheVariants as answers
-use Rattle.vl_script.specs.declared.line.Line.TheVariants as lines
 use Rattle.vl_replay.proofs.CarryingTables.{out_is}
-use Rattle.vl_replay.proofs.Disk.DiskSteps.{IsWatched}
+use Rattle.vl_sequential.specs.laws.DiskSteps.{IsWatched}
 use Rattle.vl_replay.proofs.Merges.GivenUp.{Abandons, exhausted_leads, exhausted_makes, exhausted_merges, none_of}
 use Rattle.vl_replay.proofs.Merges.GivenUp.{not_halted, stopped_fault, stopped_leads, stopped_named, stopped_sound}
 use Rattle.vl_replay.proofs.Merges.GivenUp.{stopped_undamaged, unplanned_leads}
 use Rattle.vl_replay.proofs.Merges.PlanLine.{WasMerged, handed_waits, idle_step, merge_carries, merge_makes}
-use Rattle.vl_replay.proofs.Merges.PlanLine.{merge_waits, neither_taken, none_due, none_waits, opened_taken}
+use Rattle.vl_replay.proofs.Merges.PlanLine.{merge_waits, none_due, none_waits}
 use Rattle.vl_replay.proofs.Merges.PlanLine.{still_open, unplanned_carries, unplanned_makes, unplanned_merges}
-use Rattle.vl_replay.proofs.Merges.PlanLine.{waiting_idle, waiting_taken, was_merged}
-use Rattle.vl_replay.proofs.Names.BeginMaking.{free_of, taken_of}
+use Rattle.vl_replay.proofs.Merges.PlanLine.{waiting_idle, was_merged}
+use Rattle.vl_replay.specs.Standing.{open_in}
+use Rattle.vl_replay.proofs.Names.BeginMaking.{unread_of}
 use Rattle.vl_replay.proofs.Names.Serving.{represents}
 use Rattle.vl_replay.proofs.replayer.merging.plan.Given as given
-use Rattle.vl_replay.proofs.replayer.merging.plan.Goals.{then-is_taken-via-else-is_taken+then-is_planned, then-is_taken-via-then-is_taken}
 use Rattle.vl_replay.proofs.replayer.merging.plan.Goals as goal
-
--- ---- the name is in use
-
-in_use : (g : given.Over) (c : goal.Joined-then-is_taken g) (s : State)
-    → StandsWith g.D.Watched g.D.Writer.Writer g.D.Held.HeldFile.bytes c.args.served.now c.args.planned.now s
-    → step_to s (lines.Plan c.args.name) ≡ only (store_lines.Taken c.args.name) s.store
-in_use g c s stands =
-    elim c.then-is_taken.branch [
-      | then-is_taken-via-then-is_taken w ↦
-          opened_taken g.D.Writer.Writer g.D.Held.HeldFile.bytes c.args.planned.now (g.D.Watched.told c.args.served.now.engine.disk)
-          c.args.served.now.engine.core c.args.served.now.opens.items s stands.serves stands.merges.waits c.args.name
-          (taken_of c.args.served.now.opens.items c.deref.result.now c.deref.ensures.value c.as_slice.result.now c.args.name
-          c.as_slice.ensures c.is_taken.result c.is_taken.ensures w.if-is_taken.true)
-      | then-is_taken-via-else-is_taken+then-is_planned w ↦
-          waiting_taken g.D.Writer.Writer g.D.Held.HeldFile.bytes c.args.planned.now (g.D.Watched.told c.args.served.now.engine.disk)
-          c.args.served.now.engine.core c.args.served.now.opens.items s stands.serves stands.merges.waits c.args.name
-          w.as_slice-else-is_taken.result.now w.as_slice-else-is_taken.ensures w.is_planned.result w.is_planned.ensures w.if-is_planned.true
-    ]
-
-pub returns-then-is_taken-clause-makes : goal.returns-then-is_taken-clause-makes
-returns-then-is_taken-clause-makes g c s stands =
-    let e = c.args.served.now.engine in
-    unplanned_makes g.D.Watched (record { only_now = g.met.D.Disk.only_now; counts_now = g.met.D.Disk.counts_now }) g.D.Held.HeldFile.bytes
-    e.core e.core e.disk e.disk c.args.served.now.opens.items s stands.serves refl refl c.args.name (answers.Taken c.args.name)
-    (store_lines.Taken c.args.name) refl (in_use g c s stands)
-
-pub returns-then-is_taken-clause-merges : goal.returns-then-is_taken-clause-merges
-returns-then-is_taken-clause-merges g c s stands =
-    let e = c.args.served.now.engine in
-    unplanned_merges g.D.Writer.Writer g.D.Held.HeldFile.bytes e.merging e.merging c.args.planned.now c.args.planned.now
-    refl refl s stands.merges
-    c.args.name (store_lines.Taken c.args.name) (in_use g c s stands)
-
-pub returns-then-is_taken-clause-carries : goal.returns-then-is_taken-clause-carries
-returns-then-is_taken-clause-carries g c s stands =
-    let e = c.args.served.now.engine in
-    unplanned_carries g.D.Watched (record { only_now = g.met.D.Disk.only_now; counts_now = g.met.D.Disk.counts_now })
-    g.D.Held.HeldFile.bytes
-    e.core e.core e.disk e.disk c.args.served.now.opens.items s stands.serves refl refl c.args.name (answers.Taken c.args.name)
-    (store_lines.Taken c.args.name) refl (in_use g c s stands)
 
 -- ---- another merge waits
 
 waits_already : (g : given.Over) (c : goal.After-drop-name-inside g) (s : State)
-    → StandsWith g.D.Watched g.D.Writer.Writer g.D.Held.HeldFile.bytes c.args.served.now c.args.planned.now s
-    → step_to s (lines.Plan c.args.name) ≡ only store_lines.Idle s.store
-waits_already g c s stands =
-    idle_step s c.args.name
-    (neither_taken g.D.Writer.Writer g.D.Held.HeldFile.bytes c.args.planned.now (g.D.Watched.told c.args.served.now.engine.disk)
-    c.args.served.now.engine.core c.args.served.now.opens.items s stands.serves stands.merges.waits c.args.name
-    c.as_slice-else-is_taken.result.now c.as_slice-else-is_taken.ensures c.is_planned.result c.is_planned.ensures c.if-is_planned.false
-    (free_of c.args.served.now.opens.items c.deref.result.now c.deref.ensures.value c.as_slice.result.now c.args.name
-    c.as_slice.ensures c.is_taken.result
-    c.is_taken.ensures c.if-is_taken.false))
-    (waiting_idle g.D.Writer.Writer g.D.Held.HeldFile.bytes c.args.planned.now s stands.merges.waits
+    → StandsMerging g.D.Watched g.D.Writer.Writer g.D.Held.HeldFile.bytes c.args.served.now c.args.planned.now s
+    → thing_of s.store c.args.name ≡ None
+    → step_to s (line_for c.args.choice c.args.name) ≡ only store_lines.Idle s.store
+waits_already g c s stands bare =
+    idle_step c.args.choice s c.args.name
+    bare
+    (waiting_idle g.D.Writer.Writer g.D.Held.HeldFile.bytes c.args.planned.now c.args.choice s stands.merges.waits
     (sym c.is_some.ensures ∙ c.if-is_some.true))
 
 pub returns-then-is_some-clause-makes : goal.returns-then-is_some-clause-makes
-returns-then-is_some-clause-makes g c s stands =
+returns-then-is_some-clause-makes g c s stands bare =
     let e = c.args.served.now.engine in
     unplanned_makes g.D.Watched (record { only_now = g.met.D.Disk.only_now; counts_now = g.met.D.Disk.counts_now }) g.D.Held.HeldFile.bytes
-    e.core e.core e.disk e.disk c.args.served.now.opens.items s stands.serves refl refl c.args.name answers.Idle store_lines.Idle refl
-    (waits_already g c s stands)
+    e.core e.core e.disk e.disk c.args.served.now.opens.items s stands.serves refl refl c.args.choice c.args.name
+    answers.Idle store_lines.Idle refl
+    (waits_already g c s stands bare)
 
 pub returns-then-is_some-clause-carries : goal.returns-then-is_some-clause-carries
-returns-then-is_some-clause-carries g c s stands =
+returns-then-is_some-clause-carries g c s stands bare =
     let e = c.args.served.now.engine in
     unplanned_carries g.D.Watched (record { only_now = g.met.D.Disk.only_now; counts_now = g.met.D.Disk.counts_now })
     g.D.Held.HeldFile.bytes
-    e.core e.core e.disk e.disk c.args.served.now.opens.items s stands.serves refl refl c.args.name answers.Idle store_lines.Idle refl
-    (waits_already g c s stands)
+    e.core e.core e.disk e.disk c.args.served.now.opens.items s stands.serves refl refl c.args.choice c.args.name
+    answers.Idle store_lines.Idle refl
+    (waits_already g c s stands bare)
 
 -- ---- none is due
 
 not_due : (g : given.Over) (c : goal.After-drop-name-inside-in_default g) (s : State)
-    → StandsWith g.D.Watched g.D.Writer.Writer g.D.Held.HeldFile.bytes c.args.served.now c.args.planned.now s
-    → step_to s (lines.Plan c.args.name) ≡ only store_lines.Idle s.store
-not_due g c s stands =
+    → StandsMerging g.D.Watched g.D.Writer.Writer g.D.Held.HeldFile.bytes c.args.served.now c.args.planned.now s
+    → thing_of s.store c.args.name ≡ None
+    → step_to s (line_for c.args.choice c.args.name) ≡ only store_lines.Idle s.store
+not_due g c s stands bare =
     let old = c.args.served.now.engine in
-    let new = c.plan.new.self in
-    idle_step s c.args.name
-    (neither_taken g.D.Writer.Writer g.D.Held.HeldFile.bytes c.args.planned.now (g.D.Watched.told c.args.served.now.engine.disk)
-    c.args.served.now.engine.core c.args.served.now.opens.items s stands.serves stands.merges.waits c.args.name
-    c.as_slice-else-is_taken.result.now c.as_slice-else-is_taken.ensures c.is_planned.result c.is_planned.ensures c.if-is_planned.false
-    (free_of c.args.served.now.opens.items c.deref.result.now c.deref.ensures.value c.as_slice.result.now c.args.name
-    c.as_slice.ensures c.is_taken.result
-    c.is_taken.ensures c.if-is_taken.false))
+    let new = c.choose.new.engine in
+    idle_step c.args.choice s c.args.name
+    bare
     (none_due g.D.Watched g.D.Writer.Writer g.D.Held.HeldFile.bytes old.core new.core old.disk new.disk old.merging new.merging
-    c.args.served.now.opens.items s stands.serves c.plan.result c.plan.ensures.core c.plan.ensures.disk
-    (c.plan.ensures.stands (history_of s) s.store.layout (record { stands = stands.serves.engine; opens = stands.merges.opens }))
+    c.args.served.now.opens.items s stands.serves c.choose.result c.choose.ensures.core c.choose.ensures.disk c.args.choice
+    (c.choose.ensures.stands (history_of s) s.store.layout (record { stands = stands.serves.engine; opens = stands.merges.opens }))
     (c.in_ok-job.was ∙ ap Ok c.in_default.is))
 
 pub returns-in_default-clause-makes : goal.returns-in_default-clause-makes
-returns-in_default-clause-makes g c s stands =
+returns-in_default-clause-makes g c s stands bare =
     let old = c.args.served.now.engine in
-    let new = c.plan.new.self in
+    let new = c.choose.new.engine in
     unplanned_makes g.D.Watched (record { only_now = g.met.D.Disk.only_now; counts_now = g.met.D.Disk.counts_now }) g.D.Held.HeldFile.bytes
-    old.core new.core old.disk new.disk c.args.served.now.opens.items s stands.serves c.plan.ensures.core c.plan.ensures.disk
-    c.args.name answers.Idle store_lines.Idle refl (not_due g c s stands)
+    old.core new.core old.disk new.disk c.args.served.now.opens.items s stands.serves c.choose.ensures.core c.choose.ensures.disk
+    c.args.choice c.args.name answers.Idle store_lines.Idle refl (not_due g c s stands bare)
 
 pub returns-in_default-clause-merges : goal.returns-in_default-clause-merges
-returns-in_default-clause-merges g c s stands =
+returns-in_default-clause-merges g c s stands bare =
     let old = c.args.served.now.engine in
-    let new = c.plan.new.self in
+    let new = c.choose.new.engine in
     unplanned_merges g.D.Writer.Writer g.D.Held.HeldFile.bytes old.merging new.merging c.args.planned.now c.args.planned.now
     (still_open g.D.Watched g.D.Writer.Writer g.D.Held.HeldFile.bytes old.core new.core old.disk new.disk old.merging new.merging
-    c.args.served.now.opens.items s stands.serves c.plan.result c.plan.ensures.core c.plan.ensures.disk
-    (c.in_ok-job.was ∙ ap Ok c.in_default.is) c.plan.ensures.merging)
-    refl s stands.merges c.args.name store_lines.Idle (not_due g c s stands)
+    c.args.served.now.opens.items s stands.serves c.choose.result c.choose.ensures.core c.choose.ensures.disk c.args.choice
+    (c.in_ok-job.was ∙ ap Ok c.in_default.is) c.choose.ensures.merging)
+    refl s stands.merges c.args.choice c.args.name store_lines.Idle (not_due g c s stands bare)
 
 pub returns-in_default-clause-carries : goal.returns-in_default-clause-carries
-returns-in_default-clause-carries g c s stands =
+returns-in_default-clause-carries g c s stands bare =
     let old = c.args.served.now.engine in
-    let new = c.plan.new.self in
+    let new = c.choose.new.engine in
     unplanned_carries g.D.Watched (record { only_now = g.met.D.Disk.only_now; counts_now = g.met.D.Disk.counts_now })
     g.D.Held.HeldFile.bytes
-    old.core new.core old.disk new.disk c.args.served.now.opens.items s stands.serves c.plan.ensures.core c.plan.ensures.disk
-    c.args.name answers.Idle store_lines.Idle refl (not_due g c s stands)
+    old.core new.core old.disk new.disk c.args.served.now.opens.items s stands.serves c.choose.ensures.core c.choose.ensures.disk
+    c.args.choice c.args.name answers.Idle store_lines.Idle refl (not_due g c s stands bare)
 
 -- ---- one was planned, and has all of its tables
 
-whole_free : (g : given.Over) (c : goal.Joined-planned g) (s : State)
-    → StandsWith g.D.Watched g.D.Writer.Writer g.D.Held.HeldFile.bytes c.args.served.now c.args.planned.now s
-    → thing_of s.store c.args.name ≡ None
-whole_free g c s stands =
-    neither_taken g.D.Writer.Writer g.D.Held.HeldFile.bytes c.args.planned.now (g.D.Watched.told c.args.served.now.engine.disk)
-    c.args.served.now.engine.core c.args.served.now.opens.items s stands.serves stands.merges.waits c.args.name
-    c.as_slice-else-is_taken.result.now c.as_slice-else-is_taken.ensures c.is_planned.result c.is_planned.ensures c.if-is_planned.false
-    (free_of c.args.served.now.opens.items c.deref.result.now c.deref.ensures.value c.as_slice.result.now c.args.name
-    c.as_slice.ensures c.is_taken.result
-    c.is_taken.ensures c.if-is_taken.false)
-
 whole_merge : (g : given.Over) (c : goal.Joined-planned g) (s : State)
-    → StandsWith g.D.Watched g.D.Writer.Writer g.D.Held.HeldFile.bytes c.args.served.now c.args.planned.now s
+    → StandsMerging g.D.Watched g.D.Writer.Writer g.D.Held.HeldFile.bytes c.args.served.now c.args.planned.now s
+    → thing_of s.store c.args.name ≡ None
     → WasMerged g.D.Watched g.D.Writer.Writer g.D.Held.HeldFile.bytes c.args.served.now.engine.disk c.make_tables.new.engine.disk
-    c.make_tables.new.engine.core c.make_tables.new.engine.merging c.make_tables.new.job s c.make_tables.result
-whole_merge g c s stands =
+    c.make_tables.new.engine.core c.make_tables.new.engine.merging c.make_tables.new.job c.args.choice s c.make_tables.result
+whole_merge g c s stands bare =
     let old = c.args.served.now.engine in
-    let new = c.plan.new.self in
+    let new = c.choose.new.engine in
     let bytes = g.D.Held.HeldFile.bytes in
     let os = c.args.served.now.opens.items in
     let h = history_of s in
     let l = s.store.layout in
-    let did = c.plan.ensures in
+    let did = c.choose.ensures in
     was_merged g.D.Watched g.D.Writer.Writer bytes old.core new.core old.disk new.disk old.merging new.merging os s stands.serves
-    c.plan.result did.core did.disk c.in-Some.job (c.in_ok-job.was ∙ ap Ok c.in-Some.is)
+    c.choose.result did.core did.disk c.args.choice c.in-Some.job (c.in_ok-job.was ∙ ap Ok c.in-Some.is)
     (did.stands h l (record { stands = stands.serves.engine; opens = stands.merges.opens }))
     (did.fits h l (record { stands = stands.serves.engine; opens = stands.merges.opens }) stands.serves.fits)
     (λ openable. did.represents h l (represents bytes (g.D.Watched.told old.disk) old.core os s stands.serves openable)
     (record { stands = stands.serves.engine; opens = stands.merges.opens }))
     (did.job h l (record { stands = stands.serves.engine; opens = stands.merges.opens }))
     (did.looks h l (record { stands = stands.serves.engine; opens = stands.merges.opens }))
-    (record { only_now = g.met.D.Disk.only_now; counts_now = g.met.D.Disk.counts_now }) c.args.name (whole_free g c s stands)
-    (free_of c.args.served.now.opens.items c.deref.result.now c.deref.ensures.value c.as_slice.result.now c.args.name
-    c.as_slice.ensures c.is_taken.result
-    c.is_taken.ensures c.if-is_taken.false)
+    (record { only_now = g.met.D.Disk.only_now; counts_now = g.met.D.Disk.counts_now }) c.args.name bare
+    (unread_of g.D.Held.HeldFile.bytes (history_of s) s.store.layout (open_in c.args.served.now.opens.items c.args.name)
+    (thing_of s.store c.args.name) (stands.serves.names.each c.args.name) bare)
     c.make_tables.new.engine.core c.make_tables.new.engine.disk c.make_tables.new.engine.merging c.make_tables.new.job c.make_tables.result
     c.make_tables.ensures.merged
 
 pub returns-in-Ok-None-clause-makes : goal.returns-in-Ok-None-clause-makes
-returns-in-Ok-None-clause-makes g c s stands =
+returns-in-Ok-None-clause-makes g c s stands bare =
     let new = c.make_tables.new.engine in
     merge_makes g.D.Watched (record { only_now = g.met.D.Disk.only_now; counts_now = g.met.D.Disk.counts_now })
     g.D.Writer.Writer g.D.Held.HeldFile.bytes
     c.args.served.now.engine.core new.core c.args.served.now.engine.disk new.disk new.merging c.make_tables.new.job
     c.args.served.now.opens.items s
-    stands.serves c.args.name (whole_free g c s stands)
-    (free_of c.args.served.now.opens.items c.deref.result.now c.deref.ensures.value c.as_slice.result.now c.args.name
-    c.as_slice.ensures c.is_taken.result
-    c.is_taken.ensures c.if-is_taken.false)
-    c.make_tables.result (whole_merge g c s stands) (c.in-Ok-None.is ∙ ap Ok c.in-Ok-None.field-0-is)
+    stands.serves c.args.choice c.args.name bare
+    (unread_of g.D.Held.HeldFile.bytes (history_of s) s.store.layout (open_in c.args.served.now.opens.items c.args.name)
+    (thing_of s.store c.args.name) (stands.serves.names.each c.args.name) bare)
+    c.make_tables.result (whole_merge g c s stands bare) (c.in-Ok-None.is ∙ ap Ok c.in-Ok-None.field-0-is)
     c.kept_count-number.result c.kept_count-number.ensures
 
 pub returns-in-Ok-None-clause-merges : goal.returns-in-Ok-None-clause-merges
-returns-in-Ok-None-clause-merges g c s stands =
+returns-in-Ok-None-clause-merges g c s stands bare =
     let new = c.make_tables.new.engine in
     merge_waits g.D.Watched (record { only_now = g.met.D.Disk.only_now; counts_now = g.met.D.Disk.counts_now })
     g.D.Writer.Writer g.D.Held.HeldFile.bytes
     c.args.served.now.engine.core new.core c.args.served.now.engine.disk new.disk new.merging c.make_tables.new.job
     c.args.served.now.opens.items s
-    stands.serves c.args.name (whole_free g c s stands)
-    (free_of c.args.served.now.opens.items c.deref.result.now c.deref.ensures.value c.as_slice.result.now c.args.name
-    c.as_slice.ensures c.is_taken.result
-    c.is_taken.ensures c.if-is_taken.false)
-    c.make_tables.result (whole_merge g c s stands) (c.in-Ok-None.is ∙ ap Ok c.in-Ok-None.field-0-is)
+    stands.serves c.args.choice c.args.name bare
+    (unread_of g.D.Held.HeldFile.bytes (history_of s) s.store.layout (open_in c.args.served.now.opens.items c.args.name)
+    (thing_of s.store c.args.name) (stands.serves.names.each c.args.name) bare)
+    c.make_tables.result (whole_merge g c s stands bare) (c.in-Ok-None.is ∙ ap Ok c.in-Ok-None.field-0-is)
     (none_waits g.D.Writer.Writer g.D.Held.HeldFile.bytes c.args.planned.now s stands.merges.waits
     (sym c.is_some.ensures ∙ c.if-is_some.false))
 
 pub returns-in-Ok-None-clause-carries : goal.returns-in-Ok-None-clause-carries
-returns-in-Ok-None-clause-carries g c s stands =
+returns-in-Ok-None-clause-carries g c s stands bare =
     let new = c.make_tables.new.engine in
     merge_carries g.D.Watched (record { only_now = g.met.D.Disk.only_now; counts_now = g.met.D.Disk.counts_now })
     g.D.Writer.Writer g.D.Held.HeldFile.bytes
     c.args.served.now.engine.core new.core c.args.served.now.engine.disk new.disk new.merging c.make_tables.new.job
     c.args.served.now.opens.items s
-    stands.serves c.args.name (whole_free g c s stands)
-    (free_of c.args.served.now.opens.items c.deref.result.now c.deref.ensures.value c.as_slice.result.now c.args.name
-    c.as_slice.ensures c.is_taken.result
-    c.is_taken.ensures c.if-is_taken.false)
-    c.make_tables.result (whole_merge g c s stands) (c.in-Ok-None.is ∙ ap Ok c.in-Ok-None.field-0-is) c.kept_count-number.result
+    stands.serves c.args.choice c.args.name bare
+    (unread_of g.D.Held.HeldFile.bytes (history_of s) s.store.layout (open_in c.args.served.now.opens.items c.args.name)
+    (thing_of s.store c.args.name) (stands.serves.names.each c.args.name) bare)
+    c.make_tables.result (whole_merge g c s stands bare) (c.in-Ok-None.is ∙ ap Ok c.in-Ok-None.field-0-is) c.kept_count-number.result
 
 pub returns-in-Ok-None-clause-handed : goal.returns-in-Ok-None-clause-handed
 returns-in-Ok-None-clause-handed g c =
@@ -237,66 +177,55 @@ returns-in-Ok-None-clause-handed g c =
 -- ---- memory ran out before a merge was planned
 
 pub returns-in_err-job-clause-carries : goal.returns-in_err-job-clause-carries
-returns-in_err-job-clause-carries g c s stands =
+returns-in_err-job-clause-carries g c s stands bare =
     subst (λ (r : Result Answer Halt). CarriesOut {T = Answer} g.D.Watched IsStored Shown IsStopped
-    c.args.served.now.engine.disk c.plan.new.self.disk s
-    (state_after s (lines.Plan c.args.name)) r) (sym (out_is c.from_residual.result c.from_residual.ensures.1))
+    c.args.served.now.engine.disk c.choose.new.engine.disk s
+    (state_after s (line_for c.args.choice c.args.name)) r) (sym (out_is c.from_residual.result c.from_residual.ensures.1))
     (unplanned_leads g.D.Watched (record { only_now = g.met.D.Disk.only_now; counts_now = g.met.D.Disk.counts_now })
-    c.args.served.now.engine.disk c.plan.new.self.disk c.plan.ensures.disk s c.args.name)
+    c.args.served.now.engine.disk c.choose.new.engine.disk c.choose.ensures.disk c.args.choice s c.args.name)
 
 -- ---- no number was left for a table
 
-exhausted_free : (g : given.Over) (c : goal.After-drop-name-inside-in-Some-make_tables-2 g) (s : State)
-    → StandsWith g.D.Watched g.D.Writer.Writer g.D.Held.HeldFile.bytes c.args.served.now c.args.planned.now s
-    → thing_of s.store c.args.name ≡ None
-exhausted_free g c s stands =
-    neither_taken g.D.Writer.Writer g.D.Held.HeldFile.bytes c.args.planned.now (g.D.Watched.told c.args.served.now.engine.disk)
-    c.args.served.now.engine.core c.args.served.now.opens.items s stands.serves stands.merges.waits c.args.name
-    c.as_slice-else-is_taken.result.now c.as_slice-else-is_taken.ensures c.is_planned.result c.is_planned.ensures c.if-is_planned.false
-    (free_of c.args.served.now.opens.items c.deref.result.now c.deref.ensures.value c.as_slice.result.now c.args.name
-    c.as_slice.ensures c.is_taken.result
-    c.is_taken.ensures c.if-is_taken.false)
-
 exhausted_merge : (g : given.Over) (c : goal.After-drop-name-inside-in-Some-make_tables-2 g) (s : State)
-    → StandsWith g.D.Watched g.D.Writer.Writer g.D.Held.HeldFile.bytes c.args.served.now c.args.planned.now s
+    → StandsMerging g.D.Watched g.D.Writer.Writer g.D.Held.HeldFile.bytes c.args.served.now c.args.planned.now s
+    → thing_of s.store c.args.name ≡ None
     → WasMerged g.D.Watched g.D.Writer.Writer g.D.Held.HeldFile.bytes c.args.served.now.engine.disk c.make_tables.new.engine.disk
-    c.make_tables.new.engine.core c.make_tables.new.engine.merging c.make_tables.new.job s c.make_tables.result
-exhausted_merge g c s stands =
+    c.make_tables.new.engine.core c.make_tables.new.engine.merging c.make_tables.new.job c.args.choice s c.make_tables.result
+exhausted_merge g c s stands bare =
     let old = c.args.served.now.engine in
-    let new = c.plan.new.self in
+    let new = c.choose.new.engine in
     let bytes = g.D.Held.HeldFile.bytes in
     let os = c.args.served.now.opens.items in
     let h = history_of s in
     let l = s.store.layout in
-    let did = c.plan.ensures in
+    let did = c.choose.ensures in
     was_merged g.D.Watched g.D.Writer.Writer bytes old.core new.core old.disk new.disk old.merging new.merging os s stands.serves
-    c.plan.result did.core did.disk c.in-Some.job (c.in_ok-job.was ∙ ap Ok c.in-Some.is)
+    c.choose.result did.core did.disk c.args.choice c.in-Some.job (c.in_ok-job.was ∙ ap Ok c.in-Some.is)
     (did.stands h l (record { stands = stands.serves.engine; opens = stands.merges.opens }))
     (did.fits h l (record { stands = stands.serves.engine; opens = stands.merges.opens }) stands.serves.fits)
     (λ openable. did.represents h l (represents bytes (g.D.Watched.told old.disk) old.core os s stands.serves openable)
     (record { stands = stands.serves.engine; opens = stands.merges.opens }))
     (did.job h l (record { stands = stands.serves.engine; opens = stands.merges.opens }))
     (did.looks h l (record { stands = stands.serves.engine; opens = stands.merges.opens }))
-    (record { only_now = g.met.D.Disk.only_now; counts_now = g.met.D.Disk.counts_now }) c.args.name (exhausted_free g c s stands)
-    (free_of c.args.served.now.opens.items c.deref.result.now c.deref.ensures.value c.as_slice.result.now c.args.name
-    c.as_slice.ensures c.is_taken.result
-    c.is_taken.ensures c.if-is_taken.false)
+    (record { only_now = g.met.D.Disk.only_now; counts_now = g.met.D.Disk.counts_now }) c.args.name bare
+    (unread_of g.D.Held.HeldFile.bytes (history_of s) s.store.layout (open_in c.args.served.now.opens.items c.args.name)
+    (thing_of s.store c.args.name) (stands.serves.names.each c.args.name) bare)
     c.make_tables.new.engine.core c.make_tables.new.engine.disk c.make_tables.new.engine.merging c.make_tables.new.job c.make_tables.result
     c.make_tables.ensures.merged
 
 pub returns-in-Ok-Some-clause-makes : goal.returns-in-Ok-Some-clause-makes
-returns-in-Ok-Some-clause-makes g c s stands =
+returns-in-Ok-Some-clause-makes g c s stands bare =
     let w = g.D.Writer.Writer in
     let bytes = g.D.Held.HeldFile.bytes in
     let watched : IsWatched g.D.Watched = record { only_now = g.met.D.Disk.only_now; counts_now = g.met.D.Disk.counts_now } in
+    let choice = c.args.choice in
     let name = c.args.name in
     let before = c.args.served.now.engine in
     let after = c.make_tables.new.engine in
     let os = c.args.served.now.opens.items in
-    let free = free_of os c.deref.result.now c.deref.ensures.value c.as_slice.result.now name
-    c.as_slice.ensures c.is_taken.result c.is_taken.ensures c.if-is_taken.false in
-    let bare = exhausted_free g c s stands in
-    let was = exhausted_merge g c s stands in
+    let free = unread_of bytes (history_of s) s.store.layout (open_in os name) (thing_of s.store name)
+    (stands.serves.names.each name) bare in
+    let was = exhausted_merge g c s stands bare in
     let did : Abandons bytes (g.D.Watched.told after.disk) (g.D.Watched.told c.abandon.new.self.disk) after.core c.abandon.new.self.core
     after.merging c.abandon.new.self.merging = record {
       stands = c.abandon.ensures.stands;
@@ -305,24 +234,24 @@ returns-in-Ok-Some-clause-makes g c s stands =
       core = c.abandon.ensures.core;
     } in
     exhausted_makes g.D.Watched watched w bytes before.disk after.disk before.core after.core after.merging os s
-    stands.serves name bare free
+    stands.serves choice name bare free
     c.make_tables.new.job c.make_tables.result was (g.D.Watched.told c.abandon.new.self.disk) c.abandon.new.self.core
     c.abandon.new.self.merging did
     c.in-Ok-Some.counter (c.in-Ok-Some.is ∙ ap Ok c.in-Ok-Some.field-0-is)
 
 pub returns-in-Ok-Some-clause-merges : goal.returns-in-Ok-Some-clause-merges
-returns-in-Ok-Some-clause-merges g c s stands =
+returns-in-Ok-Some-clause-merges g c s stands bare =
     let w = g.D.Writer.Writer in
     let bytes = g.D.Held.HeldFile.bytes in
     let watched : IsWatched g.D.Watched = record { only_now = g.met.D.Disk.only_now; counts_now = g.met.D.Disk.counts_now } in
+    let choice = c.args.choice in
     let name = c.args.name in
     let before = c.args.served.now.engine in
     let after = c.make_tables.new.engine in
     let os = c.args.served.now.opens.items in
-    let free = free_of os c.deref.result.now c.deref.ensures.value c.as_slice.result.now name
-    c.as_slice.ensures c.is_taken.result c.is_taken.ensures c.if-is_taken.false in
-    let bare = exhausted_free g c s stands in
-    let was = exhausted_merge g c s stands in
+    let free = unread_of bytes (history_of s) s.store.layout (open_in os name) (thing_of s.store name)
+    (stands.serves.names.each name) bare in
+    let was = exhausted_merge g c s stands bare in
     let none = none_waits w bytes c.args.planned.now s stands.merges.waits (sym c.is_some.ensures ∙ c.if-is_some.false) in
     let did : Abandons bytes (g.D.Watched.told after.disk) (g.D.Watched.told c.abandon.new.self.disk) after.core c.abandon.new.self.core
     after.merging c.abandon.new.self.merging = record {
@@ -331,28 +260,28 @@ returns-in-Ok-Some-clause-merges g c s stands =
       fits = c.abandon.ensures.fits;
       core = c.abandon.ensures.core;
     } in
-    let x = step_to s (lines.Plan name) in
+    let x = step_to s (line_for choice name) in
     subst (λ (p : Option _). Merges w bytes c.abandon.new.self.merging p x.state.things x.state.layout)
     (sym (none_of c.args.planned.now (sym c.is_some.ensures ∙ c.if-is_some.false)))
     (exhausted_merges g.D.Watched watched w bytes before.disk after.disk before.core after.core after.merging os s
-    stands.serves name bare free
+    stands.serves choice name bare free
     c.make_tables.new.job c.make_tables.result was (g.D.Watched.told c.abandon.new.self.disk) c.abandon.new.self.core
     c.abandon.new.self.merging did
     c.in-Ok-Some.counter (c.in-Ok-Some.is ∙ ap Ok c.in-Ok-Some.field-0-is) none)
 
 pub returns-in-Ok-Some-clause-carries : goal.returns-in-Ok-Some-clause-carries
-returns-in-Ok-Some-clause-carries g c s stands held =
+returns-in-Ok-Some-clause-carries g c s stands bare held =
     let w = g.D.Writer.Writer in
     let bytes = g.D.Held.HeldFile.bytes in
     let watched : IsWatched g.D.Watched = record { only_now = g.met.D.Disk.only_now; counts_now = g.met.D.Disk.counts_now } in
+    let choice = c.args.choice in
     let name = c.args.name in
     let before = c.args.served.now.engine in
     let after = c.make_tables.new.engine in
     let os = c.args.served.now.opens.items in
-    let free = free_of os c.deref.result.now c.deref.ensures.value c.as_slice.result.now name
-    c.as_slice.ensures c.is_taken.result c.is_taken.ensures c.if-is_taken.false in
-    let bare = exhausted_free g c s stands in
-    let was = exhausted_merge g c s stands in
+    let free = unread_of bytes (history_of s) s.store.layout (open_in os name) (thing_of s.store name)
+    (stands.serves.names.each name) bare in
+    let was = exhausted_merge g c s stands bare in
     let did : Abandons bytes (g.D.Watched.told after.disk) (g.D.Watched.told c.abandon.new.self.disk) after.core c.abandon.new.self.core
     after.merging c.abandon.new.self.merging = record {
       stands = c.abandon.ensures.stands;
@@ -360,127 +289,119 @@ returns-in-Ok-Some-clause-carries g c s stands held =
       fits = c.abandon.ensures.fits;
       core = c.abandon.ensures.core;
     } in
-    subst (λ (d : _). LeadsTo g.D.Watched IsStored Shown IsStopped before.disk d s (state_after s (lines.Plan name))
+    subst (λ (d : _). LeadsTo g.D.Watched IsStored Shown IsStopped before.disk d s (state_after s (line_for choice name))
     (Ok (answers.Exhausted c.in-Ok-Some.counter)))
     (sym c.abandon.ensures.disk)
     (exhausted_leads g.D.Watched watched w bytes before.disk after.disk before.core after.core after.merging os s
-    stands.serves name bare free
+    stands.serves choice name bare free
     c.make_tables.new.job c.make_tables.result was (g.D.Watched.told c.abandon.new.self.disk) c.abandon.new.self.core
     c.abandon.new.self.merging did
     c.in-Ok-Some.counter (c.in-Ok-Some.is ∙ ap Ok c.in-Ok-Some.field-0-is) (ap (λ (d : _). g.D.Watched.told d) c.abandon.ensures.disk) held)
 
 -- ---- it stopped without an answer
 
-stopped_free : (g : given.Over) (c : goal.After-drop-name-inside-in-Err-1 g) (s : State)
-    → StandsWith g.D.Watched g.D.Writer.Writer g.D.Held.HeldFile.bytes c.args.served.now c.args.planned.now s
-    → thing_of s.store c.args.name ≡ None
-stopped_free g c s stands =
-    neither_taken g.D.Writer.Writer g.D.Held.HeldFile.bytes c.args.planned.now (g.D.Watched.told c.args.served.now.engine.disk)
-    c.args.served.now.engine.core c.args.served.now.opens.items s stands.serves stands.merges.waits c.args.name
-    c.as_slice-else-is_taken.result.now c.as_slice-else-is_taken.ensures c.is_planned.result c.is_planned.ensures c.if-is_planned.false
-    (free_of c.args.served.now.opens.items c.deref.result.now c.deref.ensures.value c.as_slice.result.now c.args.name
-    c.as_slice.ensures c.is_taken.result
-    c.is_taken.ensures c.if-is_taken.false)
-
 stopped_merge : (g : given.Over) (c : goal.After-drop-name-inside-in-Err-1 g) (s : State)
-    → StandsWith g.D.Watched g.D.Writer.Writer g.D.Held.HeldFile.bytes c.args.served.now c.args.planned.now s
+    → StandsMerging g.D.Watched g.D.Writer.Writer g.D.Held.HeldFile.bytes c.args.served.now c.args.planned.now s
+    → thing_of s.store c.args.name ≡ None
     → WasMerged g.D.Watched g.D.Writer.Writer g.D.Held.HeldFile.bytes c.args.served.now.engine.disk c.make_tables.new.engine.disk
-    c.make_tables.new.engine.core c.make_tables.new.engine.merging c.make_tables.new.job s c.make_tables.result
-stopped_merge g c s stands =
+    c.make_tables.new.engine.core c.make_tables.new.engine.merging c.make_tables.new.job c.args.choice s c.make_tables.result
+stopped_merge g c s stands bare =
     let old = c.args.served.now.engine in
-    let new = c.plan.new.self in
+    let new = c.choose.new.engine in
     let bytes = g.D.Held.HeldFile.bytes in
     let os = c.args.served.now.opens.items in
     let h = history_of s in
     let l = s.store.layout in
-    let did = c.plan.ensures in
+    let did = c.choose.ensures in
     was_merged g.D.Watched g.D.Writer.Writer bytes old.core new.core old.disk new.disk old.merging new.merging os s stands.serves
-    c.plan.result did.core did.disk c.in-Some.job (c.in_ok-job.was ∙ ap Ok c.in-Some.is)
+    c.choose.result did.core did.disk c.args.choice c.in-Some.job (c.in_ok-job.was ∙ ap Ok c.in-Some.is)
     (did.stands h l (record { stands = stands.serves.engine; opens = stands.merges.opens }))
     (did.fits h l (record { stands = stands.serves.engine; opens = stands.merges.opens }) stands.serves.fits)
     (λ openable. did.represents h l (represents bytes (g.D.Watched.told old.disk) old.core os s stands.serves openable)
     (record { stands = stands.serves.engine; opens = stands.merges.opens }))
     (did.job h l (record { stands = stands.serves.engine; opens = stands.merges.opens }))
     (did.looks h l (record { stands = stands.serves.engine; opens = stands.merges.opens }))
-    (record { only_now = g.met.D.Disk.only_now; counts_now = g.met.D.Disk.counts_now }) c.args.name (stopped_free g c s stands)
-    (free_of c.args.served.now.opens.items c.deref.result.now c.deref.ensures.value c.as_slice.result.now c.args.name
-    c.as_slice.ensures c.is_taken.result
-    c.is_taken.ensures c.if-is_taken.false)
+    (record { only_now = g.met.D.Disk.only_now; counts_now = g.met.D.Disk.counts_now }) c.args.name bare
+    (unread_of g.D.Held.HeldFile.bytes (history_of s) s.store.layout (open_in c.args.served.now.opens.items c.args.name)
+    (thing_of s.store c.args.name) (stands.serves.names.each c.args.name) bare)
     c.make_tables.new.engine.core c.make_tables.new.engine.disk c.make_tables.new.engine.merging c.make_tables.new.job c.make_tables.result
     c.make_tables.ensures.merged
 
 pub returns-in-Err-clause-carries : goal.returns-in-Err-clause-carries
-returns-in-Err-clause-carries g c s stands held =
+returns-in-Err-clause-carries g c s stands bare held =
     let w = g.D.Writer.Writer in
     let bytes = g.D.Held.HeldFile.bytes in
     let watched : IsWatched g.D.Watched = record { only_now = g.met.D.Disk.only_now; counts_now = g.met.D.Disk.counts_now } in
+    let choice = c.args.choice in
     let name = c.args.name in
     let before = c.args.served.now.engine in
     let after = c.make_tables.new.engine in
     let os = c.args.served.now.opens.items in
-    let free = free_of os c.deref.result.now c.deref.ensures.value c.as_slice.result.now name
-    c.as_slice.ensures c.is_taken.result c.is_taken.ensures c.if-is_taken.false in
-    let bare = stopped_free g c s stands in
-    let was = stopped_merge g c s stands in
+    let free = unread_of bytes (history_of s) s.store.layout (open_in os name) (thing_of s.store name)
+    (stands.serves.names.each name) bare in
+    let was = stopped_merge g c s stands bare in
     subst (λ (d : _). LeadsTo {T = Answer} g.D.Watched IsStored Shown IsStopped before.disk d s
-    (state_after s (lines.Plan name)) (Err c.in-Err.halt))
+    (state_after s (line_for choice name)) (Err c.in-Err.halt))
     (sym c.abandon-in-Err.ensures.disk)
-    (stopped_leads g.D.Watched watched w bytes before.disk after.disk before.core after.core after.merging os s stands.serves name bare free
+    (stopped_leads g.D.Watched watched w bytes before.disk after.disk before.core after.core after.merging os s
+    stands.serves choice name bare free
     c.make_tables.new.job c.make_tables.result was c.in-Err.halt c.in-Err.is held)
 
 pub returns-in-Err-clause-sound : goal.returns-in-Err-clause-sound
-returns-in-Err-clause-sound g c s stands =
+returns-in-Err-clause-sound g c s stands bare =
     let w = g.D.Writer.Writer in
     let bytes = g.D.Held.HeldFile.bytes in
     let watched : IsWatched g.D.Watched = record { only_now = g.met.D.Disk.only_now; counts_now = g.met.D.Disk.counts_now } in
+    let choice = c.args.choice in
     let name = c.args.name in
     let before = c.args.served.now.engine in
     let after = c.make_tables.new.engine in
     let os = c.args.served.now.opens.items in
-    let free = free_of os c.deref.result.now c.deref.ensures.value c.as_slice.result.now name
-    c.as_slice.ensures c.is_taken.result c.is_taken.ensures c.if-is_taken.false in
-    let bare = stopped_free g c s stands in
-    let was = stopped_merge g c s stands in
-    stopped_sound g.D.Watched watched w bytes before.disk after.disk before.core after.core after.merging os s stands.serves name bare free
+    let free = unread_of bytes (history_of s) s.store.layout (open_in os name) (thing_of s.store name)
+    (stands.serves.names.each name) bare in
+    let was = stopped_merge g c s stands bare in
+    stopped_sound g.D.Watched watched w bytes before.disk after.disk before.core after.core after.merging os s
+    stands.serves choice name bare free
     c.make_tables.new.job c.make_tables.result was c.in-Err.halt c.in-Err.is
 
 pub returns-in-Err-clause-undamaged : goal.returns-in-Err-clause-undamaged
-returns-in-Err-clause-undamaged g c s stands =
+returns-in-Err-clause-undamaged g c s stands bare =
     let w = g.D.Writer.Writer in
     let bytes = g.D.Held.HeldFile.bytes in
     let watched : IsWatched g.D.Watched = record { only_now = g.met.D.Disk.only_now; counts_now = g.met.D.Disk.counts_now } in
+    let choice = c.args.choice in
     let name = c.args.name in
     let before = c.args.served.now.engine in
     let after = c.make_tables.new.engine in
     let os = c.args.served.now.opens.items in
-    let free = free_of os c.deref.result.now c.deref.ensures.value c.as_slice.result.now name
-    c.as_slice.ensures c.is_taken.result c.is_taken.ensures c.if-is_taken.false in
-    let bare = stopped_free g c s stands in
-    let was = stopped_merge g c s stands in
+    let free = unread_of bytes (history_of s) s.store.layout (open_in os name) (thing_of s.store name)
+    (stands.serves.names.each name) bare in
+    let was = stopped_merge g c s stands bare in
     stopped_undamaged g.D.Watched watched w bytes before.disk after.disk before.core after.core after.merging os s
-    stands.serves name bare free
+    stands.serves choice name bare free
     c.make_tables.new.job c.make_tables.result was c.in-Err.halt c.in-Err.is
 
 pub returns-in-Err-clause-fault : goal.returns-in-Err-clause-fault
 returns-in-Err-clause-fault g c s stands by =
     c.make_tables.ensures.fault
-    (ap (λ (core : Core _). core.front.halted) c.plan.ensures.core
+    (ap (λ (core : Core _). core.front.halted) c.choose.ensures.core
     ∙ not_halted g.D.Held.HeldFile.bytes c.args.served.now.engine.core (history_of s) s.store.layout
     stands.serves.engine stands.serves.running)
     (stopped_fault c.make_tables.result c.in-Err.halt c.in-Err.is by)
 
 pub returns-in-Err-clause-named : goal.returns-in-Err-clause-named
-returns-in-Err-clause-named g c s file stands is =
+returns-in-Err-clause-named g c s file stands bare is =
     let w = g.D.Writer.Writer in
     let bytes = g.D.Held.HeldFile.bytes in
     let watched : IsWatched g.D.Watched = record { only_now = g.met.D.Disk.only_now; counts_now = g.met.D.Disk.counts_now } in
+    let choice = c.args.choice in
     let name = c.args.name in
     let before = c.args.served.now.engine in
     let after = c.make_tables.new.engine in
     let os = c.args.served.now.opens.items in
-    let free = free_of os c.deref.result.now c.deref.ensures.value c.as_slice.result.now name
-    c.as_slice.ensures c.is_taken.result c.is_taken.ensures c.if-is_taken.false in
-    let bare = stopped_free g c s stands in
-    let was = stopped_merge g c s stands in
-    stopped_named g.D.Watched watched w bytes before.disk after.disk before.core after.core after.merging os s stands.serves name bare free
+    let free = unread_of bytes (history_of s) s.store.layout (open_in os name) (thing_of s.store name)
+    (stands.serves.names.each name) bare in
+    let was = stopped_merge g c s stands bare in
+    stopped_named g.D.Watched watched w bytes before.disk after.disk before.core after.core after.merging os s
+    stands.serves choice name bare free
     c.make_tables.new.job c.make_tables.result was c.in-Err.halt c.in-Err.is c.args.served.now.engine.core.back.manifest.number file is

@@ -1,0 +1,5 @@
+-- Lines as they are carried out, whichever they are.
+pub mod Moves
+pub mod Parts
+pub mod Passed
+pub mod Unmoved

@@ -1,0 +1,31 @@
+-- The name is in use exactly where it stands for something.
+use Rattle.std.proofs.Common.{◌≡◌, ◌∙◌, ap, sym}
+use Rattle.std.specs.Prelude.{Some}
+use Rattle.vl_layout.specs.Store.Lines.{Name}
+use Rattle.vl_layout.specs.Store.Things.{thing_of}
+use Rattle.vl_sequential.specs.Sequential.{history_of}
+use Rattle.vl_replay.proofs.Names.BeginMaking.{none_or_some}
+use Rattle.vl_replay.proofs.Passes.Used.{tested}
+use Rattle.vl_replay.proofs.replayer.lines.name_in_use.Goals as goal
+
+some_same : (a b : Name) → Some a ≡ Some b → a ≡ b
+some_same a b e = cc
+
+pub returns-then-not-is_used : goal.returns-then-not-is_used
+returns-then-not-is_used g c s stands name is =
+    let own : c.in-Some.name.now ≡ name = some_same c.in-Some.name.now name (c.in-Some.ensures ∙ is) in
+    none_or_some (thing_of s.store name)
+    (sym (tested g.D.Writer.Writer g.D.Held.HeldFile.bytes c.args.planned.now c.args.passing.now c.args.served.now.opens.items
+    s.store.things (history_of s) s.store.layout name stands.serves.names stands.merges.waits stands.passes.is_open
+    c.deref.result.now c.deref.ensures.value c.as_slice.result.now (c.as_slice.ensures ∙ own) c.is_used.result c.is_used.ensures)
+    ∙ c.if-not-is_used.true)
+
+pub returns : goal.returns
+returns g c s stands = (
+  sym c.in-Some.ensures ∙ ap Some (sym c.in_ok-share.ensures),
+  sym (tested g.D.Writer.Writer g.D.Held.HeldFile.bytes c.args.planned.now c.args.passing.now c.args.served.now.opens.items
+      s.store.things (history_of s) s.store.layout c.in_ok-share.field-0 stands.serves.names stands.merges.waits stands.passes.is_open
+      c.deref.result.now c.deref.ensures.value c.as_slice.result.now (c.as_slice.ensures ∙ sym c.in_ok-share.ensures)
+      c.is_used.result c.is_used.ensures)
+      ∙ c.if-not-is_used.false,
+)

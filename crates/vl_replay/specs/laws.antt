@@ -1,6 +1,0 @@
--- Laws of the definitions beside this folder, which proofs in other crates cite. Nothing here is needed to read a contract.
-pub mod Explained
-pub mod Growing
-pub mod Laws
-pub mod StartLaws
-pub mod Untabled
