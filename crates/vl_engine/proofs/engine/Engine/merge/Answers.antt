@@ -242,7 +242,8 @@ returns-in-Err-install-clause-collects g c h l is stands fits has =
     c.install.new.self.core c.given_up.new.self.core _ c.given_up.new.self.merging c.install.new.self.collecting
     c.given_up.new.self.collecting h l put.stays put.collects c.given_up.ensures.disk c.given_up.ensures.core
     (none_open c.carry_out.new.job c.carry_out.new.self.merging c.install.new.self.merging c.given_up.new.self.merging
-    c.install.new.self.removing c.given_up.new.self.removing c.in-Err-install.fail c.in-Err-install.ensures.handed c.given_up.ensures.ended) c.given_up.ensures.collecting
+    c.install.new.self.removing c.given_up.new.self.removing c.in-Err-install.fail c.in-Err-install.ensures.handed c.given_up.ensures.ended)
+    c.given_up.ensures.collecting
 
 -- which pass is open
 
