@@ -332,17 +332,18 @@ handed_back_way g old new before after job was mid (install.Raced key number) wa
 handed_back_way g old new before after job was mid (install.Exhausted counter) way handed core untouched = tt
 handed_back_way {V = V} {H = H} {W = W} g {s = s} old new before after job was mid (install.NoMemory back) way handed core
     untouched = record {
-  merge = way.merge;
-  is_open = handed.1 ∙ way.is_open;
-  drawn = subst (λ (j : Job V H W s). AllByRecursion (λ (n : ℕ). has n way.merge.lent.items ≡ true) (numbers_in j)) (sym handed.0)
-      way.drawn;
-  distinct = subst (λ (j : Job V H W s). AreDistinct (numbers_in j)) (sym handed.0) way.distinct;
-  tells = λ running state is. subst (λ (j : Job V H W s). AllByRecursion (λ (t : Synced W s). IsSome (s.file t.writer)) j.made.items)
-      (sym handed.0) (way.tells (sym (ap (λ (x : Core _). x.front.halted) core) ∙ running) state (sym (untouched tt).told ∙ is));
-  leavings_tell = λ running state is. subst (λ (j : Job V H W s). AllByRecursion (λ (f : Lent W s). IsSome (s.file f.writer))
-      j.leavings.items)
-      (sym handed.0) (way.leavings_tell (sym (ap (λ (x : Core _). x.front.halted) core) ∙ running) state (sym (untouched tt).told ∙ is));
-}
+      merge = way.merge;
+      is_open = handed.1 ∙ way.is_open;
+      drawn = subst (λ (j : Job V H W s). AllByRecursion (λ (n : ℕ). has n way.merge.lent.items ≡ true) (numbers_in j)) (sym handed.0)
+          way.drawn;
+      distinct = subst (λ (j : Job V H W s). AreDistinct (numbers_in j)) (sym handed.0) way.distinct;
+      tells = λ running state is. subst (λ (j : Job V H W s). AllByRecursion (λ (t : Synced W s). IsSome (s.file t.writer)) j.made.items)
+          (sym handed.0) (way.tells (sym (ap (λ (x : Core _). x.front.halted) core) ∙ running) state (sym (untouched tt).told ∙ is));
+      leavings_tell = λ running state is. subst (λ (j : Job V H W s). AllByRecursion (λ (f : Lent W s). IsSome (s.file f.writer))
+          j.leavings.items)
+          (sym handed.0) (way.leavings_tell (sym (ap (λ (x : Core _). x.front.halted) core) ∙ running) state
+              (sym (untouched tt).told ∙ is));
+    }
 handed_back_way g old new before after job was mid (install.Disk name) way handed core untouched = tt
 
 -- and then no merge is open, since it was given up.
