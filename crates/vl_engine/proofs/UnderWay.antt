@@ -17,12 +17,15 @@ use Rattle.vl_disk.specs.declared.name.Name.{Name}
 use Rattle.vl_disk.specs.declared.watched.Watched.{Ghosts}
 use Rattle.vl_disk.specs.declared.writer.Writer.{Ghosts as Writers}
 use Rattle.vl_engine.specs.Drawing.{DrawsCore, FreshLeavesDisk, IsLentMore, IsNewTo, IsSameJob, IsSameMerge}
-use Rattle.vl_engine.specs.Installing.{IsHandedIn, numbers_in}
+use Rattle.vl_engine.specs.Installing.{HandsBack, InstallLeavesDisk, InstallsCore, IsHandedIn, numbers_in}
 use Rattle.vl_engine.specs.Merging.{IsJustOpen}
-use Rattle.vl_engine.specs.UnderWay.{IsUnderWay}
+use Rattle.vl_engine.specs.UnderWay.{GivesUp, IfHandedBack, IsUnderWay}
+use Rattle.vl_engine.specs.declared.fails.InstallFail.TheVariants as install
+use Rattle.vl_engine.specs.declared.fails.InstallFail.{InstallFail}
 use Rattle.vl_engine.specs.declared.fails.StepFail.TheVariants as fails
 use Rattle.vl_engine.specs.declared.fails.StepFail.{StepFail}
 use Rattle.vl_engine.specs.declared.open.OpenMerge.{OpenMerge}
+use Rattle.vl_engine.specs.declared.open.Removing.{Removing}
 use Rattle.vl_layout.specs.Jobs.{AreDistinct}
 use Rattle.vl_model.specs.Numbers.{has}
 
@@ -316,3 +319,38 @@ quiet_draw g s old new before after (fails.Disk name) core untouched running =
   where
     never : Some name ≡ None → ⊥
     never e = cc
+
+-- ---- an install that failed
+
+-- Where it handed the job back, this is under way yet,
+pub handed_back_way : {D V H W : Type 0} (g : Ghosts D) {s : Writers W} (old new : D) (before after : Core H) (job : Job V H W s)
+    (was mid : Option OpenMerge) (fail : InstallFail V H W s) → IsHandedIn g s old before.front.halted was job
+    → HandsBack job was mid (Err fail) → InstallsCore before after (Err fail)
+    → (InstallLeavesDisk (Err fail) → ChangesNothing g old new ⊥) → IfHandedBack g s new after.front.halted mid fail
+handed_back_way g old new before after job was mid (install.Halted name) way handed core untouched = tt
+handed_back_way g old new before after job was mid (install.Raced key number) way handed core untouched = tt
+handed_back_way g old new before after job was mid (install.Exhausted counter) way handed core untouched = tt
+handed_back_way {V = V} {H = H} {W = W} g {s = s} old new before after job was mid (install.NoMemory back) way handed core
+    untouched = record {
+      merge = way.merge;
+      is_open = handed.1 ∙ way.is_open;
+      drawn = subst (λ (j : Job V H W s). AllByRecursion (λ (n : ℕ). has n way.merge.lent.items ≡ true) (numbers_in j)) (sym handed.0)
+          way.drawn;
+      distinct = subst (λ (j : Job V H W s). AreDistinct (numbers_in j)) (sym handed.0) way.distinct;
+      tells = λ running state is. subst (λ (j : Job V H W s). AllByRecursion (λ (t : Synced W s). IsSome (s.file t.writer)) j.made.items)
+          (sym handed.0) (way.tells (sym (ap (λ (x : Core _). x.front.halted) core) ∙ running) state (sym (untouched tt).told ∙ is));
+      leavings_tell = λ running state is. subst (λ (j : Job V H W s). AllByRecursion (λ (f : Lent W s). IsSome (s.file f.writer))
+          j.leavings.items)
+          (sym handed.0) (way.leavings_tell (sym (ap (λ (x : Core _). x.front.halted) core) ∙ running) state
+              (sym (untouched tt).told ∙ is));
+    }
+handed_back_way g old new before after job was mid (install.Disk name) way handed core untouched = tt
+
+-- and then no merge is open, since it was given up.
+pub none_open : {V H W : Type 0} {s : Writers W} (job : Job V H W s) (was mid later : Option OpenMerge) (kept now : Removing (Lent W s))
+    (fail : InstallFail V H W s) → HandsBack job was mid (Err fail) → GivesUp fail kept now mid later → later ≡ None
+none_open job was mid later kept now (install.Halted name) handed ended = ended.1 ∙ handed
+none_open job was mid later kept now (install.Raced key number) handed ended = ended.1 ∙ handed
+none_open job was mid later kept now (install.Exhausted counter) handed ended = ended.1 ∙ handed
+none_open job was mid later kept now (install.NoMemory back) handed ended = ended.2
+none_open job was mid later kept now (install.Disk name) handed ended = ended.1 ∙ handed

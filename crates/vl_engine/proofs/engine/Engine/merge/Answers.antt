@@ -3,7 +3,7 @@ use Rattle.vl_seglog.specs.declared.sealed.SealedLog.{SealedLog}
 use Rattle.vl_compact.specs.Progress.{made_of}
 use Rattle.vl_disk.specs.declared.errors.NoMemory.{NoMemory}
 use Rattle.vl_core.specs.laws.Carrying.{IsWatched}
-use Rattle.vl_engine.proofs.UnderWay.{just_planned}
+use Rattle.vl_engine.proofs.UnderWay.{handed_back_way, just_planned, none_open}
 use Rattle.vl_core.specs.declared.kept.Core.{Core}
 use Rattle.vl_engine.proofs.Whole.{begun, collects_so, given_up, given_up_collecting, goes_on, none_kept, put_in}
 use Rattle.vl_engine.proofs.Switching.{install_idle}
@@ -108,7 +108,9 @@ returns-in-Err-install-clause-stays g c h l is stands fits =
     makes.open_job.job (made_of c.carry_out.new.job makes.open_job.job) _ _
     (c.in-Err-install.ensures.carries h s.layout makes.open_job s.represents s.stands makes.is_open whole lent)
     (c.in-Err-install.ensures.fits h s.layout makes.open_job s.stands makes.is_open whole lent s.fits))
-    c.given_up.ensures.disk c.given_up.ensures.core c.given_up.ensures.merging
+    c.given_up.ensures.disk c.given_up.ensures.core
+    (none_open c.carry_out.new.job c.carry_out.new.self.merging c.install.new.self.merging c.given_up.new.self.merging
+    c.install.new.self.removing c.given_up.new.self.removing c.in-Err-install.fail c.in-Err-install.ensures.handed c.given_up.ensures.ended)
 
 -- how many entries it kept
 
@@ -239,7 +241,9 @@ returns-in-Err-install-clause-collects g c h l is stands fits has =
     given_up_collecting g.D.Watched bytes c.args.self.now.disk c.install.new.self.disk c.given_up.new.self.disk
     c.install.new.self.core c.given_up.new.self.core _ c.given_up.new.self.merging c.install.new.self.collecting
     c.given_up.new.self.collecting h l put.stays put.collects c.given_up.ensures.disk c.given_up.ensures.core
-    c.given_up.ensures.merging c.given_up.ensures.collecting
+    (none_open c.carry_out.new.job c.carry_out.new.self.merging c.install.new.self.merging c.given_up.new.self.merging
+    c.install.new.self.removing c.given_up.new.self.removing c.in-Err-install.fail c.in-Err-install.ensures.handed c.given_up.ensures.ended)
+    c.given_up.ensures.collecting
 
 -- which pass is open
 
@@ -262,3 +266,10 @@ pub returns-in-Err-install-clause-passing : goal.returns-in-Err-install-clause-p
 returns-in-Err-install-clause-passing g c =
     ap (λ (k : Collecting). k.passing) c.given_up.ensures.collecting ∙ c.in-Err-install.ensures.passing
     ∙ ap (λ (k : Collecting). k.passing) (c.carry_out.ensures.collecting ∙ c.plan.ensures.collecting)
+
+pub given_up-requires : goal.given_up-requires
+given_up-requires g c =
+    handed_back_way g.D.Watched c.carry_out.new.self.disk c.install.new.self.disk c.carry_out.new.self.core c.install.new.self.core
+    c.carry_out.new.job c.carry_out.new.self.merging c.install.new.self.merging c.in-Err-install.fail
+    c.in_default-carry_out.ensures.handed c.in-Err-install.ensures.handed c.in-Err-install.ensures.core
+    c.in-Err-install.ensures.untouched
