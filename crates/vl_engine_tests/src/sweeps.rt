@@ -5,6 +5,7 @@ use std::test::Fail;
 use vl_disk::Name;
 use vl_engine::{Done, Engine, SweepFail};
 use vl_mem::{MemDisk, Outcome};
+use vl_model::Value;
 
 /// What the tests' stores are over.
 type Store = Engine<MemDisk>;
@@ -26,14 +27,22 @@ fn flushed(store: &mut Store) -> bool {
         && matches!(store.flush(), Ok(Some(_)))
 }
 
+/// Whether the value was read.
+fn is_read(found: &Option<Option<Value>>) -> bool {
+    match found {
+        Some(Some(value)) => value.as_slice() == LONG.as_slice(),
+        _ => false,
+    }
+}
+
 /// Whether the key has the value.
 fn reads(store: &mut Store) -> bool {
     let Ok(mut view) = store.view() else {
         return false;
     };
-    let found = view.get(b"a");
+    let found = view.get(b"a").ok();
     store.release(view);
-    matches!(found, Ok(Some(value)) if value.as_slice() == LONG.as_slice())
+    is_read(&found)
 }
 
 /// Moves the one value out of its log, and has a sweep remove nothing: the table leads to it.
@@ -60,11 +69,13 @@ fn drained(store: &mut Store) -> bool {
     let Ok(Some(mut job)) = store.drain(1) else {
         return false;
     };
-    if store.carry_out(&mut job).is_err() {
-        store.abandon(job);
-        return false;
+    match store.carry_out(&mut job) {
+        Ok(()) => store.install(job).is_ok(),
+        Err(_) => {
+            store.abandon(job);
+            false
+        }
     }
-    store.install(job).is_ok()
 }
 
 /// A store over a disk that fails at these of its changing calls.
@@ -95,16 +106,13 @@ fn removes_behind_a_view(alloc: Global) -> Option<bool> {
     let held = moved(alloc, &mut store) && drained(&mut store) && store.sweep() == Ok(0);
     let found = view.get(b"a").ok();
     store.release(view);
-    let seen = matches!(found, Some(Some(value)) if value.as_slice() == LONG.as_slice());
-    Some(begun && held && seen && store.sweep() == Ok(2) && reads(&mut store))
+    Some(begun && held && is_read(&found) && store.sweep() == Ok(2) && reads(&mut store))
 }
 
 /// Has four tables merged to one, which is given up.
 fn given_up(store: &mut Store) -> bool {
-    for _ in 0..4 {
-        if !flushed(store) {
-            return false;
-        }
+    if !(flushed(store) && flushed(store) && flushed(store) && flushed(store)) {
+        return false;
     }
     let Ok(Some(mut job)) = store.plan() else {
         return false;
