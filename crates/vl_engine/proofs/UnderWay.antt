@@ -342,7 +342,7 @@ handed_back_way {V = V} {H = H} {W = W} g {s = s} old new before after job was m
       leavings_tell = λ running state is. subst (λ (j : Job V H W s). AllByRecursion (λ (f : Lent W s). IsSome (s.file f.writer))
           j.leavings.items)
           (sym handed.0) (way.leavings_tell (sym (ap (λ (x : Core _). x.front.halted) core) ∙ running) state
-              (sym (untouched tt).told ∙ is));
+          (sym (untouched tt).told ∙ is));
     }
 handed_back_way g old new before after job was mid (install.Disk name) way handed core untouched = tt
 
