@@ -1,6 +1,6 @@
 use Rattle.std.proofs.Common.{◌≢◌, ◌∙◌, ℕ, List, refl, ap, arith, subst, sym}
 use Rattle.std.specs.Prelude.{Some}
-use Rattle.vl_sequential.specs.Endings.{EndsAs, Evidence, no_memory_line}
+use Rattle.vl_sequential.specs.Endings.{EndsAs, Evidence, TheSource, culprit_of, no_memory_line}
 use Rattle.vl_sequential.specs.declared.ending.Ending.{Ending}
 use Rattle.vl_sequential.specs.declared.ending.OnFault.{OnFault}
 use Rattle.vl_sequential.specs.laws.Laws.{keeps_up_at_first}
@@ -10,8 +10,8 @@ use Rattle.vl_sequential.specs.Runs.{script_of, outside}
 use Rattle.vl_sequential.specs.Steps.{kept}
 use Rattle.vl_sequential.specs.Stored.{IsStopped, IsStored}
 use Rattle.vl_core.specs.Shown.{Shown}
-use Rattle.vl_sequential.specs.declared.ending.Ending.TheVariants.{NoMemory, ReaderFault}
-use Rattle.vl_sequential.specs.laws.Ends.{finish_counts, finished, line_leaves_disk, or_cut, otherwise_as, otherwise_counts}
+use Rattle.vl_sequential.specs.declared.ending.Ending.TheVariants.{NoMemory, ReaderFault, Refused}
+use Rattle.vl_sequential.specs.laws.Ends.{counts_none, finish_counts, finished, line_leaves_disk, or_cut, otherwise_as, otherwise_counts}
 use Rattle.vl_sequential.specs.laws.ShownDisk.{shown_stays, stored_exactly}
 use Rattle.vl_replay.proofs.Runs.ReadingOn.{finished_otherwise, read_nothing, reads_nothing}
 use Rattle.vl_sequential.specs.laws.Stepping.{step_apart}
@@ -108,6 +108,15 @@ returns-in-Some-clause-input g c input told = c.in-Some.ensures.reads input
     (streams g.S.Source g.K.Sink c.args.source.now c.args.sink.now) (c.lines.invariant.has_read input told)
 
 -- ---- the faults that are counted, and the measure
+
+pub returns-in_default-clause-source_faults : goal.returns-in_default-clause-source_faults
+returns-in_default-clause-source_faults g c =
+    counts_none TheSource c.finish.result (g.S.Source.faults c.args.source.now)
+    (or_cut g.K.Sink _ _ _ NoMemory c.finish.result (λ (e : Ending). culprit_of e ≢ TheSource) c.finish.ensures (λ e. cc) (λ e. cc))
+
+pub returns-in_default-clause-not_the_files : goal.returns-in_default-clause-not_the_files
+returns-in_default-clause-not_the_files g c refusal is =
+    or_cut g.K.Sink _ _ _ NoMemory c.finish.result (λ (e : Ending). e ≢ Refused refusal) c.finish.ensures (λ e. cc) (λ e. cc) is
 
 pub returns-in_default-clause-sink_faults : goal.returns-in_default-clause-sink_faults
 returns-in_default-clause-sink_faults g c = finish_counts g.K.Sink _ _ _ NoMemory c.finish.result (λ e. cc) c.finish.ensures
