@@ -1,6 +1,7 @@
 -- What a table of the oldest memtable is made of: in memory, and on the disk.
 use Rattle.std.specs.Prelude.{◌≡◌, ℕ, ◌+◌, ◌-◌, ◌^◌, ◌∷◌, List, drop, length, map, min, Option, Some}
 use Rattle.std.specs.Arc.{arc_value}
+use Rattle.std.specs.List.{filter}
 use Rattle.std.specs.Option.{ForSome}
 use Rattle.vl_back.specs.Staging.{IsStagedFlush}
 use Rattle.vl_back.specs.Writing.{WhileWriting, flush_files, written}
@@ -22,6 +23,7 @@ use Rattle.vl_model.specs.Placement.{placed}
 use Rattle.vl_table.specs.Tables.{shape_of}
 use Rattle.vl_table.specs.declared.table.Table.{Table}
 use Rattle.vl_version.specs.Flushing.{IsFlushed}
+use Rattle.vl_version.specs.Needed.{head_of, is_kept}
 use Rattle.vl_version.specs.Oldest.{oldest_frozen}
 use Rattle.vl_version.specs.declared.flushing.FlushedVersion.{FlushedVersion}
 use Rattle.vl_version.specs.declared.version.Version.{Version}
@@ -65,15 +67,19 @@ pub record IsTableHeld {H : Type 0} (bytes : H → Option (List ℕ)) (told : Op
   pub shape : shape_of table ≡ arc_value staged.table.shape
   pub held : ForSome told (λ _. bytes table.held ≡ Some staged.table.bytes.items)
 
--- the version has the table in front of level 0, and the oldest memtable no more
-pub record IsNextVersion {H : Type 0} (bytes : H → Option (List ℕ)) (before after : Version H) (table : Table H) : Type 0 where
+-- The version has the table in front of level 0, and the oldest memtable no more. It let go of logs that it doesn't need, where the
+-- active one has this number.
+pub record IsNextVersion {H : Type 0} (bytes : H → Option (List ℕ)) (number : ℕ) (before after : Version H) (table : Table H)
+    : Type 0 where
   pub next : FlushedVersion H
   pub is : IsFlushed bytes before next
   pub active : after.active ≡ next.active
   pub frozen : after.behind.frozen.items ≡ next.frozen.items
   pub newest : after.behind.levels.newest.items ≡ table ∷ next.levels.newest.items
   pub deeper : after.behind.levels.deeper ≡ next.levels.deeper
-  pub logs : after.behind.logs.items ≡ next.logs.items
+  pub idle : List ℕ
+  pub logs : after.behind.logs.items
+      ≡ filter (is_kept idle (head_of number next.frozen.items) after.behind.levels) next.logs.items
 
 -- the manifest is longer by the frame, says what was staged, and one log fewer waits
 pub record IsNextBack (before after : Back) (staged : StagedFlush) : Type 0 where
@@ -99,7 +105,7 @@ pub record IsTableMade {D H : Type 0} (g : Ghosts D) (bytes : H → Option (List
   pub held : IsTableHeld bytes (g.told writes.mid) staged table
   pub front : after.front ≡ before.front
   pub back : IsNextBack before.back after.back staged
-  pub version : IsNextVersion bytes before.version after.version table
+  pub version : IsNextVersion bytes before.front.log.number before.version after.version table
 
 -- The disk has the table of the oldest memtable's entries, and the frame of the switch that names it at the manifest's end,
 -- and nothing else of it was changed. The table has the next number.

@@ -23,6 +23,7 @@ pub mod FrontLaws
 pub mod Halted
 pub mod Headed
 pub mod HeldLaws
+pub mod IdleLaws
 pub mod InstallBeside
 pub mod InstallDiskEdits
 pub mod InstallKeeps
@@ -52,6 +53,7 @@ pub mod MemtableSpelled
 pub mod Merged
 pub mod MovedLaws
 pub mod MovedSettled
+pub mod NeededLogs
 pub mod Opened
 pub mod OpensAgain
 pub mod PlanSources

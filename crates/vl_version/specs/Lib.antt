@@ -5,6 +5,7 @@ pub mod Flushing
 pub mod Gathered
 pub mod Gives
 pub mod Near
+pub mod Needed
 pub mod laws
 pub mod levels
 pub mod Newest

@@ -4,6 +4,7 @@ ghost use Rattle.std.specs.Prelude.{◌≡◌, ◌<◌, IfOk, vec_capacity, vec_
 ghost use Rattle.vl_version.specs.Oldest.{but_oldest};
 
 use crate::behind::{Behind, SharedBehind};
+use crate::needed::{head_of, let_go};
 use crate::shared::{share_frozen, share_logs};
 use crate::{Levels, Version};
 use std::alloc::{AllocError, Global};
@@ -54,25 +55,31 @@ impl<H: HeldFile> Version<H> {
 
 impl<H: HeldFile> FlushedVersion<H> {
     ghost use Rattle.std.specs.Prelude.{◌≡◌, ◌∷◌};
+    ghost use Rattle.std.specs.List.{filter};
+    ghost use Rattle.vl_version.specs.Needed.{head_of, is_kept};
 
-    /// The version with this table in front of level 0. It wants no memory.
-    pub fn with_table(self, table: Table<H>) -> Version<H>
+    /// The version with this table in front of level 0, where the active log has this number. Of the logs that are idle, as far as
+    /// the caller knows, it holds just those that it needs. It wants no memory.
+    pub fn with_table(self, table: Table<H>, active: u32, idle: &[u32]) -> Version<H>
         ensures active { result.active ≡ self.active }
         ensures frozen { result.behind.frozen.items ≡ self.frozen.items }
         ensures newest { result.behind.levels.newest.items ≡ table ∷ self.levels.newest.items }
         ensures deeper { result.behind.levels.deeper ≡ self.levels.deeper }
-        ensures logs { result.behind.logs.items ≡ self.logs.items }
+        ensures logs { result.behind.logs.items
+            ≡ filter (is_kept idle.now (head_of active self.frozen.items) result.behind.levels) self.logs.items }
     {
         let FlushedVersion {
-            active,
+            active: memtable,
             frozen,
             levels,
             logs,
         } = self;
         let mut levels = levels;
         levels.put_newest(table);
+        let mut logs = logs;
+        let_go(&mut logs, idle, head_of(active, &frozen), &levels);
         Version {
-            active,
+            active: memtable,
             behind: SharedBehind::new(Behind {
                 frozen,
                 levels,

@@ -25,6 +25,7 @@ mod found;
 mod frozen;
 mod gather;
 mod levels;
+mod needed;
 mod newest;
 mod own;
 mod owned;

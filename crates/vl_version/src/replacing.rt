@@ -1,9 +1,12 @@
 //! What stands behind an install, by which the tables that a merge made take the place of others.
 
 ghost use Rattle.std.specs.Prelude.{◌≡◌, IfOk};
+ghost use Rattle.std.specs.List.{filter};
+ghost use Rattle.vl_version.specs.Needed.{head_of, is_kept};
 ghost use Rattle.vl_version.specs.Replacing.{IsReplaced};
 
 use crate::behind::{Behind, SharedBehind};
+use crate::needed::{head_of, let_go};
 use crate::shared::{share_frozen, share_logs};
 use crate::{Levels, Version};
 use std::alloc::{AllocError, Global};
@@ -37,20 +40,24 @@ impl<H: HeldFile> Version<H> {
 }
 
 impl<H: HeldFile> ReplacedVersion<H> {
-    /// The version with these levels. It wants no memory.
-    pub fn with_levels(self, levels: Levels<H>) -> Version<H>
+    /// The version with these levels, where the active log has this number. Of the logs that are idle, as far as the caller knows, it
+    /// holds just those that it needs. It wants no memory.
+    pub fn with_levels(self, levels: Levels<H>, active: u32, idle: &[u32]) -> Version<H>
         ensures active { result.active ≡ self.active }
         ensures frozen { result.behind.frozen.items ≡ self.frozen.items }
         ensures levels { result.behind.levels ≡ levels }
-        ensures logs { result.behind.logs.items ≡ self.logs.items }
+        ensures logs { result.behind.logs.items
+            ≡ filter (is_kept idle.now (head_of active self.frozen.items) levels) self.logs.items }
     {
         let ReplacedVersion {
-            active,
+            active: memtable,
             frozen,
             logs,
         } = self;
+        let mut logs = logs;
+        let_go(&mut logs, idle, head_of(active, &frozen), &levels);
         Version {
-            active,
+            active: memtable,
             behind: SharedBehind::new(Behind {
                 frozen,
                 levels,

@@ -42,6 +42,7 @@ use Rattle.vl_recover.specs.crash.Held.{DurableAs, HoldsLogs, HoldsStore, Needs,
 use Rattle.vl_recover.specs.crash.Starts.{AllStay, MayOpen, StaysAsItIs}
 use Rattle.vl_recover.specs.laws.crash.AlikeLaws.{shows_same}
 use Rattle.vl_recover.specs.laws.opening.HeldLaws.{held_current, held_may_open, held_opens, held_standing, left_settled}
+use Rattle.vl_recover.specs.laws.opening.IdleLaws.{StandAmongIdle, idle_filled, idle_walked}
 use Rattle.vl_recover.specs.laws.opening.OpeningLaws.{is_opened, single_opening, some_same}
 use Rattle.vl_recover.specs.laws.opening.ReadImage.{read_image}
 use Rattle.vl_recover.specs.laws.repairing.StageLaws.{ok_same}
@@ -203,11 +204,14 @@ module _ (b : Base) (l : Layout) (h : History) (base : IsBase b l h) where
             says = (Ok b.state, says, refl);
             levels = levels_left;
             led = logs_left;
-            standing = map log_as_held (logs_from b l);
-            stands = held_standing b.state.head (logs_from b l) disk image logs may;
-            walk = base.goes;
-            logs_are = refl;
+            standing = among.found;
+            stands = among.stand;
+            walk = idle_walked b.state.covered among.found (map log_as_held (logs_from b l)) among.with_idle ∙ base.goes;
+            logs_are = sym (idle_filled among.found (map log_as_held (logs_from b l)) among.with_idle);
           })
+        where
+          among : StandAmongIdle image b.state.head (map log_as_held (logs_from b l))
+          among = held_standing b.state.head (logs_from b l) disk image logs may
 
     -- The logs that tables lead into stay as they are at an opening.
     pub led_stay : AllStay image (led_into (found_levels l.levels))

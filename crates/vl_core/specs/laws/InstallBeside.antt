@@ -1,6 +1,6 @@
 -- Tables that a job makes beside a layout, of numbers that none of its tables has: while their files are made, lent and taken
 -- back the disk holds the layout, and whatever a crash leaves shows the history.
-use Rattle.std.specs.Prelude.{◌≡◌, ◌≢◌, ◌<◌, ◌≤◌, ℕ, List, [], ◌∷◌, map, Some, Ok, refl}
+use Rattle.std.specs.Prelude.{◌≡◌, ◌≢◌, ◌<◌, ℕ, List, [], ◌∷◌, map, Some, Ok, refl}
 use Rattle.std.specs.FinMap.{get}
 use Rattle.std.specs.List.{AllByRecursion}
 use Rattle.std.specs.Option.{ForSome}
@@ -37,9 +37,9 @@ use Rattle.vl_manifest.specs.Manifest.{manifest_bytes}
 use Rattle.vl_manifest.specs.declared.state.ManifestState.{ManifestState}
 use Rattle.vl_model.specs.History.{History, last_number}
 use Rattle.vl_recover.specs.crash.Held.{HoldsManifest, IsSettled}
-use Rattle.vl_recover.specs.crash.Starts.{MayOpen, MayStand}
+use Rattle.vl_recover.specs.crash.Starts.{MayOpen, MayStand, OnlyIdleGone}
 use Rattle.vl_recover.specs.laws.crash.OneName.{elsewhere_then, made_elsewhere}
-use Rattle.vl_recover.specs.laws.opening.HeldLaws.{held_state, none_removed, settled_may_stand}
+use Rattle.vl_recover.specs.laws.opening.HeldLaws.{held_state, only_idle_gone, settled_may_stand}
 use Rattle.vl_recover.specs.laws.opening.OpeningLaws.{some_none, some_same}
 use Rattle.vl_recover.specs.opening.Opening.{IsNamed, Opening, Opens}
 
@@ -115,8 +115,8 @@ module _ (b : Base) (l : Layout) (h : History) (disk : DiskState) (n : ℕ) (bas
         (ap (λ (x : ManifestState). x.levels) (state_now read o is opens) ∙ base.levels) named) stands)
         (below_lead b.manifest.number now lawful (settled (manifest_bytes b.manifest.number (frames_of b)))
         (base_beside now same).has.durable (base_beside now same).above)
-        (λ read o is opens m from. none_removed b.state.head (logs_from b l) now lawful (files_beside now same).logs m
-        (subst (λ (x : ManifestState). x.head ≤ m) (state_now read o is opens) from))
+        (λ read o is opens. subst (λ (x : ManifestState). OnlyIdleGone x.head now) (sym (state_now read o is opens))
+        (only_idle_gone b.state.head (logs_from b l) now lawful (files_beside now same).logs))
         (λ read is. (
           h,
           last_number h,

@@ -1,6 +1,6 @@
 -- A version that has a layout has the one behind a flush, with the flushed log's table in front and its memtable gone.
-use Rattle.std.specs.Prelude.{◌≡◌, ℕ, List, [], ◌∷◌, map, Option, Some}
-use Rattle.std.specs.List.{AllZip}
+use Rattle.std.specs.Prelude.{◌≡◌, ◌+◌, ℕ, List, [], ◌∷◌, map, Option, Some, refl}
+use Rattle.std.specs.List.{AllByRecursion, AllZip, filter}
 use Rattle.std.proofs.Common.{sym, ap, subst, ◌∙◌}
 use Rattle.vl_block.specs.Bytes.{table_bytes}
 use Rattle.vl_block.specs.Shapes.{IsShapeOf}
@@ -11,12 +11,14 @@ use Rattle.vl_disk.specs.DiskState.{DiskState}
 use Rattle.vl_core.specs.FlushFacts.{IsNextVersion, IsTableHeld}
 use Rattle.vl_core.specs.Laid.{AreLevelsOf, AreTablesOf, HasLayout, IsMemtableOf, IsTableOf, by_level}
 use Rattle.vl_core.specs.laws.FlushTidy.{IsWider}
+use Rattle.vl_core.specs.laws.NeededLogs.{laid_left, none_idle}
 use Rattle.vl_core.specs.laws.SharedLaws.{below_shared, levels_shared, logs_shared, order_shared, told_shared}
 use Rattle.vl_layout.specs.Levels.{in_front}
 use Rattle.vl_layout.specs.Logs.{memtable}
-use Rattle.vl_layout.specs.Rulings.Flush.{flushed, flushed_table}
-use Rattle.vl_layout.specs.Sources.{but_oldest, oldest}
-use Rattle.vl_layout.specs.Tidy.{sealed}
+use Rattle.vl_layout.specs.Rulings.Flush.{covered_by, flushed, flushed_table}
+use Rattle.vl_layout.specs.Sources.{but_oldest, oldest, tables}
+use Rattle.vl_layout.specs.Stock.{IsFalling}
+use Rattle.vl_layout.specs.Tidy.{IsTrueTable, sealed}
 use Rattle.vl_layout.specs.declared.layout.Layout.{Layout}
 use Rattle.vl_layout.specs.declared.segment.Segment.{Segment}
 use Rattle.vl_layout.specs.declared.table.Table as laid
@@ -27,10 +29,21 @@ use Rattle.vl_model.specs.Placement.{placed}
 use Rattle.vl_model.specs.declared.entry.Entry.{Entry}
 use Rattle.vl_table.specs.Tables.{number_of, shape_of}
 use Rattle.vl_table.specs.declared.table.Table.{Table}
+use Rattle.vl_version.specs.Needed.{head_of, is_kept}
 use Rattle.vl_version.specs.Oldest as version_oldest
-use Rattle.vl_version.specs.Shared.{AreSameLogs}
 use Rattle.vl_version.specs.declared.version.Version.{Version}
 use Rattle.vl_version.specs.levels.LevelTables.{AreAllApart}
+
+-- the layout behind a flush, before logs retire
+abbrev with_table : Layout → Segment → Layout
+with_table l s = record l {
+  frozen = but_oldest l.frozen;
+  flushed = s ∷ l.flushed;
+  levels = in_front (flushed_table l s) l.levels;
+  covered = covered_by s.frames l.covered;
+  next_table = l.next_table + 1;
+  version_number = l.version_number + 1;
+}
 
 -- what lies side by side does so without the last of each,
 zip_but_oldest : (xs : List FrozenLog) (ys : List Segment) → AllZip IsMemtableOf xs ys
@@ -98,7 +111,7 @@ module _ {H : Type 0} (bytes : H → Option (List ℕ)) where
 
   module _ (before after : Version H) (l : Layout) (s : Segment) (has : HasLayout bytes before l) (level : List laid.Table)
       (deeper : List (List laid.Table)) (are : l.levels ≡ level ∷ deeper) (stay : IsWider (sealed (flushed l s)) (sealed l))
-      (table : Table H) (made : IsNextVersion bytes before after table) where
+      (active : ℕ) (active_is : active ≡ l.active.number) (table : Table H) (made : IsNextVersion bytes active before after table) where
     -- the levels that the table is put in front of
     levels_are : AllZip (AreTablesOf bytes) (by_level made.next.levels) (level ∷ deeper)
     levels_are = subst (AreLevelsOf bytes made.next.levels) are
@@ -112,12 +125,12 @@ module _ {H : Type 0} (bytes : H → Option (List ℕ)) where
     in_front_is : (flushed l s).levels ≡ (flushed_table l s ∷ level) ∷ deeper
     in_front_is = ap (in_front (flushed_table l s)) are
 
-    logs_then : AreSameLogs bytes before.behind.logs.items after.behind.logs.items
-    logs_then = subst (AreSameLogs bytes before.behind.logs.items) (sym made.logs) made.is.logs
+    -- the version before it lets go of logs
+    abbrev whole : Version H
+    whole = record after { behind = record after.behind { logs = made.next.logs } }
 
-    -- where the new table is the layout's
-    pub laid_flushed : IsTableOf bytes table (flushed_table l s) → HasLayout bytes after (flushed l s)
-    laid_flushed new = record {
+    laid_whole : IsTableOf bytes table (flushed_table l s) → HasLayout bytes whole (flushed l s)
+    laid_whole new = record {
       active = ap (λ (m : Contents). m.entries) (made.active ∙ made.is.active) ∙ has.active;
       frozen = subst (λ (fs : List FrozenLog). AllZip IsMemtableOf fs (but_oldest l.frozen)) (sym (made.frozen ∙ made.is.frozen))
           (zip_but_oldest before.behind.frozen.items l.frozen has.frozen);
@@ -126,7 +139,15 @@ module _ {H : Type 0} (bytes : H → Option (List ℕ)) where
           (sym in_front_is) ((new, levels_are.0), levels_are.1));
       in_order = subst AreAllApart (sym (ap (λ d. d.items) made.deeper))
           (order_shared bytes before.behind.levels made.next.levels made.is.levels has.in_order);
-      logs = λ n x at. logs_shared bytes before.behind.logs.items after.behind.logs.items logs_then n x (has.logs n x (stay n x at));
-      told = told_shared bytes before.behind.logs.items after.behind.logs.items logs_then has.told;
-      below = below_shared bytes l.active.number before.behind.logs.items after.behind.logs.items logs_then has.below;
+      logs = λ n x at. logs_shared bytes before.behind.logs.items made.next.logs.items made.is.logs n x (has.logs n x (stay n x at));
+      told = told_shared bytes before.behind.logs.items made.next.logs.items made.is.logs has.told;
+      below = below_shared bytes l.active.number before.behind.logs.items made.next.logs.items made.is.logs has.below;
     }
+
+    -- where the new table is the layout's, which has true tables
+    pub laid_flushed : IsTableOf bytes table (flushed_table l s) → AllByRecursion IsTrueTable (tables (flushed l s))
+        → IsFalling (l.active ∷ but_oldest l.frozen) → HasLayout bytes after (flushed l s)
+    laid_flushed new so falling =
+        laid_left bytes whole after (flushed l s) (laid_whole new) refl refl refl active active_is made.idle
+        (made.logs ∙ ap (λ (fs : List FrozenLog). filter (is_kept made.idle (head_of active fs) after.behind.levels) made.next.logs.items)
+        (sym made.frozen)) so falling (none_idle [] (with_table l s))

@@ -45,9 +45,10 @@ use Rattle.vl_model.specs.Formats.{manifest_format}
 use Rattle.vl_model.specs.History.{History, last_number}
 use Rattle.vl_recover.specs.crash.Alike.{IsLeft, Spells}
 use Rattle.vl_recover.specs.crash.Held.{HoldsLogs, HoldsManifest, IsNowhere}
-use Rattle.vl_recover.specs.crash.Starts.{AllMayStand, IsDurable, MayOpen, MayStand}
+use Rattle.vl_recover.specs.crash.Starts.{AllMayStand, IsDurable, MayOpen, MayStand, OnlyIdleGone}
 use Rattle.vl_recover.specs.laws.crash.OneName.{Making, done, making, torn, waits}
-use Rattle.vl_recover.specs.laws.opening.HeldLaws.{held_state, none_removed, settled_may_stand}
+use Rattle.vl_recover.specs.laws.opening.HeldLaws.{held_state, only_idle_gone, settled_may_stand}
+use Rattle.vl_recover.specs.laws.opening.IdleLaws.{gone_kept}
 use Rattle.vl_recover.specs.laws.opening.LeadsLaws.{nowhere_kept}
 use Rattle.vl_recover.specs.laws.opening.OpeningLaws.{IsOpened, one_heading, opened, single_opening, single_says, some_none, some_same}
 use Rattle.vl_recover.specs.laws.repairing.StageLaws.{ok_same}
@@ -64,15 +65,14 @@ pub shown_may_open : (disk : DiskState) → AllMayStand disk
     → ((read : Image) (o : Opening) → IsRead read disk → Opens read (Ok o) → (n : ℕ) (f : File) → IsNamed o.state.levels n
     → get disk.standing (Table n) ≡ Some f → f ≡ settled f.bytes)
     → ((m : ℕ) → get disk.removed (Manifest m) ≢ None → (n : ℕ) × (m < n) × (get disk.standing (Manifest n) ≢ None))
-    → ((read : Image) (o : Opening) → IsRead read disk → Opens read (Ok o) → (m : ℕ) → o.state.head ≤ m
-    → get disk.removed (Log m) ≡ None)
+    → ((read : Image) (o : Opening) → IsRead read disk → Opens read (Ok o) → OnlyIdleGone o.state.head disk)
     → ((read : Image) → IsRead read disk → (h : History) × (m : ℕ) × Shown read h m)
     → MayOpen disk
-shown_may_open disk files logs_settled tables_settled manifests never shown = record {
+shown_may_open disk files logs_settled tables_settled manifests gone shown = record {
   files = files;
   manifests = manifests;
   as_read = λ read o is opens. record {
-    logs = never read o is opens;
+    logs = gone read o is opens;
     sealed = λ m k f from less there stands. settled_durable f (logs_settled m f stands);
     tables = λ n f named stands. settled_durable f (tables_settled read o is opens n f named stands);
     led = λ n f among stands. (
@@ -228,9 +228,9 @@ module _ (b : Base) (edits : List Edit) (state : ManifestState) (before : List S
     left_of : (read : Image) → IsRead read now → IsLeft now read
     left_of read is = read_is_left read now is torn_all torn_chance
 
-    never : (head : ℕ) (logs : List Segment) → HoldsLogs head logs mid → (m : ℕ) → head ≤ m → get now.removed (Log m) ≡ None
-    never head logs held m from = same.removed (Log m) (log_manifest m b.manifest.number)
-        ∙ none_removed head logs mid holds.lawful held m from
+    only_idle : (head : ℕ) (logs : List Segment) → HoldsLogs head logs mid → OnlyIdleGone head now
+    only_idle head logs held = gone_kept head name mid now same (λ m from e. absurd (log_manifest m b.manifest.number e))
+        (only_idle_gone head logs mid holds.lawful held)
 
     says_state : (read : Image) (o : Opening) → Opens read (Ok o)
         → (bytes : List ℕ) (s : ManifestState) → IsCurrent read b.manifest.number bytes → SaysState b.manifest.number bytes s
@@ -244,16 +244,17 @@ module _ (b : Base) (edits : List Edit) (state : ManifestState) (before : List S
             ok_same {E = Refusal} s o.state
             (single_says (Led b.manifest.number bytes) (Ok s) (Ok o.state) (Ok s, says, refl) says_o)
 
-    kept : (read : Image) (o : Opening) → IsRead read now → Opens read (Ok o) → (m : ℕ) → o.state.head ≤ m
-        → get now.removed (Log m) ≡ None
-    kept read o is opens m from =
+    gone : (read : Image) (o : Opening) → IsRead read now → Opens read (Ok o) → OnlyIdleGone o.state.head now
+    gone read o is opens =
         let (bytes, current, either) = switching_says b edits state before base.numbered has mid holds.base h l next base tidy
         holds.files base_next tidy_next files_next now during read (left_of read is) in
         ⊎_elim
-        (λ (says : SaysState b.manifest.number bytes b.state). never b.state.head (logs_from b l) holds.files.logs m
-        (subst (λ (x : ManifestState). x.head ≤ m) (sym (says_state read o opens bytes b.state current says)) from))
-        (λ (says : SaysState b.manifest.number bytes state). never state.head (before ++ next.active ∷ []) files_next.logs m
-        (subst (λ (x : ManifestState). x.head ≤ m) (sym (says_state read o opens bytes state current says)) from))
+        (λ (says : SaysState b.manifest.number bytes b.state).
+        subst (λ (x : ManifestState). OnlyIdleGone x.head now) (says_state read o opens bytes b.state current says)
+        (only_idle b.state.head (logs_from b l) holds.files.logs))
+        (λ (says : SaysState b.manifest.number bytes state).
+        subst (λ (x : ManifestState). OnlyIdleGone x.head now) (says_state read o opens bytes state current says)
+        (only_idle state.head (before ++ next.active ∷ []) files_next.logs))
         either
 
     pub torn_opens_again : MayOpen now
@@ -263,7 +264,7 @@ module _ (b : Base) (edits : List Edit) (state : ManifestState) (before : List S
         (below_lead b.manifest.number now (appended_lawful mid holds.lawful name fresh taken) torn_file there
         (λ m less. nowhere_kept name mid now same (Manifest m)
         (above_kept b edits state before base.numbered has mid holds.base now same m less) (holds.base.above m less)))
-        kept
+        gone
         (λ read is. (
           h,
           last_number h,
@@ -336,8 +337,8 @@ module _ (b : Base) (l : Layout) (h : History) (s : Segment) (disk : DiskState) 
         (ap (λ (x : ManifestState). x.levels) (state_now read o is opens) ∙ base.levels) named) stands)
         (below_lead b.manifest.number now lawful (settled (manifest_bytes b.manifest.number (frames_of b)))
         base_now.has.durable base_now.above)
-        (λ read o is opens m from. none_removed b.state.head (logs_from b l) now lawful files_now.logs m
-        (subst (λ (x : ManifestState). x.head ≤ m) (state_now read o is opens) from))
+        (λ read o is opens. subst (λ (x : ManifestState). OnlyIdleGone x.head now) (sym (state_now read o is opens))
+        (only_idle_gone b.state.head (logs_from b l) now lawful files_now.logs))
         (λ read is. (h, last_number h, needed_shows b l h base tidy now base_now files_now read (read_left read now is)))
 
   module _ (numbered : IsNumbered (Table l.next_table)) where

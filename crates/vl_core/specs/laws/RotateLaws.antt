@@ -28,6 +28,7 @@ use Rattle.vl_core.specs.laws.KeptLaws.{AreOtherLogs, base_kept, each_log_kept, 
 use Rattle.vl_core.specs.laws.SegmentLaws.{not_among}
 use Rattle.vl_core.specs.laws.ShownLaws.{shown_like}
 use Rattle.vl_core.specs.laws.SparedSteps.{spares_rotated}
+use Rattle.vl_frame.specs.Runs.{HasFrame}
 use Rattle.vl_layout.specs.Logs.{new_segment}
 use Rattle.vl_layout.specs.Rulings.Rotate.{rotated}
 use Rattle.vl_layout.specs.Sources.{tables}
@@ -40,6 +41,7 @@ use Rattle.vl_manifest.specs.Manifest.{manifest_bytes}
 use Rattle.vl_model.specs.Formats.{log_format}
 use Rattle.vl_model.specs.History.{History, last_number}
 use Rattle.vl_model.specs.Numbers as numbers
+use Rattle.vl_model.specs.declared.log_frame.LogFrame.{LogFrame}
 use Rattle.vl_recover.specs.crash.Alike.{IsLeft, OpensAsOf, OpensLike}
 use Rattle.vl_recover.specs.crash.Held.{AllSettled, GoOn, HoldsLogs, HoldsManifest, IsNowhere, log_as_held}
 use Rattle.vl_recover.specs.crash.Starts.{MayOpen}
@@ -52,6 +54,7 @@ use Rattle.vl_recover.specs.laws.crash.OneName.{part_some, torn, waits}
 use Rattle.vl_recover.specs.laws.crash.Torn.{ReadsFrames, header_reads, no_reading, part_loose, part_synced, torn_header}
 use Rattle.vl_recover.specs.laws.opening.ContentLaws.{SameContent, none_each, same_each, walk_more}
 use Rattle.vl_recover.specs.laws.opening.HeldLaws.{held_current, left_nowhere, left_settled}
+use Rattle.vl_recover.specs.laws.opening.IdleLaws.{left_passed}
 use Rattle.vl_recover.specs.laws.opening.LeadsLaws.{current_kept, led_like, log_added}
 use Rattle.vl_recover.specs.laws.opening.OpeningLaws.{some_none, some_same}
 use Rattle.vl_recover.specs.laws.opening.ReadImage.{read_image}
@@ -59,8 +62,8 @@ use Rattle.vl_recover.specs.laws.repairing.RepairingSteps.{manifest_log}
 use Rattle.vl_recover.specs.laws.repairing.StageLaws.{ok_with}
 use Rattle.vl_recover.specs.opening.Opening.{IsAmong, led_into}
 use Rattle.vl_recover.specs.opening.Walk.{counted_whole, in_log, walked}
-use Rattle.vl_seglog.specs.Frames.{log_bytes, log_header}
-use Rattle.vl_seglog.specs.LogReading.{LogReading, ReadsLog}
+use Rattle.vl_seglog.specs.Frames.{frames_grammar, log_bytes, log_header}
+use Rattle.vl_seglog.specs.LogReading.{IsLogFormat, LogReading, ReadsLog}
 use Rattle.vl_seglog.specs.laws.LogReadingLaws.{one_log_reading, reads_written}
 
 -- ---- logs that a disk holds
@@ -72,25 +75,32 @@ held_whole least [] disk none image may number bytes reading from stands reads a
     absurd (some_none bytes (sym stands ∙ left_nowhere disk image (Log number) (none number from) may))
 held_whole least (s ∷ ss) disk (first, between, is_read, have, here, rest) image may number bytes reading from stands reads alone =
     ⊎_elim
-    (λ (less : number < s.number).
-    absurd (some_none bytes (sym stands ∙ left_nowhere disk image (Log number) (between number from less) may)))
+    (λ (less : number < s.number). ⊎_elim
+    (λ (none : get image (Log number) ≡ None). absurd (some_none bytes (sym stands ∙ none)))
+    (λ (back : (format : ℕ) × IsLogFormat format × (get image (Log number) ≡ Some (log_bytes format number []))).
+    is_whole number back.0 back.1 [] tt refl back.2)
+    (left_passed disk image number (between number from less) may))
     (λ (above : s.number ≤ number). ⊎_elim
     (λ (more : s.number < number).
     held_whole (s.number + 1) ss disk rest image may number bytes reading (omega (arith, more)) stands reads alone)
-    (λ (below : number ≤ s.number). at_one (omega (arith, above, below)))
+    (λ (below : number ≤ s.number). is_whole s.number s.format is_read s.frames have (omega (arith, above, below))
+    (left_settled disk image (Log s.number) (log_bytes s.format s.number s.frames) here may))
     (cases_lt s.number number))
     (cases_lt number s.number)
   where
-    at_one : number ≡ s.number → reading.whole ≡ true
-    at_one at =
-        let whole = log_bytes s.format s.number s.frames in
-        let there : bytes ≡ whole =
-        some_same bytes whole (sym stands ∙ ap (λ (n : ℕ). get image (Log n)) at
-        ∙ left_settled disk image (Log s.number) whole here may) in
-        let same : reading ≡ (log_as_held s).reading =
-        one_log_reading s.number whole reading (log_as_held s).reading
-        (subst (λ (x : List ℕ). ReadsLog s.number x reading) there (subst (λ (n : ℕ). ReadsLog n bytes reading) at reads))
-        (reads_written s.format s.number is_read s.frames have) in
+    -- the log was left with these frames and nothing else
+    is_whole : (n format : ℕ) → IsLogFormat format → (frames : List LogFrame)
+        → AllByRecursion (HasFrame (frames_grammar format)) frames → n ≡ number
+        → get image (Log n) ≡ Some (log_bytes format n frames) → reading.whole ≡ true
+    is_whole n format is_read frames have at left =
+        let there : bytes ≡ log_bytes format n frames =
+        some_same bytes (log_bytes format n frames) (sym stands ∙ ap (λ (k : ℕ). get image (Log k)) (sym at) ∙ left) in
+        let same : reading ≡ record { header = Some format; frames = frames; whole = true } =
+        one_log_reading n (log_bytes format n frames) reading
+        (record { header = Some format; frames = frames; whole = true })
+        (subst (λ (b : List ℕ). ReadsLog n b reading) there
+        (subst (λ (k : ℕ). ReadsLog k bytes reading) (sym at) reads))
+        (reads_written format n is_read frames have) in
         ap (λ (r : LogReading). r.whole) same
 
 -- A log without frames behind them adds no commit.

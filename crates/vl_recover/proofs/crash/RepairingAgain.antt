@@ -17,6 +17,7 @@ use Rattle.vl_recover.specs.laws.crash.NewLogLaws.{files_kept, header_part}
 use Rattle.vl_recover.specs.laws.opening.HeldLaws.{AreSealed, may_open_by, settled_may_stand}
 use Rattle.vl_recover.proofs.repairs.LastFiles.{as_repairing}
 use Rattle.vl_recover.specs.laws.repairing.LastLaws.{LastStands, synced_leads}
+use Rattle.vl_recover.specs.laws.opening.IdleLaws.{gone_kept, none_gone}
 use Rattle.vl_recover.specs.laws.opening.LeadsLaws.{Leads, leads_holds, leads_kept, unled_unneeded}
 use Rattle.vl_recover.specs.laws.opening.LogsLaws.{IsTheLast, StandUpTo, last_is, last_stands, the_last}
 use Rattle.vl_recover.specs.repairing.Repairing.{Cut, Headed, Kept, LastLog, Rewritten, WhileLast, WhileLog}
@@ -25,24 +26,24 @@ use Rattle.vl_recover.specs.laws.repairing.RepairingStages.{IsFreeFrom, free_unl
 use Rattle.vl_recover.specs.laws.repairing.RepairingSteps.{manifest_log}
 use Rattle.vl_recover.specs.laws.crash.OneName.{Making, done, making, torn, waits}
 use Rattle.vl_recover.specs.laws.opening.OpeningLaws.{some_none, some_same}
-use Rattle.vl_recover.specs.crash.Starts.{AllMayStand, AllStay, MayOpen, MayStand, StaysAsItIs}
+use Rattle.vl_recover.specs.crash.Starts.{AllMayStand, AllStay, MayOpen, MayStand, OnlyIdleGone, StaysAsItIs}
 use Rattle.vl_recover.specs.opening.Opening.{IsAmong, led_into}
 use Rattle.vl_recover.specs.laws.repairing.StraysLaws.{AreSpare, IsSpare, rest_apart, rest_once, spare_kept}
 use Rattle.vl_recover.specs.opening.Walk.{StandingLog, content_end, keeps_header}
 use Rattle.vl_model.specs.Formats.{log_format}
 use Rattle.vl_seglog.specs.Frames.{log_header}
 
--- What stands may stand, and from a number on each log that another follows is durable, and none was removed.
+-- What stands may stand, and from a number on each log that another follows is durable, and only idle ones were removed.
 pub record StandsWell (head : ℕ) (disk : DiskState) : Type 0 where
   pub files : AllMayStand disk
   pub sealed : AreSealed head disk
-  pub kept : (m : ℕ) → head ≤ m → get disk.removed (Log m) ≡ None
+  pub gone : OnlyIdleGone head disk
 
 -- So a store may be opened on it where a manifest leads.
 pub leads_may_open : (number : ℕ) (s : ManifestState) (v : View) (disk : DiskState) → IsLawful disk → Leads number s v disk
     → StandsWell s.head disk → AllStay v.image (led_into v.levels) → MayOpen disk
 leads_may_open number s v disk lawful leads well stay = may_open_by s v disk lawful
-    (leads_holds number s v disk leads) leads.needs stay well.kept well.files well.sealed
+    (leads_holds number s v disk leads) leads.needs stay well.gone well.files well.sealed
 
 -- a repairing is under way behind the new manifest
 pub record GoesWell (number : ℕ) (s : ManifestState) (v : View) (disk : DiskState) : Type 0 where
@@ -60,7 +61,7 @@ below_well head name old now same apart there well = record {
   sealed = λ m k file from less stands_k stands. well.sealed m k file from less
       (λ none. stands_k (same.standing (Log k) (apart k (omega (arith, from, less))) ∙ none))
       (sym (same.standing (Log m) (apart m from)) ∙ stands);
-  kept = λ m from. same.removed (Log m) (apart m from) ∙ well.kept m from;
+  gone = gone_kept head name old now same (λ m from e. absurd (apart m from e)) well.gone;
 }
 
 -- ---- the greatest log changes, or is new
@@ -72,9 +73,9 @@ AreSealedBelow head k disk = (m : ℕ) (file : File) → head ≤ m → m < k �
 
 pub top_well : (head k : ℕ) (old now : DiskState) → SameElsewhere (Log k) old now
     → ((m : ℕ) → k < m → IsNowhere old (Log m)) → AreSealedBelow head k old
-    → get now.removed (Log k) ≡ None → ((file : File) → get now.standing (Log k) ≡ Some file
-    → MayStand (Log k) file) → StandsWell head old → StandsWell head now
-top_well head k old now same above below never there well = record {
+    → get now.standing (Log k) ≢ None → get now.removed (Log k) ≡ None
+    → ((file : File) → get now.standing (Log k) ≡ Some file → MayStand (Log k) file) → StandsWell head old → StandsWell head now
+top_well head k old now same above below stands_now never there well = record {
   files = files_kept (Log k) old now same well.files there;
   sealed = λ m other file from less stands_other stands. ⊎_elim
       (λ (lower : m < k). below m file from lower (sym
@@ -83,10 +84,7 @@ top_well head k old now same above below never there well = record {
       (λ e. omega (arith, upper, less, log_same other k e))
       ∙ (above other (omega (arith, upper, less))).free)))
       (cases_lt m k);
-  kept = λ m from. ⊎_elim
-      (λ (e : m ≡ k). ap (λ (n : ℕ). get now.removed (Log n)) e ∙ never)
-      (λ (apart : m ≢ k). same.removed (Log m) (λ e. apart (log_same m k e)) ∙ well.kept m from)
-      (cases_eq m k);
+  gone = gone_kept head (Log k) old now same (λ m from e. (stands_now, never)) well.gone;
 }
 
 -- ---- the last log
@@ -128,7 +126,8 @@ last_well number s v (q ∷ qs) disk now goes stand led during =
       well = top_well s.head k disk now here.elsewhere last.above
           (λ m file from less stands. goes.well.sealed m k file from less
           (λ none. some_none last.holds.file (sym there ∙ none)) stands)
-          (here.removed ∙ goes.well.kept k last.from)
+          (λ none. some_none here.file (sym here.stands ∙ none))
+          (here.removed ∙ none_gone s.head k disk goes.well.gone last.from (λ m less. (last.above m less).free))
           (λ file stands. subst (MayStand (Log k)) (some_same here.file file (sym here.stands
           ∙ stands)) here.may) goes.well;
     }
@@ -157,7 +156,7 @@ log_well number s v (Some k) disk now never free all goes during =
     with_file_there file stands may same = record {
       leads = leads_kept number s v (Log k) disk now same (λ m from. manifest_log m k)
           (unled_unneeded s v k (free_unled number s v k disk goes.leads ((free k refl).nowhere k (omega arith)))) goes.leads;
-      well = top_well s.head k disk now same above below (never k file refl stands)
+      well = top_well s.head k disk now same above below (λ none. some_none file (sym stands ∙ none)) (never k file refl stands)
           (λ other is. subst (MayStand (Log k)) (some_same file other (sym stands ∙ is)) may) goes.well;
     }
 

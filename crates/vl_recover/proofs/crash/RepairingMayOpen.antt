@@ -20,11 +20,12 @@ use Rattle.vl_manifest.specs.laws.ManifestLaws.{says_readable, whole_manifest}
 use Rattle.vl_manifest.specs.declared.state.ManifestState.{ManifestState}
 use Rattle.vl_recover.specs.crash.Alike.{OpensLike, SameState}
 use Rattle.vl_recover.specs.crash.Held.{View}
-use Rattle.vl_recover.specs.crash.Starts.{AllStay, MayOpen, MayOpenAs, MayStand}
+use Rattle.vl_recover.specs.crash.Starts.{AllStay, MayOpen, MayOpenAs, MayStand, OnlyIdleGone}
 use Rattle.vl_recover.specs.laws.crash.AlikeLaws.{SameBut, lead_over, levels_kept, like_lead, log_manifest, manifest_same, read_same}
 use Rattle.vl_recover.specs.laws.crash.OneName.{IsPart, Making, done, made_elsewhere, made_there, making, torn, waits}
 use Rattle.vl_recover.specs.laws.crash.Torn.{CanWrite, torn_manifest}
 use Rattle.vl_recover.specs.laws.opening.HeldLaws.{settled_may_stand}
+use Rattle.vl_recover.specs.laws.opening.IdleLaws.{gone_kept}
 use Rattle.vl_recover.specs.laws.opening.LeadsLaws.{led_levels, led_state, needs_kept, nowhere_kept}
 use Rattle.vl_recover.specs.laws.opening.LogsLaws.{written_held}
 use Rattle.vl_recover.specs.laws.opening.OpeningLaws.{opened, single_opening, some_none, some_same}
@@ -49,7 +50,8 @@ use Rattle.vl_seglog.specs.LogReading.{ReadsLog}
 may_as_kept : (start now : DiskState) (n : ℕ) (o p : Opening) → SameElsewhere (Manifest n) start now → o.state.head ≡ p.state.head
     → o.state.levels ≡ p.state.levels → o.levels ≡ p.levels → MayOpenAs start o → MayOpenAs now p
 may_as_kept start now n o p same head named levels may = record {
-  logs = λ m from. same.removed (Log m) (log_manifest m n) ∙ may.logs m (subst (λ (h : ℕ). h ≤ m) (sym head) from);
+  logs = subst (λ (h : ℕ). OnlyIdleGone h now) head (gone_kept o.state.head (Manifest n) start now same
+      (λ m from e. absurd (log_manifest m n e)) may.logs);
   sealed = λ m k file from less there stands. may.sealed m k file (subst (λ (h : ℕ). h ≤ m) (sym head) from) less
       (λ none. there (same.standing (Log k) (log_manifest k n) ∙ none)) (sym (same.standing (Log m) (log_manifest m n)) ∙ stands);
   tables = λ m file in_it stands. may.tables m file (subst (λ (l : List (List ℕ)). IsNamed l m) (sym named) in_it)
@@ -103,7 +105,7 @@ module _ {read : Image} (found : Finds read) (start : DiskState) (begins : Begin
       file = of (get start.standing (Log m)) (sym there ∙ begins.is_read.each (Log m))
 
   start_well : StandsWell found.opening.state.head start
-  start_well = record { files = begins.may.files; sealed = as_start.sealed; kept = as_start.logs }
+  start_well = record { files = begins.may.files; sealed = as_start.sealed; gone = as_start.logs }
 
   free : get start.standing (Manifest n) ≡ None
   free = (manifests_nowhere found start begins n (omega arith)).free

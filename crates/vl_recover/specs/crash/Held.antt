@@ -21,6 +21,15 @@ pub record IsNowhere (disk : DiskState) (name : Name) : Type 0 where
   pub free : get disk.standing name ≡ None
   pub never : get disk.removed name ≡ None
 
+-- the file is a durable log of this number that has its header alone
+abbrev pub IsIdle : ℕ → File → Type 0
+IsIdle number file = (format : ℕ) × IsLogFormat format × (file ≡ settled (log_bytes format number []))
+
+-- No log of this number stands, and what was removed there, if anything, is idle. If it comes back, an opening passes over it.
+pub record IsPassedOver (disk : DiskState) (number : ℕ) : Type 0 where
+  pub free : get disk.standing (Log number) ≡ None
+  pub idle : (file : File) → get disk.removed (Log number) ≡ Some file → IsIdle number file
+
 -- the file stands, durable, with these bytes
 abbrev pub IsSettled : DiskState → Name → List ℕ → Type 0
 IsSettled disk name bytes = get disk.standing name ≡ Some (settled bytes)
@@ -33,12 +42,13 @@ pub record HoldsManifest (state : ManifestState) (disk : DiskState) : Type 0 whe
   pub says : SaysState number bytes state
   pub above : (m : ℕ) → number < m → IsNowhere disk (Manifest m)
 
--- from a number on stand just these logs, rising, each durable with its frames and nothing else, and none other was removed
+-- From a number on stand just these logs, rising, each durable with its frames and nothing else. None other was removed, but
+-- for idle ones in front of one that stands.
 abbrev pub HoldsLogs : ℕ → List Segment → DiskState → Type 0
 HoldsLogs least [] disk = (m : ℕ) → least ≤ m → IsNowhere disk (Log m)
 HoldsLogs least (s ∷ ss) disk =
     (least ≤ s.number)
-    × ((m : ℕ) → least ≤ m → m < s.number → IsNowhere disk (Log m))
+    × ((m : ℕ) → least ≤ m → m < s.number → IsPassedOver disk m)
     × IsLogFormat s.format
     × AllByRecursion (HasFrame (frames_grammar s.format)) s.frames
     × IsSettled disk (Log s.number) (log_bytes s.format s.number s.frames)

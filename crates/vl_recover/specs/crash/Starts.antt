@@ -9,6 +9,7 @@ use Rattle.vl_disk.specs.Started.{IsRead}
 use Rattle.vl_disk.specs.declared.name.Name.{Name}
 use Rattle.vl_disk.specs.declared.name.Name.TheVariants.{Log, Table, Manifest}
 use Rattle.vl_recover.specs.crash.Alike.{Spells}
+use Rattle.vl_recover.specs.crash.Held.{IsIdle}
 use Rattle.vl_recover.specs.opening.Opening.{IsAmong, IsNamed, Opening, Opens, led_into}
 use Rattle.vl_recover.specs.opening.Walk.{keeps_header}
 use Rattle.vl_seglog.specs.LogReading.{HasHeader, LogReading, ReadsLog, SaysFormat}
@@ -49,10 +50,21 @@ abbrev pub AllStay : Image → List ℕ → Type 0
 AllStay image logs = (n : ℕ) (bytes : List ℕ) (reading : LogReading) → IsAmong logs n → get image (Log n) ≡ Some bytes
     → ReadsLog n bytes reading → StaysAsItIs reading
 
+-- the removed log was idle, and one above it stands
+pub record WasIdle (disk : DiskState) (number : ℕ) (file : File) : Type 0 where
+  pub idle : IsIdle number file
+  pub above : ℕ
+  pub higher : number < above
+  pub stands : get disk.standing (Log above) ≢ None
+
+-- so it is with each log from a number on that was removed
+abbrev pub OnlyIdleGone : ℕ → DiskState → Type 0
+OnlyIdleGone least disk = (m : ℕ) (file : File) → least ≤ m → get disk.removed (Log m) ≡ Some file → WasIdle disk m file
+
 -- What is asked of a disk of which reads give what opens so. Nothing is asked of what else a crash could leave.
 pub record MayOpenAs (disk : DiskState) (o : Opening) : Type 0 where
-  -- no log from head on was removed
-  pub logs : (m : ℕ) → o.state.head ≤ m → get disk.removed (Log m) ≡ None
+  -- no log from head on was removed, but for idle ones in front of one that stands
+  pub logs : OnlyIdleGone o.state.head disk
   -- a log from head on that isn't the last is durable
   pub sealed : (m k : ℕ) (file : File) → o.state.head ≤ m → m < k → get disk.standing (Log k) ≢ None
       → get disk.standing (Log m) ≡ Some file → IsDurable file

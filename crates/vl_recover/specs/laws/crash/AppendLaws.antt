@@ -29,15 +29,18 @@ use Rattle.vl_model.specs.declared.log_frame.LogFrame.TheVariants.{Committed}
 use Rattle.vl_recover.specs.crash.Alike.{IsLeft, Spells}
 use Rattle.vl_recover.specs.laws.crash.AlikeLaws.{log_manifest, log_same}
 use Rattle.vl_recover.specs.opening.Walk.{standing_log}
-use Rattle.vl_recover.specs.crash.Held.{AllSettled, HoldsLogs, HoldsManifest, HoldsStore, IsNowhere, IsSettled, Needs, View}
+use Rattle.vl_recover.specs.crash.Held.{AllSettled, HoldsLogs, HoldsManifest, HoldsStore, IsNowhere, IsPassedOver, IsSettled}
+use Rattle.vl_recover.specs.crash.Held.{Needs, View}
 use Rattle.vl_recover.specs.laws.opening.HeldLaws.{AreSealed, held_current, held_may_open, held_opens, held_says}
 use Rattle.vl_recover.specs.laws.opening.HeldLaws.{left_nowhere, left_settled, may_open_by, needs_image, needs_led}
-use Rattle.vl_recover.specs.laws.opening.HeldLaws.{none_removed, settled_may_stand}
+use Rattle.vl_recover.specs.laws.opening.HeldLaws.{only_idle_gone, settled_may_stand}
+use Rattle.vl_recover.specs.laws.opening.IdleLaws.{IsLeftOut, StandAmongIdle, gone_kept, idle_filled, idle_walked, left_passed}
+use Rattle.vl_recover.specs.laws.opening.IdleLaws.{passed_kept, stand_next, stand_none}
 use Rattle.vl_recover.specs.crash.Held.{GoOn, log_as_held, opening_held}
 use Rattle.vl_recover.specs.laws.opening.LeadsLaws.{needs_kept, nowhere_kept, unled_unneeded}
 use Rattle.vl_recover.specs.laws.crash.OneName.{elsewhere_then}
-use Rattle.vl_recover.specs.opening.Opening.{IsAmong, Led, Opens, StandingLogs, led_into}
-use Rattle.vl_recover.specs.laws.opening.OpeningLaws.{is_opened, some_same}
+use Rattle.vl_recover.specs.opening.Opening.{IsAmong, Led, Opens, led_into}
+use Rattle.vl_recover.specs.laws.opening.OpeningLaws.{is_opened, some_none, some_same}
 use Rattle.vl_recover.specs.laws.repairing.StageLaws.{err_ok, ok_same, ok_with}
 use Rattle.vl_recover.specs.crash.Starts.{AllMayStand, AllStay, MayOpen, MayStand}
 use Rattle.vl_recover.specs.opening.Stages.{on_ok}
@@ -106,7 +109,8 @@ pub logs_with : (least : ℕ) (before : List Segment) (last other : Segment) (di
     → HoldsLogs least (before ++ last ∷ []) disk → HoldsLogs least (before ++ other ∷ []) now
 logs_with least [] last other disk now same elsewhere read has there (from, between, is_read, have, stands, above) = (
   omega (arith, from, same),
-  λ m up less. kept m (λ at. omega (arith, at, less, same)) (between m up (omega (arith, less, same))),
+  λ m up less. passed_kept (Log last.number) disk now elsewhere m
+      (other_log m last.number (λ at. omega (arith, at, less, same))) (between m up (omega (arith, less, same))),
   read,
   has,
   there,
@@ -118,7 +122,7 @@ logs_with least [] last other disk now same elsewhere read has there (from, betw
 logs_with least (s ∷ before) last other disk now same elsewhere read has there (from, between, is_read, have, stands, rest) =
     let up = (last_held (s.number + 1) before last disk rest).from in (
       from,
-      λ m above less. nowhere_kept (Log last.number) disk now elsewhere (Log m)
+      λ m above less. passed_kept (Log last.number) disk now elsewhere m
           (other_log m last.number (λ at. omega (arith, less, at, up))) (between m above less),
       is_read,
       have,
@@ -126,7 +130,7 @@ logs_with least (s ∷ before) last other disk now same elsewhere read has there
       logs_with (s.number + 1) before last other disk now same elsewhere read has there rest,
     )
 
--- What is left has the same logs before the last, however that one reads.
+-- What is left has the same logs before the last, however that one reads, and beside them at most idle ones.
 module _ (last : Segment) (disk now : DiskState) (image : Image)
     (elsewhere : SameElsewhere (Log last.number) disk now)
     (may : MayLeave now image) (bytes : List ℕ) (reading : LogReading)
@@ -136,33 +140,37 @@ module _ (last : Segment) (disk now : DiskState) (image : Image)
   none_left m apart nowhere = left_nowhere now image (Log m)
       (nowhere_kept (Log last.number) disk now elsewhere (Log m) (other_log m last.number apart) nowhere) may
 
+  left_out : (m : ℕ) → (m ≡ last.number → ⊥) → IsPassedOver disk m → IsLeftOut image m
+  left_out m apart passed = left_passed now image m
+      (passed_kept (Log last.number) disk now elsewhere m (other_log m last.number apart) passed) may
+
   pub standing_with : (least : ℕ) (before : List Segment) → HoldsLogs least (before ++ last ∷ []) disk
-      → StandingLogs image least (map log_as_held before ++ standing_log last.number bytes reading ∷ [])
-  standing_with least [] (from, between, is_read, have, stands, above) = (
-    record {
-      from = from;
-      between = λ m up less. none_left m (λ at. omega (arith, at, less)) (between m up less);
-      bytes = bytes;
-      stands = left;
-      length_is = refl;
-      reads = reads;
-    },
-    λ m up. none_left m (λ at. omega (arith, at, up)) (above m up),
-  )
+      → StandAmongIdle image least (map log_as_held before ++ standing_log last.number bytes reading ∷ [])
+  standing_with least [] (from, between, is_read, have, stands, above) =
+      stand_next image least (standing_log last.number bytes reading) [] from (record {
+        from = omega arith;
+        between = λ m up less. absurd (omega (arith, up, less));
+        bytes = bytes;
+        stands = left;
+        length_is = refl;
+        reads = reads;
+      })
+      (λ m up less. left_out m (λ at. omega (arith, at, less)) (between m up less))
+      (stand_none image (last.number + 1) (λ m up. none_left m (λ at. omega (arith, at, up)) (above m up)))
   standing_with least (s ∷ before) (from, between, is_read, have, stands, rest) =
       let up = (last_held (s.number + 1) before last disk rest).from in
       let here : IsSettled now (Log s.number) (log_bytes s.format s.number s.frames) =
-      elsewhere.standing (Log s.number) (other_log s.number last.number (λ at. omega (arith, at, up))) ∙ stands in (
-        record {
-          from = from;
-          between = λ m above less. none_left m (λ at. omega (arith, at, less, up)) (between m above less);
-          bytes = log_bytes s.format s.number s.frames;
-          stands = left_settled now image (Log s.number) (log_bytes s.format s.number s.frames) here may;
-          length_is = refl;
-          reads = reads_written s.format s.number is_read s.frames have;
-        },
-        standing_with (s.number + 1) before rest,
-      )
+      elsewhere.standing (Log s.number) (other_log s.number last.number (λ at. omega (arith, at, up))) ∙ stands in
+      stand_next image least (log_as_held s) (map log_as_held before ++ standing_log last.number bytes reading ∷ []) from (record {
+        from = omega arith;
+        between = λ m above less. absurd (omega (arith, above, less));
+        bytes = log_bytes s.format s.number s.frames;
+        stands = left_settled now image (Log s.number) (log_bytes s.format s.number s.frames) here may;
+        length_is = refl;
+        reads = reads_written s.format s.number is_read s.frames have;
+      })
+      (λ m above less. left_out m (λ at. omega (arith, at, less, up)) (between m above less))
+      (standing_with (s.number + 1) before rest)
 
 -- ---- logs that differ in the last one's frames
 
@@ -363,7 +371,7 @@ module _ (state : ManifestState) (view : View) (before : List Segment) (last : S
       let held = manifest_kept last.number state disk (torn taken) (torn_elsewhere taken) holds.manifest in
       let found = standing_log last.number bytes (record { header = Some last.format; frames = s.frames; whole = says.0 }) in
       let logs = map log_as_held before ++ found ∷ [] in
-      let standing : StandingLogs image state.head logs =
+      let among : StandAmongIdle image state.head logs =
       standing_with last disk (torn taken) image (torn_elsewhere taken) may bytes found.reading is says.1
       state.head before holds.logs_are in
       let walk : walked state.covered logs ≡ Ok n =
@@ -381,10 +389,10 @@ module _ (state : ManifestState) (view : View) (before : List Segment) (last : S
         says = held_says state (torn taken) held;
         levels = needs_image state view (torn taken) image needs may;
         led = needs_led state view (torn taken) image needs may;
-        standing = logs;
-        stands = standing;
-        walk = walk;
-        logs_are = sym filled_same;
+        standing = among.found;
+        stands = among.stand;
+        walk = idle_walked state.covered among.found logs among.with_idle ∙ walk;
+        logs_are = sym (idle_filled among.found logs among.with_idle ∙ filled_same);
       })
 
   module _ (number next : ℕ) (goes : GoOn state.covered (before ++ last ∷ []) number)
@@ -471,8 +479,13 @@ module _ (state : ManifestState) (view : View) (before : List Segment) (last : S
         may_open_by state view (torn taken) (appended_lawful disk lawful name frame taken)
         (manifest_kept last.number state disk (torn taken) (torn_elsewhere taken) holds.manifest)
         (needs_beside state view last.number disk (torn taken) unled (torn_elsewhere taken) holds.needs) stay
-        (none_removed state.head (before ++ last ∷ []) disk lawful holds.logs_are) (torn_all_stand taken)
-        (torn_sealed taken)
+        (gone_kept state.head name disk (torn taken) (torn_elsewhere taken)
+        (λ m from e. (
+          λ none. some_none (torn_log last.format last.number last.frames f taken) (sym (torn_there taken) ∙ none),
+          lawful.apart name (settled (log_bytes last.format last.number last.frames)) here.stands,
+        ))
+        (only_idle_gone state.head (before ++ last ∷ []) disk lawful holds.logs_are))
+        (torn_all_stand taken) (torn_sealed taken)
 
     -- Where the append failed, a store may be opened on the same disk again,
     pub append_may_open : (now : DiskState) → WhileAppending name frame disk now → MayOpen now

@@ -16,13 +16,14 @@ use Rattle.vl_layout.specs.declared.segment.Segment.{Segment}
 use Rattle.vl_manifest.specs.declared.state.ManifestState.{ManifestState}
 use Rattle.vl_model.specs.Formats.{log_format}
 use Rattle.vl_recover.specs.crash.Held.{HoldsStore, IsNowhere, View}
-use Rattle.vl_recover.specs.crash.Starts.{AllMayStand, AllStay, IsDurable, MayOpen, MayStand}
+use Rattle.vl_recover.specs.crash.Starts.{AllMayStand, AllStay, IsDurable, MayOpen, MayStand, OnlyIdleGone}
 use Rattle.vl_recover.specs.laws.crash.AlikeLaws.{log_same}
 use Rattle.vl_recover.specs.laws.crash.AppendLaws.{manifest_kept, needs_beside}
 use Rattle.vl_recover.specs.laws.crash.OneName.{IsPart, Making, done, making, part_empty, part_some, torn, waits}
 use Rattle.vl_recover.specs.laws.crash.Torn.{ended_no_chance}
-use Rattle.vl_recover.specs.laws.opening.HeldLaws.{AreSealed, held_may_open, may_open_by, none_removed}
+use Rattle.vl_recover.specs.laws.opening.HeldLaws.{AreSealed, held_may_open, may_open_by, only_idle_gone}
 use Rattle.vl_recover.specs.laws.opening.HeldLaws.{settled_may_all_stand, settled_may_stand}
+use Rattle.vl_recover.specs.laws.opening.IdleLaws.{gone_kept}
 use Rattle.vl_recover.specs.laws.opening.OpeningLaws.{some_none, some_same}
 use Rattle.vl_recover.specs.opening.Opening.{IsAmong, led_into}
 use Rattle.vl_seglog.specs.Frames.{log_header}
@@ -75,17 +76,15 @@ module _ (state : ManifestState) (view : View) (logs : List Segment) (k : ℕ) (
         (λ (other : m ≢ k). durable_below m f other stands_m)
         (cases_eq m k)
 
-    kept : (m : ℕ) → state.head ≤ m → get now.removed (Log m) ≡ None
-    kept m up = ⊎_elim
-        (λ (at : m ≡ k). ap (λ (n : ℕ). get now.removed (Log n)) at ∙ lawful_now.apart (Log k) file stands)
-        (λ (other : m ≢ k). same.removed (Log m) (λ e. other (log_same m k e))
-        ∙ none_removed state.head logs disk lawful holds.logs_are m up)
-        (cases_eq m k)
+    gone : OnlyIdleGone state.head now
+    gone = gone_kept state.head (Log k) disk now same
+        (λ m up e. (λ none. some_none file (sym stands ∙ none), lawful_now.apart (Log k) file stands))
+        (only_idle_gone state.head logs disk lawful holds.logs_are)
 
     with_log_may_open : MayOpen now
     with_log_may_open =
         may_open_by state view now lawful_now (manifest_kept k state disk now same holds.manifest)
-        (needs_beside state view k disk now unled same holds.needs) stay kept
+        (needs_beside state view k disk now unled same holds.needs) stay gone
         (files_kept (Log k) disk now same (settled_may_all_stand disk holds.durable)
         (λ other is. subst (MayStand (Log k)) (some_same file other (sym stands ∙ is)) may))
         sealed

@@ -19,11 +19,12 @@ use Rattle.vl_recover.specs.laws.crash.AlikeLaws.{led_logs_kept, levels_kept}
 use Rattle.vl_recover.specs.crash.Held.{AllSettled, DurableAs, GoOn, HoldsLogs, HoldsManifest, HoldsStore, IsNowhere}
 use Rattle.vl_recover.specs.crash.Held.{IsSettled, Needs, View, log_as_held, opening_held}
 use Rattle.vl_recover.specs.opening.Opening.{FoundTable, IsAmong, IsNamed, Led, NamedLevels, NamedLogs, Opening}
-use Rattle.vl_recover.specs.opening.Opening.{Opens, Refusal, Says, StandingLogs, led_into}
+use Rattle.vl_recover.specs.opening.Opening.{Opens, Refusal, Says, led_into}
 use Rattle.vl_recover.specs.laws.opening.OpeningLaws.{IsOpened, is_opened, opened, one_heading, single_says, some_none, some_same}
 use Rattle.vl_recover.specs.laws.opening.TablesLaws.{single_levels}
 use Rattle.vl_recover.specs.laws.repairing.StageLaws.{ok_same}
-use Rattle.vl_recover.specs.crash.Starts.{AllMayStand, AllStay, IsDurable, MayOpen, MayOpenAs, MayStand, StaysAsItIs}
+use Rattle.vl_recover.specs.crash.Starts.{AllMayStand, AllStay, IsDurable, MayOpen, MayOpenAs, MayStand, OnlyIdleGone, StaysAsItIs}
+use Rattle.vl_recover.specs.laws.opening.IdleLaws.{StandAmongIdle, idle_filled, idle_walked, left_passed, stand_next, stand_none}
 use Rattle.vl_seglog.specs.Frames.{log_bytes}
 use Rattle.vl_seglog.specs.LogReading.{LogReading, ReadsLog}
 use Rattle.vl_seglog.specs.laws.LogReadingLaws.{reads_written}
@@ -90,21 +91,21 @@ module _ (state : ManifestState) (disk : DiskState) (holds : HoldsManifest state
 
 -- ---- the logs
 
--- Whatever is left has these logs from a number on.
+-- Whatever is left has these logs from a number on, and beside them at most idle ones that came back.
 pub held_standing : (least : ℕ) (logs : List Segment) (disk : DiskState) (image : Image)
-    → HoldsLogs least logs disk → MayLeave disk image → StandingLogs image least (map log_as_held logs)
-held_standing least [] disk image none may = λ m from. left_nowhere disk image (Log m) (none m from) may
-held_standing least (s ∷ ss) disk image (from, between, is_read, have, stands, rest) may = (
-  record {
-    from = from;
-    between = λ m above less. left_nowhere disk image (Log m) (between m above less) may;
-    bytes = log_bytes s.format s.number s.frames;
-    stands = left_settled disk image (Log s.number) (log_bytes s.format s.number s.frames) stands may;
-    length_is = refl;
-    reads = reads_written s.format s.number is_read s.frames have;
-  },
-  held_standing (s.number + 1) ss disk image rest may,
-)
+    → HoldsLogs least logs disk → MayLeave disk image → StandAmongIdle image least (map log_as_held logs)
+held_standing least [] disk image none may = stand_none image least (λ m from. left_nowhere disk image (Log m) (none m from) may)
+held_standing least (s ∷ ss) disk image (from, between, is_read, have, stands, rest) may =
+    stand_next image least (log_as_held s) (map log_as_held ss) from (record {
+      from = omega arith;
+      between = λ m above less. absurd (omega (arith, above, less));
+      bytes = log_bytes s.format s.number s.frames;
+      stands = left_settled disk image (Log s.number) (log_bytes s.format s.number s.frames) stands may;
+      length_is = refl;
+      reads = reads_written s.format s.number is_read s.frames have;
+    })
+    (λ m above less. left_passed disk image m (between m above less) may)
+    (held_standing (s.number + 1) ss disk image rest may)
 
 -- ---- tables, and the logs that they lead into
 
@@ -135,11 +136,14 @@ module _ (state : ManifestState) (view : View) (logs : List Segment) (disk : Dis
     says = held_says state disk holds.manifest;
     levels = needs_image state view disk image holds.needs may;
     led = needs_led state view disk image holds.needs may;
-    standing = map log_as_held logs;
-    stands = held_standing state.head logs disk image holds.logs_are may;
-    walk = goes;
-    logs_are = refl;
+    standing = among.found;
+    stands = among.stand;
+    walk = idle_walked state.covered among.found (map log_as_held logs) among.with_idle ∙ goes;
+    logs_are = sym (idle_filled among.found (map log_as_held logs) among.with_idle);
   })
+    where
+      among : StandAmongIdle image state.head (map log_as_held logs)
+      among = held_standing state.head logs disk image holds.logs_are may
 
   -- So does what reads give.
   pub held_reads : (number : ℕ) → GoOn state.covered logs number → (read : Image) → IsRead read disk
@@ -148,19 +152,26 @@ module _ (state : ManifestState) (view : View) (logs : List Segment) (disk : Dis
 
 -- ---- a store may be opened again
 
--- no log was removed from a number on
-pub none_removed : (least : ℕ) (logs : List Segment) (disk : DiskState) → IsLawful disk → HoldsLogs least logs disk
-    → (m : ℕ) → least ≤ m → get disk.removed (Log m) ≡ None
-none_removed least [] disk lawful none m from = (none m from).never
-none_removed least (s ∷ ss) disk lawful (up, between, is_read, have, stands, rest) m from = ⊎_elim
-    (λ (below : m < s.number). (between m from below).never)
+-- from a number on only idle logs were removed
+pub only_idle_gone : (least : ℕ) (logs : List Segment) (disk : DiskState) → IsLawful disk → HoldsLogs least logs disk
+    → OnlyIdleGone least disk
+only_idle_gone least [] disk lawful none m file from was = absurd (some_none file (sym was ∙ (none m from).never))
+only_idle_gone least (s ∷ ss) disk lawful (up, between, is_read, have, stands, rest) m file from was = ⊎_elim
+    (λ (below : m < s.number). record {
+      idle = (between m from below).idle file was;
+      above = s.number;
+      higher = below;
+      stands = λ none. some_none here (sym stands ∙ none);
+    })
     (λ (above : s.number ≤ m). ⊎_elim
-    (λ (beyond : s.number < m). none_removed (s.number + 1) ss disk lawful rest m (omega (arith, beyond)))
+    (λ (beyond : s.number < m). only_idle_gone (s.number + 1) ss disk lawful rest m file (omega (arith, beyond)) was)
     (λ (at : m ≤ s.number). let same : m ≡ s.number = omega (arith, above, at) in
-    lawful.apart (Log m) (settled (log_bytes s.format s.number s.frames))
-    (ap (λ (n : ℕ). get disk.standing (Log n)) same ∙ stands))
+    absurd (some_none file (sym was ∙ lawful.apart (Log m) here (ap (λ (n : ℕ). get disk.standing (Log n)) same ∙ stands))))
     (cases_lt s.number m))
     (cases_lt m s.number)
+  where
+    here : File
+    here = settled (log_bytes s.format s.number s.frames)
 
 -- a log from a number on that another follows is durable
 abbrev pub AreSealed : ℕ → DiskState → Type 0
@@ -193,16 +204,15 @@ as_stays image disk n file (bytes, read, is) stands stay reading reads =
     stay bytes reading read (subst (λ (f : File). ReadsLog n f.bytes reading) (sym same) reads)
 
 -- A store may be opened on a disk that holds a manifest above all that were removed, with what it needs, and from its head on
--- no log was removed.
+-- only idle logs were removed.
 pub may_open_by : (state : ManifestState) (view : View) (disk : DiskState) → IsLawful disk → HoldsManifest state disk
     → Needs state view disk → AllStay view.image (led_into view.levels)
-    → ((m : ℕ) → state.head ≤ m → get disk.removed (Log m) ≡ None) → AllMayStand disk → AreSealed state.head disk
-    → MayOpen disk
-may_open_by state view disk lawful holds needs stay never may_stand sealed = record {
+    → OnlyIdleGone state.head disk → AllMayStand disk → AreSealed state.head disk → MayOpen disk
+may_open_by state view disk lawful holds needs stay gone may_stand sealed = record {
   files = may_stand;
-  manifests = λ m gone. (
+  manifests = λ m was. (
     holds.number,
-    below m gone (cases_lt m holds.number),
+    below m was (cases_lt m holds.number),
     λ none. some_none (settled holds.bytes) (sym holds.stands ∙ none),
   );
   as_read = λ read o is opens.
@@ -212,9 +222,9 @@ may_open_by state view disk lawful holds needs stay never may_stand sealed = rec
   where
     below : (m : ℕ) → get disk.removed (Manifest m) ≢ None → (m < holds.number) ⊎ (holds.number ≤ m)
         → m < holds.number
-    below m gone either = ⊎_elim
+    below m was either = ⊎_elim
         (λ (less : m < holds.number). less)
-        (λ (more : holds.number ≤ m). absurd (gone (⊎_elim
+        (λ (more : holds.number ≤ m). absurd (was (⊎_elim
         (λ (above : holds.number < m). (holds.above m above).never)
         (λ (at : m ≤ holds.number). let same : m ≡ holds.number = omega (arith, more, at) in
         lawful.apart (Manifest m) (settled holds.bytes)
@@ -230,7 +240,7 @@ may_open_by state view disk lawful holds needs stay never may_stand sealed = rec
 
     may_as : (o : Opening) → o.state ≡ state → o.levels ≡ view.levels → MayOpenAs disk o
     may_as o says levels = record {
-      logs = λ m from. never m (subst (λ (s : ManifestState). s.head ≤ m) says from);
+      logs = λ m file from. gone m file (subst (λ (s : ManifestState). s.head ≤ m) says from);
       sealed = λ m k file from. sealed m k file (subst (λ (s : ManifestState). s.head ≤ m) says from);
       tables = λ n file named stands.
           as_durable view.image disk (Table n) file (needs.tables n (subst (λ (s : ManifestState). IsNamed s.levels n) says named)) stands;
@@ -259,7 +269,7 @@ pub held_may_open : (state : ManifestState) (view : View) (logs : List Segment) 
     → HoldsStore state view logs disk → AllStay view.image (led_into view.levels) → MayOpen disk
 held_may_open state view logs disk lawful holds stay =
     may_open_by state view disk lawful holds.manifest holds.needs stay
-    (none_removed state.head logs disk lawful holds.logs_are)
+    (only_idle_gone state.head logs disk lawful holds.logs_are)
     (settled_may_all_stand disk holds.durable) (settled_sealed state.head disk holds.durable)
 
 -- ---- a disk that was just started
@@ -289,7 +299,7 @@ started_may_open image disk started stay = record {
   files = settled_may_all_stand disk all;
   manifests = λ m gone. absurd (gone (started.removed (Manifest m)));
   as_read = λ read o is opens. record {
-    logs = λ m from. started.removed (Log m);
+    logs = λ m file from was. absurd (some_none file (sym was ∙ started.removed (Log m)));
     sealed = λ m k file from. settled_sealed o.state.head disk all m k file from;
     tables = λ n file named stands. all_durable disk all (Table n) file stands;
     led = λ n file among stands. (

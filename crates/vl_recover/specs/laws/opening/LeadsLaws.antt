@@ -20,6 +20,7 @@ use Rattle.vl_recover.specs.crash.Alike.{OpensLike, SameState}
 use Rattle.vl_recover.specs.laws.crash.AlikeLaws.{Alike, OpensAs, SameBut, like_by, log_same, logs_alike, same_state}
 use Rattle.vl_recover.specs.crash.Held.{DurableAs, HoldsLogs, HoldsManifest, IsNowhere, IsSettled, Needs, View}
 use Rattle.vl_recover.specs.laws.opening.HeldLaws.{held_current, needs_image}
+use Rattle.vl_recover.specs.laws.opening.IdleLaws.{nowhere_passed, passed_kept}
 use Rattle.vl_recover.specs.laws.crash.OneName.{made_elsewhere, made_there}
 use Rattle.vl_recover.specs.opening.Opening.{FoundTable, Heading, IsAmong, IsNamed, Led, NamedLevels, Opening}
 use Rattle.vl_recover.specs.opening.Opening.{Refusal, Says, StandingLogs, led_into}
@@ -190,7 +191,7 @@ logs_kept name old now same least [] apart none = λ m from. nowhere_kept name o
     (apart m from) (none m from)
 logs_kept name old now same least (s ∷ ss) apart (from, between, is_read, have, stands, rest) = (
   from,
-  λ m above less. nowhere_kept name old now same (Log m) (apart m above) (between m above less),
+  λ m above less. passed_kept name old now same m (apart m above) (between m above less),
   is_read,
   have,
   settled_kept name old now same (Log s.number) _ (apart s.number from) stands,
@@ -203,7 +204,7 @@ pub log_added : (disk : DiskState) (k least : ℕ) (logs : List Segment) → lea
     → HoldsLogs least (logs ++ new_segment log_format k [] ∷ []) (made (Log k) (log_header log_format k) disk)
 log_added disk k least [] from nowhere none = (
   from,
-  λ m above less. kept m (omega (arith, less)) (none m above),
+  λ m above less. nowhere_passed (made (Log k) (log_header log_format k) disk) m (kept m (omega (arith, less)) (none m above)),
   written_is_read,
   tt,
   made_there (Log k) (log_header log_format k) disk,
@@ -218,7 +219,9 @@ log_added disk k least (s ∷ ss) from nowhere (first, between, is_read, have, s
     let not : k ≤ s.number → ⊥ = λ above. some_none _ (sym stands ∙ (nowhere s.number above).free) in
     let below : s.number < k = omega (arith, not) in (
       first,
-      λ m above less. kept m (omega (arith, less, below)) (between m above less),
+      λ m above less. passed_kept (Log k) disk (made (Log k) (log_header log_format k) disk)
+          (made_elsewhere (Log k) (log_header log_format k) disk) m
+          (λ e. omega (arith, less, below, log_same m k e)) (between m above less),
       is_read,
       have,
       settled_kept (Log k) disk (made (Log k) (log_header log_format k) disk)
@@ -226,8 +229,3 @@ log_added disk k least (s ∷ ss) from nowhere (first, between, is_read, have, s
           (λ e. omega (arith, below, log_same s.number k e)) stands,
       log_added disk k (s.number + 1) ss (omega (arith, below)) nowhere rest,
     )
-  where
-    kept : (m : ℕ) → m ≢ k → IsNowhere disk (Log m) → IsNowhere (made (Log k) (log_header log_format k) disk) (Log m)
-    kept m apart = nowhere_kept (Log k) disk (made (Log k) (log_header log_format k) disk)
-        (made_elsewhere (Log k) (log_header log_format k) disk) (Log m)
-        (λ e. apart (log_same m k e))

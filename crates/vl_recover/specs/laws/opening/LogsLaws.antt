@@ -2,6 +2,7 @@
 use Rattle.std.specs.Prelude.{◌≡◌, ◌≢◌, ◌⊎◌, ℕ, ◌+◌, ◌≤◌, ◌<◌, ◌==◌, Bool, List, [], ◌∷◌, length, Option, None, Some}
 use Rattle.std.specs.Prelude.{Result, Ok, Err, if◌then◌else◌, false, true, refl}
 use Rattle.std.specs.FinMap.{get}
+use Rattle.std.specs.List.{AllByRecursion}
 use Rattle.std.specs.Option.{option_map}
 use Rattle.std.proofs.Common.{ap, arith, inl, inr, subst, sym, ◌∙◌, ⊎_elim}
 use Rattle.std.proofs.lemmas.Bool.{cases_lt}
@@ -11,11 +12,13 @@ use Rattle.vl_disk.specs.DiskState.{DiskState, File, IsLawful, lengthened, settl
 use Rattle.vl_disk.specs.Started.{IsRead}
 use Rattle.vl_disk.specs.declared.name.Name.{Name}
 use Rattle.vl_disk.specs.declared.name.Name.TheVariants.{Log}
+use Rattle.vl_frame.specs.Runs.{HasFrame}
 use Rattle.vl_manifest.specs.declared.state.ManifestState.{ManifestState}
 use Rattle.vl_recover.specs.laws.crash.AlikeLaws.{LastIsWhole, log_same}
 use Rattle.vl_recover.specs.opening.Answers.{as_segments}
-use Rattle.vl_recover.specs.crash.Held.{HoldsLogs, IsNowhere}
-use Rattle.vl_recover.specs.laws.opening.HeldLaws.{left_nowhere, left_settled}
+use Rattle.vl_recover.specs.crash.Held.{HoldsLogs, IsNowhere, IsPassedOver}
+use Rattle.vl_recover.specs.laws.opening.HeldLaws.{left_settled}
+use Rattle.vl_recover.specs.laws.opening.IdleLaws.{left_passed, none_gone, nowhere_passed, passed_kept}
 use Rattle.vl_recover.specs.laws.opening.LeadsLaws.{nowhere_kept, settled_kept}
 use Rattle.vl_recover.specs.laws.repairing.LastLaws.{IsLastWritten, IsWritten, LastStands, whole_bytes}
 use Rattle.vl_recover.specs.repairing.Repairing.{Cut, Headed, Kept, LastLog, Rewritten, behind_last, headed, last_of, repairing_of}
@@ -25,24 +28,24 @@ use Rattle.vl_recover.specs.laws.opening.OpeningLaws.{some_none, some_same}
 use Rattle.vl_recover.specs.opening.Plans.{log_behind, log_made}
 use Rattle.vl_recover.specs.laws.repairing.StageLaws.{err_ok, ok_apart}
 use Rattle.vl_recover.specs.opening.Stages.{on_ok}
-use Rattle.vl_recover.specs.crash.Starts.{AllMayStand}
+use Rattle.vl_recover.specs.crash.Starts.{AllMayStand, OnlyIdleGone}
 use Rattle.vl_recover.specs.opening.Walk.{StandingLog, content_end, counted_behind, counted_whole, format_of, in_log}
 use Rattle.vl_recover.specs.opening.Walk.{keeps_header, walked, walked_on}
 use Rattle.vl_model.specs.Formats.{log_format}
-use Rattle.vl_seglog.specs.Frames.{log_bytes, log_header}
-use Rattle.vl_seglog.specs.LogReading.{LogReading, ReadsLog}
+use Rattle.vl_model.specs.declared.log_frame.LogFrame.{LogFrame}
+use Rattle.vl_seglog.specs.Frames.{frames_grammar, log_bytes, log_header}
+use Rattle.vl_seglog.specs.LogReading.{IsLogFormat, LogReading, ReadsLog}
 use Rattle.vl_seglog.specs.laws.LogReadingLaws.{log_apart, one_format, one_log_reading, reads_written, whole_has_header, written_is_read}
 
 -- ---- what is said of them
 
--- the log stands from a number on, and no other before it, nor was one removed
+-- the log stands from a number on, and no other before it, of which only idle ones were removed
 pub record IsNext (least : ℕ) (q : StandingLog) (disk : DiskState) : Type 0 where
   pub from : least ≤ q.number
-  pub between : (m : ℕ) → least ≤ m → m < q.number → IsNowhere disk (Log m)
+  pub between : (m : ℕ) → least ≤ m → m < q.number → IsPassedOver disk m
 
--- From a number on stand just these logs, rising, and none other was removed. Each but the last is durable
--- with its frames and nothing else, and so it is said
--- of the last.
+-- From a number on stand just these logs, rising, and none other was removed, but for idle ones before the last. Each but the
+-- last is durable with its frames and nothing else, and so it is said of the last.
 abbrev pub StandUpTo : (StandingLog → DiskState → Type 0) → ℕ → List StandingLog → DiskState → Type 0
 StandUpTo P least [] disk = (m : ℕ) → least ≤ m → IsNowhere disk (Log m)
 StandUpTo P least (q ∷ []) disk = IsNext least q disk × P q disk
@@ -54,8 +57,7 @@ next_kept : (name : Name) (old now : DiskState) → SameElsewhere name old now �
     → ((m : ℕ) → least ≤ m → m < q.number → Log m ≢ name) → IsNext least q old → IsNext least q now
 next_kept name old now same least q apart next = record {
   from = next.from;
-  between = λ m above less. nowhere_kept name old now same (Log m) (apart m above less)
-      (next.between m above less);
+  between = λ m above less. passed_kept name old now same m (apart m above less) (next.between m above less);
 }
 
 written_kept : (name : Name) (old now : DiskState) → SameElsewhere name old now → (format : ℕ) (q : StandingLog)
@@ -205,15 +207,15 @@ all_written least (q ∷ p ∷ ps) disk repairs (next, written, rest) = (
 
 -- ---- what then holds of them
 
--- A log from a number on is nowhere, or is one of these.
+-- A log from a number on is passed over, or is one of these.
 pub written_at : (least : ℕ) (logs : List StandingLog) (disk : DiskState)
     → StandUpTo IsLastWritten least logs disk → (m : ℕ) → least ≤ m
-    → IsNowhere disk (Log m) ⊎ ((q : StandingLog) × (q.number ≡ m) × ((format : ℕ) × IsWritten format q disk))
-written_at least [] disk none m from = inl (none m from)
+    → IsPassedOver disk m ⊎ ((q : StandingLog) × (q.number ≡ m) × ((format : ℕ) × IsWritten format q disk))
+written_at least [] disk none m from = inl (nowhere_passed disk m (none m from))
 written_at least (q ∷ []) disk (next, written, none) m from = ⊎_elim
     (λ (less : m < q.number). inl (next.between m from less))
     (λ (above : q.number ≤ m). ⊎_elim
-    (λ (more : q.number < m). inl (none m more))
+    (λ (more : q.number < m). inl (nowhere_passed disk m (none m more)))
     (λ (below : m ≤ q.number). inr (q, omega (arith, above, below), (_, written)))
     (cases_lt q.number m))
     (cases_lt m q.number)
@@ -229,24 +231,32 @@ written_at least (q ∷ p ∷ ps) disk (next, written, rest) m from = ⊎_elim
 pub written_whole : (least : ℕ) (logs : List StandingLog) (disk : DiskState)
     → StandUpTo IsLastWritten least logs disk → (image : Image) → MayLeave disk image → LastIsWhole least image
 written_whole least logs disk all image may number bytes reading from stands reads alone = ⊎_elim
-    (λ (nowhere : IsNowhere disk (Log number)). absurd
-    (some_none bytes (sym stands ∙ left_nowhere disk image (Log number) nowhere may)))
+    (λ (passed : IsPassedOver disk number). ⊎_elim
+    (λ (none : get image (Log number) ≡ None). absurd (some_none bytes (sym stands ∙ none)))
+    (λ (back : (format : ℕ) × IsLogFormat format × (get image (Log number) ≡ Some (log_bytes format number []))).
+    is_whole number back.0 back.1 [] tt refl back.2)
+    (left_passed disk image number passed may))
     (λ (x : (q : StandingLog) × (q.number ≡ number) × ((format : ℕ) × IsWritten format q disk)). by x.0 x.1 x.2.0 x.2.1)
     (written_at least logs disk all number from)
   where
-    by : (q : StandingLog) → q.number ≡ number → (format : ℕ) → IsWritten format q disk → reading.whole ≡ true
-    by q at format written =
-        let there : bytes ≡ log_bytes format q.number q.reading.frames =
-        some_same bytes (log_bytes format q.number q.reading.frames) (sym stands
-        ∙ ap (λ (n : ℕ). get image (Log n)) (sym at) ∙ left_settled disk image (Log q.number)
-        (log_bytes format q.number q.reading.frames) written.stands may) in
-        let same : reading ≡ record { header = Some format; frames = q.reading.frames; whole = true } =
-        one_log_reading q.number (log_bytes format q.number q.reading.frames) reading
-        (record { header = Some format; frames = q.reading.frames; whole = true })
-        (subst (λ (b : List ℕ). ReadsLog q.number b reading) there
-        (subst (λ (n : ℕ). ReadsLog n bytes reading) (sym at) reads))
-        (reads_written format q.number written.is_read q.reading.frames written.have) in
+    -- the log was left with these frames and nothing else
+    is_whole : (n format : ℕ) → IsLogFormat format → (frames : List LogFrame)
+        → AllByRecursion (HasFrame (frames_grammar format)) frames → n ≡ number
+        → get image (Log n) ≡ Some (log_bytes format n frames) → reading.whole ≡ true
+    is_whole n format is_read frames have at left =
+        let there : bytes ≡ log_bytes format n frames =
+        some_same bytes (log_bytes format n frames) (sym stands ∙ ap (λ (k : ℕ). get image (Log k)) (sym at) ∙ left) in
+        let same : reading ≡ record { header = Some format; frames = frames; whole = true } =
+        one_log_reading n (log_bytes format n frames) reading
+        (record { header = Some format; frames = frames; whole = true })
+        (subst (λ (b : List ℕ). ReadsLog n b reading) there
+        (subst (λ (k : ℕ). ReadsLog k bytes reading) (sym at) reads))
+        (reads_written format n is_read frames have) in
         ap (λ (r : LogReading). r.whole) same
+
+    by : (q : StandingLog) → q.number ≡ number → (format : ℕ) → IsWritten format q disk → reading.whole ≡ true
+    by q at format written = is_whole q.number format written.is_read q.reading.frames written.have at
+        (left_settled disk image (Log q.number) (log_bytes format q.number q.reading.frames) written.stands may)
 
 pub written_held : (least : ℕ) (logs : List StandingLog) (disk : DiskState)
     → StandUpTo IsLastWritten least logs disk → HoldsLogs least (as_segments logs) disk
@@ -298,16 +308,24 @@ pub record MayRepair (head : ℕ) (read : Image) (disk : DiskState) : Type 0 whe
   pub lawful : IsLawful disk
   pub is_read : IsRead read disk
   pub files : AllMayStand disk
-  pub kept : (m : ℕ) → head ≤ m → get disk.removed (Log m) ≡ None
+  pub gone : OnlyIdleGone head disk
   pub sealed : (m k : ℕ) (file : File) → head ≤ m → m < k → get disk.standing (Log k) ≢ None
       → get disk.standing (Log m) ≡ Some file
       → (file.wholly_synced ≡ true) × (file.lasting ≡ true)
 
 module _ (head : ℕ) (read : Image) (disk : DiskState) (may : MayRepair head read disk) where
-  pub read_nowhere : (m : ℕ) → head ≤ m → get read (Log m) ≡ None → IsNowhere disk (Log m)
+  -- what isn't read doesn't stand
+  read_free : (m : ℕ) → get read (Log m) ≡ None → get disk.standing (Log m) ≡ None
+  read_free m none = bytes_none (get disk.standing (Log m)) (sym none ∙ may.is_read.each (Log m))
+
+  read_passed : (m : ℕ) → head ≤ m → get read (Log m) ≡ None → IsPassedOver disk m
+  read_passed m from none = record { free = read_free m none; idle = λ file was. (may.gone m file from was).idle }
+
+  -- where none is read from a number on, none was removed from there on
+  pub read_nowhere : (m : ℕ) → head ≤ m → ((k : ℕ) → m ≤ k → get read (Log k) ≡ None) → IsNowhere disk (Log m)
   read_nowhere m from none = record {
-    free = bytes_none (get disk.standing (Log m)) (sym none ∙ may.is_read.each (Log m));
-    never = may.kept m from;
+    free = read_free m (none m (omega arith));
+    never = none_gone head m disk may.gone from (λ k above. read_free k (none k (omega (arith, above))));
   }
 
   -- the file of a log that was read
@@ -318,7 +336,7 @@ module _ (head : ℕ) (read : Image) (disk : DiskState) (may : MayRepair head re
   next_read : (least : ℕ) (q : StandingLog) → head ≤ least → IsNextLog read least q → IsNext least q disk
   next_read least q from next = record {
     from = next.from;
-    between = λ m above less. read_nowhere m (omega (arith, from, above)) (next.between m above less);
+    between = λ m above less. read_passed m (omega (arith, from, above)) (next.between m above less);
   }
 
   last_read : (least : ℕ) (q : StandingLog) → IsNextLog read least q → LastStands q disk
@@ -364,12 +382,12 @@ module _ (head : ℕ) (read : Image) (disk : DiskState) (may : MayRepair head re
   pub stand_read : (least n number : ℕ) (logs : List StandingLog) → head ≤ least
       → StandingLogs read least logs → walked n logs ≡ Ok number → StandUpTo LastStands least logs disk
   stand_read least n number [] from none walk = λ m above. read_nowhere m (omega (arith, from, above))
-      (none m above)
+      (λ k up. none k (omega (arith, above, up)))
   stand_read least n number (q ∷ []) from (next, none) walk =
       let up = next.from in (
         next_read least q from next,
         last_read least q next,
-        λ m above. read_nowhere m (omega (arith, from, up, above)) (none m (omega (arith, above))),
+        λ m above. read_nowhere m (omega (arith, from, up, above)) (λ k over. none k (omega (arith, above, over))),
       )
   stand_read least n number (q ∷ p ∷ ps) from (next, (after, rest)) walk =
       let up = next.from in

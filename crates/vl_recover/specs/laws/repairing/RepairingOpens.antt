@@ -131,7 +131,7 @@ module _ {read : Image} (found : Finds read) (start : DiskState) (begins : Begin
     lawful = begins.lawful;
     is_read = begins.is_read;
     files = begins.may.files;
-    kept = (may_as found start begins).logs;
+    gone = (may_as found start begins).logs;
     sealed = (may_as found start begins).sealed;
   }
 
