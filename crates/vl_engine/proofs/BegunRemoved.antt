@@ -15,15 +15,15 @@ use Rattle.vl_layout.specs.declared.layout.Layout.{Layout}
 use Rattle.vl_model.specs.History.{History}
 use Rattle.vl_pins.specs.Pins.{ArePinsOf}
 
-module _ {H L : Type 0} (core after : Core H) (h : History) (l : Layout) (is : Fronts core h l) (same : after ≡ core) (low : Bool)
-    (old new : Removing L) (removes : Removes low core old l) where
+module _ {H L : Type 0} (core after : Core H) (h : History) (l : Layout) (is : Fronts core h l) (same : after ≡ core)
+    (old new : Removing L) (removes : Removes core old l) where
   -- where nothing changed
-  pub removes_kept : new ≡ old → Removes low after new l
-  removes_kept kept = subst (λ (c : Core H). Removes low c new l) (sym same)
-      (subst (λ (r : Removing L). Removes low core r l) (sym kept) removes)
+  pub removes_kept : new ≡ old → Removes after new l
+  removes_kept kept = subst (λ (c : Core H). Removes c new l) (sym same)
+      (subst (λ (r : Removing L). Removes core r l) (sym kept) removes)
 
   -- a merge has begun
-  pub removes_planned : (job : Job) → new ≡ merge_pinned (Some core.back.version_number) old → Removes low after new (with_job job l)
+  pub removes_planned : (job : Job) → new ≡ merge_pinned (Some core.back.version_number) old → Removes after new (with_job job l)
   removes_planned job pinned =
       removes_alike l (with_job job l) (record {
         flushed = refl;
@@ -34,7 +34,7 @@ module _ {H L : Type 0} (core after : Core H) (h : History) (l : Layout) (is : F
         later = omega arith;
         lent = omega arith;
         running = λ e. e;
-      }) core after (ap (λ (c : Core H). c.version.behind.logs.items) same) low old new (ap (λ (c : Core H). c.back.state.head) same)
+      }) core after (ap (λ (c : Core H). c.version.behind.logs.items) same) old new
       (ap (λ (r : Removing L). r.stock) pinned)
       (subst (λ (r : Removing L). ArePinsOf r.pins (with_job job l)) (sym pinned) (record {
         live = removes.pins.live;
@@ -44,7 +44,7 @@ module _ {H L : Type 0} (core after : Core H) (h : History) (l : Layout) (is : F
       })) removes
 
   -- a pass has begun
-  pub removes_picked : (segment : ℕ) → new ≡ pass_pinned (Some core.back.version_number) old → Removes low after new (with_pass segment l)
+  pub removes_picked : (segment : ℕ) → new ≡ pass_pinned (Some core.back.version_number) old → Removes after new (with_pass segment l)
   removes_picked segment pinned =
       removes_alike l (with_pass segment l) (record {
         flushed = refl;
@@ -55,7 +55,7 @@ module _ {H L : Type 0} (core after : Core H) (h : History) (l : Layout) (is : F
         later = omega arith;
         lent = omega arith;
         running = λ e. e;
-      }) core after (ap (λ (c : Core H). c.version.behind.logs.items) same) low old new (ap (λ (c : Core H). c.back.state.head) same)
+      }) core after (ap (λ (c : Core H). c.version.behind.logs.items) same) old new
       (ap (λ (r : Removing L). r.stock) pinned)
       (subst (λ (r : Removing L). ArePinsOf r.pins (with_pass segment l)) (sym pinned) (record {
         live = removes.pins.live;

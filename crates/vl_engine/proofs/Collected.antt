@@ -12,9 +12,10 @@ use Rattle.vl_core.specs.Represents.{Fronts, StandsFor}
 use Rattle.vl_core.specs.declared.kept.Core.{Core}
 use Rattle.vl_core.specs.laws.FileLaws.{all_filtered}
 use Rattle.vl_core.specs.laws.LaidTables.{tables_are}
+use Rattle.vl_core.specs.laws.NeededLogs.{head_there}
 use Rattle.vl_disk.specs.declared.watched.Watched.{Ghosts}
 use Rattle.vl_engine.proofs.Readable.{oldest_readable}
-use Rattle.vl_engine.proofs.Tallying.{head_held, inputs_held, lengths_held, points_held}
+use Rattle.vl_engine.proofs.Tallying.{inputs_held, lengths_held, points_held}
 use Rattle.vl_engine.specs.Collecting.{AreSealed, Collects, FlushesFor, IsReadied, IsTallied, Keeps, LeadsFrom, SealsFor, Tallies}
 use Rattle.vl_engine.specs.Collecting.{head_in, lengths_in, passed_in, points_in}
 use Rattle.vl_engine.specs.Flushing.{FlushesAs}
@@ -67,7 +68,7 @@ module _ {H : Type 0} (bytes : H → Option (List ℕ)) (core : Core H) (h : His
       is.tidy.true_logs.1 is.has.logs are
 
   pub head_is_laid : head_in core ≡ head l
-  head_is_laid = head_held l.active core.front.log.number is.fronts.number core.version.behind.frozen.items l.frozen is.has.frozen
+  head_is_laid = head_there l.active core.front.log.number is.fronts.number core.version.behind.frozen.items l.frozen is.has.frozen
 
 -- ---- layouts of the same logs, tables and pass
 

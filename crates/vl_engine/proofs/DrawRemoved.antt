@@ -22,7 +22,7 @@ use Rattle.vl_engine.proofs.DrawFits.{lent_elsewhere, none_has}
 use Rattle.vl_engine.proofs.There.Kept.{KnowsSame, StandStill, in_use_kept, stands_not_free, waiting_kept}
 use Rattle.vl_engine.specs.Drawing.{IsLentMore, IsSameMerge, drawn_core, lent_new}
 use Rattle.vl_engine.specs.Lent.{AreLent, LeavesLent}
-use Rattle.vl_engine.specs.Removing.{AreBelowHead, AreInUse, HasInUse, IsLeft, IsStockOf, IsThere, IsWaiting, Removes, UsesThoseOf}
+use Rattle.vl_engine.specs.Removing.{AreInUse, HasInUse, IsLeft, IsStockOf, IsThere, IsWaiting, Removes, UsesThoseOf}
 use Rattle.vl_engine.specs.Removing.{all_retired, are_distinct, are_unused, is_none_of, lent_in, logs_in_use, numbers_left}
 use Rattle.vl_engine.specs.Removing.{standing_names, tables_in_use, with_number}
 use Rattle.vl_engine.specs.declared.open.OpenMerge.{OpenMerge}
@@ -91,21 +91,20 @@ pin_lent : (number : ℕ) (o : Option OpenJob)
 pin_lent number None = refl
 pin_lent number (Some job) = refl
 
-module _ {H L : Type 0} (core : Core H) (l : Layout) (low : Bool) (old new : Removing L) (pins : new.pins ≡ old.pins)
-    (removes : Removes low core old l) (roomy : IsRoomier old.stock new.stock) where
+module _ {H L : Type 0} (core : Core H) (l : Layout) (old new : Removing L) (pins : new.pins ≡ old.pins)
+    (removes : Removes core old l) (roomy : IsRoomier old.stock new.stock) where
   -- It wasn't made, for want of memory or otherwise.
-  pub removes_roomier : Removes low core new l
+  pub removes_roomier : Removes core new l
   removes_roomier = record {
     pins = subst (λ (p : Pins). ArePinsOf p l) (sym pins) removes.pins;
     stock = λ running. let is = removes.stock running in
         stock_then core core old.stock new.stock l l.next_table l.job refl roomy
         (let a = is.room in let b = roomy.capacity in let c = same_long old.stock new.stock roomy in omega (arith, a, b, c)) is;
-    below = removes.below;
   }
 
   pub removes_drawn : (merging : Option OpenMerge) → lent_in merging ≡ lent_numbers l.job
       → deque_len new.stock.trash + length (lent_in merging) + 1 ≤ deque_capacity new.stock.trash
-      → Removes low (drawn_core core) new (drawn l)
+      → Removes (drawn_core core) new (drawn l)
   removes_drawn merging opens room = record {
     pins = subst (λ (p : Pins). ArePinsOf p (drawn l)) (sym pins) (record {
       live = removes.pins.live;
@@ -115,8 +114,6 @@ module _ {H L : Type 0} (core : Core H) (l : Layout) (low : Bool) (old new : Rem
     });
     stock = λ running. stock_then core (drawn_core core) old.stock new.stock l (l.next_table + 1) (lent_to l.next_table l.job) refl roomy
         (let a = opens_long merging l.job l.next_table opens in omega (arith, a, room)) (removes.stock running);
-    below = λ holds running. let is = removes.below holds running in
-        record { flushed = is.flushed; retired = is.retired; from = is.from };
   }
 
 -- ---- what the disk has

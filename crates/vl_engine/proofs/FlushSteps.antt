@@ -178,17 +178,22 @@ module _ {H : Type 0} (bytes : H → Option (List ℕ)) (before after : Core H) 
     levels = first_level l.levels is.tidy.levels
 
     module _ (files : AreLogFiles l) (told : Option DiskState) (state : DiskState) (told_is : told ≡ Some state)
-        (table : Table H) (held : IsTableHeld bytes told flush table) (next : IsNextVersion bytes before.version after.version table) where
+        (table : Table H) (held : IsTableHeld bytes told flush table)
+        (next : IsNextVersion bytes before.front.log.number before.version after.version table) where
       file : IsLogFile s
       file = oldest_file l.frozen s files.1 first
+
+      tidy_now : IsTidy (layout_logs (flushed l s)) (flushed l s) h
+      tidy_now = flush_tidy l h s is.tidy first levels.level levels.deeper levels.are files file
 
       pub stands_flushed : Fronts after h (flushed l s) → StandsFor bytes after h (flushed l s)
       stands_flushed fronts = record {
         fronts = fronts;
         has = laid_flushed bytes before.version after.version l s is.has levels.level levels.deeper levels.are
-            (stays l h s is.tidy first levels.level levels.deeper levels.are files file) table next
-            (made_table bytes told state flush table l s told_is held spelled);
-        tidy = flush_tidy l h s is.tidy first levels.level levels.deeper levels.are files file;
+            (stays l h s is.tidy first levels.level levels.deeper levels.are files file) before.front.log.number is.fronts.number table
+            next (made_table bytes told state flush table l s told_is held spelled) tidy_now.true_tables
+            tidy_now.files.stocked.falling;
+        tidy = tidy_now;
         spared = spares_flushed l h s first levels.level levels.deeper levels.are is.spared;
       }
 

@@ -1,6 +1,6 @@
 -- What an engine stands for in memory behind an install: its tables take the place of the inputs in the version and in the layout.
 use Rattle.std.specs.Prelude.{◌≡◌, ℕ, ◌+◌, List, [], ◌∷◌, length, map, Option, None, Some, refl}
-use Rattle.std.specs.List.{AllZip}
+use Rattle.std.specs.List.{AllZip, filter}
 use Rattle.std.specs.Option.{option_map}
 use Rattle.std.proofs.Common.{sym, ap, subst, arith, append-nil, ◌∙◌}
 use Rattle.vl_back.specs.InstallStaging.{replacing_of}
@@ -30,15 +30,17 @@ use Rattle.vl_core.specs.declared.kept.Core.{Core}
 use Rattle.vl_core.specs.laws.InstallRulings.{GoesOn}
 use Rattle.vl_core.specs.laws.InstallSpares.{spares_installed}
 use Rattle.vl_core.specs.laws.InstallTidy.{IsPutTidy, logs_put, tidy_put}
+use Rattle.vl_core.specs.laws.NeededLogs.{laid_left, none_idle}
 use Rattle.vl_engine.specs.laws.LaidInstall.{laid_installed}
 use Rattle.vl_engine.specs.laws.PlannedJobs.{levels_are}
 use Rattle.vl_front.specs.declared.front.Front.{Front}
 use Rattle.vl_layout.specs.Jobs.{AreLent, AreOutputs, Made, job_ended}
-use Rattle.vl_layout.specs.Levels.{replaced}
+use Rattle.vl_layout.specs.Levels.{is_among, replaced}
 use Rattle.vl_layout.specs.Merging.{outputs}
 use Rattle.vl_layout.specs.OpenJobs.{IsFitted, IsOpenWell, IsRoomy}
 use Rattle.vl_layout.specs.Ruling.{halted_at}
-use Rattle.vl_layout.specs.Rulings.Install.{installed}
+use Rattle.vl_layout.specs.Rulings.Install.{installed, put_in}
+use Rattle.vl_layout.specs.Sources as layout
 use Rattle.vl_layout.specs.Sources.{numbers_of}
 use Rattle.vl_layout.specs.declared.job.Job.{Job}
 use Rattle.vl_layout.specs.declared.job.OpenJob.{OpenJob}
@@ -48,14 +50,15 @@ use Rattle.vl_layout.specs.declared.layout.Layout.{Layout}
 use Rattle.vl_layout.specs.declared.table.Table as laid
 use Rattle.vl_manifest.specs.declared.state.ManifestState.{ManifestState}
 use Rattle.vl_model.specs.Conflicts.{Named}
+use Rattle.vl_memtable.specs.declared.frozen_log.FrozenLog.{FrozenLog}
 use Rattle.vl_model.specs.History.{History}
 use Rattle.vl_model.specs.declared.entry.Entry.{Entry}
-use Rattle.vl_seglog.specs.declared.sealed.SealedLog.{SealedLog}
 use Rattle.vl_table.specs.Tables.{number_of}
 use Rattle.vl_table.specs.declared.table.Table.{Table}
-use Rattle.vl_version.specs.Shared.{AreSameLogs}
+use Rattle.vl_version.specs.Needed.{head_of, is_kept}
 use Rattle.vl_version.specs.declared.base.Base.{Base}
 use Rattle.vl_version.specs.declared.levels.Levels.{Levels}
+use Rattle.vl_version.specs.declared.version.Version.{Version}
 
 -- ---- the tables that were made
 
@@ -179,9 +182,9 @@ module _ {D H R W : Type 0} (g : Ghosts D) (bytes : H → Option (List ℕ)) (w 
         (did.put job.inputs.target ins first l.levels made.tables readied
         (first_put w job.made.items (outputs o.job) has.made))))
 
-    logs_same : AreSameLogs bytes before.version.behind.logs.items after.version.behind.logs.items
-    logs_same = subst (λ (logs : List (SealedLog H)). AreSameLogs bytes before.version.behind.logs.items logs) (sym did.logs)
-        did.is_ready.version.logs
+    -- the version before it lets go of logs
+    abbrev whole : Version H
+    whole = record after.version { behind = record after.version.behind { logs = did.ready.version.logs } }
 
     fronts_put : Fronts after h (installed o.job made l)
     fronts_put =
@@ -220,9 +223,14 @@ module _ {D H R W : Type 0} (g : Ghosts D) (bytes : H → Option (List ℕ)) (w 
       pub laid_put : HasLayout bytes after.version (installed o.job made l)
       laid_put =
           let next = tidy_put l h o made tidy in
-          laid_installed bytes before.version after.version l o.job made is.has (logs_put l h o made tidy) next.levels
+          laid_left bytes whole after.version (installed o.job made l)
+          (laid_installed bytes before.version whole l o.job made is.has (logs_put l h o made tidy) next.levels
           next.true_tables levels_put (did.active ∙ did.is_ready.version.active) (did.frozen ∙ did.is_ready.version.frozen)
-          logs_same
+          did.is_ready.version.logs) refl refl refl before.front.log.number is.fronts.number did.idle
+          (did.logs ∙ ap (λ (fs : List FrozenLog).
+          filter (is_kept did.idle (head_of before.front.log.number fs) after.version.behind.levels) did.ready.version.logs.items)
+          (sym did.frozen)) next.true_tables next.files.stocked.falling
+          (none_idle (filter (is_among o.job.inputs) (layout.tables l)) (put_in o.job made l))
 
       -- and the engine stands for it.
       pub stands_put : StandsFor bytes after h (installed o.job made l)

@@ -1,7 +1,6 @@
 -- What is kept of which files can go, behind a change of how many versions are kept.
-use Rattle.std.specs.Prelude.{◌≡◌, ℕ, Bool, Result, Ok, Err, refl}
-use Rattle.std.proofs.Common.{sym, ap, subst, ◌∙◌, arith}
-use Rattle.vl_back.specs.declared.back.Back.{Back}
+use Rattle.std.specs.Prelude.{◌≡◌, ℕ, Result, Ok, Err, refl}
+use Rattle.std.proofs.Common.{sym, ap, subst, arith}
 use Rattle.vl_core.specs.KeepFacts.{MayKeep}
 use Rattle.vl_core.specs.Represents.{Fronts, file_of}
 use Rattle.vl_core.specs.declared.kept.Core.{Core}
@@ -19,15 +18,14 @@ use Rattle.vl_layout.specs.Decides.{Answered, Decides, as_before, no_effects}
 use Rattle.vl_layout.specs.Ruling.{Ruling}
 use Rattle.vl_layout.specs.Rulings.Keep.{KeepAnswer, Kept, keep_ruling, keeping}
 use Rattle.vl_layout.specs.declared.layout.Layout.{Layout}
-use Rattle.vl_manifest.specs.declared.state.ManifestState.{ManifestState}
 use Rattle.vl_model.specs.History.{History}
 use Rattle.vl_pins.specs.Pins.{ArePinsOf}
 
 module _ {D H L : Type 0} (g : Ghosts D) (before after : Core H) (disk then : D) (v : ℕ) (h : History) (l : Layout)
-    (may : MayKeep before v) (logs : after.version.behind.logs.items ≡ before.version.behind.logs.items) (low : Bool)
-    (old new : Removing L) (same : new ≡ old) (is : Fronts before h l) (removes : Removes low before old l) where
+    (may : MayKeep before v) (logs : after.version.behind.logs.items ≡ before.version.behind.logs.items)
+    (old new : Removing L) (same : new ≡ old) (is : Fronts before h l) (removes : Removes before old l) where
   abbrev Stays : History → Layout → Type 0
-  Stays _ k = Removes low after new k
+  Stays _ k = Removes after new k
 
   stock : new.stock ≡ old.stock
   stock = ap (λ (r : Removing L). r.stock) same
@@ -52,13 +50,13 @@ module _ {D H L : Type 0} (g : Ghosts D) (before after : Core H) (disk then : D)
         later = omega arith;
         lent = omega arith;
         running = λ e. e;
-      }) before after logs low old new (ap (λ (s : ManifestState). s.head) did.back.state) stock
+      }) before after logs old new stock
       (pins_alike new.pins l (keeping v h l) refl refl refl (omega arith) pins) removes)))
   removes_by (Err (fails.Halted name)) did = absurd did
   removes_by (Err fails.InvalidRequest) did = absurd did
   removes_by (Err fails.NoMemory) did =
       decides_short Stays h l (keep_ruling l h v) l
-      (removes_same low before after old new l logs (ap (λ (c : Core H). c.back.state.head) did.0) stock pins removes)
+      (removes_same before after old new l logs stock pins removes)
   removes_by (Err (fails.Disk name)) did =
       decides_failed Stays h l (keep_ruling l h v) l (file_of name) no_effects (runs_on before h l v is may.running)
-      (removes_halted low after new l (file_of name) pins)
+      (removes_halted after new l (file_of name) pins)

@@ -23,7 +23,7 @@ use Rattle.vl_engine.proofs.There.Left.{numbers_both, standing_both}
 use Rattle.vl_engine.specs.Installing.{numbers_in}
 use Rattle.vl_engine.specs.Lent.{AreLent, IsLent}
 use Rattle.vl_engine.specs.Merging.{HasMerge}
-use Rattle.vl_engine.specs.Removing.{AreBelowHead, HasInUse, IsLeft, IsLogBelow, IsStockOf, IsThere, IsWaiting, Removes}
+use Rattle.vl_engine.specs.Removing.{HasInUse, IsLeft, IsStockOf, IsThere, IsWaiting, Removes}
 use Rattle.vl_engine.specs.Removing.{UsesThoseOf, all_retired}
 use Rattle.vl_engine.specs.Removing.{are_distinct, are_unused, is_none_of, lent_in, logs_in_use, numbers_left, standing_names}
 use Rattle.vl_engine.specs.Removing.{tables_in_use}
@@ -374,10 +374,10 @@ module _ {D W H V K : Type 0} (g : Ghosts D) {s : Writers W} (disk : D) (core : 
     (job : Merging V K W s) (before after : Removing (Lent W s))
     (there : core.front.halted ≡ None → IsThere g s disk core merging before.stock)
     (way : IsUnderWay g s disk core.front.halted merging job) (left : LeavesFiles (files_in job) before.stock after.stock) where
-  pub removes_left : (low : Bool) (l : Layout) (made : Made) → numbers_of made.tables ++ made.leavings ≡ numbers_in job
+  pub removes_left : (l : Layout) (made : Made) → numbers_of made.tables ++ made.leavings ≡ numbers_in job
       → (l.halted ≡ None → core.front.halted ≡ None) → after.pins ≡ record before.pins { merge = None }
-      → Removes low core before l → Removes low core after (job_ended made l)
-  removes_left low l made numbers runs_too pins removes = record {
+      → Removes core before l → Removes core after (job_ended made l)
+  removes_left l made numbers runs_too pins removes = record {
     pins = subst (λ (p : Pins). ArePinsOf p (job_ended made l)) (sym pins) (record {
       live = removes.pins.live;
       merge = refl;
@@ -386,21 +386,7 @@ module _ {D W H V K : Type 0} (g : Ghosts D) {s : Writers W} (disk : D) (core : 
     });
     stock = λ runs. stock_left g disk core merging job before.stock after.stock (there (runs_too runs)) way left l made numbers
         (removes.stock runs);
-    below = λ is_low runs. let below = removes.below is_low runs in record {
-      flushed = below.flushed;
-      retired = both_below l.retired (numbers_of made.tables ++ made.leavings) below.retired;
-      from = below.from;
-    };
   }
-    where
-      both_below : (rs : List Retired) (ns : List ℕ) → AllByRecursion (λ (r : Retired). IsLogBelow core.back.state.head r.file) rs
-          → AllByRecursion (λ (r : Retired). IsLogBelow core.back.state.head r.file) (rs ++ loose ns)
-      both_below [] ns all = tables ns
-        where
-          tables : (ms : List ℕ) → AllByRecursion (λ (r : Retired). IsLogBelow core.back.state.head r.file) (loose ms)
-          tables [] = tt
-          tables (m ∷ ms) = (tt, tables ms)
-      both_below (r ∷ rs) ns all = (all.0, both_below rs ns all.1)
 
 -- where a layout isn't halted the engine isn't
 pub halted_none : (o : Option Name) → option_map file_of o ≡ None → o ≡ None

@@ -15,6 +15,7 @@ pub mod FlushSteps
 pub mod Flushed
 mod Footers
 pub mod HandedIn
+mod HeldLogs
 mod InputNumbers
 pub mod InstallDisk
 pub mod InstallDiskLeaves
@@ -32,6 +33,7 @@ pub mod Leaving
 pub mod LeftRemoved
 pub mod Lending
 pub mod LendsNew
+mod MergeRemoved
 mod MoveRemoved
 mod OpenedThere
 mod PassLaws

@@ -61,14 +61,14 @@ pin_kept : (number : ℕ) (moved : List Moved) (o : Option OpenJob)
 pin_kept number moved None = refl
 pin_kept number moved (Some job) = refl
 
-module _ {H L : Type 0} (core after : Core H) (h : History) (l : Layout) (low : Bool) (old new : Removing L)
-    (logs : after.version.behind.logs.items ≡ core.version.behind.logs.items) (head : after.back.state.head ≡ core.back.state.head)
-    (same : new ≡ old) (removes : Removes low core old l) where
-  stays : Removes low after new l
-  stays = removes_same low core after old new l logs head (ap (λ (r : Removing L). r.stock) same)
+module _ {H L : Type 0} (core after : Core H) (h : History) (l : Layout) (old new : Removing L)
+    (logs : after.version.behind.logs.items ≡ core.version.behind.logs.items)
+    (same : new ≡ old) (removes : Removes core old l) where
+  stays : Removes after new l
+  stays = removes_same core after old new l logs (ap (λ (r : Removing L). r.stock) same)
       (subst (λ (r : Removing L). ArePinsOf r.pins l) (sym same) removes.pins) removes
 
-  moves : (moved : List Moved) → Removes low after new (relocated l moved)
+  moves : (moved : List Moved) → Removes after new (relocated l moved)
   moves moved =
       removes_alike l (relocated l moved) (record {
         flushed = refl;
@@ -79,21 +79,21 @@ module _ {H L : Type 0} (core after : Core H) (h : History) (l : Layout) (low : 
         later = omega arith;
         lent = lent_kept (l.version_number + 1) moved l.job;
         running = λ e. e;
-      }) core after logs low old new head (ap (λ (r : Removing L). r.stock) same)
+      }) core after logs old new (ap (λ (r : Removing L). r.stock) same)
       (pins_alike new.pins l (relocated l moved) refl (pin_kept (l.version_number + 1) moved l.job) refl (omega arith)
       (subst (λ (r : Removing L). ArePinsOf r.pins l) (sym same) removes.pins)) removes
 
   -- So it is whatever the call came to.
   pub removes_by : (S : History → Layout → Type 0) (pass : Pass) (batch : List Candidate) (outcome : Outcome MoveAnswer) (effects : Effects)
       → Decides S h l (relocate_ruling l h pass batch) (as_before l l) outcome effects
-      → Decides (λ _ (k : Layout). Removes low after new k) h l (relocate_ruling l h pass batch) (as_before l l) outcome effects
+      → Decides (λ _ (k : Layout). Removes after new k) h l (relocate_ruling l h pass batch) (as_before l l) outcome effects
   removes_by S pass batch outcome effects decides = record {
-    answered = λ a is. ((decides.answered a is).0, left_by (λ (k : Layout). Removes low after new k) l h stays moves pass batch);
+    answered = λ a is. ((decides.answered a is).0, left_by (λ (k : Layout). Removes after new k) l h stays moves pass batch);
     did = decides.did;
     no_memory = λ is. (stays, (decides.no_memory is).1);
     failed = λ name is. (
       (decides.failed name is).0,
-      removes_halted low after new l name (subst (λ (r : Removing L). ArePinsOf r.pins l) (sym same) removes.pins),
+      removes_halted after new l name (subst (λ (r : Removing L). ArePinsOf r.pins l) (sym same) removes.pins),
     );
     damaged = λ name place is. (stays, (decides.damaged name place is).1);
   }
@@ -105,7 +105,3 @@ lent_noted None None notes did = refl
 lent_noted None (Some after) notes did = absurd did
 lent_noted (Some merge) None notes did = absurd did
 lent_noted (Some merge) (Some after) notes did = λ i. (did.0 i).items
-
-pub head_moved : (after before : Back) (number : ℕ) → after ≡ record before { version_number = number }
-    → after.state.head ≡ before.state.head
-head_moved after before number is = ap (λ (b : Back). b.state.head) is

@@ -23,7 +23,7 @@ use Rattle.vl_engine.specs.Collecting.{head_in}
 use Rattle.vl_engine.specs.Installing.{IsHandedIn, numbers_in}
 use Rattle.vl_engine.specs.Lent.{AreLent}
 use Rattle.vl_engine.specs.Removing.{IsThere, are_distinct, lent_in, numbers_left}
-use Rattle.vl_engine.specs.Retiring.{InstallsInto, IsReadied, LeavesFiles, all_left, files_in, is_idle_in, is_idle_log, left_of, switching}
+use Rattle.vl_engine.specs.Retiring.{HoldsNeeded, InstallsInto, IsReadied, LeavesFiles, all_left, files_in, is_idle_in, is_idle_log, left_of, switching}
 use Rattle.vl_engine.specs.Taking.{MayTake}
 use Rattle.vl_engine.specs.UnderWay.{IsUnderWay}
 use Rattle.vl_engine.specs.declared.open.OpenMerge.{OpenMerge}
@@ -191,10 +191,10 @@ module _ {D W H R K : Type 0} (g : Ghosts D) {s : Writers W} (disk : D) (core : 
       → version ≡ before.back.version_number + 1 → head ≡ head_in after
       → ((n : ℕ) → is_idle_in head kept n ≡ is_idle_log head live n) → tables ≡ length added → counted ≡ length (lent_in merging)
       → IsReadied before old readied tables counted
-      → BecomesBy (switching version added dropped (is_idle_log head live)) mid now
+      → BecomesBy (switching version added dropped (is_idle_log head live)) mid now → HoldsNeeded before after kept
       → InstallsInto job before after kept old now (length (lent_in merging))
   put_into before after added dropped head version tables counted live kept old now added_is dropped_is version_is head_is idle long same
-      ready switched = record {
+      ready switched held = record {
         readied = readied;
         is_ready = readied_for before old readied tables (length job.made.items) counted (length (lent_in merging))
             (long ∙ ap length added_is ∙ length-map job.made.items (λ (t : Synced W s). t.number)) same ready;
@@ -211,6 +211,7 @@ module _ {D W H R K : Type 0} (g : Ghosts D) {s : Writers W} (disk : D) (core : 
             (map number_of (filter (is_input (map number_of job.inputs.tables.items)) (tables_of before.version.behind.levels)))
             (is_idle_in m kept) k) head_is)
             (switched k has_it);
+        held = held;
       }
 
 -- The files of tables that may be taken back don't stand.

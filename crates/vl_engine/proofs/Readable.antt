@@ -1,7 +1,7 @@
 -- The logs over which a pass may go can be read frame by frame: at the start, and behind each flush and each install.
-use Rattle.std.specs.Prelude.{◌≡◌, ℕ, ◌+◌, Bool, true, false, not, nat_lt, if◌then◌else◌, List, [], ◌∷◌, ◌++◌, Option, None, Some, refl}
+use Rattle.std.specs.Prelude.{◌≡◌, ℕ, ◌+◌, Bool, true, false, not, nat_lt, if◌then◌else◌, List, [], ◌∷◌, Option, None, Some, refl}
 use Rattle.std.specs.List.{AllByRecursion, filter}
-use Rattle.std.proofs.Common.{sym, ap, subst, ◌∙◌, inl, inr}
+use Rattle.std.proofs.Common.{sym, subst, inl, inr}
 use Rattle.vl_core.specs.Begun.{as_led, layout_begun, led_below}
 use Rattle.vl_core.specs.Files.{IsLogFile}
 use Rattle.vl_core.specs.Passing.{AreReadable}
@@ -12,9 +12,7 @@ use Rattle.vl_frame.specs.Runs.{HasFrame}
 use Rattle.vl_layout.specs.Logs.{new_segment}
 use Rattle.vl_layout.specs.Sources.{oldest}
 use Rattle.vl_layout.specs.Start.{has_frames}
-use Rattle.vl_layout.specs.declared.layout.Layout.{Layout}
 use Rattle.vl_layout.specs.declared.segment.Segment.{Segment}
-use Rattle.vl_model.specs.Formats.{log_format}
 use Rattle.vl_model.specs.History.{History, last_number}
 use Rattle.vl_model.specs.declared.log_frame.LogFrame.{LogFrame}
 use Rattle.vl_recover.specs.opening.Answers.{Finds, and_made, as_segments, last_format, logs_then}

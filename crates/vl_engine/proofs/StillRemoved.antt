@@ -1,17 +1,16 @@
 -- What is kept of which files can go stays what the layout has, where a call leaves the files in use and those that wait alone.
-use Rattle.std.specs.Prelude.{◌≡◌, ◌≤◌, ◌<◌, ◌+◌, ℕ, ◌++◌, Bool, true, List, [], ◌∷◌, length, Option, None, Some}
+use Rattle.std.specs.Prelude.{◌≡◌, ◌≤◌, ◌++◌, true, List, [], ◌∷◌, length, Option, None, Some}
 use Rattle.std.specs.List.{AllByRecursion, flat_map}
 use Rattle.std.specs.Option.{option_map}
-use Rattle.std.specs.VecDeque.{deque_capacity, deque_len}
 use Rattle.std.proofs.Common.{sym, ap, subst, ◌∙◌, refl, arith}
 use Rattle.vl_core.specs.declared.kept.Core.{Core}
 use Rattle.vl_core.specs.Represents.{Fronts}
 use Rattle.vl_engine.specs.Pinning.{PinsLive}
-use Rattle.vl_engine.specs.Removing.{AreBelowHead, IsLogBelow, IsStockOf, Removes, UsesThoseOf}
+use Rattle.vl_engine.specs.Removing.{IsStockOf, Removes, UsesThoseOf}
 use Rattle.vl_engine.specs.declared.open.Removing.{Removing}
 use Rattle.vl_layout.specs.Jobs.{lent_numbers}
 use Rattle.vl_layout.specs.Ruling.{halted_at}
-use Rattle.vl_layout.specs.Sources.{head, number_or, oldest, rising}
+use Rattle.vl_layout.specs.Sources.{rising}
 use Rattle.vl_layout.specs.Tidy.{log_numbers}
 use Rattle.vl_layout.specs.declared.file_name.FileName.{FileName}
 use Rattle.vl_layout.specs.declared.file_name.Retired.{Retired}
@@ -41,9 +40,6 @@ pub record IsAlike (l k : Layout) : Type 0 where
   pub running : k.halted ≡ None → l.halted ≡ None
 
 module _ (l k : Layout) (alike : IsAlike l k) where
-  head_same : head l ≡ head k
-  head_same = λ i. number_or (record l.active { number = sym alike.active i }) (oldest (sym alike.frozen i))
-
   sealed_same : l.frozen ++ l.flushed ≡ k.frozen ++ k.flushed
   sealed_same = λ i. sym alike.frozen i ++ sym alike.flushed i
 
@@ -73,21 +69,11 @@ module _ (l k : Layout) (alike : IsAlike l k) where
       room = let room = is.room in let few = alike.lent in omega (arith, room, few);
     })
 
-    below_alike : after.back.state.head ≡ core.back.state.head → AreBelowHead core l → AreBelowHead after k
-    below_alike same below = record {
-      flushed = subst (λ (n : ℕ). AllByRecursion (λ (s : Segment). s.number < n) k.flushed) (sym same)
-          (subst (AllByRecursion (λ (s : Segment). s.number < core.back.state.head)) (sym alike.flushed) below.flushed);
-      retired = subst (λ (n : ℕ). AllByRecursion (λ (r : Retired). IsLogBelow n r.file) k.retired) (sym same)
-          (subst (AllByRecursion (λ (r : Retired). IsLogBelow core.back.state.head r.file)) (sym alike.retired) below.retired);
-      from = subst (λ (n : ℕ). after.back.state.head ≤ n) head_same (subst (λ (n : ℕ). n ≤ head l) (sym same) below.from);
-    }
-
-    pub removes_alike : {L : Type 0} (low : Bool) (old new : Removing L) → after.back.state.head ≡ core.back.state.head
-        → new.stock ≡ old.stock → ArePinsOf new.pins k → Removes low core old l → Removes low after new k
-    removes_alike low old new same stock pins is = record {
+    pub removes_alike : {L : Type 0} (old new : Removing L) → new.stock ≡ old.stock → ArePinsOf new.pins k → Removes core old l
+        → Removes after new k
+    removes_alike old new stock pins is = record {
       pins = pins;
       stock = λ running. stock_alike old.stock new.stock stock (is.stock (alike.running running));
-      below = λ holds running. below_alike same (is.below holds (alike.running running));
     }
 
 -- What is pinned stays where a layout pins the same.
@@ -114,27 +100,24 @@ alike_same l = record {
 }
 
 -- Once it is halted nothing is said but of pins.
-pub removes_halted : {H L : Type 0} (low : Bool) (after : Core H) (new : Removing L) (l : Layout) (name : FileName)
-    → ArePinsOf new.pins l → Removes low after new (halted_at name l)
-removes_halted low after new l name pins = record {
+pub removes_halted : {H L : Type 0} (after : Core H) (new : Removing L) (l : Layout) (name : FileName)
+    → ArePinsOf new.pins l → Removes after new (halted_at name l)
+removes_halted after new l name pins = record {
   pins = pins_alike new.pins l (halted_at name l) refl refl refl (omega arith) pins;
   stock = λ running. cc;
-  below = λ holds running. cc;
 }
 
 -- Where all but memory stays,
-pub removes_same : {H L : Type 0} (low : Bool) (core after : Core H) (old new : Removing L) (l : Layout)
-    → after.version.behind.logs.items ≡ core.version.behind.logs.items → after.back.state.head ≡ core.back.state.head
-    → new.stock ≡ old.stock → ArePinsOf new.pins l → Removes low core old l → Removes low after new l
-removes_same low core after old new l logs head stock pins is =
-    removes_alike l l (alike_same l) core after logs low old new head stock pins is
+pub removes_same : {H L : Type 0} (core after : Core H) (old new : Removing L) (l : Layout)
+    → after.version.behind.logs.items ≡ core.version.behind.logs.items → new.stock ≡ old.stock → ArePinsOf new.pins l
+    → Removes core old l → Removes after new l
+removes_same core after old new l logs stock pins is = removes_alike l l (alike_same l) core after logs old new stock pins is
 
 -- and where something ends, or begins.
-pub removes_live : {H L : Type 0} (low : Bool) (core after : Core H) (old new : Removing L) (l : Layout) (live : List Live)
-    → after.version.behind.logs.items ≡ core.version.behind.logs.items → after.back.state.head ≡ core.back.state.head
-    → new.stock ≡ old.stock → ArePinsOf new.pins (record l { live = live }) → Removes low core old l
-    → Removes low after new (record l { live = live })
-removes_live low core after old new l live logs head stock pins is =
+pub removes_live : {H L : Type 0} (core after : Core H) (old new : Removing L) (l : Layout) (live : List Live)
+    → after.version.behind.logs.items ≡ core.version.behind.logs.items → new.stock ≡ old.stock
+    → ArePinsOf new.pins (record l { live = live }) → Removes core old l → Removes after new (record l { live = live })
+removes_live core after old new l live logs stock pins is =
     removes_alike l (record l { live = live }) (record {
       flushed = refl;
       frozen = refl;
@@ -144,12 +127,12 @@ removes_live low core after old new l live logs head stock pins is =
       later = omega arith;
       lent = omega arith;
       running = λ e. e;
-    }) core after logs low old new head stock pins is
+    }) core after logs old new stock pins is
 
 -- What lives is pinned as the layout has it.
-pub pins_here : {H L : Type 0} (core : Core H) (h : History) (l : Layout) → Fronts core h l → (low : Bool) (kept : Removing L)
-    → Removes low core kept l → PinsLive core.front.oracle kept.pins core.back.version_number l
-pins_here core h l is low kept removes = record {
+pub pins_here : {H L : Type 0} (core : Core H) (h : History) (l : Layout) → Fronts core h l → (kept : Removing L)
+    → Removes core kept l → PinsLive core.front.oracle kept.pins core.back.version_number l
+pins_here core h l is kept removes = record {
   live_are = is.front.live_are;
   rising = is.front.lived.rising;
   pins_are = removes.pins;

@@ -13,7 +13,7 @@ use Rattle.vl_disk.specs.declared.watched.Watched.{Ghosts}
 use Rattle.vl_disk.specs.declared.writer.Writer.{Ghosts as Writers}
 use Rattle.vl_engine.proofs.There.Kept.{StandStill, there_kept, told_stand}
 use Rattle.vl_engine.specs.Lent.{LeavesLent}
-use Rattle.vl_engine.specs.Removing.{HasInUse, IsThere, are_distinct, are_unused, is_none_of, lent_in, logs_in_use}
+use Rattle.vl_engine.specs.Removing.{HasInUse, IsThere, are_distinct, are_unused, lent_in, logs_in_use}
 use Rattle.vl_engine.specs.Removing.{numbers_left, standing_names, tables_in_use}
 use Rattle.vl_engine.specs.declared.open.OpenMerge.{OpenMerge}
 use Rattle.vl_model.specs.Numbers.{has}

@@ -1,4 +1,4 @@
--- What is made of a version of how long its logs are, of what its tables lead to, and of where its head is, is the layout's.
+-- What is made of a version of how long its logs are and of what its tables lead to is the layout's.
 use Rattle.std.specs.Prelude.{◌≡◌, ◌<◌, ◌+◌, ℕ, Bool, true, false, ◌==◌, ◌||◌, if◌then◌else◌, length}
 use Rattle.std.specs.Prelude.{List, [], ◌∷◌, ◌++◌, map, Option, None, Some, refl}
 use Rattle.std.specs.List.{AllByRecursion, AllZip, filter, list_any}
@@ -10,16 +10,15 @@ use Rattle.std.proofs.lemmas.Bool.Decides.{nat_tests}
 use Rattle.std.proofs.lemmas.Cmp.{ranked}
 use Rattle.vl_block.specs.Footer.{Foot}
 use Rattle.vl_block.specs.declared.points.Point.{Point}
-use Rattle.vl_core.specs.Laid.{HasLog, IsLogOf, IsMemtableOf, IsTableOf}
+use Rattle.vl_core.specs.Laid.{HasLog, IsLogOf, IsTableOf}
 use Rattle.vl_core.specs.Pointed.{bytes_of_log, segment_at}
 use Rattle.vl_core.specs.laws.SegmentLaws.{segment_there}
 use Rattle.vl_layout.specs.Jobs.{AreDistinct}
 use Rattle.vl_layout.specs.Levels.{is_among}
-use Rattle.vl_layout.specs.Sources.{number_or, oldest, put_segment, rising}
+use Rattle.vl_layout.specs.Sources.{put_segment, rising}
 use Rattle.vl_layout.specs.Tidy.{IsTrueLog, IsTrueTable, log_numbers}
 use Rattle.vl_layout.specs.declared.segment.Segment.{Segment}
 use Rattle.vl_layout.specs.declared.table.Table as laid
-use Rattle.vl_memtable.specs.declared.frozen_log.FrozenLog.{FrozenLog}
 use Rattle.vl_model.specs.Entries.{by_order}
 use Rattle.vl_model.specs.Numbers.{has}
 use Rattle.vl_seglog.specs.declared.sealed.SealedLog.{SealedLog}
@@ -27,7 +26,6 @@ use Rattle.vl_seglog.specs.laws.FrameLaws.{length-log_bytes}
 use Rattle.vl_table.specs.Tables.{shape_of}
 use Rattle.vl_table.specs.declared.table.Table.{Table}
 use Rattle.vl_version.specs.Bases.{is_input}
-use Rattle.vl_version.specs.Oldest.{oldest_frozen}
 use Rattle.vl_version.specs.Sources.{AreRising, log_in}
 
 -- ---- tables
@@ -73,23 +71,6 @@ module _ {H : Type 0} (bytes : H → Option (List ℕ)) where
       by false false e later = later
       by true false e later = absurd cc
       by false true e later = absurd cc
-
--- ---- head
-
--- the number of a log that may be none, or another one
-abbrev pub frozen_number : ℕ → Option FrozenLog → ℕ
-frozen_number active None = active
-frozen_number active (Some log) = log.number
-
-pub head_held : (a : Segment) (n : ℕ) → n ≡ a.number → (fs : List FrozenLog) (ss : List Segment) → AllZip IsMemtableOf fs ss
-    → frozen_number n (oldest_frozen fs) ≡ number_or a (oldest ss)
-head_held a n same [] [] zip = same
-head_held a n same [] (s ∷ ss) zip = absurd zip
-head_held a n same (f ∷ fs) [] zip = absurd zip
-head_held a n same (f ∷ []) (s ∷ []) zip = zip.0.number
-head_held a n same (f ∷ []) (s ∷ t ∷ ss) zip = absurd zip.1
-head_held a n same (f ∷ g ∷ fs) (s ∷ []) zip = absurd zip.1
-head_held a n same (f ∷ g ∷ fs) (s ∷ t ∷ ss) zip = head_held a n same (g ∷ fs) (t ∷ ss) zip.1
 
 -- ---- numbers that rise
 

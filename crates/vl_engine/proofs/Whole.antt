@@ -119,7 +119,7 @@ halted_logs name l = record {
   pass = refl;
 }
 
-ended_logs : (l : Layout) (h : History) (job : Job) (made : Made) → HasSameLogs l (abandon_ruling l h job made).layout
+pub ended_logs : (l : Layout) (h : History) (job : Job) (made : Made) → HasSameLogs l (abandon_ruling l h job made).layout
 ended_logs l h job made = record {
   active = refl;
   frozen = refl;
@@ -158,7 +158,7 @@ installed_logs l job made = record {
   pass = refl;
 }
 
-lost_logs : (name : FileName) (l : Layout) (h : History) (job : Job) (made : Made)
+pub lost_logs : (name : FileName) (l : Layout) (h : History) (job : Job) (made : Made)
     → HasSameLogs l (halted_at name (install_lost made l))
 lost_logs name l h job made = record {
   active = refl;
@@ -256,7 +256,7 @@ none_kept R None (Some j) none is = absurd is
 none_kept R (Some a) answer none is = absurd (let no : Some a ≡ None = none in cc)
 
 -- an install leaves the layout with its tables put in, or with the merge given up
-install_by : (l : Layout) (h : History) (job : Job) (made : Made) (P : Ruling InstallAnswer → Type 0)
+pub install_by : (l : Layout) (h : History) (job : Job) (made : Made) (P : Ruling InstallAnswer → Type 0)
     → ((a : InstallAnswer) → P (leaving a h (abandon_ruling l h job made).layout))
     → P (record { answer = install.Installed; history = h; layout = installed job made l; calls = 2; gone = [] })
     → P (install_ruling l h job made)
@@ -275,16 +275,16 @@ install_by l h job made P left put = by l.halted
     by None = checked (race job (moved_since l.job))
     by (Some name) = left (install.Halted name)
 
-install_keeps : (l : Layout) (h : History) (job : Job) (made : Made) → HasSameLogs l (install_ruling l h job made).layout
+pub install_keeps : (l : Layout) (h : History) (job : Job) (made : Made) → HasSameLogs l (install_ruling l h job made).layout
 install_keeps l h job made =
     install_by l h job made (λ r. HasSameLogs l r.layout) (λ a. ended_logs l h job made) (installed_logs l job made)
 
-install_history : (l : Layout) (h : History) (job : Job) (made : Made) → (install_ruling l h job made).history ≡ h
+pub install_history : (l : Layout) (h : History) (job : Job) (made : Made) → (install_ruling l h job made).history ≡ h
 install_history l h job made = install_by l h job made (λ r. r.history ≡ h) (λ a. refl) refl
 
 -- ---- outcomes
 
-both : {A : Type 0} (S T : History → Layout → Type 0) (h : History) (l : Layout) (ruling : Ruling A) (otherwise : Otherwise)
+pub both : {A : Type 0} (S T : History → Layout → Type 0) (h : History) (l : Layout) (ruling : Ruling A) (otherwise : Otherwise)
     (outcome : Outcome A) (effects : Effects) → Decides S h l ruling otherwise outcome effects
     → Decides T h l ruling otherwise outcome effects
     → Decides (λ k x. S k x × T k x) h l ruling otherwise outcome effects
@@ -491,22 +491,27 @@ module _ {D H : Type 0} (g : Ghosts D) (bytes : H → Option (List ℕ)) where
       shown : s.layout.halted ≡ None → CrashesShow g mid new h h
       shown running = subst (λ (k : History). CrashesShow g mid new h k) (fresh_history s.layout h) (carries.through running)
 
-      pub asked : (t : StaysFor g bytes old new after now h l) × KeepsJob s.layout t.layout × SameTables s.layout t.layout
-      asked = build (ends (λ x y. InMemory x y × OnDisk x y) (KeepsBoth s.layout) h s.layout (fresh_ruling s.layout h)
-          (as_before s.layout s.layout) (fresh_outcome result) (fresh_effects result) (fresh_history s.layout h)
-          (fresh_keeps s.layout h) here
+      -- so it is of whatever else the call decides
+      pub asked : (K : History → Layout → Type 0) → Decides K h s.layout (fresh_ruling s.layout h) (as_before s.layout s.layout)
+          (fresh_outcome result) (fresh_effects result)
+          → (t : StaysFor g bytes old new after now h l) × KeepsJob s.layout t.layout × SameTables s.layout t.layout × K h t.layout
+      asked K decides = build (ends (λ x y. (InMemory x y × OnDisk x y) × K x y) (KeepsBoth s.layout) h s.layout
+          (fresh_ruling s.layout h) (as_before s.layout s.layout) (fresh_outcome result) (fresh_effects result)
+          (fresh_history s.layout h) (fresh_keeps s.layout h) here
           (λ name. (halted_logs name s.layout, λ o is. (o, is, refl), record { levels = refl; flushed = refl })) here
+          (both (λ x y. InMemory x y × OnDisk x y) K h s.layout (fresh_ruling s.layout h)
+          (as_before s.layout s.layout) (fresh_outcome result) (fresh_effects result)
           (both InMemory OnDisk h s.layout (fresh_ruling s.layout h)
           (as_before s.layout s.layout) (fresh_outcome result) (fresh_effects result)
           (both (StandsOpen bytes after now) (Fits (g.told new) after) h s.layout (fresh_ruling s.layout h)
-          (as_before s.layout s.layout) (fresh_outcome result) (fresh_effects result) stands fits) carries.decides))
+          (as_before s.layout s.layout) (fresh_outcome result) (fresh_effects result) stands fits) carries.decides) decides))
         where
           here : KeepsBoth s.layout s.layout
           here = (same_logs s.layout, λ o is. (o, is, refl), record { levels = refl; flushed = refl })
 
-          build : (x : Layout) × (InMemory h x × OnDisk h x) × KeepsBoth s.layout x
-              → (t : StaysFor g bytes old new after now h l) × KeepsJob s.layout t.layout × SameTables s.layout t.layout
-          build (x, all, kept) = (joined x kept.0 all.0.0 all.1 all.0.1 shown carries.again, kept.1, kept.2)
+          build : (x : Layout) × ((InMemory h x × OnDisk h x) × K h x) × KeepsBoth s.layout x
+              → (t : StaysFor g bytes old new after now h l) × KeepsJob s.layout t.layout × SameTables s.layout t.layout × K h t.layout
+          build (x, (all, so), kept) = (joined x kept.0 all.0.0 all.1 all.0.1 shown carries.again, kept.1, kept.2, so)
 
     -- It was lent.
     module _ (n : ℕ) (effects : Effects)
@@ -522,9 +527,12 @@ module _ {D H : Type 0} (g : Ghosts D) (bytes : H → Option (List ℕ)) where
       abbrev pub ruled : Layout
       ruled = (fresh_ruling s.layout h).layout
 
-      pub lent : (t : StaysFor g bytes old new after now h l) × KeepsJob s.layout t.layout × (t.layout.halted ≡ l.halted)
-          × SameTables s.layout t.layout
-      lent = (
+      -- so it is of whatever else the call decides
+      pub lent : (K : History → Layout → Type 0) → Decides K h s.layout (fresh_ruling s.layout h) (as_before s.layout s.layout)
+          (Answered (fresh.Drawn n)) effects
+          → (t : StaysFor g bytes old new after now h l) × KeepsJob s.layout t.layout × (t.layout.halted ≡ l.halted)
+          × SameTables s.layout t.layout × K h t.layout
+      lent K decides = (
         joined ruled (fresh_keeps s.layout h).0
             (subst (λ (x : History). StandsOpen bytes after now x ruled) (fresh_history s.layout h)
             (stands.answered (fresh.Drawn n) refl).1)
@@ -537,6 +545,7 @@ module _ {D H : Type 0} (g : Ghosts D) (bytes : H → Option (List ℕ)) where
         (fresh_keeps s.layout h).1,
         fresh_halted s.layout h ∙ alike,
         (fresh_keeps s.layout h).2,
+        subst (λ (x : History). K x ruled) (fresh_history s.layout h) (decides.answered (fresh.Drawn n) refl).1,
       )
 
     -- It goes on from there.
@@ -612,8 +621,9 @@ pub record IsBegun {D H R W : Type 0} (g : Ghosts D) (writers : Writers W) (byte
   pub tables : SameTables l stays.layout
 
 module _ {D H R W : Type 0} (g : Ghosts D) (watched : IsWatched g) (writers : Writers W) (bytes : H → Option (List ℕ)) where
-  pub begun : (E : Type 0) {k : _} (old new : D) (before after : Core H) (now : Option OpenMerge) (job : Merging (Base H R) H W k)
-      (h : History) (l : Layout) → new ≡ old → Represents bytes before (g.told old) h l
+  -- so it is of whatever else the call decides
+  pub begun_with : (K : History → Layout → Type 0) (E : Type 0) {k : _} (old new : D) (before after : Core H) (now : Option OpenMerge)
+      (job : Merging (Base H R) H W k) (h : History) (l : Layout) → new ≡ old → Represents bytes before (g.told old) h l
       → (got : Option (Merging (Base H R) H W k)) → got ≡ Some job
       → Decides (StandsOpen bytes after now) h l (plan_ruling l h) (as_before l l)
       (plan_outcome {E = E} (plan_ruling l h).answer (Ok got)) no_effects
@@ -622,8 +632,9 @@ module _ {D H R W : Type 0} (g : Ghosts D) (watched : IsWatched g) (writers : Wr
       → Decides (Fits (g.told new) after) h l (plan_ruling l h) (as_before l l)
       (plan_outcome {E = E} (plan_ruling l h).answer (Ok got)) no_effects
       → AreBoth (HasMerge {R = R} writers bytes {g = k}) got (plan_ruling l h).answer
-      → IsBegun g writers bytes old new after now job h l
-  begun E {k} old new before after now job h l disk is got some_job stands represents fits has =
+      → Decides K h l (plan_ruling l h) (as_before l l) (plan_outcome {E = E} (plan_ruling l h).answer (Ok got)) no_effects
+      → (b : IsBegun g writers bytes old new after now job h l) × K h b.stays.layout
+  begun_with K E {k} old new before after now job h l disk is got some_job stands represents fits has decides =
       by (plan_ruling l h).answer refl
       (subst (λ (o : Option (Merging (Base H R) H W k)). AreBoth (HasMerge {R = R} writers bytes {g = k}) o (plan_ruling l h).answer)
       some_job has)
@@ -636,32 +647,50 @@ module _ {D H R W : Type 0} (g : Ghosts D) (watched : IsWatched g) (writers : Wr
           (plan_outcome {E = E} (plan_ruling l h).answer (Ok o)) no_effects) some_job decides
 
       by : (o : Option Job) → (plan_ruling l h).answer ≡ o → AreBoth (HasMerge {R = R} writers bytes {g = k}) (Some job) o
-          → IsBegun g writers bytes old new after now job h l
+          → (b : IsBegun g writers bytes old new after now job h l) × K h b.stays.layout
       by None none both = absurd both
       by (Some j) some both =
-          let ruled : plan_ruling l h ≡ planned l h j = plan_is l h j some in
-          record {
-            stays = record {
-              layout = with_job j l;
-              same = planned_logs l j;
-              stands = subst (λ (r : Ruling (Option Job)). StandsOpen bytes after now r.history r.layout) ruled
-                  ((planned_one (StandsOpen bytes after now) stands).answered (plan_ruling l h).answer refl).1;
-              represents = subst (λ (r : Ruling (Option Job)). Represents bytes after (g.told new) r.history r.layout) ruled
-                  ((planned_one (Represents bytes after (g.told new)) represents).answered (plan_ruling l h).answer refl).1;
-              fits = subst (λ (r : Ruling (Option Job)). Fits (g.told new) after r.history r.layout) ruled
-                  ((planned_one (Fits (g.told new) after) fits).answered (plan_ruling l h).answer refl).1;
-              through = λ running. subst (λ (d : D). CrashesShow g old d h h) (sym disk)
-                  (rests g watched h l is.stands.tidy before.back old (is.held running));
-              again = λ running. subst (λ (d : D). Tells g d MayOpen) (sym disk)
-                  (opens_again g watched h l is.stands.tidy before.back old (is.held running));
-            };
-            alike = refl;
-            open_job = record { job = j; pin = pin_of l; moved = []; lent = [] };
-            is_open = refl;
-            planned = some;
-            has = both;
-            tables = record { levels = refl; flushed = refl };
-          }
+          let ruled : plan_ruling l h ≡ planned l h j = plan_is l h j some in (
+            record {
+              stays = record {
+                layout = with_job j l;
+                same = planned_logs l j;
+                stands = subst (λ (r : Ruling (Option Job)). StandsOpen bytes after now r.history r.layout) ruled
+                    ((planned_one (StandsOpen bytes after now) stands).answered (plan_ruling l h).answer refl).1;
+                represents = subst (λ (r : Ruling (Option Job)). Represents bytes after (g.told new) r.history r.layout) ruled
+                    ((planned_one (Represents bytes after (g.told new)) represents).answered (plan_ruling l h).answer refl).1;
+                fits = subst (λ (r : Ruling (Option Job)). Fits (g.told new) after r.history r.layout) ruled
+                    ((planned_one (Fits (g.told new) after) fits).answered (plan_ruling l h).answer refl).1;
+                through = λ running. subst (λ (d : D). CrashesShow g old d h h) (sym disk)
+                    (rests g watched h l is.stands.tidy before.back old (is.held running));
+                again = λ running. subst (λ (d : D). Tells g d MayOpen) (sym disk)
+                    (opens_again g watched h l is.stands.tidy before.back old (is.held running));
+              };
+              alike = refl;
+              open_job = record { job = j; pin = pin_of l; moved = []; lent = [] };
+              is_open = refl;
+              planned = some;
+              has = both;
+              tables = record { levels = refl; flushed = refl };
+            },
+            subst (λ (r : Ruling (Option Job)). K r.history r.layout) ruled
+                ((planned_one K decides).answered (plan_ruling l h).answer refl).1,
+          )
+
+  pub begun : (E : Type 0) {k : _} (old new : D) (before after : Core H) (now : Option OpenMerge) (job : Merging (Base H R) H W k)
+      (h : History) (l : Layout) → new ≡ old → Represents bytes before (g.told old) h l
+      → (got : Option (Merging (Base H R) H W k)) → got ≡ Some job
+      → Decides (StandsOpen bytes after now) h l (plan_ruling l h) (as_before l l)
+      (plan_outcome {E = E} (plan_ruling l h).answer (Ok got)) no_effects
+      → Decides (Represents bytes after (g.told new)) h l (plan_ruling l h) (as_before l l)
+      (plan_outcome {E = E} (plan_ruling l h).answer (Ok got)) no_effects
+      → Decides (Fits (g.told new) after) h l (plan_ruling l h) (as_before l l)
+      (plan_outcome {E = E} (plan_ruling l h).answer (Ok got)) no_effects
+      → AreBoth (HasMerge {R = R} writers bytes {g = k}) got (plan_ruling l h).answer
+      → IsBegun g writers bytes old new after now job h l
+  begun E old new before after now job h l disk is got some_job stands represents fits has =
+      (begun_with (Fits (g.told new) after) E old new before after now job h l disk is got some_job stands represents fits has
+      fits).0
 
 -- ---- a merge that is carried out
 
@@ -700,13 +729,13 @@ is_fresh g writers bytes disk core h l file is running empty f found =
     let e : Some f ≡ Some new_file = sym found ∙ empty held.state held.told_is in cc
 
 -- what isn't answered asks nothing
-no_ok : (P : Type 0) (result : Result (Unit {0}) MergeFail) → IsErr result → OnOk result P
+pub no_ok : (P : Type 0) (result : Result (Unit {0}) MergeFail) → IsErr result → OnOk result P
 no_ok P (Ok done) failed = absurd (let no : false ≡ true = failed in cc)
 no_ok P (Err why) failed = tt
 
 module _ {D H R W : Type 0} (g : Ghosts D) (writers : Writers W) (bytes : H → Option (List ℕ)) {k : _} (h : History) (l : Layout) where
   -- before the first table
-  pub starts : IsWatched g → (disk : D) (core : Core H) (merging : Option OpenMerge) (job : Merging (Base H R) H W k)
+  abbrev pub starts : IsWatched g → (disk : D) (core : Core H) (merging : Option OpenMerge) (job : Merging (Base H R) H W k)
       (reader : JobReader R (BlockReader R)) (o : OpenJob)
       → Represents bytes core (g.told disk) h l → StandsOpen bytes core merging h l → Fits (g.told disk) core h l
       → l.job ≡ Some o → HasMerge writers bytes job o.job → FitsReaders bytes job → ((files : Files) → AreKept files reader.looks)
@@ -723,7 +752,7 @@ module _ {D H R W : Type 0} (g : Ghosts D) (writers : Writers W) (bytes : H → 
   }
 
   -- not even a reader was there
-  pub unbegun : IsWatched g → (disk : D) (core : Core H) (merging : Option OpenMerge) (job : Merging (Base H R) H W k)
+  abbrev pub unbegun : IsWatched g → (disk : D) (core : Core H) (merging : Option OpenMerge) (job : Merging (Base H R) H W k)
       (result : Result (Unit {0}) MergeFail) → IsErr result → (o : OpenJob) → Represents bytes core (g.told disk) h l
       → StandsOpen bytes core merging h l → Fits (g.told disk) core h l → l.job ≡ Some o
       → MakesTables g writers bytes disk disk core merging job h l o.job result
@@ -742,7 +771,7 @@ module _ {D H R W : Type 0} (g : Ghosts D) (writers : Writers W) (bytes : H → 
   module _ (j : Job) (old mid : D) (before : Core H) (was : Option OpenMerge) (first : Merging (Base H R) H W k)
       (reader : JobReader R (BlockReader R)) (m : IsMaking g writers bytes old mid before was first reader h l j) where
     -- it ends there for want of something
-    pub fails : (job : Merging (Base H R) H W k) (result : Result (Unit {0}) MergeFail) → IsErr result
+    abbrev pub fails : (job : Merging (Base H R) H W k) (result : Result (Unit {0}) MergeFail) → IsErr result
         → MakesTables g writers bytes old mid before was job h l j result
     fails job result failed = record {
       stays = m.stays;
@@ -757,7 +786,7 @@ module _ {D H R W : Type 0} (g : Ghosts D) (writers : Writers W) (bytes : H → 
     }
 
     -- all tables are made
-    pub has_all : (halted : Option Name) (job : Merging (Base H R) H W k) → IsHandedIn g writers mid halted was job
+    abbrev pub has_all : (halted : Option Name) (job : Merging (Base H R) H W k) → IsHandedIn g writers mid halted was job
         → HasAllMerge writers bytes job j → MakesTables g writers bytes old mid before was job h l j (Ok tt)
     has_all halted job handed all = record {
       stays = m.stays;
@@ -773,6 +802,38 @@ module _ {D H R W : Type 0} (g : Ghosts D) (writers : Writers W) (bytes : H → 
 
     module _ (new : D) (after : Core H) (now : Option OpenMerge) where
       -- no file was lent
+      pub unlent_with : (K : History → Layout → Type 0) (fail : StepFail) (job : Merging (Base H R) H W k)
+          (result : Result (Unit {0}) MergeFail) → IsErr result
+          → Decides (StandsOpen bytes after now) h m.stays.layout (fresh_ruling m.stays.layout h) (as_before m.stays.layout m.stays.layout)
+          (fresh_outcome {W = W} {g = k} (Err fail)) (fresh_effects {W = W} {g = k} (Err fail))
+          → Carries g bytes mid new after h m.stays.layout (fresh_ruling m.stays.layout h) (as_before m.stays.layout m.stays.layout)
+          (fresh_outcome {W = W} {g = k} (Err fail)) (fresh_effects {W = W} {g = k} (Err fail))
+          → Decides (Fits (g.told new) after) h m.stays.layout (fresh_ruling m.stays.layout h) (as_before m.stays.layout m.stays.layout)
+          (fresh_outcome {W = W} {g = k} (Err fail)) (fresh_effects {W = W} {g = k} (Err fail))
+          → Decides K h m.stays.layout (fresh_ruling m.stays.layout h) (as_before m.stays.layout m.stays.layout)
+          (fresh_outcome {W = W} {g = k} (Err fail)) (fresh_effects {W = W} {g = k} (Err fail))
+          → (t : MakesTables g writers bytes old new after now job h l j result) × K h t.stays.layout
+      unlent_with K fail job result failed stands carries fits decides =
+          build (asked g bytes old mid new before after was now h l m.stays m.alike {W = W} {k = k} (Err fail) stands carries fits
+          K decides)
+        where
+          build : (t : StaysFor g bytes old new after now h l) × KeepsJob m.stays.layout t.layout × SameTables m.stays.layout t.layout
+              × K h t.layout → (t : MakesTables g writers bytes old new after now job h l j result) × K h t.stays.layout
+          build (t, keeps, same, so) = let p = keeps m.open_job m.is_open in (
+            record {
+              stays = t;
+              open_job = p.0;
+              is_open = p.1;
+              job_is = p.2 ∙ m.job_is;
+              whole = no_ok _ result failed;
+              lent = no_ok _ result failed;
+              running = no_ok _ result failed;
+              levels = (tables_then l m.stays.layout t.layout m.tables same).levels;
+              flushed = (tables_then l m.stays.layout t.layout m.tables same).flushed;
+            },
+            so,
+          )
+
       pub unlent : (fail : StepFail) (job : Merging (Base H R) H W k) (result : Result (Unit {0}) MergeFail) → IsErr result
           → Decides (StandsOpen bytes after now) h m.stays.layout (fresh_ruling m.stays.layout h) (as_before m.stays.layout m.stays.layout)
           (fresh_outcome {W = W} {g = k} (Err fail)) (fresh_effects {W = W} {g = k} (Err fail))
@@ -782,21 +843,7 @@ module _ {D H R W : Type 0} (g : Ghosts D) (writers : Writers W) (bytes : H → 
           (fresh_outcome {W = W} {g = k} (Err fail)) (fresh_effects {W = W} {g = k} (Err fail))
           → MakesTables g writers bytes old new after now job h l j result
       unlent fail job result failed stands carries fits =
-          build (asked g bytes old mid new before after was now h l m.stays m.alike {W = W} {k = k} (Err fail) stands carries fits)
-        where
-          build : (t : StaysFor g bytes old new after now h l) × KeepsJob m.stays.layout t.layout × SameTables m.stays.layout t.layout
-              → MakesTables g writers bytes old new after now job h l j result
-          build (t, keeps, same) = let p = keeps m.open_job m.is_open in record {
-            stays = t;
-            open_job = p.0;
-            is_open = p.1;
-            job_is = p.2 ∙ m.job_is;
-            whole = no_ok _ result failed;
-            lent = no_ok _ result failed;
-            running = no_ok _ result failed;
-            levels = (tables_then l m.stays.layout t.layout m.tables same).levels;
-            flushed = (tables_then l m.stays.layout t.layout m.tables same).flushed;
-          }
+          (unlent_with (Fits (g.told new) after) fail job result failed stands carries fits fits).0
 
       module _ (n : ℕ) (effects : Effects)
           (stands : Decides (StandsOpen bytes after now) h m.stays.layout (fresh_ruling m.stays.layout h)
@@ -805,38 +852,55 @@ module _ {D H R W : Type 0} (g : Ghosts D) (writers : Writers W) (bytes : H → 
           (as_before m.stays.layout m.stays.layout) (Answered (fresh.Drawn n)) effects)
           (fits : Decides (Fits (g.told new) after) h m.stays.layout (fresh_ruling m.stays.layout h)
           (as_before m.stays.layout m.stays.layout) (Answered (fresh.Drawn n)) effects) where
-        behind_it : (t : StaysFor g bytes old new after now h l) × KeepsJob m.stays.layout t.layout × (t.layout.halted ≡ l.halted)
-            × SameTables m.stays.layout t.layout
-        behind_it = lent g bytes old mid new before after was now h l m.stays m.alike n effects stands carries fits
+        module _ (K : History → Layout → Type 0) (decides : Decides K h m.stays.layout (fresh_ruling m.stays.layout h)
+            (as_before m.stays.layout m.stays.layout) (Answered (fresh.Drawn n)) effects) where
+          behind_it : (t : StaysFor g bytes old new after now h l) × KeepsJob m.stays.layout t.layout × (t.layout.halted ≡ l.halted)
+              × SameTables m.stays.layout t.layout × K h t.layout
+          behind_it = lent g bytes old mid new before after was now h l m.stays m.alike n effects stands carries fits K decides
 
-        -- the table was made
+          -- the table was made
+          pub made_more_with : (last : Merging (Base H R) H W k) (next : JobReader R (BlockReader R)) → HasMerge writers bytes last j
+              → bases.Fits bytes last.base.version next.looks
+              → (t : IsMaking g writers bytes old new after now last next h l j) × K h t.stays.layout
+          made_more_with last next has looks = let p = behind_it.1 m.open_job m.is_open in (
+            record {
+              stays = behind_it.0;
+              alike = behind_it.2;
+              open_job = p.0;
+              is_open = p.1;
+              job_is = p.2 ∙ m.job_is;
+              has = has;
+              fits = looks;
+              tables = tables_then l m.stays.layout behind_it.0.layout m.tables behind_it.3;
+            },
+            behind_it.4,
+          )
+
+          -- it wasn't
+          pub unfilled_with : (job : Merging (Base H R) H W k) (result : Result (Unit {0}) MergeFail) → IsErr result
+              → (t : MakesTables g writers bytes old new after now job h l j result) × K h t.stays.layout
+          unfilled_with job result failed = let p = behind_it.1 m.open_job m.is_open in (
+            record {
+              stays = behind_it.0;
+              open_job = p.0;
+              is_open = p.1;
+              job_is = p.2 ∙ m.job_is;
+              whole = no_ok _ result failed;
+              lent = no_ok _ result failed;
+              running = no_ok _ result failed;
+              levels = (tables_then l m.stays.layout behind_it.0.layout m.tables behind_it.3).levels;
+              flushed = (tables_then l m.stays.layout behind_it.0.layout m.tables behind_it.3).flushed;
+            },
+            behind_it.4,
+          )
+
         pub made_more : (last : Merging (Base H R) H W k) (next : JobReader R (BlockReader R)) → HasMerge writers bytes last j
             → bases.Fits bytes last.base.version next.looks → IsMaking g writers bytes old new after now last next h l j
-        made_more last next has looks = let p = behind_it.1 m.open_job m.is_open in record {
-          stays = behind_it.0;
-          alike = behind_it.2;
-          open_job = p.0;
-          is_open = p.1;
-          job_is = p.2 ∙ m.job_is;
-          has = has;
-          fits = looks;
-          tables = tables_then l m.stays.layout behind_it.0.layout m.tables behind_it.3;
-        }
+        made_more last next has looks = (made_more_with (Fits (g.told new) after) fits last next has looks).0
 
-        -- it wasn't
         pub unfilled : (job : Merging (Base H R) H W k) (result : Result (Unit {0}) MergeFail) → IsErr result
             → MakesTables g writers bytes old new after now job h l j result
-        unfilled job result failed = let p = behind_it.1 m.open_job m.is_open in record {
-          stays = behind_it.0;
-          open_job = p.0;
-          is_open = p.1;
-          job_is = p.2 ∙ m.job_is;
-          whole = no_ok _ result failed;
-          lent = no_ok _ result failed;
-          running = no_ok _ result failed;
-          levels = (tables_then l m.stays.layout behind_it.0.layout m.tables behind_it.3).levels;
-          flushed = (tables_then l m.stays.layout behind_it.0.layout m.tables behind_it.3).flushed;
-        }
+        unfilled job result failed = (unfilled_with (Fits (g.told new) after) fits job result failed).0
 
 -- ---- an install that is made of a layout for which the engine fits
 

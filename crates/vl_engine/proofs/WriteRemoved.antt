@@ -43,7 +43,7 @@ stock_by {L = L} ticket old new (Err (fails.Disk name)) is = ap (λ (r : Removin
 module _ {D H : Type 0} (g : Ghosts D) (bytes : H → Option (List ℕ)) (disk then : D)
     (before after : Core H) (h : History) (l : Layout) (ticket number : ℕ) (reads : List Read) (writes : Writes)
     (back : after.back ≡ before.back) (logs : after.version.behind.logs.items ≡ before.version.behind.logs.items)
-    {L : Type 0} (low : Bool) (old new : Removing L) (is : Fronts before h l) (removes : Removes low before old l) where
+    {L : Type 0} (old new : Removing L) (is : Fronts before h l) (removes : Removes before old l) where
   abbrev t : Transaction
   t = record { ticket = ticket; number = number; reads = reads; writes = entries writes }
 
@@ -54,10 +54,7 @@ module _ {D H : Type 0} (g : Ghosts D) (bytes : H → Option (List ℕ)) (disk t
   otherwise = as_before l (commit_lost l t)
 
   abbrev Stays : History → Layout → Type 0
-  Stays _ k = Removes low after new k
-
-  head : after.back.state.head ≡ before.back.state.head
-  head = ap (λ (b : Back). b.state.head) back
+  Stays _ k = Removes after new k
 
   -- it has ended
   ended_pins : new ≡ unpinned ticket old → ArePinsOf new.pins (ended ticket l)
@@ -76,7 +73,7 @@ module _ {D H : Type 0} (g : Ghosts D) (bytes : H → Option (List ℕ)) (disk t
         later = omega arith;
         lent = omega arith;
         running = λ e. e;
-      }) before after logs low old new head (ap (λ (r : Removing L). r.stock) same)
+      }) before after logs old new (ap (λ (r : Removing L). r.stock) same)
       (pins_alike new.pins (ended ticket l) k refl refl refl (omega arith) (ended_pins same)) removes
 
   module _ {R : Type 0} (write : committed l h t ≡ ruling) where
@@ -95,9 +92,9 @@ module _ {D H : Type 0} (g : Ghosts D) (bytes : H → Option (List ℕ)) (disk t
     removes_by (Err (fails.Full txn long frame)) none same = absurd none
     removes_by (Err (fails.NoMemory txn)) un same =
         decides_short Stays h l ruling (commit_lost l t)
-        (removes_same low before after old new l logs head (ap (λ (r : Removing L). r.stock) same)
+        (removes_same before after old new l logs (ap (λ (r : Removing L). r.stock) same)
         (subst (λ (r : Removing L). ArePinsOf r.pins l) (sym same) removes.pins) removes)
     removes_by (Err (fails.Disk name)) (named, failed) same =
         decides_failed Stays h l ruling (commit_lost l t) (file_of name) no_effects
         (accepted bytes before after h l ticket number reads writes back write).running
-        (removes_halted low after new (ended ticket l) (file_of name) (ended_pins same))
+        (removes_halted after new (ended ticket l) (file_of name) (ended_pins same))

@@ -1,7 +1,7 @@
 -- What an engine keeps of where space comes back from, and what the calls of a pass come to as the rulings on them have it.
-use Rattle.std.specs.Prelude.{◌≡◌, ◌<◌, ℕ, true, List, map, Option, None, Some, IsSome, Result, Ok, Err}
+use Rattle.std.specs.Prelude.{◌≡◌, ◌<◌, ◌==◌, ℕ, true, List, map, Option, None, Some, IsSome, Result, Ok, Err}
 use Rattle.std.specs.Arc.{arc_value}
-use Rattle.std.specs.List.{AllByRecursion}
+use Rattle.std.specs.List.{AllByRecursion, filter}
 use Rattle.std.specs.Option.{ForSome, option_map}
 use Rattle.vl_block.specs.declared.points.Point.{Point}
 use Rattle.vl_collect.specs.Passing.{Begins, IsPass, IsWholeFrom}
@@ -32,11 +32,10 @@ use Rattle.vl_layout.specs.Tidy.{log_numbers, sealed}
 use Rattle.vl_layout.specs.declared.job.OpenJob.{OpenJob}
 use Rattle.vl_layout.specs.declared.job.OpenPass.{OpenPass}
 use Rattle.vl_layout.specs.declared.layout.Layout.{Layout}
-use Rattle.vl_memtable.specs.declared.frozen_log.FrozenLog.{FrozenLog}
 use Rattle.vl_model.specs.History.{History}
 use Rattle.vl_model.specs.Numbers.{has}
 use Rattle.vl_seglog.specs.declared.sealed.SealedLog.{SealedLog}
-use Rattle.vl_stats.specs.Live.{Switches}
+use Rattle.vl_stats.specs.Live.{Switches, bytes_of}
 use Rattle.vl_stats.specs.Tallies.{IsTally, Tallied}
 use Rattle.vl_table.specs.Kept.{Files}
 use Rattle.vl_table.specs.KeptBlocks.{AreKept}
@@ -45,7 +44,7 @@ use Rattle.vl_table.specs.declared.block_reader.BlockReader.{BlockReader}
 use Rattle.vl_table.specs.declared.table.Table.{Table}
 use Rattle.vl_version.specs.Bases as bases
 use Rattle.vl_version.specs.Bases.{HasSources}
-use Rattle.vl_version.specs.Oldest.{oldest_frozen}
+use Rattle.vl_version.specs.Needed.{head_of}
 use Rattle.vl_version.specs.Shared.{IsSameLog}
 use Rattle.vl_version.specs.Sources.{AreRising, log_in}
 use Rattle.vl_version.specs.declared.base.Base.{Base}
@@ -90,13 +89,13 @@ points_made {W} {g} made = map (λ (t : Synced W g). (arc_value t.shape).footer.
 abbrev pub lengths_in : {H : Type 0} → (H → ℕ) → List (SealedLog H) → List (ℕ × ℕ)
 lengths_in {H} size logs = map (λ (log : SealedLog H). (log.number, size log.held)) logs
 
--- the least log whose memtable isn't flushed
-abbrev pub number_or : ℕ → Option FrozenLog → ℕ
-number_or active None = active
-number_or active (Some log) = log.number
+-- the numbers of those of which nothing is live
+abbrev pub idle_in : {H : Type 0} → List (ℕ × ℕ) → List (SealedLog H) → List ℕ
+idle_in {H} live logs = map (λ (log : SealedLog H). log.number) (filter (λ (log : SealedLog H). bytes_of live log.number == 0) logs)
 
+-- the least log whose memtable isn't flushed
 abbrev pub head_in : {H : Type 0} → Core H → ℕ
-head_in core = number_or core.front.log.number (oldest_frozen core.version.behind.frozen.items)
+head_in core = head_of core.front.log.number core.version.behind.frozen.items
 
 -- it is made, and the layout's
 abbrev pub IsTallied : Option Tallied → Layout → Type 0

@@ -2,7 +2,7 @@
 use Rattle.std.specs.Prelude.{◌≡◌, ◌≢◌, ◌⊎◌, ℕ, ◌+◌, ◌-◌, ◌≤◌, ◌<◌, ◌^◌, false, nat_le, true, List, [], ◌∷◌, ◌++◌}
 use Rattle.std.specs.Prelude.{length, map, min, Option, None, Some, IsSome, Result, Ok, Err}
 use Rattle.std.specs.Arc.{arc_value}
-use Rattle.std.specs.List.{AllByRecursion}
+use Rattle.std.specs.List.{AllByRecursion, filter}
 use Rattle.std.specs.Option.{ForSome}
 use Rattle.vl_back.specs.InstallStaging.{IsStagedInstall, replacing_of}
 use Rattle.vl_back.specs.Writing.{IsKept}
@@ -46,6 +46,7 @@ use Rattle.vl_model.specs.declared.counter.Counter.TheVariants as counters
 use Rattle.vl_model.specs.declared.counter.Counter.{Counter}
 use Rattle.vl_table.specs.Tables.{number_of}
 use Rattle.vl_version.specs.Bases.{HasSources}
+use Rattle.vl_version.specs.Needed.{head_of, is_kept}
 use Rattle.vl_version.specs.Replacing.{IsReplaced}
 use Rattle.vl_version.specs.declared.base.Base.{Base}
 
@@ -147,7 +148,11 @@ pub record IsInstalled {D H R W : Type 0} (g : Ghosts D) (bytes : H → Option (
   pub back : IsBackInstalled before.back after.back ready.staged
   pub active : after.version.active ≡ ready.version.active
   pub frozen : after.version.behind.frozen.items ≡ ready.version.frozen.items
-  pub logs : after.version.behind.logs.items ≡ ready.version.logs.items
+  -- the version let go of logs that it doesn't need
+  pub idle : List ℕ
+  pub logs : after.version.behind.logs.items
+      ≡ filter (is_kept idle (head_of before.front.log.number ready.version.frozen.items) after.version.behind.levels)
+      ready.version.logs.items
   pub put : (target : Target) (inputs : List ℕ) (first : Option (List ℕ)) (ls : List (List laid.Table)) (new_ones : List laid.Table)
       → AreReady bytes target inputs first ls new_ones levels → first_key new_ones ≡ first
       → AreLevelsOf bytes after.version.behind.levels (replaced target inputs new_ones ls)

@@ -1,8 +1,8 @@
 -- What an engine keeps of which files can go: what still looks at them, which are in use, and which wait for their removal. That it
 -- is what the layout has, and that the disk has these files.
-use Rattle.std.specs.Prelude.{◌≡◌, ◌<◌, ◌≤◌, ◌+◌, ℕ, ◌==◌, ◌&&◌, nat_lt, not, Bool, true, false, List, [], ◌∷◌, ◌++◌}
+use Rattle.std.specs.Prelude.{◌≡◌, ◌≤◌, ◌+◌, ℕ, ◌==◌, ◌&&◌, not, Bool, true, false, List, [], ◌∷◌, ◌++◌}
 use Rattle.std.specs.Prelude.{length, map, All, IsSome, Option, None, Some}
-use Rattle.std.specs.List.{AllByRecursion, filter, list_all}
+use Rattle.std.specs.List.{AllByRecursion}
 use Rattle.std.specs.Option.{ForSome}
 use Rattle.std.specs.VecDeque.{deque_len, deque_capacity}
 use Rattle.vl_compact.specs.declared.files.Lent.{Lent}
@@ -18,14 +18,11 @@ use Rattle.vl_engine.specs.Lent.{IsLent}
 use Rattle.vl_engine.specs.declared.open.OpenMerge.{OpenMerge}
 use Rattle.vl_engine.specs.declared.open.Removing.{Removing}
 use Rattle.vl_layout.specs.Jobs.{lent_numbers}
-use Rattle.vl_layout.specs.Sources.{head, rising, tables}
+use Rattle.vl_layout.specs.Sources.{rising, tables}
 use Rattle.vl_layout.specs.Stock.{is_in}
 use Rattle.vl_layout.specs.Tidy.{log_numbers, sealed}
-use Rattle.vl_layout.specs.declared.file_name.FileName.{FileName}
-use Rattle.vl_layout.specs.declared.file_name.FileName.TheVariants as files
 use Rattle.vl_layout.specs.declared.file_name.Retired.{Retired}
 use Rattle.vl_layout.specs.declared.layout.Layout.{Layout}
-use Rattle.vl_layout.specs.declared.segment.Segment.{Segment}
 use Rattle.vl_layout.specs.declared.table.Table as laid
 use Rattle.vl_model.specs.Numbers.{has}
 use Rattle.vl_pins.specs.Files.{file_of, retired_of}
@@ -61,27 +58,11 @@ pub record IsStockOf {H L : Type 0} (core : Core H) (stock : Stock L) (l : Layou
   -- there is room for each file that was lent to the open merge
   pub room : deque_len stock.trash + length (lent_numbers l.job) ≤ deque_capacity stock.trash
 
--- a log below this number, or another file
-abbrev pub IsLogBelow : ℕ → FileName → Type 0
-IsLogBelow head (files.Log n) = n < head
-IsLogBelow head (files.Table n) = Unit {0}
-IsLogBelow head (files.Manifest n) = ⊥
-
--- The logs that are flushed or retired are below the manifest's head, so that no opening needs them but for tables that lead there.
--- An opening finds logs without frames above that head only where it wasn't this store that wrote them.
-pub record AreBelowHead {H : Type 0} (core : Core H) (l : Layout) : Type 0 where
-  pub flushed : AllByRecursion (λ (s : Segment). s.number < core.back.state.head) l.flushed
-  pub retired : AllByRecursion (λ (r : Retired). IsLogBelow core.back.state.head r.file) l.retired
-  -- no log whose memtable is kept comes before it
-  pub from : core.back.state.head ≤ head l
-
--- What is kept of which files can go is what the layout has. `low` says whether it was found at the opening that the logs which
--- aren't frozen are below the manifest's head.
-pub record Removes {H L : Type 0} (low : Bool) (core : Core H) (kept : Removing L) (l : Layout) : Type 0 where
+-- What is kept of which files can go is what the layout has.
+pub record Removes {H L : Type 0} (core : Core H) (kept : Removing L) (l : Layout) : Type 0 where
   pub pins : ArePinsOf kept.pins l
   -- unless the engine is halted
   pub stock : l.halted ≡ None → IsStockOf core kept.stock l
-  pub below : low ≡ true → l.halted ≡ None → AreBelowHead core l
 
 -- nothing is pinned, and nothing waits
 pub record IsNothingRemoved {L : Type 0} (kept : Removing L) : Type 0 where
@@ -90,10 +71,6 @@ pub record IsNothingRemoved {L : Type 0} (kept : Removing L) : Type 0 where
   pub pass : kept.pins.pass ≡ None
   pub in_use : kept.stock.in_use ≡ None
   pub trash : kept.stock.trash.items ≡ []
-
--- it is found so
-abbrev pub is_low : {H : Type 0} → Core H → Layout → Bool
-is_low core l = list_all (λ (s : Segment). nat_lt s.number core.back.state.head) l.flushed
 
 -- ---- what the disk has
 

@@ -1,5 +1,5 @@
 -- How steps change which files are in use, and which wait for their removal.
-use Rattle.std.specs.Prelude.{◌≡◌, ◌⊎◌, ◌≤◌, ◌+◌, ℕ, ◌==◌, ◌&&◌, nat_lt, Bool, false, List, [], ◌∷◌, ◌++◌, length, map, Option}
+use Rattle.std.specs.Prelude.{◌≡◌, ◌⊎◌, ◌≤◌, ◌+◌, ℕ, ◌==◌, ◌&&◌, ◌||◌, nat_lt, not, Bool, false, List, [], ◌∷◌, ◌++◌, length, map, Option}
 use Rattle.std.specs.Prelude.{None, Some, Result, Ok, Err}
 use Rattle.std.specs.List.{filter}
 use Rattle.std.specs.VecDeque.{deque_len, deque_capacity}
@@ -23,7 +23,9 @@ use Rattle.vl_stats.specs.Live.{bytes_of}
 use Rattle.vl_stats.specs.Tallies.{Tallied}
 use Rattle.vl_table.specs.Tables.{number_of}
 use Rattle.vl_version.specs.Bases.{is_input}
+use Rattle.vl_version.specs.Needed.{levels_into}
 use Rattle.vl_version.specs.declared.base.Base.{Base}
+use Rattle.vl_version.specs.declared.version.Version.{Version}
 use Rattle.vl_version.specs.levels.LevelsLooked.{tables_of}
 
 -- ---- how it is made
@@ -76,6 +78,15 @@ abbrev pub is_idle_in : ℕ → Option Tallied → ℕ → Bool
 is_idle_in head None n = false
 is_idle_in head (Some tally) n = is_idle_log head tally.live n
 
+abbrev pub numbers_held : {H : Type 0} → Version H → List ℕ
+numbers_held {H} version = map (λ (log : SealedLog H). log.number) version.behind.logs.items
+
+-- Of the logs that the version before a switch holds, the one behind it holds just those of which this isn't so, and those into which
+-- one of its tables leads.
+abbrev pub HoldsNeeded : {H : Type 0} → (before after : Core H) → Option Tallied → Type 0
+HoldsNeeded before after tally = numbers_held after.version
+    ≡ filter (λ n. not (is_idle_in (head_in after) tally n) || levels_into n after.version.behind.levels) (numbers_held before.version)
+
 abbrev pub logs_kept : {L : Type 0} → Stock L → List ℕ
 logs_kept stock = logs_of stock.in_use
   where
@@ -126,6 +137,7 @@ module _ {H W : Type 0} (before : Core H) where
     pub is_ready : IsReadied before old readied (length added) lent
     pub switched : BecomesBy (switching (before.back.version_number + 1) added dropped (is_idle_in (head_in after) tally)) readied new
     pub room : HasRoom new 0 0 lent
+    pub held : HoldsNeeded before after tally
 
   abbrev pub FlushesStock : {s : _} → (after : Core H) → (old new : Stock (Lent W s)) → Option Tallied → (lent : ℕ)
       → Result (Option ℕ) StepFail → Type 0
@@ -143,6 +155,7 @@ pub record InstallsInto {H R W : Type 0} {s : _} (job : Job (Base H R) H W s) (b
   pub switched : BecomesBy (switching (before.back.version_number + 1) (map (λ (t : Synced W s). t.number) job.made.items)
       (map number_of (filter (is_input (map number_of job.inputs.tables.items)) (tables_of before.version.behind.levels)))
       (is_idle_in (head_in after) tally)) mid new
+  pub held : HoldsNeeded before after tally
 
 abbrev pub InstallsStock : {H R W : Type 0} {s : _} → (job : Job (Base H R) H W s) → (before after : Core H)
     → (old new : Removing (Lent W s)) → Option Tallied → (lent : ℕ)

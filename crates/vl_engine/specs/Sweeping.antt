@@ -1,28 +1,34 @@
 -- What a sweep does, whatever the engine stands for: to the disk, and to the files that wait.
-use Rattle.std.specs.Prelude.{◌≡◌, ◌≢◌, ◌⊎◌, ℕ, not, List, [], ◌∷◌, ◌++◌, ◌+◌, ◌-◌, length, map, min, Option, None, Some, Result, Ok, Err}
+use Rattle.std.specs.Prelude.{◌≡◌, ◌≢◌, ◌⊎◌, ◌≤◌, ℕ, not, List, [], ◌∷◌, ◌++◌, ◌+◌, ◌-◌, length, map, min, Option, None, Some}
+use Rattle.std.specs.Prelude.{Result, Ok, Err, IfOk, OnOk}
 use Rattle.std.specs.List.{AllByRecursion, filter}
 use Rattle.std.specs.Option.{ForSome}
 use Rattle.std.specs.VecDeque.{deque_capacity}
 use Rattle.vl_back.specs.Writing.{IsKept}
 use Rattle.vl_compact.specs.declared.files.Lent.{Lent}
-use Rattle.vl_core.specs.Carries.{Carries}
-use Rattle.vl_core.specs.Represents.{file_of}
+use Rattle.vl_core.specs.Carries.{Carries, StaysUntold}
+use Rattle.vl_core.specs.MayStep.{Fits, LeavesNumbers}
+use Rattle.vl_core.specs.Represents.{Represents, StandsFor, file_of}
 use Rattle.vl_core.specs.declared.kept.Core.{Core}
 use Rattle.vl_disk.specs.Calls.{ChangesNothing, Removes as RemovesFile}
 use Rattle.vl_disk.specs.Disk.{IsFree}
 use Rattle.vl_disk.specs.DiskState.{DiskState}
-use Rattle.vl_disk.specs.Faults.{after_calls}
+use Rattle.vl_disk.specs.Faults.{HasCause, after_calls}
 use Rattle.vl_disk.specs.Lending.{Adopts}
 use Rattle.vl_disk.specs.declared.errors.Failed.{Failed}
 use Rattle.vl_disk.specs.declared.name.Name.{Name}
 use Rattle.vl_disk.specs.declared.watched.Watched.{Ghosts}
 use Rattle.vl_disk.specs.declared.writer.Writer.{Ghosts as Writers}
+use Rattle.vl_engine.specs.Collecting.{Collects}
+use Rattle.vl_engine.specs.Merging.{StandsOpen}
+use Rattle.vl_engine.specs.Removing.{Removes}
 use Rattle.vl_engine.specs.declared.fails.SweepFail.TheVariants as fails
 use Rattle.vl_engine.specs.declared.fails.SweepFail.{SweepFail}
+use Rattle.vl_engine.specs.declared.open.Collecting.{Collecting}
+use Rattle.vl_engine.specs.declared.open.OpenMerge.{OpenMerge}
 use Rattle.vl_engine.specs.declared.open.Removing.{Removing}
 use Rattle.vl_layout.specs.Decides.{Answered, Decides, Effects, Failed as FailedAt, Otherwise, Outcome, as_before, no_effects}
 use Rattle.vl_layout.specs.Rulings.Sweep.{Halted, Removed, SweepAnswer, sweep_lost, sweep_unless}
-use Rattle.vl_layout.specs.declared.file_name.FileName.{FileName}
 use Rattle.vl_layout.specs.declared.layout.Layout.{Layout}
 use Rattle.vl_model.specs.History.{History}
 use Rattle.vl_pins.specs.Files.{is_up_to}
@@ -167,3 +173,67 @@ abbrev pub SweepCarries : {D H L : Type 0} → Ghosts D → (H → Option (List 
 SweepCarries g bytes old new core h l least bound before now result = Carries g bytes old new core h l
     (sweep_unless l.halted least l h) (sweep_otherwise least l (gone_before before now)) (sweep_outcome result)
     (sweep_effects bound before.stock.trash.items result)
+
+-- ---- what the whole call came to
+
+-- what the call works on, at a moment
+pub record At (D H L : Type 0) : Type 0 where
+  pub disk : D
+  pub core : Core H
+  pub merging : Option OpenMerge
+  pub removing : Removing L
+  pub collecting : Collecting
+
+abbrev pub at : {D H L : Type 0} → D → Core H → Option OpenMerge → Removing L → Collecting → At D H L
+at disk core merging removing collecting =
+    record { disk = disk; core = core; merging = merging; removing = removing; collecting = collecting }
+
+module _ {D H W : Type 0} (g : Ghosts D) (w : Writers W) (bytes : H → Option (List ℕ)) {s : _} (least : Option ℕ)
+    (old new : At D H (Lent W s)) (result : Result ℕ SweepFail) where
+  abbrev bound : ℕ
+  bound = up_to least old.core.back.version_number old.removing.pins
+
+  -- the files that nothing holds
+  abbrev names_ready : List Name
+  names_ready = names_of (ready bound old.removing.stock.trash.items)
+
+  -- It comes to what the ruling says.
+  abbrev IsRuled : (History → Layout → Type 0) → History → Layout → Type 0
+  IsRuled stands h l = SweepsFor stands h l least bound old.removing new.removing result
+
+  pub record Sweeps : Type 0 where
+    -- It is answered as the ruling has it.
+    pub stands : (h : History) (l : Layout) → StandsOpen bytes old.core old.merging h l → Removes old.core old.removing l
+        → IsRuled (StandsOpen bytes new.core new.merging) h l
+    -- Over a disk that holds the layout: what a crash meanwhile leaves shows the history, and however it ends, a store may be
+    -- opened on the disk again.
+    pub carries : (h : History) (l : Layout) → Represents bytes old.core (g.told old.disk) h l → Removes old.core old.removing l
+        → SweepCarries g bytes old.disk new.disk new.core h l least bound old.removing new.removing result
+    -- What steps on files ask is so behind it.
+    pub fits : (h : History) (l : Layout) → Fits (g.told old.disk) old.core h l → StandsFor bytes old.core h l
+        → Removes old.core old.removing l → IsRuled (Fits (g.told new.disk) new.core) h l
+    -- What is kept of which files can go, and of where space comes back from, is what the layout has of them then.
+    pub removes : (h : History) (l : Layout) → StandsFor bytes old.core h l → Removes old.core old.removing l
+        → IsRuled (λ _ k. Removes new.core new.removing k) h l
+    pub collects : (h : History) (l : Layout) → StandsFor bytes old.core h l → Removes old.core old.removing l
+        → Collects old.core old.collecting l → IsRuled (λ _ k. Collects new.core new.collecting k) h l
+    -- Whatever the disk tells: just the files went that were ready, one by one, and each that is held stays.
+    pub as_swept : SweepsAs g w bound old.disk new.disk old.core new.core old.removing new.removing result
+    pub gone : OnOk result (ForSome (g.told new.disk) (AreFree names_ready))
+    pub files : KeepsAllBut names_ready (g.told old.disk) (g.told new.disk)
+    pub calls : IfOk result (λ count. g.calls new.disk ≡ after_calls count (g.calls old.disk))
+    pub untouched : SweepLeavesDisk result → ChangesNothing g old.disk new.disk ⊥
+    -- A disk that told nothing tells nothing then.
+    pub untold : StaysUntold (g.told old.disk) (g.told new.disk)
+    -- A fault of the disk is counted, and nothing else raises the count.
+    pub cause : HasCause (g.faults old.disk) (g.faults new.disk) (SweepFailed result)
+    -- Where it fails, whatever a crash leaves then gives no number above the next ones.
+    pub leaves : (h : History) (l : Layout) (now : DiskState) → Represents bytes old.core (g.told old.disk) h l
+        → Removes old.core old.removing l → old.core.back.state.next_log ≤ old.core.back.next_log → SweepFailed result
+        → g.told new.disk ≡ Some now → LeavesNumbers l.next_log l.next_table now
+    -- The manifest gives the next log no number above that which it gets.
+    pub within : old.core.back.state.next_log ≤ old.core.back.next_log → new.core.back.state.next_log ≤ new.core.back.next_log
+    -- What is kept of the open merge and of where space comes back from stays.
+    pub merging : new.merging ≡ old.merging
+    pub collecting : new.collecting ≡ old.collecting
+    pub logs : new.core.version.behind.logs ≡ old.core.version.behind.logs

@@ -7,12 +7,14 @@ use Rattle.vl_disk.specs.declared.writer.Writer.{Ghosts as Writers}
 use Rattle.vl_core.specs.Carries.{CrashesShow, Tells}
 use Rattle.vl_engine.specs.Collecting.{Collects}
 use Rattle.vl_engine.specs.Merging.{HasAllMerge, StandsOpen}
+use Rattle.vl_engine.specs.Removing.{Removes}
 use Rattle.vl_core.specs.Represents.{Represents}
 use Rattle.vl_core.specs.MayStep.{Fits}
 use Rattle.vl_engine.specs.declared.fails.MergeFail.{MergeFail}
 use Rattle.vl_core.specs.declared.kept.Core.{Core}
 use Rattle.vl_engine.specs.declared.open.Collecting.{Collecting}
 use Rattle.vl_engine.specs.declared.open.OpenMerge.{OpenMerge}
+use Rattle.vl_engine.specs.declared.open.Removing.{Removing}
 use Rattle.vl_layout.specs.Jobs.{AreLent}
 use Rattle.vl_layout.specs.Merging.{merged_entries}
 use Rattle.vl_layout.specs.declared.job.Job.{Job}
@@ -56,6 +58,12 @@ pub record StaysCollecting {D H : Type 0} (g : Ghosts D) (bytes : H → Option (
   pub stays : StaysFor g bytes old new core merging h l
   pub collects : Collects core collecting stays.layout
 
+-- And so is what it keeps of which files can go.
+pub record StaysRemoving {D H L : Type 0} (g : Ghosts D) (bytes : H → Option (List ℕ)) (old new : D) (core : Core H)
+    (merging : Option OpenMerge) (collecting : Collecting) (removing : Removing L) (h : History) (l : Layout) : Type 0 where
+  pub stays : StaysCollecting g bytes old new core merging collecting h l
+  pub removes : Removes core removing stays.stays.layout
+
 -- So it does while the merge that is open there is carried out. Where this is done, the merge's job has all of it, and its files
 -- are ones that were lent to it; nothing failed.
 pub record MakesTables {D H R W : Type 0} (g : Ghosts D) (writers : Writers W) (bytes : H → Option (List ℕ)) (old new : D)
@@ -72,6 +80,13 @@ pub record MakesTables {D H R W : Type 0} (g : Ghosts D) (writers : Writers W) (
   -- no table and no log comes or goes before the install
   pub levels : stays.layout.levels ≡ l.levels
   pub flushed : stays.layout.flushed ≡ l.flushed
+
+-- So it does, and what it keeps of which files can go is that layout's.
+pub record MakesRemoving {D H L R W : Type 0} (g : Ghosts D) (writers : Writers W) (bytes : H → Option (List ℕ)) (old new : D)
+    (core : Core H) (merging : Option OpenMerge) (removing : Removing L) {k : _} (job : Merging (Base H R) H W k) (h : History)
+    (l : Layout) (j : Job) (result : Result (Unit {0}) MergeFail) : Type 0 where
+  pub makes : MakesTables g writers bytes old new core merging job h l j result
+  pub removes : Removes core removing makes.stays.layout
 
 -- how many entries the tables of a merge come to have, where one was planned
 abbrev pub kept_of : Option Job → Option ℕ

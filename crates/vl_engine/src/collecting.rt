@@ -3,7 +3,7 @@ ghost use Rattle.std.specs.Prelude.{◌≡◌, ◌≤◌, ◌++◌, ℕ, List, m
 ghost use Rattle.std.specs.List.{filter};
 ghost use Rattle.std.specs.Option.{ForSome, option_map};
 ghost use Rattle.vl_core.specs.Represents.{StandsFor};
-ghost use Rattle.vl_engine.specs.Collecting.{AreSealed, IsReadied, IsTallied, Keeps, LeadsFrom, head_in, lengths_in};
+ghost use Rattle.vl_engine.specs.Collecting.{AreSealed, IsReadied, IsTallied, Keeps, LeadsFrom, head_in, idle_in, lengths_in};
 ghost use Rattle.vl_engine.specs.Collecting.{points_in, points_made};
 ghost use Rattle.vl_engine.specs.Retiring.{is_idle_in, is_idle_log};
 ghost use Rattle.vl_layout.specs.Garbage.{best as best_of_layout};
@@ -153,6 +153,23 @@ pub fn tally_of<H: HeldFile>(alloc: Global, core: &Core<H>) -> Result<Tally, All
     let footers = footers_of(alloc, core.version.levels())?;
     let logs = lengths_of(alloc, core.version.logs())?;
     Tally::new(alloc, &footers, logs)
+}
+
+/// The numbers of those of these logs of which nothing is live.
+pub fn idle_logs<H: HeldFile>(
+    alloc: Global,
+    logs: &[SealedLog<H>],
+    live: &LiveBytes,
+) -> Result<Vec<u32>, AllocError>
+    ensures { IfOk result (λ idle. idle.items ≡ idle_in live.now logs.now) }
+{
+    let mut idle = Vec::new(alloc);
+    for log in logs {
+        if live.live(log.number) == 0 {
+            idle.push(log.number)?;
+        }
+    }
+    Ok(idle)
 }
 
 // Each log with its length.

@@ -220,7 +220,8 @@ pub enum KeepFail {
 }
 
 /// Why the tables of a merge didn't take the place of its inputs. Where the merge is handed back it is as it was. Else it has
-/// ended: no call reads its files any more, and the next opening removes them, but may have them in use where the disk failed.
+/// ended: no call reads its files any more, and a sweep or the next opening removes them, but where the disk failed that opening
+/// may have them in use.
 #[derive(Drop)]
 pub enum InstallFail<V, H, W: Writer> {
     /// An earlier step failed at this file, and nothing is changed any more.
@@ -236,7 +237,7 @@ pub enum InstallFail<V, H, W: Writer> {
     Disk { name: Name },
 }
 
-/// Why no merge was done. It was given up: no call reads its files any more, and the next opening removes them.
+/// Why no merge was done. It was given up: no call reads its files any more, and a sweep or the next opening removes them.
 #[derive(Clone, Copy, Debug, PartialEq, Eq, Error)]
 pub enum MergeFail {
     /// An earlier step failed at this file, and nothing is changed any more.

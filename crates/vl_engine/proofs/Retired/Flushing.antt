@@ -9,10 +9,10 @@ use Rattle.vl_core.specs.laws.FileLaws.{all_filtered}
 use Rattle.vl_core.specs.laws.WaitingLaws.{waits_first}
 use Rattle.vl_engine.proofs.Collected.{flush_by, flush_history}
 use Rattle.vl_engine.proofs.Leaving.{staged_head}
-use Rattle.vl_engine.proofs.Retired.Rotating.{same_head, short}
+use Rattle.vl_engine.proofs.Retired.Rotating.{short}
 use Rattle.vl_engine.specs.Collecting.{Collects, FlushesFor}
 use Rattle.vl_engine.specs.Flushing.{FlushesAs}
-use Rattle.vl_engine.specs.Retiring.{FlushesStock, IsReadied}
+use Rattle.vl_engine.specs.Retiring.{FlushesStock, HoldsNeeded, IsReadied}
 use Rattle.vl_engine.specs.Stepping.{step_outcome}
 use Rattle.vl_engine.specs.declared.fails.StepFail.TheVariants as fails
 use Rattle.vl_engine.specs.declared.fails.StepFail.{StepFail}
@@ -45,7 +45,7 @@ use Rattle.vl_engine.proofs.Retired.Changing.{map-both, no_logs, readied_for}
 use Rattle.vl_engine.proofs.Retired.Retiring.{all_weaker, gone_logs}
 use Rattle.vl_engine.specs.Collecting.{IsTallied, head_in}
 use Rattle.vl_engine.specs.Lent.{Opens}
-use Rattle.vl_engine.specs.Removing.{AreBelowHead, IsLogBelow, IsStockOf, Removes, all_retired, lent_in}
+use Rattle.vl_engine.specs.Removing.{IsStockOf, Removes, all_retired, lent_in}
 use Rattle.vl_engine.specs.Retiring.{SwitchesStock, is_idle_in, is_idle_log, retiring, switching, used_in}
 use Rattle.vl_engine.specs.declared.open.OpenMerge.{OpenMerge}
 use Rattle.vl_engine.specs.declared.open.Removing.{Removing}
@@ -75,45 +75,6 @@ flush_stepped l h n = flush_by l h (λ r. r.answer ≡ Stepped n
     → (o : Segment) × (oldest l.frozen ≡ Some o) × (l.halted ≡ None) × (r.layout ≡ flushed l o))
     (λ a no stepped. absurd (no n stepped)) (λ s runs at stepped. (s, at, runs, refl))
 
--- ---- head
-
-none_oldest : (ss : List Segment) → oldest ss ≡ None → ss ≡ []
-none_oldest [] is = refl
-none_oldest (s ∷ ss) is = absurd (some s ss is)
-  where
-    some : (s : Segment) (ss : List Segment) → oldest (s ∷ ss) ≡ None → ⊥
-    some s [] is = let clash : Some s ≡ None = is in cc
-    some s (t ∷ ts) is = some t ts is
-
--- the first log that waits is the oldest one
-head_waits : (covered : ℕ) (ws : List Waiting) (ss : List Segment) (a : Segment) (n : ℕ) → n ≡ a.number
-    → AreWaiting covered ws (newest_first ss) → head_of n ws ≡ number_or a (oldest ss)
-head_waits covered ws ss a n active are = by (oldest ss) refl
-  where
-    empty : (xs : List Waiting) → AreWaiting covered xs [] → head_of n xs ≡ a.number
-    empty [] is = active
-    empty (x ∷ xs) is = absurd is
-
-    first : (xs : List Waiting) (t : Segment) (ts : List Segment) → AreWaiting covered xs (t ∷ ts) → head_of n xs ≡ t.number
-    first [] t ts is = absurd is
-    first (x ∷ xs) t ts is = is.0
-
-    by : (o : Option Segment) → oldest ss ≡ o → head_of n ws ≡ number_or a o
-    by None at = empty ws (subst (λ xs. AreWaiting covered ws (newest_first xs)) (none_oldest ss at) are)
-    by (Some t) at = first ws t (newest_first (but_oldest ss)) (subst (AreWaiting covered ws) (waits_first ss t at) are)
-
--- the oldest one is below the next
-oldest_below : (a : Segment) (ss : List Segment) (s : Segment) → oldest ss ≡ Some s → IsFalling (a ∷ ss)
-    → s.number < number_or a (oldest (but_oldest ss))
-oldest_below a [] s at falling = absurd (let clash : None ≡ Some s = at in cc)
-oldest_below a (t ∷ []) s at falling =
-    let e : t ≡ s = one t s at in subst (λ (x : Segment). x.number < a.number) e falling.0.0
-  where
-    one : (t s : Segment) → Some t ≡ Some s → t ≡ s
-    one t s e = cc
-oldest_below a (t ∷ u ∷ us) s at falling =
-    subst (λ n. s.number < n) (sym (same_head t a (but_oldest (u ∷ us)))) (oldest_below t (u ∷ us) s at falling.1)
-
 -- ---- numbers
 
 pub has_more : (n : ℕ) (ns ms : List ℕ) → has n ns ≡ true → has n (ns ++ ms) ≡ true
@@ -137,7 +98,7 @@ has_end n (m ∷ ns) = ap (λ b. (m == n) || b) (has_end n ns) ∙ or_true (m ==
 module _ {H W : Type 0} {s : _} (bytes : H → Option (List ℕ)) (size : H → ℕ)
     (sized : (held : H) (told : List ℕ) → bytes held ≡ Some told → length told ≡ size held) (before after : Core H)
     (was now : Removing (Lent W s)) (merging : Option OpenMerge) (h : History) (l : Layout) (stands : StandsFor bytes before h l)
-    (opens : Opens merging l.job) (low : Bool) (removes : Removes low before was l) (pins : now.pins ≡ was.pins) where
+    (opens : Opens merging l.job) (removes : Removes before was l) (pins : now.pins ≡ was.pins) where
   module _ (o : Segment) (at : oldest l.frozen ≡ Some o) (running : l.halted ≡ None) (t : Tallied) (tally : IsTally t (flushed l o))
       (after_stands : StandsFor bytes after h (flushed l o)) (n : ℕ) (n_is : n ≡ l.next_table)
       (switches : SwitchesStock before after (n ∷ []) [] (Some t) was.stock now.stock (length (lent_in merging))) where
@@ -191,57 +152,11 @@ module _ {H W : Type 0} {s : _} (bytes : H → Option (List ℕ)) (size : H → 
         let lent = ap length (opens_lent merging l.job opens) in
         omega (arith, room, lent))
 
-    module _ (head_is : after.back.state.head ≡ head (flushed l o)) where
-      below_head : before.back.state.head ≤ head l → (k : ℕ) → k < before.back.state.head → k < after.back.state.head
-      below_head from k less =
-          let mine : head l ≡ o.number = ap (number_or l.active) at in
-          let up = oldest_below l.active l.frozen o at stands.tidy.files.stocked.falling in
-          omega (arith, from, less, mine, up, head_is)
-
-      flushed_below : AreBelowHead before l → AllByRecursion (λ (x : Segment). x.number < after.back.state.head) (flushing l o).flushed
-      flushed_below below = (
-        (let up = oldest_below l.active l.frozen o at stands.tidy.files.stocked.falling in omega (arith, up, head_is)),
-        all_weaker (λ (x : Segment). x.number < before.back.state.head) (λ (x : Segment). x.number < after.back.state.head)
-            (λ x less. below_head below.from x.number less) l.flushed below.flushed,
-      )
-
-      still_below : before.back.state.head ≤ head l → (f : FileName) → IsLogBelow before.back.state.head f
-          → IsLogBelow after.back.state.head f
-      still_below from (files.Log k) is = below_head from k is
-      still_below from (files.Table k) is = tt
-      still_below from (files.Manifest k) is = absurd is
-
-      logs_below : (ss : List Segment) → AllByRecursion (λ (x : Segment). x.number < after.back.state.head) ss
-          → AllByRecursion (λ (r : Retired). IsLogBelow after.back.state.head r.file)
-          (map (retired_at (l.version_number + 1)) (map log_of ss))
-      logs_below [] all = tt
-      logs_below (x ∷ ss) all = (all.0, logs_below ss all.1)
-
-      then_below : AreBelowHead before l → AreBelowHead after (flushed l o)
-      then_below below = record {
-        flushed = all_filtered (λ (x : Segment). x.number < after.back.state.head) (λ (x : Segment). not (is_idle (flushing l o) x))
-            (flushing l o).flushed (flushed_below below);
-        retired = all_more (λ (r : Retired). IsLogBelow after.back.state.head r.file) l.retired
-            (map (retired_at (l.version_number + 1)) (map log_of (rising (filter (is_idle (flushing l o)) (flushing l o).flushed))))
-            (all_weaker (λ (r : Retired). IsLogBelow before.back.state.head r.file)
-            (λ (r : Retired). IsLogBelow after.back.state.head r.file)
-            (λ r is. still_below below.from r.file is) l.retired below.retired)
-            (logs_below (rising (filter (is_idle (flushing l o)) (flushing l o).flushed))
-            (all_rising (λ (x : Segment). x.number < after.back.state.head) (filter (is_idle (flushing l o)) (flushing l o).flushed)
-            (all_filtered (λ (x : Segment). x.number < after.back.state.head) (is_idle (flushing l o)) (flushing l o).flushed
-            (flushed_below below))));
-        from = (let e = head_is in omega (arith, e));
-      }
-
-      pub flushed_removes : Removes low after now (flushed l o)
-      flushed_removes = record {
-        pins = next (same_pins was now l pins removes.pins);
-        stock = λ runs. flushed_stock;
-        below = λ found runs. then_below (removes.below found running);
-      }
-        where
-          next : ArePinsOf now.pins l → ArePinsOf now.pins (flushed l o)
-          next are = record { live = are.live; merge = are.merge; pass = are.pass; last = (let up = are.last in omega (arith, up)) }
+    pub flushed_removes : Removes after now (flushed l o)
+    flushed_removes = record { pins = next (same_pins was now l pins removes.pins); stock = λ runs. flushed_stock }
+      where
+        next : ArePinsOf now.pins l → ArePinsOf now.pins (flushed l o)
+        next are = record { live = are.live; merge = are.merge; pass = are.pass; last = (let up = are.last in omega (arith, up)) }
 
   -- whatever is left of the tally
   tallied_some : (kept : Option Tallied) (x : Layout) → IsTallied kept x → (t : Tallied) × (kept ≡ Some t) × IsTally t x
@@ -251,7 +166,7 @@ module _ {H W : Type 0} {s : _} (bytes : H → Option (List ℕ)) (size : H → 
   module _ {D : Type 0} (g : Ghosts D) (old new : D) (before_collecting now_collecting : Collecting)
       (collects : Collects before before_collecting l) (numbers : l.halted ≡ None → HasNumbers before.back l) (effects : Effects) where
     abbrev So : History → Layout → Type 0
-    So k x = Removes low after now x
+    So k x = Removes after now x
 
     pub flush_removes : (result : Result (Option ℕ) StepFail) → FlushesAs g bytes old new before after result
         → FlushesFor bytes before before_collecting now_collecting after result
@@ -284,29 +199,17 @@ module _ {H W : Type 0} {s : _} (bytes : H → Option (List ℕ)) (size : H → 
             (is.answered (Stepped n) refl).1
 
         by_tally : (x : Layout) (o : Segment) → x ≡ flushed l o → oldest l.frozen ≡ Some o → l.halted ≡ None
-            → StandsFor bytes after h x → IsTallied now_collecting.tally x → Removes low after now x
+            → StandsFor bytes after h x → IsTallied now_collecting.tally x → Removes after now x
         by_tally x o same at running after_is tallied =
             let (t, some, tally) = tallied_some now_collecting.tally x tallied in
-            subst (λ (y : Layout). Removes low after now y) (sym same)
+            subst (λ (y : Layout). Removes after now y) (sym same)
             (flushed_removes o at running t (subst (IsTally t) same tally) (subst (StandsFor bytes after h) same after_is) n
             (did.0 ∙ (numbers running).next_table)
             (subst (λ (k : Option Tallied). SwitchesStock before after (n ∷ []) [] k was.stock now.stock (length (lent_in merging))) some
-            switches)
-            (ap (λ (m : ManifestState). m.head) did.1.back.state ∙ flush_head o at running))
-          where
-            flush_head : (o : Segment) → oldest l.frozen ≡ Some o → l.halted ≡ None → did.1.staged.state.head ≡ head (flushed l o)
-            flush_head o at running = by before.back.waiting.items refl
-                (subst (AreWaiting l.covered before.back.waiting.items) (waits_first l.frozen o at) (numbers running).waiting)
-              where
-                by : (ws : List Waiting) → before.back.waiting.items ≡ ws
-                    → AreWaiting l.covered ws (o ∷ newest_first (but_oldest l.frozen)) → did.1.staged.state.head ≡ head (flushed l o)
-                by [] are waits = absurd waits
-                by (w ∷ ws) are waits =
-                    staged_head before.back before.front.log.number did.1.staged.state w ws are did.1.of.is.says
-                    ∙ head_waits w.covered ws (but_oldest l.frozen) l.active before.front.log.number stands.fronts.number waits.2
+            switches))
 
         done : (a : StepAnswer) → Answered (Stepped n) ≡ Answered a → (flush_ruling l h).answer ≡ a
-            → Removes low after now (flush_ruling l h).layout
+            → Removes after now (flush_ruling l h).layout
         done a same answer =
             let stepped = answer ∙ sym (one n a same) in
             let (o, at, running, layout) = flush_stepped l h n stepped in
@@ -318,8 +221,8 @@ module _ {H W : Type 0} {s : _} (bytes : H → Option (List ℕ)) (size : H → 
     flush_removes (Err fails.NoMemory) did flushes switches is =
         decides_too (StandsFor bytes after) So h l (flush_ruling l h) (as_before l l) short effects is
         (λ a same answer. absurd (none a same))
-        (λ same. stays_removes bytes size sized before after h l stands low was now
-        (ap (λ (c : Core H). c.version.behind.logs.items) did.0) (ap (λ (c : Core H). c.back.state.head) did.0) switches pins removes)
+        (λ same. stays_removes bytes size sized before after h l stands was now
+        (ap (λ (c : Core H). c.version.behind.logs.items) did.0) switches pins removes)
         (λ name same. absurd (no_fail name same)) (λ name place same. absurd (no_damage name place same))
       where
         none : (a : StepAnswer) → short ≡ Answered a → ⊥
@@ -333,7 +236,7 @@ module _ {H W : Type 0} {s : _} (bytes : H → Option (List ℕ)) (size : H → 
     flush_removes (Err (fails.Disk at)) did flushes switches is =
         decides_too (StandsFor bytes after) So h l (flush_ruling l h) (as_before l l) (step_outcome (Err (fails.Disk at))) effects is
         (λ a same answer. absurd (none at a same)) (λ same. absurd (no_memory at same))
-        (λ name same. halts_removes after low now l name (same_pins was now l pins removes.pins))
+        (λ name same. halts_removes after now l name (same_pins was now l pins removes.pins))
         (λ name place same. absurd (no_damage at name place same))
       where
         none : (at : _) (a : StepAnswer) → step_outcome (Err (fails.Disk at)) ≡ Answered a → ⊥
@@ -352,9 +255,10 @@ pub switches_stock : {H W : Type 0} {s : _} (before after : Core H) (added dropp
     (kept : Option Tallied) (old mid new : Stock (Lent W s)) → version ≡ before.back.version_number + 1 → head ≡ head_in after
     → ((n : ℕ) → is_idle_in head kept n ≡ is_idle_log head live n) → counted ≡ lent → IsReadied before old mid (length added) counted
     → BecomesBy (switching version added dropped (is_idle_log head live)) mid new
-    → ((n : ℕ) → HasRoom mid (length added) 0 n → HasRoom new 0 0 n) → SwitchesStock before after added dropped kept old new lent
+    → ((n : ℕ) → HasRoom mid (length added) 0 n → HasRoom new 0 0 n) → HoldsNeeded before after kept
+    → SwitchesStock before after added dropped kept old new lent
 switches_stock {H} {W} {s} before after added dropped head version lent counted live kept old mid new made head_is idle same ready
-    switched room = record {
+    switched room held = record {
       readied = mid;
       is_ready = readied_for before old mid (length added) (length added) counted lent refl same ready;
       switched = λ (k : Kept (Lent W s)) has. subst (Has new)
@@ -364,4 +268,5 @@ switches_stock {H} {W} {s} before after added dropped head version lent counted 
           ∙ ap (λ m. switching (before.back.version_number + 1) added dropped (is_idle_in m kept) k) head_is)
           (switched k has);
       room = room lent (no_logs mid (length added) (length added) 1 counted lent refl same ready.room);
+      held = held;
     }

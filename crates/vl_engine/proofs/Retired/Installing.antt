@@ -26,7 +26,7 @@ use Rattle.vl_engine.proofs.Switching.{numbers_zip}
 use Rattle.vl_engine.specs.Collecting.{IsTallied, head_in}
 use Rattle.vl_engine.specs.Merging.{HasAllMerge}
 use Rattle.vl_engine.specs.Pinning.{merge_pinned}
-use Rattle.vl_engine.specs.Removing.{AreBelowHead, IsLogBelow, IsStockOf, Removes, all_retired, lent_in}
+use Rattle.vl_engine.specs.Removing.{IsStockOf, Removes, all_retired, lent_in}
 use Rattle.vl_engine.specs.Retiring.{InstallsInto, all_left, is_idle_log, retiring, switching, used_in}
 use Rattle.vl_engine.specs.declared.open.OpenMerge.{OpenMerge}
 use Rattle.vl_engine.specs.declared.open.Removing.{Removing}
@@ -186,7 +186,7 @@ module _ {H R W : Type 0} (bytes : H → Option (List ℕ)) (w : Writers W) (siz
     (sized : (held : H) (told : List ℕ) → bytes held ≡ Some told → length told ≡ size held) {s : _} (job : Job (Base H R) H W s)
     (before after : Core H) (was now : Removing (Lent W s)) (count : ℕ) (h : History) (l : Layout) (stands : StandsFor bytes before h l)
     (o : OpenJob) (open_is : l.job ≡ Some o) (all : HasAllMerge w bytes job o.job) (lent : AreLent o.lent (made_of job o.job))
-    (low : Bool) (removes : Removes low before was l) (running : l.halted ≡ None)
+    (removes : Removes before was l) (running : l.halted ≡ None)
     (t : Tallied) (tally : IsTally t (installed o.job (made_of job o.job) l))
     (after_stands : StandsFor bytes after h (installed o.job (made_of job o.job) l))
     (fits : length job.leavings.items ≤ count)
@@ -349,54 +349,13 @@ module _ {H R W : Type 0} (bytes : H → Option (List ℕ)) (w : Writers W) (siz
       (just_retired (l.version_number + 1) (map table_of gone ++ map log_of idles)))
       (let small = now.stock.trash.small in omega (arith, small))
 
-  -- ---- what is below the manifest's head
-
-  module _ (head_is : after.back.state.head ≡ before.back.state.head) where
-    tables_below : (ts : List laid.Table) → AllByRecursion (λ (r : Retired). IsLogBelow after.back.state.head r.file)
-        (map (retired_at (l.version_number + 1)) (map table_of ts))
-    tables_below [] = tt
-    tables_below (x ∷ ts) = (tt, tables_below ts)
-
-    loose_below : (ns : List ℕ) → AllByRecursion (λ (r : Retired). IsLogBelow after.back.state.head r.file) (loose ns)
-    loose_below [] = tt
-    loose_below (n ∷ ns) = (tt, loose_below ns)
-
-    logs_below : (ss : List Segment) → AllByRecursion (λ (x : Segment). x.number < after.back.state.head) ss
-        → AllByRecursion (λ (r : Retired). IsLogBelow after.back.state.head r.file)
-        (map (retired_at (l.version_number + 1)) (map log_of ss))
-    logs_below [] all = tt
-    logs_below (x ∷ ss) all = (all.0, logs_below ss all.1)
-
-    flushed_below : AreBelowHead before l → AllByRecursion (λ (x : Segment). x.number < after.back.state.head) l.flushed
-    flushed_below below = subst (λ n. AllByRecursion (λ (x : Segment). x.number < n) l.flushed) (sym head_is) below.flushed
-
-    then_below : AreBelowHead before l → AreBelowHead after (installed o.job (made_of job o.job) l)
-    then_below below = record {
-      flushed = all_filtered (λ (x : Segment). x.number < after.back.state.head) (λ (x : Segment). not (is_idle first x)) l.flushed
-          (flushed_below below);
-      retired = all_more (λ (r : Retired). IsLogBelow after.back.state.head r.file) first.retired
-          (map (retired_at (l.version_number + 1)) (map table_of gone ++ map log_of idles))
-          (all_more (λ (r : Retired). IsLogBelow after.back.state.head r.file) l.retired (loose made_here.leavings)
-          (subst (λ n. AllByRecursion (λ (r : Retired). IsLogBelow n r.file) l.retired) (sym head_is) below.retired)
-          (loose_below made_here.leavings))
-          (subst (AllByRecursion (λ (r : Retired). IsLogBelow after.back.state.head r.file))
-          (sym (map-both (retired_at (l.version_number + 1)) (map table_of gone) (map log_of idles)))
-          (all_more (λ (r : Retired). IsLogBelow after.back.state.head r.file) (map (retired_at (l.version_number + 1)) (map table_of gone))
-          (map (retired_at (l.version_number + 1)) (map log_of idles)) (tables_below gone)
-          (logs_below idles
-          (all_rising (λ (x : Segment). x.number < after.back.state.head) (filter (is_idle first) first.flushed)
-          (all_filtered (λ (x : Segment). x.number < after.back.state.head) (is_idle first) first.flushed (flushed_below below))))));
-      from = (let less = below.from in omega (arith, less, head_is));
-    }
-
-    pub installed_removes : now.pins ≡ (merge_pinned None was).pins → Removes low after now (installed o.job (made_of job o.job) l)
-    installed_removes pins = record {
-      pins = subst (λ (p : Pins). ArePinsOf p (installed o.job (made_of job o.job) l)) (sym pins) (record {
-        live = removes.pins.live;
-        merge = refl;
-        pass = removes.pins.pass;
-        last = (let up = removes.pins.last in omega (arith, up));
-      });
-      stock = λ runs. installed_stock;
-      below = λ found runs. then_below (removes.below found running);
-    }
+  pub installed_removes : now.pins ≡ (merge_pinned None was).pins → Removes after now (installed o.job (made_of job o.job) l)
+  installed_removes pins = record {
+    pins = subst (λ (p : Pins). ArePinsOf p (installed o.job (made_of job o.job) l)) (sym pins) (record {
+      live = removes.pins.live;
+      merge = refl;
+      pass = removes.pins.pass;
+      last = (let up = removes.pins.last in omega (arith, up));
+    });
+    stock = λ runs. installed_stock;
+  }

@@ -129,16 +129,16 @@ module _ {D H R W : Type 0} (g : Ghosts D) (bytes : H → Option (List ℕ)) (w 
     (old new : D) (before after : Core H) (was now : Removing (Lent W s)) (was_collecting now_collecting : Collecting)
     (merging then_merging : Option OpenMerge) (count : ℕ) (h : History) (l : Layout) (stands : StandsFor bytes before h l)
     (o : OpenJob) (open_is : l.job ≡ Some o) (all : HasAllMerge w bytes job o.job) (lent : AreLent o.lent (made_of job o.job))
-    (low : Bool) (removes : Removes low before was l) (running : l.halted ≡ None) (collects : Collects before was_collecting l)
+    (removes : Removes before was l) (running : l.halted ≡ None) (collects : Collects before was_collecting l)
     (fits : length job.leavings.items ≤ count)
     -- where it has ended, what waits is what the layout says
     (ended : now.pins ≡ (merge_pinned None was).pins → LeavesFiles (files_in job) was.stock now.stock → after ≡ before
-    → Removes low after now (job_ended (made_of job o.job) l)) (effects : Effects) where
+    → Removes after now (job_ended (made_of job o.job) l)) (effects : Effects) where
   abbrev Stood : History → Layout → Type 0
   Stood = StandsOpen bytes after then_merging
 
   abbrev So : History → Layout → Type 0
-  So k x = Removes low after now x
+  So k x = Removes after now x
 
   tallied_some : (kept : Option Tallied) (x : Layout) → IsTallied kept x → (t : Tallied) × (kept ≡ Some t) × IsTally t x
   tallied_some None x is = absurd is
@@ -149,19 +149,16 @@ module _ {D H R W : Type 0} (g : Ghosts D) (bytes : H → Option (List ℕ)) (w 
       → InstallsStock job before after was now now_collecting.tally count (Ok tt)
       → (install_ruling l h o.job (made_of job o.job)).answer ≡ Installed
       → StandsFor bytes after h (install_ruling l h o.job (made_of job o.job)).layout
-      → Removes low after now (install_ruling l h o.job (made_of job o.job)).layout
+      → Removes after now (install_ruling l h o.job (made_of job o.job)).layout
   put did collected stock answered after_stands =
       let same = install_layout l h o.job (made_of job o.job) answered in
       let tallied = collected.tallied h l o stands open_is all collects.tally answered after_stands in
       let (t, some, tally) = tallied_some now_collecting.tally (install_ruling l h o.job (made_of job o.job)).layout tallied in
-      subst (λ (x : Layout). Removes low after now x) (sym same)
-      (installed_removes bytes w size sized job before after was now count h l stands o open_is all lent low removes running t
+      subst (λ (x : Layout). Removes after now x) (sym same)
+      (installed_removes bytes w size sized job before after was now count h l stands o open_is all lent removes running t
       (subst (IsTally t) same tally) (subst (StandsFor bytes after h) same after_stands) fits
       (subst (λ (k : Option Tallied). InstallsInto job before after k was.stock now.stock count) some stock.1)
-      (ap (λ (m : ManifestState). m.head) did.1.back.state
-      ∙ install_head (replacing_of before.back (map _ job.inputs.tables.items) (map (λ (x : Synced W s). x.number) job.made.items)
-      did.1.ready.levels.level did.1.ready.levels.position did.1.is_ready.gone) before.back.state did.1.ready.staged.state
-      did.1.is_ready.staged.says) stock.0)
+      stock.0)
 
   pub install_removes : (result : Result (Unit {0}) (InstallFail (Base H R) H W s))
       → InstallsUnraced g bytes w job old new before after result
@@ -199,13 +196,13 @@ module _ {D H R W : Type 0} (g : Ghosts D) (bytes : H → Option (List ℕ)) (w 
   install_removes (Err (fails.NoMemory back)) did collected stock is =
       decides_ended Stood So h l o.job (made_of job o.job) short effects (short_answered Installed)
       (λ a e. absurd (short_answered a e))
-      (λ same. stays_removes bytes size sized before after h l stands low was now
-      (ap (λ (c : Core H). c.version.behind.logs.items) did.1) (ap (λ (c : Core H). c.back.state.head) did.1) stock.1 stock.0 removes)
+      (λ same. stays_removes bytes size sized before after h l stands was now
+      (ap (λ (c : Core H). c.version.behind.logs.items) did.1) stock.1 stock.0 removes)
       (λ name e. absurd (short_lost name e)) short_damaged is
   install_removes (Err (fails.Disk at)) did collected stock is =
       decides_ended Stood So h l o.job (made_of job o.job) (lost (file_of at)) effects (lost_answered (file_of at) Installed)
       (λ a e. absurd (lost_answered (file_of at) a e)) (λ e. absurd (lost_short (file_of at) e))
-      (λ name same. halts_removes after low now (job_ended (made_of job o.job) l) name
+      (λ name same. halts_removes after now (job_ended (made_of job o.job) l) name
       (ended_pins was now l (made_of job o.job) stock removes.pins)) (lost_damaged (file_of at)) is
 
 -- ---- the other exits

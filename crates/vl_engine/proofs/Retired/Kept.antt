@@ -8,7 +8,7 @@ use Rattle.vl_core.specs.Represents.{StandsFor}
 use Rattle.vl_core.specs.declared.kept.Core.{Core}
 use Rattle.vl_engine.proofs.Retired.Laid.{is_stock, uses_first, used_waits}
 use Rattle.vl_engine.specs.Lent.{Opens}
-use Rattle.vl_engine.specs.Removing.{AreBelowHead, IsLogBelow, IsStockOf, Removes, UsesThoseOf, all_retired, lent_in}
+use Rattle.vl_engine.specs.Removing.{IsStockOf, Removes, UsesThoseOf, all_retired, lent_in}
 use Rattle.vl_engine.specs.Retiring.{StaysUsed, used_in}
 use Rattle.vl_engine.specs.declared.open.OpenMerge.{OpenMerge}
 use Rattle.vl_engine.specs.declared.open.Removing.{Removing}
@@ -68,29 +68,19 @@ module _ {H L : Type 0} (bytes : H → Option (List ℕ)) (size : H → ℕ)
           let e = now.trash.ok.0 in
           omega (arith, a, b, c, d, e)
 
-  pub stays_removes : (low : Bool) (was now : Removing L) → after.version.behind.logs.items ≡ before.version.behind.logs.items
-      → after.back.state.head ≡ before.back.state.head → StaysUsed before was.stock now.stock → now.pins ≡ was.pins
-      → Removes low before was l → Removes low after now l
-  stays_removes low was now logs head stays pins removes = record {
+  pub stays_removes : (was now : Removing L) → after.version.behind.logs.items ≡ before.version.behind.logs.items
+      → StaysUsed before was.stock now.stock → now.pins ≡ was.pins → Removes before was l → Removes after now l
+  stays_removes was now logs stays pins removes = record {
     pins = subst (λ (p : Pins). ArePinsOf p l) (sym pins) removes.pins;
     stock = λ running. stays_stock was.stock now.stock logs stays (removes.stock running);
-    below = λ found running. same_below (removes.below found running);
   }
-    where
-      same_below : AreBelowHead before l → AreBelowHead after l
-      same_below below = record {
-        flushed = subst (λ n. AllByRecursion (λ (s : Segment). s.number < n) l.flushed) (sym head) below.flushed;
-        retired = subst (λ n. AllByRecursion (λ (r : Retired). IsLogBelow n r.file) l.retired) (sym head) below.retired;
-        from = subst (λ n. n ≤ layout_head l) (sym head) below.from;
-      }
 
 -- where a fault halted, only what is pinned counts
-pub halts_removes : {H L : Type 0} (after : Core H) (low : Bool) (now : Removing L) (x : Layout) (name : FileName)
-    → ArePinsOf now.pins x → Removes low after now (halted_at name x)
-halts_removes after low now x name pins = record {
+pub halts_removes : {H L : Type 0} (after : Core H) (now : Removing L) (x : Layout) (name : FileName)
+    → ArePinsOf now.pins x → Removes after now (halted_at name x)
+halts_removes after now x name pins = record {
   pins = record { live = pins.live; merge = pins.merge; pass = pins.pass; last = pins.last };
   stock = λ running. absurd (let clash : Some name ≡ None = running in cc);
-  below = λ found running. absurd (let clash : Some name ≡ None = running in cc);
 }
 
 pub same_pins : {L : Type 0} (was now : Removing L) (l : Layout) → now.pins ≡ was.pins → ArePinsOf was.pins l → ArePinsOf now.pins l

@@ -15,7 +15,7 @@ use Rattle.vl_engine.proofs.Retired.Kept.{halts_removes, opens_lent, same_pins, 
 use Rattle.vl_engine.proofs.Retired.Laid.{aged_more, is_stock, rotated_numbers, sealed_below, uses_first, used_waits}
 use Rattle.vl_engine.proofs.Rotated.{ruled_refused}
 use Rattle.vl_engine.specs.Lent.{Opens}
-use Rattle.vl_engine.specs.Removing.{AreBelowHead, IsLogBelow, IsStockOf, Removes, all_retired, lent_in}
+use Rattle.vl_engine.specs.Removing.{IsStockOf, Removes, all_retired, lent_in}
 use Rattle.vl_engine.specs.Retiring.{SealsInto, SealsStock, used_in}
 use Rattle.vl_engine.specs.Rotating.{IsRefusedSo, RotatesAs, rotate_effects}
 use Rattle.vl_engine.specs.Stepping.{step_outcome}
@@ -42,19 +42,6 @@ use Rattle.vl_seglog.specs.declared.sealed.SealedLog.{SealedLog}
 use Rattle.vl_stats.specs.laws.RulingLaws.{rotation_leaves}
 use Rattle.vl_version.specs.declared.version.Version.{Version}
 
--- ---- head
-
-last_number : (a b s : Segment) (ss : List Segment) → number_or a (oldest (s ∷ ss)) ≡ number_or b (oldest (s ∷ ss))
-last_number a b s [] = refl
-last_number a b s (t ∷ ts) = last_number a b t ts
-
-pub same_head : (a b : Segment) (ss : List Segment) → number_or b (oldest (a ∷ ss)) ≡ number_or a (oldest ss)
-same_head a b [] = refl
-same_head a b (s ∷ ss) = last_number b a s ss
-
-head_rotated : (l : Layout) → head (rotated l) ≡ head l
-head_rotated l = same_head l.active (rotated l).active l.frozen
-
 -- ---- it was done
 
 abbrev pub short : Outcome StepAnswer
@@ -63,7 +50,7 @@ short = NoMemory
 module _ {H W : Type 0} {s : _} (bytes : H → Option (List ℕ)) (size : H → ℕ)
     (sized : (held : H) (told : List ℕ) → bytes held ≡ Some told → length told ≡ size held) (before after : Core H)
     (was now : Removing (Lent W s)) (merging : Option OpenMerge) (h : History) (l : Layout) (stands : StandsFor bytes before h l)
-    (opens : Opens merging l.job) (low : Bool) (removes : Removes low before was l) (pins : now.pins ≡ was.pins) where
+    (opens : Opens merging l.job) (removes : Removes before was l) (pins : now.pins ≡ was.pins) where
   pub sealed_stock : IsStockOf before was.stock l → SealsInto before was.stock now.stock (length (lent_in merging))
       → IsStockOf after now.stock (rotated l)
   sealed_stock stock seals =
@@ -84,27 +71,18 @@ module _ {H W : Type 0} {s : _} (bytes : H → Option (List ℕ)) (size : H → 
       let lent = ap length (opens_lent merging l.job opens) in
       omega (arith, room, same, size, lent))
 
-  pub sealed_removes : after.back.state.head ≡ before.back.state.head
-      → SealsInto before was.stock now.stock (length (lent_in merging)) → Removes low after now (rotated l)
-  sealed_removes state seals = record {
+  pub sealed_removes : SealsInto before was.stock now.stock (length (lent_in merging)) → Removes after now (rotated l)
+  sealed_removes seals = record {
     pins = next (same_pins was now l pins removes.pins);
     stock = λ running. sealed_stock (removes.stock running) seals;
-    below = λ found running. then_below (removes.below found running);
   }
     where
       next : ArePinsOf now.pins l → ArePinsOf now.pins (rotated l)
       next are = record { live = are.live; merge = are.merge; pass = are.pass; last = (let low = are.last in omega (arith, low)) }
 
-      then_below : AreBelowHead before l → AreBelowHead after (rotated l)
-      then_below below = record {
-        flushed = subst (λ n. AllByRecursion (λ (x : Segment). x.number < n) l.flushed) (sym state) below.flushed;
-        retired = subst (λ n. AllByRecursion (λ (r : Retired). IsLogBelow n r.file) l.retired) (sym state) below.retired;
-        from = (let less = below.from in let head = head_rotated l in omega (arith, less, head, state));
-      }
-
   module _ {D : Type 0} (g : Ghosts D) (old new : D) (S : History → Layout → Type 0) (effects : Effects) where
     abbrev So : History → Layout → Type 0
-    So k x = Removes low after now x
+    So k x = Removes after now x
 
     pub rotate_removes : (result : Result (Option ℕ) StepFail) → RotatesAs g bytes old new before after result
         → SealsStock before was.stock now.stock (length (lent_in merging)) result
@@ -112,9 +90,7 @@ module _ {H W : Type 0} {s : _} (bytes : H → Option (List ℕ)) (size : H → 
         → Decides So h l (rotate_ruling l h) (as_before l l) (step_outcome result) effects
     rotate_removes (Ok (Some n)) did seals is =
         decides_too S So h l (rotate_ruling l h) (as_before l l) (Answered (Stepped n)) effects is
-        (λ a same answer. rotation_leaves (λ x. Removes low after now x) l h
-        (sealed_removes (ap (λ (m : ManifestState). m.head) did.1.back.state) seals) n
-        (answer ∙ sym (one n a same)))
+        (λ a same answer. rotation_leaves (λ x. Removes after now x) l h (sealed_removes seals) n (answer ∙ sym (one n a same)))
         (λ same. absurd (none n same)) (λ name same. absurd (no_fail n name same))
         (λ name place same. absurd (no_damage n name place same))
       where
@@ -135,9 +111,8 @@ module _ {H W : Type 0} {s : _} (bytes : H → Option (List ℕ)) (size : H → 
     rotate_removes (Err fails.NoMemory) did seals is =
         decides_too S So h l (rotate_ruling l h) (as_before l l) NoMemory effects is
         (λ a same answer. absurd (none a same))
-        (λ same. stays_removes bytes size sized before after h l stands low was now
-        (ap (λ (v : Version H). v.behind.logs.items) did.0.version) (ap (λ (m : ManifestState). m.head) did.0.back.state) seals pins
-        removes)
+        (λ same. stays_removes bytes size sized before after h l stands was now
+        (ap (λ (v : Version H). v.behind.logs.items) did.0.version) seals pins removes)
         (λ name same. absurd (no_fail name same)) (λ name place same. absurd (no_damage name place same))
       where
         none : (a : StepAnswer) → short ≡ Answered a → ⊥
@@ -151,7 +126,7 @@ module _ {H W : Type 0} {s : _} (bytes : H → Option (List ℕ)) (size : H → 
     rotate_removes (Err (fails.Disk at)) did seals is =
         decides_too S So h l (rotate_ruling l h) (as_before l l) (step_outcome (Err (fails.Disk at))) effects is
         (λ a same answer. absurd (none at a same)) (λ same. absurd (no_memory at same))
-        (λ name same. halts_removes after low now l name (same_pins was now l pins removes.pins))
+        (λ name same. halts_removes after now l name (same_pins was now l pins removes.pins))
         (λ name place same. absurd (no_damage at name place same))
       where
         none : (at : _) (a : StepAnswer) → step_outcome (Err (fails.Disk at)) ≡ Answered a → ⊥

@@ -1,15 +1,11 @@
 -- The files that a sweep removes are those that the layout's ruling removes, and none of them is needed.
-use Rattle.std.specs.Prelude.{◌≡◌, ◌≢◌, ◌≤◌, ◌<◌, ◌+◌, ◌++◌, ◌||◌, ◌&&◌, not, nat_le, min, ℕ, Bool, List, [], ◌∷◌, length, map, take}
+use Rattle.std.specs.Prelude.{◌≡◌, ◌≤◌, ◌||◌, ◌&&◌, not, nat_le, min, ℕ, Bool, List, [], ◌∷◌, length, map}
 use Rattle.std.specs.Prelude.{if◌then◌else◌, Option, None, Some, true, false, refl}
 use Rattle.std.specs.List.{AllByRecursion, filter, list_any}
-use Rattle.std.proofs.Common.{sym, subst, ap, ◌∙◌, arith, cond}
+use Rattle.std.proofs.Common.{sym, ap, ◌∙◌, arith}
 use Rattle.std.proofs.lemmas.Bool.Decides.{nat_tests}
-use Rattle.vl_core.specs.Held.{Base, IsBase}
 use Rattle.vl_core.specs.Represents.{file_of}
-use Rattle.vl_core.specs.declared.kept.Core.{Core}
-use Rattle.vl_disk.specs.declared.name.Name.{Name}
-use Rattle.vl_disk.specs.declared.name.Name.TheVariants as names
-use Rattle.vl_engine.specs.Removing.{AreBelowHead, IsLogBelow, IsStockOf, all_retired}
+use Rattle.vl_engine.specs.Removing.{all_retired}
 use Rattle.vl_engine.specs.Sweeping.{held, ready, up_to}
 use Rattle.vl_layout.specs.Rulings.Sweep.{is_held, is_retired_up_to, is_same, pins as pins_of, swept, without_files}
 use Rattle.vl_layout.specs.Stock.{AreOnce, files_of, is_in}
@@ -18,7 +14,7 @@ use Rattle.vl_layout.specs.declared.file_name.FileName.TheVariants.{Log, Table, 
 use Rattle.vl_layout.specs.declared.file_name.Retired.{Retired}
 use Rattle.vl_layout.specs.declared.layout.Layout.{Layout}
 use Rattle.vl_layout.specs.laws.RisingLaws.{map-filter}
-use Rattle.vl_layout_laws.specs.laws.Files.{neither, or_false}
+use Rattle.vl_layout_laws.specs.laws.Files.{or_false}
 use Rattle.vl_layout_laws.specs.laws.Once.{off_filtered}
 use Rattle.vl_pins.specs.Files.{is_up_to, retired_of}
 use Rattle.vl_pins.specs.Pins.{ArePinsOf, bound_of}

@@ -1,18 +1,17 @@
 -- What a run of removals leaves of a disk, whatever it holds.
-use Rattle.std.specs.Prelude.{◌≡◌, ◌≢◌, ◌⊎◌, ◌+◌, ◌++◌, ℕ, List, [], ◌∷◌, length, map, IsTrue, Option, None, Some, Result, Ok, Err, is_some}
+use Rattle.std.specs.Prelude.{◌≡◌, ◌≢◌, ◌++◌, ℕ, List, [], ◌∷◌, length, Option, None, Some, Result, Ok, Err, is_some}
 use Rattle.std.specs.Prelude.{true, false, refl, zero, suc}
 use Rattle.std.specs.FinMap.{get}
 use Rattle.std.specs.List.{AllByRecursion}
 use Rattle.std.specs.Option.{ForSome, option_map}
-use Rattle.std.proofs.Common.{sym, subst, ap, ◌∙◌, inl, inr, ⊎_elim}
+use Rattle.std.proofs.Common.{sym, subst, ap, ◌∙◌, ⊎_elim}
 use Rattle.vl_back.specs.Writing.{IsKept}
 use Rattle.vl_compact.specs.declared.files.Lent.{Lent}
 use Rattle.vl_core.specs.Carries.{StaysUntold}
-use Rattle.vl_disk.specs.Calls.{ChangesNothing}
 use Rattle.vl_disk.specs.Changes.{SameElsewhere}
 use Rattle.vl_disk.specs.Disk.{IsFree}
 use Rattle.vl_disk.specs.DiskState.{DiskState, File, without}
-use Rattle.vl_disk.specs.Faults.{HasCause, after_calls, one_more}
+use Rattle.vl_disk.specs.Faults.{after_calls, one_more}
 use Rattle.vl_disk.specs.Lending.{Adopts, adopted}
 use Rattle.vl_disk.specs.declared.errors.Failed.{Failed}
 use Rattle.vl_disk.specs.declared.name.Name.{Name}

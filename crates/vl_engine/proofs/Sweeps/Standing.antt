@@ -1,13 +1,12 @@
 -- What a sweep comes to in memory, as the ruling has it.
-use Rattle.std.specs.Prelude.{if◌then◌else◌, ◌≡◌, ◌⊎◌, ◌≤◌, ◌+◌, ◌++◌, ℕ, Bool, List, [], ◌∷◌, length, map, take, Option, None}
+use Rattle.std.specs.Prelude.{if◌then◌else◌, ◌≡◌, ◌≤◌, ℕ, Bool, List, [], ◌∷◌, length, map, take, Option, None}
 use Rattle.std.specs.Prelude.{Some, Result, Ok, Err, true, false, refl}
-use Rattle.std.specs.List.{AllByRecursion, filter, list_any}
+use Rattle.std.specs.List.{filter}
 use Rattle.std.specs.Option.{option_map}
-use Rattle.std.specs.VecDeque.{deque_capacity, deque_len}
 use Rattle.std.proofs.Common.{sym, subst, ap, ◌∙◌, arith, ⊎_elim}
 use Rattle.vl_compact.specs.declared.files.Lent.{Lent}
 use Rattle.vl_core.specs.Pointed.{layout_logs}
-use Rattle.vl_core.specs.Represents.{Fronts, StandsFor, file_of}
+use Rattle.vl_core.specs.Represents.{StandsFor, file_of}
 use Rattle.vl_core.specs.declared.kept.Core.{Core}
 use Rattle.vl_core.specs.laws.AsideLaws.{same_stands}
 use Rattle.vl_disk.specs.declared.name.Name.{Name}
@@ -20,25 +19,23 @@ use Rattle.vl_engine.proofs.Sweeps.Freed.{all_filtered, left_are, swept_are, swe
 use Rattle.vl_engine.specs.Collecting.{Collects}
 use Rattle.vl_engine.specs.Lent.{Opens}
 use Rattle.vl_engine.specs.Merging.{StandsOpen}
-use Rattle.vl_engine.specs.Removing.{AreBelowHead, IsLogBelow, IsStockOf, Removes, UsesThoseOf, all_retired}
-use Rattle.vl_engine.specs.Sweeping.{HasSwept, PinsStay, SweepsAs, SweepsFor, gone_before, held, ready, sweep_effects, sweep_outcome, up_to}
+use Rattle.vl_engine.specs.Removing.{IsStockOf, Removes, UsesThoseOf, all_retired}
+use Rattle.vl_engine.specs.Sweeping.{PinsStay, SweepsAs, SweepsFor, gone_before, held, ready, up_to}
 use Rattle.vl_engine.specs.Sweeping.{sweep_otherwise}
 use Rattle.vl_engine.specs.declared.fails.SweepFail.TheVariants as fails
 use Rattle.vl_engine.specs.declared.fails.SweepFail.{SweepFail}
 use Rattle.vl_engine.specs.declared.open.Collecting.{Collecting}
 use Rattle.vl_engine.specs.declared.open.OpenMerge.{OpenMerge}
 use Rattle.vl_engine.specs.declared.open.Removing.{Removing}
-use Rattle.vl_layout.specs.Decides.{Answered, Decides, Effects, Failed, Otherwise, as_before, effects_of, no_effects}
-use Rattle.vl_layout.specs.Jobs.{lent_numbers}
-use Rattle.vl_layout.specs.Ruling.{halted_at, leaving}
-use Rattle.vl_layout.specs.Rulings.Sweep.{Halted, Removed, SweepAnswer, is_same, sweep_lost, sweep_unless, swept, without_files}
+use Rattle.vl_layout.specs.Decides.{effects_of, no_effects}
+use Rattle.vl_layout.specs.Ruling.{halted_at}
+use Rattle.vl_layout.specs.Rulings.Sweep.{Halted, Removed, sweep_lost, sweep_unless, swept, without_files}
 use Rattle.vl_layout.specs.declared.file_name.FileName.{FileName}
 use Rattle.vl_layout.specs.declared.file_name.Retired.{Retired}
 use Rattle.vl_layout.specs.declared.layout.Layout.{Layout}
 use Rattle.vl_layout_laws.specs.laws.TidySteps.{tidy_swept}
 use Rattle.vl_model.specs.History.{History}
 use Rattle.vl_pins.specs.Pins.{ArePinsOf, raised}
-use Rattle.vl_pins.specs.declared.pins.Pins.{Pins}
 use Rattle.vl_pins.specs.declared.retired_file.RetiredFile.{RetiredFile}
 use Rattle.vl_pins.specs.laws.PinLaws.{pins_raised}
 
@@ -54,8 +51,8 @@ Leaves stands h l least gone (Err (fails.Halted name)) = stands h l
 Leaves stands h l least gone (Err (fails.Disk name)) = stands h (halted_at (file_of name) (sweep_lost least l gone))
 
 module _ {D W H : Type 0} (g : Ghosts D) (w : Writers W) {s : _} (old new : D) (bytes : H → Option (List ℕ)) (core after : Core H)
-    (before now : Removing (Lent W s)) (h : History) (l : Layout) (low : Bool) (is : StandsFor bytes core h l)
-    (removes : Removes low core before l) (least : Option ℕ) where
+    (before now : Removing (Lent W s)) (h : History) (l : Layout) (is : StandsFor bytes core h l)
+    (removes : Removes core before l) (least : Option ℕ) where
   abbrev pub bound : ℕ
   bound = up_to least core.back.version_number before.pins
 
@@ -152,13 +149,6 @@ module _ {D W H : Type 0} (g : Ghosts D) (w : Writers W) {s : _} (old new : D) (
   uses_without logs None files uses = uses
   uses_without logs (Some in_use) files uses = record { tables = uses.tables; logs = uses.logs }
 
-  kept_below : (files : List FileName) → AreBelowHead core l → AreBelowHead core (without_files files l)
-  kept_below files below = record {
-    flushed = below.flushed;
-    retired = all_filtered (λ (r : Retired). IsLogBelow core.back.state.head r.file) _ l.retired below.retired;
-    from = below.from;
-  }
-
   shorter : {X : Type 0} (p : X → Bool) (xs : List X) → length (filter p xs) ≤ length xs
   shorter p [] = omega arith
   shorter p (x ∷ xs) = by (p x) (shorter p xs)
@@ -168,8 +158,8 @@ module _ {D W H : Type 0} (g : Ghosts D) (w : Writers W) {s : _} (old new : D) (
       by false less = omega (arith, less)
 
   pub leaves_removes : (result : Result ℕ SweepFail) → SweepsAs g w bound old new core after before now result
-      → Leaves (λ _ x. Removes low after now x) h l least (gone_before before now) result
-  leaves_removes (Ok count) did = subst (λ (c : Core H). Removes low c now (without_files (swept least l) l)) (sym did.1) (record {
+      → Leaves (λ _ x. Removes after now x) h l least (gone_before before now) result
+  leaves_removes (Ok count) did = subst (λ (c : Core H). Removes c now (without_files (swept least l) l)) (sym did.1) (record {
     pins = pins_without (swept least l) (pins_stay did.2.pins);
     stock = λ runs. record {
       in_use = subst (λ (o : Option _). UsesThoseOf core.version.behind.logs.items o (without_files (swept least l) l)) (sym did.2.in_use)
@@ -182,15 +172,13 @@ module _ {D W H : Type 0} (g : Ghosts D) (w : Writers W) {s : _} (old new : D) (
           (shorter _ before.stock.trash.items) in
           omega (arith, room, capacity, old_len, new_len, less);
     };
-    below = λ is_low runs. kept_below (swept least l) (removes.below is_low runs);
   })
   leaves_removes (Err (fails.Halted name)) did =
-      subst (λ (c : Core H). Removes low c now l) (sym did.1)
-      (subst (λ (k : Removing (Lent W s)). Removes low core k l) (sym did.3) removes)
+      subst (λ (c : Core H). Removes c now l) (sym did.1)
+      (subst (λ (k : Removing (Lent W s)). Removes core k l) (sym did.3) removes)
   leaves_removes (Err (fails.Disk name)) did = record {
     pins = pins_halted (file_of name) (take (gone_before before now) (swept least l)) (pins_stay did.3);
     stock = λ runs. absurd (never (file_of name) runs);
-    below = λ is_low runs. absurd (never (file_of name) runs);
   }
     where
       never : (f : FileName) → Some f ≡ None → ⊥

@@ -1,23 +1,21 @@
 -- What a removal of a retired file leaves of the disk, also where it fails; and that what the engine keeps is so behind it.
-use Rattle.std.specs.Prelude.{◌≡◌, ◌≢◌, ◌<◌, ◌≤◌, ◌⊎◌, ◌+◌, ◌==◌, ◌&&◌, ◌++◌, not, ℕ, All, Bool, IsErr, IsTrue, List, [], ◌∷◌, length, map}
+use Rattle.std.specs.Prelude.{◌≡◌, ◌≢◌, ℕ, Bool}
 use Rattle.std.specs.Prelude.{Option, None, Some, Result, Ok, Err, is_some, true, false, refl}
-use Rattle.std.specs.FinMap.{get}
-use Rattle.std.specs.List.{AllByRecursion, slice_index_or}
 use Rattle.std.specs.Option.{ForSome, option_map}
-use Rattle.std.proofs.Common.{sym, subst, ap, ◌∙◌, arith, inl, inr, ⊎_elim}
+use Rattle.std.proofs.Common.{sym, subst, ap, ◌∙◌, ⊎_elim}
 use Rattle.vl_compact.specs.declared.files.Lent.{Lent}
 use Rattle.vl_core.specs.Carries.{StaysUntold}
 use Rattle.vl_disk.specs.Calls.{Removes}
 use Rattle.vl_disk.specs.Changes.{SameElsewhere, without_elsewhere}
-use Rattle.vl_disk.specs.Disk.{IsChangedBy, IsFree, Stands}
+use Rattle.vl_disk.specs.Disk.{IsChangedBy}
 use Rattle.vl_disk.specs.DiskState.{DiskState, File, without}
-use Rattle.vl_disk.specs.Lending.{Adopts, adopted}
+use Rattle.vl_disk.specs.Lending.{Adopts}
 use Rattle.vl_disk.specs.declared.errors.Failed.{Failed}
 use Rattle.vl_disk.specs.declared.name.Name.{Name}
-use Rattle.vl_disk.specs.declared.name.Name.TheVariants.{Log, Table}
+use Rattle.vl_disk.specs.declared.name.Name.TheVariants.{Table}
 use Rattle.vl_disk.specs.declared.watched.Watched.{Ghosts}
 use Rattle.vl_disk.specs.declared.writer.Writer.{Ghosts as Writers}
-use Rattle.vl_disk.specs.laws.NameMap.{get_inserted_other, get_removed, get_removed_other}
+use Rattle.vl_disk.specs.laws.NameMap.{get_inserted_other, get_removed_other}
 use Rattle.vl_engine.proofs.There.Kept.{told_before}
 use Rattle.vl_engine.proofs.There.Taking.{told_taken}
 use Rattle.vl_engine.specs.Sweeping.{RemovesOne, TakesIfLent}

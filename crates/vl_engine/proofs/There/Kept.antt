@@ -1,14 +1,14 @@
 -- The files in use stand, and each retired one can be removed, also behind a call that takes away no file.
-use Rattle.std.specs.Prelude.{◌≡◌, ◌≢◌, ◌≤◌, ◌<◌, ◌+◌, ◌++◌, ℕ, All, IsTrue, List, length, Option, None, Some, is_some, true, refl}
+use Rattle.std.specs.Prelude.{◌≡◌, ◌≤◌, ◌+◌, ◌++◌, ℕ, All, IsTrue, List, length, Option, None, Some, is_some, true, refl}
 use Rattle.std.specs.FinMap.{get}
 use Rattle.std.specs.List.{slice_index_or}
 use Rattle.std.specs.Option.{ForSome}
 use Rattle.std.specs.VecDeque.{deque_capacity, deque_len}
-use Rattle.std.proofs.Common.{sym, subst, ap, ◌∙◌, arith}
+use Rattle.std.proofs.Common.{sym, subst, ◌∙◌, arith}
 use Rattle.vl_compact.specs.declared.files.Lent.{Lent}
-use Rattle.vl_core.specs.Carries.{HasSameFiles, SameFiles, StaysUntold}
+use Rattle.vl_core.specs.Carries.{SameFiles, StaysUntold}
 use Rattle.vl_core.specs.declared.kept.Core.{Core}
-use Rattle.vl_disk.specs.Disk.{IsFree, Stands}
+use Rattle.vl_disk.specs.Disk.{Stands}
 use Rattle.vl_disk.specs.DiskState.{DiskState, File}
 use Rattle.vl_disk.specs.declared.name.Name.{Name}
 use Rattle.vl_disk.specs.declared.name.Name.TheVariants.{Log, Table}

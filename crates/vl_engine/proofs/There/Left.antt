@@ -1,33 +1,31 @@
 -- What the engine keeps is so behind the removal of a retired file.
-use Rattle.std.specs.Prelude.{◌≡◌, ◌≢◌, ◌<◌, ◌≤◌, ◌⊎◌, ◌+◌, ◌==◌, ◌&&◌, ◌||◌, ◌++◌, not, ℕ, All, Bool, IsTrue, List, [], ◌∷◌, length, map}
+use Rattle.std.specs.Prelude.{◌≡◌, ◌≢◌, ◌≤◌, ◌==◌, ◌&&◌, ◌||◌, ◌++◌, not, ℕ, All, Bool, IsTrue, List, [], ◌∷◌, map}
 use Rattle.std.specs.Prelude.{Option, None, Some, is_some, true, false, refl}
 use Rattle.std.specs.FinMap.{get}
-use Rattle.std.specs.List.{AllByRecursion, list_any, slice_index_or}
+use Rattle.std.specs.List.{AllByRecursion}
 use Rattle.std.specs.Option.{ForSome}
 use Rattle.std.specs.VecDeque.{deque_capacity, deque_len}
-use Rattle.std.proofs.Common.{sym, subst, ap, ◌∙◌, arith, inl, inr, ⊎_elim}
+use Rattle.std.proofs.Common.{sym, subst, ap, ◌∙◌, arith}
 use Rattle.std.proofs.lemmas.Bool.{eq-eqb, eqb-true}
 use Rattle.std.proofs.lemmas.List.Elements.{All-from_recursion, recursion_from_All}
 use Rattle.vl_compact.specs.declared.files.Lent.{Lent}
-use Rattle.vl_core.specs.Fit.{IsFitFor, IsFitForSteps}
+use Rattle.vl_core.specs.Fit.{IsFitFor}
 use Rattle.vl_core.specs.Represents.{file_of}
 use Rattle.vl_core.specs.declared.kept.Core.{Core}
 use Rattle.vl_disk.specs.Disk.{IsFree, Stands}
-use Rattle.vl_disk.specs.DiskState.{DiskState, File}
+use Rattle.vl_disk.specs.DiskState.{DiskState}
 use Rattle.vl_disk.specs.declared.name.Name.{Name}
 use Rattle.vl_disk.specs.declared.name.Name.TheVariants.{Log, Manifest, Table}
 use Rattle.vl_disk.specs.declared.watched.Watched.{Ghosts}
 use Rattle.vl_disk.specs.declared.writer.Writer.{Ghosts as Writers}
-use Rattle.vl_disk.specs.laws.NameMap.{same_or_other}
 use Rattle.vl_engine.proofs.There.Going.{Goes}
 use Rattle.vl_engine.proofs.There.Kept.{stands_not_free, told_before}
 use Rattle.vl_engine.specs.Lent.{AreLent, IsLent}
-use Rattle.vl_engine.specs.Removing.{HasInUse, IsLeft, IsThere, IsWaiting, are_distinct, are_unused, is_none_of, is_unused, lent_in}
+use Rattle.vl_engine.specs.Removing.{HasInUse, IsThere, IsWaiting, are_distinct, are_unused, is_none_of, is_unused, lent_in}
 use Rattle.vl_engine.specs.Removing.{logs_in_use, numbers_left, standing_names, tables_in_use, with_number, with_standing}
 use Rattle.vl_engine.specs.declared.open.OpenMerge.{OpenMerge}
 use Rattle.vl_layout.specs.Rulings.Sweep.{is_same}
 use Rattle.vl_layout.specs.Stock.{is_in}
-use Rattle.vl_layout.specs.declared.file_name.FileName.{FileName}
 use Rattle.vl_model.specs.Numbers.{has}
 use Rattle.vl_pins.specs.declared.retired_file.RetiredFile.{RetiredFile}
 use Rattle.vl_pins.specs.declared.stock.Stock.{Stock}

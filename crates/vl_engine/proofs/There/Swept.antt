@@ -1,5 +1,5 @@
 -- One by one the files go that are ready.
-use Rattle.std.specs.Prelude.{◌≡◌, ◌+◌, ◌++◌, not, ℕ, Bool, List, [], ◌∷◌, length, All, Option, None, Some, Result, Ok, Err}
+use Rattle.std.specs.Prelude.{◌≡◌, ◌+◌, ◌++◌, not, ℕ, Bool, List, [], ◌∷◌, length, Option, Result, Ok, Err}
 use Rattle.std.specs.Prelude.{if◌then◌else◌, is_some, true, false, refl}
 use Rattle.std.specs.List.{AllByRecursion, filter}
 use Rattle.std.specs.Option.{ForSome}
@@ -10,14 +10,13 @@ use Rattle.vl_compact.specs.declared.files.Lent.{Lent}
 use Rattle.vl_core.specs.Fit.{IsFitFor}
 use Rattle.vl_core.specs.declared.kept.Core.{Core}
 use Rattle.vl_disk.specs.declared.errors.Failed.{Failed}
-use Rattle.vl_disk.specs.declared.name.Name.{Name}
 use Rattle.vl_disk.specs.declared.watched.Watched.{Ghosts}
 use Rattle.vl_disk.specs.declared.writer.Writer.{Ghosts as Writers}
 use Rattle.vl_engine.proofs.There.Going.{Goes, one_goes}
 use Rattle.vl_engine.proofs.There.Left.{fit_still, lent_still, there_on}
 use Rattle.vl_engine.specs.Lent.{AreLent}
 use Rattle.vl_engine.specs.Removing.{IsThere, IsWaiting}
-use Rattle.vl_engine.specs.Sweeping.{HasSwept, PinsStay, RemovesAll, RemovesFor, RemovesOne, StopsRemoving, held, ready}
+use Rattle.vl_engine.specs.Sweeping.{HasSwept, PinsStay, RemovesAll, RemovesOne, StopsRemoving, held, ready}
 use Rattle.vl_engine.specs.declared.open.OpenMerge.{OpenMerge}
 use Rattle.vl_engine.specs.declared.open.Removing.{Removing}
 use Rattle.vl_pins.specs.Files.{IsNoneTaken, IsTaken, is_up_to}

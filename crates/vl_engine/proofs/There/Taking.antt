@@ -1,5 +1,5 @@
 -- A file that was lent is taken back, so that it stands.
-use Rattle.std.specs.Prelude.{◌≡◌, IsSome, Option, None, Some, is_some, true, refl}
+use Rattle.std.specs.Prelude.{◌≡◌, IsSome, Option, None, Some, is_some, refl}
 use Rattle.std.specs.Option.{ForSome}
 use Rattle.std.proofs.Common.{sym, subst, ap, ◌∙◌}
 use Rattle.vl_disk.specs.Disk.{Stands}

@@ -1,18 +1,18 @@
 -- A file that a layout doesn't need is removed: the disk holds the layout, and whatever a crash leaves meanwhile shows the history.
-use Rattle.std.specs.Prelude.{◌≡◌, ◌≢◌, ◌<◌, ◌≤◌, ◌⊎◌, ℕ, List, Some, None, false, refl}
+use Rattle.std.specs.Prelude.{◌≡◌, ◌≢◌, ◌≤◌, ◌⊎◌, ℕ, Some, None, refl}
 use Rattle.std.specs.FinMap.{get}
-use Rattle.std.specs.List.{AllByRecursion}
 use Rattle.std.specs.Option.{ForSome}
-use Rattle.std.proofs.Common.{sym, ap, subst, ◌∙◌, arith, ⊎_elim}
+use Rattle.std.proofs.Common.{sym, ap, subst, ◌∙◌, arith, inl, inr, ⊎_elim}
 use Rattle.vl_core.specs.Held.{Base, Holds, HoldsBase, HoldsFiles, IsBase}
 use Rattle.vl_core.specs.Pointed.{layout_logs}
 use Rattle.vl_core.specs.Shown.{LeavesBetween}
 use Rattle.vl_core.specs.laws.HeldLaws.{held_opens_again, needed_shows}
+use Rattle.vl_core.specs.laws.IdleLaws.{IsIdleIn, idle_beside, without_idle}
 use Rattle.vl_core.specs.laws.InstallBeside.{opens_beside}
 use Rattle.vl_core.specs.laws.KeptLaws.{AreOtherLogs, AreOtherTables, base_kept, files_kept, nothing_elsewhere}
 use Rattle.vl_disk.specs.Changes.{SameElsewhere, without_elsewhere}
 use Rattle.vl_disk.specs.Crash.{WhileRemoving}
-use Rattle.vl_disk.specs.DiskState.{DiskState, File, IsLawful, settled, without}
+use Rattle.vl_disk.specs.DiskState.{DiskState, File, IsLawful, without}
 use Rattle.vl_disk.specs.Lending.{WhileAdopting, adopted}
 use Rattle.vl_disk.specs.declared.name.Name.{Name}
 use Rattle.vl_disk.specs.declared.name.Name.TheVariants.{Log, Manifest, Table}
@@ -33,6 +33,30 @@ pub record IsOutside (b : Base) (l : Layout) (name : Name) : Type 0 where
   pub flushed : AreOtherLogs name l.flushed
   pub from : (m : ℕ) → b.state.head ≤ m → Log m ≢ name
   pub manifests : (m : ℕ) → b.manifest.number ≤ m → Manifest m ≢ name
+
+-- The file is a log without frames, from the manifest's head on and before the active one, which the layout doesn't need.
+pub record IsIdleLog (b : Base) (l : Layout) (name : Name) : Type 0 where
+  pub number : ℕ
+  pub name_is : name ≡ Log number
+  pub idle : IsIdleIn number b
+  pub flushed : AreOtherLogs (Log number) l.flushed
+
+-- so it may go
+abbrev pub MayGo : Base → Layout → Name → Type 0
+MayGo b l name = IsOutside b l name ⊎ IsIdleLog b l name
+
+-- Where a log without frames has gone, others still may.
+pub still_may : (m : ℕ) (b : Base) (l : Layout) (name : Name) → name ≢ Log m → MayGo b l name → MayGo (without_idle m b) l name
+still_may m b l name apart may = ⊎_elim
+    (λ (out : IsOutside b l name).
+    inl (record { tables = out.tables; flushed = out.flushed; from = out.from; manifests = out.manifests }))
+    (λ (log : IsIdleLog b l name). inr (record {
+      number = log.number;
+      name_is = log.name_is;
+      idle = idle_beside m log.number b (λ same. apart (log.name_is ∙ ap Log (sym same))) log.idle;
+      flushed = log.flushed;
+    }))
+    may
 
 module _ (b : Base) (l : Layout) (h : History) (name : Name) (out : IsOutside b l name) (base : IsBase b l h)
     (tidy : IsTidy (layout_logs l) l h) (disk : DiskState) (holds : Holds b l disk) where

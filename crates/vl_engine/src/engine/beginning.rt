@@ -1,4 +1,4 @@
-ghost use Rattle.std.specs.Prelude.{◌≡◌, [], Bool, IfOk};
+ghost use Rattle.std.specs.Prelude.{◌≡◌, [], IfOk};
 ghost use Rattle.vl_engine.specs.Answers.{begin_outcome, view_outcome};
 ghost use Rattle.vl_engine.specs.Past.{beginning};
 ghost use Rattle.vl_core.specs.LiesOver.{IsInMemory};
@@ -37,9 +37,9 @@ impl<D: Disk> Engine<D> {
             (begin_outcome result) no_effects }
 
         // What is kept of which files can go is what the layout has: its version number is pinned.
-        ensures removes { (low : Bool) (h : History) (l : Layout) → Fronts self.old.core h l
-            → Removes low self.old.core self.old.removing l
-            → Decides (λ _ l. Removes low self.new.core self.new.removing l) h l (begin_ruling l h) (as_before l l)
+        ensures removes { (h : History) (l : Layout) → Fronts self.old.core h l
+            → Removes self.old.core self.old.removing l
+            → Decides (λ _ l. Removes self.new.core self.new.removing l) h l (begin_ruling l h) (as_before l l)
             (begin_outcome result) no_effects }
 
         // What steps on files ask stays.
@@ -101,9 +101,9 @@ impl<D: Disk> Engine<D> {
         ensures represents { (h : History) (l : Layout) → Represents D.Held.bytes self.old.core (D.told self.old.disk) h l
             → Decides (Represents D.Held.bytes self.new.core (D.told self.new.disk)) h l (view_ruling l h) (as_before l l)
             (view_outcome result) no_effects }
-        ensures removes { (low : Bool) (h : History) (l : Layout) → Fronts self.old.core h l
-            → Removes low self.old.core self.old.removing l
-            → Decides (λ _ l. Removes low self.new.core self.new.removing l) h l (view_ruling l h) (as_before l l)
+        ensures removes { (h : History) (l : Layout) → Fronts self.old.core h l
+            → Removes self.old.core self.old.removing l
+            → Decides (λ _ l. Removes self.new.core self.new.removing l) h l (view_ruling l h) (as_before l l)
             (view_outcome result) no_effects }
         ensures fits { (h : History) (l : Layout) → StandsFor D.Held.bytes self.old.core h l
             → Fits (D.told self.old.disk) self.old.core h l

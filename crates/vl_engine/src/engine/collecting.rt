@@ -1,4 +1,4 @@
-ghost use Rattle.std.specs.Prelude.{◌≡◌, ◌<◌, ℕ, ◌↔◌, ◌⊎◌, ◌==◌, ◌||◌, nat_lt, None, Some, Err, IfErr, IfOk, Bool};
+ghost use Rattle.std.specs.Prelude.{◌≡◌, ◌<◌, ℕ, ◌↔◌, ◌⊎◌, ◌==◌, ◌||◌, nat_lt, None, Some, Err, IfErr, IfOk};
 ghost use Rattle.vl_core.specs.MayStep.{Fits};
 ghost use Rattle.vl_core.specs.Represents.{Represents, StandsFor};
 ghost use Rattle.vl_engine.specs.Collecting.{BeginsOver, BeginsPass, Collects, FitsLooks, IsPicked, LacksLog, Passes};
@@ -65,9 +65,9 @@ impl<D: Disk> Engine<D> {
             (pick_outcome (pick_ruling l h percent).answer result) no_effects }
 
         // What is kept of which files can go is what the layout has: its version number is pinned.
-        ensures removes { (low : Bool) (h : History) (l : Layout) → StandsFor D.Held.bytes self.old.core h l
-            → Collects self.old.core self.old.collecting l → Removes low self.old.core self.old.removing l
-            → Decides (λ _ l. Removes low self.new.core self.new.removing l) h l (pick_ruling l h percent) (as_before l l)
+        ensures removes { (h : History) (l : Layout) → StandsFor D.Held.bytes self.old.core h l
+            → Collects self.old.core self.old.collecting l → Removes self.old.core self.old.removing l
+            → Decides (λ _ l. Removes self.new.core self.new.removing l) h l (pick_ruling l h percent) (as_before l l)
             (pick_outcome (pick_ruling l h percent).answer result) no_effects }
         ensures stock { self.new.removing.stock ≡ self.old.removing.stock }
         ensures removing { PinsPass self.old.core.back.version_number self.old.removing self.new.removing result }
@@ -151,8 +151,8 @@ impl<D: Disk> Engine<D> {
         ensures collects { (h : History) (l : Layout) (p : layout.Pass) → Collects self.old.core self.old.collecting l
             → Collects self.new.core self.new.collecting (end_pass_ruling l h p).layout }
 
-        ensures removes { (low : Bool) (h : History) (l : Layout) (p : layout.Pass) → Removes low self.old.core self.old.removing l
-            → Removes low self.new.core self.new.removing (end_pass_ruling l h p).layout }
+        ensures removes { (h : History) (l : Layout) (p : layout.Pass) → Removes self.old.core self.old.removing l
+            → Removes self.new.core self.new.removing (end_pass_ruling l h p).layout }
         ensures removing { self.new.removing ≡ pass_pinned None self.old.removing }
 
         // None is open then, and all else is as before.

@@ -1,4 +1,4 @@
-ghost use Rattle.std.specs.Prelude.{◌≡◌, ℕ, Bool, List, IsTrue, None, Ok, OnOk, Some};
+ghost use Rattle.std.specs.Prelude.{◌≡◌, ℕ, List, IsTrue, None, Ok, OnOk, Some};
 ghost use Rattle.std.specs.FinMap.{entries};
 ghost use Rattle.vl_disk.specs.DiskState.{DiskState};
 ghost use Rattle.vl_disk.specs.Calls.{ChangesNothing};
@@ -68,10 +68,10 @@ impl<D: Disk> Engine<D> {
             (as_before l (commit_lost l (asked txn reads))) (commit_outcome result) (commit_effects result) }
 
         // What is kept of which files can go is what the layout has: a transaction that has ended pins nothing.
-        ensures removes { (low : Bool) (h : History) (l : Layout) (reads : List Read) → Fronts self.old.core h l
-            → Removes low self.old.core self.old.removing l
+        ensures removes { (h : History) (l : Layout) (reads : List Read) → Fronts self.old.core h l
+            → Removes self.old.core self.old.removing l
             → IsLive l txn.ticket txn.number → AreNotesOf reads txn.reads.keys txn.reads.spans
-            → Decides (λ _ l. Removes low self.new.core self.new.removing l) h l (commit_ruling l h (asked txn reads))
+            → Decides (λ _ l. Removes self.new.core self.new.removing l) h l (commit_ruling l h (asked txn reads))
             (as_before l (commit_lost l (asked txn reads))) (commit_outcome result) (commit_effects result) }
 
         // What an accepted transaction read, and what it scanned, is so up to its own commit.

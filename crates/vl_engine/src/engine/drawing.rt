@@ -1,4 +1,4 @@
-ghost use Rattle.std.specs.Prelude.{◌≡◌, ◌≤◌, true, is_some, Err, None, Some, IfOk, OnErr, OnOk, Bool};
+ghost use Rattle.std.specs.Prelude.{◌≡◌, ◌≤◌, true, is_some, Err, None, Some, IfOk, OnErr, OnOk};
 ghost use Rattle.std.specs.Option.{ForSome};
 ghost use Rattle.vl_back.specs.Writing.{KeepsOthers};
 ghost use Rattle.vl_compact.specs.Progress.{HasRoom};
@@ -59,9 +59,9 @@ impl<D: Disk> Engine<D> {
             (fresh_effects result) }
 
         // What is kept of which files can go is what the layout has, with room for the file, should its merge end without it.
-        ensures removes { (low : Bool) (h : History) (l : Layout) → StandsOpen D.Held.bytes self.old.core self.old.merging h l
-            → (l.halted ≡ None → HasNumbers self.old.core.back l) → Removes low self.old.core self.old.removing l
-            → Decides (λ _ l. Removes low self.new.core self.new.removing l) h l (fresh_ruling l h) (as_before l l)
+        ensures removes { (h : History) (l : Layout) → StandsOpen D.Held.bytes self.old.core self.old.merging h l
+            → (l.halted ≡ None → HasNumbers self.old.core.back l) → Removes self.old.core self.old.removing l
+            → Decides (λ _ l. Removes self.new.core self.new.removing l) h l (fresh_ruling l h) (as_before l l)
             (fresh_outcome result) (fresh_effects result) }
         ensures pins { self.new.removing.pins ≡ self.old.removing.pins }
 

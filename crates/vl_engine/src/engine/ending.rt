@@ -1,4 +1,4 @@
-ghost use Rattle.std.specs.Prelude.{◌≡◌, Bool};
+ghost use Rattle.std.specs.Prelude.{◌≡◌};
 ghost use Rattle.vl_core.specs.Represents.{Fronts, Represents, StandsFor};
 ghost use Rattle.vl_core.specs.MayStep.{Fits};
 ghost use Rattle.vl_layout.specs.Ruling.{ended};
@@ -21,8 +21,8 @@ impl<D: Disk> Engine<D> {
         // What steps on files ask stays.
         ensures fits { (h : History) (l : Layout) → Fits (D.told self.old.disk) self.old.core h l
             → Fits (D.told self.new.disk) self.new.core h (ended txn.ticket l) }
-        ensures removes { (low : Bool) (l : Layout) → Removes low self.old.core self.old.removing l
-            → Removes low self.new.core self.new.removing (ended txn.ticket l) }
+        ensures removes { (l : Layout) → Removes self.old.core self.old.removing l
+            → Removes self.new.core self.new.removing (ended txn.ticket l) }
         ensures disk { self.new.disk ≡ self.old.disk }
         ensures back { self.new.core.back ≡ self.old.core.back }
         ensures merging { self.new.merging ≡ self.old.merging }
@@ -43,8 +43,8 @@ impl<D: Disk> Engine<D> {
             → Represents D.Held.bytes self.new.core (D.told self.new.disk) h (ended view.ticket l) }
         ensures fits { (h : History) (l : Layout) → Fits (D.told self.old.disk) self.old.core h l
             → Fits (D.told self.new.disk) self.new.core h (ended view.ticket l) }
-        ensures removes { (low : Bool) (l : Layout) → Removes low self.old.core self.old.removing l
-            → Removes low self.new.core self.new.removing (ended view.ticket l) }
+        ensures removes { (l : Layout) → Removes self.old.core self.old.removing l
+            → Removes self.new.core self.new.removing (ended view.ticket l) }
         ensures disk { self.new.disk ≡ self.old.disk }
         ensures back { self.new.core.back ≡ self.old.core.back }
         ensures merging { self.new.merging ≡ self.old.merging }
@@ -65,8 +65,8 @@ impl<D: Disk> Engine<D> {
             → Represents D.Held.bytes self.new.core (D.told self.new.disk) h (ended ticket l) }
         ensures fits { (h : History) (l : Layout) → Fits (D.told self.old.disk) self.old.core h l
             → Fits (D.told self.new.disk) self.new.core h (ended ticket l) }
-        ensures removes { (low : Bool) (l : Layout) → Removes low self.old.core self.old.removing l
-            → Removes low self.new.core self.new.removing (ended ticket l) }
+        ensures removes { (l : Layout) → Removes self.old.core self.old.removing l
+            → Removes self.new.core self.new.removing (ended ticket l) }
         ensures disk { self.new.disk ≡ self.old.disk }
         ensures back { self.new.core.back ≡ self.old.core.back }
         ensures merging { self.new.merging ≡ self.old.merging }

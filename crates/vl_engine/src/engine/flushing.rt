@@ -1,4 +1,4 @@
-ghost use Rattle.std.specs.Prelude.{◌≡◌, ◌+◌, ◌≤◌, ℕ, length, Bool, Err, None, Ok, OnOk, Some};
+ghost use Rattle.std.specs.Prelude.{◌≡◌, ◌+◌, ◌≤◌, ℕ, length, Err, None, Ok, OnOk, Some};
 ghost use Rattle.vl_back.specs.Deciding.{MayFlush};
 ghost use Rattle.vl_back.specs.Writing.{KeepsOthers};
 ghost use Rattle.vl_disk.specs.Calls.{ChangesNothing};
@@ -23,7 +23,7 @@ ghost use Rattle.vl_engine.specs.Lent.{Opens};
 ghost use Rattle.vl_engine.specs.Removing.{Removes, lent_in};
 ghost use Rattle.vl_engine.specs.Retiring.{FlushesStock};
 
-use crate::collecting::head_of;
+use crate::collecting::{head_of, idle_logs};
 use crate::flushing::{ReadyFlush, ready_flush};
 use crate::making::lent_count;
 use crate::{Engine, StepFail};
@@ -104,11 +104,11 @@ impl<D: Disk> Engine<D> {
             (step_outcome result) (flush_effects result) }
 
         // What is kept of which files can go is what the layout has: the logs that it retires wait. What is pinned stays.
-        ensures removes { (low : Bool) (state : DiskState) (h : History) (l : Layout) → D.told self.old.disk ≡ Some state
+        ensures removes { (state : DiskState) (h : History) (l : Layout) → D.told self.old.disk ≡ Some state
             → StandsFor D.Held.bytes self.old.core h l → Opens self.old.merging l.job
             → (l.halted ≡ None → HasNumbers self.old.core.back l × AreLogFiles l)
-            → Collects self.old.core self.old.collecting l → Removes low self.old.core self.old.removing l
-            → Decides (λ _ l. Removes low self.new.core self.new.removing l) h l (flush_ruling l h) (as_before l l)
+            → Collects self.old.core self.old.collecting l → Removes self.old.core self.old.removing l
+            → Decides (λ _ l. Removes self.new.core self.new.removing l) h l (flush_ruling l h) (as_before l l)
             (step_outcome result) (flush_effects result) }
         ensures pins { self.new.removing.pins ≡ self.old.removing.pins }
     {
@@ -152,6 +152,9 @@ impl<D: Disk> Engine<D> {
         else {
             return Err(StepFail::NoMemory);
         };
+        let Ok(idle) = idle_logs(self.alloc, self.core.version.logs(), &live) else {
+            return Err(StepFail::NoMemory);
+        };
         let Ok(()) = self
             .removing
             .make_room(self.alloc, &self.core, 1, lent_count(&self.merging))
@@ -167,7 +170,8 @@ impl<D: Disk> Engine<D> {
             &edits,
         ) {
             Ok(held) => {
-                self.core.version = version.with_table(Table::of(held, shape));
+                let active = self.core.front.log.number;
+                self.core.version = version.with_table(Table::of(held, shape), active, &idle);
                 self.core.back.apply_flush(state);
                 let head = head_of(&self.core);
                 let version = self.core.back.version_number;

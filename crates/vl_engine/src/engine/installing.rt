@@ -1,4 +1,4 @@
-ghost use Rattle.std.specs.Prelude.{◌≡◌, ◌<◌, ◌≤◌, ℕ, Err, None, Some, IfOk, IsSome, OnOk, length, map, Bool};
+ghost use Rattle.std.specs.Prelude.{◌≡◌, ◌<◌, ◌≤◌, ℕ, Err, None, Some, IfOk, IsSome, OnOk, length, map};
 ghost use Rattle.std.specs.List.{filter};
 ghost use Rattle.std.specs.Option.{ForSome};
 ghost use Rattle.vl_compact.specs.Progress.{made_of};
@@ -30,7 +30,7 @@ ghost use Rattle.vl_table.specs.Tables.{number_of};
 ghost use Rattle.vl_version.specs.Bases.{is_input};
 ghost use Rattle.vl_version.specs.levels.LevelsLooked.{tables_of};
 
-use crate::collecting::head_of;
+use crate::collecting::{head_of, idle_logs};
 use crate::installing::{
     ReadyInstall, input_numbers, made_numbers, numbers_of, ready_install, write_install,
 };
@@ -48,8 +48,8 @@ impl<D: Disk> Engine<D> {
     /// Puts the tables of a merge, which has made all of them, into the place of its inputs, and ends it. All memory is taken
     /// first; then the disk takes its files back, and the manifest says it, by an append and a sync. Where it is refused for want
     /// of memory the merge is handed back as it was, and else it has ended: where its tables weren't put in, no call reads its
-    /// files any more, and the next opening removes them. Only behind a fault of the disk the store may be opened with the
-    /// merge's tables all the same, with the same contents.
+    /// files any more, and a sweep or the next opening removes them. Only behind a fault of the disk the store may be opened with
+    /// the merge's tables all the same, with the same contents.
     pub fn install(
         &mut self,
         job: Job<Base<D::Held, D::Reader>, D::Held, D::Writer>,
@@ -129,17 +129,19 @@ impl<D: Disk> Engine<D> {
 
         // What is kept of which files can go is what the layout has: the inputs and the logs that it retires wait, and so do the
         // merge's files that aren't put in. It pins nothing then.
-        ensures removes { (low : Bool) (state : DiskState) (h : History) (l : Layout) (o : OpenJob) → D.told self.old.disk ≡ Some state
+        ensures removes { (state : DiskState) (h : History) (l : Layout) (o : OpenJob) → D.told self.old.disk ≡ Some state
             → StandsOpen D.Held.bytes self.old.core self.old.merging h l → l.job ≡ Some o → (l.halted ≡ None → AreLogFiles l)
             → HasAllMerge D.Writer.Writer D.Held.bytes job o.job → AreLent o.lent (made_of job o.job)
-            → Collects self.old.core self.old.collecting l → Removes low self.old.core self.old.removing l
-            → Decides (λ _ l. Removes low self.new.core self.new.removing l) h l (install_ruling l h o.job (made_of job o.job))
+            → Collects self.old.core self.old.collecting l → Removes self.old.core self.old.removing l
+            → Decides (λ _ l. Removes self.new.core self.new.removing l) h l (install_ruling l h o.job (made_of job o.job))
             (install_otherwise l (made_of job o.job)) (install_outcome result) (install_effects result) }
 
         // In memory a version is made, or nothing changes beside the open merge, unless a fault halts. A halted engine does nothing.
         ensures core { InstallsCore self.old.core self.new.core result }
         ensures halted { (name : Name) → self.old.core.front.halted ≡ Some name → result ≡ Err (fails.Halted name) }
         ensures idle { (name : Name) → self.old.core.front.halted ≡ Some name → self.new.collecting ≡ self.old.collecting }
+        ensures unpinned { (name : Name) → self.old.core.front.halted ≡ Some name
+            → self.new.removing.pins ≡ record self.old.removing.pins { merge = None } }
     {
         if let Some(name) = self.core.front.halted {
             self.merging = None;
@@ -234,6 +236,9 @@ impl<D: Disk> Engine<D> {
         let Ok(added) = made_numbers(self.alloc, job.made()) else {
             return Err(InstallFail::NoMemory(job));
         };
+        let Ok(idle) = idle_logs(self.alloc, self.core.version.logs(), &live) else {
+            return Err(InstallFail::NoMemory(job));
+        };
         let lent = lent_count(&self.merging);
         let Ok(()) = self
             .removing
@@ -261,7 +266,8 @@ impl<D: Disk> Engine<D> {
             &staged.edits,
         ) {
             Ok(()) => {
-                self.core.version = version.with_levels(levels.into_levels());
+                let active = self.core.front.log.number;
+                self.core.version = version.with_levels(levels.into_levels(), active, &idle);
                 self.core.back.apply_install(staged.state);
                 let head = head_of(&self.core);
                 let version = self.core.back.version_number;

@@ -1,4 +1,4 @@
-ghost use Rattle.std.specs.Prelude.{◌≡◌, ◌≢◌, ◌≤◌, Err, OnOk, Bool};
+ghost use Rattle.std.specs.Prelude.{◌≡◌, ◌≢◌, ◌≤◌, Err, OnOk};
 ghost use Rattle.vl_disk.specs.Calls.{ChangesNothing};
 ghost use Rattle.vl_disk.specs.DiskState.{DiskState};
 ghost use Rattle.vl_disk.specs.Faults.{HasCause, after_calls};
@@ -86,9 +86,9 @@ impl<D: Disk> Engine<D> {
             → self.new.core.back.state.next_log ≤ self.new.core.back.next_log }
 
         // What is kept of which files can go is what the layout has, as before.
-        ensures removes { (low : Bool) (h : History) (l : Layout) → Fronts self.old.core h l
-            → Removes low self.old.core self.old.removing l
-            → Decides (λ _ l. Removes low self.new.core self.new.removing l) h l (keep_ruling l h versions) (as_before l l)
+        ensures removes { (h : History) (l : Layout) → Fronts self.old.core h l
+            → Removes self.old.core self.old.removing l
+            → Decides (λ _ l. Removes self.new.core self.new.removing l) h l (keep_ruling l h versions) (as_before l l)
             (keep_outcome result) (keep_effects self.old.core.back.state.keep versions result) }
 
         // What is kept of the open merge stays.

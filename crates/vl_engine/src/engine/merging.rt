@@ -2,10 +2,11 @@ ghost use Rattle.std.specs.Prelude.{◌≡◌, IfOk, None, Ok, OnOk, Some};
 ghost use Rattle.vl_engine.specs.Collecting.{Collects};
 ghost use Rattle.vl_engine.specs.Installing.{IsHandedIn};
 ghost use Rattle.vl_engine.specs.Merging.{FitsReaders, HasMerge, StandsOpen};
+ghost use Rattle.vl_engine.specs.Removing.{Removes};
 ghost use Rattle.vl_core.specs.Represents.{Represents};
 ghost use Rattle.vl_core.specs.MayStep.{Fits};
 ghost use Rattle.vl_engine.specs.UnderWay.{GivesUp, IfHandedBack, IsUnderWay};
-ghost use Rattle.vl_engine.specs.Whole.{MakesTables, StaysCollecting, StaysFor, kept_of};
+ghost use Rattle.vl_engine.specs.Whole.{MakesRemoving, MakesTables, StaysCollecting, StaysFor, StaysRemoving, kept_of};
 ghost use Rattle.vl_layout.specs.Rulings.Plan.{plan_ruling};
 ghost use Rattle.vl_layout.specs.declared.job.OpenJob.{OpenJob};
 ghost use Rattle.vl_layout.specs.declared.layout.Layout.{Layout};
@@ -34,6 +35,13 @@ impl<D: Disk> Engine<D> {
             → Collects self.old.core self.old.collecting l
             → StaysCollecting D.Watched D.Held.bytes self.old.disk self.new.disk self.new.core self.new.merging
             self.new.collecting h l }
+
+        // And so is what it keeps of which files can go, which a sweep behind it asks.
+        ensures removes { (h : History) (l : Layout) → Represents D.Held.bytes self.old.core (D.told self.old.disk) h l
+            → StandsOpen D.Held.bytes self.old.core self.old.merging h l → Fits (D.told self.old.disk) self.old.core h l
+            → Collects self.old.core self.old.collecting l → Removes self.old.core self.old.removing l
+            → StaysRemoving D.Watched D.Held.bytes self.old.disk self.new.disk self.new.core self.new.merging
+            self.new.collecting self.new.removing h l }
 
         // The merge is the one that the ruling on plans has: it answers how many entries that merge keeps, and none where none is due.
         ensures counts { (h : History) (l : Layout) → Represents D.Held.bytes self.old.core (D.told self.old.disk) h l
@@ -84,6 +92,14 @@ impl<D: Disk> Engine<D> {
             → l.job ≡ Some o → HasMerge D.Writer.Writer D.Held.bytes job.old o.job → FitsReaders D.Held.bytes job.old
             → MakesTables D.Watched D.Writer.Writer D.Held.bytes self.old.disk self.new.disk self.new.core self.new.merging job.new
             h l o.job result }
+
+        // What is kept of which files can go is that layout's.
+        ensures removes { (h : History) (l : Layout) (o : OpenJob) → Represents D.Held.bytes self.old.core (D.told self.old.disk) h l
+            → StandsOpen D.Held.bytes self.old.core self.old.merging h l → Fits (D.told self.old.disk) self.old.core h l
+            → l.job ≡ Some o → HasMerge D.Writer.Writer D.Held.bytes job.old o.job → FitsReaders D.Held.bytes job.old
+            → Removes self.old.core self.old.removing l
+            → MakesRemoving D.Watched D.Writer.Writer D.Held.bytes self.old.disk self.new.disk self.new.core self.new.merging
+            self.new.removing job.new h l o.job result }
     {
         let mut reader = self.reader()?;
         'making: for _ in 0..MAX_FILE_NUMBER {

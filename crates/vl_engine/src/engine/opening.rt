@@ -27,7 +27,7 @@ ghost use Rattle.vl_recover.specs.opening.Intact.{IsIntact, LeavesIntact};
 ghost use Rattle.vl_recover.specs.opening.Opening.{NamesNoTable};
 ghost use Rattle.vl_recover.specs.opening.Results.{recovery_by};
 ghost use Rattle.vl_recover.specs.repairing.Steps.{MakesSome};
-ghost use Rattle.vl_engine.specs.Removing.{IsNothingRemoved, Removes, is_low};
+ghost use Rattle.vl_engine.specs.Removing.{IsNothingRemoved, Removes};
 
 use crate::open::{Collecting, Removing};
 use crate::{Engine, OpenError, OpenFail};
@@ -81,8 +81,7 @@ impl<D: Disk> Engine<D> {
         ensures removing { IfOk result (λ engine. IsNothingRemoved engine.removing) }
         ensures removes { (state : DiskState) (read : Image) (found : Finds read) (h : History) → D.told disk ≡ Some state
             → IsRead read state → (shown : Shown read h (last_number h))
-            → IfOk result (λ engine. Removes (is_low engine.core (layout_at_start room (recovered found shown))) engine.core
-            engine.removing (layout_at_start room (recovered found shown))) }
+            → IfOk result (λ engine. Removes engine.core engine.removing (layout_at_start room (recovered found shown))) }
 
         // What a crash leaves meanwhile shows what was opened; and opens as something that one could have left before.
         ensures through { (state : DiskState) (read : Image) (h : History) → D.told disk ≡ Some state → IsDurable state

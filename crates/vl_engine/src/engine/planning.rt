@@ -1,4 +1,4 @@
-ghost use Rattle.std.specs.Prelude.{◌≡◌, Bool, None, Option, Some, IfOk, OnErr, OnOk};
+ghost use Rattle.std.specs.Prelude.{◌≡◌, None, Option, Some, IfOk, OnErr, OnOk};
 ghost use Rattle.std.specs.Option.{ForSome};
 ghost use Rattle.vl_compact.specs.Laid.{AreBoth};
 ghost use Rattle.vl_compact.specs.Progress.{IsNew, made_of};
@@ -56,9 +56,9 @@ impl<D: Disk> Engine<D> {
             (plan_outcome (plan_ruling l h).answer result) no_effects }
 
         // What is kept of which files can go is what the layout has: its version number is pinned.
-        ensures removes { (low : Bool) (h : History) (l : Layout) → StandsOpen D.Held.bytes self.old.core self.old.merging h l
-            → Removes low self.old.core self.old.removing l
-            → Decides (λ _ l. Removes low self.new.core self.new.removing l) h l (plan_ruling l h) (as_before l l)
+        ensures removes { (h : History) (l : Layout) → StandsOpen D.Held.bytes self.old.core self.old.merging h l
+            → Removes self.old.core self.old.removing l
+            → Decides (λ _ l. Removes self.new.core self.new.removing l) h l (plan_ruling l h) (as_before l l)
             (plan_outcome (plan_ruling l h).answer result) no_effects }
         ensures stock { self.new.removing.stock ≡ self.old.removing.stock }
         ensures removing { PinsMerge self.old.core.back.version_number self.old.removing self.new.removing result }
@@ -116,9 +116,9 @@ impl<D: Disk> Engine<D> {
             (plan_outcome (drain_ruling l h segment).answer result) no_effects }
 
         // What is kept of which files can go is what the layout has: its version number is pinned.
-        ensures removes { (low : Bool) (h : History) (l : Layout) → StandsOpen D.Held.bytes self.old.core self.old.merging h l
-            → Removes low self.old.core self.old.removing l
-            → Decides (λ _ l. Removes low self.new.core self.new.removing l) h l (drain_ruling l h segment) (as_before l l)
+        ensures removes { (h : History) (l : Layout) → StandsOpen D.Held.bytes self.old.core self.old.merging h l
+            → Removes self.old.core self.old.removing l
+            → Decides (λ _ l. Removes self.new.core self.new.removing l) h l (drain_ruling l h segment) (as_before l l)
             (plan_outcome (drain_ruling l h segment).answer result) no_effects }
         ensures stock { self.new.removing.stock ≡ self.old.removing.stock }
         ensures removing { PinsMerge self.old.core.back.version_number self.old.removing self.new.removing result }
@@ -170,9 +170,9 @@ impl<D: Disk> Engine<D> {
             → Fits (D.told self.old.disk) self.old.core h l → IsChosen D.Held.bytes inputs h l ruling
             → Decides (Fits (D.told self.new.disk) self.new.core) h l ruling (as_before l l)
             (plan_outcome ruling.answer result) no_effects }
-        ensures removes { (low : Bool) (h : History) (l : Layout) (ruling : Ruling (Option laid_job.Job))
-            → Fronts self.old.core h l → Removes low self.old.core self.old.removing l → IsChosen D.Held.bytes inputs h l ruling
-            → Decides (λ _ l. Removes low self.new.core self.new.removing l) h l ruling (as_before l l)
+        ensures removes { (h : History) (l : Layout) (ruling : Ruling (Option laid_job.Job))
+            → Fronts self.old.core h l → Removes self.old.core self.old.removing l → IsChosen D.Held.bytes inputs h l ruling
+            → Decides (λ _ l. Removes self.new.core self.new.removing l) h l ruling (as_before l l)
             (plan_outcome ruling.answer result) no_effects }
         ensures job { (h : History) (l : Layout) (ruling : Ruling (Option laid_job.Job))
             → StandsFor D.Held.bytes self.old.core h l → IsChosen D.Held.bytes inputs h l ruling
@@ -255,11 +255,12 @@ impl<D: Disk> Engine<D> {
             → Fits (D.told self.new.disk) self.new.core h (abandon_ruling l h o.job made).layout }
 
         // Its files wait for their removal, and it pins nothing.
-        ensures removes { (low : Bool) (h : History) (l : Layout) (o : OpenJob)
+        ensures removes { (h : History) (l : Layout) (o : OpenJob)
             → StandsOpen D.Held.bytes self.old.core self.old.merging h l → l.job ≡ Some o
-            → HasMerge D.Writer.Writer D.Held.bytes job o.job → Removes low self.old.core self.old.removing l
-            → Removes low self.new.core self.new.removing (abandon_ruling l h o.job (made_of job o.job)).layout }
+            → HasMerge D.Writer.Writer D.Held.bytes job o.job → Removes self.old.core self.old.removing l
+            → Removes self.new.core self.new.removing (abandon_ruling l h o.job (made_of job o.job)).layout }
         ensures left { LeavesFiles (files_in job) self.old.removing.stock self.new.removing.stock }
+        ensures pins { self.new.removing.pins ≡ record self.old.removing.pins { merge = None } }
 
         ensures core { self.new.core ≡ self.old.core }
         ensures disk { self.new.disk ≡ self.old.disk }

@@ -1,4 +1,4 @@
-ghost use Rattle.std.specs.Prelude.{◌≡◌, ◌<◌, List, Some, IsErrOf, IsTrue, Err, OnOk, Bool};
+ghost use Rattle.std.specs.Prelude.{◌≡◌, ◌<◌, List, Some, IsErrOf, IsTrue, Err, OnOk};
 ghost use Rattle.std.specs.List.{AllByRecursion};
 ghost use Rattle.vl_core.specs.Carries.{Carries, SameFiles, StaysUntold};
 ghost use Rattle.vl_core.specs.MayStep.{Fits};
@@ -78,10 +78,10 @@ impl<D: Disk> Engine<D> {
             (move_outcome result) (move_effects result) }
 
         // What is kept of which files can go is what the layout has, as before.
-        ensures removes { (low : Bool) (h : History) (l : Layout) (p : layout.Pass)
+        ensures removes { (h : History) (l : Layout) (p : layout.Pass)
             → IsOfPass D.Held.bytes self.old.core pass.now.log batch looks.old h l p
-            → StandsOpen D.Held.bytes self.old.core self.old.merging h l → Removes low self.old.core self.old.removing l
-            → Decides (λ _ l. Removes low self.new.core self.new.removing l) h l (relocate_ruling l h p batch) (as_before l l)
+            → StandsOpen D.Held.bytes self.old.core self.old.merging h l → Removes self.old.core self.old.removing l
+            → Decides (λ _ l. Removes self.new.core self.new.removing l) h l (relocate_ruling l h p batch) (as_before l l)
             (move_outcome result) (move_effects result) }
 
         // Right behind it no record of the batch wins exactly from inside the pass's log, and none of its files is damaged.

@@ -1,4 +1,4 @@
-ghost use Rattle.std.specs.Prelude.{◌≡◌, ◌≤◌, ◌+◌, ℕ, length, Bool, Err, IfOk, IsSome, None, OnOk, Some};
+ghost use Rattle.std.specs.Prelude.{◌≡◌, ◌≤◌, ◌+◌, ℕ, length, Err, IfOk, IsSome, None, OnOk, Some};
 ghost use Rattle.vl_back.specs.Writing.{KeepsOthers};
 ghost use Rattle.vl_disk.specs.Calls.{ChangesNothing};
 ghost use Rattle.vl_disk.specs.DiskState.{DiskState};
@@ -99,10 +99,10 @@ impl<D: Disk> Engine<D> {
             (step_outcome result) (rotate_effects result) }
 
         // What is kept of which files can go is what the layout has; what is pinned stays.
-        ensures removes { (low : Bool) (h : History) (l : Layout) → StandsFor D.Held.bytes self.old.core h l
+        ensures removes { (h : History) (l : Layout) → StandsFor D.Held.bytes self.old.core h l
             → Opens self.old.merging l.job → (l.halted ≡ None → HasNumbers self.old.core.back l)
-            → Removes low self.old.core self.old.removing l
-            → Decides (λ _ l. Removes low self.new.core self.new.removing l) h l (rotate_ruling l h) (as_before l l)
+            → Removes self.old.core self.old.removing l
+            → Decides (λ _ l. Removes self.new.core self.new.removing l) h l (rotate_ruling l h) (as_before l l)
             (step_outcome result) (rotate_effects result) }
         ensures pins { self.new.removing.pins ≡ self.old.removing.pins }
     {

@@ -1,4 +1,4 @@
-use Rattle.std.proofs.Common.{sym, ap, ◌∙◌, ◌≡◌, inl, inr, length, Option, Some}
+use Rattle.std.proofs.Common.{sym, ap, ◌∙◌, inl, inr, Option, Some}
 use Rattle.vl_engine.proofs.Pinned.{begun_so, raised_so, same_count, unpinned_so}
 use Rattle.std.specs.Prelude.{ℕ}
 use Rattle.vl_engine.specs.Pinning.{pinned_next, without_pin}

@@ -1,7 +1,5 @@
-use Rattle.vl_engine.proofs.There.Left.{there_on}
-use Rattle.vl_engine.proofs.There.Going.{one_goes}
 use Rattle.std.specs.Option.{ForSome}
-use Rattle.std.proofs.Common.{Some, None, subst, sym, ap, ◌∙◌}
+use Rattle.std.proofs.Common.{subst, sym, ◌∙◌}
 use Rattle.vl_disk.specs.Disk.{IsFree, Stands}
 use Rattle.vl_disk.specs.declared.name.Name.{Name}
 use Rattle.vl_engine.proofs.There.Taking.{taken_stands}

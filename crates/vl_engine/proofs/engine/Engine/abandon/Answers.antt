@@ -1,4 +1,3 @@
-use Rattle.std.specs.Prelude.{None, refl}
 use Rattle.std.proofs.Common.{subst, sym, ◌∙◌}
 use Rattle.vl_compact.specs.Progress.{made_of}
 use Rattle.vl_core.specs.MayStep.{Fits}
@@ -6,9 +5,7 @@ use Rattle.vl_core.specs.Represents.{Represents, StandsFor}
 use Rattle.vl_core.specs.declared.kept.Core.{Core}
 use Rattle.vl_engine.proofs.LeftRemoved.{halted_none, merge_numbers, removes_left}
 use Rattle.vl_engine.proofs.Planning.{fits_abandoned, represents_abandoned, stands_abandoned}
-use Rattle.vl_engine.specs.Merging.{StandsOpen}
 use Rattle.vl_engine.specs.Removing.{Removes}
-use Rattle.vl_engine.specs.declared.open.OpenMerge.{OpenMerge}
 use Rattle.vl_layout.specs.Jobs.{job_ended}
 use Rattle.vl_engine.proofs.engine.Engine.abandon.Goals as goal
 
@@ -32,10 +29,13 @@ returns-clause-fits g c h l o made fits =
     (subst (λ (x : Core g.row.D-Held.Denot). Fits (g.D.Watched.told c.args.self.now.disk) x h l) (sym c.leave.ensures.core) fits))
 
 pub returns-clause-removes : goal.returns-clause-removes
-returns-clause-removes g c low h l o is opened has removes =
-    subst (λ (x : Core g.row.D-Held.Denot). Removes low x c.leave.new.self.removing (job_ended (made_of c.args.job o.job) l))
+returns-clause-removes g c h l o is opened has removes =
+    subst (λ (x : Core g.row.D-Held.Denot). Removes x c.leave.new.self.removing (job_ended (made_of c.args.job o.job) l))
     (sym c.leave.ensures.core)
     (removes_left g.D.Watched c.args.self.now.disk c.args.self.now.core c.args.self.now.merging c.args.job c.args.self.now.removing
-    c.leave.new.self.removing c.args.self.now.there c.requires c.leave.ensures.left low l (made_of c.args.job o.job)
+    c.leave.new.self.removing c.args.self.now.there c.requires c.leave.ensures.left l (made_of c.args.job o.job)
     (merge_numbers g.D.Held.HeldFile.bytes c.args.job o.job has)
     (λ runs. halted_none c.args.self.now.core.front.halted (is.stands.fronts.halted ∙ runs)) c.leave.ensures.pins removes)
+
+pub returns-clause-pins : goal.returns-clause-pins
+returns-clause-pins g c = c.leave.ensures.pins

@@ -8,11 +8,11 @@ use Rattle.vl_layout.specs.declared.layout.Layout.{Layout}
 use Rattle.vl_engine.proofs.engine.Engine.begin.Goals as goal
 
 pub returns-in_err-alloc-clause-removes : goal.returns-in_err-alloc-clause-removes
-returns-in_err-alloc-clause-removes g c low h l is removes =
-    subst (λ (o : Outcome BeginAnswer). Decides (λ _ (k : Layout). Removes low c.view.new.self.core c.view.new.self.removing k) h l
+returns-in_err-alloc-clause-removes g c h l is removes =
+    subst (λ (o : Outcome BeginAnswer). Decides (λ _ (k : Layout). Removes c.view.new.self.core c.view.new.self.removing k) h l
     (begin_ruling l h) (as_before l l) o no_effects)
     (refused_so c.from_residual.result c.in_err-alloc.field-0.0 c.from_residual.ensures.1)
-    (c.in_err-alloc.ensures.removes low h l is removes)
+    (c.in_err-alloc.ensures.removes h l is removes)
 
 pub returns-in_err-alloc-clause-pins : goal.returns-in_err-alloc-clause-pins
 returns-in_err-alloc-clause-pins g c =

@@ -75,12 +75,12 @@ returns-in_ok-begin_merge-in-Some-clause-looks g c h l is =
     c.in_ok-begin_merge-in-Some.ensures.merge
 
 pub returns-in_ok-begin_merge-in-Some-clause-removes : goal.returns-in_ok-begin_merge-in-Some-clause-removes
-returns-in_ok-begin_merge-in-Some-clause-removes g c low h l ruling is removes chosen =
+returns-in_ok-begin_merge-in-Some-clause-removes g c h l ruling is removes chosen =
     let bytes = g.D.Held.HeldFile.bytes in
     let core = c.args.self.now.core in
     let inputs = c.in-Some.inputs in
     let p = is_planned bytes h l ruling inputs (subst (λ (o : Option _). IsChosen bytes o h l ruling) c.in-Some.is chosen) in
     let after = c.begin_merge.new.self in
-    decides_planned bytes core h l ruling inputs p (λ _ (k : Layout). Removes low after.core after.removing k)
-    (removes_planned core after.core h l is c.begin_merge.ensures.core low c.args.self.now.removing after.removing removes
+    decides_planned bytes core h l ruling inputs p (λ _ (k : Layout). Removes after.core after.removing k)
+    (removes_planned core after.core h l is c.begin_merge.ensures.core c.args.self.now.removing after.removing removes
     (job_begun bytes core h l ruling inputs p) c.in_ok-begin_merge-in-Some.ensures.pinned)

@@ -3,6 +3,7 @@ use Rattle.vl_engine.proofs.Whole.{IsMaking}
 use Rattle.vl_engine.specs.Merging.{FitsReaders, HasMerge, StandsOpen}
 use Rattle.vl_core.specs.Represents.{Represents}
 use Rattle.vl_core.specs.MayStep.{Fits}
+use Rattle.vl_engine.specs.Removing.{Removes}
 use Rattle.vl_engine.specs.UnderWay.{IsUnderWay}
 use Rattle.vl_layout.specs.declared.job.OpenJob.{OpenJob}
 use Rattle.vl_layout.specs.declared.layout.Layout.{Layout}
@@ -19,6 +20,13 @@ invariant-making g l = record {
       → FitsReaders g.D.Held.HeldFile.bytes l.fn.job
       → IsMaking g.D.Watched g.D.Writer.Writer g.D.Held.HeldFile.bytes l.fn.self.disk l.self.disk l.self.core l.self.merging l.job
       l.reader h x o.job;
+  removes : (h : History) (x : Layout) (o : OpenJob)
+      → Represents g.D.Held.HeldFile.bytes l.fn.self.core (g.D.Watched.told l.fn.self.disk) h x
+      → StandsOpen g.D.Held.HeldFile.bytes l.fn.self.core l.fn.self.merging h x → Fits (g.D.Watched.told l.fn.self.disk) l.fn.self.core h x
+      → x.job ≡ Some o → HasMerge g.D.Writer.Writer g.D.Held.HeldFile.bytes l.fn.job o.job
+      → FitsReaders g.D.Held.HeldFile.bytes l.fn.job → Removes l.fn.self.core l.fn.self.removing x
+      → (m : IsMaking g.D.Watched g.D.Writer.Writer g.D.Held.HeldFile.bytes l.fn.self.disk l.self.disk l.self.core l.self.merging l.job
+      l.reader h x o.job) × Removes l.self.core l.self.removing m.stays.layout;
   pins : l.self.removing.pins ≡ l.fn.self.removing.pins;
   collecting : l.self.collecting ≡ l.fn.self.collecting;
   logs : l.self.core.version.behind.logs ≡ l.fn.self.core.version.behind.logs;

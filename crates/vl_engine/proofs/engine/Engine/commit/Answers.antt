@@ -292,26 +292,26 @@ returns-in-Write-clause-untold g c =
 -- ---- which files can go
 
 pub returns-in-Halted-clause-removes : goal.returns-in-Halted-clause-removes
-returns-in-Halted-clause-removes g c low h l reads is removes lives notes =
-    decides_leaving (λ _ (k : Layout). Removes low c.end.new.self.core c.end.new.self.removing k) h l _ _
+returns-in-Halted-clause-removes g c h l reads is removes lives notes =
+    decides_leaving (λ _ (k : Layout). Removes c.end.new.self.core c.end.new.self.removing k) h l _ _
     (answers.Halted (file_of c.in-Halted.name)) (ended c.args.txn.ticket l)
     (ruling_so c.args.self.now.core h l is c.args.txn.ticket c.args.txn.number reads c.args.txn.writes
     (decisions.Halted c.in-Halted.name) lives
     (λ floor remembers below. sym c.in-Halted.is ∙ c.in-Ok.ensures.decided h floor reads remembers below notes))
-    (c.end.ensures.removes low l removes)
+    (c.end.ensures.removes l removes)
 
 pub returns-in-Nothing-clause-removes : goal.returns-in-Nothing-clause-removes
-returns-in-Nothing-clause-removes g c low h l reads is removes lives notes =
-    decides_leaving (λ _ (k : Layout). Removes low c.end-in-Nothing.new.self.core c.end-in-Nothing.new.self.removing k) h l _ _
+returns-in-Nothing-clause-removes g c h l reads is removes lives notes =
+    decides_leaving (λ _ (k : Layout). Removes c.end-in-Nothing.new.self.core c.end-in-Nothing.new.self.removing k) h l _ _
     answers.Nothing (ended c.args.txn.ticket l)
     (ruling_so c.args.self.now.core h l is c.args.txn.ticket c.args.txn.number reads c.args.txn.writes
     decisions.Nothing lives
     (λ floor remembers below. sym c.in-Nothing.is ∙ c.in-Ok.ensures.decided h floor reads remembers below notes))
-    (c.end-in-Nothing.ensures.removes low l removes)
+    (c.end-in-Nothing.ensures.removes l removes)
 
 pub returns-in-Exhausted-clause-removes : goal.returns-in-Exhausted-clause-removes
-returns-in-Exhausted-clause-removes g c low h l reads is removes lives notes =
-    decides_leaving (λ _ (k : Layout). Removes low c.args.self.now.core c.args.self.now.removing k) h l _ _
+returns-in-Exhausted-clause-removes g c h l reads is removes lives notes =
+    decides_leaving (λ _ (k : Layout). Removes c.args.self.now.core c.args.self.now.removing k) h l _ _
     (answers.Exhausted counters.Commit) l
     (ruling_so c.args.self.now.core h l is c.args.txn.ticket c.args.txn.number reads c.args.txn.writes
     decisions.Exhausted lives
@@ -319,17 +319,17 @@ returns-in-Exhausted-clause-removes g c low h l reads is removes lives notes =
     removes
 
 pub returns-in-Conflict-clause-removes : goal.returns-in-Conflict-clause-removes
-returns-in-Conflict-clause-removes g c low h l reads is removes lives notes =
-    decides_leaving (λ _ (k : Layout). Removes low c.end-in-Conflict.new.self.core c.end-in-Conflict.new.self.removing k) h l _ _
+returns-in-Conflict-clause-removes g c h l reads is removes lives notes =
+    decides_leaving (λ _ (k : Layout). Removes c.end-in-Conflict.new.self.core c.end-in-Conflict.new.self.removing k) h l _ _
     (answers.Conflict c.in-Conflict.key c.in-Conflict.number) (ended c.args.txn.ticket l)
     (ruling_so c.args.self.now.core h l is c.args.txn.ticket c.args.txn.number reads c.args.txn.writes
     (decisions.Conflict c.in-Conflict.key c.in-Conflict.number) lives
     (λ floor remembers below. sym c.in-Conflict.is ∙ c.in-Ok.ensures.decided h floor reads remembers below notes))
-    (c.end-in-Conflict.ensures.removes low l removes)
+    (c.end-in-Conflict.ensures.removes l removes)
 
 pub returns-in-Full-clause-removes : goal.returns-in-Full-clause-removes
-returns-in-Full-clause-removes g c low h l reads is removes lives notes =
-    decides_leaving (λ _ (k : Layout). Removes low c.args.self.now.core c.args.self.now.removing k) h l _ _
+returns-in-Full-clause-removes g c h l reads is removes lives notes =
+    decides_leaving (λ _ (k : Layout). Removes c.args.self.now.core c.args.self.now.removing k) h l _ _
     (answers.Full c.in-Full.length c.in-Full.frame) l
     (ruling_so c.args.self.now.core h l is c.args.txn.ticket c.args.txn.number reads c.args.txn.writes
     (decisions.Full c.in-Full.length c.in-Full.frame) lives
@@ -337,10 +337,10 @@ returns-in-Full-clause-removes g c low h l reads is removes lives notes =
     removes
 
 pub returns-in-Write-clause-removes : goal.returns-in-Write-clause-removes
-returns-in-Write-clause-removes g c low h l reads is removes lives notes =
+returns-in-Write-clause-removes g c h l reads is removes lives notes =
     removes_by g.D.Watched g.D.Held.HeldFile.bytes c.args.self.now.disk c.write.new.self.disk c.args.self.now.core
     c.write.new.self.core h l c.args.txn.ticket c.args.txn.number reads c.args.txn.writes c.write.ensures.steps
-    (λ i. (c.write.ensures.logs i).items) low c.args.self.now.removing c.write.new.self.removing is removes
+    (λ i. (c.write.ensures.logs i).items) c.args.self.now.removing c.write.new.self.removing is removes
     (ruling_so c.args.self.now.core h l is c.args.txn.ticket c.args.txn.number reads c.args.txn.writes decisions.Write lives
     (λ floor remembers below. sym c.in-Write.is ∙ c.in-Ok.ensures.decided h floor reads remembers below notes))
     c.write.result c.write.ensures.as_written c.write.ensures.removing

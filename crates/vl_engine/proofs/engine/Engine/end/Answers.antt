@@ -31,8 +31,8 @@ returns-clause-fits g c h l fits =
     fits_live c.args.self.now.core _ h l _ _ refl refl (filter (λ (x : Live). not (x.ticket == c.args.ticket)) l.live) fits
 
 pub returns-clause-removes : goal.returns-clause-removes
-returns-clause-removes g c low l is =
+returns-clause-removes g c l is =
     let live = filter (λ (x : Live). not (x.ticket == c.args.ticket)) l.live in
-    removes_live low c.args.self.now.core _ c.args.self.now.removing _ l live refl refl refl
+    removes_live c.args.self.now.core _ c.args.self.now.removing _ l live refl refl
     (subst (λ (p : Pins). ArePinsOf p (record l { live = live })) (sym c.end-2.ensures)
     (pins_ended c.args.self.now.removing.pins l is.pins c.args.ticket)) is

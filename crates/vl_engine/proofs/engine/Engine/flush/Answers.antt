@@ -340,29 +340,29 @@ returns-in-Go-clause-passing g c =
 -- which files can go
 
 pub returns-in-Some-clause-removes : goal.returns-in-Some-clause-removes
-returns-in-Some-clause-removes g c low state h l told is opens can collects removes =
-    decides_leaving (λ k x. Removes low c.args.self.now.core c.args.self.now.removing x) h l (flush_ruling l h) (as_before l l)
+returns-in-Some-clause-removes g c state h l told is opens can collects removes =
+    decides_leaving (λ k x. Removes c.args.self.now.core c.args.self.now.removing x) h l (flush_ruling l h) (as_before l l)
     (Halted (file_of c.in-Some.name)) l (ruled_halted c.args.self.now.core h l is.fronts c.in-Some.name c.in-Some.is) removes
 
 pub returns-in-Idle-clause-removes : goal.returns-in-Idle-clause-removes
-returns-in-Idle-clause-removes g c low state h l told is opens can collects removes =
+returns-in-Idle-clause-removes g c state h l told is opens can collects removes =
     let core = c.args.self.now.core in
-    decides_leaving (λ k x. Removes low c.args.self.now.core c.args.self.now.removing x) h l (flush_ruling l h) (as_before l l) Idle l
+    decides_leaving (λ k x. Removes c.args.self.now.core c.args.self.now.removing x) h l (flush_ruling l h) (as_before l l) Idle l
     (ruled_idle core h l is.fronts c.in_default.is ((can (runs_on core h l is.fronts c.in_default.is)).0)
     (sym c.in-Idle.ensures.decided)) removes
 
 pub returns-in-Exhausted-clause-removes : goal.returns-in-Exhausted-clause-removes
-returns-in-Exhausted-clause-removes g c low state h l told is opens can collects removes =
+returns-in-Exhausted-clause-removes g c state h l told is opens can collects removes =
     let core = c.args.self.now.core in
-    decides_leaving (λ k x. Removes low c.args.self.now.core c.args.self.now.removing x) h l (flush_ruling l h) (as_before l l)
+    decides_leaving (λ k x. Removes c.args.self.now.core c.args.self.now.removing x) h l (flush_ruling l h) (as_before l l)
     (Exhausted c.in-Exhausted.counter) l
     (ruled_exhausted core h l is.fronts c.in_default.is ((can (runs_on core h l is.fronts c.in_default.is)).0) c.in-Exhausted.counter
     (sym c.in-Exhausted.ensures.decided)) removes
 
 pub returns-in-Go-clause-removes : goal.returns-in-Go-clause-removes
-returns-in-Go-clause-removes g c low state h l told is opens can collects removes =
+returns-in-Go-clause-removes g c state h l told is opens can collects removes =
     flush_removes g.D.Held.HeldFile.bytes g.D.Held.HeldFile.size g.met.D.Held.HeldFile.sized c.args.self.now.core
-    c.make_table.new.self.core c.args.self.now.removing c.make_table.new.self.removing c.args.self.now.merging h l is opens low removes
+    c.make_table.new.self.core c.args.self.now.removing c.make_table.new.self.removing c.args.self.now.merging h l is opens removes
     c.make_table.ensures.pins g.D.Watched c.args.self.now.disk c.make_table.new.self.disk c.args.self.now.collecting
     c.make_table.new.self.collecting collects (λ running. (can running).0) (flush_effects c.make_table.result) c.make_table.result
     c.make_table.ensures.as_flushed c.make_table.ensures.collected c.make_table.ensures.retires

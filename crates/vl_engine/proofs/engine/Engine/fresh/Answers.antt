@@ -218,34 +218,34 @@ pub returns-in_default-make_room_to_leave-clause-refused : goal.returns-in_defau
 returns-in_default-make_room_to_leave-clause-refused g c = same_itself c.args.self.now.merging c.requires
 
 pub returns-in_default-make_room_to_leave-clause-removes : goal.returns-in_default-make_room_to_leave-clause-removes
-returns-in_default-make_room_to_leave-clause-removes g c low h l is numbers removes =
+returns-in_default-make_room_to_leave-clause-removes g c h l is numbers removes =
     let core = c.args.self.now.core in
     let after = (record c.args.self.now.removing { stock = c.make_room_to_leave.new.stock }) in
-    decides_short (λ _ (k : Layout). Removes low core after k) h l (fresh_ruling l h) l
-    (removes_roomier core l low c.args.self.now.removing after refl removes (record {
+    decides_short (λ _ (k : Layout). Removes core after k) h l (fresh_ruling l h) l
+    (removes_roomier core l c.args.self.now.removing after refl removes (record {
       in_use = c.make_room_to_leave.ensures.in_use;
       trash = c.make_room_to_leave.ensures.trash;
       capacity = c.make_room_to_leave.ensures.capacity;
     }))
 
 pub returns-in_default-ready_fresh-clause-removes : goal.returns-in_default-ready_fresh-clause-removes
-returns-in_default-ready_fresh-clause-removes g c low h l is numbers removes =
+returns-in_default-ready_fresh-clause-removes g c h l is numbers removes =
     let core = c.args.self.now.core in
     let after = (record c.args.self.now.removing { stock = c.make_room_to_leave.new.stock }) in
-    decides_short (λ _ (k : Layout). Removes low core after k) h l (fresh_ruling l h) l
-    (removes_roomier core l low c.args.self.now.removing after refl removes (record {
+    decides_short (λ _ (k : Layout). Removes core after k) h l (fresh_ruling l h) l
+    (removes_roomier core l c.args.self.now.removing after refl removes (record {
       in_use = c.make_room_to_leave.ensures.in_use;
       trash = c.make_room_to_leave.ensures.trash;
       capacity = c.make_room_to_leave.ensures.capacity;
     }))
 
 pub returns-in-Ok-lend_new-clause-removes : goal.returns-in-Ok-lend_new-clause-removes
-returns-in-Ok-lend_new-clause-removes g c low h l is numbers removes =
+returns-in-Ok-lend_new-clause-removes g c h l is numbers removes =
     let core = c.args.self.now.core in
     let after = (record c.args.self.now.removing { stock = c.make_room_to_leave.new.stock }) in
-    decides_drawn core h l is.stands.fronts (λ _ (k : Layout). Removes low (drawn_core core) after k) c.in_default.is numbers
+    decides_drawn core h l is.stands.fronts (λ _ (k : Layout). Removes (drawn_core core) after k) c.in_default.is numbers
     c.if-number-gt-MAX_FILE_NUMBER.false
-    (removes_drawn core l low c.args.self.now.removing after refl removes (record {
+    (removes_drawn core l c.args.self.now.removing after refl removes (record {
       in_use = c.make_room_to_leave.ensures.in_use;
       trash = c.make_room_to_leave.ensures.trash;
       capacity = c.make_room_to_leave.ensures.capacity;
@@ -253,12 +253,12 @@ returns-in-Ok-lend_new-clause-removes g c low h l is numbers removes =
     c.args.self.now.merging (opens_lent c.args.self.now.merging l.job is.opens) c.in-Ok.ensures.room)
 
 pub returns-in-Err-clause-removes : goal.returns-in-Err-clause-removes
-returns-in-Err-clause-removes g c low h l is numbers removes =
+returns-in-Err-clause-removes g c h l is numbers removes =
     let core = c.args.self.now.core in
     let after = (record c.args.self.now.removing { stock = c.make_room_to_leave.new.stock }) in
     let name = names.Table core.back.state.next_table in
-    decides_undrawn core h l is.stands.fronts (λ _ (k : Layout). Removes low _ after k) name no_effects c.in_default.is
-    (removes_halted low _ after l (file_of name) removes.pins)
+    decides_undrawn core h l is.stands.fronts (λ _ (k : Layout). Removes _ after k) name no_effects c.in_default.is
+    (removes_halted _ after l (file_of name) removes.pins)
 
 pub invariant_of-self-in_default-ready_fresh : goal.invariant_of-self-in_default-ready_fresh
 invariant_of-self-in_default-ready_fresh g c =

@@ -442,55 +442,55 @@ returns-in-Ok-None-clause-passing g c =
 -- which files can go
 
 pub returns-in-Ok-None-clause-removes : goal.returns-in-Ok-None-clause-removes
-returns-in-Ok-None-clause-removes g c low state h l o told is opened files whole lent has removes =
+returns-in-Ok-None-clause-removes g c state h l o told is opened files whole lent has removes =
     let core = c.args.self.now.core in
     let way = way_of g.D.Watched g.D.Writer.Writer c.args.self.now.disk core.front.halted c.args.self.now.merging c.args.job c.requires in
     install_removes g.D.Watched g.D.Held.HeldFile.bytes g.D.Writer.Writer g.D.Held.HeldFile.size g.met.D.Held.HeldFile.sized c.args.job
     c.args.self.now.disk c.install_unraced.new.self.disk core c.install_unraced.new.self.core c.args.self.now.removing
     c.install_unraced.new.self.removing c.args.self.now.collecting c.install_unraced.new.self.collecting c.args.self.now.merging
-    c.install_unraced.new.self.merging (length (lent_in c.args.self.now.merging)) h l is.stands o opened whole lent low removes
+    c.install_unraced.new.self.merging (length (lent_in c.args.self.now.merging)) h l is.stands o opened whole lent removes
     (runs_on core h l is.stands.fronts c.in_default.is) has
     (fewer_leavings c.args.job (length (lent_in c.args.self.now.merging))
     (room_left c.args.job g.D.Watched c.args.self.now.disk core.front.halted c.args.self.now.merging way))
-    (λ pins left same. subst (λ (x : Core g.row.D-Held.Denot). Removes low x c.install_unraced.new.self.removing
+    (λ pins left same. subst (λ (x : Core g.row.D-Held.Denot). Removes x c.install_unraced.new.self.removing
     (job_ended (made_of c.args.job o.job) l)) (sym same)
     (removes_left g.D.Watched c.args.self.now.disk core c.args.self.now.merging c.args.job c.args.self.now.removing
-    c.install_unraced.new.self.removing c.args.self.now.there way left low l (made_of c.args.job o.job)
+    c.install_unraced.new.self.removing c.args.self.now.there way left l (made_of c.args.job o.job)
     (whole_numbers g.D.Writer.Writer g.D.Held.HeldFile.bytes c.args.job o.job whole) (λ runs. c.in_default.is) pins removes))
     (install_effects c.install_unraced.result) c.install_unraced.result c.install_unraced.ensures.as_unraced
     c.install_unraced.ensures.collected c.install_unraced.ensures.retires
     (returns-in-Ok-None-clause-stands g c state h l o told is opened files whole lent)
 
 pub returns-in-Ok-Some-clause-removes : goal.returns-in-Ok-Some-clause-removes
-returns-in-Ok-Some-clause-removes g c low state h l o told is opened files whole lent has removes =
+returns-in-Ok-Some-clause-removes g c state h l o told is opened files whole lent has removes =
     let core = c.args.self.now.core in
     let way = way_of g.D.Watched g.D.Writer.Writer c.args.self.now.disk core.front.halted c.args.self.now.merging c.args.job c.requires in
-    ended_by (StandsOpen g.D.Held.HeldFile.bytes core None) (λ k x. Removes low core c.give_up-in-Ok-Some.new.removing x) h l o.job
+    ended_by (StandsOpen g.D.Held.HeldFile.bytes core None) (λ k x. Removes core c.give_up-in-Ok-Some.new.removing x) h l o.job
     (made_of c.args.job o.job) _ no_effects
     (removes_left g.D.Watched c.args.self.now.disk core c.args.self.now.merging c.args.job c.args.self.now.removing
-    c.give_up-in-Ok-Some.new.removing c.args.self.now.there way c.give_up-in-Ok-Some.ensures.left low l (made_of c.args.job o.job)
+    c.give_up-in-Ok-Some.new.removing c.args.self.now.there way c.give_up-in-Ok-Some.ensures.left l (made_of c.args.job o.job)
     (whole_numbers g.D.Writer.Writer g.D.Held.HeldFile.bytes c.args.job o.job whole) (λ runs. c.in_default.is)
     c.give_up-in-Ok-Some.ensures.pins removes)
     (λ e. raced_other _ _ e)
     (returns-in-Ok-Some-clause-stands g c state h l o told is opened files whole lent)
 
 pub returns-in-Some-clause-removes : goal.returns-in-Some-clause-removes
-returns-in-Some-clause-removes g c low state h l o told is opened files whole lent has removes =
+returns-in-Some-clause-removes g c state h l o told is opened files whole lent has removes =
     let core = c.args.self.now.core in
     let way = way_of g.D.Watched g.D.Writer.Writer c.args.self.now.disk core.front.halted c.args.self.now.merging c.args.job c.requires in
-    ended_by (StandsOpen g.D.Held.HeldFile.bytes core None) (λ k x. Removes low core c.give_up.new.removing x) h l o.job
+    ended_by (StandsOpen g.D.Held.HeldFile.bytes core None) (λ k x. Removes core c.give_up.new.removing x) h l o.job
     (made_of c.args.job o.job) _ no_effects
     (removes_left g.D.Watched c.args.self.now.disk core c.args.self.now.merging c.args.job c.args.self.now.removing
-    c.give_up.new.removing c.args.self.now.there way c.give_up.ensures.left low l (made_of c.args.job o.job)
+    c.give_up.new.removing c.args.self.now.there way c.give_up.ensures.left l (made_of c.args.job o.job)
     (whole_numbers g.D.Writer.Writer g.D.Held.HeldFile.bytes c.args.job o.job whole)
     (λ runs. halted_none core.front.halted (is.stands.fronts.halted ∙ runs)) c.give_up.ensures.pins removes)
     (λ e. halted_other _ e)
     (returns-in-Some-clause-stands g c state h l o told is opened files whole lent)
 
 pub returns-in-Err-clause-removes : goal.returns-in-Err-clause-removes
-returns-in-Err-clause-removes g c low state h l o told is opened files whole lent has removes =
+returns-in-Err-clause-removes g c state h l o told is opened files whole lent has removes =
     short_by (StandsOpen g.D.Held.HeldFile.bytes c.args.self.now.core c.args.self.now.merging)
-    (λ k x. Removes low c.args.self.now.core c.args.self.now.removing x) h l o.job (made_of c.args.job o.job) no_effects removes
+    (λ k x. Removes c.args.self.now.core c.args.self.now.removing x) h l o.job (made_of c.args.job o.job) no_effects removes
     (returns-in-Err-clause-stands g c state h l o told is opened files whole lent)
 
 -- the files in use stand
@@ -502,3 +502,17 @@ invariant_of-self-in-Ok-Some-clause-there g c running =
     (was.there running)
     (way_of g.D.Watched g.D.Writer.Writer was.disk was.core.front.halted was.merging c.args.job c.requires)
     c.give_up-in-Ok-Some.ensures.left running was.lent
+
+-- what a halted engine leaves pinned
+
+pub returns-in-Some-clause-unpinned : goal.returns-in-Some-clause-unpinned
+returns-in-Some-clause-unpinned g c name is = c.give_up.ensures.pins
+
+pub returns-in-Ok-None-clause-unpinned : goal.returns-in-Ok-None-clause-unpinned
+returns-in-Ok-None-clause-unpinned g c name is = not_halted c.args.self.now.core.front.halted name c.in_default.is is
+
+pub returns-in-Ok-Some-clause-unpinned : goal.returns-in-Ok-Some-clause-unpinned
+returns-in-Ok-Some-clause-unpinned g c name is = not_halted c.args.self.now.core.front.halted name c.in_default.is is
+
+pub returns-in-Err-clause-unpinned : goal.returns-in-Err-clause-unpinned
+returns-in-Err-clause-unpinned g c name is = not_halted c.args.self.now.core.front.halted name c.in_default.is is

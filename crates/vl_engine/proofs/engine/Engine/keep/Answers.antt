@@ -180,7 +180,7 @@ returns-clause-untold g c =
     c.args.versions c.switch_kept.result c.switch_kept.ensures.as_kept
 
 pub returns-clause-removes : goal.returns-clause-removes
-returns-clause-removes g c low h l is removes =
+returns-clause-removes g c h l is removes =
     let core = c.args.self.now.core in
     let may : MayKeep core c.args.versions = record {
       running = c.in_default.is;
@@ -189,5 +189,5 @@ returns-clause-removes g c low h l is removes =
       other = c.if-versions-self.false;
     } in
     removes_by g.D.Watched core c.switch_kept.new.self.core c.args.self.now.disk c.switch_kept.new.self.disk c.args.versions h l may
-    (λ i. (c.switch_kept.ensures.logs i).items) low c.args.self.now.removing c.switch_kept.new.self.removing
+    (λ i. (c.switch_kept.ensures.logs i).items) c.args.self.now.removing c.switch_kept.new.self.removing
     c.switch_kept.ensures.removing is removes c.switch_kept.result c.switch_kept.ensures.as_kept

@@ -2,7 +2,10 @@ use Rattle.std.proofs.Common.{◌≡◌, Global, List, Vec, [], ap, arith, refl,
 use Rattle.vl_block.specs.declared.shape.TableShape.{TableShape}
 use Rattle.vl_engine.proofs.Collected.{keeps_readied, leads_same}
 use Rattle.vl_engine.proofs.Switching.{has_flushed}
-use Rattle.vl_engine.specs.Collecting.{points_in}
+use Rattle.std.specs.List.{filter}
+use Rattle.vl_engine.proofs.HeldLogs.{holds_needed}
+use Rattle.vl_engine.specs.Collecting.{idle_in, points_in}
+use Rattle.vl_version.specs.Needed.{head_of, is_kept}
 use Rattle.vl_table.specs.declared.table.Table.{Table}
 use Rattle.vl_version.specs.levels.LevelTables.{all_tables}
 use Rattle.std.specs.Prelude.{None, Some}
@@ -142,6 +145,7 @@ returns-in-Ok-write_and_switch-clause-as_flushed g c =
           frozen = c.with_table.ensures.frozen;
           newest = c.with_table.ensures.newest;
           deeper = c.with_table.ensures.deeper;
+          idle = _;
           logs = c.with_table.ensures.logs;
         };
       },
@@ -226,6 +230,20 @@ invariant_of-self-in_default-live_with g c =
           (c.args.self.now.there running);
     }
 
+pub invariant_of-self-in_default-idle_logs : goal.invariant_of-self-in_default-idle_logs
+invariant_of-self-in_default-idle_logs g c =
+    let core = c.args.self.now.core in
+    record {
+      ready = λ disk told. c.args.self.now.ready disk (sym c.in-Ok.ensures.no_change.told ∙ told);
+      numbered = c.args.self.now.numbered;
+      lent = still_lent g.D.Watched c.args.self.now.disk c.ready_flush.new.disk core.back.state.next_table core.back.state.next_table
+          c.args.self.now.merging (omega arith) c.in-Ok.ensures.lent c.args.self.now.lent;
+      known = c.args.self.now.known;
+      there = λ running. there_quiet g.D.Watched g.D.Writer.Writer c.args.self.now.disk c.ready_flush.new.disk core
+          c.args.self.now.merging c.args.self.now.removing.stock c.in-Ok.ensures.no_change.told c.in-Ok.ensures.lent
+          (c.args.self.now.there running);
+    }
+
 pub invariant_of-self : goal.invariant_of-self
 invariant_of-self g c =
     let core = c.args.self.now.core in
@@ -266,8 +284,16 @@ switch-requires g c = only_tables c.make_room.new.self.stock 1 1 1 c.lent_count.
 pub returns-in_default-clause-retires : goal.returns-in_default-clause-retires
 returns-in_default-clause-retires g c = stays_itself c.args.self.now.core c.args.self.now.removing.stock
 
+pub returns-in_default-idle_logs-clause-retires : goal.returns-in_default-idle_logs-clause-retires
+returns-in_default-idle_logs-clause-retires g c = stays_itself c.args.self.now.core c.args.self.now.removing.stock
+
 pub returns-in_default-live_with-clause-retires : goal.returns-in_default-live_with-clause-retires
 returns-in_default-live_with-clause-retires g c = stays_itself c.args.self.now.core c.args.self.now.removing.stock
+
+pub returns-in_default-idle_logs-clause-collected : goal.returns-in_default-idle_logs-clause-collected
+returns-in_default-idle_logs-clause-collected g c =
+    keeps_readied g.D.Held.HeldFile.bytes c.args.self.now.core c.args.self.now.collecting c.live_with.new.self
+    c.in-Ok-live_with.ensures.readied
 
 pub returns-in_default-make_room-clause-collected : goal.returns-in_default-make_room-clause-collected
 returns-in_default-make_room-clause-collected g c =
@@ -286,3 +312,13 @@ returns-in-Ok-write_and_switch-clause-retires g c =
     c.args.self.now.removing.stock c.make_room.new.self.stock c.switch.new.self.stock c.apply_flush.ensures.version
     c.head_of-head.ensures (c.switch-in-Ok-write_and_switch.ensures.live c.in-Ok-live_with.ensures.readied.made)
     c.lent_count.ensures c.in-Ok-make_room.ensures.readied c.switch.ensures.switched c.switch.ensures.room
+    (holds_needed g.D.Held.HeldFile.bytes c.args.self.now.core
+    (record c.args.self.now.core { version = c.with_table.result; back = c.apply_flush.new.self }) c.in-Ok.ready.version.logs.items
+    (head_of c.args.self.now.core.front.log.number c.in-Ok.ready.version.frozen.items) c.head_of-head.result c.in-Ok-live_with.live
+    c.switch-in-Ok-write_and_switch.new.self.tally c.in-Ok.ensures.version.logs
+    (c.with_table.ensures.logs ∙ ap (λ idle. filter (is_kept idle
+    (head_of c.args.self.now.core.front.log.number c.in-Ok.ready.version.frozen.items) c.with_table.result.behind.levels)
+    c.in-Ok.ready.version.logs.items)
+    (c.deref-in-Ok-write_and_switch.ensures.value ∙ c.in-Ok-idle_logs.ensures ∙ ap (idle_in c.in-Ok-live_with.live) c.logs.ensures))
+    (ap (head_of c.args.self.now.core.front.log.number) (sym c.with_table.ensures.frozen)) c.head_of-head.ensures
+    (c.switch-in-Ok-write_and_switch.ensures.live c.in-Ok-live_with.ensures.readied.made))

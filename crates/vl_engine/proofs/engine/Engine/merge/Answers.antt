@@ -5,16 +5,22 @@ use Rattle.vl_disk.specs.declared.errors.NoMemory.{NoMemory}
 use Rattle.vl_core.specs.laws.Carrying.{IsWatched}
 use Rattle.vl_engine.proofs.UnderWay.{handed_back_way, just_planned, none_open}
 use Rattle.vl_core.specs.declared.kept.Core.{Core}
-use Rattle.vl_engine.proofs.Whole.{begun, collects_so, given_up, given_up_collecting, goes_on, none_kept, put_in}
+use Rattle.vl_engine.proofs.MergeRemoved.{given_up_removing, install_unpinned, is_halted, not_put_in, put_in_removing}
+use Rattle.vl_engine.proofs.MergeRemoved.{untouched_removing, was_put_in}
+use Rattle.vl_engine.proofs.Whole.{begun, begun_with, collects_so, given_up, given_up_collecting, goes_on, none_kept, put_in}
 use Rattle.vl_engine.proofs.Switching.{install_idle}
 use Rattle.vl_engine.proofs.Whole.{put_in_collecting, unless_halted, untouched_by, untouched_collecting}
 use Rattle.vl_engine.specs.declared.fails.InstallFail.TheVariants as fails
 use Rattle.vl_engine.specs.Merging.{HasAllMerge, OpensMerge}
+use Rattle.vl_engine.specs.Pinning.{PinsMerge}
+use Rattle.vl_engine.specs.Removing.{Removes}
 use Rattle.vl_engine.specs.Whole.{kept_of}
 use Rattle.vl_engine.specs.declared.open.Collecting.{Collecting}
 use Rattle.vl_layout.specs.Jobs.{AreLent}
 use Rattle.vl_layout.specs.Rulings.Plan.{plan_ruling}
 use Rattle.vl_layout.specs.declared.job.Job.{Job}
+use Rattle.vl_layout.specs.declared.layout.Layout.{Layout}
+use Rattle.vl_model.specs.History.{History}
 use Rattle.vl_engine.proofs.engine.Engine.merge.Goals as goal
 
 pub carry_out-requires : goal.carry_out-requires
@@ -273,3 +279,151 @@ given_up-requires g c =
     c.carry_out.new.job c.carry_out.new.self.merging c.install.new.self.merging c.in-Err-install.fail
     c.in_default-carry_out.ensures.handed c.in-Err-install.ensures.handed c.in-Err-install.ensures.core
     c.in-Err-install.ensures.untouched
+
+-- what is kept of which files can go
+
+pub returns-in_err-job-clause-removes : goal.returns-in_err-job-clause-removes
+returns-in_err-job-clause-removes g c h l is stands fits has removes =
+    let watched : IsWatched g.D.Watched = record { only_now = g.met.D.Disk.only_now; counts_now = g.met.D.Disk.counts_now } in
+    untouched_removing g.D.Watched g.D.Held.HeldFile.bytes watched c.args.self.now.disk c.plan.new.self.disk c.args.self.now.core
+    c.plan.new.self.core c.args.self.now.merging c.plan.new.self.merging c.args.self.now.collecting c.plan.new.self.collecting
+    c.args.self.now.removing c.plan.new.self.removing h l c.plan.ensures.disk c.plan.ensures.core c.in_err-job.ensures.merging
+    c.plan.ensures.collecting c.in_err-job.ensures.removing is stands fits has removes
+
+pub returns-in_default-clause-removes : goal.returns-in_default-clause-removes
+returns-in_default-clause-removes g c h l is stands fits has removes =
+    let watched : IsWatched g.D.Watched = record { only_now = g.met.D.Disk.only_now; counts_now = g.met.D.Disk.counts_now } in
+    untouched_removing g.D.Watched g.D.Held.HeldFile.bytes watched c.args.self.now.disk c.plan.new.self.disk c.args.self.now.core
+    c.plan.new.self.core c.args.self.now.merging c.plan.new.self.merging c.args.self.now.collecting c.plan.new.self.collecting
+    c.args.self.now.removing c.plan.new.self.removing h l c.plan.ensures.disk c.plan.ensures.core
+    (subst (λ (o : Option _). OpensMerge {E = NoMemory} c.args.self.now.merging c.plan.new.self.merging (Ok o)) c.in_default.is
+    c.in_ok-job.ensures.merging) c.plan.ensures.collecting
+    (subst (λ (o : Option _). PinsMerge {E = NoMemory} c.args.self.now.core.back.version_number c.args.self.now.removing
+    c.plan.new.self.removing (Ok o)) c.in_default.is c.in_ok-job.ensures.removing) is stands fits has removes
+
+pub returns-in-Err-clause-removes : goal.returns-in-Err-clause-removes
+returns-in-Err-clause-removes g c h l is stands fits has removes =
+    let watched : IsWatched g.D.Watched = record { only_now = g.met.D.Disk.only_now; counts_now = g.met.D.Disk.counts_now } in
+    let bytes = g.D.Held.HeldFile.bytes in
+    let (opened, pinned) = begun_with g.D.Watched watched g.D.Writer.Writer bytes
+    (λ (k : History) (y : Layout). Removes c.plan.new.self.core c.plan.new.self.removing y) NoMemory c.args.self.now.disk
+    c.plan.new.self.disk c.args.self.now.core c.plan.new.self.core c.plan.new.self.merging c.in-Some.job h l c.plan.ensures.disk is
+    c.in_ok-job.field-0 c.in-Some.is (c.in_ok-job.ensures.stands h l stands) (c.in_ok-job.ensures.represents h l is stands)
+    (c.in_ok-job.ensures.fits h l stands fits) (c.in_ok-job.ensures.job h l stands)
+    (c.in_ok-job.ensures.removes h l stands removes) in
+    let made = c.in-Err.ensures.removes h opened.stays.layout opened.open_job opened.stays.represents opened.stays.stands
+    opened.stays.fits opened.is_open opened.has (c.in_ok-job.ensures.looks h l stands c.in-Some.job c.in-Some.is) pinned in
+    let makes = made.makes in
+    let s = goes_on g.D.Watched bytes c.args.self.now.disk c.plan.new.self.disk c.carry_out.new.self.disk c.plan.new.self.core
+    c.carry_out.new.self.core c.plan.new.self.merging c.carry_out.new.self.merging h l opened.stays opened.alike makes.stays in
+    let collects = collects_so c.args.self.now.core c.carry_out.new.self.core c.args.self.now.collecting
+    c.carry_out.new.self.collecting l makes.stays.layout s.same (makes.levels ∙ opened.tables.levels)
+    (makes.flushed ∙ opened.tables.flushed)
+    (ap (λ (v : Vec (SealedLog g.row.D-Held.Denot) Global). v.items) c.carry_out.ensures.logs
+    ∙ ap (λ (k : Core g.row.D-Held.Denot). k.version.behind.logs.items) c.plan.ensures.core)
+    (c.carry_out.ensures.collecting ∙ c.plan.ensures.collecting) has in
+    given_up_removing g.D.Watched bytes g.D.Writer.Writer c.args.self.now.disk c.carry_out.new.self.disk c.abandon.new.self.disk
+    c.carry_out.new.self.core c.abandon.new.self.core c.carry_out.new.self.merging c.abandon.new.self.merging
+    c.carry_out.new.self.collecting c.abandon.new.self.collecting c.carry_out.new.job c.carry_out.new.self.removing
+    c.abandon.new.self.removing h l s collects made.removes makes.open_job makes.is_open c.carry_out.ensures.under_way
+    c.carry_out.new.self.there c.abandon.ensures.left c.abandon.ensures.pins c.abandon.ensures.disk c.abandon.ensures.core
+    c.abandon.ensures.merging c.abandon.ensures.collecting
+
+pub returns-in-Ok-clause-removes : goal.returns-in-Ok-clause-removes
+returns-in-Ok-clause-removes g c h l is stands fits has removes =
+    let watched : IsWatched g.D.Watched = record { only_now = g.met.D.Disk.only_now; counts_now = g.met.D.Disk.counts_now } in
+    let bytes = g.D.Held.HeldFile.bytes in
+    let (opened, pinned) = begun_with g.D.Watched watched g.D.Writer.Writer bytes
+    (λ (k : History) (y : Layout). Removes c.plan.new.self.core c.plan.new.self.removing y) NoMemory c.args.self.now.disk
+    c.plan.new.self.disk c.args.self.now.core c.plan.new.self.core c.plan.new.self.merging c.in-Some.job h l c.plan.ensures.disk is
+    c.in_ok-job.field-0 c.in-Some.is (c.in_ok-job.ensures.stands h l stands) (c.in_ok-job.ensures.represents h l is stands)
+    (c.in_ok-job.ensures.fits h l stands fits) (c.in_ok-job.ensures.job h l stands)
+    (c.in_ok-job.ensures.removes h l stands removes) in
+    let made = c.in_default-carry_out.ensures.removes h opened.stays.layout opened.open_job opened.stays.represents opened.stays.stands
+    opened.stays.fits opened.is_open opened.has (c.in_ok-job.ensures.looks h l stands c.in-Some.job c.in-Some.is) pinned in
+    let makes = made.makes in
+    let s = goes_on g.D.Watched bytes c.args.self.now.disk c.plan.new.self.disk c.carry_out.new.self.disk c.plan.new.self.core
+    c.carry_out.new.self.core c.plan.new.self.merging c.carry_out.new.self.merging h l opened.stays opened.alike makes.stays in
+    let collects = collects_so c.args.self.now.core c.carry_out.new.self.core c.args.self.now.collecting
+    c.carry_out.new.self.collecting l makes.stays.layout s.same (makes.levels ∙ opened.tables.levels)
+    (makes.flushed ∙ opened.tables.flushed)
+    (ap (λ (v : Vec (SealedLog g.row.D-Held.Denot) Global). v.items) c.carry_out.ensures.logs
+    ∙ ap (λ (k : Core g.row.D-Held.Denot). k.version.behind.logs.items) c.plan.ensures.core)
+    (c.carry_out.ensures.collecting ∙ c.plan.ensures.collecting) has in
+    let whole = subst (λ (j : Job). HasAllMerge g.D.Writer.Writer bytes c.carry_out.new.job j) (sym makes.job_is) makes.whole in
+    let lent = subst (λ (j : Job). AreLent makes.open_job.lent (made_of c.carry_out.new.job j)) (sym makes.job_is) makes.lent in
+    let carries = c.in-Ok.ensures.carries h s.layout makes.open_job s.represents s.stands makes.is_open whole lent in
+    let fitting = c.in-Ok.ensures.fits h s.layout makes.open_job s.stands makes.is_open whole lent s.fits in
+    let collecting = unless_halted c.carry_out.new.self.core (g.D.Watched.told c.carry_out.new.self.disk) h s.layout s.stands.stands.fronts
+    s.fits _
+    (λ state told files. c.in-Ok.ensures.collects state h s.layout makes.open_job told s.stands makes.is_open files whole lent
+    collects)
+    (λ name halted. install_idle c.carry_out.new.self.core c.install.new.self.core c.carry_out.new.self.collecting
+    c.install.new.self.collecting _ h s.layout makes.open_job.job (made_of c.carry_out.new.job makes.open_job.job) _ (fails.Halted name)
+    _ (c.in-Ok.ensures.halted name halted) c.in-Ok.ensures.core (c.in-Ok.ensures.idle name halted) collects carries.decides) in
+    let removing = unless_halted c.carry_out.new.self.core (g.D.Watched.told c.carry_out.new.self.disk) h s.layout s.stands.stands.fronts
+    s.fits _
+    (λ state told files. c.in-Ok.ensures.removes state h s.layout makes.open_job told s.stands makes.is_open files whole lent
+    collects made.removes)
+    (λ name halted. install_unpinned c.install.new.self.core c.carry_out.new.self.removing c.install.new.self.removing _ h s.layout
+    makes.open_job.job (made_of c.carry_out.new.job makes.open_job.job) _ name _ (c.in-Ok.ensures.halted name halted)
+    (is_halted c.carry_out.new.self.core h s.layout name s.stands.stands.fronts halted) (c.in-Ok.ensures.unpinned name halted)
+    c.carry_out.new.self.core made.removes carries.decides) in
+    was_put_in g.D.Watched bytes c.args.self.now.disk c.install.new.self.disk c.install.new.self.core c.install.new.self.merging
+    c.install.new.self.collecting c.install.new.self.removing h l c.in-Ok.ensures.handed
+    (put_in_removing g.D.Watched bytes c.args.self.now.disk c.carry_out.new.self.disk c.install.new.self.disk
+    c.carry_out.new.self.core c.install.new.self.core c.carry_out.new.self.merging h l s (makes.running ∙ opened.alike)
+    c.install.new.self.collecting makes.open_job.job (made_of c.carry_out.new.job makes.open_job.job) _ c.install.new.self.removing _
+    carries fitting collecting removing tt)
+
+pub returns-in-Err-install-clause-removes : goal.returns-in-Err-install-clause-removes
+returns-in-Err-install-clause-removes g c h l is stands fits has removes =
+    let watched : IsWatched g.D.Watched = record { only_now = g.met.D.Disk.only_now; counts_now = g.met.D.Disk.counts_now } in
+    let bytes = g.D.Held.HeldFile.bytes in
+    let (opened, pinned) = begun_with g.D.Watched watched g.D.Writer.Writer bytes
+    (λ (k : History) (y : Layout). Removes c.plan.new.self.core c.plan.new.self.removing y) NoMemory c.args.self.now.disk
+    c.plan.new.self.disk c.args.self.now.core c.plan.new.self.core c.plan.new.self.merging c.in-Some.job h l c.plan.ensures.disk is
+    c.in_ok-job.field-0 c.in-Some.is (c.in_ok-job.ensures.stands h l stands) (c.in_ok-job.ensures.represents h l is stands)
+    (c.in_ok-job.ensures.fits h l stands fits) (c.in_ok-job.ensures.job h l stands)
+    (c.in_ok-job.ensures.removes h l stands removes) in
+    let made = c.in_default-carry_out.ensures.removes h opened.stays.layout opened.open_job opened.stays.represents opened.stays.stands
+    opened.stays.fits opened.is_open opened.has (c.in_ok-job.ensures.looks h l stands c.in-Some.job c.in-Some.is) pinned in
+    let makes = made.makes in
+    let s = goes_on g.D.Watched bytes c.args.self.now.disk c.plan.new.self.disk c.carry_out.new.self.disk c.plan.new.self.core
+    c.carry_out.new.self.core c.plan.new.self.merging c.carry_out.new.self.merging h l opened.stays opened.alike makes.stays in
+    let collects = collects_so c.args.self.now.core c.carry_out.new.self.core c.args.self.now.collecting
+    c.carry_out.new.self.collecting l makes.stays.layout s.same (makes.levels ∙ opened.tables.levels)
+    (makes.flushed ∙ opened.tables.flushed)
+    (ap (λ (v : Vec (SealedLog g.row.D-Held.Denot) Global). v.items) c.carry_out.ensures.logs
+    ∙ ap (λ (k : Core g.row.D-Held.Denot). k.version.behind.logs.items) c.plan.ensures.core)
+    (c.carry_out.ensures.collecting ∙ c.plan.ensures.collecting) has in
+    let whole = subst (λ (j : Job). HasAllMerge g.D.Writer.Writer bytes c.carry_out.new.job j) (sym makes.job_is) makes.whole in
+    let lent = subst (λ (j : Job). AreLent makes.open_job.lent (made_of c.carry_out.new.job j)) (sym makes.job_is) makes.lent in
+    let carries = c.in-Err-install.ensures.carries h s.layout makes.open_job s.represents s.stands makes.is_open whole lent in
+    let fitting = c.in-Err-install.ensures.fits h s.layout makes.open_job s.stands makes.is_open whole lent s.fits in
+    let collecting = unless_halted c.carry_out.new.self.core (g.D.Watched.told c.carry_out.new.self.disk) h s.layout s.stands.stands.fronts
+    s.fits _
+    (λ state told files. c.in-Err-install.ensures.collects state h s.layout makes.open_job told s.stands makes.is_open files whole lent
+    collects)
+    (λ name halted. install_idle c.carry_out.new.self.core c.install.new.self.core c.carry_out.new.self.collecting
+    c.install.new.self.collecting _ h s.layout makes.open_job.job (made_of c.carry_out.new.job makes.open_job.job) _ (fails.Halted name)
+    _ (c.in-Err-install.ensures.halted name halted) c.in-Err-install.ensures.core (c.in-Err-install.ensures.idle name halted) collects
+    carries.decides) in
+    let removing = unless_halted c.carry_out.new.self.core (g.D.Watched.told c.carry_out.new.self.disk) h s.layout s.stands.stands.fronts
+    s.fits _
+    (λ state told files. c.in-Err-install.ensures.removes state h s.layout makes.open_job told s.stands makes.is_open files whole lent
+    collects made.removes)
+    (λ name halted. install_unpinned c.install.new.self.core c.carry_out.new.self.removing c.install.new.self.removing _ h s.layout
+    makes.open_job.job (made_of c.carry_out.new.job makes.open_job.job) _ name _ (c.in-Err-install.ensures.halted name halted)
+    (is_halted c.carry_out.new.self.core h s.layout name s.stands.stands.fronts halted) (c.in-Err-install.ensures.unpinned name halted)
+    c.carry_out.new.self.core made.removes carries.decides) in
+    not_put_in g.D.Watched bytes c.args.self.now.disk c.carry_out.new.self.disk c.install.new.self.disk c.given_up.new.self.disk
+    c.carry_out.new.self.core c.install.new.self.core c.given_up.new.self.core c.carry_out.new.self.merging c.install.new.self.merging
+    c.given_up.new.self.merging h l s (makes.running ∙ opened.alike) c.install.new.self.collecting c.given_up.new.self.collecting
+    c.install.new.self.removing c.given_up.new.self.removing c.carry_out.new.job makes.open_job makes.is_open
+    (made_of c.carry_out.new.job makes.open_job.job) _ c.install.new.self.there c.given_up.ensures.disk c.given_up.ensures.core
+    c.given_up.ensures.collecting c.in-Err-install.fail carries fitting collecting removing c.in-Err-install.ensures.handed
+    c.given_up.ensures.ended
+    (handed_back_way g.D.Watched c.carry_out.new.self.disk c.install.new.self.disk c.carry_out.new.self.core c.install.new.self.core
+    c.carry_out.new.job c.carry_out.new.self.merging c.install.new.self.merging c.in-Err-install.fail c.in_default-carry_out.ensures.handed
+    c.in-Err-install.ensures.handed c.in-Err-install.ensures.core c.in-Err-install.ensures.untouched)

@@ -330,7 +330,7 @@ returns-clause-removes g c state read found h told is_read shown =
       pass = c.new-3.ensures.pass;
       in_use = c.new-4.ensures.in_use;
       trash = c.new-4.ensures.trash;
-    }) (returns-clause-back g c state read found told is_read)
+    })
     (subst (λ (logs : List (SealedLog g.row.D-Held.Denot)). AreSealed logs (layout_at_start c.args.room (recovered found shown)))
     (sym c.new.ensures.logs)
     (sealed_begun g.D.Held.HeldFile.bytes found h shown c.args.room c.in-Ok-recover.parts.sealed.items

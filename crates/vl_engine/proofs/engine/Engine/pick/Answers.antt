@@ -153,8 +153,8 @@ returns-in-Some-best-clause-looks g c h l is =
     pass_fits g.D.Held.HeldFile.bytes c.args.self.now.core h l is c.in-Some-best.number c.begin_pass.result c.begin_pass.ensures.begins
 
 pub returns-in-None-clause-removes : goal.returns-in-None-clause-removes
-returns-in-None-clause-removes g c low h l is has removes =
-    decides_leaving (λ _ (x : Layout). Removes low c.args.self.now.core c.args.self.now.removing x) h l (pick_ruling l h c.args.percent)
+returns-in-None-clause-removes g c h l is has removes =
+    decides_leaving (λ _ (x : Layout). Removes c.args.self.now.core c.args.self.now.removing x) h l (pick_ruling l h c.args.percent)
     (as_before l l) NoRewrite l
     (is_none l h c.args.percent (sym c.is_unfair.ensures ∙ c.if-is_unfair.false) (sym c.in_default.is ∙ has.passing)
     (sym c.in-None.is ∙ c.best.ensures (layout_logs l) l h is.tidy
@@ -162,7 +162,7 @@ returns-in-None-clause-removes g c low h l is has removes =
     (c.head_of.ensures ∙ head_is_laid g.D.Held.HeldFile.bytes c.args.self.now.core h l is))) removes
 
 pub returns-in-Some-best-clause-removes : goal.returns-in-Some-best-clause-removes
-returns-in-Some-best-clause-removes g c low h l is has removes =
+returns-in-Some-best-clause-removes g c h l is has removes =
     let b = is_some l h c.args.percent (sym c.is_unfair.ensures ∙ c.if-is_unfair.false) (sym c.in_default.is ∙ has.passing)
     c.in-Some-best.number (sym c.in-Some-best.is
     ∙ c.best.ensures (layout_logs l) l h is.tidy (c.in-Ok.ensures.readied.tallied h l is has.tally)
@@ -172,11 +172,11 @@ returns-in-Some-best-clause-removes g c low h l is has removes =
     let version = core.back.version_number in
     decides_begun l h c.args.percent (sym c.is_unfair.ensures ∙ c.if-is_unfair.false)
     (sym c.in_default.is ∙ has.passing) g.D.Held.HeldFile.bytes core is c.in-Some-best.number b
-    (λ _ (x : Layout). Removes low after.core after.removing x) c.begin_pass.result
+    (λ _ (x : Layout). Removes after.core after.removing x) c.begin_pass.result
     c.begin_pass.ensures.failed
-    (λ pass ok. removes_picked core after.core h l is.fronts c.begin_pass.ensures.core low c.args.self.now.removing after.removing removes
+    (λ pass ok. removes_picked core after.core h l is.fronts c.begin_pass.ensures.core c.args.self.now.removing after.removing removes
     c.in-Some-best.number (subst (PinsPass version c.args.self.now.removing after.removing) ok c.begin_pass.ensures.removing))
-    (λ why err. removes_kept core after.core h l is.fronts c.begin_pass.ensures.core low c.args.self.now.removing after.removing removes
+    (λ why err. removes_kept core after.core h l is.fronts c.begin_pass.ensures.core c.args.self.now.removing after.removing removes
     (subst (PinsPass version c.args.self.now.removing after.removing) err c.begin_pass.ensures.removing))
 
 pub returns-in-Some-best-clause-stock : goal.returns-in-Some-best-clause-stock

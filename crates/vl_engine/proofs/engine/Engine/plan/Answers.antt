@@ -29,8 +29,8 @@ returns-in-Ok-clause-job g c h l is =
     is c.levels.result.now c.levels.ensures c.in-Ok.inputs c.in-Ok.ensures)
 
 pub returns-in-Ok-clause-removes : goal.returns-in-Ok-clause-removes
-returns-in-Ok-clause-removes g c low h l is removes =
-    c.begin_chosen.ensures.removes low h l (plan_ruling l h) is.stands.fronts removes
+returns-in-Ok-clause-removes g c h l is removes =
+    c.begin_chosen.ensures.removes h l (plan_ruling l h) is.stands.fronts removes
     (plan_chosen g.D.Held.HeldFile.bytes c.args.self.now.core c.args.self.now.merging h l (sym c.is_some.ensures ∙ c.if-is_some.false)
     is c.levels.result.now c.levels.ensures c.in-Ok.inputs c.in-Ok.ensures)
 

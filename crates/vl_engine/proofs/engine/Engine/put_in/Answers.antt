@@ -2,6 +2,8 @@ use Rattle.std.proofs.Common.{ap, arith, refl, subst, sym, ◌∙◌}
 use Rattle.vl_compact.specs.Laid.{AreLevelsOf}
 use Rattle.vl_disk.specs.declared.name.Name.TheVariants as names
 use Rattle.vl_engine.proofs.HandedIn.{made_given, may_take_all}
+use Rattle.vl_engine.proofs.HeldLogs.{holds_needed}
+use Rattle.vl_engine.specs.Collecting.{idle_in}
 use Rattle.vl_core.specs.laws.InstallDiskEdits.{install_next}
 use Rattle.vl_engine.proofs.Lending.{leaves_told, no_manifest, still_lent}
 use Rattle.std.specs.List.{filter}
@@ -10,6 +12,7 @@ use Rattle.vl_pins.specs.Files.{BecomesBy, HasRoom}
 use Rattle.vl_pins.specs.declared.pins.Pins.{Pins}
 use Rattle.vl_table.specs.Tables.{number_of}
 use Rattle.vl_version.specs.Bases.{is_input}
+use Rattle.vl_version.specs.Needed.{head_of, is_kept}
 use Rattle.vl_version.specs.levels.LevelsLooked.{tables_of}
 use Rattle.vl_engine.proofs.PutLeft.{free_of, off_left, put_into, room_put, there_others}
 use Rattle.vl_engine.proofs.PutThere.{there_put}
@@ -66,6 +69,9 @@ returns-in_default-clause-retires g c = (refl, stays_itself c.args.self.now.core
 
 pub returns-in_default-input_numbers-clause-retires : goal.returns-in_default-input_numbers-clause-retires
 returns-in_default-input_numbers-clause-retires g c = (refl, stays_itself c.args.self.now.core c.args.self.now.removing.stock)
+
+pub returns-in_default-idle_logs-clause-retires : goal.returns-in_default-idle_logs-clause-retires
+returns-in_default-idle_logs-clause-retires g c = (refl, stays_itself c.args.self.now.core c.args.self.now.removing.stock)
 
 pub returns-in_default-made_numbers-clause-retires : goal.returns-in_default-made_numbers-clause-retires
 returns-in_default-made_numbers-clause-retires g c = (refl, stays_itself c.args.self.now.core c.args.self.now.removing.stock)
@@ -133,11 +139,11 @@ invariant_of-self-in-Ok-write_install g c =
           (subst (λ ls. LeavesFiles (map left_of c.new.result.items ++ ls.items) c.make_room.new.self.stock c.leave_files.new.stock)
           c.into_parts-made.ensures.leavings c.leave_files.ensures) made_room) c.in-Ok-make_room.ensures.readied.room.in_use
           (c.leave_files.ensures.in_use ∙ c.in-Ok-make_room.ensures.readied.room.is_some)
-          c.apply_install.new.self.version_number c.deref-in-Ok-write_install-2.result.now
+          c.apply_install.new.self.version_number c.deref-in-Ok-write_install-3.result.now
           (is_idle_log c.head_of-head.result c.args.live)
-          (subst (λ ns. BecomesBy (switching c.apply_install.new.self.version_number ns c.deref-in-Ok-write_install-2.result.now
+          (subst (λ ns. BecomesBy (switching c.apply_install.new.self.version_number ns c.deref-in-Ok-write_install-3.result.now
           (is_idle_log c.head_of-head.result c.args.live)) c.leave_files.new.stock c.switch.new.self.stock)
-          (c.deref-in-Ok-write_install.ensures.value ∙ c.in-Ok-made_numbers.ensures ∙ ap (map (λ t. t.number)) c.made.ensures)
+          (c.deref-in-Ok-write_install-2.ensures.value ∙ c.in-Ok-made_numbers.ensures ∙ ap (map (λ t. t.number)) c.made.ensures)
           c.switch.ensures.switched)
           (there_others g.D.Watched c.args.self.now.disk c.args.self.now.core c.args.self.now.merging c.args.job c.requires.handed
           c.new.result
@@ -173,7 +179,11 @@ returns-in-Ok-write_install-clause-as_installed g c =
       };
       active = c.with_levels.ensures.active;
       frozen = c.with_levels.ensures.frozen;
-      logs = c.with_levels.ensures.logs;
+      idle = c.deref-in-Ok-write_install.result.now;
+      logs = c.with_levels.ensures.logs
+          ∙ ap (λ lv. filter (is_kept c.deref-in-Ok-write_install.result.now (head_of core.front.log.number ready.version.frozen.items) lv)
+          ready.version.logs.items)
+          (sym c.with_levels.ensures.levels);
       put = λ target inputs first ls new_ones are begins.
           subst (λ lv. AreLevelsOf bytes lv (replaced target inputs new_ones ls)) (sym c.with_levels.ensures.levels)
           (c.into_levels.ensures target inputs first ls new_ones are begins);
@@ -242,10 +252,10 @@ switch-requires g c =
     c.new.ensures.items c.make_room.new.self.stock c.leave_files.new.stock
     (subst (λ ls. LeavesFiles (map left_of c.new.result.items ++ ls.items) c.make_room.new.self.stock c.leave_files.new.stock)
     c.into_parts-made.ensures.leavings c.leave_files.ensures)
-    (length c.deref-in-Ok-write_install.result.now) c.lent_count-lent.result c.lent_count-lent.ensures
+    (length c.deref-in-Ok-write_install-2.result.now) c.lent_count-lent.result c.lent_count-lent.ensures
     (subst (λ n. HasRoom c.make_room.new.self.stock n 1 c.lent_count-lent.result)
     (let a = c.len.ensures in let b = c.in-Ok-made_numbers.added.ok.0 in
-    let d = ap length c.deref-in-Ok-write_install.ensures.value in omega (arith, a, b, d))
+    let d = ap length c.deref-in-Ok-write_install-2.ensures.value in omega (arith, a, b, d))
     c.in-Ok-make_room.ensures.readied.room)
 
 pub returns-in-Ok-write_install-clause-cause : goal.returns-in-Ok-write_install-clause-cause
@@ -259,17 +269,32 @@ returns-in-Ok-write_install-clause-retires g c = (
       c.new.ensures.items c.make_room.new.self.stock c.leave_files.new.stock
       (subst (λ ls. LeavesFiles (map left_of c.new.result.items ++ ls.items) c.make_room.new.self.stock c.leave_files.new.stock)
       c.into_parts-made.ensures.leavings c.leave_files.ensures)
-      c.args.self.now.core _ c.deref-in-Ok-write_install.result.now c.deref-in-Ok-write_install-2.result.now c.head_of-head.result
+      c.args.self.now.core _ c.deref-in-Ok-write_install-2.result.now c.deref-in-Ok-write_install-3.result.now c.head_of-head.result
       c.apply_install.new.self.version_number c.len.result c.lent_count-lent.result c.args.live c.switch-in-Ok-write_install.new.self.tally
       c.args.self.now.removing.stock c.switch.new.self.stock
-      (c.deref-in-Ok-write_install.ensures.value ∙ c.in-Ok-made_numbers.ensures ∙ ap (map (λ t. t.number)) c.made.ensures)
-      (c.deref-in-Ok-write_install-2.ensures.value ∙ c.in-Ok-input_numbers.ensures
+      (c.deref-in-Ok-write_install-2.ensures.value ∙ c.in-Ok-made_numbers.ensures ∙ ap (map (λ t. t.number)) c.made.ensures)
+      (c.deref-in-Ok-write_install-3.ensures.value ∙ c.in-Ok-input_numbers.ensures
       ∙ ap (λ ns. map number_of (filter (is_input ns) (tables_of c.levels.result.now)))
       (c.deref-2.ensures.value ∙ c.in-Ok.ensures ∙ ap (map number_of) (c.deref.ensures.value ∙ ap (λ i. i.tables.items) c.inputs.ensures))
       ∙ ap (λ lv. map number_of (filter (is_input (map number_of c.args.job.inputs.tables.items)) (tables_of lv))) c.levels.ensures)
       c.apply_install.ensures.version c.head_of-head.ensures
       (c.switch-in-Ok-write_install.ensures.live c.requires.tallied)
       (let a = c.len.ensures in let b = c.in-Ok-made_numbers.added.ok.0 in
-      let d = ap length c.deref-in-Ok-write_install.ensures.value in omega (arith, a, b, d)) c.lent_count-lent.ensures
-      c.in-Ok-make_room.ensures.readied c.switch.ensures.switched,
+      let d = ap length c.deref-in-Ok-write_install-2.ensures.value in omega (arith, a, b, d)) c.lent_count-lent.ensures
+      c.in-Ok-make_room.ensures.readied c.switch.ensures.switched
+      (holds_needed g.D.Held.HeldFile.bytes c.args.self.now.core
+      (record c.args.self.now.core { version = c.with_levels.result; back = c.apply_install.new.self })
+      c.in-Ok-ready_install.ready.version.logs.items
+      (head_of c.args.self.now.core.front.log.number c.in-Ok-ready_install.ready.version.frozen.items) c.head_of-head.result c.args.live
+      c.switch-in-Ok-write_install.new.self.tally c.in-Ok-ready_install.ensures.ready.version.logs
+      (c.with_levels.ensures.logs
+      ∙ ap (λ lv. filter (is_kept c.deref-in-Ok-write_install.result.now
+      (head_of c.args.self.now.core.front.log.number c.in-Ok-ready_install.ready.version.frozen.items) lv)
+      c.in-Ok-ready_install.ready.version.logs.items) (sym c.with_levels.ensures.levels)
+      ∙ ap (λ idle. filter (is_kept idle
+      (head_of c.args.self.now.core.front.log.number c.in-Ok-ready_install.ready.version.frozen.items)
+      c.with_levels.result.behind.levels) c.in-Ok-ready_install.ready.version.logs.items)
+      (c.deref-in-Ok-write_install.ensures.value ∙ c.in-Ok-idle_logs.ensures ∙ ap (idle_in c.args.live) c.logs.ensures))
+      (ap (head_of c.args.self.now.core.front.log.number) (sym c.with_levels.ensures.frozen)) c.head_of-head.ensures
+      (c.switch-in-Ok-write_install.ensures.live c.requires.tallied)),
 )

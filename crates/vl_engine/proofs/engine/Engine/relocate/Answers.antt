@@ -1,9 +1,9 @@
-use Rattle.vl_engine.proofs.MoveRemoved.{head_moved, removes_by}
+use Rattle.vl_engine.proofs.MoveRemoved.{removes_by}
 use Rattle.vl_engine.proofs.RelocatingAnswers.{as_segment, failed_so, fits_behind, read_so, stopped_so, undamaged_so}
 use Rattle.vl_engine.proofs.RelocatingExits.{carries_by, fits_by, settled_by, stands_by}
 use Rattle.vl_engine.proofs.RelocatingTotals.{back_by, calls_by, files_by, logs_by, merging_by, steps_by, untold_then, untouched_by}
 use Rattle.vl_engine.specs.Merging.{StandsOpen}
-use Rattle.vl_engine.specs.Relocating.{at, move_effects, move_outcome, moved_version}
+use Rattle.vl_engine.specs.Relocating.{at, move_effects, move_outcome}
 use Rattle.vl_engine.proofs.engine.Engine.relocate.Goals as goal
 
 pub returns-clause-as_moved : goal.returns-clause-as_moved
@@ -208,12 +208,11 @@ returns-clause-fits_looks g c fits =
     c.move_again.new.looks (c.move_again.ensures.fits fits)
 
 pub returns-clause-removes : goal.returns-clause-removes
-returns-clause-removes g c low h l p of is removes =
+returns-clause-removes g c h l p of is removes =
     let before = c.args.self.now in
     let after = c.move_again.new.self in
     let behind = returns-clause-logs g c in
-    removes_by before.core after.core h l low before.removing after.removing (λ i. (behind i).logs.items)
-    (head_moved after.core.back before.core.back (moved_version c.move_again.result before.core.back.version_number)
-    (returns-clause-steps g c)) c.move_again.ensures.removing removes
+    removes_by before.core after.core h l before.removing after.removing (λ i. (behind i).logs.items)
+    c.move_again.ensures.removing removes
     (StandsOpen g.D.Held.HeldFile.bytes after.core after.merging) p c.args.batch (move_outcome c.move_again.result)
     (move_effects c.move_again.result) (returns-clause-stands g c h l p of is)

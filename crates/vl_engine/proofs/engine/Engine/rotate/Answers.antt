@@ -186,14 +186,14 @@ returns-in-None-clause-passing g c =
 -- which files can go
 
 pub returns-in-Some-clause-removes : goal.returns-in-Some-clause-removes
-returns-in-Some-clause-removes g c low h l is opens has removes =
+returns-in-Some-clause-removes g c h l is opens has removes =
     rotate_leaves_so g.D.Held.HeldFile.bytes c.args.self.now.core h l
-    (λ k x. Removes low c.args.self.now.core c.args.self.now.removing x) is has c.in-Some.answer c.in-Some.ensures.refused removes
+    (λ k x. Removes c.args.self.now.core c.args.self.now.removing x) is has c.in-Some.answer c.in-Some.ensures.refused removes
 
 pub returns-in-None-clause-removes : goal.returns-in-None-clause-removes
-returns-in-None-clause-removes g c low h l is opens has removes =
+returns-in-None-clause-removes g c h l is opens has removes =
     rotate_removes g.D.Held.HeldFile.bytes g.D.Held.HeldFile.size g.met.D.Held.HeldFile.sized c.args.self.now.core
-    c.seal_active.new.self.core c.args.self.now.removing c.seal_active.new.self.removing c.args.self.now.merging h l is opens low removes
+    c.seal_active.new.self.core c.args.self.now.removing c.seal_active.new.self.removing c.args.self.now.merging h l is opens removes
     c.seal_active.ensures.pins g.D.Watched c.args.self.now.disk c.seal_active.new.self.disk (Fronts c.seal_active.new.self.core)
     (rotate_effects c.seal_active.result) c.seal_active.result c.seal_active.ensures.as_rotated c.seal_active.ensures.sealed
     (returns-in-None-clause-decides g c h l is.fronts has is.tidy.true_logs.0)

@@ -1,7 +1,6 @@
-use Rattle.std.proofs.Common.{◌≡◌, ◌+◌, ℕ, None, Some, Ok, Err, ap, subst, sym, ◌∙◌, arith, refl, true, false}
+use Rattle.std.proofs.Common.{◌≡◌, ℕ, None, Some, Ok, Err, ap, subst, ◌∙◌, arith, refl, true, false}
 use Rattle.vl_core.specs.declared.kept.Core.{Core}
-use Rattle.vl_disk.specs.Faults.{HasCause}
-use Rattle.vl_engine.proofs.There.Swept.{all_wait, all_went, more_gone, none_gone, stops_gone, taken_fit, taken_lent, taken_there}
+use Rattle.vl_engine.proofs.There.Swept.{more_gone, taken_fit, taken_lent, taken_there}
 use Rattle.vl_engine.proofs.There.Swept.{has_swept, taken_waits}
 use Rattle.vl_engine.specs.Sweeping.{HasSwept}
 use Rattle.vl_engine.proofs.engine.Engine.sweep_up_to.Goals as goal

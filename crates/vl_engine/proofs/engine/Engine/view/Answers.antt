@@ -16,7 +16,6 @@ use Rattle.vl_oracle.specs.LiveTickets.{LiveTickets}
 use Rattle.vl_seglog.specs.declared.active.ActiveLog.{ActiveLog}
 use Rattle.vl_version.specs.declared.version.Version.{Version}
 use Rattle.vl_engine.proofs.StillRemoved.{pins_here, removes_live, removes_same}
-use Rattle.vl_engine.specs.Removing.{Removes}
 use Rattle.vl_engine.proofs.engine.Engine.view.Goals as goal
 
 pub returns-in-Ok-begin-clause-decides : goal.returns-in-Ok-begin-clause-decides
@@ -126,21 +125,21 @@ invariant_of-self-2-clause-known g c =
     c.args.self.now.known)
 
 pub returns-in-Ok-begin-clause-removes : goal.returns-in-Ok-begin-clause-removes
-returns-in-Ok-begin-clause-removes g c low h l is removes =
+returns-in-Ok-begin-clause-removes g c h l is removes =
     let core = c.args.self.now.core in
     let room = has_room core h l is c.in-Ok-begin.ensures.room in
     decides_begun l h _ room _ _ (c.in-Ok-begin.ensures.ok.0 ∙ ticket_is core h l is)
     (c.last.ensures.last ∙ ap (λ (o : LiveTickets). o.last) c.in-Ok-begin.ensures.ok.1 ∙ is.front.last)
-    (removes_live low core _ c.args.self.now.removing (record c.args.self.now.removing { pins = c.begin.new.pins }) l
+    (removes_live core _ c.args.self.now.removing (record c.args.self.now.removing { pins = c.begin.new.pins }) l
     (begun l (free_ticket (tickets_of l.live)) (last_number h)).live
-    (ap (λ (v : Version g.row.D-Held.Denot). v.behind.logs.items) c.share.ensures.same) refl refl
-    (c.in-Ok-begin.ensures.pinned l (last_number h) (pins_here core h l is low c.args.self.now.removing removes)) removes)
+    (ap (λ (v : Version g.row.D-Held.Denot). v.behind.logs.items) c.share.ensures.same) refl
+    (c.in-Ok-begin.ensures.pinned l (last_number h) (pins_here core h l is c.args.self.now.removing removes)) removes)
 
 pub returns-in-Err-clause-removes : goal.returns-in-Err-clause-removes
-returns-in-Err-clause-removes g c low h l is removes =
+returns-in-Err-clause-removes g c h l is removes =
     let core = c.args.self.now.core in
     decides_refused l h _ g.row.D-Held.Denot g.row.D-Reader.Denot c.in-Err.why
     (λ many. is_full core h l is (c.in-Err.ensures.too_many (cc)))
-    (removes_same low core _ c.args.self.now.removing (record c.args.self.now.removing { pins = c.begin.new.pins }) l
-    (ap (λ (v : Version g.row.D-Held.Denot). v.behind.logs.items) c.share.ensures.same) refl refl
-    (c.in-Err.ensures.unpinned l (pins_here core h l is low c.args.self.now.removing removes)) removes)
+    (removes_same core _ c.args.self.now.removing (record c.args.self.now.removing { pins = c.begin.new.pins }) l
+    (ap (λ (v : Version g.row.D-Held.Denot). v.behind.logs.items) c.share.ensures.same) refl
+    (c.in-Err.ensures.unpinned l (pins_here core h l is c.args.self.now.removing removes)) removes)
