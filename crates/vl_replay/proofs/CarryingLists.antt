@@ -51,7 +51,7 @@ more_drawn zero l = refl
 more_drawn (suc n) l = more_drawn n (drawn l)
 
 -- so many, and then so many more
-drawn_then : (n k : ℕ) (l : Layout) → drawn_all k (drawn_all n l) ≡ drawn_all (n + k) l
+pub drawn_then : (n k : ℕ) (l : Layout) → drawn_all k (drawn_all n l) ≡ drawn_all (n + k) l
 drawn_then zero k l = ap (λ (m : ℕ). drawn_all m l) (none_left k)
 drawn_then (suc n) k l =
     drawn_then n k (drawn l) ∙ ap (λ (m : ℕ). drawn_all m l) (suc_left n k)

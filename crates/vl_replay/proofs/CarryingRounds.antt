@@ -37,7 +37,7 @@ use Rattle.vl_replay.proofs.CarryingDisk.{rests}
 use Rattle.vl_replay.proofs.CarryingDraws.{Came, Draws, exhausted_came, exhausted_is, exhausted_past, failed_came}
 use Rattle.vl_replay.proofs.CarryingDraws.{failed_fits, failed_name, lent_came, lent_fits, lent_number, never_halted}
 use Rattle.vl_replay.proofs.CarryingDraws.{short_came}
-use Rattle.vl_replay.proofs.CarryingJob.{not_by_disk}
+use Rattle.vl_replay.proofs.CarryingJob.{has_same, not_by_disk}
 use Rattle.vl_replay.proofs.CarryingLists.{drawn_none}
 use Rattle.vl_sequential.specs.laws.DiskSteps.{IsWatched}
 
@@ -88,6 +88,7 @@ module _ {D H R W : Type 0} (g : Ghosts D) (watched : IsWatched g) (writers : Wr
         refl,
         record {
           has = answers.all refl;
+          merge = answers.state;
           numbers = ap (λ (x : TheJob (Base H R) H W k). made_numbers x) kept;
           leavings = ap (λ (x : TheJob (Base H R) H W k). x.leavings.items) kept;
         },
@@ -127,6 +128,10 @@ module _ {D H R W : Type 0} (g : Ghosts D) (watched : IsWatched g) (writers : Wr
           missing,
           exhausted_is g watched bytes before after old new was_open is_open s way.serves counter d,
           exhausted_past g watched bytes before after old new was_open is_open s way.serves counter d,
+          has_same writers bytes asked roomy j same has,
+          ap (λ (ts : List (Synced W k)). map (λ (t : Synced W k). t.number) ts) same.made
+              ∙ ap (λ (x : TheJob (Base H R) H W k). made_numbers x) kept,
+          same.leavings ∙ ap (λ (x : TheJob (Base H R) H W k). x.leavings.items) kept,
         )
     unlent fails.NoMemory d = none_lent (round_by fails.NoMemory)
         (short_came g watched bytes before after old new was_open is_open s way.serves d) tt

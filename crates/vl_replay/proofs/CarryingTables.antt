@@ -2,7 +2,7 @@
 use Rattle.std.specs.Prelude.{◌≡◌, ◌⊎◌, ◌+◌, ◌≤◌, ◌++◌, ℕ, List, [], ◌∷◌, length, map, Option, None, Some, Result, Ok, Err, IsErrAnd}
 use Rattle.std.proofs.Common.{⊎_elim, inl, inr, refl, ap, sym, ◌∙◌, subst, arith}
 use Rattle.std.proofs.lemmas.List.{length-map}
-use Rattle.vl_compact.specs.Progress.{IsNew, IsTableFile}
+use Rattle.vl_compact.specs.Progress.{IsNew, IsTableFile, made_of}
 use Rattle.vl_compact.specs.declared.files.Lent.{Lent}
 use Rattle.vl_compact.specs.declared.files.Synced.{Synced}
 use Rattle.vl_compact.specs.declared.job.Job.{Job as TheJob}
@@ -189,6 +189,7 @@ module _ {D H R W : Type 0} (g : Ghosts D) (watched : IsWatched g) (writers : Wr
             → HasTablesFrom writers bytes last j s.store.layout.next_table
         has_tables them whole = record {
           has = them.has;
+          merge = them.merge;
           made = ap (λ (ns : List ℕ). record {
             tables = tables_made ns (outputs j);
             leavings = map
@@ -206,10 +207,32 @@ module _ {D H R W : Type 0} (g : Ghosts D) (watched : IsWatched g) (writers : Wr
         → Rounds g writers bytes mid new after is_open first last now (drawn_state so_far.count s) j (Ok (rounds.Exhausted counter))
         → Merged g writers bytes old new after is_open last s j (Ok (Some counter))
     used_up counter round =
-        let (none, missing, is, past) = round.ends in
+        let (none, missing, is, past, has, numbers, leavings) = round.ends in
         over (Ok (Some counter)) (Ok (rounds.Exhausted counter)) round (λ fine by. by) (λ by. absurd by)
-        (subst (λ (c : ℕ). EndsMerging writers bytes last s j c (Ok (Some counter))) (none_more none)
-        ((let e = made_count in omega (arith, e, missing)), is, (let e = next_is in omega (arith, e, past))))
+        (subst (λ (c : ℕ). EndsMerging writers bytes last s j c (Ok (Some counter))) (none_more none) (
+          (let e = made_count in omega (arith, e, missing)),
+          is,
+          (let e = next_is in omega (arith, e, past)),
+          has,
+          made_so numbers
+              leavings,
+        ))
+      where
+        made_so : made_numbers last ≡ made_numbers first → last.leavings.items ≡ first.leavings.items
+            → made_of last j ≡ record {
+              tables = tables_made (numbers_from s.store.layout.next_table so_far.count) (outputs j);
+              leavings = [];
+            }
+        made_so numbers leavings = ap (λ (ns : List ℕ). record {
+          tables = tables_made ns (outputs j);
+          leavings = map
+              (λ (f : Lent W k). f.number) last.leavings.items;
+        })
+            (numbers ∙ so_far.numbers)
+            ∙ ap (λ (fs : List (Lent W k)). record {
+              tables = tables_made (numbers_from s.store.layout.next_table so_far.count) (outputs j);
+              leavings = map (λ (f : Lent W k). f.number) fs;
+            }) (leavings ∙ so_far.no_leavings)
 
     -- It stopped.
     pub halted : (halt : Halt)

@@ -4,3 +4,5 @@ pub mod Committed
 pub mod Moved
 pub mod Stepped
 pub mod KeptSteps
+pub mod Removals
+pub mod Swept

@@ -2,6 +2,7 @@ pub mod CarryingDisk
 pub mod CarryingDraws
 pub mod CarryingJob
 pub mod CarryingLists
+pub mod CarryingRemoved
 pub mod CarryingRounds
 pub mod CarryingTables
 pub mod Disk

@@ -2,4 +2,6 @@
 pub mod Moves
 pub mod Parts
 pub mod Passed
+pub mod Ruled
+pub mod Sweeps
 pub mod Unmoved

@@ -2,6 +2,7 @@
 pub mod Lookups
 pub mod Reading
 pub mod Standings
+pub mod Untabled
 pub mod Writing
 pub mod Ending
 pub mod Scanning
@@ -14,6 +15,7 @@ pub mod BeginMaking
 pub mod CommitMaking
 pub mod StepMaking
 pub mod KeepMaking
+pub mod SweepMaking
 pub mod Returning
 pub mod PastMaking
 pub mod Placing

@@ -88,6 +88,7 @@ pub record IsPlanned {H R W : Type 0} (writers : Writers W) (bytes : H → Optio
 pub record HasTablesFrom {H R W : Type 0} (writers : Writers W) (bytes : H → Option (List ℕ)) {g : _} (job : TheJob (Base H R) H W g)
     (j : Job) (first : ℕ) : Type 0 where
   pub has : HasAllMerge writers bytes job j
+  pub merge : HasMerge writers bytes job j
   pub made : made_of job j ≡ record { tables = tables_made (numbers_from first (length (outputs j))) (outputs j); leavings = [] }
 
 -- what is said of its ending, where so many numbers were drawn
@@ -99,6 +100,8 @@ EndsMerging writers bytes job s j count (Ok None) =
 -- no number is left for the next one
 EndsMerging writers bytes job s j count (Ok (Some counter)) =
     (count < length (outputs j)) × (counter ≡ counters.Table) × (max_file_number < s.store.layout.next_table + count)
+    × HasMerge writers bytes job j
+    × (made_of job j ≡ record { tables = tables_made (numbers_from s.store.layout.next_table count) (outputs j); leavings = [] })
 EndsMerging writers bytes job s j count (Err halts.NoMemory) = Unit {0}
 -- the disk failed at its file
 EndsMerging writers bytes job s j count (Err (halts.Disk file)) =

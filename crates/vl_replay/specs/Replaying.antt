@@ -11,7 +11,8 @@ use Rattle.vl_compact.specs.Progress.{made_of}
 use Rattle.vl_compact.specs.declared.job.Job.{Job as TheJob}
 use Rattle.vl_disk.specs.declared.writer.Writer.{Ghosts as Writers}
 use Rattle.vl_engine.specs.Lent.{Opens}
-use Rattle.vl_engine.specs.Merging.{HasAllMerge}
+use Rattle.vl_engine.specs.Merging.{HasAllMerge, HasMerge}
+use Rattle.vl_engine.specs.Removing.{Removes}
 use Rattle.vl_engine.specs.declared.open.OpenMerge.{OpenMerge}
 use Rattle.vl_layout.specs.Jobs.{AreLent, Made}
 use Rattle.vl_layout.specs.Store.Lines.{Name}
@@ -57,6 +58,11 @@ abbrev pub ServesFor : {D Held Reader Writer : Type 0} {watched : _} {held : _} 
     → Ghosts D → (Held → Option (List ℕ)) → Served D Held Reader Writer watched held cloned read write → State → Type 0
 ServesFor g bytes served s = StandsIn bytes (g.told served.engine.disk) served.engine.core served.opens.items s
 
+-- What the engine keeps of which files can go is what the layout has.
+abbrev pub RemovesIn : {D Held Reader Writer : Type 0} {watched : _} {held : _} {cloned : _} {read : _} {write : _}
+    → Served D Held Reader Writer watched held cloned read write → things.State → Type 0
+RemovesIn served store = Removes served.engine.core served.engine.removing store.layout
+
 -- the name stands for no merge
 abbrev pub NamesNoMerge : Name → State → Type 0
 NamesNoMerge name s = (job : Job) (made : Made) → thing_in s.store.things name ≡ Some (AJob job made) → ⊥
@@ -70,6 +76,7 @@ pub record IsWaiting {W H R : Type 0} (writers : Writers W) (bytes : H → Optio
   pub open_job : OpenJob
   pub is_open : l.job ≡ Some open_job
   pub has : HasAllMerge writers bytes planned.job open_job.job
+  pub merge : HasMerge writers bytes planned.job open_job.job
   pub there : thing_in ts planned.name ≡ Some (AJob open_job.job (made_of planned.job open_job.job))
   pub only : (name : Name) (job : Job) (made : Made) → thing_in ts name ≡ Some (AJob job made) → name ≡ planned.name
   pub lent : AreLent open_job.lent (made_of planned.job open_job.job)
@@ -115,7 +122,15 @@ pub record StandsPassing {D Held Reader Writer : Type 0} {watched : _} {held : _
   pub opens : Opens served.engine.merging s.store.layout.job
   pub passes : PassesIn bytes served.engine.core served.engine.collecting passing s.store
 
--- And so all of them do.
+-- So does a store; and what the engine keeps of the open merge is the layout's job, and of which files can go what the layout has.
+pub record StandsRemoving {D Held Reader Writer : Type 0} {watched : _} {held : _} {cloned : _} {read : _} {write : _}
+    (g : Ghosts D) (bytes : Held → Option (List ℕ))
+    (served : Served D Held Reader Writer watched held cloned read write) (s : State) : Type 0 where
+  pub serves : ServesFor g bytes served s
+  pub opens : Opens served.engine.merging s.store.layout.job
+  pub removes : RemovesIn served s.store
+
+-- And so all of them do, and what the engine keeps of which files can go is the layout's.
 pub record StandsWith {D Held Reader Writer : Type 0} {watched : _} {held : _} {cloned : _} {read : _} {write : _} {w : _}
     (g : Ghosts D) (writers : Writers Writer) (bytes : Held → Option (List ℕ))
     (served : Served D Held Reader Writer watched held cloned read write) (planned : Option (Planned (Base Held Reader) Held Writer w))
@@ -123,6 +138,7 @@ pub record StandsWith {D Held Reader Writer : Type 0} {watched : _} {held : _} {
   pub serves : ServesFor g bytes served s
   pub merges : MergesIn writers bytes served.engine.merging planned s.store
   pub passes : PassesIn bytes served.engine.core served.engine.collecting passing s.store
+  pub removes : RemovesIn served s.store
 
 -- so a replayer does
 abbrev pub StandsFor : {D Held Reader Writer : Type 0} {watched : _} {held : _} {cloned : _} {read : _} {write : _}

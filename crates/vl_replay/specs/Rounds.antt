@@ -16,7 +16,9 @@ use Rattle.vl_core.specs.declared.kept.Core.{Core}
 use Rattle.vl_engine.specs.declared.open.OpenMerge.{OpenMerge}
 use Rattle.vl_layout.specs.Jobs.{AreDistinct}
 use Rattle.vl_layout.specs.Merging.{outputs}
+use Rattle.vl_layout.specs.Rulings.Fresh.{drawn}
 use Rattle.vl_layout.specs.declared.job.Job.{Job}
+use Rattle.vl_layout.specs.declared.layout.Layout.{Layout}
 use Rattle.vl_model.specs.Limits.{max_file_number}
 use Rattle.vl_model.specs.declared.counter.Counter.TheVariants as counters
 use Rattle.vl_table.specs.declared.block_reader.BlockReader.{BlockReader}
@@ -69,6 +71,13 @@ StillLent lent ended (Ok rounds.Ended) = lent × ended
 StillLent lent ended (Ok (rounds.Exhausted counter)) = Unit {0}
 StillLent lent ended (Err halt) = Unit {0}
 
+-- what is so of the layout behind it: one that gave a number more where a table was made, and else the same
+abbrev pub RoundLeaves : (Layout → Type 0) → Layout → Result Round Halt → Type 0
+RoundLeaves leaves l (Ok rounds.Made) = leaves (drawn l)
+RoundLeaves leaves l (Ok rounds.Ended) = leaves l
+RoundLeaves leaves l (Ok (rounds.Exhausted counter)) = leaves l
+RoundLeaves leaves l (Err halt) = Unit {0}
+
 -- ---- what it comes to
 
 -- The engine stands for the state, and the merge has come so far with what the job says, with a reader that reads what stands.
@@ -91,6 +100,7 @@ pub record MakesOne {H R W : Type 0} (writers : Writers W) (bytes : H → Option
 pub record HasThem {H R W : Type 0} (writers : Writers W) (bytes : H → Option (List ℕ)) {k : _} (before after : TheJob (Base H R) H W k)
     (j : Job) : Type 0 where
   pub has : HasAllMerge writers bytes after j
+  pub merge : HasMerge writers bytes after j
   pub numbers : made_numbers after ≡ made_numbers before
   pub leavings : after.leavings.items ≡ before.leavings.items
 
@@ -102,7 +112,8 @@ EndsRound writers bytes before after reader s j count (Ok rounds.Made) =
 EndsRound writers bytes before after reader s j count (Ok rounds.Ended) = (count ≡ 0) × HasThem writers bytes before after j
 EndsRound writers bytes before after reader s j count (Ok (rounds.Exhausted counter)) =
     (count ≡ 0) × (length before.made.items < length (outputs j)) × (counter ≡ counters.Table)
-    × (max_file_number < s.store.layout.next_table)
+    × (max_file_number < s.store.layout.next_table) × HasMerge writers bytes after j
+    × (made_numbers after ≡ made_numbers before) × (after.leavings.items ≡ before.leavings.items)
 EndsRound writers bytes before after reader s j count (Err halts.NoMemory) = Unit {0}
 EndsRound writers bytes before after reader s j count (Err (halts.Disk file)) =
     (count ≡ 0) × (length before.made.items < length (outputs j)) × (s.store.layout.next_table ≤ max_file_number)

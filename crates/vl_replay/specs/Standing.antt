@@ -1,5 +1,7 @@
 -- What a replayer's names stand for, and those of the sequential store.
-use Rattle.std.specs.Prelude.{◌≡◌, ◌+◌, ℕ, Bool, true, false, Result, Ok, Err, if◌then◌else◌, List, [], ◌∷◌, Option, None, Some}
+use Rattle.std.specs.Prelude.{◌≡◌, ◌+◌, ◌==◌, ◌&&◌, ℕ, Bool, true, false, Result, Ok, Err, if◌then◌else◌, List, [], ◌∷◌, map}
+use Rattle.std.specs.Prelude.{Option, None, Some}
+use Rattle.std.specs.List.{filter}
 use Rattle.std.specs.Option.{option_map}
 use Rattle.std.specs.Bool.{⊤}
 use Rattle.std.specs.Ordering.{eq_by_cmp}
@@ -8,15 +10,20 @@ use Rattle.vl_core.specs.Represents.{IsLive}
 use Rattle.vl_engine.specs.declared.txn.Txn.{Txn}
 use Rattle.vl_engine.specs.Sees.{Sees, SeesAlone, asked, asked_view}
 use Rattle.vl_layout.specs.Rulings.Commit.{Transaction as ATxn}
+use Rattle.vl_layout.specs.Rulings.Sweep.{is_held}
+use Rattle.vl_layout.specs.Sources.{tables}
 use Rattle.vl_layout.specs.Store.Lines.{Name}
 use Rattle.vl_layout.specs.Store.Things as store
 use Rattle.vl_layout.specs.Store.Things.{AJob, APass, ATransaction, AView, thing_in}
+use Rattle.vl_layout.specs.declared.file_name.Retired.{Retired}
 use Rattle.vl_layout.specs.declared.layout.Layout.{Layout}
+use Rattle.vl_layout.specs.declared.live.Live.{Live}
+use Rattle.vl_layout.specs.declared.live.Pin.{Pin}
 use Rattle.vl_model.specs.History.{History}
 use Rattle.vl_model.specs.Keys.{key_cmp, tagged}
 use Rattle.vl_model.specs.declared.change.Change.{Change}
 use Rattle.vl_model.specs.declared.change.Change.TheVariants as changes
-use Rattle.vl_sequential.specs.Readers.{IsReader, IsWithoutTables}
+use Rattle.vl_sequential.specs.Readers.{IsReader, is_table}
 use Rattle.vl_sequential.specs.declared.fails.Halt.{Halt}
 use Rattle.vl_sequential.specs.declared.fails.Halt.TheVariants as halts
 use Rattle.vl_replay.specs.declared.replayer.open.Open.{Open}
@@ -31,6 +38,8 @@ use Rattle.vl_engine.specs.declared.fails.ReadFail.{ReadFail}
 use Rattle.vl_engine.specs.declared.fails.ReadFail.TheVariants as unread
 use Rattle.vl_engine.specs.declared.fails.KeepFail.{KeepFail}
 use Rattle.vl_engine.specs.declared.fails.KeepFail.TheVariants as unkept
+use Rattle.vl_engine.specs.declared.fails.SweepFail.{SweepFail}
+use Rattle.vl_engine.specs.declared.fails.SweepFail.TheVariants as unswept
 use Rattle.vl_engine.specs.declared.fails.StepFail.{StepFail}
 use Rattle.vl_engine.specs.declared.fails.StepFail.TheVariants as undone
 use Rattle.vl_model.specs.Keys.{Stored}
@@ -51,14 +60,26 @@ ticket_of (AView v b) = v.ticket
 ticket_of (AJob job made) = 0
 ticket_of (APass pass batch) = 0
 
+-- what this ticket pins
+abbrev pub pins_at : ℕ → List Live → List Pin
+pins_at ticket live = map (λ (x : Live). x.pin) (filter (λ (x : Live). x.ticket == ticket) live)
+
+-- a table that was dropped and stays for one of these pins
+abbrev pub is_held_table : List Pin → Retired → Bool
+is_held_table ps r = is_table r.file && is_held ps r
+
+-- What has this ticket reads no table: none stands, and none that was dropped stays for it.
+abbrev pub ReadsNoTable : ℕ → Layout → Type 0
+ReadsNoTable ticket l = (tables l ≡ []) × (filter (is_held_table (pins_at ticket l.live)) l.retired ≡ [])
+
 -- A transaction is the one of the store: it made the same reads and writes, which it sees; it is live, and reads no file where the
--- layout has no tables, and had none. So it is with a view.
+-- layout has no tables, and had none when it began or later. So it is with a view.
 pub record IsTransaction {H R : Type 0} (bytes : H → Option (List ℕ)) (txn : Txn H R) (t : ATxn) (h : History) (l : Layout)
     : Type 0 where
   pub same : asked txn t.reads ≡ t
   pub sees : Sees bytes txn h t.reads
   pub live : IsLive l txn.ticket txn.number
-  pub near : IsWithoutTables l → IsInMemory txn.version
+  pub near : ReadsNoTable txn.ticket l → IsInMemory txn.version
 
 -- nothing that reads, on both sides, or the same
 -- It may read as far back as the store's may.
@@ -69,7 +90,7 @@ Corresponds bytes h l None (Some (APass pass batch)) = Unit {0}
 Corresponds bytes h l (Some (Transaction txn)) (Some (ATransaction t b)) = IsTransaction bytes txn t h l × (beginning txn.past ≡ b)
 Corresponds bytes h l (Some (View view)) (Some (AView v b)) =
     (asked_view view ≡ v) × SeesAlone bytes view h × IsLive l view.ticket view.number
-    × (IsWithoutTables l → IsInMemory view.version) × (beginning view.past ≡ b)
+    × (ReadsNoTable view.ticket l → IsInMemory view.version) × (beginning view.past ≡ b)
 Corresponds bytes h l x y = ⊥
 
 -- no name is there twice
@@ -167,3 +188,10 @@ told_keep (Err unkept.InvalidRequest) = Ok answers.Invalid
 told_keep (Err unkept.NoMemory) = Err halts.NoMemory
 told_keep (Err (unkept.Disk name)) = Err (halts.Disk name)
 told_keep (Err (unkept.Halted name)) = Err (halts.Read name)
+
+-- ---- what a sweep is told
+
+abbrev pub told_sweep : Result ℕ SweepFail → Result Answer Halt
+told_sweep (Ok count) = Ok (answers.Removed count)
+told_sweep (Err (unswept.Disk name)) = Err (halts.Disk name)
+told_sweep (Err (unswept.Halted name)) = Err (halts.Read name)

@@ -1,16 +1,17 @@
 //! A merge carried out beside the engine, in files that the engine lends.
-ghost use Rattle.std.specs.Prelude.{◌≡◌, ◌<◌, ◌^◌, None, Ok, OnOk, true, is_some};
+ghost use Rattle.std.specs.Prelude.{◌≡◌, ◌<◌, ◌+◌, ◌^◌, ℕ, None, Ok, OnOk, true, is_some};
 ghost use Rattle.vl_compact.specs.Progress.{IsNew};
 ghost use Rattle.vl_disk.specs.Faults.{HasCause};
 ghost use Rattle.vl_engine.specs.Drawing.{drawn_core};
 ghost use Rattle.vl_engine.specs.Merging.{IsJustOpen};
+ghost use Rattle.vl_engine.specs.Removing.{Removes};
 ghost use Rattle.vl_engine.specs.UnderWay.{IsUnderWay as MayGiveUp};
 ghost use Rattle.vl_layout.specs.declared.job.Job as laid;
-ghost use Rattle.vl_replay.specs.Drawn.{IsPlanned, Merged};
+ghost use Rattle.vl_replay.specs.Drawn.{IsPlanned, Merged, drawn_all};
 ghost use Rattle.vl_sequential.specs.Failing.{ReaderFailed, beside};
 ghost use Rattle.vl_sequential.specs.Halts.{HaltsByDisk, HaltsByReader};
 ghost use Rattle.vl_replay.specs.Handed.{MayHandIn};
-ghost use Rattle.vl_replay.specs.Rounds.{HasLent, IsUnderWay, Rounds, StillLent, halt_by, round_by};
+ghost use Rattle.vl_replay.specs.Rounds.{HasLent, IsUnderWay, RoundLeaves, Rounds, StillLent, halt_by, round_by};
 ghost use Rattle.vl_sequential.specs.Sequential.{State};
 ghost use Rattle.vl_replay.specs.declared.carrying.Round.TheVariants.{Made};
 
@@ -46,6 +47,13 @@ pub fn make_tables<D: Disk>(
         → IsPlanned D.Writer.Writer D.Held.bytes (D.told engine.old.disk) engine.old.core engine.old.merging job.old s j
         → Merged D.Watched D.Writer.Writer D.Held.bytes engine.old.disk engine.new.disk engine.new.core engine.new.merging job.new s j
         result }
+
+    // What the engine keeps of which files can go is the layout's then, which gave so many numbers.
+    ensures removes { (s : State) (j : laid.Job) (count : ℕ)
+        → IsPlanned D.Writer.Writer D.Held.bytes (D.told engine.old.disk) engine.old.core engine.old.merging job.old s j
+        → engine.new.core.back.state.next_table ≡ s.store.layout.next_table + count
+        → Removes engine.old.core engine.old.removing s.store.layout
+        → OnOk result (Removes engine.new.core engine.new.removing (drawn_all count s.store.layout)) }
 
     // A fault of the disk is counted by it, and one beside it by what read or wrote, unless the engine was halted already.
     ensures cause { HasCause (D.faults engine.old.disk) (D.faults engine.new.disk) (HaltsByDisk result) }
@@ -85,6 +93,10 @@ fn make_table<D: Disk>(
         → IsUnderWay D.Writer.Writer D.Held.bytes (D.told engine.old.disk) engine.old.core engine.old.merging job.old reader.old s j
         → Rounds D.Watched D.Writer.Writer D.Held.bytes engine.old.disk engine.new.disk engine.new.core engine.new.merging job.old job.new
         reader.new s j result }
+    ensures removes { (s : State) (j : laid.Job)
+        → IsUnderWay D.Writer.Writer D.Held.bytes (D.told engine.old.disk) engine.old.core engine.old.merging job.old reader.old s j
+        → Removes engine.old.core engine.old.removing s.store.layout
+        → RoundLeaves (Removes engine.new.core engine.new.removing) s.store.layout result }
     ensures cause { HasCause (D.faults engine.old.disk) (D.faults engine.new.disk) (HaltsByDisk result) }
     ensures fault { engine.old.core.front.halted ≡ None
         → HaltsByReader result → ReaderFailed (beside D.Reader.faults D.Writer.faults) }

@@ -14,6 +14,7 @@ pub mod passing;
 pub mod planned;
 mod reading;
 mod stepping;
+mod sweeping;
 mod writing;
 
 use open::Open;

@@ -50,7 +50,7 @@ words_behind_begins (Some text) e = words_of_begins text.now
 words_behind_begins None e = cc
 
 module _ (rest : Option (Bor (List ℕ))) (more : is_some rest ≡ true) where
-  -- behind rotate, flush and stats there are no words
+  -- behind rotate, flush, sweep and stats there are no words
   pub alone_of_more : (line : Line) → alone line (words_behind rest) ≡ None
   alone_of_more line = rw (words_behind_begins rest more).2 refl
 

@@ -15,12 +15,12 @@ use Rattle.vl_model.specs.Keys.{Row}
 use Rattle.vl_script.specs.Numbers.{number_of}
 use Rattle.vl_script.specs.declared.line.Line.{Line}
 use Rattle.vl_script.specs.declared.line.Line.TheVariants.{Begin, View, Get, Set, SetTagged, GetTagged, GetAt, Scan, Delete, Commit, Drop}
-use Rattle.vl_script.specs.declared.line.Line.TheVariants.{Rotate, Flush, Keep, Plan, Drain, Install, Stats, Pick, Batch, Move}
+use Rattle.vl_script.specs.declared.line.Line.TheVariants.{Rotate, Flush, Keep, Plan, Drain, Install, Sweep, Stats, Pick, Batch, Move}
 use Rattle.vl_script.specs.declared.answer.Answer.{Answer}
 use Rattle.vl_script.specs.declared.answer.Answer.TheVariants.{Done, Number, Found, FoundTagged, NoValue, Dropped, Rows, Taken, Unknown}
 use Rattle.vl_script.specs.declared.answer.Answer.TheVariants.{ReadOnly, Invalid, TooBig, TooMany, Nothing, Conflict}
 use Rattle.vl_script.specs.declared.answer.Answer.TheVariants.{Full, Idle, Exhausted, Raced}
-use Rattle.vl_script.specs.declared.answer.Answer.TheVariants.{Rejected, NoRewrite, FoundRecords, End, Moved, Segments}
+use Rattle.vl_script.specs.declared.answer.Answer.TheVariants.{Rejected, NoRewrite, FoundRecords, End, Moved, Removed, Segments}
 use Rattle.vl_script.specs.declared.answer.SegmentLine.{SegmentLine}
 
 -- the longest line, in bytes without its end
@@ -62,7 +62,7 @@ abbrev pub ◌>>=◌ : {A B : Type 0} → Option A → (A → Option B) → Opti
 None >>= f = None
 Some x >>= f = f x
 
--- no words stand behind rotate, flush and stats
+-- no words stand behind rotate, flush, sweep and stats
 abbrev pub alone : Line → List (List ℕ) → Option Line
 alone line [] = Some line
 alone line (word ∷ words) = None
@@ -149,11 +149,12 @@ line_of_words (command ∷ words) =
     else (if bytes_eq command (codes "plan") then option_map Plan (ident_alone words)
     else (if bytes_eq command (codes "drain") then drain_of words
     else (if bytes_eq command (codes "install") then option_map Install (ident_alone words)
+    else (if bytes_eq command (codes "sweep") then alone Sweep words
     else (if bytes_eq command (codes "stats") then alone Stats words
     else (if bytes_eq command (codes "pick") then pick_of words
     else (if bytes_eq command (codes "batch") then option_map Batch (ident_alone words)
     else (if bytes_eq command (codes "move") then option_map Move (ident_alone words)
-    else None)))))))))))))))))))))
+    else None))))))))))))))))))))))
 
 -- the line that these bytes are, without the line's end
 abbrev pub line_of : List ℕ → Option Line
@@ -218,4 +219,5 @@ text_of NoRewrite = as_line (codes "norewrite")
 text_of (FoundRecords count) = as_line (codes "found " ++ decimal count)
 text_of End = as_line (codes "end")
 text_of (Moved count) = as_line (codes "moved " ++ decimal count)
+text_of (Removed count) = as_line (codes "removed " ++ decimal count)
 text_of (Segments segments) = segments_text segments.items

@@ -52,6 +52,8 @@ pub enum Answer {
     End,
     /// `moved c`: so many records were written again.
     Moved { count: u64 },
+    /// `removed c`: so many files were removed.
+    Removed { count: u64 },
     /// `segments c`, and c lines `segment S bytes B live L`: the logs, by rising numbers.
     Segments { segments: Vec<SegmentLine> },
 }

@@ -86,6 +86,8 @@ pub enum Line {
     Keep {
         versions: u8,
     },
+    /// `sweep`: removes the retired files that nothing holds any more.
+    Sweep,
     /// `stats`: tells how long each log is, and how much of it is live.
     Stats,
     /// `pick G P`: begins a pass over the log with the greatest share of garbage, of P per cent at least, with P from 0 to 255.

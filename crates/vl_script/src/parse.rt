@@ -54,6 +54,8 @@ pub fn parse_line(alloc: Global, text: &[u8]) -> Result<Option<Line>, AllocError
         parse_drain(alloc, rest)
     } else if command == b"install".as_slice() {
         Ok(parse_ident_alone(alloc, rest)?.map(|name| Line::Install { name }))
+    } else if command == b"sweep".as_slice() {
+        Ok(parse_alone(rest, Line::Sweep))
     } else if command == b"stats".as_slice() {
         Ok(parse_alone(rest, Line::Stats))
     } else if command == b"pick".as_slice() {

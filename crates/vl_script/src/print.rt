@@ -2,24 +2,26 @@ ghost use Rattle.std.specs.Prelude.{◌≡◌, ◌+◌, ◌≤◌, ◌++◌, ◌
 ghost use Rattle.std.specs.Prelude.{IsOk, IfOk, OnOk};
 ghost use Rattle.std.specs.Fmt.{decimal};
 ghost use Rattle.vl_script.specs.Script.{bytes_text, counter_text, row_text, rows_text, segment_text, segments_text, text_of};
-ghost use Rattle.vl_script.specs.declared.answer.Answer.TheVariants.{Conflict, Done, Found, FoundTagged, Moved, Number, Raced};
+ghost use Rattle.vl_script.specs.declared.answer.Answer.TheVariants.{Conflict, Done, Found, FoundTagged, Moved, Number, Raced, Removed};
 
 use crate::{Answer, SegmentLine};
 use std::alloc::{AllocError, Global};
 use vl_model::{Bytes, Counter, Key, Value};
 
 /// The room, in bytes, that the text of an answer with a number takes at most.
-pub const NUMBER_ROOM: usize = 27;
+pub const NUMBER_ROOM: usize = 29;
 
 /// Appends what is printed for an answer: its text, and its line's end. Where memory is missing, some first bytes of it may
 /// have been appended. What a line answers that changed files wants none where the text has `NUMBER_ROOM` left: a number, `ok`
-/// alone, and how many records were moved.
+/// alone, how many records were moved, and how many files were removed.
 pub fn print_answer(alloc: Global, text: &mut Vec<u8>, answer: &Answer) -> Result<(), AllocError>
     ensures text { OnOk result (text.new.items ≡ text.old.items ++ text_of answer.now) }
     ensures room { (number : ℕ) → answer.now ≡ Number number
         → length text.old.items + NUMBER_ROOM ≤ vec_capacity text.old → IsOk result }
     ensures room_for_ok { answer.now ≡ Done → length text.old.items + NUMBER_ROOM ≤ vec_capacity text.old → IsOk result }
     ensures room_for_moved { (count : ℕ) → answer.now ≡ Moved count
+        → length text.old.items + NUMBER_ROOM ≤ vec_capacity text.old → IsOk result }
+    ensures room_for_removed { (count : ℕ) → answer.now ≡ Removed count
         → length text.old.items + NUMBER_ROOM ≤ vec_capacity text.old → IsOk result }
 {
     match answer {
@@ -49,6 +51,7 @@ pub fn print_answer(alloc: Global, text: &mut Vec<u8>, answer: &Answer) -> Resul
         Answer::FoundRecords { count } => print_number(text, b"found ", *count),
         Answer::End => print_line(text, b"end", b""),
         Answer::Moved { count } => print_number(text, b"moved ", *count),
+        Answer::Removed { count } => print_number(text, b"removed ", *count),
         Answer::Segments { segments } => print_segments(text, segments),
     }
 }

@@ -3,7 +3,7 @@ use Rattle.std.specs.Prelude.{◌≤◌}
 use Rattle.vl_script.specs.declared.line.Line.{Line}
 use Rattle.vl_script.specs.declared.line.Line.TheVariants.{Begin, View, Get, Set, SetTagged, GetTagged, Scan, Delete}
 use Rattle.vl_script.specs.declared.line.Line.TheVariants.{Commit, Drop, Rotate, Flush, Keep, GetAt, Plan, Drain, Install}
-use Rattle.vl_script.specs.declared.line.Line.TheVariants.{Stats, Pick, Batch, Move}
+use Rattle.vl_script.specs.declared.line.Line.TheVariants.{Sweep, Stats, Pick, Batch, Move}
 
 -- a scan asks for one row at least, as each does that is a line of the language
 abbrev pub AsksForRow : Line → Type 0
@@ -24,6 +24,7 @@ AsksForRow (GetAt name key number) = Unit {0}
 AsksForRow (Plan name) = Unit {0}
 AsksForRow (Drain name segment) = Unit {0}
 AsksForRow (Install name) = Unit {0}
+AsksForRow Sweep = Unit {0}
 AsksForRow Stats = Unit {0}
 AsksForRow (Pick name percent) = Unit {0}
 AsksForRow (Batch name) = Unit {0}

@@ -20,7 +20,7 @@ use Rattle.vl_script.specs.Script.{line_of}
 use Rattle.vl_script.specs.declared.line.Line.{Line}
 use Rattle.vl_script.specs.declared.line.Line.TheVariants.{Begin, View, Get, Set, SetTagged, GetTagged, Scan, Delete}
 use Rattle.vl_script.specs.declared.line.Line.TheVariants.{Commit, Drop, Rotate, Flush, Keep, GetAt, Plan, Drain, Install}
-use Rattle.vl_script.specs.declared.line.Line.TheVariants.{Stats, Pick, Batch, Move}
+use Rattle.vl_script.specs.declared.line.Line.TheVariants.{Sweep, Stats, Pick, Batch, Move}
 
 -- a line with its answer, and the states before and after it
 pub record Exchange : Type 0 where
@@ -149,6 +149,7 @@ IsExplainedExchange (Keep versions) e = KeepsHistory e
 IsExplainedExchange (Plan name) e = KeepsHistory e
 IsExplainedExchange (Drain name segment) e = KeepsHistory e
 IsExplainedExchange (Install name) e = KeepsHistory e
+IsExplainedExchange Sweep e = KeepsHistory e
 IsExplainedExchange Stats e = KeepsHistory e
 IsExplainedExchange (Pick name percent) e = KeepsHistory e
 IsExplainedExchange (Batch name) e = KeepsHistory e

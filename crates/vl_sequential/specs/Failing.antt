@@ -2,9 +2,12 @@
 use Rattle.std.specs.Prelude.{◌≡◌, ◌⊎◌, ◌≤◌, ◌<◌, ℕ, List, true, Option, None, Some}
 use Rattle.vl_disk.specs.declared.name.Name.{Name}
 use Rattle.vl_disk.specs.declared.name.Name.TheVariants.{Log, Manifest, Table}
+use Rattle.vl_core.specs.Represents.{file_of}
 use Rattle.vl_layout.specs.Jobs.{Made}
 use Rattle.vl_layout.specs.Sources.{numbers_of}
 use Rattle.vl_layout.specs.Relocation.{Candidate, Pass}
+use Rattle.vl_layout.specs.Rulings.Sweep.{swept}
+use Rattle.vl_layout.specs.Stock.{is_in}
 use Rattle.vl_layout.specs.Store.Things.{AJob, APass, Thing, thing_of}
 use Rattle.vl_layout.specs.declared.job.Job.{Job}
 use Rattle.vl_model.specs.Numbers.{has}
@@ -14,7 +17,7 @@ use Rattle.vl_sequential.specs.Exchanges.{Exchange}
 use Rattle.vl_sequential.specs.Readers.{IsWithoutTables}
 use Rattle.vl_sequential.specs.Sequential.{State, state_after}
 
--- the store has a table, or had one since it was opened
+-- the store has a table, or one waits for its removal: one that was dropped, or one of a merge that was given up
 abbrev pub HasTables : State → Type 0
 HasTables s = IsWithoutTables s.store.layout → ⊥
 
@@ -46,6 +49,7 @@ ReadsTables (lines.GetAt name key number) s = HasTables s
 ReadsTables (lines.Plan name) s = HasTables s
 ReadsTables (lines.Drain name segment) s = HasTables s
 ReadsTables (lines.Install name) s = ⊥
+ReadsTables lines.Sweep s = ⊥
 ReadsTables lines.Stats s = ⊥
 ReadsTables (lines.Pick name percent) s = ⊥
 ReadsTables (lines.Batch name) s = SeeksRecords (thing_of s.store name)
@@ -81,7 +85,8 @@ IsTableOf thing file = (job : Job) × (made : Made) × (n : ℕ) × (thing ≡ S
 
 -- The files at which the disk may fail a line: for a commit or a move the log that takes them; for a rotation that or the next one;
 -- for a flush the table that it makes, or the manifest, which has this number; and for a change of how many versions are kept the
--- manifest. For a plan or a drain a table that its merge makes; and for an install one of its merge's tables, or the manifest.
+-- manifest. For a plan or a drain a table that its merge makes; and for an install one of its merge's tables, or the manifest. For a
+-- sweep one of the files that it removes.
 abbrev pub FailsAt : (manifest : ℕ) → Line → State → Name → Type 0
 FailsAt manifest (lines.Begin name) s file = ⊥
 FailsAt manifest (lines.View name) s file = ⊥
@@ -102,6 +107,7 @@ FailsAt manifest (lines.Plan name) s file = IsTableBetween s.store.layout.next_t
 FailsAt manifest (lines.Drain name segment) s file = IsTableBetween s.store.layout.next_table
     (state_after s (lines.Drain name segment)).store.layout.next_table file
 FailsAt manifest (lines.Install name) s file = IsTableOf (thing_of s.store name) file ⊎ (file ≡ Manifest manifest)
+FailsAt manifest lines.Sweep s file = is_in (file_of file) (swept None s.store.layout) ≡ true
 FailsAt manifest lines.Stats s file = ⊥
 FailsAt manifest (lines.Pick name percent) s file = ⊥
 FailsAt manifest (lines.Batch name) s file = ⊥

@@ -20,6 +20,7 @@ is_table (Log n) = false
 is_table (Table n) = true
 is_table (Manifest n) = false
 
--- No table stands, and none was dropped: what began before a merge dropped its inputs may still read these.
+-- No table stands, and none waits for its removal: what began before a merge dropped its inputs may still read these, and no sweep
+-- removes them until it has ended.
 abbrev pub IsWithoutTables : Layout → Type 0
 IsWithoutTables l = (tables l ≡ []) × (filter (λ (r : Retired). is_table r.file) l.retired ≡ [])

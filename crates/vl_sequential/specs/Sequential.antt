@@ -49,6 +49,7 @@ asked (lines.Plan name) = store.Plan name
 asked (lines.Drain name segment) = store.Drain name segment
 asked (lines.Install name) = store.Install name
 asked (lines.GetAt name key number) = store.GetAt name key number
+asked lines.Sweep = store.Sweep
 asked lines.Stats = store.Stats
 asked (lines.Pick name percent) = store.Pick name percent
 asked (lines.Batch name) = store.Batch name
@@ -134,7 +135,7 @@ answer_text store.NoRewrite = text_of answers.NoRewrite
 answer_text (store.Found count) = text_of (answers.FoundRecords count)
 answer_text store.End = text_of answers.End
 answer_text (store.Moved count) = text_of (answers.Moved count)
-answer_text (store.Removed count) = []
+answer_text (store.Removed count) = text_of (answers.Removed count)
 answer_text (store.Segments stats) = segments_text (map told_segment stats)
 answer_text (store.Halted file) = []
 
@@ -166,6 +167,7 @@ as_told answers.NoRewrite = store.NoRewrite
 as_told (answers.FoundRecords count) = store.Found count
 as_told answers.End = store.End
 as_told (answers.Moved count) = store.Moved count
+as_told (answers.Removed count) = store.Removed count
 as_told (answers.Segments segments) = store.Segments (map stat_told segments.items)
 
 -- the same but for the lengths

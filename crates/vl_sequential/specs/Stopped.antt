@@ -66,8 +66,8 @@ pub record GivesUpTo (greatest : ℕ) (state : ManifestState) : Type 0 where
 
 -- ---- a step on files that was stopped
 
--- A rotation, a flush, a change of how many versions are kept, a plan, a drain and an install leave the commits as they were, also
--- where they were stopped.
+-- A rotation, a flush, a change of how many versions are kept, a plan, a drain, an install and a sweep leave the commits as they
+-- were, also where they were stopped.
 pub record StopsStep (shows : Showing) (before after : State) (passed : ℕ) (now : DiskState) : Type 0 where
   pub same : after.store.commits ≡ before.store.commits
   -- what a crash then leaves shows them,
@@ -92,7 +92,7 @@ pub data IsStoppedIn (holds : Holding) (shows : Showing) (before after : State) 
   -- a frame's sync failed behind its append, and the log took all of it
   sync_failed : (by : ByFrame holds before after) → passed ≡ 1 → made ≡ 2 → now ≡ with_taken by (length by.frame)
       → IsStoppedIn holds shows before after passed made now
-  -- a call of a rotation, of a flush, of a change of how many versions are kept, of a plan, of a drain or of an install failed
+  -- a call of a rotation, a flush, a change of how many versions are kept, a plan, a drain, an install or a sweep failed
   -- and no file passes the number that none passes behind the line
   step_failed : (stops : StopsStep shows before after passed now) → stops.files ≤ after.files
       → IsStoppedIn holds shows before after passed made now

@@ -105,6 +105,7 @@ module _ {W H R : Type 0} (w : Writers W) (bytes : H → Option (List ℕ)) {g :
         open_job = record waits.open_job { moved = k.moved };
         is_open = is ∙ ap Some told;
         has = waits.has;
+        merge = waits.merge;
         there = tells.jobs.still _ _ _ waits.there;
         only = λ name j made there. waits.only name j made (tells.jobs.ours name j made there);
         lent = waits.lent;

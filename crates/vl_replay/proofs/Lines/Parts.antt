@@ -1,11 +1,11 @@
--- What of a state a line of merges asks, and what one of passes does.
+-- What of a state a line of merges asks, what one of passes does, and what a sweep.
 use Rattle.std.proofs.Common.{ℕ, List}
 use Rattle.std.specs.Prelude.{Option}
 use Rattle.vl_disk.specs.declared.watched.Watched.{Ghosts}
 use Rattle.vl_disk.specs.declared.writer.Writer.{Ghosts as Writers}
 use Rattle.vl_version.specs.declared.base.Base.{Base}
 use Rattle.vl_sequential.specs.Sequential.{State}
-use Rattle.vl_replay.specs.Replaying.{StandsMerging, StandsPassing, StandsWith}
+use Rattle.vl_replay.specs.Replaying.{StandsMerging, StandsPassing, StandsRemoving, StandsWith}
 use Rattle.vl_replay.specs.declared.replayer.Served.{Served}
 use Rattle.vl_replay.specs.declared.replayer.passing.Passing.{Passing}
 use Rattle.vl_replay.specs.declared.replayer.planned.Planned.{Planned}
@@ -20,3 +20,6 @@ module _ {D Held Reader Writer : Type 0} {watched : _} {held : _} {cloned : _} {
 
   pub passing_of : StandsPassing g bytes served passing s
   passing_of = record { serves = stands.serves; opens = stands.merges.opens; passes = stands.passes }
+
+  pub removing_of : StandsRemoving g bytes served s
+  removing_of = record { serves = stands.serves; opens = stands.merges.opens; removes = stands.removes }

@@ -54,7 +54,7 @@ none_there : (job : Job) (made : Made) → None ≡ Some (AJob job made) → ⊥
 none_there job made e = cc
 
 itself_beside : (l : Layout) → IsBeside l l
-itself_beside l = record { live = refl; bare = λ none. none }
+itself_beside l = record { live = refl; bare = λ ticket none. none }
 
 module _ {W H R : Type 0} (w : Writers W) (bytes : H → Option (List ℕ)) {k : Writers W} (seen now : Option DiskState)
     (before after : Core H)

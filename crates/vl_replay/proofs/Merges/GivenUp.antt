@@ -8,7 +8,8 @@ use Rattle.vl_disk.specs.DiskState.{DiskState}
 use Rattle.vl_disk.specs.declared.name.Name.{Name as FileName}
 use Rattle.vl_disk.specs.declared.watched.Watched.{Ghosts}
 use Rattle.vl_disk.specs.declared.writer.Writer.{Ghosts as Writers}
-use Rattle.vl_engine.specs.Merging.{StandsOpen}
+use Rattle.vl_compact.specs.Progress.{made_of}
+use Rattle.vl_engine.specs.Merging.{HasMerge, StandsOpen}
 use Rattle.vl_core.specs.Represents as engine
 use Rattle.vl_core.specs.Shown.{Shown}
 use Rattle.vl_core.specs.MayStep.{Fits}
@@ -49,6 +50,8 @@ use Rattle.vl_sequential.specs.laws.Betweens.{extends_same}
 use Rattle.vl_sequential.specs.laws.DiskSteps.{IsWatched, opens_again, rests_until}
 use Rattle.vl_sequential.specs.laws.HeldDisk.{stored_by}
 use Rattle.vl_sequential.specs.laws.ShownDisk.{shown_stays, stored_exactly}
+use Rattle.vl_replay.proofs.CarryingLists.{next_drawn}
+use Rattle.vl_replay.proofs.CarryingRemoved.{LeavesDrawn}
 use Rattle.vl_replay.proofs.Merges.Carrying.{halted_leads}
 use Rattle.vl_replay.proofs.Merges.Choosing.{behind_for, commits_for, fails_for}
 use Rattle.vl_replay.proofs.Merges.Filling.{drawn_next}
@@ -217,6 +220,22 @@ module _ {D W H R : Type 0} (g : Ghosts D) (watched : IsWatched g) (w : Writers 
     exhausted_makes = given_up_makes bytes now after os s name j choice plans stands.names stands.sound stands.running bare
         free merging' merged.count ends.0 merged.fits ends.2
         its_serves counter ends.1
+
+    -- what is so of a layout that gave so many numbers is so of that behind the line, once the merge was given up
+    pub exhausted_leaves : (P Q : Layout → Type 0) → LeavesDrawn P core (with_job was.j s.store.layout)
+        → ((k : History) (m : Layout) (o : OpenJob) → StandsOpen bytes core merging k m → m.job ≡ Some o
+        → HasMerge w bytes job o.job → P m → Q (abandon_ruling m k o.job (made_of job o.job)).layout)
+        → Q (step_to s (line_for choice name)).state.layout
+    exhausted_leaves P Q leaves gives =
+        let serving = merged.serves fine in
+        let count = merged.count in
+        let opened : OpenJob = record { job = was.j; pin = pin_of l; moved = []; lent = numbers_from l.next_table count } in
+        subst (λ (x : Step). Q x.state.layout)
+        (sym (given_up_is s name j choice plans stands.running bare count ends.0 merged.fits ends.2))
+        (subst (λ (m : Made). Q (job_ended m (drawn_all count (with_job was.j l)))) ends.4
+        (gives h (drawn_all count (with_job was.j l)) opened (record { stands = serving.stands; opens = serving.opens })
+        (lent_there s name j count) ends.3
+        (leaves count ((serving.fits.running serving.running).numbers.next_table ∙ next_drawn count (with_job was.j l)))))
 
     pub exhausted_merges : {m : Writers W}
         → ((other : Name) (job' : Job) (made' : Made) → thing_in s.store.things other ≡ Some (AJob job' made') → ⊥)

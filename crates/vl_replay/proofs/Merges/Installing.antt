@@ -45,9 +45,10 @@ use Rattle.vl_engine.specs.declared.open.Collecting.{Collecting}
 use Rattle.vl_engine.specs.declared.open.OpenMerge.{OpenMerge}
 use Rattle.vl_core.specs.laws.InstallRulings.{GoesOn, install_made_so, install_version}
 use Rattle.vl_layout.specs.Decides.{Answered, Decides}
-use Rattle.vl_layout.specs.Jobs.{AreLent, Made, tables_made}
+use Rattle.vl_layout.specs.Jobs.{AreLent, Made, lent_numbers, loose, tables_made}
 use Rattle.vl_layout.specs.Merging.{outputs}
 use Rattle.vl_layout.specs.Ruling.{Ruling}
+use Rattle.vl_layout.specs.Rulings.Sweep.{job_pin, pass_pin}
 use Rattle.vl_layout.specs.Rulings.Install as rulings
 use Rattle.vl_layout.specs.Rulings.Install.{InstallAnswer, install_ruling, race}
 use Rattle.vl_layout.specs.Sources.{numbers_of}
@@ -97,6 +98,7 @@ use Rattle.vl_sequential.specs.laws.HeldDisk.{stored_by}
 use Rattle.vl_replay.proofs.Disk.Stepped.{at_each, at_most}
 use Rattle.vl_replay.proofs.Merges.Handing.{handed_back, handed_in}
 use Rattle.vl_replay.proofs.Merges.Installs.{InstallsOf, IsNoHalt, install_installs}
+use Rattle.vl_replay.proofs.Names.Untabled.{pinned_up_to}
 use Rattle.vl_replay.proofs.Names.Ending.{still_stands}
 use Rattle.vl_replay.proofs.Names.Lookups.{taken_none, thing_gone, thing_left}
 use Rattle.vl_replay.proofs.Names.Making.{only_makes}
@@ -375,6 +377,8 @@ module _ {D H R W : Type 0} (g : Ghosts D) (w : Writers W) (bytes : H → Option
 
   installs : InstallsOf l h r
   installs = install_installs l h j made
+      (pinned_up_to l.version_number (loose (lent_numbers l.job) ++ l.retired) l.live (job_pin l.job) (pass_pin l.pass)
+      stands.engine.tidy.files.stocked.pinned)
 
   pub there : thing_of s.store name ≡ Some (AJob j made)
   there = subst (λ (n : Name). thing_in s.store.things n ≡ Some (AJob j made)) named waits.there
@@ -399,9 +403,9 @@ module _ {D H R W : Type 0} (g : Ghosts D) (w : Writers W) (bytes : H → Option
   -- what the other names stand for stands on
   names_on : Stand bytes os (without_name name s.store.things) h r.layout
   names_on = stands_without bytes s.store.things h h l r.layout os os stands.names name None (taken_none name os stands.names.once free)
-      (λ other apart x y at is. still_stands bytes h h l r.layout (extends_itself h) installs.bare (λ (ticket : ℕ). Unit {0})
+      (λ other apart x y at is. still_stands bytes h h l r.layout (extends_itself h) (λ (ticket : ℕ). Unit {0})
       (λ ticket number on lives. subst (λ (xs : List Live). IsLive (record r.layout { live = xs }) ticket number) (sym installs.live) lives)
-      x y (λ z found reads. tt) is)
+      (λ ticket number on lives. installs.bare ticket number lives) x y (λ z found reads. tt) is)
 
   -- How it was stopped, of two calls. So many of them were made.
   pub record StopsInstalls : Type 0 where
@@ -829,26 +833,25 @@ module _ {D H R W : Type 0} (g : Ghosts D) (w : Writers W) (bytes : H → Option
           };
     }
 
-    -- ---- what is kept of where space comes back from
+    -- ---- what is kept of where space comes back from, and of which files can go
 
-    module _ (kept kept' : Collecting) (collects : (state : DiskState) (h : History) (l : Layout) (o : OpenJob) → g.told old ≡ Some state
+    module _ (was is : Layout → Type 0) (leaves : (state : DiskState) (h : History) (l : Layout) (o : OpenJob) → g.told old ≡ Some state
         → StandsOpen bytes before merging h l → l.job ≡ Some o → (l.halted ≡ None → AreLogFiles l) → HasAllMerge w bytes job o.job
-        → AreLent o.lent (made_of job o.job) → Collects before kept l
-        → Decides (λ (_ : History) (m : Layout). Collects after kept' m) h l (install_ruling l h o.job (made_of job o.job))
+        → AreLent o.lent (made_of job o.job) → was l
+        → Decides (λ (_ : History) (m : Layout). is m) h l (install_ruling l h o.job (made_of job o.job))
         (install_otherwise l (made_of job o.job)) (install_outcome result) (install_effects result))
-        (collected : Collects before kept layout) where
-      collects_so : Decides (λ (_ : History) (m : Layout). Collects after kept' m) its_history layout
+        (so : was layout) where
+      leaves_so : Decides (λ (_ : History) (m : Layout). is m) its_history layout
           (install_ruling layout its_history waits.open_job.job (made_of job waits.open_job.job))
           (install_otherwise layout (made_of job waits.open_job.job)) (install_outcome result) (install_effects result)
-      collects_so = collects may_step.state its_history layout waits.open_job may_step.told_is stands_open waits.is_open
-          (λ running. may_step.files) waits.has waits.lent collected
+      leaves_so = leaves may_step.state its_history layout waits.open_job may_step.told_is stands_open waits.is_open
+          (λ running. may_step.files) waits.has waits.lent so
 
       -- it is that of the layout behind the line
-      pub still_collects : (a : InstallAnswer) → install_outcome result ≡ Answered a
-          → Collects after kept' (step_to s (lines.Install name)).state.layout
-      still_collects a is = subst (λ (x : Step). Collects after kept' x.state.layout)
+      pub still_leaves : (a : InstallAnswer) → install_outcome result ≡ Answered a → is (step_to s (lines.Install name)).state.layout
+      still_leaves a answered = subst (λ (x : Step). is x.state.layout)
           (sym (step_is g w bytes before after old new merging' os s stands name (waiting_as its_name job) named waits))
-          (collects_so.answered a is).1
+          (leaves_so.answered a answered).1
 
 -- ---- the line, by what its call takes out, and by what the engine says
 
@@ -918,17 +921,17 @@ module _ {D H R W : Type 0} (g : Ghosts D) (w : Writers W) (bytes : H → Option
       at_file (Err (uninstalled.NoMemory job)) e = absurd cc
       at_file (Err (uninstalled.Disk name)) e = let same : name ≡ file = cc in ap (λ (n : FileName). Err (uninstalled.Disk n)) same
 
-  pub line_collects : (kept kept' : Collecting)
+  pub line_leaves : (was_so is_so : Layout → Type 0)
       → ((state : DiskState) (h : History) (l : Layout) (o : OpenJob) → g.told old ≡ Some state
       → StandsOpen bytes before merging h l → l.job ≡ Some o → (l.halted ≡ None → AreLogFiles l) → HasAllMerge w bytes job o.job
-      → AreLent o.lent (made_of job o.job) → Collects before kept l
-      → Decides (λ (_ : History) (m : Layout). Collects after kept' m) h l (install_ruling l h o.job (made_of job o.job))
+      → AreLent o.lent (made_of job o.job) → was_so l
+      → Decides (λ (_ : History) (m : Layout). is_so m) h l (install_ruling l h o.job (made_of job o.job))
       (install_otherwise l (made_of job o.job)) (install_outcome result) (install_effects result))
-      → Collects before kept s.store.layout → (told : Result Answer Halt) → told_install result ≡ told
-      → OnOk told (Collects after kept' (step_to s (lines.Install name)).state.layout)
-  line_collects kept kept' collects collected told is =
-      subst (λ (x : Result Answer Halt). OnOk x (Collects after kept' (step_to s (lines.Install name)).state.layout)) is
-      (on_answered (Collects after kept' (step_to s (lines.Install name)).state.layout) result
-      (still_collects g w bytes before after old new merging merging' job watched
+      → was_so s.store.layout → (told : Result Answer Halt) → told_install result ≡ told
+      → OnOk told (is_so (step_to s (lines.Install name)).state.layout)
+  line_leaves was_so is_so leaves so told is =
+      subst (λ (x : Result Answer Halt). OnOk x (is_so (step_to s (lines.Install name)).state.layout)) is
+      (on_answered (is_so (step_to s (lines.Install name)).state.layout) result
+      (still_leaves g w bytes before after old new merging merging' job watched
       (handed_so g w old before.front.halted merging q planned planned' job was can) lent os s stands merges.opens name was.its_name
-      own_name waited result says kept kept' collects collected))
+      own_name waited result says was_so is_so leaves so))

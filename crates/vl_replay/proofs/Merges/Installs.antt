@@ -2,9 +2,11 @@
 use Rattle.std.proofs.Common.{◌≡◌, ℕ, ◌-◌, ◌==◌, Bool, true, false, cond, not, List, [], ◌∷◌, ◌++◌, map, refl, ap, sym, ◌∙◌}
 use Rattle.std.specs.List.{filter, flat_map}
 use Rattle.std.specs.Prelude.{Option, None, Some}
+use Rattle.vl_core.specs.Represents.{IsLive}
 use Rattle.vl_layout.specs.Jobs.{Made, job_ended, loose}
 use Rattle.vl_layout.specs.Levels.{at_level, in_key_order, is_among, is_before, replaced, without}
 use Rattle.vl_layout.specs.Ruling.{Ruling, has_no_version, is_idle, leaving, retired_at}
+use Rattle.vl_layout.specs.Rulings.Sweep.{is_held}
 use Rattle.vl_layout.specs.Rulings.Install as rulings
 use Rattle.vl_layout.specs.Rulings.Install.{InstallAnswer, install_checked, install_ruling, install_unless, installed}
 use Rattle.vl_layout.specs.Rulings.Install.{moved_since, race}
@@ -15,12 +17,14 @@ use Rattle.vl_layout.specs.declared.job.Job.{Job}
 use Rattle.vl_layout.specs.declared.job.Target.{Target}
 use Rattle.vl_layout.specs.declared.job.Target.TheVariants.{InPlace, Level}
 use Rattle.vl_layout.specs.declared.layout.Layout.{Layout}
+use Rattle.vl_layout.specs.declared.live.Pin.{Pin}
 use Rattle.vl_layout.specs.declared.table.Table.{Table}
 use Rattle.vl_model.specs.Conflicts.{Named}
 use Rattle.vl_model.specs.History.{History}
 use Rattle.vl_model.specs.declared.counter.Counter.TheVariants as counter
-use Rattle.vl_sequential.specs.Readers.{IsWithoutTables, is_table}
+use Rattle.vl_replay.specs.Standing.{ReadsNoTable, is_held_table, pins_at}
 use Rattle.vl_replay.proofs.Names.StepMaking.{none_before}
+use Rattle.vl_replay.proofs.Names.Untabled.{ArePinnedUpTo, held_then}
 
 -- ---- lists that have nothing
 
@@ -132,11 +136,19 @@ retired_none p (r ∷ front) back none = by (p r) none (retired_none p front bac
     by true none later = absurd cc
     by false none later = later none
 
--- where no table was retired, none was dropped
-dropped_none : (version : ℕ) (dropped : List Table) (logs : List FileName)
-    → filter (λ (r : Retired). is_table r.file) (map (retired_at version) (map table_of dropped ++ logs)) ≡ [] → dropped ≡ []
-dropped_none version [] logs none = refl
-dropped_none version (t ∷ ts) logs none = absurd cc
+-- where no table stays for what holds each that is dropped, none was dropped
+dropped_none : (ps : List Pin) (version : ℕ) → ((file : FileName) → is_held ps (retired_at version file) ≡ true) → (dropped : List Table)
+    (logs : List FileName)
+    → filter (is_held_table ps) (map (retired_at version) (map table_of dropped ++ logs)) ≡ [] → dropped ≡ []
+dropped_none ps version held [] logs none = refl
+dropped_none ps version held (t ∷ ts) logs none =
+    absurd (none_some (sym (ap (λ (b : Bool). cond b (retired_at version (table_of t) ∷ rest) rest) (held (table_of t))) ∙ none))
+  where
+    rest : List Retired
+    rest = filter (is_held_table ps) (map (retired_at version) (map table_of ts ++ logs))
+
+    none_some : retired_at version (table_of t) ∷ rest ≡ [] → ⊥
+    none_some e = cc
 
 -- ---- the ruling
 
@@ -152,19 +164,19 @@ pub record InstallsOf (l : Layout) (h : History) (r : Ruling InstallAnswer) : Ty
   pub history : r.history ≡ h
   pub job : r.layout.job ≡ None
   pub live : r.layout.live ≡ l.live
-  pub bare : IsWithoutTables r.layout → IsWithoutTables l
+  pub bare : (ticket number : ℕ) → IsLive l ticket number → ReadsNoTable ticket r.layout → ReadsNoTable ticket l
   pub running : l.halted ≡ None → r.layout.halted ≡ None
   pub no_halt : l.halted ≡ None → IsNoHalt r.answer
   pub next_log : r.layout.next_log ≡ l.next_log
   pub next_table : r.layout.next_table ≡ l.next_table
 
-module _ (l : Layout) (h : History) (job : Job) (made : Made) where
+module _ (l : Layout) (h : History) (job : Job) (made : Made) (early : ArePinnedUpTo l.version_number l.live) where
   ended_installs : (a : InstallAnswer) → (l.halted ≡ None → IsNoHalt a) → InstallsOf l h (leaving a h (job_ended made l))
   ended_installs a goes = record {
     history = refl;
     job = refl;
     live = refl;
-    bare = λ none. (none.0, none_before (λ (r : Retired). is_table r.file) l.retired _ none.1);
+    bare = λ ticket number lives none. (none.0, none_before (is_held_table (pins_at ticket l.live)) l.retired _ none.1);
     running = λ running. running;
     no_halt = goes;
     next_log = refl;
@@ -184,13 +196,14 @@ module _ (l : Layout) (h : History) (job : Job) (made : Made) where
   abbrev new_retired : List Retired
   new_retired = map (retired_at switching.version_number) (map table_of dropped ++ logs)
 
-  installed_bare : IsWithoutTables (installed job made l) → IsWithoutTables l
-  installed_bare none = (
+  installed_bare : (ticket number : ℕ) → IsLive l ticket number → ReadsNoTable ticket (installed job made l) → ReadsNoTable ticket l
+  installed_bare ticket number lives none = (
     replaced_none job.target job.inputs made.tables l.levels none.0
-        (dropped_none switching.version_number dropped logs
-        (retired_none (λ (r : Retired). is_table r.file) switching.retired new_retired none.1)),
-    none_before (λ (r : Retired). is_table r.file) l.retired (loose made.leavings)
-        (none_before (λ (r : Retired). is_table r.file) switching.retired new_retired none.1),
+        (dropped_none (pins_at ticket l.live) switching.version_number
+        (λ file. held_then ticket number l.version_number file l.live early lives) dropped logs
+        (retired_none (is_held_table (pins_at ticket l.live)) switching.retired new_retired none.1)),
+    none_before (is_held_table (pins_at ticket l.live)) l.retired (loose made.leavings)
+        (none_before (is_held_table (pins_at ticket l.live)) switching.retired new_retired none.1),
   )
 
   installed_installs : InstallsOf l h

@@ -51,7 +51,9 @@ use Rattle.vl_replay.proofs.Merges.Choosing.{behind_for, counted_step, step_for}
 use Rattle.vl_replay.proofs.Merges.Keeping.{KeepsMerges, same_jobs}
 use Rattle.vl_replay.proofs.Merges.Opened.{opened_planned}
 use Rattle.vl_replay.proofs.Merges.Planned.{Plans, plan_busy, plan_none, plan_some}
-use Rattle.vl_replay.proofs.Merges.Planning.{planned_state, whole_makes, whole_waits}
+use Rattle.vl_replay.proofs.CarryingLists.{next_drawn}
+use Rattle.vl_replay.proofs.CarryingRemoved.{LeavesDrawn}
+use Rattle.vl_replay.proofs.Merges.Planning.{planned_state, whole_is, whole_makes, whole_waits}
 use Rattle.vl_replay.proofs.Merges.Waiting.{merges_behind}
 
 -- ---- none is planned
@@ -193,6 +195,20 @@ module _ {D H R W E : Type 0} (g : Ghosts D) (w : Writers W) (bytes : H → Opti
         (subst (λ (d : D). StandsIn bytes (g.told d) before os s) (sym disk) stands) job job_is.0 choice plans_it core
         (stands_so.answered ruling.answer answered).1 (fits_so.answered ruling.answer answered).1 represented job_is.2 looks_so
 
+    -- so it is with each job that is planned, which is the one
+    pub planned_as : (i : Job) → Plans choice l h i → IsPlanned w bytes (g.told new) after merging' job (planned_state i s) i
+    planned_as i plans = subst (λ (x : Job). IsPlanned w bytes (g.told new) after merging' job (planned_state x s) x)
+        (one job_is.0 i (sym job_is.1 ∙ ap (λ (r : Ruling (Option Job)). r.answer) plans.ruled)) planned_it
+      where
+        one : (a b : Job) → Some a ≡ Some b → a ≡ b
+        one a b e = cc
+
+    -- what stands behind the ruling
+    pub opened_leaves : (P : Layout → Type 0) (i : Job) → Plans choice l h i
+        → Decides (λ _ m. P m) h l ruling (as_before l l) (plan_outcome ruling.answer result) no_effects → P (with_job i l)
+    opened_leaves P i plans decides =
+        subst (λ (r : Ruling (Option Job)). P r.layout) plans.ruled (decides.answered ruling.answer answered).1
+
     module _ (watched : IsWatched g) (name : Name) (bare : thing_of s.store name ≡ None) (free : open_in os name ≡ None) where
       disk_held : HoldsState g IsStored s old → HoldsState g IsStored (planned_state job_is.0 s) old
       disk_held =
@@ -251,6 +267,13 @@ module _ {D H R W : Type 0} (g : Ghosts D) (watched : IsWatched g) (w : Writers 
   merge_waits none =
       whole_waits bytes (g.told new) core os s name j choice was.plans stands.names stands.sound stands.running bare free
       merging all serving w k job ends.1 none
+
+  -- what is so of a layout that gave so many numbers is so of that behind the line
+  pub merge_leaves : (P : Layout → Type 0) → LeavesDrawn P core (with_job was.j s.store.layout)
+      → P (step_to s (line_for choice name)).state.layout
+  merge_leaves P leaves = subst (λ (x : Step). P x.state.layout) (sym (whole_is s name j choice was.plans stands.running bare all))
+      (leaves (length (outputs j))
+      ((serving.fits.running serving.running).numbers.next_table ∙ next_drawn (length (outputs j)) (with_job j s.store.layout)))
 
   pub merge_carries : (number : ℕ) → CarriesOut g IsStored Shown IsStopped old new s (state_after s (line_for choice name))
       (Ok (answers.Number number))

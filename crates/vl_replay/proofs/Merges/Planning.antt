@@ -2,7 +2,6 @@
 use Rattle.std.proofs.Common.{◌≡◌, ◌⊎◌, ⊎_elim, ℕ, min, ◌+◌, ◌-◌, ◌^◌, ◌<◌, ◌≤◌, List, []}
 use Rattle.std.proofs.Common.{length, refl, ap, sym, ◌∙◌, subst, arith}
 use Rattle.std.specs.Prelude.{Option, None, Some, Ok}
-use Rattle.std.specs.List.{filter}
 use Rattle.vl_compact.specs.declared.job.Job.{Job as TheJob}
 use Rattle.vl_disk.specs.DiskState.{DiskState}
 use Rattle.vl_disk.specs.declared.writer.Writer.{Ghosts as Writers}
@@ -13,26 +12,25 @@ use Rattle.vl_layout.specs.Jobs.{AreLent, Made, job_ended}
 use Rattle.vl_layout.specs.Merging.{kept, merged_entries, outputs}
 use Rattle.vl_layout.specs.Ruling.{Ruling, pin_of}
 use Rattle.vl_layout.specs.Rulings.Plan.{with_job}
-use Rattle.vl_layout.specs.Sources.{tables}
 use Rattle.vl_layout.specs.Store.Dispatch.{fill, made_of, plan_as, planned_by}
 use Rattle.vl_layout.specs.Store.Lines as store_lines
 use Rattle.vl_layout.specs.Store.Lines.{Name}
 use Rattle.vl_layout.specs.Store.Things.{AJob, Step, Thing, named, thing_in, thing_of, with_thing}
-use Rattle.vl_layout.specs.declared.file_name.Retired.{Retired}
 use Rattle.vl_layout.specs.declared.job.Job.{Job}
 use Rattle.vl_layout.specs.declared.layout.Layout.{Layout}
 use Rattle.vl_layout.specs.declared.live.Live.{Live}
-use Rattle.vl_layout.specs.declared.table.Table.{Table}
 use Rattle.vl_model.specs.History.{History}
 use Rattle.vl_model.specs.Limits.{max_file_number}
 use Rattle.vl_model.specs.declared.counter.Counter.{Counter}
 use Rattle.vl_model.specs.declared.counter.Counter.TheVariants as counters
 use Rattle.vl_version.specs.declared.base.Base.{Base}
 use Rattle.vl_replay.specs.Drawn.{HasTablesFrom, IsServing, drawn_all, drawn_state, numbers_from}
-use Rattle.vl_sequential.specs.Readers.{IsReader, IsWithoutTables, is_table}
+use Rattle.vl_layout.specs.Sources.{tables}
+use Rattle.vl_layout.specs.declared.table.Table.{Table}
+use Rattle.vl_sequential.specs.Readers.{IsReader}
 use Rattle.vl_replay.specs.Replaying.{MakesStep, Merges, StandsIn, state_by}
 use Rattle.vl_sequential.specs.Sequential.{State, history_of, step_to}
-use Rattle.vl_replay.specs.Standing.{Corresponds, Stand, open_in}
+use Rattle.vl_replay.specs.Standing.{Corresponds, ReadsNoTable, Stand, is_held_table, open_in, pins_at}
 use Rattle.vl_replay.specs.declared.replayer.open.Open.{Open}
 use Rattle.vl_sequential.specs.laws.Laws.{IsSound, state_after-sound}
 use Rattle.vl_script.specs.declared.answer.Answer.TheVariants as answers
@@ -48,6 +46,7 @@ use Rattle.vl_replay.proofs.Names.Ending.{still_stands}
 use Rattle.vl_replay.proofs.Names.Lookups.{thing_beside, thing_put}
 use Rattle.vl_replay.proofs.Names.Standings.{same_or_not}
 use Rattle.vl_replay.proofs.Names.StepMaking.{none_before}
+use Rattle.vl_replay.proofs.Names.Untabled.{reads_same}
 
 -- the state in which a merge is planned
 abbrev pub planned_state : Job → State → State
@@ -61,16 +60,16 @@ same_thing a b e = cc
 -- a layout that differs in the open merge, in files of merges that were given up, and in the next table's number
 pub record IsBeside (l m : Layout) : Type 0 where
   pub live : m.live ≡ l.live
-  pub bare : IsWithoutTables m → IsWithoutTables l
+  pub bare : (ticket : ℕ) → ReadsNoTable ticket m → ReadsNoTable ticket l
 
 module _ {H R : Type 0} (bytes : H → Option (List ℕ)) (h : History) (l m : Layout) (beside : IsBeside l m)
     (os : List (Open H R)) (ts : List (Name × Thing))
     (stand : Stand bytes os ts h l) where
   -- what a name stood for stands on
   pub stays_so : (x : Option _) (y : Option Thing) → Corresponds {H = H} {R = R} bytes h l x y → Corresponds bytes h m x y
-  stays_so x y is = still_stands bytes h h l m (extends_itself h) beside.bare (λ (t : ℕ). Unit {0})
+  stays_so x y is = still_stands bytes h h l m (extends_itself h) (λ (t : ℕ). Unit {0})
       (λ ticket number on lives. subst (λ (xs : List Live). IsLive (record m { live = xs }) ticket number) (sym beside.live) lives)
-      x y (λ z found reads. tt) is
+      (λ ticket number on lives. beside.bare ticket) x y (λ z found reads. tt) is
 
   pub names_stay : Stand bytes os ts h m
   names_stay = record {
@@ -107,23 +106,19 @@ module _ {H R : Type 0} (bytes : H → Option (List ℕ)) (h : History) (l m : L
 
 -- ---- where numbers were drawn
 
-none_retired : (l m : Layout) → m.levels ≡ l.levels → m.retired ≡ l.retired → IsWithoutTables m → IsWithoutTables l
-none_retired l m levels retired (none, nothing) = (
-  ap (λ (ls : List (List Table)). tables (record l { levels = ls })) (sym levels) ∙ none,
-  ap (λ (rs : List Retired). filter (λ (r : Retired). is_table r.file) rs) (sym retired) ∙ nothing,
-)
-
 pub drawn_is_beside : (n : ℕ) (j : Job) (l : Layout) → IsBeside l (drawn_all n (with_job j l))
 drawn_is_beside n j l = record {
   live = drawn_live n (with_job j l);
-  bare = none_retired l (drawn_all n (with_job j l)) (drawn_levels n (with_job j l)) (drawn_retired n (with_job j l));
+  bare = reads_same l (drawn_all n (with_job j l)) (drawn_live n (with_job j l))
+      (ap (λ (ls : List (List Table)). tables (record l { levels = ls })) (drawn_levels n (with_job j l)))
+      (drawn_retired n (with_job j l));
 }
 
 -- and where the merge was given up
 pub ended_is_beside : (made : Made) (l m : Layout) → IsBeside l m → IsBeside l (job_ended made m)
 ended_is_beside made l m beside = record {
   live = beside.live;
-  bare = λ none. beside.bare (none.0, none_before (λ (r : Retired). is_table r.file) m.retired _ none.1);
+  bare = λ ticket none. beside.bare ticket (none.0, none_before (is_held_table (pins_at ticket m.live)) m.retired _ none.1);
 }
 
 -- ---- the line, as the store has it
@@ -249,6 +244,7 @@ module _ {H R : Type 0} (bytes : H → Option (List ℕ)) (told : Option DiskSta
             };
             is_open = lent_there s name j (total_of j);
             has = has.has;
+            merge = has.merge;
             there = thing_put name (AJob j (made s name j (total_of j))) s.store.things ∙ ap (λ (m : Made). Some (AJob j m)) (sym has.made);
             only = λ other job' made' there. ⊎_elim
                 (λ (same : other ≡ name). same)

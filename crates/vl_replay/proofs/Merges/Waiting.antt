@@ -37,6 +37,7 @@ module _ {W H R : Type 0} (writers : Writers W) (bytes : H → Option (List ℕ)
     open_job = waits.open_job;
     is_open = job ∙ waits.is_open;
     has = waits.has;
+    merge = waits.merge;
     there = jobs.still _ _ _ waits.there;
     only = λ name j made is. waits.only name j made (jobs.ours name j made is);
     lent = waits.lent;

@@ -192,7 +192,7 @@ module _ {H R : Type 0} (bytes : H → Option (List ℕ)) (seen now : Option Dis
         let y : Step = record { answer = answer; state = without_thing s.store (ended (ticket_of x) l) name; calls = 0 } in
         stands_as left y on
         (ends_so bytes h h l (ended (ticket_of x) l) os left s.store.things stands.names name thing taken x there
-        (extends_itself h) (λ none. none) refl) sound refl
+        (extends_itself h) refl refl refl) sound refl
 
     pub view_ends : (view : EngineView H R) → IsTaken os left name (Some (View view)) → Serving h (ended view.ticket l)
         → MakesStep bytes now after left s dropping (Ok answers.Done)

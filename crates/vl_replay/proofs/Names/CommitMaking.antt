@@ -183,7 +183,7 @@ module _ {H R : Type 0} (bytes : H → Option (List ℕ)) (seen now : Option Dis
           (subst (λ (k : History). Serves bytes now s.openable after k next) (sym more) (stands_of (commit.At n) decides))
           (subst (λ (k : History). Stand bytes left (without_name name s.store.things) k next) (sym more)
           (ends_so bytes h longer l next os left s.store.things stands.names name (Transaction txn) taken
-          (ATransaction t b) there (extends_one h longer (from_sorted t.writes) refl) (λ none. none) refl))
+          (ATransaction t b) there (extends_one h longer (from_sorted t.writes) refl) refl refl refl))
           (sound_by (commit.At n) same) refl)
         where
           number : (n : ℕ) → commit.At n ≡ commit.At (last_number h + 1) → n ≡ last_number h + 1

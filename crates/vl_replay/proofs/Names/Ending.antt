@@ -32,8 +32,8 @@ use Rattle.vl_layout.specs.Tickets.{free_ticket, tickets_of}
 use Rattle.vl_layout.specs.declared.layout.Layout.{Layout}
 use Rattle.vl_model.specs.History.{Extends, History, last_number}
 use Rattle.vl_model.specs.laws.ExplainedLaws.{explained-extends}
-use Rattle.vl_sequential.specs.Readers.{IsReader, IsWithoutTables}
-use Rattle.vl_replay.specs.Standing.{Corresponds, IsTaken, Stand, open_in, ticket_of}
+use Rattle.vl_sequential.specs.Readers.{IsReader}
+use Rattle.vl_replay.specs.Standing.{Corresponds, IsTaken, ReadsNoTable, Stand, open_in, ticket_of}
 use Rattle.vl_replay.specs.declared.replayer.open.Open.{Open}
 use Rattle.vl_replay.specs.declared.replayer.open.Thing.{Thing}
 use Rattle.vl_replay.specs.declared.replayer.open.Thing.TheVariants.{Transaction, View}
@@ -41,6 +41,7 @@ use Rattle.vl_sequential.specs.laws.Betweens.{extends_itself, last-extends}
 use Rattle.vl_replay.proofs.Names.Lookups.{taken_none}
 use Rattle.vl_replay.proofs.Names.Reading.{it_reads}
 use Rattle.vl_replay.proofs.Names.Standings.{stands_with, stands_without}
+use Rattle.vl_replay.proofs.Names.Untabled.{reads_begun, reads_ended}
 
 -- nothing is written at first
 pub no_entries : entries (empty {K = List ℕ} {X = Change} {R = key_cmp}) ≡ []
@@ -104,10 +105,10 @@ alone_later bytes view h k more sees = record {
 }
 
 module _ {H R : Type 0} (bytes : H → Option (List ℕ)) (h k : History) (l m : Layout) (more : Extends h k)
-    -- there are tables still, where there were some
-    (bare : IsWithoutTables m → IsWithoutTables l)
     -- what lives on
-    (ticket_lives : ℕ → Type 0) (lives : (ticket number : ℕ) → ticket_lives ticket → IsLive l ticket number → IsLive m ticket number) where
+    (ticket_lives : ℕ → Type 0) (lives : (ticket number : ℕ) → ticket_lives ticket → IsLive l ticket number → IsLive m ticket number)
+    -- has the tables still that it reads
+    (bare : (ticket number : ℕ) → ticket_lives ticket → IsLive l ticket number → ReadsNoTable ticket m → ReadsNoTable ticket l) where
   pub still_stands : (x : Option (Thing H R)) (y : Option store.Thing)
       → ((z : store.Thing) → y ≡ Some z → IsReader z → ticket_lives (ticket_of z))
       → Corresponds bytes h l x y → Corresponds bytes k m x y
@@ -117,27 +118,28 @@ module _ {H R : Type 0} (bytes : H → Option (List ℕ)) (h k : History) (l m :
   still_stands None (Some (AJob job made)) on is = tt
   still_stands None (Some (APass pass batch)) on is = tt
   still_stands (Some (Transaction txn)) None on is = absurd is
-  still_stands (Some (Transaction txn)) (Some (ATransaction t b)) on (is, began) = (
-    (record {
-      same = is.same;
-      sees = sees_later bytes txn h k t.reads more is.sees;
-      live = lives txn.ticket txn.number
-          (subst (λ (u : ATxn). ticket_lives u.ticket) (sym is.same) (on (ATransaction t b) refl tt)) is.live;
-      near = λ none. is.near (bare none);
-    }),
-    began,
-  )
+  still_stands (Some (Transaction txn)) (Some (ATransaction t b)) on (is, began) =
+      let goes_on = subst (λ (u : ATxn). ticket_lives u.ticket) (sym is.same) (on (ATransaction t b) refl tt) in (
+        (record {
+          same = is.same;
+          sees = sees_later bytes txn h k t.reads more is.sees;
+          live = lives txn.ticket txn.number goes_on is.live;
+          near = λ none. is.near (bare txn.ticket txn.number goes_on is.live none);
+        }),
+        began,
+      )
   still_stands (Some (Transaction txn)) (Some (AView v b)) on is = absurd is
   still_stands (Some (Transaction txn)) (Some (AJob job made)) on is = absurd is
   still_stands (Some (Transaction txn)) (Some (APass pass batch)) on is = absurd is
   still_stands (Some (View view)) None on is = absurd is
-  still_stands (Some (View view)) (Some (AView v b)) on (same, sees, live, near, began) = (
-    same,
-    alone_later bytes view h k more sees,
-    lives view.ticket view.number (subst (λ (w : LayoutView). ticket_lives w.ticket) (sym same) (on (AView v b) refl tt)) live,
-    λ none. near (bare none),
-    began,
-  )
+  still_stands (Some (View view)) (Some (AView v b)) on (same, sees, live, near, began) =
+      let goes_on = subst (λ (w : LayoutView). ticket_lives w.ticket) (sym same) (on (AView v b) refl tt) in (
+        same,
+        alone_later bytes view h k more sees,
+        lives view.ticket view.number goes_on live,
+        λ none. near (bare view.ticket view.number goes_on live none),
+        began,
+      )
   still_stands (Some (View view)) (Some (ATransaction t b)) on is = absurd is
   still_stands (Some (View view)) (Some (AJob job made)) on is = absurd is
   still_stands (Some (View view)) (Some (APass pass batch)) on is = absurd is
@@ -147,14 +149,15 @@ module _ {H R : Type 0} (bytes : H → Option (List ℕ)) (h k : History) (l m :
 module _ {H R : Type 0} (bytes : H → Option (List ℕ)) (h k : History) (l m : Layout) (os left : List (Open H R))
     (ts : List (Name × store.Thing))
     (stand : Stand bytes os ts h l) (name : Name) (thing : Thing H R) (taken : IsTaken os left name (Some thing))
-    (x : store.Thing) (there : thing_in ts name ≡ Some x) (more : Extends h k) (bare : IsWithoutTables m → IsWithoutTables l)
-    (live : m.live ≡ (ended (ticket_of x) l).live) where
+    (x : store.Thing) (there : thing_in ts name ≡ Some x) (more : Extends h k)
+    (live : m.live ≡ (ended (ticket_of x) l).live) (levels : m.levels ≡ l.levels) (retired : m.retired ≡ l.retired) where
   -- The name is free, and the others stand on.
   pub ends_so : Stand bytes left (without_name name ts) k m
   ends_so = stands_without bytes ts h k l m os left stand name (Some thing) taken
-      (λ other apart y z at is. still_stands bytes h k l m more bare (λ (ticket : ℕ). ticket ≡ ticket_of x → ⊥)
+      (λ other apart y z at is. still_stands bytes h k l m more (λ (ticket : ℕ). ticket ≡ ticket_of x → ⊥)
       (λ ticket number differs lives. subst (λ (xs : List Live). IsLive (record m { live = xs }) ticket number)
       (sym live) (lives_ended l (ticket_of x) ticket number differs lives))
+      (λ ticket number differs lives. reads_ended ticket (ticket_of x) differs l m live levels retired)
       y z (λ u found reads same. apart
       (stand.apart other name u x (at ∙ found) there reads (it_reads bytes h l os left ts name thing x stand taken there) same)) is)
 
@@ -172,8 +175,9 @@ module _ {H R : Type 0} (bytes : H → Option (List ℕ)) (h : History) (l : Lay
   pub begins_so : (new : Thing H R) (x : store.Thing) → ticket_of x ≡ ticket → Corresponds bytes h next (Some new) (Some x)
       → Stand bytes (os ++ record { name = name; thing = new } ∷ []) (named name x ts) h next
   begins_so new x own there = stands_with bytes ts h h l next os os stand name None (taken_none name os stand.once free)
-      (λ other apart y z at is. still_stands bytes h h l next (extends_itself h) (λ none. none) (λ (t : ℕ). Unit {0})
-      (λ t number on lives. lives_begun l h lived t number lives) y z (λ u found reads. tt) is)
+      (λ other apart y z at is. still_stands bytes h h l next (extends_itself h) (λ (t : ℕ). Unit {0})
+      (λ t number on lives. lives_begun l h lived t number lives)
+      (λ t number on lives. reads_begun t ticket (last_number h) l) y z (λ u found reads. tt) is)
       new x there
       (λ other y apart at reads same.
       let (number, lives) = live_of bytes h l (open_in os other) y

@@ -1,6 +1,6 @@
 -- What a change of how many versions are kept makes: it leaves the commits and what lives.
 use Rattle.std.proofs.Common.{◌≡◌, ◌≤◌, ℕ, ◌==◌, Bool, true, false, cond, ◌||◌, List, [], refl, ap, sym, ◌∙◌, subst}
-use Rattle.std.specs.Prelude.{Option, None, Some, Ok, Err, Result, nat_lt}
+use Rattle.std.specs.Prelude.{Option, None, Some, Ok, Err, Result, OnOk, nat_lt}
 use Rattle.std.specs.Bool.{⊤}
 use Rattle.vl_disk.specs.DiskState.{DiskState}
 use Rattle.vl_disk.specs.Faults.{HasCause}
@@ -20,10 +20,9 @@ use Rattle.vl_layout.specs.declared.layout.Layout.{Layout}
 use Rattle.vl_layout.specs.declared.live.Live.{Live}
 use Rattle.vl_model.specs.History.{History}
 use Rattle.vl_sequential.specs.Halts.{HaltsByDisk, HaltsByRead}
-use Rattle.vl_sequential.specs.Readers.{IsWithoutTables}
 use Rattle.vl_replay.specs.Replaying.{MakesStep, StandsIn, state_by}
 use Rattle.vl_sequential.specs.Sequential.{State, history_of, without_lengths}
-use Rattle.vl_replay.specs.Standing.{Stand, told_keep}
+use Rattle.vl_replay.specs.Standing.{ReadsNoTable, Stand, told_keep}
 use Rattle.vl_sequential.specs.declared.fails.Halt.{Halt}
 use Rattle.vl_replay.specs.declared.replayer.open.Open.{Open}
 use Rattle.vl_sequential.specs.laws.Laws.{IsSound}
@@ -42,7 +41,7 @@ IsNoHalt rulings.InvalidRequest = Unit {0}
 pub record KeepsOf (l : Layout) (h : History) (r : Ruling KeepAnswer) : Type 0 where
   pub history : r.history ≡ h
   pub live : r.layout.live ≡ l.live
-  pub bare : IsWithoutTables r.layout → IsWithoutTables l
+  pub bare : (ticket : ℕ) → ReadsNoTable ticket r.layout → ReadsNoTable ticket l
   pub running : l.halted ≡ None → r.layout.halted ≡ None
   pub no_halt : l.halted ≡ None → IsNoHalt r.answer
   pub next_log : r.layout.next_log ≡ l.next_log
@@ -55,7 +54,7 @@ keep_keeps l h v = of l.halted refl
     left a goes = record {
       history = refl;
       live = refl;
-      bare = λ none. none;
+      bare = λ ticket none. none;
       running = λ running. running;
       no_halt = λ running. goes;
       next_log = refl;
@@ -68,7 +67,7 @@ keep_keeps l h v = of l.halted refl
     by_same false = record {
       history = refl;
       live = refl;
-      bare = λ none. none;
+      bare = λ ticket none. none;
       running = λ running. running;
       no_halt = λ running. tt;
       next_log = refl;
@@ -87,7 +86,7 @@ keep_keeps l h v = of l.halted refl
     of (Some file) is = record {
       history = refl;
       live = refl;
-      bare = λ none. none;
+      bare = λ ticket none. none;
       running = λ running. running;
       no_halt = λ running. absurd (some_none file (sym is ∙ running));
       next_log = refl;
@@ -108,9 +107,9 @@ module _ {H R : Type 0} (bytes : H → Option (List ℕ)) (seen now : Option Dis
   -- what the names stand for stands on
   names_on : Stand bytes os s.store.things h r.layout
   names_on = record {
-    each = λ name. still_stands bytes h h l r.layout (extends_itself h) keeps.bare (λ (ticket : ℕ). Unit {0})
+    each = λ name. still_stands bytes h h l r.layout (extends_itself h) (λ (ticket : ℕ). Unit {0})
         (λ ticket number on lives. subst (λ (xs : List Live). IsLive (record r.layout { live = xs }) ticket number) (sym keeps.live) lives)
-        _ _ (λ thing found reads. tt) (stands.names.each name);
+        (λ ticket number on lives. keeps.bare ticket) _ _ (λ thing found reads. tt) (stands.names.each name);
     once = stands.names.once;
     apart = stands.names.apart;
   }
@@ -155,6 +154,17 @@ module _ {H R : Type 0} (bytes : H → Option (List ℕ)) (seen now : Option Dis
     keep_sound (Err (unkept.Halted name)) decides halts =
         let (same, there) = decides.answered (rulings.Halted (engine.file_of name)) refl in
         subst IsNoHalt (sym same) (keeps.no_halt stands.running)
+
+-- what it leaves where it is answered
+module _ (leaves : History → Layout → Type 0) (h : History) (l : Layout) (r : Ruling KeepAnswer) (otherwise : Otherwise)
+    (effects : Effects) where
+  pub keep_leaves : (result : Result ⊤ KeepFail) → Decides leaves h l r otherwise (keep_outcome result) effects
+      → OnOk (told_keep result) (leaves r.history r.layout)
+  keep_leaves (Ok done) decides = (decides.answered rulings.Kept refl).1
+  keep_leaves (Err unkept.InvalidRequest) decides = (decides.answered rulings.InvalidRequest refl).1
+  keep_leaves (Err unkept.NoMemory) decides = tt
+  keep_leaves (Err (unkept.Disk name)) decides = tt
+  keep_leaves (Err (unkept.Halted name)) decides = tt
 
 -- ---- where the disk failed
 

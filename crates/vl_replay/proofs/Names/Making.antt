@@ -31,8 +31,7 @@ use Rattle.vl_replay.specs.Replaying.{MakesStep, StandsIn, state_by}
 use Rattle.vl_sequential.specs.Sequential.{IsTold, State, history_of}
 use Rattle.vl_layout.specs.Jobs.{Made}
 use Rattle.vl_layout.specs.declared.job.Job.{Job}
-use Rattle.vl_sequential.specs.Readers.{IsWithoutTables}
-use Rattle.vl_replay.specs.Standing.{Corresponds, IsTaken, IsTransaction, Stand, open_in, told_write}
+use Rattle.vl_replay.specs.Standing.{Corresponds, IsTaken, IsTransaction, ReadsNoTable, Stand, open_in, told_write}
 use Rattle.vl_sequential.specs.declared.fails.Halt.{Halt}
 use Rattle.vl_replay.specs.declared.replayer.open.Open.{Open}
 use Rattle.vl_replay.specs.declared.replayer.open.Thing.{Thing}
@@ -66,7 +65,7 @@ module _ {H R : Type 0} (bytes : H → Option (List ℕ)) (h : History) (l : Lay
     ap (λ (x : EngineView H R). asked_view x) keeps ∙ same,
     still sees,
     subst (λ (x : EngineView H R). IsLive l x.ticket x.number) (sym keeps) live,
-    λ none. subst (λ (x : EngineView H R). IsInMemory x.version) (sym keeps) (near none),
+    subst (λ (x : EngineView H R). ReadsNoTable x.ticket l → IsInMemory x.version) (sym keeps) near,
     ap (λ (x : EngineView H R). beginning x.past) keeps ∙ began,
   )
 
@@ -76,7 +75,7 @@ module _ {H R : Type 0} (bytes : H → Option (List ℕ)) (h : History) (l : Lay
     same = ap (λ (x : Txn H R). asked x t.reads) keeps ∙ is.same;
     sees = still is.sees;
     live = subst (λ (x : Txn H R). IsLive l x.ticket x.number) (sym keeps) is.live;
-    near = λ none. subst (λ (x : Txn H R). IsInMemory x.version) (sym keeps) (is.near none);
+    near = subst (λ (x : Txn H R). ReadsNoTable x.ticket l → IsInMemory x.version) (sym keeps) is.near;
   }
 
   -- A name is put back for what stands for the same.
@@ -160,7 +159,7 @@ module _ {H R : Type 0} (bytes : H → Option (List ℕ)) (seen : Option DiskSta
       -- the view that it stands for
       pub its : (b : Beginning) × (thing_of s.store name ≡ Some (AView (asked_view view) b)) × SeesAlone bytes view h
           × IsLive l view.ticket view.number
-          × (IsWithoutTables l → IsInMemory view.version) × (beginning view.past ≡ b)
+          × (ReadsNoTable view.ticket l → IsInMemory view.version) × (beginning view.past ≡ b)
       its = its_view bytes h l view (thing_of s.store name) there_view
 
       pub view_back : (new : EngineView H R) → OnlyReads view new → (SeesAlone bytes view h → SeesAlone bytes new h)

@@ -25,11 +25,11 @@ use Rattle.vl_model.specs.Keys.{Stored, is_key_length, key_cmp}
 use Rattle.vl_model.specs.Reads.{KeyRead, Read}
 use Rattle.vl_model.specs.declared.change.Change.{Change}
 use Rattle.vl_txn.specs.Reads.{with_get}
-use Rattle.vl_replay.specs.Standing.{Corresponds, IsTaken, IsTransaction, Stand, open_in, ticket_of}
+use Rattle.vl_replay.specs.Standing.{Corresponds, IsTaken, IsTransaction, ReadsNoTable, Stand, open_in, ticket_of}
 use Rattle.vl_layout.specs.Jobs.{Made}
 use Rattle.vl_layout.specs.Relocation.{Candidate, Pass}
 use Rattle.vl_layout.specs.declared.job.Job.{Job}
-use Rattle.vl_sequential.specs.Readers.{IsReader, IsWithoutTables}
+use Rattle.vl_sequential.specs.Readers.{IsReader}
 use Rattle.vl_replay.specs.declared.replayer.open.Open.{Open}
 use Rattle.vl_replay.specs.declared.replayer.open.Thing.{Thing}
 use Rattle.vl_replay.specs.declared.replayer.open.Thing.TheVariants.{Transaction, View}
@@ -58,7 +58,7 @@ module _ {H R : Type 0} (bytes : H → Option (List ℕ)) (h : History) (l : Lay
 
   pub its_view : (view : EngineView H R) (y : Option store.Thing) → Corresponds bytes h l (Some (View view)) y
       → (b : Beginning) × (y ≡ Some (AView (asked_view view) b)) × SeesAlone bytes view h × IsLive l view.ticket view.number
-      × (IsWithoutTables l → IsInMemory view.version) × (beginning view.past ≡ b)
+      × (ReadsNoTable view.ticket l → IsInMemory view.version) × (beginning view.past ≡ b)
   its_view view None is = absurd is
   its_view view (Some (AView v b))
       (same, sees, live, near, began) = (b, ap (λ (w : _). Some (AView w b)) (sym same), sees, live, near, began)
@@ -154,7 +154,7 @@ module _ {H R : Type 0} (bytes : H → Option (List ℕ)) (s : store.State) (pro
                   (on_true (is_some (get txn.writes key)) t.reads
                   (t.reads ++ KeyRead key (value_at h txn.number key) ∷ []) (ap is_some own)) sees;
               live = subst (λ (x : Txn H R). IsLive s.layout x.ticket x.number) (sym keeps) is.live;
-              near = λ none. subst (λ (x : Txn H R). IsInMemory x.version) (sym keeps) (is.near none);
+              near = subst (λ (x : Txn H R). ReadsNoTable x.ticket s.layout → IsInMemory x.version) (sym keeps) is.near;
             }),
             ap (λ (x : Txn H R). beginning x.past) keeps ∙ began,
           )),
@@ -170,7 +170,7 @@ module _ {H R : Type 0} (bytes : H → Option (List ℕ)) (s : store.State) (pro
                   (ap is_some own)
                   ∙ ap (λ (v : Option Stored). t.reads ++ KeyRead key v ∷ []) (sym value)) sees;
               live = subst (λ (x : Txn H R). IsLive s.layout x.ticket x.number) (sym keeps) is.live;
-              near = λ none. subst (λ (x : Txn H R). IsInMemory x.version) (sym keeps) (is.near none);
+              near = subst (λ (x : Txn H R). ReadsNoTable x.ticket s.layout → IsInMemory x.version) (sym keeps) is.near;
             }),
             ap (λ (x : Txn H R). beginning x.past) keeps ∙ began,
           ),

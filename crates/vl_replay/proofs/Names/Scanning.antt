@@ -21,7 +21,7 @@ use Rattle.vl_model.specs.Limits.{max_key_bytes}
 use Rattle.vl_model.specs.Reads.{RangeRead, Read, Scan, rows_of}
 use Rattle.vl_model.specs.declared.way.Way.{Way}
 use Rattle.vl_txn.specs.Reads as noting
-use Rattle.vl_replay.specs.Standing.{IsTaken, IsTransaction, Stand}
+use Rattle.vl_replay.specs.Standing.{IsTaken, IsTransaction, ReadsNoTable, Stand}
 use Rattle.vl_replay.specs.declared.replayer.open.Open.{Open}
 use Rattle.vl_replay.specs.declared.replayer.open.Thing.TheVariants.{Transaction}
 use Rattle.vl_sequential.specs.laws.Explained.{rows_are}
@@ -87,7 +87,7 @@ module _ {H R : Type 0} (bytes : H → Option (List ℕ)) (s : store.State) (pro
           same = ap (λ (x : Txn H R). asked x noted) keeps ∙ ap (λ (u : ATxn). record u { reads = noted }) is.same;
           sees = subst (Sees bytes new (history_in s.commits)) (sym noted_is) sees;
           live = subst (λ (x : Txn H R). IsLive s.layout x.ticket x.number) (sym keeps) is.live;
-          near = λ none. subst (λ (x : Txn H R). IsInMemory x.version) (sym keeps) (is.near none);
+          near = subst (λ (x : Txn H R). ReadsNoTable x.ticket s.layout → IsInMemory x.version) (sym keeps) is.near;
         }),
         ap (λ (x : Txn H R). beginning x.past) keeps ∙ began,
       ))

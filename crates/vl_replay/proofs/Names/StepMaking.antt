@@ -35,10 +35,9 @@ use Rattle.vl_model.specs.declared.counter.Counter.TheVariants as counter
 use Rattle.vl_model.specs.declared.log_frame.LogFrame.{LogFrame}
 use Rattle.vl_sequential.specs.Halts.{HaltsByDisk, HaltsByRead}
 use Rattle.vl_layout.specs.declared.file_name.Retired.{Retired}
-use Rattle.vl_sequential.specs.Readers.{IsWithoutTables, is_table}
 use Rattle.vl_replay.specs.Replaying.{MakesStep, StandsIn, state_by}
 use Rattle.vl_sequential.specs.Sequential.{State, files_behind, history_of, without_lengths}
-use Rattle.vl_replay.specs.Standing.{Stand, told_step}
+use Rattle.vl_replay.specs.Standing.{ReadsNoTable, Stand, is_held_table, pins_at, told_step}
 use Rattle.vl_sequential.specs.declared.fails.Halt.{Halt}
 use Rattle.vl_replay.specs.declared.replayer.open.Open.{Open}
 use Rattle.vl_sequential.specs.laws.Laws.{IsSound}
@@ -61,7 +60,7 @@ pub record LeavesOf (l : Layout) (h : History) (r : Ruling StepAnswer) : Type 0 
   pub history : r.history ≡ h
   pub live : r.layout.live ≡ l.live
   -- no table goes, and what was dropped stays so
-  pub bare : IsWithoutTables r.layout → IsWithoutTables l
+  pub bare : (ticket : ℕ) → ReadsNoTable ticket r.layout → ReadsNoTable ticket l
   pub running : l.halted ≡ None → r.layout.halted ≡ None
   pub no_halt : l.halted ≡ None → IsNoHalt r.answer
   -- the next numbers go up by one at most, where a file is made
@@ -75,7 +74,7 @@ leaving_leaves : (l : Layout) (h : History) (a : StepAnswer) → IsNoHalt a → 
 leaving_leaves l h a goes same = record {
   history = refl;
   live = refl;
-  bare = λ none. none;
+  bare = λ ticket none. none;
   running = λ running. running;
   no_halt = λ running. goes;
   next_log = λ files within. omega (arith, within, same files);
@@ -88,7 +87,7 @@ halted_leaves : (l : Layout) (h : History) (file : FileName) → l.halted ≡ So
 halted_leaves l h file halted = record {
   history = refl;
   live = refl;
-  bare = λ none. none;
+  bare = λ ticket none. none;
   running = λ running. running;
   no_halt = λ running. absurd (some_none (sym halted ∙ running));
   next_log = λ files within. within;
@@ -104,7 +103,7 @@ made_rotated : (l : Layout) (h : History)
 made_rotated l h = record {
   history = refl;
   live = refl;
-  bare = λ none. none;
+  bare = λ ticket none. none;
   running = λ running. running;
   no_halt = λ running. tt;
   next_log = λ files within. omega (arith, within);
@@ -156,7 +155,10 @@ made_flushed : (l : Layout) (h : History) (s : Segment)
 made_flushed l h s = record {
   history = refl;
   live = refl;
-  bare = λ none. (some_in_front _ l l.levels refl none.0, none_before (λ (r : Retired). is_table r.file) l.retired _ none.1);
+  bare = λ ticket none. (
+    some_in_front _ l l.levels refl none.0,
+    none_before (is_held_table (pins_at ticket l.live)) l.retired _ none.1,
+  );
   running = λ running. running;
   no_halt = λ running. tt;
   next_log = λ files within. omega (arith, within);
@@ -201,9 +203,9 @@ module _ {H R : Type 0} (bytes : H → Option (List ℕ)) (seen now : Option Dis
   -- what the names stand for stands on
   names_on : Stand bytes os s.store.things h r.layout
   names_on = record {
-    each = λ name. still_stands bytes h h l r.layout (extends_itself h) leaves.bare (λ (ticket : ℕ). Unit {0})
+    each = λ name. still_stands bytes h h l r.layout (extends_itself h) (λ (ticket : ℕ). Unit {0})
         (λ ticket number on lives. subst (λ (xs : List Live). IsLive (record r.layout { live = xs }) ticket number) (sym leaves.live) lives)
-        _ _ (λ thing found reads. tt) (stands.names.each name);
+        (λ ticket number on lives. leaves.bare ticket) _ _ (λ thing found reads. tt) (stands.names.each name);
     once = stands.names.once;
     apart = stands.names.apart;
   }

@@ -28,7 +28,7 @@ use Rattle.vl_txn.specs.Refusals.{IsWritten, fits_transaction, refused_write}
 use Rattle.vl_txn.specs.declared.set_fail.SetFail.{SetFail}
 use Rattle.vl_txn.specs.declared.set_fail.SetFail.TheVariants.{EmptyKey, KeyTooLong, NoMemory, TooBig, ValueTooLong}
 use Rattle.vl_sequential.specs.Sequential.{IsTold, without_lengths}
-use Rattle.vl_replay.specs.Standing.{IsTaken, IsTransaction, Stand, told_write}
+use Rattle.vl_replay.specs.Standing.{IsTaken, IsTransaction, ReadsNoTable, Stand, told_write}
 use Rattle.vl_replay.specs.declared.replayer.open.Open.{Open}
 use Rattle.vl_replay.specs.declared.replayer.open.Thing.TheVariants.{Transaction}
 use Rattle.vl_replay.proofs.Names.Reading.{named_again, put_back, stand_alike}
@@ -122,7 +122,7 @@ module _ {H R : Type 0} (bytes : H → Option (List ℕ)) (s : store.State) (os 
     same = asked_then writes same;
     sees = sees;
     live = subst (λ (x : Txn H R). IsLive s.layout x.ticket x.number) (sym keeps) is.live;
-    near = λ none. subst (λ (x : Txn H R). IsInMemory x.version) (sym keeps) (is.near none);
+    near = subst (λ (x : Txn H R). ReadsNoTable x.ticket s.layout → IsInMemory x.version) (sym keeps) is.near;
   }
 
   began_then : beginning new.past ≡ b

@@ -153,7 +153,7 @@ module _ {H R : Type 0} (bytes : H → Option (List ℕ)) (seen : Option DiskSta
   its_step p batch = found_by s.store name (next_batch p) batch
 
   itself : IsBeside l l
-  itself = record { live = refl; bare = λ none. none }
+  itself = record { live = refl; bare = λ ticket none. none }
 
   -- what the name stands for then
   abbrev then : Pass → Option (List Candidate) → Thing

@@ -124,7 +124,7 @@ module _ {H R : Type 0} (bytes : H → Option (List ℕ)) (told : Option DiskSta
       (subst (Corresponds bytes h l (open_in os name)) there (stands.names.each name))
 
   beside : IsBeside l dropped
-  beside = record { live = refl; bare = λ none. none }
+  beside = record { live = refl; bare = λ ticket none. none }
 
   ended_names : Stand bytes os (without_name name s.store.things) h dropped
   ended_names = stands_without bytes s.store.things h h l dropped os os stands.names name None (taken_none name os stands.names.once free)

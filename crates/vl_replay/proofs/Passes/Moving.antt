@@ -2,7 +2,6 @@
 use Rattle.std.proofs.Common.{◌≡◌, ⊎_elim, ℕ, ◌≤◌, ◌+◌, nat_le, true, false, cond, Bool, List, [], ◌∷◌, length}
 use Rattle.std.proofs.Common.{refl, ap, sym, ◌∙◌, subst}
 use Rattle.std.specs.Prelude.{Option, None, Some, Ok}
-use Rattle.std.specs.List.{filter}
 use Rattle.std.specs.Option.{option_map}
 use Rattle.vl_collect.specs.Passing.{IsWholeFrom}
 use Rattle.vl_collect.specs.declared.pass.Pass.{Pass as ThePass}
@@ -29,7 +28,6 @@ use Rattle.vl_layout.specs.Store.Things as things
 use Rattle.vl_layout.specs.Store.Things.{APass, Step, Thing, named, only, thing_in, thing_of}
 use Rattle.vl_layout.specs.Tidy.{sealed}
 use Rattle.vl_layout.specs.declared.file_name.FileName.{FileName}
-use Rattle.vl_layout.specs.declared.file_name.Retired.{Retired}
 use Rattle.vl_layout.specs.declared.job.OpenPass.{OpenPass}
 use Rattle.vl_layout.specs.declared.layout.Layout.{Layout}
 use Rattle.vl_model.specs.Frames.{frame_length}
@@ -39,7 +37,6 @@ use Rattle.vl_model.specs.declared.log_frame.LogFrame.TheVariants.{Relocated}
 use Rattle.vl_model.specs.declared.log_frame.Moved.{Moved}
 use Rattle.vl_version.specs.declared.base.Base.{Base}
 use Rattle.vl_replay.specs.Passing.{IsPassing, Passes}
-use Rattle.vl_sequential.specs.Readers.{is_table}
 use Rattle.vl_replay.specs.Replaying.{MakesStep, StandsIn, state_by}
 use Rattle.vl_sequential.specs.Sequential.{IsTold, State, history_of}
 use Rattle.vl_replay.specs.Standing.{open_in}
@@ -53,6 +50,7 @@ use Rattle.vl_replay.proofs.Merges.Planning.{IsBeside}
 use Rattle.vl_replay.proofs.Names.Lookups.{thing_beside, thing_put}
 use Rattle.vl_replay.proofs.Names.Serving.{Serves}
 use Rattle.vl_replay.proofs.Names.Standings.{same_or_not}
+use Rattle.vl_replay.proofs.Names.Untabled.{reads_same}
 use Rattle.vl_replay.proofs.Passes.Batching.{unread_pass}
 use Rattle.vl_replay.proofs.Passes.Standing.{collects_with, names_with_work}
 
@@ -230,8 +228,7 @@ module _ {H R : Type 0} (bytes : H → Option (List ℕ)) (seen now : Option Dis
   beside : IsBeside l r.layout
   beside = record {
     live = keeps.live;
-    bare = λ none.
-        (sym keeps.tables ∙ none.0, subst (λ (xs : List _). filter (λ (f : Retired). is_table f.file) xs ≡ []) keeps.retired none.1);
+    bare = reads_same l r.layout keeps.live keeps.tables keeps.retired;
   }
 
   sound_by : (a : MoveAnswer) → a ≡ r.answer → IsSound (state_by s (by a))

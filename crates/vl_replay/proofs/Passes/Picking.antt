@@ -126,7 +126,7 @@ module _ {H R : Type 0} (bytes : H → Option (List ℕ)) (told : Option DiskSta
     step_is = ap (pick_as s.store name percent) bare ∙ ap (λ (q : Ruling PickAnswer). picked_by s.store name q q.answer) ruled
 
     beside : IsBeside l next
-    beside = record { live = refl; bare = λ none. none }
+    beside = record { live = refl; bare = λ ticket none. none }
 
     pub picked_makes : Serves bytes told s.openable after r.history r.layout
         → MakesStep bytes told after os s picking (Ok (answers.Number pass.log.number))
@@ -234,6 +234,26 @@ module _ {H R : Type 0} (bytes : H → Option (List ℕ)) (told : Option DiskSta
     refused_passes old new passing core collects passes =
         subst (λ (y : Step). Passes bytes after new passing y.state.things y.state.layout) (sym (refused_step a answer refusal is))
         (record { collects = collects; is_open = passes.is_open })
+
+-- The line leaves the layout that the ruling leaves.
+pub picked_layout : (s : State) (name : Name) (percent : ℕ) → thing_of s.store name ≡ None
+    → (pick_as s.store name percent (thing_of s.store name)).state.layout ≡ (pick_ruling s.store.layout (history_of s) percent).layout
+picked_layout s name percent bare =
+    ap (λ (o : Option Thing). (pick_as s.store name percent o).state.layout) bare
+    ∙ ap (λ (q : Ruling PickAnswer). (picked_by s.store name q q.answer).state.layout) ruled
+    ∙ by (pick_ruling s.store.layout (history_of s) percent).answer
+    ∙ ap (λ (q : Ruling PickAnswer). q.layout) (sym ruled)
+  where
+    ruled : pick_ruling s.store.layout (history_of s) percent
+        ≡ ruling_of s.store.layout (history_of s) (pick_ruling s.store.layout (history_of s) percent).answer
+    ruled = answers_ruling s.store.layout (history_of s) percent (pick_ruling s.store.layout (history_of s) percent).answer refl
+
+    by : (a : PickAnswer) → (picked_by s.store name (ruling_of s.store.layout (history_of s) a)
+        (ruling_of s.store.layout (history_of s) a).answer).state.layout ≡ (ruling_of s.store.layout (history_of s) a).layout
+    by (pick.Picked p) = refl
+    by pick.InvalidRequest = refl
+    by (pick.Rejected segment) = refl
+    by pick.NoRewrite = refl
 
 -- an answer's outcome is what it was answered by
 pub refusal_so : {P : Type 0} (ruled : PickAnswer) (a : PickAnswer) (fail : PickFail) → pick_outcome {P = P} ruled (Err fail) ≡ Answered a

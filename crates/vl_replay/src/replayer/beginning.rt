@@ -1,8 +1,8 @@
 //! Begins of transactions and views.
-ghost use Rattle.std.specs.Prelude.{◌≡◌, None};
+ghost use Rattle.std.specs.Prelude.{◌≡◌, None, OnOk};
 ghost use Rattle.vl_layout.specs.Store.Reading.{a_transaction, a_view, begin_as};
 ghost use Rattle.vl_layout.specs.Store.Things.{thing_of};
-ghost use Rattle.vl_replay.specs.Replaying.{MakesStep, OnlyNoMemory, ServesFor};
+ghost use Rattle.vl_replay.specs.Replaying.{MakesStep, OnlyNoMemory, RemovesIn, ServesFor};
 ghost use Rattle.vl_sequential.specs.Sequential.{State};
 
 use crate::replayer::Served;
@@ -19,6 +19,9 @@ impl<D: Disk> Served<D> {
             → MakesStep D.Held.bytes (D.told self.new.engine.disk) self.new.engine.core self.new.opens.items s
             (begin_as s.store name a_transaction (thing_of s.store name)) result }
         ensures fails { OnlyNoMemory result }
+        ensures removes { (s : State) → ServesFor D.Watched D.Held.bytes self.old s → thing_of s.store name ≡ None
+            → RemovesIn self.old s.store
+            → OnOk result (RemovesIn self.new (begin_as s.store name a_transaction (thing_of s.store name)).state) }
         ensures disk { self.new.engine.disk ≡ self.old.engine.disk }
         ensures merging { self.new.engine.merging ≡ self.old.engine.merging }
         ensures collecting { self.new.engine.collecting ≡ self.old.engine.collecting }
@@ -41,6 +44,9 @@ impl<D: Disk> Served<D> {
             → MakesStep D.Held.bytes (D.told self.new.engine.disk) self.new.engine.core self.new.opens.items s
             (begin_as s.store name a_view (thing_of s.store name)) result }
         ensures fails { OnlyNoMemory result }
+        ensures removes { (s : State) → ServesFor D.Watched D.Held.bytes self.old s → thing_of s.store name ≡ None
+            → RemovesIn self.old s.store
+            → OnOk result (RemovesIn self.new (begin_as s.store name a_view (thing_of s.store name)).state) }
         ensures disk { self.new.engine.disk ≡ self.old.engine.disk }
         ensures merging { self.new.engine.merging ≡ self.old.engine.merging }
         ensures collecting { self.new.engine.collecting ≡ self.old.engine.collecting }

@@ -16,7 +16,7 @@ ghost use Rattle.vl_sequential.specs.Failing.{MovesRecords, ReaderFailed, SeeksR
 ghost use Rattle.vl_sequential.specs.Halts.{HaltsByDamage, HaltsByDisk, HaltsByRead, HaltsByReader};
 ghost use Rattle.vl_replay.specs.Handed.{CanHandIn, KeepsLent};
 ghost use Rattle.vl_replay.specs.Passing.{PassesIn, TakesPass, halt_at};
-ghost use Rattle.vl_replay.specs.Replaying.{MakesStep, MergesIn, OnlyNoMemory, ServesFor, StandsPassing, StandsWith, state_by};
+ghost use Rattle.vl_replay.specs.Replaying.{MakesStep, MergesIn, OnlyNoMemory, RemovesIn, ServesFor, StandsPassing, StandsWith, state_by};
 ghost use Rattle.vl_sequential.specs.Sequential.{State, told_segment};
 ghost use Rattle.vl_sequential.specs.Stored.{IsStopped, IsStored};
 ghost use Rattle.vl_sequential.specs.declared.fails.Halt.TheVariants as halts;
@@ -97,6 +97,9 @@ pub(super) fn pick<D: Disk>(
     ensures passes { (s : State) → StandsPassing D.Watched D.Held.bytes served.old passing.old s → thing_of s.store name ≡ None
         → OnOk result (PassesIn D.Held.bytes served.new.engine.core served.new.engine.collecting passing.new
         (pick_as s.store name percent (thing_of s.store name)).state) }
+    ensures removes { (s : State) → StandsPassing D.Watched D.Held.bytes served.old passing.old s → thing_of s.store name ≡ None
+        → RemovesIn served.old s.store
+        → OnOk result (RemovesIn served.new (pick_as s.store name percent (thing_of s.store name)).state) }
     ensures carries { (s : State) → StandsPassing D.Watched D.Held.bytes served.old passing.old s → thing_of s.store name ≡ None
         → CarriesOut D.Watched IsStored Shown IsStopped served.old.engine.disk served.new.engine.disk s
         (state_by s (pick_as s.store name percent (thing_of s.store name))) result }
@@ -190,6 +193,8 @@ pub(super) fn move_batch<D: Disk>(
     ensures carries { (s : State) → StandsPassing D.Watched D.Held.bytes served.old passing.old s
         → CarriesOut D.Watched IsStored Shown IsStopped served.old.engine.disk served.new.engine.disk s
         (state_by s (move_by s.store name (thing_of s.store name))) result }
+    ensures removes { (s : State) → StandsPassing D.Watched D.Held.bytes served.old passing.old s → RemovesIn served.old s.store
+        → OnOk result (RemovesIn served.new (move_by s.store name (thing_of s.store name)).state) }
     ensures opens { (s : State) → StandsPassing D.Watched D.Held.bytes served.old passing.old s
         → OnOk result (Opens served.new.engine.merging (move_by s.store name (thing_of s.store name)).state.layout.job) }
     ensures sound { (s : State) → StandsPassing D.Watched D.Held.bytes served.old passing.old s → HaltsByRead result
@@ -260,6 +265,8 @@ pub(super) fn end<D: Disk>(
     ensures passes { (s : State) → StandsWith D.Watched D.Writer.Writer D.Held.bytes served.old planned.old passing.old s
         → PassesIn D.Held.bytes served.new.engine.core served.new.engine.collecting passing.new
         (drop_by s.store name (thing_of s.store name)).state }
+    ensures removes { (s : State) → StandsWith D.Watched D.Writer.Writer D.Held.bytes served.old planned.old passing.old s
+        → RemovesIn served.new (drop_by s.store name (thing_of s.store name)).state }
     ensures carries { (s : State) → StandsWith D.Watched D.Writer.Writer D.Held.bytes served.old planned.old passing.old s
         → CarriesOut D.Watched IsStored Shown IsStopped served.old.engine.disk served.new.engine.disk s
         (state_by s (drop_by s.store name (thing_of s.store name))) (Ok result) }

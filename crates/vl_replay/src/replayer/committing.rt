@@ -9,7 +9,7 @@ ghost use Rattle.vl_layout.specs.Store.Reading.{commit_by};
 ghost use Rattle.vl_layout.specs.Store.Things.{thing_of};
 ghost use Rattle.vl_sequential.specs.Durable.{CarriesOut};
 ghost use Rattle.vl_sequential.specs.Halts.{HaltsByDisk, HaltsByRead};
-ghost use Rattle.vl_replay.specs.Replaying.{MakesStep, ServesFor, state_by};
+ghost use Rattle.vl_replay.specs.Replaying.{MakesStep, RemovesIn, ServesFor, state_by};
 ghost use Rattle.vl_sequential.specs.Sequential.{State};
 ghost use Rattle.vl_sequential.specs.Stored.{IsStopped, IsStored};
 ghost use Rattle.vl_sequential.specs.declared.fails.Halt.TheVariants as halts;
@@ -35,6 +35,8 @@ impl<D: Disk> Served<D> {
         ensures cause { HasCause (D.faults self.old.engine.disk) (D.faults self.new.engine.disk) (HaltsByDisk result) }
         ensures named { (s : State) (file : Name) → ServesFor D.Watched D.Held.bytes self.old s
             → result ≡ Err (halts.Disk file) → file ≡ names.Log s.store.layout.active.number }
+        ensures removes { (s : State) → ServesFor D.Watched D.Held.bytes self.old s → RemovesIn self.old s.store
+            → OnOk result (RemovesIn self.new (commit_by s.store name (thing_of s.store name)).state) }
         ensures merging { self.new.engine.merging ≡ self.old.engine.merging }
         ensures collecting { self.new.engine.collecting ≡ self.old.engine.collecting }
         ensures logs { self.new.engine.core.version.behind.logs ≡ self.old.engine.core.version.behind.logs }

@@ -3,7 +3,7 @@ ghost use Rattle.std.specs.Prelude.{◌≡◌, Ok};
 ghost use Rattle.vl_layout.specs.Store.Dispatch.{drop_by};
 ghost use Rattle.vl_layout.specs.Store.Things.{thing_of};
 ghost use Rattle.vl_replay.specs.Passing.{NamesNoPass};
-ghost use Rattle.vl_replay.specs.Replaying.{MakesStep, NamesNoMerge, ServesFor};
+ghost use Rattle.vl_replay.specs.Replaying.{MakesStep, NamesNoMerge, RemovesIn, ServesFor};
 ghost use Rattle.vl_sequential.specs.Sequential.{State};
 
 use crate::replayer::Served;
@@ -18,6 +18,9 @@ impl<D: Disk> Served<D> {
             → NamesNoMerge name s → NamesNoPass name s
             → MakesStep D.Held.bytes (D.told self.new.engine.disk) self.new.engine.core self.new.opens.items s
             (drop_by s.store name (thing_of s.store name)) (Ok result) }
+        ensures removes { (s : State) → ServesFor D.Watched D.Held.bytes self.old s
+            → NamesNoMerge name s → NamesNoPass name s → RemovesIn self.old s.store
+            → RemovesIn self.new (drop_by s.store name (thing_of s.store name)).state }
         ensures disk { self.new.engine.disk ≡ self.old.engine.disk }
         ensures merging { self.new.engine.merging ≡ self.old.engine.merging }
         ensures collecting { self.new.engine.collecting ≡ self.old.engine.collecting }

@@ -11,7 +11,7 @@ ghost use Rattle.vl_sequential.specs.Failing.{FailsAt, ReaderFailed, ReadsTables
 ghost use Rattle.vl_sequential.specs.Halts.{HaltsByDamage, HaltsByDisk, HaltsByRead, HaltsByReader};
 ghost use Rattle.vl_replay.specs.Handed.{CanHandIn};
 ghost use Rattle.vl_replay.specs.Passing.{PassesIn, TellsUsed, name_made};
-ghost use Rattle.vl_replay.specs.Replaying.{MakesStep, MergesIn, StandsFor, StandsWith, TakesLines, disk_of};
+ghost use Rattle.vl_replay.specs.Replaying.{MakesStep, MergesIn, RemovesIn, StandsFor, StandsWith, TakesLines, disk_of};
 ghost use Rattle.vl_sequential.specs.Sequential.{IsTold, State, answer_to, state_after, step_to};
 ghost use Rattle.vl_replay.specs.Standing.{open_in};
 ghost use Rattle.vl_sequential.specs.Stored.{IsStopped, IsStored};
@@ -48,9 +48,9 @@ impl<D: Disk> Replayer<D> {
 
         // Over a disk that holds the state: where there is an answer it holds the state behind the line, in which a commit has
         // made two calls and its log is longer by a frame, a rotation three for a new log, a flush five for a table and a
-        // longer manifest, a plan or a drain one for each table, and an install two for a longer manifest. A move that moved
-        // something has made two, and the log that takes commits is longer by its frame. However the line ends, a store may be
-        // opened on the disk again.
+        // longer manifest, a plan or a drain one for each table, an install two for a longer manifest, and a sweep one for each
+        // file that it removed. A move that moved something has made two, and the log that takes commits is longer by its frame.
+        // However the line ends, a store may be opened on the disk again.
         ensures carries { TakesLines self.old → (s : State) → StandsFor D.Watched D.Writer.Writer D.Held.bytes self.old s
             → CarriesOut D.Watched IsStored Shown IsStopped (disk_of self.old) (disk_of self.new) s (state_after s line) result }
 
@@ -178,6 +178,8 @@ fn carry_out<D: Disk>(
         → OnOk result (MergesIn D.Writer.Writer D.Held.bytes served.new.engine.merging planned.new (step_to s line).state) }
     ensures passes { (s : State) → StandsWith D.Watched D.Writer.Writer D.Held.bytes served.old planned.old passing.old s
         → OnOk result (PassesIn D.Held.bytes served.new.engine.core served.new.engine.collecting passing.new (step_to s line).state) }
+    ensures removes { (s : State) → StandsWith D.Watched D.Writer.Writer D.Held.bytes served.old planned.old passing.old s
+        → OnOk result (RemovesIn served.new (step_to s line).state) }
     ensures carries { (s : State) → StandsWith D.Watched D.Writer.Writer D.Held.bytes served.old planned.old passing.old s
         → CarriesOut D.Watched IsStored Shown IsStopped served.old.engine.disk served.new.engine.disk s (state_after s line) result }
     ensures sound { (s : State) → StandsWith D.Watched D.Writer.Writer D.Held.bytes served.old planned.old passing.old s
@@ -223,6 +225,7 @@ fn carry_out<D: Disk>(
         Line::Plan { name } => plan(served, planned, Choice::Due, name),
         Line::Drain { name, segment } => plan(served, planned, Choice::LeadsInto(segment), name),
         Line::Install { name } => install(served, planned, name),
+        Line::Sweep => served.sweep(),
         Line::Stats => stats(served),
         Line::Pick { name, percent } => pick(served, passing, name, percent),
         Line::Batch { name } => batch(served, passing, name),

@@ -11,6 +11,7 @@ ghost use Rattle.vl_core.specs.Represents.{Represents};
 ghost use Rattle.vl_core.specs.Shown.{Shown};
 ghost use Rattle.vl_engine.specs.Collecting.{Collects};
 ghost use Rattle.vl_engine.specs.Merging.{FitsReaders, HasMerge, OpensMerge, StandsOpen, plan_outcome};
+ghost use Rattle.vl_engine.specs.Removing.{Removes};
 ghost use Rattle.vl_layout.specs.Decides.{Decides, as_before, no_effects};
 ghost use Rattle.vl_layout.specs.Store.Dispatch.{drop_by};
 ghost use Rattle.vl_layout.specs.Store.Things.{thing_of};
@@ -22,7 +23,7 @@ ghost use Rattle.vl_sequential.specs.Failing.{FailsAt, HasTables, ReaderFailed, 
 ghost use Rattle.vl_sequential.specs.Halts.{HaltsByDamage, HaltsByDisk, HaltsByRead, HaltsByReader};
 ghost use Rattle.vl_replay.specs.Handed.{CanHandIn};
 ghost use Rattle.vl_replay.specs.Passing.{NamesNoPass};
-ghost use Rattle.vl_replay.specs.Replaying.{MakesStep, MergesIn, StandsMerging, TakesPlanned, state_by};
+ghost use Rattle.vl_replay.specs.Replaying.{MakesStep, MergesIn, RemovesIn, StandsMerging, TakesPlanned, state_by};
 ghost use Rattle.vl_sequential.specs.Sequential.{State, state_after, step_to};
 ghost use Rattle.vl_sequential.specs.Stored.{IsStopped, IsStored};
 ghost use Rattle.vl_sequential.specs.declared.fails.Halt.TheVariants as halts;
@@ -77,6 +78,8 @@ pub(super) fn end<D: Disk>(
         (drop_by s.store name (thing_of s.store name)) (Ok result) }
     ensures merges { (s : State) → StandsMerging D.Watched D.Writer.Writer D.Held.bytes served.old planned.old s → NamesNoPass name s
         → MergesIn D.Writer.Writer D.Held.bytes served.new.engine.merging planned.new (drop_by s.store name (thing_of s.store name)).state }
+    ensures removes { (s : State) → StandsMerging D.Watched D.Writer.Writer D.Held.bytes served.old planned.old s → NamesNoPass name s
+        → RemovesIn served.old s.store → RemovesIn served.new (drop_by s.store name (thing_of s.store name)).state }
     ensures carries { (s : State) → StandsMerging D.Watched D.Writer.Writer D.Held.bytes served.old planned.old s → NamesNoPass name s
         → CarriesOut D.Watched IsStored Shown IsStopped served.old.engine.disk served.new.engine.disk s
         (state_by s (drop_by s.store name (thing_of s.store name))) (Ok result) }
@@ -116,6 +119,9 @@ pub(super) fn plan<D: Disk>(
         → thing_of s.store name ≡ None
         → CarriesOut D.Watched IsStored Shown IsStopped served.old.engine.disk served.new.engine.disk s
         (state_after s (line_for choice name)) result }
+    ensures removes { (s : State) → StandsMerging D.Watched D.Writer.Writer D.Held.bytes served.old planned.old s
+        → thing_of s.store name ≡ None → RemovesIn served.old s.store
+        → OnOk result (RemovesIn served.new (step_to s (line_for choice name)).state) }
     // A read, or a write beside the disk, fails only where tables are merged. What it reads isn't damaged.
     ensures sound { (s : State) → StandsMerging D.Watched D.Writer.Writer D.Held.bytes served.old planned.old s
         → thing_of s.store name ≡ None
@@ -173,6 +179,10 @@ fn choose<D: Disk>(
         → Fits (D.told engine.old.disk) engine.old.core h l
         → Decides (Fits (D.told engine.new.disk) engine.new.core) h l (chosen choice l h) (as_before l l)
         (plan_outcome (chosen choice l h).answer result) no_effects }
+    ensures removes { (h : History) (l : Layout) → StandsOpen D.Held.bytes engine.old.core engine.old.merging h l
+        → Removes engine.old.core engine.old.removing l
+        → Decides (λ _ l. Removes engine.new.core engine.new.removing l) h l (chosen choice l h) (as_before l l)
+        (plan_outcome (chosen choice l h).answer result) no_effects }
     ensures job { (h : History) (l : Layout) → StandsOpen D.Held.bytes engine.old.core engine.old.merging h l
         → IfOk result (λ job. AreBoth (HasMerge D.Writer.Writer D.Held.bytes) job (chosen choice l h).answer) }
     ensures new { IfOk result (λ job. ForSome job IsNew) }
@@ -211,6 +221,9 @@ pub(super) fn install<D: Disk>(
     ensures collects { (s : State) → StandsMerging D.Watched D.Writer.Writer D.Held.bytes served.old planned.old s
         → Collects served.old.engine.core served.old.engine.collecting s.store.layout
         → OnOk result (Collects served.new.engine.core served.new.engine.collecting (step_to s (lines.Install name)).state.layout) }
+    ensures removes { (s : State) → StandsMerging D.Watched D.Writer.Writer D.Held.bytes served.old planned.old s
+        → Collects served.old.engine.core served.old.engine.collecting s.store.layout → RemovesIn served.old s.store
+        → OnOk result (RemovesIn served.new (step_to s (lines.Install name)).state) }
     ensures handed { OnOk result (CanHandIn D.Watched D.Writer.Writer served.new.engine.disk served.new.engine.merging planned.new) }
 {
     let Some(job) = take_planned(planned, name.as_slice()) else {

@@ -12,7 +12,7 @@ ghost use Rattle.vl_layout.specs.Rulings.Rotate.{rotate_ruling};
 ghost use Rattle.vl_layout.specs.Store.Dispatch.{keep_by, step_by};
 ghost use Rattle.vl_sequential.specs.Durable.{CarriesOut};
 ghost use Rattle.vl_sequential.specs.Halts.{HaltsByDisk, HaltsByRead};
-ghost use Rattle.vl_replay.specs.Replaying.{MakesStep, ServesFor, state_by, state_by_step};
+ghost use Rattle.vl_replay.specs.Replaying.{MakesStep, RemovesIn, ServesFor, StandsRemoving, state_by, state_by_step};
 ghost use Rattle.vl_sequential.specs.Sequential.{State, history_of};
 ghost use Rattle.vl_replay.specs.Standing.{told_keep, told_step};
 ghost use Rattle.vl_sequential.specs.Stored.{IsStopped, IsStored};
@@ -42,6 +42,8 @@ impl<D: Disk> Served<D> {
         ensures collects { (s : State) → ServesFor D.Watched D.Held.bytes self.old s
             → Collects self.old.engine.core self.old.engine.collecting s.store.layout
             → OnOk result (Collects self.new.engine.core self.new.engine.collecting (rotate_ruling s.store.layout (history_of s)).layout) }
+        ensures removes { (s : State) → StandsRemoving D.Watched D.Held.bytes self.old s
+            → OnOk result (RemovesIn self.new (step_by s.store (rotate_ruling s.store.layout (history_of s))).state) }
         ensures untold { OnOk result (StaysUntold (D.told self.old.engine.disk) (D.told self.new.engine.disk)) }
     {
         told(self.engine.rotate())
@@ -65,6 +67,9 @@ impl<D: Disk> Served<D> {
         ensures collects { (s : State) → ServesFor D.Watched D.Held.bytes self.old s
             → Collects self.old.engine.core self.old.engine.collecting s.store.layout
             → OnOk result (Collects self.new.engine.core self.new.engine.collecting (flush_ruling s.store.layout (history_of s)).layout) }
+        ensures removes { (s : State) → StandsRemoving D.Watched D.Held.bytes self.old s
+            → Collects self.old.engine.core self.old.engine.collecting s.store.layout
+            → OnOk result (RemovesIn self.new (step_by s.store (flush_ruling s.store.layout (history_of s))).state) }
         ensures untold { OnOk result (StaysUntold (D.told self.old.engine.disk) (D.told self.new.engine.disk)) }
     {
         told(self.engine.flush())
@@ -83,6 +88,8 @@ impl<D: Disk> Served<D> {
         ensures named { (file : Name) → result ≡ Err (halts.Disk file)
             → file ≡ names.Manifest self.old.engine.core.back.manifest.number }
         ensures merging { self.new.engine.merging ≡ self.old.engine.merging }
+        ensures removes { (s : State) → ServesFor D.Watched D.Held.bytes self.old s → RemovesIn self.old s.store
+            → OnOk result (RemovesIn self.new (keep_by s.store (keep_ruling s.store.layout (history_of s) versions)).state) }
         ensures collecting { self.new.engine.collecting ≡ self.old.engine.collecting }
         ensures logs { self.new.engine.core.version.behind.logs ≡ self.old.engine.core.version.behind.logs }
         ensures untold { OnOk result (StaysUntold (D.told self.old.engine.disk) (D.told self.new.engine.disk)) }

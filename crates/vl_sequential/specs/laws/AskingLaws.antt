@@ -13,7 +13,7 @@ use Rattle.vl_script.specs.Numbers.{number_of}
 use Rattle.vl_script.specs.declared.line.Line.{Line}
 use Rattle.vl_script.specs.declared.line.Line.TheVariants.{Begin, View, Get, Set, SetTagged, GetTagged, GetAt, Scan}
 use Rattle.vl_script.specs.declared.line.Line.TheVariants.{Delete, Commit, Drop, Rotate, Flush, Keep, Plan, Drain, Install}
-use Rattle.vl_script.specs.declared.line.Line.TheVariants.{Stats, Pick, Batch, Move}
+use Rattle.vl_script.specs.declared.line.Line.TheVariants.{Sweep, Stats, Pick, Batch, Move}
 
 -- the line asks for one, where there is a line
 record Asks (o : Option Line) : Type 0 where
@@ -97,10 +97,11 @@ asks_in (command ∷ words) =
     (either (bytes_eq command (codes "plan")) _ _ (mapped (ident_alone words) Plan (λ w. tt))
     (either (bytes_eq command (codes "drain")) _ _ (mapped (ident_and_number 4294967295 words) (λ w. Drain w.0 w.1) (λ w. tt))
     (either (bytes_eq command (codes "install")) _ _ (mapped (ident_alone words) Install (λ w. tt))
+    (either (bytes_eq command (codes "sweep")) _ _ (alones Sweep tt words)
     (either (bytes_eq command (codes "stats")) _ _ (alones Stats tt words)
     (either (bytes_eq command (codes "pick")) _ _ (mapped (ident_and_number 255 words) (λ w. Pick w.0 w.1) (λ w. tt))
     (either (bytes_eq command (codes "batch")) _ _ (mapped (ident_alone words) Batch (λ w. tt))
-    (either (bytes_eq command (codes "move")) _ _ (mapped (ident_alone words) Move (λ w. tt)) none)))))))))))))))))))))
+    (either (bytes_eq command (codes "move")) _ _ (mapped (ident_alone words) Move (λ w. tt)) none))))))))))))))))))))))
 
 pub line_asks : (text : List ℕ) (line : Line) → line_of text ≡ Some line → AsksForRow line
 line_asks text line is =

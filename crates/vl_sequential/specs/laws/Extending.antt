@@ -27,7 +27,7 @@ use Rattle.vl_script.specs.declared.answer.Answer.TheVariants as answers
 use Rattle.vl_script.specs.declared.line.Line.{Line}
 use Rattle.vl_script.specs.declared.line.Line.TheVariants.{Begin, View, Get, Set, SetTagged, GetTagged, GetAt, Scan}
 use Rattle.vl_script.specs.declared.line.Line.TheVariants.{Delete, Commit, Drop, Rotate, Flush, Keep, Plan, Drain, Install}
-use Rattle.vl_script.specs.declared.line.Line.TheVariants.{Stats, Pick, Batch, Move}
+use Rattle.vl_script.specs.declared.line.Line.TheVariants.{Sweep, Stats, Pick, Batch, Move}
 use Rattle.vl_sequential.specs.laws.Betweens.{extends_itself}
 
 -- ---- commits
@@ -63,6 +63,7 @@ line_adds s (Plan name) = inl (plan_commits s.store name (plan_ruling s.store.la
 line_adds s (Drain name segment) =
     inl (plan_commits s.store name (drain_ruling s.store.layout (history_of s) segment) (thing_of s.store name))
 line_adds s (Install name) = inl (install_commits s.store name (thing_of s.store name))
+line_adds s Sweep = inl refl
 line_adds s Stats = inl refl
 line_adds s (Pick name percent) = inl (pick_commits s.store name percent (thing_of s.store name))
 line_adds s (Batch name) = inl (batch_keeps s.store name (thing_of s.store name)).commits
@@ -136,6 +137,7 @@ told_text answers.NoRewrite = refl
 told_text (answers.FoundRecords count) = refl
 told_text answers.End = refl
 told_text (answers.Moved count) = refl
+told_text (answers.Removed count) = refl
 told_text (answers.Segments segments) = ap segments_text (segments_alike segments.items)
 
 -- the lengths of a log aren't printed
@@ -177,6 +179,7 @@ told_number told answer n is number = of told (is ∙ ap without_lengths number)
     of (answers.FoundRecords count) e = absurd cc
     of answers.End e = absurd cc
     of (answers.Moved count) e = absurd cc
+    of (answers.Removed count) e = absurd cc
     of (answers.Segments segments) e = absurd cc
 
 -- And what is told by `ok` is that.
@@ -208,6 +211,7 @@ told_done told answer is done = of told (is ∙ ap without_lengths done)
     of (answers.FoundRecords count) e = absurd cc
     of answers.End e = absurd cc
     of (answers.Moved count) e = absurd cc
+    of (answers.Removed count) e = absurd cc
     of (answers.Segments segments) e = absurd cc
 
 -- So it is with how many records were moved.
@@ -240,4 +244,38 @@ told_moved told answer n is moved = of told (is ∙ ap without_lengths moved)
     of answers.NoRewrite e = absurd cc
     of (answers.FoundRecords count) e = absurd cc
     of answers.End e = absurd cc
+    of (answers.Removed count) e = absurd cc
+    of (answers.Segments segments) e = absurd cc
+
+-- So it is with how many files were removed.
+pub told_removed : (told : Answer) (answer : store.Answer) (n : ℕ) → IsTold told answer → answer ≡ store.Removed n
+    → told ≡ answers.Removed n
+told_removed told answer n is removed = of told (is ∙ ap without_lengths removed)
+  where
+    of : (told : Answer) → as_told told ≡ store.Removed n → told ≡ answers.Removed n
+    of (answers.Removed m) e = cc
+    of answers.Done e = absurd cc
+    of (answers.Number m) e = absurd cc
+    of (answers.Found value) e = absurd cc
+    of (answers.FoundTagged value) e = absurd cc
+    of answers.NoValue e = absurd cc
+    of (answers.Dropped least) e = absurd cc
+    of (answers.Rows rows) e = absurd cc
+    of (answers.Taken name) e = absurd cc
+    of (answers.Unknown name) e = absurd cc
+    of answers.ReadOnly e = absurd cc
+    of answers.Invalid e = absurd cc
+    of answers.TooBig e = absurd cc
+    of answers.TooMany e = absurd cc
+    of answers.Nothing e = absurd cc
+    of (answers.Conflict key number) e = absurd cc
+    of answers.Full e = absurd cc
+    of answers.Idle e = absurd cc
+    of (answers.Exhausted counter) e = absurd cc
+    of (answers.Raced key) e = absurd cc
+    of (answers.Rejected segment) e = absurd cc
+    of answers.NoRewrite e = absurd cc
+    of (answers.FoundRecords count) e = absurd cc
+    of answers.End e = absurd cc
+    of (answers.Moved count) e = absurd cc
     of (answers.Segments segments) e = absurd cc

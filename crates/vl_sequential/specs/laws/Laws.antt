@@ -35,7 +35,7 @@ use Rattle.vl_script.specs.Script.{line_of}
 use Rattle.vl_script.specs.declared.line.Line.{Line}
 use Rattle.vl_script.specs.declared.line.Line.TheVariants.{Begin, View, Get, Set, SetTagged, GetTagged, Scan, Delete}
 use Rattle.vl_script.specs.declared.line.Line.TheVariants.{Commit, Drop, Rotate, Flush, Keep, GetAt, Plan, Drain, Install}
-use Rattle.vl_script.specs.declared.line.Line.TheVariants.{Stats, Pick, Batch, Move}
+use Rattle.vl_script.specs.declared.line.Line.TheVariants.{Sweep, Stats, Pick, Batch, Move}
 
 -- ---- what a line leaves
 
@@ -67,6 +67,7 @@ IsStepLine (Keep versions) = Unit {0}
 IsStepLine (Plan name) = Unit {0}
 IsStepLine (Drain name segment) = Unit {0}
 IsStepLine (Install name) = Unit {0}
+IsStepLine Sweep = Unit {0}
 IsStepLine Stats = ⊥
 IsStepLine (Pick name percent) = Unit {0}
 IsStepLine (Batch name) = ⊥
@@ -115,6 +116,7 @@ keeps_or s (Install name) sound = inr (inr (record {
   ended = λ other same. absurd cc;
 }))
 keeps_or s (GetAt name key number) sound = inl (get_at_keeps s.store name key number (thing_of s.store name))
+keeps_or s Sweep sound = inr (inr (record { is = tt; commits = refl; ended = λ name same. absurd cc }))
 keeps_or s Stats sound = inl (stats_keeps s.store (Segments (stats_ruling s.store.layout (history_of s)).answer))
 keeps_or s (Pick name percent) sound = inr (inr (record {
   is = tt;
@@ -193,6 +195,7 @@ state_after-sound s (Drain name segment) sound =
 state_after-sound s (Install name) sound = stays_sound s (Install name) sound (install_stays s.store sound name (thing_of s.store name))
 state_after-sound s (GetAt name key number) sound =
     stays_sound s (GetAt name key number) sound (get_at_stays s.store sound name key number (thing_of s.store name))
+state_after-sound s Sweep sound = kept_sound s Sweep sound refl sound.things
 state_after-sound s Stats sound = kept_sound s Stats sound refl sound.things
 state_after-sound s (Pick name percent) sound =
     stays_sound s (Pick name percent) sound (pick_stays s.store sound name percent (thing_of s.store name))
@@ -245,6 +248,7 @@ exchange_explained stay s (Keep versions) sound = other_keeps s (Keep versions) 
 exchange_explained stay s (Plan name) sound = other_keeps s (Plan name) sound (λ other is. cc)
 exchange_explained stay s (Drain name segment) sound = other_keeps s (Drain name segment) sound (λ other is. cc)
 exchange_explained stay s (Install name) sound = other_keeps s (Install name) sound (λ other is. cc)
+exchange_explained stay s Sweep sound = other_keeps s Sweep sound (λ other is. cc)
 exchange_explained stay s Stats sound = other_keeps s Stats sound (λ other is. cc)
 exchange_explained stay s (Pick name percent) sound = other_keeps s (Pick name percent) sound (λ other is. cc)
 exchange_explained stay s (Batch name) sound = other_keeps s (Batch name) sound (λ other is. cc)

@@ -1,5 +1,5 @@
--- A line that is told neither a number nor `ok`, nor that records were moved, leaves the layout as it is, but for what lives and for
--- merges that were given up.
+-- A line that is told neither a number nor `ok`, nor that records were moved or files removed, leaves the layout as it is, but for
+-- what lives and for merges that were given up.
 use Rattle.std.proofs.Common.{◌≡◌, inl, inr, ℕ, ◌+◌, Bool, true, false, cond, List, [], ◌∷◌, ◌++◌, refl, ap, ◌∙◌}
 use Rattle.std.specs.List.{filter}
 use Rattle.std.specs.Prelude.{◌==◌, ◌||◌, nat_lt, Option, None, Some}
@@ -19,10 +19,11 @@ use Rattle.vl_layout.specs.Rulings.Flush.{flush_of, flush_unless, flushed}
 use Rattle.vl_layout.specs.Rulings.Rotate.{rotate_of, rotate_unless, rotated}
 use Rattle.vl_layout.specs.Rulings.Keep as keep
 use Rattle.vl_layout.specs.Rulings.Keep.{KeepAnswer, keep_unless}
+use Rattle.vl_layout.specs.Rulings.Sweep.{sweep_ruling, sweep_unless}
 use Rattle.vl_layout.specs.Sources.{numbers_of, oldest, tables}
 use Rattle.vl_layout.specs.Store.Commits.{history_in}
 use Rattle.vl_layout.specs.Store.Dispatch.{fill, filled, install_by, install_told, keep_told, made_of, move_by, moved_by}
-use Rattle.vl_layout.specs.Store.Dispatch.{pick_as, picked_by, plan_as, planned_by, step_told}
+use Rattle.vl_layout.specs.Store.Dispatch.{pick_as, picked_by, plan_as, planned_by, step_told, sweep_told}
 use Rattle.vl_layout.specs.Relocation.{Pass}
 use Rattle.vl_layout.specs.Rulings.Pick as pick
 use Rattle.vl_layout.specs.Rulings.Pick.{PickAnswer, pick_ruling}
@@ -48,7 +49,7 @@ use Rattle.vl_sequential.specs.laws.Laws.{IsSound, Stepping, keeps_or}
 use Rattle.vl_script.specs.declared.line.Line.{Line}
 use Rattle.vl_script.specs.declared.line.Line.TheVariants.{Begin, View, Get, Set, SetTagged, GetTagged, GetAt, Scan}
 use Rattle.vl_script.specs.declared.line.Line.TheVariants.{Delete, Commit, Drop, Rotate, Flush, Keep, Plan, Drain, Install}
-use Rattle.vl_script.specs.declared.line.Line.TheVariants.{Stats, Pick, Batch, Move}
+use Rattle.vl_script.specs.declared.line.Line.TheVariants.{Sweep, Stats, Pick, Batch, Move}
 
 -- the ruling on a step leaves the layout unless it is answered by a number
 record Stays (l : Layout) (r : Ruling StepAnswer) : Type 0 where
@@ -100,6 +101,16 @@ module _ (l : Layout) (h : History) (v : ℕ) where
   keep_stays (Some file) = kept_left (keep.Halted file)
   keep_stays None = one ((v == 0) || nat_lt 16 v) _ _ (kept_left keep.InvalidRequest)
       (one (v == l.keep) _ _ (kept_left keep.Kept) (record { stays = λ none. absurd (none refl) }))
+
+-- and with a sweep, unless it is told how many files it removed
+sweep_stays : (l : Layout) (h : History) → ((n : ℕ) → sweep_told (sweep_ruling l h).answer ≡ store.Removed n → ⊥)
+    → (sweep_ruling l h).layout ≡ l
+sweep_stays l h = of l.halted
+  where
+    of : (halted : Option FileName) → ((n : ℕ) → sweep_told (sweep_unless halted None l h).answer ≡ store.Removed n → ⊥)
+        → (sweep_unless halted None l h).layout ≡ l
+    of (Some file) none = refl
+    of None none = absurd (none _ refl)
 
 -- ---- merges that end without their tables
 
@@ -260,11 +271,12 @@ module _ (s : things.State) where
 
 pub layout_stays : (s : State) (line : Line) → IsSound s → ((n : ℕ) → answer_to s line ≡ store.Number n → ⊥)
     → (answer_to s line ≡ store.Done → ⊥) → ((n : ℕ) → answer_to s line ≡ store.Moved n → ⊥)
+    → ((n : ℕ) → answer_to s line ≡ store.Removed n → ⊥)
     → without_merges (state_after s line).store.layout ≡ without_merges s.store.layout
-layout_stays s line sound none undone unmoved = elim (keeps_or s line sound) [
+layout_stays s line sound none undone unmoved unremoved = elim (keeps_or s line sound) [
   | inl keeps ↦ ap without_merges keeps.layout
   | inr (inl (t, b, name, is, thing, adds)) ↦ absurd (none _ adds.answer)
-  | inr (inr steps) ↦ of_step line steps none undone unmoved
+  | inr (inr steps) ↦ of_step line steps none undone unmoved unremoved
 ]
   where
     l : Layout
@@ -272,7 +284,7 @@ layout_stays s line sound none undone unmoved = elim (keeps_or s line sound) [
 
     Still : Line → Type 0
     Still other = ((n : ℕ) → answer_to s other ≡ store.Number n → ⊥) → (answer_to s other ≡ store.Done → ⊥)
-        → ((n : ℕ) → answer_to s other ≡ store.Moved n → ⊥)
+        → ((n : ℕ) → answer_to s other ≡ store.Moved n → ⊥) → ((n : ℕ) → answer_to s other ≡ store.Removed n → ⊥)
         → without_merges (state_after s other).store.layout ≡ without_merges s.store.layout
 
     of_step : (other : Line) → Stepping s other → Still other
@@ -286,17 +298,19 @@ layout_stays s line sound none undone unmoved = elim (keeps_or s line sound) [
     of_step (SetTagged name key value tag) steps = absurd steps.is
     of_step (Delete name key) steps = absurd steps.is
     of_step (Commit name) steps = absurd steps.is
-    of_step (Drop name) steps = λ none undone unmoved. absurd (undone (steps.ended name refl))
-    of_step Rotate steps = λ none undone unmoved. ap without_merges ((rotate_stays l (history_of s) l.halted).stays none)
-    of_step Flush steps = λ none undone unmoved. ap without_merges ((flush_stays l (history_of s) l.halted).stays none)
-    of_step (Keep versions) steps = λ none undone unmoved. ap without_merges ((keep_stays l (history_of s) versions l.halted).stays undone)
-    of_step (Plan name) steps = λ none undone unmoved. plan_stays s.store name (plan_ruling l (history_of s)) (thing_of s.store name)
-        (plan_begins s.store) (λ n is. none _ (ap counted is))
-    of_step (Drain name segment) steps = λ none undone unmoved. plan_stays s.store name (drain_ruling l (history_of s) segment)
+    of_step (Drop name) steps = λ none undone unmoved unremoved. absurd (undone (steps.ended name refl))
+    of_step Rotate steps = λ none undone unmoved unremoved. ap without_merges ((rotate_stays l (history_of s) l.halted).stays none)
+    of_step Flush steps = λ none undone unmoved unremoved. ap without_merges ((flush_stays l (history_of s) l.halted).stays none)
+    of_step (Keep versions) steps = λ none undone unmoved unremoved. ap without_merges
+        ((keep_stays l (history_of s) versions l.halted).stays undone)
+    of_step (Plan name) steps = λ none undone unmoved unremoved. plan_stays s.store name (plan_ruling l (history_of s))
+        (thing_of s.store name) (plan_begins s.store) (λ n is. none _ (ap counted is))
+    of_step (Drain name segment) steps = λ none undone unmoved unremoved. plan_stays s.store name (drain_ruling l (history_of s) segment)
         (thing_of s.store name) (drain_begins s.store segment) (λ n is. none _ (ap counted is))
-    of_step (Install name) steps = λ none undone unmoved. install_stays s.store name (thing_of s.store name) undone
+    of_step (Install name) steps = λ none undone unmoved unremoved. install_stays s.store name (thing_of s.store name) undone
+    of_step Sweep steps = λ none undone unmoved unremoved. ap without_merges (sweep_stays l (history_of s) unremoved)
     of_step Stats steps = absurd steps.is
-    of_step (Pick name percent) steps = λ none undone unmoved. ap without_merges
+    of_step (Pick name percent) steps = λ none undone unmoved unremoved. ap without_merges
         (pick_stays s.store name percent (thing_of s.store name) none)
     of_step (Batch name) steps = absurd steps.is
-    of_step (Move name) steps = λ none undone unmoved. ap without_merges (move_stays s.store name (thing_of s.store name) unmoved)
+    of_step (Move name) steps = λ none undone unmoved unremoved. ap without_merges (move_stays s.store name (thing_of s.store name) unmoved)

@@ -36,7 +36,8 @@ use Rattle.vl_recover.specs.laws.crash.AppendLaws.{last_held, manifest_kept, nee
 use Rattle.vl_recover.specs.crash.Alike.{IsLeft, Spells}
 use Rattle.vl_recover.specs.crash.Held.{GoOn, HoldsStore, View, log_as_held, opening_held}
 use Rattle.vl_recover.specs.laws.opening.HeldLaws.{held_current, held_opens, held_says, needs_image, needs_led}
-use Rattle.vl_recover.specs.opening.Opening.{IsAmong, Led, Opening, Opens, Refusal, StandingLogs, led_into}
+use Rattle.vl_recover.specs.opening.Opening.{IsAmong, Led, Opening, Opens, Refusal, led_into}
+use Rattle.vl_recover.specs.laws.opening.IdleLaws.{StandAmongIdle, idle_filled, idle_walked}
 use Rattle.vl_recover.specs.laws.opening.OpeningLaws.{is_opened, single_opening, some_none}
 use Rattle.vl_recover.specs.laws.repairing.StageLaws.{ok_same}
 use Rattle.vl_recover.specs.laws.crash.TornFrames.{frame_behind, torn_log}
@@ -124,7 +125,7 @@ module _ (state : ManifestState) (view : View) (before : List Segment) (last : S
       let found = standing_log last.number (log ++ take k frame)
       (record { header = Some last.format; frames = last.frames; whole = says.0 }) in
       let logs = map log_as_held before ++ found ∷ [] in
-      let standing : StandingLogs image state.head logs =
+      let among : StandAmongIdle image state.head logs =
       standing_with last disk (torn taken) image elsewhere may (log ++ take k frame) found.reading is says.1 state.head
       before holds.logs_are in
       let split = map-append log_as_held before (last ∷ []) in
@@ -140,10 +141,10 @@ module _ (state : ManifestState) (view : View) (before : List Segment) (last : S
         says = held_says state (torn taken) held;
         levels = needs_image state view (torn taken) image needs may;
         led = needs_led state view (torn taken) image needs may;
-        standing = logs;
-        stands = standing;
-        walk = walk;
-        logs_are = sym filled_same;
+        standing = among.found;
+        stands = among.stand;
+        walk = idle_walked state.covered among.found logs among.with_idle ∙ walk;
+        logs_are = sym (idle_filled among.found logs among.with_idle ∙ filled_same);
       })
 
   -- the log with so many bytes of what it took

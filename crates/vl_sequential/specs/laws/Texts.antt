@@ -8,7 +8,7 @@ use Rattle.vl_io.specs.declared.sink.Sink as sink
 use Rattle.vl_layout.specs.Store.Lines as store
 use Rattle.vl_sequential.specs.laws.Laws.{IsSound}
 use Rattle.vl_script.specs.declared.answer.Answer.{Answer}
-use Rattle.vl_script.specs.declared.answer.Answer.TheVariants.{Done, Moved, Number}
+use Rattle.vl_script.specs.declared.answer.Answer.TheVariants.{Done, Moved, Number, Removed}
 use Rattle.vl_script.specs.declared.line.Line.{Line}
 use Rattle.vl_script.specs.Script.{line_of}
 use Rattle.vl_sequential.specs.Sequential.{State, answer_to, state_after, history_of, IsTold}
@@ -29,7 +29,7 @@ use Rattle.vl_sequential.specs.laws.Ends.{at_fault, or_cut}
 use Rattle.vl_sequential.specs.laws.DiskSteps.{IsWatched, text_extends, rests_until, it_holds, its_commits, opens_again}
 use Rattle.vl_sequential.specs.laws.DiskSteps.{ends_within, ends_unchanged}
 use Rattle.vl_sequential.specs.laws.ShownDisk.{shown_stays, stored_exactly}
-use Rattle.vl_sequential.specs.laws.Extending.{line_keeps, told_done, told_moved, told_number}
+use Rattle.vl_sequential.specs.laws.Extending.{line_keeps, told_done, told_moved, told_number, told_removed}
 use Rattle.vl_sequential.specs.laws.Staying.{layout_stays}
 
 -- ---- results
@@ -172,14 +172,16 @@ module _ {D : Type 0} (g : Ghosts D) (watched : IsWatched g) (s : State) (text :
     -- the answer to a line that makes no call found no memory
     pub kept_without_number : (line : Line) (answer : Answer) → IsSound s → IsTold answer (answer_to s line)
         → ((n : ℕ) → answer ≡ Number n → ⊥) → (answer ≡ Done → ⊥) → ((n : ℕ) → answer ≡ Moved n → ⊥)
+        → ((n : ℕ) → answer ≡ Removed n → ⊥)
         → HoldsState g IsStored (state_after s line) new
         → HoldsCommits g IsStored s new
-    kept_without_number line answer sound is none undone unmoved held = (
+    kept_without_number line answer sound is none undone unmoved unremoved held = (
       state_after s line,
       line_keeps s line unnumbered,
       layout_stays s line sound unnumbered
           (λ done. undone (told_done answer (answer_to s line) is done))
-          (λ n moved. unmoved n (told_moved answer (answer_to s line) n is moved)),
+          (λ n moved. unmoved n (told_moved answer (answer_to s line) n is moved))
+          (λ n removed. unremoved n (told_removed answer (answer_to s line) n is removed)),
       held.there,
     )
       where

@@ -228,6 +228,7 @@ module _ (stop : ℕ) (small : stop < 2 ^ 64 - 1) where
   few_after s (lines.Install name) few within passes = few_kept s.files s.calls (step_to s (lines.Install name)).calls few within
   few_after s (lines.GetAt name key number) few within passes =
       few_kept s.files s.calls (step_to s (lines.GetAt name key number)).calls few within
+  few_after s lines.Sweep few within passes = few_kept s.files s.calls (step_to s lines.Sweep).calls few within
   few_after s lines.Stats few within passes = few_kept s.files s.calls (step_to s lines.Stats).calls few within
   few_after s (lines.Pick name percent) few within passes = few_kept s.files s.calls (step_to s (lines.Pick name percent)).calls few within
   few_after s (lines.Batch name) few within passes = few_kept s.files s.calls (step_to s (lines.Batch name)).calls few within

@@ -82,6 +82,9 @@ returns-in_err-print_answer-clause-carries g c s stands held =
     (λ count is_moved. ok_not_err c.print_answer.result
     (c.print_answer.ensures.room_for_moved count is_moved
     (omega (arith, ap length c.in_ok-out.ensures.items, c.in_ok-out.ensures.capacity))) (ap is_err c.in_err-print_answer.was))
+    (λ count is_removed. ok_not_err c.print_answer.result
+    (c.print_answer.ensures.room_for_removed count is_removed
+    (omega (arith, ap length c.in_ok-out.ensures.items, c.in_ok-out.ensures.capacity))) (ap is_err c.in_err-print_answer.was))
     (of_ok c.line.result _ ok carried.answered))
 
 pub returns-clause-carries : goal.returns-clause-carries

@@ -4,6 +4,8 @@ use Rattle.vl_replay.proofs.CarryingJob.{filling_failed, fits_kept, fits_same, f
 use Rattle.vl_replay.proofs.CarryingJob.{one_lent, reading_failed, refused_under_way, sound_filling, sound_reading, still_lent}
 use Rattle.vl_replay.proofs.CarryingJob.{unlent_tells}
 use Rattle.vl_replay.proofs.CarryingRounds.{ended, filled, is_fresh, unfilled, unlent, unread}
+use Rattle.vl_engine.specs.Removing.{Removes}
+use Rattle.vl_replay.proofs.CarryingRemoved.{lent_leaves, unlent_leaves}
 use Rattle.vl_replay.proofs.carrying.make_table.Goals as goal
 
 -- ---- it has all of its tables
@@ -192,3 +194,20 @@ pub returns-in-Err-fill-clause-fault : goal.returns-in-Err-fill-clause-fault
 returns-in-Err-fill-clause-fault g c running by =
     filling_failed g.D.Reader.Reader.faults g.D.Writer.Writer c.ready.new.reader c.fill.new.reader Round _ _ c.in-Ok.file c.fresh.new.job
     c.fill.new.self c.in-Err-fill.fault c.in-Err-fill.ensures.cause (rw c.halt_at-in-Err-fill.ensures at by)
+
+-- ---- what the engine keeps of which files can go
+
+pub returns-in-Err-fresh-clause-removes : goal.returns-in-Err-fresh-clause-removes
+returns-in-Err-fresh-clause-removes g c s j way removes =
+    let new = c.fresh.new.self in
+    rw c.refused.ensures (unlent_leaves s.store.layout (history_of s) (Removes new.core new.removing) _ _ _
+    g.D.Writer.Writer c.in-Err-fresh.fail
+    (c.in-Err-fresh.ensures.removes (history_of s) s.store.layout
+    (record { stands = way.serves.stands; opens = way.serves.opens }) (λ running. (way.serves.fits.running running).numbers) removes))
+
+pub returns-in-Ok-fill-clause-removes : goal.returns-in-Ok-fill-clause-removes
+returns-in-Ok-fill-clause-removes g c s j way removes =
+    let new = c.fresh.new.self in
+    lent_leaves s.store.layout (history_of s) (Removes new.core new.removing) _ _ c.in-Ok.file
+    (c.in-Ok.ensures.removes (history_of s) s.store.layout
+    (record { stands = way.serves.stands; opens = way.serves.opens }) (λ running. (way.serves.fits.running running).numbers) removes)

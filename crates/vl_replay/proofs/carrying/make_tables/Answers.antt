@@ -3,6 +3,8 @@ use Rattle.std.proofs.Common.{refl, ap, ◌∙◌}
 use Rattle.vl_core.specs.declared.kept.Core.{Core}
 use Rattle.vl_replay.proofs.CarryingJob.{just_planned, lent_under_way, may_hand_in}
 use Rattle.vl_replay.proofs.CarryingTables.{all_made, halted, not_begun, one_so_far, out_is, planned_so_far, used_up}
+use Rattle.vl_engine.specs.Removing.{Removes}
+use Rattle.vl_replay.proofs.CarryingRemoved.{left_before, left_ended, left_first, left_made, left_used_up}
 use Rattle.vl_replay.proofs.carrying.make_tables.Goals as goal
 
 -- ---- before the first round
@@ -33,6 +35,9 @@ tables-init g c = record {
       g.D.Held.HeldFile.bytes s j c.args.engine.now.disk c.args.engine.now.core c.args.engine.now.merging c.args.job.now
       c.in_ok-reader.reader
       planned c.requires.new (planned.looks c.in_ok-reader.reader.looks (λ files. c.in_ok-reader.ensures.blocks files));
+  removes = λ s j planned removes.
+      left_first (Removes c.args.engine.now.core c.args.engine.now.removing) c.args.engine.now.core s.store.layout
+      (planned.serves.fits.running planned.serves.running).numbers.next_table removes;
 }
 
 -- ---- a round made a table
@@ -55,6 +60,20 @@ tables-preserved g c =
           c.make_table.new.job c.tables.reader
           c.make_table.new.reader before c.tables.invariant.steady
           (rw c.in-Ok-Made.field-0-is at (c.in-Ok-Made.ensures.rounds _ j before.way));
+      removes = λ s j planned removes.
+          let before = c.tables.invariant.so_far s j planned in
+          let was = left_before g.D.Watched g.D.Writer.Writer g.D.Held.HeldFile.bytes s j c.args.engine.now.disk c.tables.engine.disk
+          c.make_table.new.engine.disk c.tables.engine.core c.make_table.new.engine.core c.tables.engine.merging
+          c.make_table.new.engine.merging c.tables.job c.make_table.new.job c.tables.reader c.make_table.new.reader before
+          (Removes c.tables.engine.core c.tables.engine.removing) (Removes c.make_table.new.engine.core c.make_table.new.engine.removing)
+          (c.tables.invariant.removes s j planned removes) in
+          left_made g.D.Watched g.D.Writer.Writer g.D.Held.HeldFile.bytes s j c.args.engine.now.disk c.tables.engine.disk
+          c.make_table.new.engine.disk c.tables.engine.core c.make_table.new.engine.core c.tables.engine.merging
+          c.make_table.new.engine.merging c.tables.job c.make_table.new.job c.tables.reader c.make_table.new.reader before
+          (Removes c.tables.engine.core c.tables.engine.removing) (Removes c.make_table.new.engine.core c.make_table.new.engine.removing)
+          (c.tables.invariant.removes s j planned removes)
+          (rw c.in-Ok-Made.field-0-is at (c.in-Ok-Made.ensures.rounds _ j before.way))
+          (rw c.in-Ok-Made.field-0-is at (c.in-Ok-Made.ensures.removes _ j before.way was));
     }
 
 -- ---- it ended
@@ -103,3 +122,40 @@ returns-in-Err-clause-merged g c s j planned =
 pub returns-in-Err-clause-fault : goal.returns-in-Err-clause-fault
 returns-in-Err-clause-fault g c running by =
     c.in-Err.ensures.fault (c.tables.invariant.running running) by
+
+-- ---- what the engine keeps of which files can go
+
+pub returns-in_err-reader-clause-removes : goal.returns-in_err-reader-clause-removes
+returns-in_err-reader-clause-removes g c s j count planned is removes = rw (out_is c.from_residual.result c.from_residual.ensures.1) tt
+
+pub returns-in-Ok-Ended-clause-removes : goal.returns-in-Ok-Ended-clause-removes
+returns-in-Ok-Ended-clause-removes g c s j count planned is removes =
+    let before = c.tables.invariant.so_far s j planned in
+    let was = left_before g.D.Watched g.D.Writer.Writer g.D.Held.HeldFile.bytes s j c.args.engine.now.disk c.tables.engine.disk
+    c.make_table.new.engine.disk c.tables.engine.core c.make_table.new.engine.core c.tables.engine.merging
+    c.make_table.new.engine.merging c.tables.job c.make_table.new.job c.tables.reader c.make_table.new.reader before
+    (Removes c.tables.engine.core c.tables.engine.removing) (Removes c.make_table.new.engine.core c.make_table.new.engine.removing)
+    (c.tables.invariant.removes s j planned removes) in
+    left_ended g.D.Watched g.D.Writer.Writer g.D.Held.HeldFile.bytes s j c.args.engine.now.disk c.tables.engine.disk
+    c.make_table.new.engine.disk c.tables.engine.core c.make_table.new.engine.core c.tables.engine.merging
+    c.make_table.new.engine.merging c.tables.job c.make_table.new.job c.tables.reader c.make_table.new.reader before
+    (Removes c.tables.engine.core c.tables.engine.removing) (Removes c.make_table.new.engine.core c.make_table.new.engine.removing)
+    (c.tables.invariant.removes s j planned removes)
+    (rw c.in-Ok-Ended.field-0-is at (c.in-Ok-Ended.ensures.rounds _ j before.way))
+    (rw c.in-Ok-Ended.field-0-is at (c.in-Ok-Ended.ensures.removes _ j before.way was)) count is
+
+pub returns-in-Ok-Exhausted-clause-removes : goal.returns-in-Ok-Exhausted-clause-removes
+returns-in-Ok-Exhausted-clause-removes g c s j count planned is removes =
+    let before = c.tables.invariant.so_far s j planned in
+    let was = left_before g.D.Watched g.D.Writer.Writer g.D.Held.HeldFile.bytes s j c.args.engine.now.disk c.tables.engine.disk
+    c.make_table.new.engine.disk c.tables.engine.core c.make_table.new.engine.core c.tables.engine.merging
+    c.make_table.new.engine.merging c.tables.job c.make_table.new.job c.tables.reader c.make_table.new.reader before
+    (Removes c.tables.engine.core c.tables.engine.removing) (Removes c.make_table.new.engine.core c.make_table.new.engine.removing)
+    (c.tables.invariant.removes s j planned removes) in
+    left_used_up g.D.Watched g.D.Writer.Writer g.D.Held.HeldFile.bytes s j c.args.engine.now.disk c.tables.engine.disk
+    c.make_table.new.engine.disk c.tables.engine.core c.make_table.new.engine.core c.tables.engine.merging
+    c.make_table.new.engine.merging c.tables.job c.make_table.new.job c.tables.reader c.make_table.new.reader before
+    (Removes c.tables.engine.core c.tables.engine.removing) (Removes c.make_table.new.engine.core c.make_table.new.engine.removing)
+    (c.tables.invariant.removes s j planned removes) c.in-Ok-Exhausted.counter
+    (rw c.in-Ok-Exhausted.field-0-is at (c.in-Ok-Exhausted.ensures.rounds _ j before.way))
+    (rw c.in-Ok-Exhausted.field-0-is at (c.in-Ok-Exhausted.ensures.removes _ j before.way was)) count is

@@ -3,6 +3,8 @@ use Rattle.vl_layout.specs.declared.job.Job.{Job}
 use Rattle.vl_replay.specs.Drawn.{IsPlanned}
 use Rattle.vl_replay.specs.Rounds.{HasLent}
 use Rattle.vl_sequential.specs.Sequential.{State}
+use Rattle.vl_engine.specs.Removing.{Removes}
+use Rattle.vl_replay.proofs.CarryingRemoved.{LeavesDrawn}
 use Rattle.vl_replay.proofs.CarryingTables.{SoFar}
 use Rattle.vl_replay.proofs.carrying.make_tables.Given as goal
 
@@ -18,6 +20,11 @@ invariant-tables g l = record {
       (g.D.Watched.told l.fn.engine.disk) l.fn.engine.core l.fn.engine.merging l.fn.job s j
       → SoFar g.D.Watched g.D.Writer.Writer g.D.Held.HeldFile.bytes l.fn.engine.disk l.engine.disk l.engine.core l.engine.merging l.job
       l.reader s j;
+  removes : (s : State) (j : Job)
+      → IsPlanned g.D.Writer.Writer g.D.Held.HeldFile.bytes
+      (g.D.Watched.told l.fn.engine.disk) l.fn.engine.core l.fn.engine.merging l.fn.job s j
+      → Removes l.fn.engine.core l.fn.engine.removing s.store.layout
+      → LeavesDrawn (Removes l.engine.core l.engine.removing) l.engine.core s.store.layout;
 }
 
 abbrev pub decreases-tables : goal.decreases-tables

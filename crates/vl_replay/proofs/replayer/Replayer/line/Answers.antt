@@ -15,6 +15,7 @@ returns-in-Ok-clause-after g c s stands = record {
       c.carry_out.new.served.opens.items s c.args.line (c.in-Ok.ensures.makes s stands).1;
   merges = c.in-Ok.ensures.merges s stands;
   passes = c.in-Ok.ensures.passes s stands;
+  removes = c.in-Ok.ensures.removes s stands;
 }
 
 pub returns-in-Err-clause-carries : goal.returns-in-Err-clause-carries

@@ -7,6 +7,7 @@ use Rattle.vl_sequential.specs.Sequential.{history_of}
 use Rattle.vl_replay.proofs.Openings.Begun.{opened_holds, opened_passes, opened_stands}
 use Rattle.vl_sequential.specs.laws.Recovering.{refused_not}
 use Rattle.vl_sequential.specs.laws.Starting.{at_most}
+use Rattle.vl_engine.specs.Removing.{Removes}
 use Rattle.vl_replay.proofs.replayer.Replayer.new.Goals as goal
 
 pub returns-in-Err-clause-refused : goal.returns-in-Err-clause-refused
@@ -64,6 +65,8 @@ returns-in-Ok-clause-store g c s starts = record {
   passes = opened_passes g.D.Watched g.D.Held.HeldFile.bytes c.args.disk s starts c.in-Ok.engine.core
       (c.in-Ok.ensures.back starts.state starts.read starts.found starts.told starts.is_read) c.in-Ok.engine.collecting
       (c.in-Ok.ensures.collects starts.state starts.read starts.found (history_of s) starts.told starts.is_read starts.shown);
+  removes = subst (Removes c.in-Ok.engine.core c.in-Ok.engine.removing) (sym starts.layout)
+      (c.in-Ok.ensures.removes starts.state starts.read starts.found (history_of s) starts.told starts.is_read starts.shown);
 }
 
 pub returns-in-Ok-clause-holds : goal.returns-in-Ok-clause-holds

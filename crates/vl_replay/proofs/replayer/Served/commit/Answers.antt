@@ -1,6 +1,6 @@
 -- The commit is answered as the ruling on it has it, and carried out so.
 use Rattle.std.specs.Prelude.{Ok, Err, Option}
-use Rattle.std.proofs.Common.{◌≡◌, ap, refl, sym, ◌∙◌}
+use Rattle.std.proofs.Common.{◌≡◌, ap, refl, subst, sym, ◌∙◌}
 use Rattle.vl_core.specs.Represents as engine
 use Rattle.vl_layout.specs.Rulings.Commit as rulings
 use Rattle.vl_layout.specs.Rulings.Commit.{commit_lost, commit_ruling}
@@ -19,6 +19,9 @@ use Rattle.vl_replay.proofs.Disk.Committed.{full_carries, halted_carries, only_k
 use Rattle.vl_replay.proofs.Names.Making.{its, itself, nothing_there}
 use Rattle.vl_replay.proofs.Names.Serving.{Serves, decides_all, represents}
 use Rattle.vl_replay.proofs.Names.Returning.{read_only_returns, returns_so, taken_as, taken_out, unknown_returns}
+use Rattle.vl_engine.specs.Removing.{Removes}
+use Rattle.vl_layout.specs.declared.layout.Layout.{Layout}
+use Rattle.vl_replay.proofs.Lines.Ruled.{committed_layout}
 use Rattle.vl_replay.proofs.replayer.Served.commit.Goals as goal
 
 pub returns-in-None-clause-makes : goal.returns-in-None-clause-makes
@@ -439,3 +442,124 @@ returns-in_err-put-in-Err-Full-clause-carries g c s stands =
     (λ represents. c.in-Err-Full.ensures.carries (history_of s) s.store.layout t.reads represents is.live is.sees.notes)
     c.commit.ensures.files c.in-Err-Full.field-0-1 c.in-Err-Full.field-0-2
     (outcome_fail txn _ _ c.in-Err-Full.field-0-is))
+
+pub returns-in-None-clause-removes : goal.returns-in-None-clause-removes
+returns-in-None-clause-removes g c s stands removes =
+    let bytes = g.D.Held.HeldFile.bytes in
+    let seen = g.D.Watched.told c.args.self.now.engine.disk in
+    let core = c.args.self.now.engine.core in
+    let os = c.args.self.now.opens.items in
+    let left = c.take_out.new.opens.items in
+    let taken = taken_as bytes seen core os left s stands c.as_slice.result.now c.args.name c.as_slice.ensures _ c.in-None.ensures in
+    subst (Removes core c.args.self.now.engine.removing)
+    (sym (nothing_there bytes seen core os s stands left c.args.name taken
+    (λ (o : Option Thing). (commit_by s.store c.args.name o).state.layout ≡ s.store.layout) refl (λ job made. refl) (λ pass batch. refl)))
+    removes
+
+pub returns-in-Some-View-clause-removes : goal.returns-in-Some-View-clause-removes
+returns-in-Some-View-clause-removes g c s stands removes =
+    let bytes = g.D.Held.HeldFile.bytes in
+    let seen = g.D.Watched.told c.args.self.now.engine.disk in
+    let core = c.args.self.now.engine.core in
+    let os = c.args.self.now.opens.items in
+    let left = c.take_out.new.opens.items in
+    let taken = taken_out bytes seen core os left s stands c.as_slice.result.now c.args.name c.as_slice.ensures _ _
+    c.in-Some-View.field-0-is c.in-Some-View.ensures in
+    let (b, there, sees, live, near, began) = its bytes seen core os s stands left c.args.name c.in-Some-View.view taken in
+    subst (Removes core c.args.self.now.engine.removing)
+    (sym (ap (λ (o : Option Thing). (commit_by s.store c.args.name o).state.layout) there)) removes
+
+pub returns-in-Ok-At-clause-removes : goal.returns-in-Ok-At-clause-removes
+returns-in-Ok-At-clause-removes g c s stands removes =
+    let bytes = g.D.Held.HeldFile.bytes in
+    let seen = g.D.Watched.told c.args.self.now.engine.disk in
+    let core = c.args.self.now.engine.core in
+    let os = c.args.self.now.opens.items in
+    let left = c.take_out.new.opens.items in
+    let now = c.commit.new.self in
+    let txn = c.in-Some-Transaction.txn in
+    let taken = taken_out bytes seen core os left s stands c.as_slice.result.now c.args.name c.as_slice.ensures _ _
+    c.in-Some-Transaction.field-0-is c.in-Some-Transaction.ensures in
+    let (t, b, there, is, began) = itself bytes seen core os s stands left c.args.name txn taken in
+    subst (Removes now.core now.removing) (sym (committed_layout s c.args.name t b stands.sound there))
+    ((decided_so txn bytes (λ _ l. Removes now.core now.removing l) (history_of s) s.store.layout t is _ _ (rulings.At c.in-Ok-At.number)
+    (outcome_done txn _ _ c.in-Ok-At.field-0-is)
+    (c.in-Ok-At.ensures.removes (history_of s) s.store.layout t.reads stands.engine.fronts removes is.live is.sees.notes)).answered
+    (rulings.At c.in-Ok-At.number) refl).1
+
+pub returns-in-Ok-Nothing-clause-removes : goal.returns-in-Ok-Nothing-clause-removes
+returns-in-Ok-Nothing-clause-removes g c s stands removes =
+    let bytes = g.D.Held.HeldFile.bytes in
+    let seen = g.D.Watched.told c.args.self.now.engine.disk in
+    let core = c.args.self.now.engine.core in
+    let os = c.args.self.now.opens.items in
+    let left = c.take_out.new.opens.items in
+    let now = c.commit.new.self in
+    let txn = c.in-Some-Transaction.txn in
+    let taken = taken_out bytes seen core os left s stands c.as_slice.result.now c.args.name c.as_slice.ensures _ _
+    c.in-Some-Transaction.field-0-is c.in-Some-Transaction.ensures in
+    let (t, b, there, is, began) = itself bytes seen core os s stands left c.args.name txn taken in
+    subst (Removes now.core now.removing) (sym (committed_layout s c.args.name t b stands.sound there))
+    ((decided_so txn bytes (λ _ l. Removes now.core now.removing l) (history_of s) s.store.layout t is _ _ rulings.Nothing
+    (outcome_done txn _ _ c.in-Ok-Nothing.field-0-is)
+    (c.in-Ok-Nothing.ensures.removes (history_of s) s.store.layout t.reads stands.engine.fronts removes is.live is.sees.notes)).answered
+    rulings.Nothing refl).1
+
+pub returns-in-Err-Conflict-clause-removes : goal.returns-in-Err-Conflict-clause-removes
+returns-in-Err-Conflict-clause-removes g c s stands removes =
+    let bytes = g.D.Held.HeldFile.bytes in
+    let seen = g.D.Watched.told c.args.self.now.engine.disk in
+    let core = c.args.self.now.engine.core in
+    let os = c.args.self.now.opens.items in
+    let left = c.take_out.new.opens.items in
+    let now = c.commit.new.self in
+    let txn = c.in-Some-Transaction.txn in
+    let taken = taken_out bytes seen core os left s stands c.as_slice.result.now c.args.name c.as_slice.ensures _ _
+    c.in-Some-Transaction.field-0-is c.in-Some-Transaction.ensures in
+    let (t, b, there, is, began) = itself bytes seen core os s stands left c.args.name txn taken in
+    subst (Removes now.core now.removing) (sym (committed_layout s c.args.name t b stands.sound there))
+    ((decided_so txn bytes (λ _ l. Removes now.core now.removing l) (history_of s) s.store.layout t is _ _ (rulings.Conflict
+    c.in-Err-Conflict.key c.in-Err-Conflict.number)
+    (outcome_fail txn _ _ c.in-Err-Conflict.field-0-is)
+    (c.in-Err-Conflict.ensures.removes (history_of s) s.store.layout t.reads stands.engine.fronts removes is.live
+    is.sees.notes)).answered
+    (rulings.Conflict c.in-Err-Conflict.key c.in-Err-Conflict.number) refl).1
+
+pub returns-in-Err-Exhausted-clause-removes : goal.returns-in-Err-Exhausted-clause-removes
+returns-in-Err-Exhausted-clause-removes g c s stands removes =
+    let bytes = g.D.Held.HeldFile.bytes in
+    let seen = g.D.Watched.told c.args.self.now.engine.disk in
+    let core = c.args.self.now.engine.core in
+    let os = c.args.self.now.opens.items in
+    let left = c.take_out.new.opens.items in
+    let now = c.commit.new.self in
+    let txn = c.in-Some-Transaction.txn in
+    let taken = taken_out bytes seen core os left s stands c.as_slice.result.now c.args.name c.as_slice.ensures _ _
+    c.in-Some-Transaction.field-0-is c.in-Some-Transaction.ensures in
+    let (t, b, there, is, began) = itself bytes seen core os s stands left c.args.name txn taken in
+    subst (Removes now.core now.removing) (sym (committed_layout s c.args.name t b stands.sound there))
+    ((decided_so txn bytes (λ _ l. Removes now.core now.removing l) (history_of s) s.store.layout t is _ _ (rulings.Exhausted
+    counters.Commit)
+    (outcome_fail txn _ _ c.in-Err-Exhausted.field-0-is)
+    (c.in-Err-Exhausted.ensures.removes (history_of s) s.store.layout t.reads stands.engine.fronts removes is.live
+    is.sees.notes)).answered
+    (rulings.Exhausted counters.Commit) refl).1
+
+pub returns-in-Err-Full-clause-removes : goal.returns-in-Err-Full-clause-removes
+returns-in-Err-Full-clause-removes g c s stands removes =
+    let bytes = g.D.Held.HeldFile.bytes in
+    let seen = g.D.Watched.told c.args.self.now.engine.disk in
+    let core = c.args.self.now.engine.core in
+    let os = c.args.self.now.opens.items in
+    let left = c.take_out.new.opens.items in
+    let now = c.commit.new.self in
+    let txn = c.in-Some-Transaction.txn in
+    let taken = taken_out bytes seen core os left s stands c.as_slice.result.now c.args.name c.as_slice.ensures _ _
+    c.in-Some-Transaction.field-0-is c.in-Some-Transaction.ensures in
+    let (t, b, there, is, began) = itself bytes seen core os s stands left c.args.name txn taken in
+    subst (Removes now.core now.removing) (sym (committed_layout s c.args.name t b stands.sound there))
+    ((decided_so txn bytes (λ _ l. Removes now.core now.removing l) (history_of s) s.store.layout t is _ _ (rulings.Full
+    c.in-Err-Full.field-0-1 c.in-Err-Full.field-0-2)
+    (outcome_fail txn _ _ c.in-Err-Full.field-0-is)
+    (c.in-Err-Full.ensures.removes (history_of s) s.store.layout t.reads stands.engine.fronts removes is.live is.sees.notes)).answered
+    (rulings.Full c.in-Err-Full.field-0-1 c.in-Err-Full.field-0-2) refl).1

@@ -20,6 +20,7 @@ use Rattle.vl_replay.proofs.Names.StepMaking.{flush_leaves, may_go, step_cause, 
 use Rattle.vl_core.specs.laws.FlushRulings.{flush_made as flush_ruled, flush_made_so, flush_waits}
 use Rattle.vl_sequential.specs.laws.Torn.{flush_torn}
 use Rattle.vl_replay.proofs.Passes.Stepping.{step_leaves}
+use Rattle.vl_engine.specs.Removing.{Removes}
 use Rattle.vl_replay.proofs.replayer.Served.flush.Goals as goal
 
 pub returns-clause-makes : goal.returns-clause-makes
@@ -130,3 +131,15 @@ returns-clause-collects g c s stands collects =
     subst (λ (x : Result Answer Halt). OnOk x (Collects new.core new.collecting (flush_ruling l h).layout)) (sym c.told.ensures)
     (step_leaves (λ _ m. Collects new.core new.collecting m) h l (flush_ruling l h) _ _ c.flush.result
     (c.flush.ensures.collects fits.state h l fits.told_is stands.engine (λ running. (fits.numbers, fits.files)) collects))
+
+pub returns-clause-removes : goal.returns-clause-removes
+returns-clause-removes g c s stands collects =
+    let new = c.flush.new.self in
+    let h = history_of s in
+    let l = s.store.layout in
+    let fits = stands.serves.fits.running stands.serves.running in
+    subst (λ (x : Result Answer Halt). OnOk x (Removes new.core new.removing (flush_ruling l h).layout)) (sym c.told.ensures)
+    (step_leaves (λ _ m. Removes new.core new.removing m) h l (flush_ruling l h) _ _ c.flush.result
+    (c.flush.ensures.removes fits.state h l fits.told_is stands.serves.engine stands.opens (λ running. (fits.numbers, fits.files))
+    collects
+    stands.removes))

@@ -8,6 +8,7 @@ use Rattle.vl_replay.proofs.Names.Lookups.{place_there, without_open}
 use Rattle.vl_replay.proofs.Names.Making.{its, itself}
 use Rattle.vl_replay.proofs.Names.Placing.{free_returns, in_place, out_of_place}
 use Rattle.vl_replay.proofs.Names.PastMaking.{past_counted, past_not_by_disk, past_sound, past_undamaged, txn_past_makes, view_past_makes}
+use Rattle.vl_replay.proofs.Names.Untabled.{reads_none}
 use Rattle.vl_replay.proofs.replayer.Served.get_at.Goals as goal
 
 pub returns-in_default-clause-makes : goal.returns-in_default-clause-makes
@@ -54,7 +55,7 @@ returns-in-View-clause-near g c s stands untabled =
     let (b, there, sees, live, near, began) = its bytes seen core os s stands (without_open c.args.name os) c.args.name
     c.in-View.view taken in
     past_sound _ c.get_at.result c.told_past.result c.told_past.ensures (c.get_at.ensures.answer (history_of s) sees)
-    (c.get_at.ensures.near (near untabled))
+    (c.get_at.ensures.near (near (reads_none c.in-View.view.ticket s.store.layout untabled)))
 
 pub returns-in-View-clause-undamaged : goal.returns-in-View-clause-undamaged
 returns-in-View-clause-undamaged g c s stands =
@@ -106,7 +107,7 @@ returns-clause-near g c s stands untabled =
     c.in-Transaction.txn taken in
     past_sound _ c.get_at-in-Transaction.result c.told_past-in-Transaction.result c.told_past-in-Transaction.ensures
     (c.get_at-in-Transaction.ensures.answer (history_of s) t.reads is.sees)
-    (c.get_at-in-Transaction.ensures.near (is.near untabled))
+    (c.get_at-in-Transaction.ensures.near (is.near (reads_none c.in-Transaction.txn.ticket s.store.layout untabled)))
 
 pub returns-clause-undamaged : goal.returns-clause-undamaged
 returns-clause-undamaged g c s stands =

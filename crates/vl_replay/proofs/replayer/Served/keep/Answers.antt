@@ -1,6 +1,6 @@
 -- A change of how many versions are kept is answered as its ruling has it, and carried out so.
 use Rattle.std.proofs.Common.{◌≡◌, ap, sym, ◌∙◌, subst}
-use Rattle.std.specs.Prelude.{Result}
+use Rattle.std.specs.Prelude.{OnOk, Result}
 use Rattle.vl_engine.specs.Keeping.{keep_outcome}
 use Rattle.vl_core.specs.laws.KeepLaws.{keep_made as keep_ruled, keep_other}
 use Rattle.vl_layout.specs.Ruling.{Ruling}
@@ -15,8 +15,9 @@ use Rattle.vl_script.specs.declared.answer.Answer.{Answer}
 use Rattle.vl_script.specs.declared.line.Line.TheVariants as lines
 use Rattle.vl_replay.proofs.Disk.KeptSteps.{keep_carries, keep_halted_at, keep_made, keep_named, unkept_at}
 use Rattle.vl_sequential.specs.laws.Torn.{keep_torn}
-use Rattle.vl_replay.proofs.Names.KeepMaking.{keep_cause, keep_keeps, keep_makes, keep_sound}
+use Rattle.vl_replay.proofs.Names.KeepMaking.{keep_cause, keep_keeps, keep_leaves, keep_makes, keep_sound}
 use Rattle.vl_replay.proofs.Names.Serving.{decides_all, represents}
+use Rattle.vl_engine.specs.Removing.{Removes}
 use Rattle.vl_replay.proofs.replayer.Served.keep.Goals as goal
 
 pub returns-clause-makes : goal.returns-clause-makes
@@ -107,3 +108,13 @@ returns-clause-carries g c s stands =
           };
     })
     c.told_keep.result c.told_keep.ensures
+
+pub returns-clause-removes : goal.returns-clause-removes
+returns-clause-removes g c s stands removes =
+    let new = c.keep.new.self in
+    let h = history_of s in
+    let l = s.store.layout in
+    let v = c.args.versions in
+    subst (λ (x : Result Answer Halt). OnOk x (Removes new.core new.removing (keep_ruling l h v).layout)) (sym c.told_keep.ensures)
+    (keep_leaves (λ _ m. Removes new.core new.removing m) h l (keep_ruling l h v) _ _ c.keep.result
+    (c.keep.ensures.removes h l stands.engine.fronts removes))

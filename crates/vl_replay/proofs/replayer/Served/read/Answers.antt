@@ -9,6 +9,7 @@ use Rattle.vl_replay.proofs.Names.Lookups.{place_there, without_open}
 use Rattle.vl_replay.proofs.Names.Making.{its, itself}
 use Rattle.vl_replay.proofs.Names.Placing.{free_returns, in_place, out_of_place}
 use Rattle.vl_replay.proofs.Names.ReadMaking.{call_counted, call_sound, call_undamaged, txn_read_makes, view_read_makes}
+use Rattle.vl_replay.proofs.Names.Untabled.{reads_none}
 use Rattle.vl_replay.proofs.replayer.Served.read.Goals as goal
 
 pub returns-in_default-clause-makes : goal.returns-in_default-clause-makes
@@ -56,7 +57,7 @@ returns-in-View-clause-near g c s stands untabled =
     let (b, there, sees, live, near, began) = its bytes seen core os s stands (without_open c.args.name os) c.args.name
     c.in-View.view taken in
     call_sound (told_value c.args.with_tag) c.get.result c.told.result c.told.ensures (c.get.ensures.sound (history_of s) sees)
-    (c.get.ensures.near (near untabled))
+    (c.get.ensures.near (near (reads_none c.in-View.view.ticket s.store.layout untabled)))
 
 pub returns-in-View-clause-undamaged : goal.returns-in-View-clause-undamaged
 returns-in-View-clause-undamaged g c s stands =
@@ -110,7 +111,7 @@ returns-clause-near g c s stands untabled =
     c.in-Transaction.txn taken in
     call_sound (told_value c.args.with_tag) c.get-in-Transaction.result c.told-in-Transaction.result
     c.told-in-Transaction.ensures (c.get-in-Transaction.ensures.sound (history_of s) t.reads is.sees)
-    (c.get-in-Transaction.ensures.near (is.near untabled))
+    (c.get-in-Transaction.ensures.near (is.near (reads_none c.in-Transaction.txn.ticket s.store.layout untabled)))
 
 pub returns-clause-undamaged : goal.returns-clause-undamaged
 returns-clause-undamaged g c s stands =

@@ -20,6 +20,7 @@ use Rattle.vl_replay.proofs.Names.StepMaking.{rotate_leaves, step_cause, step_ma
 use Rattle.vl_core.specs.laws.RotateRulings.{made_ruled, rotate_made as rotate_ruled}
 use Rattle.vl_sequential.specs.laws.Torn.{rotate_torn}
 use Rattle.vl_replay.proofs.Passes.Stepping.{step_leaves}
+use Rattle.vl_engine.specs.Removing.{Removes}
 use Rattle.vl_replay.proofs.replayer.Served.rotate.Goals as goal
 
 pub returns-clause-makes : goal.returns-clause-makes
@@ -134,3 +135,13 @@ returns-clause-collects g c s stands collects =
     subst (λ (x : Result Answer Halt). OnOk x (Collects new.core new.collecting (rotate_ruling l h).layout)) (sym c.told.ensures)
     (step_leaves (λ _ m. Collects new.core new.collecting m) h l (rotate_ruling l h) _ _ c.rotate.result
     (c.rotate.ensures.collects h l stands.engine (λ running. fits.numbers) collects))
+
+pub returns-clause-removes : goal.returns-clause-removes
+returns-clause-removes g c s stands =
+    let new = c.rotate.new.self in
+    let h = history_of s in
+    let l = s.store.layout in
+    let fits = stands.serves.fits.running stands.serves.running in
+    subst (λ (x : Result Answer Halt). OnOk x (Removes new.core new.removing (rotate_ruling l h).layout)) (sym c.told.ensures)
+    (step_leaves (λ _ m. Removes new.core new.removing m) h l (rotate_ruling l h) _ _ c.rotate.result
+    (c.rotate.ensures.removes h l stands.serves.engine stands.opens (λ running. fits.numbers) stands.removes))

@@ -9,6 +9,7 @@ use Rattle.vl_replay.proofs.Names.Making.{its, itself}
 use Rattle.vl_replay.proofs.Names.Placing.{free_returns, in_place, out_of_place}
 use Rattle.vl_replay.proofs.Names.ReadMaking.{call_counted, call_sound, call_undamaged}
 use Rattle.vl_replay.proofs.Names.ScanMaking.{txn_scan_makes, view_scan_makes}
+use Rattle.vl_replay.proofs.Names.Untabled.{reads_none}
 use Rattle.vl_replay.proofs.replayer.Served.scan.Goals as goal
 use Rattle.vl_script.specs.declared.answer.Answer.TheVariants as answers
 
@@ -60,7 +61,7 @@ returns-in-View-clause-near g c s stands untabled =
     let (b, there, sees, live, near, began) = its bytes seen core os s stands (without_open c.args.name os) c.args.name
     c.in-View.view taken in
     call_sound (λ rows. answers.Rows rows) c.scan.result c.told_rows.result c.told_rows.ensures (c.scan.ensures.sound (history_of s) sees)
-    (c.scan.ensures.near (near untabled))
+    (c.scan.ensures.near (near (reads_none c.in-View.view.ticket s.store.layout untabled)))
 
 pub returns-in-View-clause-undamaged : goal.returns-in-View-clause-undamaged
 returns-in-View-clause-undamaged g c s stands =
@@ -120,7 +121,7 @@ returns-clause-near g c s stands untabled =
     c.in-Transaction.txn taken in
     call_sound (λ rows. answers.Rows rows) c.scan-in-Transaction.result c.told_rows-in-Transaction.result
     c.told_rows-in-Transaction.ensures (c.scan-in-Transaction.ensures.sound (history_of s) t.reads is.sees)
-    (c.scan-in-Transaction.ensures.near (is.near untabled))
+    (c.scan-in-Transaction.ensures.near (is.near (reads_none c.in-Transaction.txn.ticket s.store.layout untabled)))
 
 pub returns-clause-undamaged : goal.returns-clause-undamaged
 returns-clause-undamaged g c s stands =

@@ -1,5 +1,5 @@
 -- Where the name is free, what begins stands for it.
-use Rattle.std.proofs.Common.{refl, ap}
+use Rattle.std.proofs.Common.{refl, ap, subst, sym}
 use Rattle.std.specs.Prelude.{Ok}
 use Rattle.vl_core.specs.laws.VersionLaws.{laid_in_memory}
 use Rattle.vl_layout.specs.Store.Reading.{a_view, begin_as}
@@ -10,6 +10,10 @@ use Rattle.vl_sequential.specs.laws.Laws.{state_after-sound}
 use Rattle.vl_replay.proofs.Names.BeginMaking.{too_many_makes, view_makes, unread_of}
 use Rattle.vl_replay.proofs.Names.Returning.{returns_so}
 use Rattle.vl_replay.proofs.Names.Serving.{decides_all, represents}
+use Rattle.vl_engine.specs.Removing.{Removes}
+use Rattle.vl_layout.specs.declared.layout.Layout.{Layout}
+use Rattle.vl_layout.specs.Rulings.Begin.{TooMany}
+use Rattle.vl_replay.proofs.Lines.Ruled.{begun_layout}
 use Rattle.vl_replay.proofs.replayer.Served.view.Goals as goal
 use Rattle.vl_script.specs.declared.answer.Answer.TheVariants as answers
 use Rattle.vl_script.specs.declared.line.Line.TheVariants as lines
@@ -53,3 +57,17 @@ returns-in-Err-TooMany-clause-makes g c s stands bare =
     (rw c.in-Err-TooMany.field-0-is at (c.in-Err-TooMany.ensures.fits (history_of s) s.store.layout stands.engine stands.fits))
     (λ openable. rw c.in-Err-TooMany.field-0-is at (c.in-Err-TooMany.ensures.represents (history_of s) s.store.layout
     (represents bytes seen core os s stands openable))))
+
+pub returns-in-Ok-clause-removes : goal.returns-in-Ok-clause-removes
+returns-in-Ok-clause-removes g c s stands bare removes =
+    subst (λ (l : Layout). Removes c.view.new.self.core c.view.new.self.removing l)
+    (sym (begun_layout s.store c.args.name a_view bare))
+    ((c.in-Ok.ensures.removes (history_of s) s.store.layout stands.engine.fronts removes).answered _ refl).1
+
+pub returns-in-Err-TooMany-clause-removes : goal.returns-in-Err-TooMany-clause-removes
+returns-in-Err-TooMany-clause-removes g c s stands bare removes =
+    subst (λ (l : Layout). Removes c.view.new.self.core c.view.new.self.removing l)
+    (sym (begun_layout s.store c.args.name a_view bare))
+    ((rw c.in-Err-TooMany.field-0-is at (c.in-Err-TooMany.ensures.removes (history_of s) s.store.layout stands.engine.fronts
+    removes)).answered
+    TooMany refl).1

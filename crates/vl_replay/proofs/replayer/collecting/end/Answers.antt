@@ -1,12 +1,12 @@
 -- The pass that is open is ended where it has the name; else what waits or reads is.
-use Rattle.std.proofs.Common.{◌∙◌, ap, sym, subst}
-use Rattle.std.specs.Prelude.{Ok, Option}
+use Rattle.std.proofs.Common.{◌≡◌, ◌∙◌, ap, sym, subst}
+use Rattle.std.specs.Prelude.{Ok, Option, Some}
 use Rattle.vl_core.specs.MayStep.{Fits}
 use Rattle.vl_core.specs.Represents as engine
 use Rattle.vl_core.specs.Shown.{Shown}
 use Rattle.vl_layout.specs.Rulings.EndPass.{without_pass}
 use Rattle.vl_layout.specs.Store.Dispatch.{drop_by}
-use Rattle.vl_layout.specs.Store.Things.{thing_of}
+use Rattle.vl_layout.specs.Store.Things.{APass, Thing, thing_of}
 use Rattle.vl_sequential.specs.Durable.{CarriesOut}
 use Rattle.vl_replay.specs.Passing.{PassesIn}
 use Rattle.vl_replay.specs.Replaying.{MakesStep, state_by}
@@ -17,6 +17,7 @@ use Rattle.vl_replay.proofs.Merges.Handing.{can_still}
 use Rattle.vl_replay.proofs.Names.Serving.{represents}
 use Rattle.vl_replay.proofs.Passes.Ending.{drop_passes, end_carries, end_makes, end_merges, end_passes, took_no_pass, took_pass}
 use Rattle.vl_replay.proofs.Passes.Used.{going_as, other_named}
+use Rattle.vl_engine.specs.Removing.{Removes}
 use Rattle.vl_replay.proofs.replayer.collecting.end.Goals as goal
 
 pub returns-in-Some-clause-makes : goal.returns-in-Some-clause-makes
@@ -130,3 +131,23 @@ pub returns-in-Some-clause-handed : goal.returns-in-Some-clause-handed
 returns-in-Some-clause-handed g c = can_still g.D.Watched g.D.Writer.Writer c.args.served.now.engine.disk c.end_pass.new.self.disk
     c.args.served.now.engine.merging c.end_pass.new.self.merging c.args.planned.now c.end_pass.ensures.merging
     (λ none. ap (λ (d : _). g.D.Watched.told d) c.end_pass.ensures.disk ∙ none) c.requires
+
+pub returns-in-Some-clause-removes : goal.returns-in-Some-clause-removes
+returns-in-Some-clause-removes g c s stands =
+    let bytes = g.D.Held.HeldFile.bytes in
+    let new = c.end_pass.new.self in
+    let l = s.store.layout in
+    let (p, there, named, pass, none) = took_pass c.as_slice.result.now c.args.name c.as_slice.ensures c.args.passing.now
+    c.take_pass.new.passing c.take_pass.result c.in-Some.pass c.take_pass.ensures c.in-Some.is in
+    let going = going_as bytes c.args.passing.now p s.store.things l there stands.passes.is_open in
+    subst (λ (x : Option Thing). Removes new.core new.removing (drop_by s.store c.args.name x).state.layout)
+    (sym (subst (λ (n : _). thing_of s.store n ≡ Some (APass going.pass p.batch)) named going.there))
+    (c.end_pass.ensures.removes (history_of s) l going.pass stands.removes)
+
+pub returns-in-None-clause-removes : goal.returns-in-None-clause-removes
+returns-in-None-clause-removes g c s stands =
+    let bytes = g.D.Held.HeldFile.bytes in
+    let (still, other) = took_no_pass c.as_slice.result.now c.args.name c.as_slice.ensures c.args.passing.now
+    c.take_pass.new.passing c.take_pass.result c.take_pass.ensures c.in-None.is in
+    c.end.ensures.removes s (record { serves = stands.serves; merges = stands.merges })
+    (other_named bytes s.store.things s.store.layout c.args.name c.args.passing.now stands.passes.is_open other) stands.removes

@@ -13,7 +13,7 @@ use Rattle.vl_layout.specs.Rulings.Relocate as move
 use Rattle.vl_layout.specs.Store.Dispatch.{move_by}
 use Rattle.vl_layout.specs.Store.Lines as store_lines
 use Rattle.vl_layout.specs.Shown.{IsThere}
-use Rattle.vl_layout.specs.Store.Things.{APass, thing_in, thing_of}
+use Rattle.vl_layout.specs.Store.Things.{APass, Step, thing_in, thing_of}
 use Rattle.vl_replay.specs.Passing.{Passes}
 use Rattle.vl_replay.specs.Replaying.{MakesStep}
 use Rattle.vl_sequential.specs.Sequential.{history_of}
@@ -27,6 +27,8 @@ use Rattle.vl_replay.proofs.Passes.Batching.{move_unknown, none_named, other_nam
 use Rattle.vl_replay.proofs.Passes.Moving.{decides_weaker, moved_makes, moved_opens, moved_passes, refused_makes, refused_opens}
 use Rattle.vl_replay.proofs.Passes.Moving.{refused_passes, waits_there}
 use Rattle.vl_replay.proofs.Passes.Standing.{out_carries}
+use Rattle.vl_engine.specs.Removing.{Removes}
+use Rattle.vl_layout.specs.declared.layout.Layout.{Layout}
 use Rattle.vl_replay.proofs.replayer.collecting.move_batch.Goals as goal
 
 pub returns-in_default-clause-makes : goal.returns-in_default-clause-makes
@@ -714,3 +716,129 @@ returns-in-Err-Damaged-clause-undamaged g c s stands halts =
     } in
     let within = subst (λ (b : Back). b.state.next_log ≤ b.next_log) (sym c.relocate.ensures.steps) stands.serves.within in
     c.in-Err-Damaged.ensures.undamaged h l p of (subst (λ (f : MoveFail). IsDamaged (Err f)) (sym c.in-Err-Damaged.field-0-is) tt)
+
+pub returns-in_default-clause-removes : goal.returns-in_default-clause-removes
+returns-in_default-clause-removes g c s stands removes =
+    let bytes = g.D.Held.HeldFile.bytes in
+    let engine = c.args.served.now.engine in
+    let name = c.args.name in
+    let l = s.store.layout in
+    subst (λ (x : Step). Removes engine.core engine.removing x.state.layout) (sym (move_unknown s.store name (thing_of s.store name)
+    (none_named bytes s.store.things l c.args.passing.now stands.passes.is_open name name refl c.in_default.is))) removes
+
+pub returns-then-not-is_named-clause-removes : goal.returns-then-not-is_named-clause-removes
+returns-then-not-is_named-clause-removes g c s stands removes =
+    let bytes = g.D.Held.HeldFile.bytes in
+    let engine = c.args.served.now.engine in
+    let name = c.args.name in
+    let l = s.store.layout in
+    subst (λ (x : Step). Removes engine.core engine.removing x.state.layout) (sym (move_unknown s.store name (thing_of s.store name)
+    (other_named bytes s.store.things l c.args.passing.now stands.passes.is_open name c.as_slice.result.now c.as_slice.ensures
+    c.in-Some.going c.in-Some.is (sym c.is_named.ensures ∙ c.if-not-is_named.true)))) removes
+
+pub returns-in_default-take-clause-removes : goal.returns-in_default-take-clause-removes
+returns-in_default-take-clause-removes g c s stands removes =
+    let bytes = g.D.Held.HeldFile.bytes in
+    let engine = c.args.served.now.engine in
+    let name = c.args.name in
+    let l = s.store.layout in
+    let before = subst (λ (o : Option _). Passes bytes engine.core engine.collecting o s.store.things l) c.in-Some.is stands.passes in
+    let name_is = own_name bytes s.store.things l c.args.passing.now stands.passes.is_open name c.as_slice.result.now c.as_slice.ensures
+    c.in-Some.going c.in-Some.is (sym c.is_named.ensures ∙ c.if-not-is_named.false) in
+    let p = before.is_open.pass in
+    let idle = (ap (move_by s.store name) (ap (thing_in s.store.things) name_is ∙ before.is_open.there ∙ ap
+    (λ (b : Option _). Some (APass p b)) (sym c.in_default-take.ensures.value))) in
+    subst (λ (x : Step). Removes engine.core engine.removing x.state.layout) (sym idle) removes
+
+pub returns-in-Ok-clause-removes : goal.returns-in-Ok-clause-removes
+returns-in-Ok-clause-removes g c s stands removes =
+    let bytes = g.D.Held.HeldFile.bytes in
+    let disk = c.args.served.now.engine.disk in
+    let core = c.args.served.now.engine.core in
+    let os = c.args.served.now.opens.items in
+    let name = c.args.name in
+    let h = history_of s in
+    let l = s.store.layout in
+    let before = subst (λ (o : Option _). Passes bytes core c.args.served.now.engine.collecting o s.store.things l) c.in-Some.is
+    stands.passes in
+    let name_is = own_name bytes s.store.things l c.args.passing.now stands.passes.is_open name c.as_slice.result.now c.as_slice.ensures
+    c.in-Some.going c.in-Some.is (sym c.is_named.ensures ∙ c.if-not-is_named.false) in
+    let p = before.is_open.pass in
+    let batch = c.in-Some-take.batch in
+    let there = waits_there bytes core c.args.served.now.engine.collecting s.store name c.in-Some.going before name_is batch
+    (sym c.in-Some-take.ensures.value) in
+    let new = c.relocate.new.self in
+    let of : IsOfPass bytes core c.in-Some.going.pass.log batch c.in_ok-reader.reader.looks h l p = record {
+      stands = stands.serves.engine;
+      segment = sym before.is_open.goes.segment;
+      lasts = before.is_open.lasts;
+      there = before.is_open.batch batch (sym c.in-Some-take.ensures.value);
+      fits = c.in_ok-reader.ensures.fits h l stands.serves.engine;
+    } in
+    let within = subst (λ (b : Back). b.state.next_log ≤ b.next_log) (sym c.relocate.ensures.steps) stands.serves.within in
+    subst (λ (m : Layout). Removes new.core new.removing m)
+    (sym (leaves g.D.Watched bytes core new.core disk new.disk os s stands.serves within name p batch there).0)
+    ((c.in-Ok.ensures.removes h l p of (record { stands = stands.serves.engine; opens = stands.opens }) removes).answered
+    (move.Moves c.in-Ok.count) refl).1
+
+pub returns-in-Err-Full-clause-removes : goal.returns-in-Err-Full-clause-removes
+returns-in-Err-Full-clause-removes g c s stands removes =
+    let bytes = g.D.Held.HeldFile.bytes in
+    let disk = c.args.served.now.engine.disk in
+    let core = c.args.served.now.engine.core in
+    let os = c.args.served.now.opens.items in
+    let name = c.args.name in
+    let h = history_of s in
+    let l = s.store.layout in
+    let before = subst (λ (o : Option _). Passes bytes core c.args.served.now.engine.collecting o s.store.things l) c.in-Some.is
+    stands.passes in
+    let name_is = own_name bytes s.store.things l c.args.passing.now stands.passes.is_open name c.as_slice.result.now c.as_slice.ensures
+    c.in-Some.going c.in-Some.is (sym c.is_named.ensures ∙ c.if-not-is_named.false) in
+    let p = before.is_open.pass in
+    let batch = c.in-Some-take.batch in
+    let there = waits_there bytes core c.args.served.now.engine.collecting s.store name c.in-Some.going before name_is batch
+    (sym c.in-Some-take.ensures.value) in
+    let new = c.relocate.new.self in
+    let of : IsOfPass bytes core c.in-Some.going.pass.log batch c.in_ok-reader.reader.looks h l p = record {
+      stands = stands.serves.engine;
+      segment = sym before.is_open.goes.segment;
+      lasts = before.is_open.lasts;
+      there = before.is_open.batch batch (sym c.in-Some-take.ensures.value);
+      fits = c.in_ok-reader.ensures.fits h l stands.serves.engine;
+    } in
+    let within = subst (λ (b : Back). b.state.next_log ≤ b.next_log) (sym c.relocate.ensures.steps) stands.serves.within in
+    subst (λ (m : Layout). Removes new.core new.removing m)
+    (sym (leaves g.D.Watched bytes core new.core disk new.disk os s stands.serves within name p batch there).0)
+    ((c.in-Err-Full.ensures.removes h l p of (record { stands = stands.serves.engine; opens = stands.opens }) removes).answered
+    (move.Full c.in-Err-Full.field-0-1 c.in-Err-Full.field-0-2) (ap (λ (f : MoveFail). move_outcome (Err f)) c.in-Err-Full.field-0-is)).1
+
+pub returns-in-Err-Exhausted-clause-removes : goal.returns-in-Err-Exhausted-clause-removes
+returns-in-Err-Exhausted-clause-removes g c s stands removes =
+    let bytes = g.D.Held.HeldFile.bytes in
+    let disk = c.args.served.now.engine.disk in
+    let core = c.args.served.now.engine.core in
+    let os = c.args.served.now.opens.items in
+    let name = c.args.name in
+    let h = history_of s in
+    let l = s.store.layout in
+    let before = subst (λ (o : Option _). Passes bytes core c.args.served.now.engine.collecting o s.store.things l) c.in-Some.is
+    stands.passes in
+    let name_is = own_name bytes s.store.things l c.args.passing.now stands.passes.is_open name c.as_slice.result.now c.as_slice.ensures
+    c.in-Some.going c.in-Some.is (sym c.is_named.ensures ∙ c.if-not-is_named.false) in
+    let p = before.is_open.pass in
+    let batch = c.in-Some-take.batch in
+    let there = waits_there bytes core c.args.served.now.engine.collecting s.store name c.in-Some.going before name_is batch
+    (sym c.in-Some-take.ensures.value) in
+    let new = c.relocate.new.self in
+    let of : IsOfPass bytes core c.in-Some.going.pass.log batch c.in_ok-reader.reader.looks h l p = record {
+      stands = stands.serves.engine;
+      segment = sym before.is_open.goes.segment;
+      lasts = before.is_open.lasts;
+      there = before.is_open.batch batch (sym c.in-Some-take.ensures.value);
+      fits = c.in_ok-reader.ensures.fits h l stands.serves.engine;
+    } in
+    let within = subst (λ (b : Back). b.state.next_log ≤ b.next_log) (sym c.relocate.ensures.steps) stands.serves.within in
+    subst (λ (m : Layout). Removes new.core new.removing m)
+    (sym (leaves g.D.Watched bytes core new.core disk new.disk os s stands.serves within name p batch there).0)
+    ((c.in-Err-Exhausted.ensures.removes h l p of (record { stands = stands.serves.engine; opens = stands.opens }) removes).answered
+    (move.Exhausted c.in-Err-Exhausted.counter) (ap (λ (f : MoveFail). move_outcome (Err f)) c.in-Err-Exhausted.field-0-is)).1

@@ -26,6 +26,9 @@ use Rattle.vl_sequential.specs.declared.fails.Halt.TheVariants as why
 use Rattle.vl_replay.proofs.Passes.Picking.{answers_ruling, picked_calls, picked_makes, picked_next_log, picked_next_table, picked_passes}
 use Rattle.vl_replay.proofs.Passes.Picking.{picked_represents, picked_running, refused_keeps, refused_makes, refused_passes}
 use Rattle.vl_replay.proofs.Passes.Standing.{out_carries, still_carries}
+use Rattle.vl_engine.specs.Removing.{Removes}
+use Rattle.vl_layout.specs.declared.layout.Layout.{Layout}
+use Rattle.vl_replay.proofs.Passes.Picking.{picked_layout}
 use Rattle.vl_replay.proofs.replayer.collecting.pick.Goals as goal
 
 pub returns-in-Ok-clause-makes : goal.returns-in-Ok-clause-makes
@@ -373,3 +376,44 @@ returns-clause-carries g c s stands bare =
     (sym c.pick.ensures.disk)
     (out_carries g.D.Watched (record { only_now = g.met.D.Disk.only_now; counts_now = g.met.D.Disk.counts_now })
     c.args.served.now.engine.disk s x (pick_commits s.store c.args.name c.args.percent (thing_of s.store c.args.name)))
+
+pub returns-in-Ok-clause-removes : goal.returns-in-Ok-clause-removes
+returns-in-Ok-clause-removes g c s stands bare removes =
+    let new = c.pick.new.self in
+    let percent = c.args.percent in
+    let l = s.store.layout in
+    let h = history_of s in
+    subst (λ (m : Layout). Removes new.core new.removing m) (sym (picked_layout s c.args.name percent bare))
+    ((c.pick.ensures.removes h l stands.serves.engine stands.passes.collects removes).answered (pick_ruling l h percent).answer
+    (ap (pick_outcome (pick_ruling l h percent).answer) c.in-Ok.is)).1
+
+pub returns-in-Err-InvalidRequest-clause-removes : goal.returns-in-Err-InvalidRequest-clause-removes
+returns-in-Err-InvalidRequest-clause-removes g c s stands bare removes =
+    let new = c.pick.new.self in
+    let percent = c.args.percent in
+    let l = s.store.layout in
+    let h = history_of s in
+    subst (λ (m : Layout). Removes new.core new.removing m) (sym (picked_layout s c.args.name percent bare))
+    ((c.pick.ensures.removes h l stands.serves.engine stands.passes.collects removes).answered rulings.InvalidRequest
+    (ap (pick_outcome (pick_ruling l h percent).answer) (c.in-Err-InvalidRequest.is ∙ ap Err c.in-Err-InvalidRequest.field-0-is))).1
+
+pub returns-in-Err-Rejected-clause-removes : goal.returns-in-Err-Rejected-clause-removes
+returns-in-Err-Rejected-clause-removes g c s stands bare removes =
+    let new = c.pick.new.self in
+    let percent = c.args.percent in
+    let l = s.store.layout in
+    let h = history_of s in
+    subst (λ (m : Layout). Removes new.core new.removing m) (sym (picked_layout s c.args.name percent bare))
+    ((c.pick.ensures.removes h l stands.serves.engine stands.passes.collects removes).answered (rulings.Rejected
+    c.in-Err-Rejected.segment)
+    (ap (pick_outcome (pick_ruling l h percent).answer) (c.in-Err-Rejected.is ∙ ap Err c.in-Err-Rejected.field-0-is))).1
+
+pub returns-in-Err-NoRewrite-clause-removes : goal.returns-in-Err-NoRewrite-clause-removes
+returns-in-Err-NoRewrite-clause-removes g c s stands bare removes =
+    let new = c.pick.new.self in
+    let percent = c.args.percent in
+    let l = s.store.layout in
+    let h = history_of s in
+    subst (λ (m : Layout). Removes new.core new.removing m) (sym (picked_layout s c.args.name percent bare))
+    ((c.pick.ensures.removes h l stands.serves.engine stands.passes.collects removes).answered rulings.NoRewrite
+    (ap (pick_outcome (pick_ruling l h percent).answer) (c.in-Err-NoRewrite.is ∙ ap Err c.in-Err-NoRewrite.field-0-is))).1

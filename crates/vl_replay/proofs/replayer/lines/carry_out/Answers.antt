@@ -8,7 +8,7 @@ use Rattle.vl_model.specs.Keys.{tagged, untagged}
 use Rattle.vl_model.specs.declared.change.Change.TheVariants as changes
 use Rattle.vl_sequential.specs.Durable.{CarriesOut}
 use Rattle.vl_sequential.specs.Failing.{FailsAt, ReadsTables}
-use Rattle.vl_replay.specs.Replaying.{MakesStep, MergesIn}
+use Rattle.vl_replay.specs.Replaying.{MakesStep, MergesIn, RemovesIn}
 use Rattle.vl_sequential.specs.Sequential.{answer_to, history_of, state_after, step_to}
 use Rattle.vl_sequential.specs.Stored.{IsStopped, IsStored}
 use Rattle.vl_sequential.specs.laws.Growing.{batch_keeps, begin_keeps, get_at_keeps, get_keeps, scan_keeps, stats_keeps, write_keeps}
@@ -19,7 +19,7 @@ use Rattle.vl_replay.proofs.Merges.Keeping.{commit_keeps_work, flush_keeps_merge
 use Rattle.vl_replay.proofs.Merges.Keeping.{get_keeps_work, keep_keeps_work, merges_kept, rotate_keeps_merges, rotate_keeps_passes}
 use Rattle.vl_replay.proofs.Merges.Keeping.{scan_keeps_work, transaction_keeps_work, view_keeps_work, write_keeps_work}
 use Rattle.vl_replay.proofs.Lines.Moves.{can_moved, merges_answered, move_tells}
-use Rattle.vl_replay.proofs.Lines.Parts.{merging_of, passing_of}
+use Rattle.vl_replay.proofs.Lines.Parts.{merging_of, passing_of, removing_of}
 use Rattle.vl_replay.proofs.Lines.Passed.{bare_no_pass, batch_keeps_merges, install_passes, plan_passes}
 use Rattle.vl_replay.proofs.Lines.Unmoved.{free_name, leaves_carries, taken_leaves, taken_makes, taken_step}
 use Rattle.vl_replay.proofs.Lines.Unmoved.{unanswered_carries, used_line}
@@ -34,6 +34,9 @@ use Rattle.vl_replay.proofs.Passes.Stepping.{passes_stepped}
 use Rattle.vl_core.specs.laws.Lasting.{flush_lasts, rotate_lasts}
 use Rattle.vl_replay.specs.declared.replayer.choice.Choice.TheVariants.{Due, LeadsInto}
 use Rattle.vl_replay.specs.Passing.{PassesIn, name_made}
+use Rattle.vl_engine.specs.Removing.{Removes}
+use Rattle.vl_replay.proofs.Lines.Sweeps.{batch_layout, sweep_keeps_merges, sweep_keeps_passes, sweep_lasts}
+use Rattle.vl_replay.proofs.Names.Quiet.{get_at_quiet, get_quiet, scan_quiet, write_quiet}
 use Rattle.vl_replay.proofs.replayer.lines.carry_out.Goals as goal
 
 -- ---- a name in use
@@ -1325,3 +1328,219 @@ returns-in-Move-clause-handed g c =
     c.args.served.now.engine.merging
     c.move_batch.new.served.engine.merging c.args.planned.now c.move_batch.ensures.merging c.move_batch.result c.move_batch.ensures.untold
     c.requires.handed
+
+-- ---- what the engine keeps of which files can go
+
+pub returns-in-Some-clause-removes : goal.returns-in-Some-clause-removes
+returns-in-Some-clause-removes g c s stands =
+    let engine = c.args.served.now.engine in
+    subst (λ (x : Step). Removes engine.core engine.removing x.state.layout)
+    (sym (taken_step s c.args.line c.in-Some.name (used_line s c.args.line c.in-Some.is (c.in_ok-name.ensures s stands))))
+    stands.removes
+
+pub returns-in-Begin-clause-removes : goal.returns-in-Begin-clause-removes
+returns-in-Begin-clause-removes g c s stands =
+    subst (λ (line : Line). OnOk c.begin.result (RemovesIn c.begin.new.self (step_to s line).state)) (sym c.in-Begin.is)
+    (c.begin.ensures.removes s stands.serves (free_name s c.args.line c.in_default.is (c.in_ok-name.ensures s stands)
+    (ap name_made c.in-Begin.is)) stands.removes)
+
+pub returns-in-View-clause-removes : goal.returns-in-View-clause-removes
+returns-in-View-clause-removes g c s stands =
+    subst (λ (line : Line). OnOk c.view.result (RemovesIn c.view.new.self (step_to s line).state)) (sym c.in-View.is)
+    (c.view.ensures.removes s stands.serves (free_name s c.args.line c.in_default.is (c.in_ok-name.ensures s stands)
+    (ap name_made c.in-View.is)) stands.removes)
+
+pub returns-in-Get-clause-removes : goal.returns-in-Get-clause-removes
+returns-in-Get-clause-removes g c s stands =
+    subst (λ (line : Line). OnOk c.read.result (RemovesIn c.read.new.self (step_to s line).state)) (sym c.in-Get.is)
+    (on_ok_of c.read.result _
+    (subst (λ (e : _). Removes e.core e.removing (step_to s (lines.Get c.in-Get.name c.in-Get.key)).state.layout) (sym
+    c.read.ensures.engine)
+    (subst (Removes c.args.served.now.engine.core c.args.served.now.engine.removing) (sym (get_quiet s.store c.in-Get.name answer_of
+    c.in-Get.key (thing_of s.store c.in-Get.name)).layout) stands.removes)))
+
+pub returns-in-GetTagged-clause-removes : goal.returns-in-GetTagged-clause-removes
+returns-in-GetTagged-clause-removes g c s stands =
+    subst (λ (line : Line). OnOk c.read-in-GetTagged.result (RemovesIn c.read-in-GetTagged.new.self (step_to s line).state)) (sym
+    c.in-GetTagged.is)
+    (on_ok_of c.read-in-GetTagged.result _
+    (subst (λ (e : _). Removes e.core e.removing (step_to s (lines.GetTagged c.in-GetTagged.name c.in-GetTagged.key)).state.layout)
+    (sym c.read-in-GetTagged.ensures.engine)
+    (subst (Removes c.args.served.now.engine.core c.args.served.now.engine.removing) (sym (get_quiet s.store c.in-GetTagged.name
+    answer_with_tag c.in-GetTagged.key (thing_of s.store c.in-GetTagged.name)).layout) stands.removes)))
+
+pub returns-in-GetAt-clause-removes : goal.returns-in-GetAt-clause-removes
+returns-in-GetAt-clause-removes g c s stands =
+    subst (λ (line : Line). OnOk c.get_at.result (RemovesIn c.get_at.new.self (step_to s line).state)) (sym c.in-GetAt.is)
+    (on_ok_of c.get_at.result _
+    (subst (λ (e : _). Removes e.core e.removing (step_to s (lines.GetAt c.in-GetAt.name c.in-GetAt.key
+    c.in-GetAt.number)).state.layout) (sym c.get_at.ensures.engine)
+    (subst (Removes c.args.served.now.engine.core c.args.served.now.engine.removing) (sym (get_at_quiet s.store c.in-GetAt.name
+    c.in-GetAt.key c.in-GetAt.number (thing_of s.store c.in-GetAt.name)).layout) stands.removes)))
+
+pub returns-in-Set-clause-removes : goal.returns-in-Set-clause-removes
+returns-in-Set-clause-removes g c s stands =
+    subst (λ (line : Line). OnOk c.write.result (RemovesIn c.write.new.self (step_to s line).state)) (sym c.in-Set.is)
+    (on_ok_of c.write.result _
+    (subst (λ (e : _). Removes e.core e.removing (step_to s (lines.Set c.in-Set.name c.in-Set.key c.in-Set.value)).state.layout) (sym
+    c.write.ensures.engine)
+    (subst (Removes c.args.served.now.engine.core c.args.served.now.engine.removing) (sym (write_quiet s.store c.in-Set.name
+    c.in-Set.key (changes.Set (untagged c.in-Set.value)) (thing_of s.store c.in-Set.name)).layout) stands.removes)))
+
+pub returns-in-SetTagged-clause-removes : goal.returns-in-SetTagged-clause-removes
+returns-in-SetTagged-clause-removes g c s stands =
+    subst (λ (line : Line). OnOk c.write-in-SetTagged.result (RemovesIn c.write-in-SetTagged.new.self (step_to s line).state)) (sym
+    c.in-SetTagged.is)
+    (on_ok_of c.write-in-SetTagged.result _
+    (subst (λ (e : _). Removes e.core e.removing (step_to s (lines.SetTagged c.in-SetTagged.name c.in-SetTagged.key
+    c.in-SetTagged.value c.in-SetTagged.tag)).state.layout) (sym c.write-in-SetTagged.ensures.engine)
+    (subst (Removes c.args.served.now.engine.core c.args.served.now.engine.removing) (sym (write_quiet s.store c.in-SetTagged.name
+    c.in-SetTagged.key
+    (changes.Set (tagged c.in-SetTagged.value c.in-SetTagged.tag)) (thing_of s.store c.in-SetTagged.name)).layout) stands.removes)))
+
+pub returns-in-Delete-clause-removes : goal.returns-in-Delete-clause-removes
+returns-in-Delete-clause-removes g c s stands =
+    subst (λ (line : Line). OnOk c.write-in-Delete.result (RemovesIn c.write-in-Delete.new.self (step_to s line).state)) (sym
+    c.in-Delete.is)
+    (on_ok_of c.write-in-Delete.result _
+    (subst (λ (e : _). Removes e.core e.removing (step_to s (lines.Delete c.in-Delete.name c.in-Delete.key)).state.layout) (sym
+    c.write-in-Delete.ensures.engine)
+    (subst (Removes c.args.served.now.engine.core c.args.served.now.engine.removing) (sym (write_quiet s.store c.in-Delete.name
+    c.in-Delete.key changes.Delete (thing_of s.store c.in-Delete.name)).layout) stands.removes)))
+
+pub returns-in-Scan-clause-removes : goal.returns-in-Scan-clause-removes
+returns-in-Scan-clause-removes g c s stands =
+    subst (λ (line : Line). OnOk c.scan.result (RemovesIn c.scan.new.self (step_to s line).state)) (sym c.in-Scan.is)
+    (on_ok_of c.scan.result _
+    (subst (λ (e : _). Removes e.core e.removing (step_to s (lines.Scan c.in-Scan.name c.in-Scan.low c.in-Scan.high c.in-Scan.limit
+    c.in-Scan.way)).state.layout) (sym c.scan.ensures.engine)
+    (subst (Removes c.args.served.now.engine.core c.args.served.now.engine.removing) (sym (scan_quiet s.store c.in-Scan.way
+    c.in-Scan.name c.in-Scan.low c.in-Scan.high c.in-Scan.limit
+    (thing_of s.store c.in-Scan.name)).layout) stands.removes)))
+
+pub returns-in-Commit-clause-removes : goal.returns-in-Commit-clause-removes
+returns-in-Commit-clause-removes g c s stands =
+    subst (λ (line : Line). OnOk c.commit.result (RemovesIn c.commit.new.self (step_to s line).state)) (sym c.in-Commit.is)
+    (c.commit.ensures.removes s stands.serves stands.removes)
+
+pub returns-in-Keep-clause-removes : goal.returns-in-Keep-clause-removes
+returns-in-Keep-clause-removes g c s stands =
+    subst (λ (line : Line). OnOk c.keep.result (RemovesIn c.keep.new.self (step_to s line).state)) (sym c.in-Keep.is)
+    (c.keep.ensures.removes s stands.serves stands.removes)
+
+pub returns-in-Rotate-clause-removes : goal.returns-in-Rotate-clause-removes
+returns-in-Rotate-clause-removes g c s stands =
+    subst (λ (line : Line). OnOk c.rotate.result (RemovesIn c.rotate.new.self (step_to s line).state)) (sym c.in-Rotate.is)
+    (c.rotate.ensures.removes s (removing_of stands))
+
+pub returns-in-Flush-clause-removes : goal.returns-in-Flush-clause-removes
+returns-in-Flush-clause-removes g c s stands =
+    subst (λ (line : Line). OnOk c.flush.result (RemovesIn c.flush.new.self (step_to s line).state)) (sym c.in-Flush.is)
+    (c.flush.ensures.removes s (removing_of stands) stands.passes.collects)
+
+pub returns-in-Plan-clause-removes : goal.returns-in-Plan-clause-removes
+returns-in-Plan-clause-removes g c s stands =
+    subst (λ (line : Line). OnOk c.plan.result (RemovesIn c.plan.new.served (step_to s line).state)) (sym c.in-Plan.is)
+    (c.plan.ensures.removes s (merging_of stands) (free_name s c.args.line c.in_default.is (c.in_ok-name.ensures s stands)
+    (ap name_made c.in-Plan.is)) stands.removes)
+
+pub returns-in-Drain-clause-removes : goal.returns-in-Drain-clause-removes
+returns-in-Drain-clause-removes g c s stands =
+    subst (λ (line : Line). OnOk c.plan-in-Drain.result (RemovesIn c.plan-in-Drain.new.served (step_to s line).state)) (sym c.in-Drain.is)
+    (c.plan-in-Drain.ensures.removes s (merging_of stands) (free_name s c.args.line c.in_default.is (c.in_ok-name.ensures s stands)
+    (ap name_made c.in-Drain.is)) stands.removes)
+
+pub returns-in-Install-clause-removes : goal.returns-in-Install-clause-removes
+returns-in-Install-clause-removes g c s stands =
+    subst (λ (line : Line). OnOk c.install.result (RemovesIn c.install.new.served (step_to s line).state)) (sym c.in-Install.is)
+    (c.install.ensures.removes s (merging_of stands) stands.passes.collects stands.removes)
+
+pub returns-in-Pick-clause-removes : goal.returns-in-Pick-clause-removes
+returns-in-Pick-clause-removes g c s stands =
+    subst (λ (line : Line). OnOk c.pick.result (RemovesIn c.pick.new.served (step_to s line).state)) (sym c.in-Pick.is)
+    (c.pick.ensures.removes s (passing_of stands) (free_name s c.args.line c.in_default.is (c.in_ok-name.ensures s stands)
+    (ap name_made c.in-Pick.is)) stands.removes)
+
+pub returns-in-Stats-clause-removes : goal.returns-in-Stats-clause-removes
+returns-in-Stats-clause-removes g c s stands =
+    subst (λ (line : Line). OnOk c.stats.result (RemovesIn c.args.served.now (step_to s line).state)) (sym c.in-Stats.is)
+    (on_ok_of c.stats.result _ stands.removes)
+
+pub returns-in-Batch-clause-removes : goal.returns-in-Batch-clause-removes
+returns-in-Batch-clause-removes g c s stands =
+    subst (λ (line : Line). OnOk c.batch.result (RemovesIn c.args.served.now (step_to s line).state)) (sym c.in-Batch.is)
+    (on_ok_of c.batch.result _ (subst (Removes c.args.served.now.engine.core c.args.served.now.engine.removing)
+    (sym (batch_layout s.store c.in-Batch.name (thing_of s.store c.in-Batch.name))) stands.removes))
+
+pub returns-in-Move-clause-removes : goal.returns-in-Move-clause-removes
+returns-in-Move-clause-removes g c s stands =
+    subst (λ (line : Line). OnOk c.move_batch.result (RemovesIn c.move_batch.new.served (step_to s line).state)) (sym c.in-Move.is)
+    (c.move_batch.ensures.removes s (passing_of stands) stands.removes)
+
+pub returns-in-Drop-clause-removes : goal.returns-in-Drop-clause-removes
+returns-in-Drop-clause-removes g c s stands =
+    subst (λ (line : Line). RemovesIn c.end.new.served (step_to s line).state)
+    (sym c.in-Drop.is) (c.end.ensures.removes s stands)
+
+-- ---- sweeps
+
+pub returns-in-Sweep-clause-makes : goal.returns-in-Sweep-clause-makes
+returns-in-Sweep-clause-makes g c s stands =
+    subst (λ (line : Line). MakesStep g.D.Held.HeldFile.bytes (g.D.Watched.told c.sweep.new.self.engine.disk)
+    c.sweep.new.self.engine.core c.sweep.new.self.opens.items s (step_to s line) c.sweep.result)
+    (sym c.in-Sweep.is) (c.sweep.ensures.makes s (removing_of stands))
+
+pub returns-in-Sweep-clause-merges : goal.returns-in-Sweep-clause-merges
+returns-in-Sweep-clause-merges g c s stands =
+    subst (λ (line : Line). OnOk c.sweep.result
+    (MergesIn g.D.Writer.Writer g.D.Held.HeldFile.bytes c.sweep.new.self.engine.merging c.args.planned.now
+    (step_to s line).state)) (sym c.in-Sweep.is)
+    (on_ok_of c.sweep.result _
+    (merges_behind g.D.Writer.Writer g.D.Held.HeldFile.bytes c.args.served.now.engine.merging
+    c.sweep.new.self.engine.merging c.args.planned.now c.args.planned.now
+    c.sweep.ensures.merging refl s.store (step_to s lines.Sweep) (sweep_keeps_merges s.store) stands.merges))
+
+pub returns-in-Sweep-clause-passes : goal.returns-in-Sweep-clause-passes
+returns-in-Sweep-clause-passes g c s stands =
+    let bytes = g.D.Held.HeldFile.bytes in
+    subst (λ (line : Line). OnOk c.sweep.result (PassesIn bytes c.sweep.new.self.engine.core c.sweep.new.self.engine.collecting
+    c.args.passing.now (step_to s line).state))
+    (sym c.in-Sweep.is)
+    (passes_stepped bytes c.args.served.now.engine.core c.sweep.new.self.engine.core c.args.served.now.engine.collecting
+    c.sweep.new.self.engine.collecting
+    c.args.passing.now s.store (step_to s lines.Sweep) c.sweep.result (sweep_keeps_passes s.store)
+    (λ log lasts. sweep_lasts bytes log s.store.layout (history_of s) lasts)
+    (c.sweep.ensures.collects s (removing_of stands) stands.passes.collects) stands.passes)
+
+pub returns-in-Sweep-clause-removes : goal.returns-in-Sweep-clause-removes
+returns-in-Sweep-clause-removes g c s stands =
+    subst (λ (line : Line). OnOk c.sweep.result (RemovesIn c.sweep.new.self (step_to s line).state)) (sym c.in-Sweep.is)
+    (c.sweep.ensures.removes s (removing_of stands))
+
+pub returns-in-Sweep-clause-carries : goal.returns-in-Sweep-clause-carries
+returns-in-Sweep-clause-carries g c s stands =
+    subst (λ (line : Line). CarriesOut g.D.Watched IsStored Shown IsStopped c.args.served.now.engine.disk
+    c.sweep.new.self.engine.disk s (state_after s line) c.sweep.result)
+    (sym c.in-Sweep.is) (c.sweep.ensures.carries s (removing_of stands))
+
+pub returns-in-Sweep-clause-sound : goal.returns-in-Sweep-clause-sound
+returns-in-Sweep-clause-sound g c s stands halts = absurd (c.sweep.ensures.sound s (removing_of stands) halts)
+
+pub returns-in-Sweep-clause-undamaged : goal.returns-in-Sweep-clause-undamaged
+returns-in-Sweep-clause-undamaged g c s stands halts =
+    c.sweep.ensures.sound s (removing_of stands) (damage_is_read c.sweep.result halts)
+
+pub returns-in-Sweep-clause-fault : goal.returns-in-Sweep-clause-fault
+returns-in-Sweep-clause-fault g c s stands halts =
+    absurd (c.sweep.ensures.sound s (removing_of stands) (reader_is_read c.sweep.result halts))
+
+pub returns-in-Sweep-clause-named : goal.returns-in-Sweep-clause-named
+returns-in-Sweep-clause-named g c s file stands is =
+    subst (λ (line : Line). FailsAt c.args.served.now.engine.core.back.manifest.number line s file) (sym c.in-Sweep.is)
+    (c.sweep.ensures.named s file (removing_of stands) is)
+
+pub returns-in-Sweep-clause-handed : goal.returns-in-Sweep-clause-handed
+returns-in-Sweep-clause-handed g c =
+    can_answered g.D.Watched g.D.Writer.Writer c.args.served.now.engine.disk c.sweep.new.self.engine.disk
+    c.args.served.now.engine.merging c.sweep.new.self.engine.merging c.args.planned.now
+    c.sweep.ensures.merging c.sweep.result c.sweep.ensures.untold c.requires.handed

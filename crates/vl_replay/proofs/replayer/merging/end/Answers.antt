@@ -1,9 +1,10 @@
 -- The merge that waits is given up where it has the name; else what reads is ended.
-use Rattle.std.proofs.Common.{refl, ap, sym, ◌∙◌, subst}
-use Rattle.std.specs.Prelude.{Ok, Option}
+use Rattle.std.proofs.Common.{◌≡◌, refl, ap, sym, ◌∙◌, subst}
+use Rattle.std.specs.Prelude.{Ok, Option, Some}
 use Rattle.vl_compact.specs.Progress.{made_of}
 use Rattle.vl_core.specs.Represents as engine
 use Rattle.vl_core.specs.Shown.{Shown}
+use Rattle.vl_engine.specs.Merging.{HasMerge}
 use Rattle.vl_engine.specs.UnderWay.{IsUnderWay}
 use Rattle.vl_layout.specs.Jobs.{job_ended}
 use Rattle.vl_sequential.specs.Durable.{CarriesOut}
@@ -16,12 +17,13 @@ use Rattle.vl_replay.proofs.Merges.Keeping.{drop_keeps_work, merges_kept}
 use Rattle.vl_sequential.specs.laws.Explained.{only_reader}
 use Rattle.vl_sequential.specs.laws.Growing.{drop_keeps}
 use Rattle.vl_layout.specs.Store.Dispatch.{drop_by}
-use Rattle.vl_layout.specs.Store.Things.{thing_of}
+use Rattle.vl_layout.specs.Store.Things.{AJob, Thing, thing_of}
 use Rattle.vl_sequential.specs.Sequential.{history_of}
 use Rattle.vl_replay.proofs.Disk.Carried.{quiet_carries}
 use Rattle.vl_replay.proofs.Merges.Dropping.{drop_carries, drop_makes, drop_merges}
 use Rattle.vl_replay.proofs.Merges.Waiting.{merges_behind, no_merge_named, took, took_none}
 use Rattle.vl_replay.proofs.Names.Serving.{represents}
+use Rattle.vl_engine.specs.Removing.{Removes}
 use Rattle.vl_replay.proofs.replayer.merging.end.Goals as goal
 
 pub returns-in-None-clause-makes : goal.returns-in-None-clause-makes
@@ -149,3 +151,29 @@ returns-in-None-clause-handed g c =
     (can_still g.D.Watched g.D.Writer.Writer c.args.served.now.engine.disk c.end.new.self.engine.disk
     c.args.served.now.engine.merging c.end.new.self.engine.merging c.args.planned.now
     c.end.ensures.merging (λ none. ap (λ (d : _). g.D.Watched.told d) c.end.ensures.disk ∙ none) c.requires)
+
+pub returns-in-None-clause-removes : goal.returns-in-None-clause-removes
+returns-in-None-clause-removes g c s stands no_pass removes =
+    let (still, other) = took_none c.as_slice.result.now c.args.name c.as_slice.ensures c.args.planned.now
+    c.take_planned.new.planned c.take_planned.result
+    c.take_planned.ensures c.in-None.is in
+    c.end.ensures.removes s stands.serves
+    (no_merge_named g.D.Writer.Writer g.D.Held.HeldFile.bytes c.args.planned.now s.store.things s.store.layout
+    c.args.name stands.merges.waits other) no_pass removes
+
+pub returns-in-Some-clause-removes : goal.returns-in-Some-clause-removes
+returns-in-Some-clause-removes g c s stands no_pass removes =
+    let bytes = g.D.Held.HeldFile.bytes in
+    let old = c.args.served.now.engine in
+    let new = c.abandon.new.self in
+    let (p, there, named, job, none) = took c.as_slice.result.now c.args.name c.as_slice.ensures c.args.planned.now
+    c.take_planned.new.planned c.take_planned.result c.in-Some.job
+    c.take_planned.ensures c.in-Some.is in
+    let merges = subst (λ (o : Option _). Merges g.D.Writer.Writer bytes old.merging o s.store.things s.store.layout) there stands.merges in
+    let o = merges.waits.open_job in
+    subst (λ (x : Option Thing). Removes new.core new.removing (drop_by s.store c.args.name x).state.layout)
+    (sym (subst (λ (n : _). thing_of s.store n ≡ Some (AJob o.job (made_of p.job o.job))) named merges.waits.there))
+    (subst (λ (x : _). Removes new.core new.removing (job_ended (made_of x o.job) s.store.layout)) job
+    (c.abandon.ensures.removes (history_of s) s.store.layout o
+    (record { stands = stands.serves.engine; opens = merges.opens }) merges.waits.is_open
+    (subst (λ (x : _). HasMerge g.D.Writer.Writer bytes x o.job) (sym job) merges.waits.merge) removes))

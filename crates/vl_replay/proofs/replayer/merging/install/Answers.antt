@@ -5,9 +5,11 @@ use Rattle.vl_engine.specs.Collecting.{Collects}
 use Rattle.vl_layout.specs.Store.Things.{Step}
 use Rattle.vl_sequential.specs.declared.fails.Halt.TheVariants as why
 use Rattle.vl_script.specs.declared.answer.Answer.TheVariants as answers
-use Rattle.vl_replay.proofs.Merges.Installing.{back_so, handed_so, line_carries, line_collects, line_makes, line_merges, line_named}
+use Rattle.vl_replay.proofs.Merges.Installing.{back_so, handed_so, line_carries, line_leaves, line_makes, line_merges, line_named}
 use Rattle.vl_replay.proofs.Merges.Installing.{line_sound, no_merge, told_as, told_install, unknown_carries}
 use Rattle.vl_replay.proofs.Merges.Installing.{unknown_install, unknown_step, unplanned, was_planned}
+use Rattle.vl_engine.specs.Removing.{Removes}
+use Rattle.vl_layout.specs.declared.layout.Layout.{Layout}
 use Rattle.vl_replay.proofs.replayer.merging.install.Goals as goal
 
 -- ---- none waits under this name
@@ -111,7 +113,7 @@ returns-in-Ok-clause-merges g c s stands =
 
 pub returns-in-Ok-clause-collects : goal.returns-in-Ok-clause-collects
 returns-in-Ok-clause-collects g c s stands collected =
-    line_collects g.D.Watched g.D.Writer.Writer g.D.Held.HeldFile.bytes c.args.served.now.engine.core c.install.new.self.core
+    line_leaves g.D.Watched g.D.Writer.Writer g.D.Held.HeldFile.bytes c.args.served.now.engine.core c.install.new.self.core
     c.args.served.now.engine.disk c.install.new.self.disk c.args.served.now.engine.merging c.install.new.self.merging c.in-Some.job
     (record { only_now = g.met.D.Disk.only_now; counts_now = g.met.D.Disk.counts_now }) c.args.served.now.engine.lent
     c.args.served.now.opens.items s stands.serves c.as_slice.result.now c.args.name c.as_slice.ensures c.args.planned.now
@@ -129,7 +131,35 @@ returns-in-Ok-clause-collects g c s stands collected =
       leaves = c.install.ensures.leaves;
       within = c.install.ensures.within;
     })
-    c.args.served.now.engine.collecting c.install.new.self.collecting c.install.ensures.collects collected
+    (Collects c.args.served.now.engine.core c.args.served.now.engine.collecting)
+    (Collects c.install.new.self.core c.install.new.self.collecting) c.install.ensures.collects collected
+    (Ok answers.Done) (ap told_install c.in-Ok.is)
+
+pub returns-in-Ok-clause-removes : goal.returns-in-Ok-clause-removes
+returns-in-Ok-clause-removes g c s stands collected removes =
+    line_leaves g.D.Watched g.D.Writer.Writer g.D.Held.HeldFile.bytes c.args.served.now.engine.core c.install.new.self.core
+    c.args.served.now.engine.disk c.install.new.self.disk c.args.served.now.engine.merging c.install.new.self.merging c.in-Some.job
+    (record { only_now = g.met.D.Disk.only_now; counts_now = g.met.D.Disk.counts_now }) c.args.served.now.engine.lent
+    c.args.served.now.opens.items s stands.serves c.as_slice.result.now c.args.name c.as_slice.ensures c.args.planned.now
+    c.take_planned.new.planned stands.merges c.requires c.in-Some.ensures c.install.result
+    (record {
+      decides = c.install.ensures.stands;
+      carries = c.install.ensures.carries;
+      fits = c.install.ensures.fits;
+      untouched = c.install.ensures.untouched;
+      files = c.install.ensures.files;
+      stopped = c.install.ensures.stopped;
+      failed = c.install.ensures.failed;
+      unraced = c.install.ensures.unraced;
+      meanwhile = c.install.ensures.meanwhile;
+      leaves = c.install.ensures.leaves;
+      within = c.install.ensures.within;
+    })
+    (λ (l : Layout). Collects c.args.served.now.engine.core c.args.served.now.engine.collecting l
+    × Removes c.args.served.now.engine.core c.args.served.now.engine.removing l)
+    (Removes c.install.new.self.core c.install.new.self.removing)
+    (λ state h l o told stands is files has lent both. c.install.ensures.removes state h l o told stands is files has lent both.0 both.1)
+    (collected, removes)
     (Ok answers.Done) (ap told_install c.in-Ok.is)
 
 pub returns-in-Ok-clause-carries : goal.returns-in-Ok-clause-carries
@@ -200,7 +230,7 @@ returns-in-Err-Raced-clause-merges g c s stands =
 
 pub returns-in-Err-Raced-clause-collects : goal.returns-in-Err-Raced-clause-collects
 returns-in-Err-Raced-clause-collects g c s stands collected =
-    line_collects g.D.Watched g.D.Writer.Writer g.D.Held.HeldFile.bytes c.args.served.now.engine.core c.install.new.self.core
+    line_leaves g.D.Watched g.D.Writer.Writer g.D.Held.HeldFile.bytes c.args.served.now.engine.core c.install.new.self.core
     c.args.served.now.engine.disk c.install.new.self.disk c.args.served.now.engine.merging c.install.new.self.merging c.in-Some.job
     (record { only_now = g.met.D.Disk.only_now; counts_now = g.met.D.Disk.counts_now }) c.args.served.now.engine.lent
     c.args.served.now.opens.items s stands.serves c.as_slice.result.now c.args.name c.as_slice.ensures c.args.planned.now
@@ -218,7 +248,35 @@ returns-in-Err-Raced-clause-collects g c s stands collected =
       leaves = c.install.ensures.leaves;
       within = c.install.ensures.within;
     })
-    c.args.served.now.engine.collecting c.install.new.self.collecting c.install.ensures.collects collected
+    (Collects c.args.served.now.engine.core c.args.served.now.engine.collecting)
+    (Collects c.install.new.self.core c.install.new.self.collecting) c.install.ensures.collects collected
+    (Ok (answers.Raced c.in-Err-Raced.key)) (told_as c.install.result c.in-Err-Raced.field-0 _ c.in-Err-Raced.is c.in-Err-Raced.field-0-is)
+
+pub returns-in-Err-Raced-clause-removes : goal.returns-in-Err-Raced-clause-removes
+returns-in-Err-Raced-clause-removes g c s stands collected removes =
+    line_leaves g.D.Watched g.D.Writer.Writer g.D.Held.HeldFile.bytes c.args.served.now.engine.core c.install.new.self.core
+    c.args.served.now.engine.disk c.install.new.self.disk c.args.served.now.engine.merging c.install.new.self.merging c.in-Some.job
+    (record { only_now = g.met.D.Disk.only_now; counts_now = g.met.D.Disk.counts_now }) c.args.served.now.engine.lent
+    c.args.served.now.opens.items s stands.serves c.as_slice.result.now c.args.name c.as_slice.ensures c.args.planned.now
+    c.take_planned.new.planned stands.merges c.requires c.in-Some.ensures c.install.result
+    (record {
+      decides = c.install.ensures.stands;
+      carries = c.install.ensures.carries;
+      fits = c.install.ensures.fits;
+      untouched = c.install.ensures.untouched;
+      files = c.install.ensures.files;
+      stopped = c.install.ensures.stopped;
+      failed = c.install.ensures.failed;
+      unraced = c.install.ensures.unraced;
+      meanwhile = c.install.ensures.meanwhile;
+      leaves = c.install.ensures.leaves;
+      within = c.install.ensures.within;
+    })
+    (λ (l : Layout). Collects c.args.served.now.engine.core c.args.served.now.engine.collecting l
+    × Removes c.args.served.now.engine.core c.args.served.now.engine.removing l)
+    (Removes c.install.new.self.core c.install.new.self.removing)
+    (λ state h l o told stands is files has lent both. c.install.ensures.removes state h l o told stands is files has lent both.0 both.1)
+    (collected, removes)
     (Ok (answers.Raced c.in-Err-Raced.key)) (told_as c.install.result c.in-Err-Raced.field-0 _ c.in-Err-Raced.is c.in-Err-Raced.field-0-is)
 
 pub returns-in-Err-Raced-clause-carries : goal.returns-in-Err-Raced-clause-carries
@@ -292,7 +350,7 @@ returns-in-Err-Exhausted-clause-merges g c s stands =
 
 pub returns-in-Err-Exhausted-clause-collects : goal.returns-in-Err-Exhausted-clause-collects
 returns-in-Err-Exhausted-clause-collects g c s stands collected =
-    line_collects g.D.Watched g.D.Writer.Writer g.D.Held.HeldFile.bytes c.args.served.now.engine.core c.install.new.self.core
+    line_leaves g.D.Watched g.D.Writer.Writer g.D.Held.HeldFile.bytes c.args.served.now.engine.core c.install.new.self.core
     c.args.served.now.engine.disk c.install.new.self.disk c.args.served.now.engine.merging c.install.new.self.merging c.in-Some.job
     (record { only_now = g.met.D.Disk.only_now; counts_now = g.met.D.Disk.counts_now }) c.args.served.now.engine.lent
     c.args.served.now.opens.items s stands.serves c.as_slice.result.now c.args.name c.as_slice.ensures c.args.planned.now
@@ -310,7 +368,36 @@ returns-in-Err-Exhausted-clause-collects g c s stands collected =
       leaves = c.install.ensures.leaves;
       within = c.install.ensures.within;
     })
-    c.args.served.now.engine.collecting c.install.new.self.collecting c.install.ensures.collects collected
+    (Collects c.args.served.now.engine.core c.args.served.now.engine.collecting)
+    (Collects c.install.new.self.core c.install.new.self.collecting) c.install.ensures.collects collected
+    (Ok (answers.Exhausted c.in-Err-Exhausted.counter))
+    (told_as c.install.result c.in-Err-Exhausted.field-0 _ c.in-Err-Exhausted.is c.in-Err-Exhausted.field-0-is)
+
+pub returns-in-Err-Exhausted-clause-removes : goal.returns-in-Err-Exhausted-clause-removes
+returns-in-Err-Exhausted-clause-removes g c s stands collected removes =
+    line_leaves g.D.Watched g.D.Writer.Writer g.D.Held.HeldFile.bytes c.args.served.now.engine.core c.install.new.self.core
+    c.args.served.now.engine.disk c.install.new.self.disk c.args.served.now.engine.merging c.install.new.self.merging c.in-Some.job
+    (record { only_now = g.met.D.Disk.only_now; counts_now = g.met.D.Disk.counts_now }) c.args.served.now.engine.lent
+    c.args.served.now.opens.items s stands.serves c.as_slice.result.now c.args.name c.as_slice.ensures c.args.planned.now
+    c.take_planned.new.planned stands.merges c.requires c.in-Some.ensures c.install.result
+    (record {
+      decides = c.install.ensures.stands;
+      carries = c.install.ensures.carries;
+      fits = c.install.ensures.fits;
+      untouched = c.install.ensures.untouched;
+      files = c.install.ensures.files;
+      stopped = c.install.ensures.stopped;
+      failed = c.install.ensures.failed;
+      unraced = c.install.ensures.unraced;
+      meanwhile = c.install.ensures.meanwhile;
+      leaves = c.install.ensures.leaves;
+      within = c.install.ensures.within;
+    })
+    (λ (l : Layout). Collects c.args.served.now.engine.core c.args.served.now.engine.collecting l
+    × Removes c.args.served.now.engine.core c.args.served.now.engine.removing l)
+    (Removes c.install.new.self.core c.install.new.self.removing)
+    (λ state h l o told stands is files has lent both. c.install.ensures.removes state h l o told stands is files has lent both.0 both.1)
+    (collected, removes)
     (Ok (answers.Exhausted c.in-Err-Exhausted.counter))
     (told_as c.install.result c.in-Err-Exhausted.field-0 _ c.in-Err-Exhausted.is c.in-Err-Exhausted.field-0-is)
 

@@ -1,12 +1,18 @@
 -- A merge is planned as the store has it, and carried out so.
 use Rattle.std.proofs.Common.{◌∙◌, ◌≡◌, ap, refl, subst, sym}
-use Rattle.std.specs.Prelude.{Err, None, Ok, Option, Result}
+use Rattle.std.specs.Prelude.{Err, None, Ok, OnOk, Option, Result}
 use Rattle.vl_core.specs.Shown.{Shown}
 use Rattle.vl_core.specs.declared.kept.Core.{Core}
 use Rattle.vl_layout.specs.Store.Lines as store_lines
-use Rattle.vl_layout.specs.Store.Things.{only, thing_of}
+use Rattle.vl_engine.specs.Merging.{StandsOpen, plan_outcome}
+use Rattle.vl_layout.specs.Ruling.{Ruling}
+use Rattle.vl_layout.specs.Rulings.Plan.{with_job}
+use Rattle.vl_layout.specs.Store.Things.{Step, only, thing_of}
+use Rattle.vl_layout.specs.declared.job.Job.{Job}
+use Rattle.vl_model.specs.declared.counter.Counter.{Counter}
+use Rattle.vl_replay.specs.Drawn.{drawn_all}
 use Rattle.vl_sequential.specs.Durable.{CarriesOut, LeadsTo}
-use Rattle.vl_replay.specs.Choosing.{line_for}
+use Rattle.vl_replay.specs.Choosing.{chosen, line_for}
 use Rattle.vl_replay.specs.Replaying.{Merges, StandsMerging}
 use Rattle.vl_sequential.specs.Sequential.{State, history_of, state_after, step_to}
 use Rattle.vl_sequential.specs.Stored.{IsStopped, IsStored}
@@ -15,17 +21,20 @@ use Rattle.vl_script.specs.declared.answer.Answer.{Answer}
 use Rattle.vl_script.specs.declared.answer.Answer.TheVariants as answers
 use Rattle.vl_replay.proofs.CarryingTables.{out_is}
 use Rattle.vl_sequential.specs.laws.DiskSteps.{IsWatched}
-use Rattle.vl_replay.proofs.Merges.GivenUp.{Abandons, exhausted_leads, exhausted_makes, exhausted_merges, none_of}
+use Rattle.vl_replay.proofs.CarryingRemoved.{LeavesDrawn}
+use Rattle.vl_replay.proofs.Merges.Planning.{planned_state}
+use Rattle.vl_replay.proofs.Merges.GivenUp.{Abandons, exhausted_leads, exhausted_leaves, exhausted_makes, exhausted_merges, none_of}
 use Rattle.vl_replay.proofs.Merges.GivenUp.{not_halted, stopped_fault, stopped_leads, stopped_named, stopped_sound}
 use Rattle.vl_replay.proofs.Merges.GivenUp.{stopped_undamaged, unplanned_leads}
 use Rattle.vl_replay.proofs.Merges.PlanLine.{WasMerged, handed_waits, idle_step, merge_carries, merge_makes}
-use Rattle.vl_replay.proofs.Merges.PlanLine.{merge_waits, none_due, none_waits}
+use Rattle.vl_replay.proofs.Merges.PlanLine.{merge_leaves, merge_waits, none_due, none_waits, opened_leaves, planned_as}
 use Rattle.vl_replay.proofs.Merges.PlanLine.{still_open, unplanned_carries, unplanned_makes, unplanned_merges}
 use Rattle.vl_replay.proofs.Merges.PlanLine.{waiting_idle, was_merged}
 use Rattle.vl_replay.specs.Standing.{open_in}
 use Rattle.vl_replay.proofs.Names.BeginMaking.{unread_of}
 use Rattle.vl_replay.proofs.Names.Serving.{represents}
 use Rattle.vl_replay.proofs.replayer.merging.plan.Given as given
+use Rattle.vl_engine.specs.Removing.{Removes}
 use Rattle.vl_replay.proofs.replayer.merging.plan.Goals as goal
 
 -- ---- another merge waits
@@ -405,3 +414,103 @@ returns-in-Err-clause-named g c s file stands bare is =
     stopped_named g.D.Watched watched w bytes before.disk after.disk before.core after.core after.merging os s
     stands.serves choice name bare free
     c.make_tables.new.job c.make_tables.result was c.in-Err.halt c.in-Err.is c.args.served.now.engine.core.back.manifest.number file is
+
+-- ---- what the engine keeps of which files can go
+
+pub returns-then-is_some-clause-removes : goal.returns-then-is_some-clause-removes
+returns-then-is_some-clause-removes g c s stands bare removes =
+    let engine = c.args.served.now.engine in
+    subst (λ (x : Step). Removes engine.core engine.removing x.state.layout) (sym (waits_already g c s stands bare)) removes
+
+pub returns-in_default-clause-removes : goal.returns-in_default-clause-removes
+returns-in_default-clause-removes g c s stands bare removes =
+    let old = c.args.served.now.engine in
+    let new = c.choose.new.engine in
+    let h = history_of s in
+    let l = s.store.layout in
+    let opened : StandsOpen g.D.Held.HeldFile.bytes c.args.served.now.engine.core c.args.served.now.engine.merging (history_of s)
+    s.store.layout = record { stands = stands.serves.engine; opens = stands.merges.opens } in
+    let none = c.in_ok-job.was ∙ ap Ok c.in_default.is in
+    subst (λ (x : Step). Removes new.core new.removing x.state.layout) (sym (not_due g c s stands bare))
+    (subst (λ (r : Ruling (Option Job)). Removes new.core new.removing r.layout)
+    (none_due g.D.Watched g.D.Writer.Writer g.D.Held.HeldFile.bytes old.core new.core old.disk new.disk old.merging new.merging
+    c.args.served.now.opens.items s stands.serves c.choose.result c.choose.ensures.core c.choose.ensures.disk c.args.choice
+    (c.choose.ensures.stands h l opened) none)
+    ((c.choose.ensures.removes h l opened removes).answered None (ap (plan_outcome (chosen c.args.choice l h).answer) none)).1)
+
+pub returns-in-Ok-None-clause-removes : goal.returns-in-Ok-None-clause-removes
+returns-in-Ok-None-clause-removes g c s stands bare removes =
+    let old = c.args.served.now.engine in
+    let mid = c.choose.new.engine in
+    let new = c.make_tables.new.engine in
+    let bytes = g.D.Held.HeldFile.bytes in
+    let w = g.D.Writer.Writer in
+    let os = c.args.served.now.opens.items in
+    let h = history_of s in
+    let l = s.store.layout in
+    let did = c.choose.ensures in
+    let opened : StandsOpen g.D.Held.HeldFile.bytes c.args.served.now.engine.core c.args.served.now.engine.merging (history_of s)
+    s.store.layout = record { stands = stands.serves.engine; opens = stands.merges.opens } in
+    let free = unread_of bytes h l (open_in os c.args.name) (thing_of s.store c.args.name) (stands.serves.names.each c.args.name) bare in
+    let was = whole_merge g c s stands bare in
+    let planned = planned_as g.D.Watched w bytes old.core mid.core old.disk mid.disk old.merging mid.merging os s stands.serves
+    c.choose.result did.core did.disk c.args.choice c.in-Some.job (c.in_ok-job.was ∙ ap Ok c.in-Some.is)
+    (did.stands h l opened) (did.fits h l opened stands.serves.fits)
+    (λ openable. did.represents h l (represents bytes (g.D.Watched.told old.disk) old.core os s stands.serves openable) opened)
+    (did.job h l opened) (did.looks h l opened) was.j was.plans in
+    let begun = opened_leaves g.D.Watched w bytes old.core mid.core old.disk mid.disk old.merging mid.merging os s stands.serves
+    c.choose.result did.core did.disk c.args.choice c.in-Some.job (c.in_ok-job.was ∙ ap Ok c.in-Some.is)
+    (did.stands h l opened) (did.fits h l opened stands.serves.fits)
+    (λ openable. did.represents h l (represents bytes (g.D.Watched.told old.disk) old.core os s stands.serves openable) opened)
+    (did.job h l opened) (did.looks h l opened) (Removes mid.core mid.removing) was.j was.plans (did.removes h l opened removes) in
+    let drew : LeavesDrawn (Removes new.core new.removing) new.core (with_job was.j l) = λ count is.
+    subst (λ (r : Result (Option Counter) Halt). OnOk r (Removes new.core new.removing (drawn_all count (with_job was.j l))))
+    (c.in-Ok-None.is ∙ ap Ok c.in-Ok-None.field-0-is)
+    (c.make_tables.ensures.removes (planned_state was.j s) was.j count planned is begun) in
+    merge_leaves g.D.Watched (record { only_now = g.met.D.Disk.only_now; counts_now = g.met.D.Disk.counts_now }) w bytes
+    old.core new.core old.disk new.disk new.merging c.make_tables.new.job os s stands.serves c.args.choice c.args.name bare free
+    c.make_tables.result was (c.in-Ok-None.is ∙ ap Ok c.in-Ok-None.field-0-is) (Removes new.core new.removing) drew
+
+pub returns-in-Ok-Some-clause-removes : goal.returns-in-Ok-Some-clause-removes
+returns-in-Ok-Some-clause-removes g c s stands bare removes =
+    let old = c.args.served.now.engine in
+    let mid = c.choose.new.engine in
+    let new = c.make_tables.new.engine in
+    let bytes = g.D.Held.HeldFile.bytes in
+    let w = g.D.Writer.Writer in
+    let os = c.args.served.now.opens.items in
+    let h = history_of s in
+    let l = s.store.layout in
+    let did = c.choose.ensures in
+    let opened : StandsOpen g.D.Held.HeldFile.bytes c.args.served.now.engine.core c.args.served.now.engine.merging (history_of s)
+    s.store.layout = record { stands = stands.serves.engine; opens = stands.merges.opens } in
+    let free = unread_of bytes h l (open_in os c.args.name) (thing_of s.store c.args.name) (stands.serves.names.each c.args.name) bare in
+    let was = exhausted_merge g c s stands bare in
+    let planned = planned_as g.D.Watched w bytes old.core mid.core old.disk mid.disk old.merging mid.merging os s stands.serves
+    c.choose.result did.core did.disk c.args.choice c.in-Some.job (c.in_ok-job.was ∙ ap Ok c.in-Some.is)
+    (did.stands h l opened) (did.fits h l opened stands.serves.fits)
+    (λ openable. did.represents h l (represents bytes (g.D.Watched.told old.disk) old.core os s stands.serves openable) opened)
+    (did.job h l opened) (did.looks h l opened) was.j was.plans in
+    let begun = opened_leaves g.D.Watched w bytes old.core mid.core old.disk mid.disk old.merging mid.merging os s stands.serves
+    c.choose.result did.core did.disk c.args.choice c.in-Some.job (c.in_ok-job.was ∙ ap Ok c.in-Some.is)
+    (did.stands h l opened) (did.fits h l opened stands.serves.fits)
+    (λ openable. did.represents h l (represents bytes (g.D.Watched.told old.disk) old.core os s stands.serves openable) opened)
+    (did.job h l opened) (did.looks h l opened) (Removes mid.core mid.removing) was.j was.plans (did.removes h l opened removes) in
+    let drew : LeavesDrawn (Removes new.core new.removing) new.core (with_job was.j l) = λ count is.
+    subst (λ (r : Result (Option Counter) Halt). OnOk r (Removes new.core new.removing (drawn_all count (with_job was.j l))))
+    (c.in-Ok-Some.is ∙ ap Ok c.in-Ok-Some.field-0-is)
+    (c.make_tables.ensures.removes (planned_state was.j s) was.j count planned is begun) in
+    let then = c.abandon.new.self in
+    let did_so : Abandons bytes (g.D.Watched.told new.disk) (g.D.Watched.told then.disk) new.core then.core new.merging then.merging =
+    record {
+      stands = c.abandon.ensures.stands;
+      represents = c.abandon.ensures.represents;
+      fits = c.abandon.ensures.fits;
+      core = c.abandon.ensures.core;
+    } in
+    exhausted_leaves g.D.Watched (record { only_now = g.met.D.Disk.only_now; counts_now = g.met.D.Disk.counts_now }) w bytes
+    old.disk new.disk old.core new.core new.merging os s stands.serves c.args.choice c.args.name bare free
+    c.make_tables.new.job c.make_tables.result was (g.D.Watched.told then.disk) then.core then.merging did_so
+    c.in-Ok-Some.counter (c.in-Ok-Some.is ∙ ap Ok c.in-Ok-Some.field-0-is) (Removes new.core new.removing) (Removes then.core
+    then.removing)
+    drew (λ k m o is there has so. c.abandon.ensures.removes k m o is there has so)

@@ -1,0 +1,61 @@
+//! Removal of the files that nothing holds any more.
+ghost use Rattle.std.specs.Prelude.{◌≡◌, Err, None, OnOk, true};
+ghost use Rattle.vl_core.specs.Carries.{StaysUntold};
+ghost use Rattle.vl_core.specs.Represents.{file_of};
+ghost use Rattle.vl_core.specs.Shown.{Shown};
+ghost use Rattle.vl_disk.specs.Faults.{HasCause};
+ghost use Rattle.vl_disk.specs.declared.name.Name.{Name};
+ghost use Rattle.vl_engine.specs.Collecting.{Collects};
+ghost use Rattle.vl_layout.specs.Rulings.Sweep.{sweep_ruling, swept};
+ghost use Rattle.vl_layout.specs.Stock.{is_in};
+ghost use Rattle.vl_layout.specs.Store.Dispatch.{sweep_by};
+ghost use Rattle.vl_sequential.specs.Durable.{CarriesOut};
+ghost use Rattle.vl_sequential.specs.Halts.{HaltsByDisk, HaltsByRead};
+ghost use Rattle.vl_replay.specs.Replaying.{MakesStep, RemovesIn, StandsRemoving, state_by};
+ghost use Rattle.vl_sequential.specs.Sequential.{State, history_of};
+ghost use Rattle.vl_replay.specs.Standing.{told_sweep};
+ghost use Rattle.vl_sequential.specs.Stored.{IsStopped, IsStored};
+ghost use Rattle.vl_sequential.specs.declared.fails.Halt.TheVariants as halts;
+
+use crate::replayer::Served;
+use vl_disk::Disk;
+use vl_engine::SweepFail;
+use vl_script::Answer;
+use vl_sequential::Halt;
+
+impl<D: Disk> Served<D> {
+    /// Removes the retired files that nothing holds any more, and tells how many went.
+    pub(super) fn sweep(&mut self) -> Result<Answer, Halt>
+        ensures makes { (s : State) → StandsRemoving D.Watched D.Held.bytes self.old s
+            → MakesStep D.Held.bytes (D.told self.new.engine.disk) self.new.engine.core self.new.opens.items s
+            (sweep_by s.store (sweep_ruling s.store.layout (history_of s))) result }
+        ensures removes { (s : State) → StandsRemoving D.Watched D.Held.bytes self.old s
+            → OnOk result (RemovesIn self.new (sweep_by s.store (sweep_ruling s.store.layout (history_of s))).state) }
+        ensures collects { (s : State) → StandsRemoving D.Watched D.Held.bytes self.old s
+            → Collects self.old.engine.core self.old.engine.collecting s.store.layout
+            → OnOk result (Collects self.new.engine.core self.new.engine.collecting (sweep_ruling s.store.layout (history_of s)).layout) }
+        ensures carries { (s : State) → StandsRemoving D.Watched D.Held.bytes self.old s
+            → CarriesOut D.Watched IsStored Shown IsStopped self.old.engine.disk self.new.engine.disk s
+            (state_by s (sweep_by s.store (sweep_ruling s.store.layout (history_of s)))) result }
+        ensures sound { (s : State) → StandsRemoving D.Watched D.Held.bytes self.old s → HaltsByRead result → ⊥ }
+        ensures cause { HasCause (D.faults self.old.engine.disk) (D.faults self.new.engine.disk) (HaltsByDisk result) }
+        ensures named { (s : State) (file : Name) → StandsRemoving D.Watched D.Held.bytes self.old s
+            → result ≡ Err (halts.Disk file) → is_in (file_of file) (swept None s.store.layout) ≡ true }
+        ensures merging { self.new.engine.merging ≡ self.old.engine.merging }
+        ensures untold { OnOk result (StaysUntold (D.told self.old.engine.disk) (D.told self.new.engine.disk)) }
+    {
+        told(self.engine.sweep())
+    }
+}
+
+// How a sweep is answered.
+fn told(swept: Result<u64, SweepFail>) -> Result<Answer, Halt>
+    ensures { result ≡ told_sweep swept }
+{
+    match swept {
+        Ok(count) => Ok(Answer::Removed { count }),
+        Err(SweepFail::Disk { name }) => Err(Halt::Disk { name }),
+        // An engine that is halted already: a replayer stops at the first fault, and comes never here.
+        Err(SweepFail::Halted { name }) => Err(Halt::Read { name }),
+    }
+}
