@@ -1,8 +1,9 @@
 //! Merges of an engine's tables: what is read behind them, files that can't be written, and what an opening finds.
 
+use crate::mended::MendedDisk;
 use std::alloc::Global;
 use std::test::Fail;
-use vl_disk::Name;
+use vl_disk::{Disk, Name};
 use vl_engine::{Done, Engine, MergeFail};
 use vl_mem::{MemDisk, Outcome};
 use vl_model::Value;
@@ -14,7 +15,7 @@ type Store = Engine<MemDisk>;
 const LONG: [u8; 65] = [0xaa; 65];
 
 /// Commits a value of a key, or its deletion, and flushes it to a table of its own.
-fn flushed(store: &mut Store, key: &[u8], value: Option<&[u8]>) -> bool {
+fn flushed<D: Disk>(store: &mut Engine<D>, key: &[u8], value: Option<&[u8]>) -> bool {
     let Ok(mut txn) = store.begin() else {
         return false;
     };
@@ -32,7 +33,7 @@ fn flushed(store: &mut Store, key: &[u8], value: Option<&[u8]>) -> bool {
 }
 
 /// A key that is deleted, and two others, each in a table of its own.
-fn three_more(store: &mut Store) -> bool {
+fn three_more<D: Disk>(store: &mut Engine<D>) -> bool {
     flushed(store, b"a", None)
         && flushed(store, b"b", Some(b"1"))
         && flushed(store, b"c", Some(b"1"))
@@ -48,7 +49,12 @@ fn is_read(found: &Option<Option<Value>>, value: Option<&[u8]>) -> bool {
 }
 
 /// Whether a key has this value, or none, at a number; the last one where none is named.
-fn reads(store: &mut Store, key: &[u8], at: Option<u64>, value: Option<&[u8]>) -> bool {
+fn reads<D: Disk>(
+    store: &mut Engine<D>,
+    key: &[u8],
+    at: Option<u64>,
+    value: Option<&[u8]>,
+) -> bool {
     let Ok(mut view) = store.view() else {
         return false;
     };
@@ -61,7 +67,7 @@ fn reads(store: &mut Store, key: &[u8], at: Option<u64>, value: Option<&[u8]>) -
 }
 
 /// Whether the last number is 4, at which the first key has no value and the others have theirs.
-fn shows_all(store: &mut Store) -> bool {
+fn shows_all<D: Disk>(store: &mut Engine<D>) -> bool {
     store.number() == 4
         && reads(store, b"a", None, None)
         && reads(store, b"b", None, Some(b"1"))
@@ -69,7 +75,7 @@ fn shows_all(store: &mut Store) -> bool {
 }
 
 /// Whether a merge of all four tables keeps so many entries, behind which all is read.
-fn merges_to(store: &mut Store, kept: u64) -> bool {
+fn merges_to<D: Disk>(store: &mut Engine<D>, kept: u64) -> bool {
     three_more(store) && store.merge() == Ok(Some(kept)) && shows_all(store)
 }
 
@@ -150,6 +156,22 @@ fn merges_behind_a_fault(alloc: Global, call: u64) -> Option<bool> {
     Some(ended && store.merge() == Ok(left) && reads(&mut store, b"b", None, Some(b"1")))
 }
 
+/// Where a table's file can't be written, a sweep takes it away, and the three logs that no table leads to. A second merge is done
+/// then, and a stop leaves it.
+fn merges_behind_a_sweep(alloc: Global, call: u64) -> Option<bool> {
+    let mut failing = Vec::new(alloc);
+    failing.push(call).ok()?;
+    let mut store = Engine::open(alloc, MendedDisk::new(alloc, failing), 100_000).ok()?;
+    let begun = flushed(&mut store, b"a", Some(&LONG)) && three_more(&mut store);
+    let name = Name::Table(5);
+    let ended = begun && store.merge() == Err(MergeFail::Disk { name });
+    let gone = ended && store.sweep() == Ok(4) && shows_all(&mut store);
+    let merged = gone && store.merge() == Ok(Some(2)) && store.sweep() == Ok(5);
+    let shown = merged && shows_all(&mut store);
+    let mut store = opened(alloc, store.close().crash(Outcome::Lost).ok()?)?;
+    Some(shown && shows_all(&mut store) && store.merge() == Ok(None))
+}
+
 #[test]
 fn merges_keep_what_is_read(rt: HostRuntime) -> Result<(), Fail> {
     let alloc = rt.alloc();
@@ -166,6 +188,17 @@ fn a_file_that_cannot_be_written_ends_a_merge(rt: HostRuntime) -> Result<(), Fai
     for call in 1..=8 {
         assert!(rt;
             merges_behind_a_fault(rt.alloc(), call) == Some(true),
+            "call {call}"
+        );
+    }
+    Ok(())
+}
+
+#[test]
+fn a_sweep_takes_away_what_could_not_be_written(rt: HostRuntime) -> Result<(), Fail> {
+    for call in 1..=7 {
+        assert!(rt;
+            merges_behind_a_sweep(rt.alloc(), call) == Some(true),
             "call {call}"
         );
     }

@@ -8,13 +8,13 @@ use vl_mem::{MemDisk, Outcome};
 use vl_model::Value;
 
 /// What the tests' stores are over.
-type Store = Engine<MemDisk>;
+pub type Store = Engine<MemDisk>;
 
 /// A value that a table doesn't have beside its key.
-const LONG: [u8; 65] = [0xaa; 65];
+pub const LONG: [u8; 65] = [0xaa; 65];
 
 /// Commits the value, and flushes it to a table.
-fn flushed(store: &mut Store) -> bool {
+pub fn flushed(store: &mut Store) -> bool {
     let Ok(mut txn) = store.begin() else {
         return false;
     };
@@ -36,7 +36,7 @@ fn is_read(found: &Option<Option<Value>>) -> bool {
 }
 
 /// Whether the key has the value.
-fn reads(store: &mut Store) -> bool {
+pub fn reads(store: &mut Store) -> bool {
     let Ok(mut view) = store.view() else {
         return false;
     };
@@ -46,7 +46,7 @@ fn reads(store: &mut Store) -> bool {
 }
 
 /// Moves the one value out of its log, and has a sweep remove nothing: the table leads to it.
-fn moved(alloc: Global, store: &mut Store) -> bool {
+pub fn moved(alloc: Global, store: &mut Store) -> bool {
     let Ok(mut pass) = store.pick(1) else {
         return false;
     };
@@ -65,7 +65,7 @@ fn moved(alloc: Global, store: &mut Store) -> bool {
 }
 
 /// Merges the table that leads into the log, and puts what is left of it, nothing, into its place.
-fn drained(store: &mut Store) -> bool {
+pub fn drained(store: &mut Store) -> bool {
     let Ok(Some(mut job)) = store.drain(1) else {
         return false;
     };

@@ -135,12 +135,34 @@ const RUNS: &str = "\
         segment 3 bytes 99 live 0;|0\n\
     replay .|||begin t;set t 61 *65*;commit t;rotate;flush;begin t;del t 61;commit t;rotate;flush;begin t;set t 62 01;commit t;\
         rotate;flush;begin t;set t 63 01;commit t;rotate;flush;pick g 1;batch g;plan j;move g;install j;view v;get v 61;plan k;\
-        install k;get v 61;drop v;drop g;|ok 0;ok;ok 1;ok 1;ok 1;ok 1;ok;ok 2;ok 2;ok 2;ok 2;ok;ok 3;ok 3;ok 3;ok 3;ok;ok 4;ok 4;\
-        ok 4;ok 1;found 1;ok 2;moved 1;raced 61;ok 4;none;ok 3;ok;none;ok;ok;|0\n\
+        install k;get v 61;drop v;drop g;sweep;|ok 0;ok;ok 1;ok 1;ok 1;ok 1;ok;ok 2;ok 2;ok 2;ok 2;ok;ok 3;ok 3;ok 3;ok 3;ok;ok 4;\
+        ok 4;ok 4;ok 1;found 1;ok 2;moved 1;raced 61;ok 4;none;ok 3;ok;none;ok;ok;removed 9;|0\n\
     replay .|||begin t;set t 61 *65*;commit t;rotate;flush;begin t;del t 61;commit t;rotate;flush;begin t;set t 62 01;commit t;\
-        rotate;flush;begin t;set t 63 01;commit t;rotate;flush;pick g 1;batch g;plan j;install j;move g;batch g;drop g;view v;\
+        rotate;flush;begin t;set t 63 01;commit t;rotate;flush;pick g 1;batch g;plan j;install j;move g;batch g;drop g;sweep;view v;\
         get v 61;get v 62;|ok 0;ok;ok 1;ok 1;ok 1;ok 1;ok;ok 2;ok 2;ok 2;ok 2;ok;ok 3;ok 3;ok 3;ok 3;ok;ok 4;ok 4;ok 4;ok 1;found 1;\
-        ok 2;ok;moved 0;end;ok;ok 4;none;value 01;|0\n\
+        ok 2;ok;moved 0;end;ok;removed 8;ok 4;none;value 01;|0\n\
+    replay .|||begin t;set t 61 *65*;commit t;rotate;flush;pick g 1;batch g;move g;drop g;sweep;drain j 1;install j;sweep;view v;\
+        get v 61;rotate;flush;view w;get w 61;|ok 0;ok;ok 1;ok 1;ok 1;ok 1;found 1;moved 1;ok;removed 0;ok 0;ok;removed 2;ok 1;\
+        value *65*;ok 2;ok 2;ok 1;value *65*;|0\n\
+    replay .|||begin t;set t 61 *65*;commit t;rotate;flush;view o;pick g 1;batch g;move g;drop g;sweep;drain j 1;install j;sweep;\
+        get o 61;drop o;sweep;|ok 0;ok;ok 1;ok 1;ok 1;ok 1;ok 1;found 1;moved 1;ok;removed 0;ok 0;ok;removed 0;value *65*;ok;\
+        removed 2;|0\n\
+    replay .|||begin t;set t 61 *65*;commit t;rotate;flush;begin o;pick g 1;batch g;move g;sweep;drain j 1;install j;drop o;sweep;\
+        drop g;sweep;sweep;|ok 0;ok;ok 1;ok 1;ok 1;ok 1;ok 1;found 1;moved 1;removed 0;ok 0;ok;ok;removed 0;ok;removed 2;removed 0;\
+        |0\n\
+    replay .|||begin t;set t 61 *65*;commit t;rotate;flush;begin t;del t 61;commit t;rotate;flush;begin t;set t 62 01;commit t;\
+        rotate;flush;begin t;set t 63 01;commit t;rotate;flush;plan j;drop j;sweep;|ok 0;ok;ok 1;ok 1;ok 1;ok 1;ok;ok 2;ok 2;ok 2;\
+        ok 2;ok;ok 3;ok 3;ok 3;ok 3;ok;ok 4;ok 4;ok 4;ok 2;ok;removed 4;|0\n\
+    replay .|||begin t;set t 61 *65*;commit t;rotate;flush;begin t;del t 61;commit t;rotate;flush;begin t;set t 62 01;commit t;\
+        rotate;flush;begin t;set t 63 01;commit t;rotate;flush;plan j;sweep;drop j;sweep;plan k;sweep;install k;sweep;view v;\
+        scan v - - 9;|ok 0;ok;ok 1;ok 1;ok 1;ok 1;ok;ok 2;ok 2;ok 2;ok 2;ok;ok 3;ok 3;ok 3;ok 3;ok;ok 4;ok 4;ok 4;ok 2;removed 3;ok;\
+        removed 1;ok 2;removed 0;ok;removed 5;ok 4;rows 2;62 01;63 01;|0\n\
+    replay .|||begin t;set t 61 *65*;commit t;rotate;flush;begin t;del t 61;commit t;rotate;flush;begin t;set t 62 01;commit t;\
+        rotate;flush;begin t;set t 63 01;commit t;rotate;flush;plan j;begin t;set t 64 01;commit t;rotate;flush;sweep;install j;\
+        sweep;stats;|ok 0;ok;ok 1;ok 1;ok 1;ok 1;ok;ok 2;ok 2;ok 2;ok 2;ok;ok 3;ok 3;ok 3;ok 3;ok;ok 4;ok 4;ok 4;ok 2;ok 4;ok;ok 5;\
+        ok 5;ok 6;removed 3;ok;removed 6;segments 1;segment 6 bytes 0 live 0;|0\n\
+    replay .|||sweep;begin t;set t 61 01;commit t;sweep;rotate;sweep;flush;sweep;sweep;view v;get v 61;|removed 0;ok 0;ok;ok 1;\
+        removed 0;ok 1;removed 0;ok 1;removed 1;removed 0;ok 1;value 01;|0\n\
     replay .|||begin t;set t 61 *65*;commit t;rotate;flush;pick g 26;pick g 25;batch g;move g;batch g;drop g;stats;|ok 0;ok;ok 1;\
         ok 1;ok 1;norewrite;ok 1;found 1;moved 1;end;ok;segments 2;segment 1 bytes 99 live 74;segment 2 bytes 99 live 0;|0\n\
     replay .|||begin t;set t 61 *65*;commit t;rotate;flush;pick g 1;batch g;move g;drop g;rotate;flush;rotate;view w;get w 61;stats;|\
@@ -179,11 +201,10 @@ const RUNS: &str = "\
 const COMMITS: &str =
     "begin a;set a 61 01;set a 62 02;commit a;begin b;del b 61;commit b;begin c;set c 63 -;commit c;";
 
-/// Trials of them: the stop, what is answered, and what is there where unsynced bytes are lost or halved, and where they are kept.
+/// Trials of them: the first stop and the last one, what is answered, and what is there where unsynced bytes are lost or halved, and
+/// where they are kept.
 const STOPS: &str = "\
-    0||reopened 0;rows 0;|reopened 0;rows 0;\n\
-    3||reopened 0;rows 0;|reopened 0;rows 0;\n\
-    5||reopened 0;rows 0;|reopened 0;rows 0;\n\
+    0-5||reopened 0;rows 0;|reopened 0;rows 0;\n\
     6|ok 0;ok;ok;|reopened 0;rows 0;|reopened 0;rows 0;\n\
     7|ok 0;ok;ok;|reopened 0;rows 0;|reopened 1;rows 2;61 01;62 02;\n\
     8|ok 0;ok;ok;ok 1;ok 1;ok;|reopened 1;rows 2;61 01;62 02;|reopened 1;rows 2;61 01;62 02;\n\
@@ -197,25 +218,37 @@ const STEPS: &str = "begin t;set t 61 *65*;commit t;rotate;flush;keep 2;";
 
 /// Trials of them.
 const STEP_STOPS: &str = "\
-    0||reopened 0;rows 0;|reopened 0;rows 0;\n\
-    1||reopened 0;rows 0;|reopened 0;rows 0;\n\
-    2||reopened 0;rows 0;|reopened 0;rows 0;\n\
-    3||reopened 0;rows 0;|reopened 0;rows 0;\n\
-    4||reopened 0;rows 0;|reopened 0;rows 0;\n\
-    5||reopened 0;rows 0;|reopened 0;rows 0;\n\
+    0-5||reopened 0;rows 0;|reopened 0;rows 0;\n\
     6|ok 0;ok;|reopened 0;rows 0;|reopened 0;rows 0;\n\
     7|ok 0;ok;|reopened 0;rows 0;|reopened 1;rows 1;61 *65*;\n\
-    8|ok 0;ok;ok 1;|reopened 1;rows 1;61 *65*;|reopened 1;rows 1;61 *65*;\n\
-    9|ok 0;ok;ok 1;|reopened 1;rows 1;61 *65*;|reopened 1;rows 1;61 *65*;\n\
-    10|ok 0;ok;ok 1;|reopened 1;rows 1;61 *65*;|reopened 1;rows 1;61 *65*;\n\
-    11|ok 0;ok;ok 1;ok 1;|reopened 1;rows 1;61 *65*;|reopened 1;rows 1;61 *65*;\n\
-    12|ok 0;ok;ok 1;ok 1;|reopened 1;rows 1;61 *65*;|reopened 1;rows 1;61 *65*;\n\
-    13|ok 0;ok;ok 1;ok 1;|reopened 1;rows 1;61 *65*;|reopened 1;rows 1;61 *65*;\n\
-    14|ok 0;ok;ok 1;ok 1;|reopened 1;rows 1;61 *65*;|reopened 1;rows 1;61 *65*;\n\
-    15|ok 0;ok;ok 1;ok 1;|reopened 1;rows 1;61 *65*;|reopened 1;rows 1;61 *65*;\n\
-    16|ok 0;ok;ok 1;ok 1;ok 1;|reopened 1;rows 1;61 *65*;|reopened 1;rows 1;61 *65*;\n\
-    17|ok 0;ok;ok 1;ok 1;ok 1;|reopened 1;rows 1;61 *65*;|reopened 1;rows 1;61 *65*;\n\
+    8-10|ok 0;ok;ok 1;|reopened 1;rows 1;61 *65*;|reopened 1;rows 1;61 *65*;\n\
+    11-15|ok 0;ok;ok 1;ok 1;|reopened 1;rows 1;61 *65*;|reopened 1;rows 1;61 *65*;\n\
+    16-17|ok 0;ok;ok 1;ok 1;ok 1;|reopened 1;rows 1;61 *65*;|reopened 1;rows 1;61 *65*;\n\
     18|ok 0;ok;ok 1;ok 1;ok 1;ok;|reopened 1;rows 1;61 *65*;|reopened 1;rows 1;61 *65*;";
+
+/// The same up to the flush; then a move, which makes the calls 17 and 18, an install, 19 and 20, a sweep of two files, 21 and 22, a
+/// rotation, 23 to 25, and a flush, 26 to 30.
+const SWEEPS: &str =
+    "begin t;set t 61 *65*;commit t;rotate;flush;pick g 1;batch g;move g;drop g;sweep;drain j 1;install j;sweep;\
+    view v;get v 61;rotate;flush;view w;get w 61;";
+
+/// Trials of them.
+const SWEEP_STOPS: &str = "\
+    0-5||reopened 0;rows 0;|reopened 0;rows 0;\n\
+    6|ok 0;ok;|reopened 0;rows 0;|reopened 0;rows 0;\n\
+    7|ok 0;ok;|reopened 0;rows 0;|reopened 1;rows 1;61 *65*;\n\
+    8-10|ok 0;ok;ok 1;|reopened 1;rows 1;61 *65*;|reopened 1;rows 1;61 *65*;\n\
+    11-15|ok 0;ok;ok 1;ok 1;|reopened 1;rows 1;61 *65*;|reopened 1;rows 1;61 *65*;\n\
+    16-17|ok 0;ok;ok 1;ok 1;ok 1;ok 1;found 1;|reopened 1;rows 1;61 *65*;|reopened 1;rows 1;61 *65*;\n\
+    18-19|ok 0;ok;ok 1;ok 1;ok 1;ok 1;found 1;moved 1;ok;removed 0;ok 0;|reopened 1;rows 1;61 *65*;|reopened 1;rows 1;61 *65*;\n\
+    20-21|ok 0;ok;ok 1;ok 1;ok 1;ok 1;found 1;moved 1;ok;removed 0;ok 0;ok;|reopened 1;rows 1;61 *65*;|\
+        reopened 1;rows 1;61 *65*;\n\
+    22-24|ok 0;ok;ok 1;ok 1;ok 1;ok 1;found 1;moved 1;ok;removed 0;ok 0;ok;removed 2;ok 1;value *65*;|\
+        reopened 1;rows 1;61 *65*;|reopened 1;rows 1;61 *65*;\n\
+    25-29|ok 0;ok;ok 1;ok 1;ok 1;ok 1;found 1;moved 1;ok;removed 0;ok 0;ok;removed 2;ok 1;value *65*;ok 2;|\
+        reopened 1;rows 1;61 *65*;|reopened 1;rows 1;61 *65*;\n\
+    30|ok 0;ok;ok 1;ok 1;ok 1;ok 1;found 1;moved 1;ok;removed 0;ok 0;ok;removed 2;ok 1;value *65*;ok 2;ok 2;ok 1;value *65*;|\
+        reopened 1;rows 1;61 *65*;|reopened 1;rows 1;61 *65*;";
 
 /// Words that aren't plain, between the bars.
 const NOT_PLAIN: &str =
@@ -233,7 +266,7 @@ const NO_LINES: &str =
     |scan a - -|scan a - - 0|scan a - - 65536|scan a - - 01|rscan a - - 1 1|scan a 6 - 1|drop|drop a b|drop A|rotate \
     |rotate a| flush|flush 1|Flush|keep|keep 256|keep 01|keep a|getat a 61|getat a 61 01|getat a 61 18446744073709551616\
     |getat a 6 1|stats |stats 1|Stats|pick|pick g|pick g 256|pick g 01|pick g -|pick g 1 2|pick G 1|batch|batch g 1\
-    |batch G|move|move g 1|move ";
+    |batch G|move|move g 1|move |sweep |sweep x|sweep 1|Sweep|swee";
 
 /// The text that stands for these bytes in a table.
 fn spelled(alloc: Global, text: &str) -> Result<Vec<u8>, Fail> {
@@ -314,21 +347,45 @@ fn runs_print_what_is_listed(rt: HostRuntime) -> Result<(), Fail> {
     Ok(())
 }
 
-/// The words of the first trial of a script that doesn't print what the table of its stops has, or ends with another status.
-fn first_wrong(alloc: Global, script: &str, stops: &str) -> Result<Option<String>, Fail> {
-    for row in stops.split('\n') {
+/// The first stop and the last one of a row `N-M`, or `N` of one stop.
+fn stops_of(text: &str) -> (u32, u32) {
+    let (first, last) = text.split_once('-').unwrap_or((text, text));
+    (first.parse().unwrap_or(0), last.parse().unwrap_or(0))
+}
+
+/// The words of the first trial of a script, under one of the stops of a row, that doesn't print this or ends with another status.
+fn first_not(
+    alloc: Global,
+    script: &str,
+    stops: &str,
+    outcome: &str,
+    wanted: &str,
+) -> Result<Option<String>, Fail> {
+    let wanted = spelled(alloc, wanted)?;
+    let (first, last) = stops_of(stops);
+    for stop in first..=last {
+        let words = format!(in alloc; "trial {stop} {outcome}")?;
+        let (printed, status) = ran(alloc, words.as_str(), "", "", script)?;
+        if printed.as_slice() != wanted.as_slice() || status.as_str() != "0" {
+            return Ok(Some(words));
+        }
+    }
+    Ok(None)
+}
+
+/// The words of the first trial of a script that isn't as the table of its stops has it.
+fn first_wrong(alloc: Global, script: &str, table: &str) -> Result<Option<String>, Fail> {
+    for row in table.split('\n') {
         let mut fields = row.split('|');
-        let stop = fields.next().unwrap_or("");
+        let stops = fields.next().unwrap_or("");
         let answers = fields.next().unwrap_or("");
         let lost = fields.next().unwrap_or("");
         let kept = fields.next().unwrap_or("");
         for (outcome, rows) in [("0", lost), ("1", kept), ("2", lost)] {
-            let words = format!(in alloc; "trial {stop} {outcome}")?;
             let wanted = format!(in alloc; "{answers}{rows}")?;
-            let wanted = spelled(alloc, wanted.as_str())?;
-            let (printed, status) = ran(alloc, words.as_str(), "", "", script)?;
-            if printed.as_slice() != wanted.as_slice() || status.as_str() != "0" {
-                return Ok(Some(words));
+            let wrong = first_not(alloc, script, stops, outcome, wanted.as_str())?;
+            if wrong.is_some() {
+                return Ok(wrong);
             }
         }
     }
@@ -337,8 +394,8 @@ fn first_wrong(alloc: Global, script: &str, stops: &str) -> Result<Option<String
 
 #[test]
 fn steps_are_tried_under_each_stop(rt: HostRuntime) -> Result<(), Fail> {
-    for (script, stops) in [(COMMITS, STOPS), (STEPS, STEP_STOPS)] {
-        let wrong = first_wrong(rt.alloc(), script, stops)?;
+    for (script, table) in [(COMMITS, STOPS), (STEPS, STEP_STOPS), (SWEEPS, SWEEP_STOPS)] {
+        let wrong = first_wrong(rt.alloc(), script, table)?;
         let words = wrong.as_ref().map_or("", |it| it.as_str());
         assert!(rt; wrong.is_none(), "{words}");
     }

@@ -58,7 +58,18 @@ const FLUSHED: &str = "\
     set t 62 aaaaaaaaaaaaaaaaaaaaaaaaaaaaaaaaaaaaaaaaaaaaaaaaaaaaaaaaaaaaaaaaaaaaaaaaaaaaaaaaaaaaaaaaaaaaaaaaaaaaaaaaaaaaaaaaaaaaaaaaaaaaaaaaaa\n\
     commit t\nrotate\nflush\n";
 
-/// What a view prints of its longer value.
+/// Lines that read its short value and its long one, and a pass over its log.
+const FIRST: &str = "view v\nget v 61\n";
+
+const SECOND: &str = "view v\nget v 62\n";
+
+const PASS: &str = "pick g 1\nbatch g\n";
+
+/// Its longer value.
+const LONG: &str =
+    "aaaaaaaaaaaaaaaaaaaaaaaaaaaaaaaaaaaaaaaaaaaaaaaaaaaaaaaaaaaaaaaaaaaaaaaaaaaaaaaaaaaaaaaaaaaaaaaaaaaaaaaaaaaaaaaaaaaaaaaaaaaaaaaaaa";
+
+/// What a view prints of it.
 const LONG_VALUE: &str =
     "ok 1\nvalue aaaaaaaaaaaaaaaaaaaaaaaaaaaaaaaaaaaaaaaaaaaaaaaaaaaaaaaaaaaaaaaaaaaaaaaaaaaaaaaaaaaaaaaaaaaaaaaaaaaaaaaaaaaaaaaaaaaaaaaaaaaaaaaaaa\n";
 
@@ -123,89 +134,120 @@ fn flushed_but(alloc: Global, at: (Name, Change)) -> Result<MemDisk, Fail> {
 #[test]
 fn a_store_with_a_changed_file_says_where(rt: HostRuntime) -> Result<(), Fail> {
     let alloc = rt.alloc();
-    // The file, what happens to it, the key that is then read, what is printed, and the status.
+    // The file, what happens to it, what is then asked for, what is printed, and the status.
     let cases = [
         (
             Name::Table(1),
             Change::Flipped(201),
-            "61",
+            FIRST,
             "damaged table 1 at 196\n",
             4,
         ),
         (
             Name::Table(1),
             Change::Cut(23),
-            "61",
+            FIRST,
             "damaged table 1 at 0\n",
             4,
         ),
         (
             Name::Table(1),
             Change::Flipped(144),
-            "61",
+            FIRST,
             "damaged table 1 at 139\n",
             4,
         ),
         (
             Name::Table(1),
             Change::Gone,
-            "61",
+            FIRST,
             "damaged table 1 at 0\n",
             4,
         ),
-        (Name::Log(1), Change::Gone, "61", "damaged log 1 at 0\n", 4),
+        (Name::Log(1), Change::Gone, FIRST, "damaged log 1 at 0\n", 4),
         (
             Name::Table(1),
             Change::Flipped(16),
-            "61",
+            FIRST,
             "ok 1\ndamaged table 1 at 16\n",
             4,
         ),
         (
             Name::Log(1),
             Change::Flipped(114),
-            "62",
+            SECOND,
             "ok 1\ndamaged log 1 at 106\n",
             4,
         ),
+        (
+            Name::Log(1),
+            Change::Flipped(115),
+            PASS,
+            "ok 1\ndamaged log 1 at 16\n",
+            4,
+        ),
         // A torn switch never came: the table is a stray, and the log is read.
-        (Name::Manifest(1), Change::Cut(103), "62", LONG_VALUE, 0),
+        (Name::Manifest(1), Change::Cut(103), SECOND, LONG_VALUE, 0),
     ];
-    for (file, change, key, printed, status) in cases {
+    for (file, change, input, printed, status) in cases {
         let disk = flushed_but(alloc, (file, change))?;
-        let input = format!(in alloc; "view v\nget v {key}\n")?;
-        let (found, text, _) = outcome_of(alloc, input.as_str(), disk)?;
+        let (found, text, _) = outcome_of(alloc, input, disk)?;
         assert_eq!(rt; text.as_slice(), printed.as_bytes());
         assert_eq!(rt; found, status, "{printed}");
     }
     Ok(())
 }
 
+/// A value that is moved, its log and table, which go then, and what is flushed behind them. `A` stands for the value.
+const SWEPT: &str =
+    "begin t\nset t 61 A\ncommit t\nrotate\nflush\npick g 1\nbatch g\nmove g\ndrop g\nsweep\ndrain j 1\n\
+    install j\nsweep\nview v\nget v 61\nrotate\nflush\nview w\nget w 61\n";
+
+/// The last changing call of each line that makes some, and what is printed in front of that line since the one before.
+const CALLS: [(u64, &str); 9] = [
+    (6, ""),
+    (8, "ok 0\nok\n"),
+    (11, "ok 1\n"),
+    (16, "ok 1\n"),
+    (18, "ok 1\nok 1\nfound 1\n"),
+    (20, "moved 1\nok\nremoved 0\nok 0\n"),
+    (22, "ok\n"),
+    (25, "removed 2\nok 1\nvalue A\n"),
+    (30, "ok 2\n"),
+];
+
+/// What is printed where a call fails.
+fn printed_by(alloc: Global, call: u64) -> Result<String, Fail> {
+    let mut printed = String::new(alloc);
+    for (last, answers) in CALLS {
+        printed.push_str(answers)?;
+        if call <= last {
+            break;
+        }
+    }
+    printed.push_str("disk fault\n")?;
+    Ok(printed.replace(alloc, "A", LONG)?)
+}
+
 #[test]
 fn a_step_on_files_that_fails_ends_a_run_and_loses_nothing(rt: HostRuntime) -> Result<(), Fail> {
     let alloc = rt.alloc();
-    let input = "begin t\nset t 61 01\ncommit t\nrotate\nflush\n";
-    // The opening takes six calls, the commit two, the rotation three and the flush five.
-    for call in 1..=16 {
+    let input = SWEPT.replace(alloc, "A", LONG)?;
+    for call in 1..=30 {
         let mut calls = Vec::new(alloc);
         calls.push(call)?;
         let disk = MemDisk::new(alloc, calls, Vec::new(alloc));
-        let answers = match call {
-            1..=6 => "disk fault\n",
-            7..=8 => "ok 0\nok\ndisk fault\n",
-            9..=11 => "ok 0\nok\nok 1\ndisk fault\n",
-            _ => "ok 0\nok\nok 1\nok 1\ndisk fault\n",
-        };
-        let (status, printed, disk) = outcome_of(alloc, input, disk)?;
-        assert_eq!(rt; printed.as_slice(), answers.as_bytes(), "call {call}");
+        let wanted = printed_by(alloc, call)?;
+        let (status, printed, disk) = outcome_of(alloc, input.as_str(), disk)?;
+        assert_eq!(rt; printed.as_slice(), wanted.as_bytes(), "call {call}");
         assert_eq!(rt; status, 3, "call {call}");
 
         let wanted = if call <= 7 {
             "ok 0\nnone\n"
         } else {
-            "ok 1\nvalue 01\n"
+            LONG_VALUE
         };
-        let (status, printed, _) = outcome_of(alloc, "view v\nget v 61\n", disk)?;
+        let (status, printed, _) = outcome_of(alloc, FIRST, disk)?;
         assert_eq!(rt; printed.as_slice(), wanted.as_bytes(), "call {call}");
         assert_eq!(rt; status, 0, "call {call}");
     }
