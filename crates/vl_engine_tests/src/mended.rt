@@ -54,13 +54,16 @@ impl Disk for MendedDisk {
 
     type Writer = MemWriter;
 
-    ghost lawful = { λ d. ⟦<MemDisk as Disk>⟧.lawful d.disk };
+    ghost use Rattle.vl_mem.specs.Event.{told_lawful, counts_present, only_present};
+    ghost use Rattle.vl_mem.specs.FailsPast.{counted_past};
 
-    ghost counts_now = { λ d. ⟦<MemDisk as Disk>⟧.counts_now d.disk };
+    ghost lawful = { λ d. told_lawful d.disk.events.items d.disk.kept.sound };
 
-    ghost only_now = { λ d. ⟦<MemDisk as Disk>⟧.only_now d.disk };
+    ghost counts_now = { λ d. counts_present d.disk.events.items };
 
-    ghost counts_past = { λ d. ⟦<MemDisk as Disk>⟧.counts_past d.disk };
+    ghost only_now = { λ d. only_present d.disk.events.items };
+
+    ghost counts_past = { λ d. counted_past d.disk };
 
     fn list(&mut self, alloc: Global) -> Result<Vec<Name>, DiskFail> {
         self.disk.list(alloc)
