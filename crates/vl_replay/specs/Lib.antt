@@ -8,3 +8,4 @@ pub mod Replaying
 pub mod Rounds
 pub mod Run
 pub mod Standing
+pub mod Sweeping

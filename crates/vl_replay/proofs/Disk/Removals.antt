@@ -11,7 +11,7 @@ use Rattle.vl_core.specs.Represents.{file_of}
 use Rattle.vl_disk.specs.Chance.{GrowsByFrames}
 use Rattle.vl_disk.specs.DiskState.{DiskState, File, without}
 use Rattle.vl_disk.specs.Calls.{Removes as RemovesFile}
-use Rattle.vl_disk.specs.Disk.{IsChangedBy}
+use Rattle.vl_disk.specs.Disk.{IsChangedBy, IsFree}
 use Rattle.vl_disk.specs.Faults.{after_calls, one_more}
 use Rattle.vl_disk.specs.Lending.{Adopts, adopted}
 use Rattle.vl_disk.specs.declared.errors.Failed.{Failed}
@@ -20,7 +20,7 @@ use Rattle.vl_disk.specs.declared.name.Name.TheVariants.{Log, Manifest, Table}
 use Rattle.vl_disk.specs.declared.watched.Watched.{Ghosts}
 use Rattle.vl_disk.specs.declared.writer.Writer.{Ghosts as Writers}
 use Rattle.vl_disk.specs.laws.NameMap.{get_inserted_other, get_removed, get_removed_other, same_or_other}
-use Rattle.vl_engine.specs.Sweeping.{RemovesAll, RemovesOne, StopsRemoving, TakesIfLent}
+use Rattle.vl_engine.specs.Sweeping.{AreFree, RemovesAll, RemovesOne, StopsRemoving, TakesIfLent, names_of}
 use Rattle.vl_layout.specs.Rulings.Sweep.{is_same}
 use Rattle.vl_layout.specs.Stock.{is_in}
 use Rattle.vl_layout.specs.declared.file_name.FileName.{FileName}
@@ -207,3 +207,51 @@ module _ {D W : Type 0} (g : Ghosts D) (w : Writers W) {k : Writers W} where
             (map (λ (file : RetiredFile (Lent W k)). file_of file.name) stops.behind)) (itself (file_of stops.at.name))
         among (x ∷ front) = ap (λ (b : Bool). is_same (file_of stops.at.name) (file_of x.name) || b) (among front)
             ∙ or_true (is_same (file_of stops.at.name) (file_of x.name))
+
+-- ---- by their names as a layout has them
+
+same_name : (a b : Name) → is_same (file_of a) (file_of b) ≡ true → a ≡ b
+same_name (Log a) (Log b) is = ap Log (let e : a ≡ b = grind (arith, nat_tests, is) in e)
+same_name (Log a) (Table b) is = absurd cc
+same_name (Log a) (Manifest b) is = absurd cc
+same_name (Table a) (Log b) is = absurd cc
+same_name (Table a) (Table b) is = ap Table (let e : a ≡ b = grind (arith, nat_tests, is) in e)
+same_name (Table a) (Manifest b) is = absurd cc
+same_name (Manifest a) (Log b) is = absurd cc
+same_name (Manifest a) (Table b) is = absurd cc
+same_name (Manifest a) (Manifest b) is = ap Manifest (let e : a ≡ b = grind (arith, nat_tests, is) in e)
+
+same_itself : (a : Name) → is_same (file_of a) (file_of a) ≡ true
+same_itself (Log a) = grind (arith, nat_tests)
+same_itself (Table a) = grind (arith, nat_tests)
+same_itself (Manifest a) = grind (arith, nat_tests)
+
+module _ {L : Type 0} (name : Name) where
+  -- one of those that are gone is gone,
+  pub among_free : (disk : DiskState) (fs : List (RetiredFile L)) → AreFree (names_of fs) disk
+      → is_in (file_of name) (map (λ (file : RetiredFile L). file_of file.name) fs) ≡ true → IsFree name disk
+  among_free disk [] free is = absurd cc
+  among_free disk (f ∷ fs) free is = by (is_same (file_of name) (file_of f.name)) refl is (among_free disk fs free.1)
+    where
+      by : (b : Bool) → is_same (file_of name) (file_of f.name) ≡ b
+          → (b || is_in (file_of name) (map (λ (file : RetiredFile L). file_of file.name) fs)) ≡ true
+          → (is_in (file_of name) (map (λ (file : RetiredFile L). file_of file.name) fs) ≡ true → IsFree name disk) → IsFree name disk
+      by true same is later = subst (λ (n : Name). IsFree n disk) (sym (same_name name f.name same)) free.0
+      by false same is later = later is
+
+  -- and another one is none of them
+  pub apart_from : (fs : List (RetiredFile L)) → is_in (file_of name) (map (λ (file : RetiredFile L). file_of file.name) fs) ≡ false
+      → AllByRecursion (λ (other : Name). name ≢ other) (names_of fs)
+  apart_from [] is = tt
+  apart_from (f ∷ fs) is = by (is_same (file_of name) (file_of f.name)) refl is (apart_from fs)
+    where
+      by : (b : Bool) → is_same (file_of name) (file_of f.name) ≡ b
+          → (b || is_in (file_of name) (map (λ (file : RetiredFile L). file_of file.name) fs)) ≡ false
+          → (is_in (file_of name) (map (λ (file : RetiredFile L). file_of file.name) fs) ≡ false
+          → AllByRecursion (λ (other : Name). name ≢ other) (names_of fs))
+          → (name ≢ f.name) × AllByRecursion (λ (other : Name). name ≢ other) (names_of fs)
+      by true same is later = absurd cc
+      by false same is later = (
+        λ e. false_true (sym same ∙ ap (λ (n : Name). is_same (file_of name) (file_of n)) (sym e) ∙ same_itself name),
+        later is,
+      )

@@ -4,7 +4,7 @@ use Rattle.std.proofs.Common.{refl, ap}
 use Rattle.std.proofs.Common.{sym, ◌∙◌, subst, arith}
 use Rattle.std.proofs.lemmas.List.Elements.{recursion_from_All}
 use Rattle.std.specs.Prelude.{◌≢◌, Option, None, Some, Ok, Err, Result, OnOk}
-use Rattle.std.specs.FinMap.{get}
+use Rattle.std.specs.Option.{ForSome}
 use Rattle.std.specs.List.{AllByRecursion, filter}
 use Rattle.vl_compact.specs.declared.files.Lent.{Lent}
 use Rattle.vl_core.specs.MayStep.{LeavesNumbers}
@@ -24,7 +24,7 @@ use Rattle.vl_disk.specs.declared.writer.Writer.{Ghosts as Writers}
 use Rattle.vl_disk.specs.laws.NameMap.{same_or_other}
 use Rattle.vl_engine.proofs.Sweeps.Freed.{swept_are, swept_count}
 use Rattle.vl_engine.specs.Removing.{IsThere, IsWaiting, Removes, all_retired}
-use Rattle.vl_engine.specs.Sweeping.{KeepsAllBut, SweepCarries, SweepFailed, SweepsAs, gone_before, names_of, ready, sweep_effects}
+use Rattle.vl_engine.specs.Sweeping.{AreFree, KeepsAllBut, SweepCarries, SweepFailed, SweepsAs, gone_before, names_of, ready, sweep_effects}
 use Rattle.vl_engine.specs.Sweeping.{sweep_otherwise, sweep_outcome, up_to}
 use Rattle.vl_engine.specs.declared.fails.SweepFail.{SweepFail}
 use Rattle.vl_engine.specs.declared.fails.SweepFail.TheVariants as unswept
@@ -50,6 +50,7 @@ use Rattle.vl_sequential.specs.Durable.{CarriesOut, CrashesShow, HoldsCommits, H
 use Rattle.vl_sequential.specs.Halts.{HaltsByRead}
 use Rattle.vl_replay.specs.Replaying.{StandsIn, state_by}
 use Rattle.vl_replay.specs.Standing.{told_sweep}
+use Rattle.vl_replay.specs.Sweeping.{RemovesJust}
 use Rattle.vl_sequential.specs.Sequential.{State, history_of}
 use Rattle.vl_sequential.specs.Stopped.{AreNumberedUpTo, StopsStep, step_failed}
 use Rattle.vl_sequential.specs.Stored.{IsStopped, IsStored}
@@ -59,7 +60,7 @@ use Rattle.vl_replay.specs.declared.replayer.open.Open.{Open}
 use Rattle.vl_script.specs.declared.answer.Answer.{Answer}
 use Rattle.vl_sequential.specs.laws.DiskSteps.{IsWatched}
 use Rattle.vl_sequential.specs.laws.HeldDisk.{stored_by}
-use Rattle.vl_replay.proofs.Disk.Removals.{IsReady, stops_made, stops_named, stops_torn}
+use Rattle.vl_replay.proofs.Disk.Removals.{IsReady, among_free, apart_from, stops_made, stops_named, stops_torn}
 use Rattle.vl_replay.proofs.Names.Serving.{represents}
 use Rattle.vl_replay.proofs.Names.SweepMaking.{SweepsOf, sweep_failed}
 
@@ -181,6 +182,19 @@ module _ {D H R W : Type 0} (g : Ghosts D) (watched : IsWatched g) (w : Writers 
       let same : name ≡ file = cc in
       subst (λ (n : FileName). is_in (file_of n) (swept None s.store.layout) ≡ true) same
       (ap (is_in (file_of name)) going_are ∙ stops_named g w going old new name did.2)
+
+  -- where it was answered just those went
+  pub sweep_removed : (result : Result ℕ SweepFail)
+      → OnOk result (ForSome (g.told new) (AreFree (names_of (ready (up_to None before.back.version_number kept.pins)
+      kept.stock.trash.items))))
+      → KeepsAllBut (names_of (ready (up_to None before.back.version_number kept.pins) kept.stock.trash.items)) (g.told old) (g.told new)
+      → OnOk (told_sweep result) (RemovesJust (swept None s.store.layout) (g.told old) (g.told new))
+  sweep_removed (Ok count) free others = λ state now was is. record {
+    gone = λ name there. among_free name now going (free now is) (sym (ap (is_in (file_of name)) going_are) ∙ there);
+    others = λ name away. others state now was is name (apart_from name going (sym (ap (is_in (file_of name)) going_are) ∙ away));
+  }
+  sweep_removed (Err (unswept.Disk name)) free others = tt
+  sweep_removed (Err (unswept.Halted name)) free others = tt
 
   module _ (held : HoldsState g IsStored s old) (merging : Option OpenMerge) (result : Result ℕ SweepFail)
       (did : DidSweep merging result) where

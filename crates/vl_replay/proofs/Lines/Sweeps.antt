@@ -1,5 +1,5 @@
 -- What a sweep leaves of merges and passes, and what lines of passes leave of the layout.
-use Rattle.std.proofs.Common.{◌≡◌, ℕ, List, refl}
+use Rattle.std.proofs.Common.{◌≡◌, ℕ, Bool, true, false, List, refl}
 use Rattle.std.specs.Prelude.{Option, None, Some}
 use Rattle.vl_core.specs.Lasts.{Lasts}
 use Rattle.vl_layout.specs.Relocation.{Candidate, Pass}
@@ -14,6 +14,8 @@ use Rattle.vl_layout.specs.declared.layout.Layout.{Layout}
 use Rattle.vl_model.specs.History.{History}
 use Rattle.vl_seglog.specs.declared.sealed.SealedLog.{SealedLog}
 use Rattle.vl_layout.specs.Relocation as relocation
+use Rattle.vl_script.specs.declared.line.Line.{Line}
+use Rattle.vl_script.specs.declared.line.Line.TheVariants.{Sweep}
 use Rattle.vl_replay.proofs.Merges.Keeping.{KeepsMerges, KeepsPasses, same_jobs, same_passes}
 
 -- it leaves merges and passes alone
@@ -54,3 +56,9 @@ batch_layout s name (Some (APass pass None)) = of (relocation.next_batch pass).0
     of : (found : Option (List Candidate)) → (found_by s name (relocation.next_batch pass) found).state.layout ≡ s.layout
     of None = refl
     of (Some batch) = refl
+
+-- ---- which line it is
+
+abbrev pub is_sweep : Line → Bool
+is_sweep Sweep = true
+is_sweep line = false

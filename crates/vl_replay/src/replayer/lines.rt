@@ -13,7 +13,10 @@ ghost use Rattle.vl_replay.specs.Handed.{CanHandIn};
 ghost use Rattle.vl_replay.specs.Passing.{PassesIn, TellsUsed, name_made};
 ghost use Rattle.vl_replay.specs.Replaying.{MakesStep, MergesIn, RemovesIn, StandsFor, StandsWith, TakesLines, disk_of};
 ghost use Rattle.vl_sequential.specs.Sequential.{IsTold, State, answer_to, state_after, step_to};
+ghost use Rattle.vl_layout.specs.Rulings.Sweep.{swept};
 ghost use Rattle.vl_replay.specs.Standing.{open_in};
+ghost use Rattle.vl_replay.specs.Sweeping.{RemovesJust};
+ghost use Rattle.vl_script.specs.declared.line.Line.TheVariants as lines;
 ghost use Rattle.vl_sequential.specs.Stored.{IsStopped, IsStored};
 ghost use Rattle.vl_sequential.specs.declared.fails.Halt.{Halt as Halts};
 ghost use Rattle.vl_sequential.specs.declared.fails.Halt.TheVariants as halts;
@@ -53,6 +56,11 @@ impl<D: Disk> Replayer<D> {
         // However the line ends, a store may be opened on the disk again.
         ensures carries { TakesLines self.old → (s : State) → StandsFor D.Watched D.Writer.Writer D.Held.bytes self.old s
             → CarriesOut D.Watched IsStored Shown IsStopped (disk_of self.old) (disk_of self.new) s (state_after s line) result }
+
+        // By a sweep that is answered just the files go that its ruling removes.
+        ensures removed { TakesLines self.old → (s : State) → StandsFor D.Watched D.Writer.Writer D.Held.bytes self.old s
+            → line ≡ lines.Sweep
+            → OnOk result (RemovesJust (swept None s.store.layout) (D.told (disk_of self.old)) (D.told (disk_of self.new))) }
 
         // What the store has isn't damaged. Only a line that reads tables, or goes on with a pass, asks a reader, which counts its
         // fault.
@@ -182,6 +190,9 @@ fn carry_out<D: Disk>(
         → OnOk result (RemovesIn served.new (step_to s line).state) }
     ensures carries { (s : State) → StandsWith D.Watched D.Writer.Writer D.Held.bytes served.old planned.old passing.old s
         → CarriesOut D.Watched IsStored Shown IsStopped served.old.engine.disk served.new.engine.disk s (state_after s line) result }
+    ensures removed { (s : State) → StandsWith D.Watched D.Writer.Writer D.Held.bytes served.old planned.old passing.old s
+        → line ≡ lines.Sweep
+        → OnOk result (RemovesJust (swept None s.store.layout) (D.told served.old.engine.disk) (D.told served.new.engine.disk)) }
     ensures sound { (s : State) → StandsWith D.Watched D.Writer.Writer D.Held.bytes served.old planned.old passing.old s
         → HaltsByRead result → ReadsTables line s }
     ensures undamaged { (s : State) → StandsWith D.Watched D.Writer.Writer D.Held.bytes served.old planned.old passing.old s

@@ -14,6 +14,7 @@ ghost use Rattle.vl_sequential.specs.Halts.{HaltsByDisk, HaltsByRead};
 ghost use Rattle.vl_replay.specs.Replaying.{MakesStep, RemovesIn, StandsRemoving, state_by};
 ghost use Rattle.vl_sequential.specs.Sequential.{State, history_of};
 ghost use Rattle.vl_replay.specs.Standing.{told_sweep};
+ghost use Rattle.vl_replay.specs.Sweeping.{RemovesJust};
 ghost use Rattle.vl_sequential.specs.Stored.{IsStopped, IsStored};
 ghost use Rattle.vl_sequential.specs.declared.fails.Halt.TheVariants as halts;
 
@@ -41,6 +42,9 @@ impl<D: Disk> Served<D> {
         ensures cause { HasCause (D.faults self.old.engine.disk) (D.faults self.new.engine.disk) (HaltsByDisk result) }
         ensures named { (s : State) (file : Name) → StandsRemoving D.Watched D.Held.bytes self.old s
             → result ≡ Err (halts.Disk file) → is_in (file_of file) (swept None s.store.layout) ≡ true }
+        // Just the files went that the ruling removes.
+        ensures removed { (s : State) → StandsRemoving D.Watched D.Held.bytes self.old s
+            → OnOk result (RemovesJust (swept None s.store.layout) (D.told self.old.engine.disk) (D.told self.new.engine.disk)) }
         ensures merging { self.new.engine.merging ≡ self.old.engine.merging }
         ensures untold { OnOk result (StaysUntold (D.told self.old.engine.disk) (D.told self.new.engine.disk)) }
     {

@@ -21,3 +21,6 @@ returns-in-Ok-clause-after g c s stands = record {
 pub returns-in-Err-clause-carries : goal.returns-in-Err-clause-carries
 returns-in-Err-clause-carries g c running s stands =
     c.in-Err.ensures.carries s stands
+
+pub returns-in-Ok-clause-removed : goal.returns-in-Ok-clause-removed
+returns-in-Ok-clause-removed g c running s stands is = c.in-Ok.ensures.removed s stands is

@@ -5,17 +5,18 @@ use Rattle.vl_core.specs.Represents as engine
 use Rattle.vl_engine.specs.Collecting.{Collects}
 use Rattle.vl_engine.specs.Merging.{StandsOpen}
 use Rattle.vl_engine.specs.Sweeping.{sweep_outcome}
-use Rattle.vl_layout.specs.Rulings.Sweep.{sweep_ruling}
+use Rattle.vl_layout.specs.Rulings.Sweep.{sweep_ruling, swept}
 use Rattle.vl_layout.specs.Store.Dispatch.{sweep_by}
 use Rattle.vl_sequential.specs.Halts.{HaltsByRead}
 use Rattle.vl_replay.specs.Replaying.{MakesStep}
+use Rattle.vl_replay.specs.Sweeping.{RemovesJust}
 use Rattle.vl_sequential.specs.Sequential.{history_of}
 use Rattle.vl_sequential.specs.declared.fails.Halt.{Halt}
 use Rattle.vl_sequential.specs.laws.Laws.{state_after-sound}
 use Rattle.vl_script.specs.declared.answer.Answer.{Answer}
 use Rattle.vl_script.specs.declared.line.Line.TheVariants as lines
 use Rattle.vl_engine.specs.Removing.{Removes}
-use Rattle.vl_replay.proofs.Disk.Swept.{sweep_carries, sweep_named}
+use Rattle.vl_replay.proofs.Disk.Swept.{sweep_carries, sweep_named, sweep_removed}
 use Rattle.vl_replay.proofs.Names.Serving.{decides_all, represents}
 use Rattle.vl_replay.proofs.Names.SweepMaking.{sweep_cause, sweep_leaves, sweep_makes, sweep_sound, sweep_sweeps}
 use Rattle.vl_replay.proofs.Passes.Moving.{decides_weaker}
@@ -117,3 +118,15 @@ returns-clause-carries g c s stands =
       there = old.there;
       leaves = λ represents failed then told. c.sweep.ensures.leaves h l then represents stands.removes on.within failed told;
     }) c.told.result c.told.ensures
+
+pub returns-clause-removed : goal.returns-clause-removed
+returns-clause-removed g c s stands =
+    let old = c.args.self.now.engine in
+    let new = c.sweep.new.self in
+    let l = s.store.layout in
+    subst (λ (x : Result Answer Halt). OnOk x (RemovesJust (swept None l) (g.D.Watched.told old.disk) (g.D.Watched.told new.disk)))
+    (sym c.told.ensures)
+    (sweep_removed g.D.Watched (record { only_now = g.met.D.Disk.only_now; counts_now = g.met.D.Disk.counts_now }) g.D.Writer.Writer
+    g.D.Held.HeldFile.bytes old.core new.core old.disk new.disk old.removing new.removing c.args.self.now.opens.items s stands.serves
+    stands.removes (sweep_sweeps l (history_of s) stands.serves.engine.tidy.files.once) c.sweep.result c.sweep.ensures.gone
+    c.sweep.ensures.files)

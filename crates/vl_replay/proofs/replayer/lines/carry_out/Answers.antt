@@ -1,6 +1,6 @@
 -- Each line's call makes the line's step.
-use Rattle.std.proofs.Common.{ap, refl, sym, subst}
-use Rattle.std.specs.Prelude.{Ok, OnOk}
+use Rattle.std.proofs.Common.{◌≡◌, true, false, ap, refl, sym, ◌∙◌, subst}
+use Rattle.std.specs.Prelude.{None, Ok, OnOk, Some}
 use Rattle.vl_core.specs.Shown.{Shown}
 use Rattle.vl_layout.specs.Store.Reading.{a_transaction, a_view, answer_of, answer_with_tag}
 use Rattle.vl_layout.specs.Store.Things.{Step, thing_of}
@@ -35,7 +35,7 @@ use Rattle.vl_core.specs.laws.Lasting.{flush_lasts, rotate_lasts}
 use Rattle.vl_replay.specs.declared.replayer.choice.Choice.TheVariants.{Due, LeadsInto}
 use Rattle.vl_replay.specs.Passing.{PassesIn, name_made}
 use Rattle.vl_engine.specs.Removing.{Removes}
-use Rattle.vl_replay.proofs.Lines.Sweeps.{batch_layout, sweep_keeps_merges, sweep_keeps_passes, sweep_lasts}
+use Rattle.vl_replay.proofs.Lines.Sweeps.{batch_layout, is_sweep, sweep_keeps_merges, sweep_keeps_passes, sweep_lasts}
 use Rattle.vl_replay.proofs.Names.Quiet.{get_at_quiet, get_quiet, scan_quiet, write_quiet}
 use Rattle.vl_replay.proofs.replayer.lines.carry_out.Goals as goal
 
@@ -1544,3 +1544,81 @@ returns-in-Sweep-clause-handed g c =
     can_answered g.D.Watched g.D.Writer.Writer c.args.served.now.engine.disk c.sweep.new.self.engine.disk
     c.args.served.now.engine.merging c.sweep.new.self.engine.merging c.args.planned.now
     c.sweep.ensures.merging c.sweep.result c.sweep.ensures.untold c.requires.handed
+
+pub returns-in-Sweep-clause-removed : goal.returns-in-Sweep-clause-removed
+returns-in-Sweep-clause-removed g c s stands is = c.sweep.ensures.removed s (removing_of stands)
+
+-- ---- no other line is one
+
+true_false : true ≡ false → ⊥
+true_false e = cc
+
+pub returns-in-Some-clause-removed : goal.returns-in-Some-clause-removed
+returns-in-Some-clause-removed g c s stands is =
+    absurd (none_some (sym (ap name_made is) ∙ (used_line s c.args.line c.in-Some.is (c.in_ok-name.ensures s stands)).0))
+  where
+    none_some : {X : Type 0} {x : X} → None ≡ Some x → ⊥
+    none_some e = cc
+
+pub returns-in-Begin-clause-removed : goal.returns-in-Begin-clause-removed
+returns-in-Begin-clause-removed g c s stands is = absurd (true_false (ap is_sweep (sym is ∙ c.in-Begin.is)))
+
+pub returns-in-View-clause-removed : goal.returns-in-View-clause-removed
+returns-in-View-clause-removed g c s stands is = absurd (true_false (ap is_sweep (sym is ∙ c.in-View.is)))
+
+pub returns-in-Get-clause-removed : goal.returns-in-Get-clause-removed
+returns-in-Get-clause-removed g c s stands is = absurd (true_false (ap is_sweep (sym is ∙ c.in-Get.is)))
+
+pub returns-in-GetTagged-clause-removed : goal.returns-in-GetTagged-clause-removed
+returns-in-GetTagged-clause-removed g c s stands is = absurd (true_false (ap is_sweep (sym is ∙ c.in-GetTagged.is)))
+
+pub returns-in-GetAt-clause-removed : goal.returns-in-GetAt-clause-removed
+returns-in-GetAt-clause-removed g c s stands is = absurd (true_false (ap is_sweep (sym is ∙ c.in-GetAt.is)))
+
+pub returns-in-Set-clause-removed : goal.returns-in-Set-clause-removed
+returns-in-Set-clause-removed g c s stands is = absurd (true_false (ap is_sweep (sym is ∙ c.in-Set.is)))
+
+pub returns-in-SetTagged-clause-removed : goal.returns-in-SetTagged-clause-removed
+returns-in-SetTagged-clause-removed g c s stands is = absurd (true_false (ap is_sweep (sym is ∙ c.in-SetTagged.is)))
+
+pub returns-in-Delete-clause-removed : goal.returns-in-Delete-clause-removed
+returns-in-Delete-clause-removed g c s stands is = absurd (true_false (ap is_sweep (sym is ∙ c.in-Delete.is)))
+
+pub returns-in-Scan-clause-removed : goal.returns-in-Scan-clause-removed
+returns-in-Scan-clause-removed g c s stands is = absurd (true_false (ap is_sweep (sym is ∙ c.in-Scan.is)))
+
+pub returns-in-Commit-clause-removed : goal.returns-in-Commit-clause-removed
+returns-in-Commit-clause-removed g c s stands is = absurd (true_false (ap is_sweep (sym is ∙ c.in-Commit.is)))
+
+pub returns-in-Drop-clause-removed : goal.returns-in-Drop-clause-removed
+returns-in-Drop-clause-removed g c s stands is = absurd (true_false (ap is_sweep (sym is ∙ c.in-Drop.is)))
+
+pub returns-in-Rotate-clause-removed : goal.returns-in-Rotate-clause-removed
+returns-in-Rotate-clause-removed g c s stands is = absurd (true_false (ap is_sweep (sym is ∙ c.in-Rotate.is)))
+
+pub returns-in-Flush-clause-removed : goal.returns-in-Flush-clause-removed
+returns-in-Flush-clause-removed g c s stands is = absurd (true_false (ap is_sweep (sym is ∙ c.in-Flush.is)))
+
+pub returns-in-Keep-clause-removed : goal.returns-in-Keep-clause-removed
+returns-in-Keep-clause-removed g c s stands is = absurd (true_false (ap is_sweep (sym is ∙ c.in-Keep.is)))
+
+pub returns-in-Plan-clause-removed : goal.returns-in-Plan-clause-removed
+returns-in-Plan-clause-removed g c s stands is = absurd (true_false (ap is_sweep (sym is ∙ c.in-Plan.is)))
+
+pub returns-in-Drain-clause-removed : goal.returns-in-Drain-clause-removed
+returns-in-Drain-clause-removed g c s stands is = absurd (true_false (ap is_sweep (sym is ∙ c.in-Drain.is)))
+
+pub returns-in-Install-clause-removed : goal.returns-in-Install-clause-removed
+returns-in-Install-clause-removed g c s stands is = absurd (true_false (ap is_sweep (sym is ∙ c.in-Install.is)))
+
+pub returns-in-Stats-clause-removed : goal.returns-in-Stats-clause-removed
+returns-in-Stats-clause-removed g c s stands is = absurd (true_false (ap is_sweep (sym is ∙ c.in-Stats.is)))
+
+pub returns-in-Pick-clause-removed : goal.returns-in-Pick-clause-removed
+returns-in-Pick-clause-removed g c s stands is = absurd (true_false (ap is_sweep (sym is ∙ c.in-Pick.is)))
+
+pub returns-in-Batch-clause-removed : goal.returns-in-Batch-clause-removed
+returns-in-Batch-clause-removed g c s stands is = absurd (true_false (ap is_sweep (sym is ∙ c.in-Batch.is)))
+
+pub returns-in-Move-clause-removed : goal.returns-in-Move-clause-removed
+returns-in-Move-clause-removed g c s stands is = absurd (true_false (ap is_sweep (sym is ∙ c.in-Move.is)))
