@@ -24,6 +24,7 @@ use Rattle.vl_engine.specs.Stepping.{step_outcome}
 use Rattle.vl_engine.specs.declared.fails.StepFail.TheVariants as fails
 use Rattle.vl_engine.specs.declared.fails.StepFail.{StepFail}
 use Rattle.vl_engine.specs.declared.open.Collecting.{Collecting}
+use Rattle.vl_engine.specs.laws.CollectsLaws.{IsAlike, alike_same, collects_alike, passed_alike, tallies_alike}
 use Rattle.vl_layout.specs.Decides.{Answered, Damaged, Decides, Effects, Failed, NoMemory, Otherwise, Outcome, as_before}
 use Rattle.vl_layout.specs.Levels.{in_front, is_among}
 use Rattle.vl_layout.specs.Ruling.{Exhausted, Halted, Idle, Ruling, StepAnswer, Stepped, halted_at, has_no_number}
@@ -70,53 +71,7 @@ module _ {H : Type 0} (bytes : H → Option (List ℕ)) (core : Core H) (h : His
   pub head_is_laid : head_in core ≡ head l
   head_is_laid = head_there l.active core.front.log.number is.fronts.number core.version.behind.frozen.items l.frozen is.has.frozen
 
--- ---- layouts of the same logs, tables and pass
-
-pub record IsAlike (l x : Layout) : Type 0 where
-  pub frozen : x.frozen ≡ l.frozen
-  pub flushed : x.flushed ≡ l.flushed
-  pub levels : x.levels ≡ l.levels
-  pub pass : x.pass ≡ l.pass
-
-pub alike_same : (l : Layout) → IsAlike l l
-alike_same l = record { frozen = refl; flushed = refl; levels = refl; pass = refl }
-
-pub alike_then : (l m n : Layout) → IsAlike l m → IsAlike m n → IsAlike l n
-alike_then l m n a b = record {
-  frozen = b.frozen ∙ a.frozen;
-  flushed = b.flushed ∙ a.flushed;
-  levels = b.levels ∙ a.levels;
-  pass = b.pass ∙ a.pass;
-}
-
-tally_alike : (tally : Tallied) (l x : Layout) → x.frozen ≡ l.frozen → x.flushed ≡ l.flushed → x.levels ≡ l.levels
-    → IsTally tally l → IsTally tally x
-tally_alike tally l x frozen flushed levels is = record {
-  logs = is.logs
-      ∙ ap (λ (ss : List Segment). lengths_of (rising (ss ++ l.flushed))) (sym frozen)
-      ∙ ap (λ (ss : List Segment). lengths_of (rising (x.frozen ++ ss))) (sym flushed);
-  live = subst (λ (ts : List laid.Table). AreOf ts tally.live)
-      (ap (λ (ls : List (List laid.Table)). tables (record l { levels = ls })) (sym levels)) is.live;
-}
-
-pub tallies_alike : {H : Type 0} (logs : List (SealedLog H)) (kept : Option Tallied) (l x : Layout) → x.frozen ≡ l.frozen
-    → x.flushed ≡ l.flushed → x.levels ≡ l.levels → Tallies logs kept l → Tallies logs kept x
-tallies_alike {H} logs None l x frozen flushed levels is =
-    subst (λ (ss : List Segment). AllByRecursion (λ (log : SealedLog H). has log.number (log_numbers ss) ≡ true) logs)
-    (ap (λ (ss : List Segment). ss ++ l.flushed) (sym frozen) ∙ ap (λ (ss : List Segment). x.frozen ++ ss) (sym flushed)) is
-tallies_alike logs (Some tally) l x frozen flushed levels is = tally_alike tally l x frozen flushed levels is
-
-pub passed_alike : (p q : Option OpenPass) → q ≡ p
-    → option_map (λ (o : OpenPass). o.segment) p ≡ option_map (λ (o : OpenPass). o.segment) q
-passed_alike p q same = ap (λ (o : Option OpenPass). option_map (λ (x : OpenPass). x.segment) o) (sym same)
-
-pub collects_alike : {H : Type 0} (core : Core H) (kept : Collecting) (l x : Layout) → IsAlike l x → Collects core kept l
-    → Collects core kept x
-collects_alike core kept l x alike is = record {
-  tally = tallies_alike core.version.behind.logs.items kept.tally l x alike.frozen alike.flushed alike.levels is.tally;
-  passing = is.passing ∙ passed_alike l.pass x.pass alike.pass;
-  readable = subst (AllByRecursion IsLogFile) (sym alike.flushed) is.readable;
-}
+-- ---- what stays
 
 -- What is kept stays the layout's in memory where its logs stay.
 pub collects_kept : {H : Type 0} (bytes : H → Option (List ℕ)) (before after : Core H) (old new : Collecting) (h : History) (l : Layout)
@@ -125,16 +80,6 @@ pub collects_kept : {H : Type 0} (bytes : H → Option (List ℕ)) (before after
 collects_kept {H} bytes before after old new h l is logs keeps has = record {
   tally = subst (λ (ls : List (SealedLog H)). Tallies ls new.tally l) (sym logs) (keeps.tallies h l is has.tally);
   passing = keeps.passing ∙ has.passing;
-  readable = has.readable;
-}
-
--- where nothing changes
-pub collects_same : {H : Type 0} (before after : Core H) (old new : Collecting) (l : Layout)
-    → after.version.behind.logs.items ≡ before.version.behind.logs.items → new ≡ old → Collects before old l → Collects after new l
-collects_same {H} before after old new l logs same has = record {
-  tally = subst (λ (ls : List (SealedLog H)). Tallies ls new.tally l) (sym logs)
-      (subst (λ (c : Collecting). Tallies before.version.behind.logs.items c.tally l) (sym same) has.tally);
-  passing = ap (λ (c : Collecting). c.passing) same ∙ has.passing;
   readable = has.readable;
 }
 

@@ -16,7 +16,8 @@ use Rattle.vl_core.specs.Pointed.{bytes_of_log, layout_logs, segment_at}
 use Rattle.vl_core.specs.Represents.{StandsFor}
 use Rattle.vl_core.specs.declared.kept.Core.{Core}
 use Rattle.vl_engine.proofs.Beginning.{looks_told}
-use Rattle.vl_engine.proofs.Collected.{tallies_alike, tallies_made}
+use Rattle.vl_engine.proofs.Collected.{tallies_made}
+use Rattle.vl_engine.specs.laws.CollectsLaws.{tallies_alike}
 use Rattle.vl_engine.proofs.Committing.{decides_answered, decides_short}
 use Rattle.vl_engine.proofs.Tallying.{each_there}
 use Rattle.vl_engine.specs.Collecting.{BeginsOver, BeginsPass, Collects, FitsLooks, IsPicked, IsTallied, LacksLog, Tallies}

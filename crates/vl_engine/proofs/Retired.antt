@@ -1,4 +1,5 @@
 -- What a rotation, a flush and an install leave of the files that are kept as in use, and of those that wait for their removal.
+pub mod Calls
 pub mod Changing
 pub mod Flushing
 pub mod Installing

@@ -20,8 +20,8 @@ use Rattle.vl_core.specs.declared.kept.Core.{Core}
 use Rattle.vl_core.specs.laws.FileLaws.{all_filtered}
 use Rattle.vl_core.specs.laws.LaidTables.{tables_are}
 use Rattle.vl_disk.specs.declared.writer.Writer.{Ghosts as Writers}
-use Rattle.vl_engine.proofs.Collected.{IsAlike, collects_alike, collects_kept, collects_same, decides_too, flush_by}
-use Rattle.vl_engine.proofs.Collected.{head_is_laid, inputs_are_laid, passed_alike, tallies_made}
+use Rattle.vl_engine.proofs.Collected.{collects_kept, decides_too, flush_by}
+use Rattle.vl_engine.proofs.Collected.{head_is_laid, inputs_are_laid, tallies_made}
 use Rattle.vl_engine.proofs.Tallying.{points_are}
 use Rattle.vl_engine.specs.Collecting.{Collects, HasFlushed, HasPutIn, InstallsFor, IsReadied, IsTallied, LeadsFrom, Tallies}
 use Rattle.vl_engine.specs.Collecting.{head_in, passed_in, points_in, points_made}
@@ -30,6 +30,7 @@ use Rattle.vl_engine.specs.Merging.{HasAllMerge, install_outcome}
 use Rattle.vl_engine.specs.declared.fails.InstallFail.TheVariants as fails
 use Rattle.vl_engine.specs.declared.fails.InstallFail.{InstallFail}
 use Rattle.vl_engine.specs.declared.open.Collecting.{Collecting}
+use Rattle.vl_engine.specs.laws.CollectsLaws.{IsAlike, collects_alike, collects_same, passed_alike}
 use Rattle.vl_layout.specs.Decides.{Answered, Damaged, Decides, Effects, Failed, NoMemory}
 use Rattle.vl_layout.specs.Jobs.{Made, tables_made}
 use Rattle.vl_layout.specs.Levels.{in_front, is_among}

@@ -27,7 +27,7 @@ use Rattle.vl_engine.specs.Merging.{FitsReaders, HasAllMerge, HasMerge, StandsOp
 use Rattle.vl_core.specs.Represents.{Fronts, Represents, file_of}
 use Rattle.vl_core.specs.Shown.{LeavesBetween}
 use Rattle.vl_core.specs.MayStep.{AreLogFiles, Fits}
-use Rattle.vl_engine.proofs.Collected.{IsAlike, alike_same, collects_alike, collects_same}
+use Rattle.vl_engine.specs.laws.CollectsLaws.{IsAlike, alike_same, collects_alike, collects_same}
 use Rattle.vl_engine.specs.Collecting.{Collects}
 use Rattle.vl_engine.specs.Whole.{HasSameLogs, MakesTables, StaysCollecting, StaysFor, kept_of}
 use Rattle.vl_engine.specs.declared.open.Collecting.{Collecting}

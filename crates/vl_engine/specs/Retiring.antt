@@ -130,6 +130,12 @@ module _ {H W : Type 0} (before : Core H) where
   SealsStock old new lent (Ok None) = ⊥
   SealsStock old new lent (Err why) = StaysUsed before old new
 
+  -- The same, where there may have been nothing to seal.
+  abbrev pub RotatesStock : {s : _} → (old new : Stock (Lent W s)) → (lent : ℕ) → Result (Option ℕ) StepFail → Type 0
+  RotatesStock old new lent (Ok (Some number)) = SealsInto old new lent
+  RotatesStock old new lent (Ok None) = StaysUsed before old new
+  RotatesStock old new lent (Err why) = StaysUsed before old new
+
   -- The tables that a switch adds came into use; those that it drops, and the idle logs behind it, are retired.
   pub record SwitchesStock {s : _} (after : Core H) (added dropped : List ℕ) (tally : Option Tallied) (old new : Stock (Lent W s))
       (lent : ℕ) : Type 0 where
@@ -144,6 +150,13 @@ module _ {H W : Type 0} (before : Core H) where
   FlushesStock after old new tally lent (Ok (Some number)) = SwitchesStock after (number ∷ []) [] tally old new lent
   FlushesStock after old new tally lent (Ok None) = ⊥
   FlushesStock after old new tally lent (Err why) = StaysUsed before old new
+
+  -- The same, where none may have waited.
+  abbrev pub MakesStock : {s : _} → (after : Core H) → (old new : Stock (Lent W s)) → Option Tallied → (lent : ℕ)
+      → Result (Option ℕ) StepFail → Type 0
+  MakesStock after old new tally lent (Ok (Some number)) = SwitchesStock after (number ∷ []) [] tally old new lent
+  MakesStock after old new tally lent (Ok None) = StaysUsed before old new
+  MakesStock after old new tally lent (Err why) = StaysUsed before old new
 
 -- The same, where first the merge's other files were put behind those that wait.
 pub record InstallsInto {H R W : Type 0} {s : _} (job : Job (Base H R) H W s) (before after : Core H) (tally : Option Tallied)
@@ -169,3 +182,20 @@ InstallsStock job before after old new tally lent (Err (install.Exhausted counte
 InstallsStock job before after old new tally lent (Err (install.NoMemory back)) =
     (new.pins ≡ old.pins) × StaysUsed before old.stock new.stock
 InstallsStock job before after old new tally lent (Err (install.Disk name)) = new.pins ≡ (merge_pinned None old).pins
+
+-- The merge that is given up pins nothing, and its files wait for their removal.
+pub record GivesUpFiles {V H W : Type 0} {s : _} (job : Job V H W s) (old new : Removing (Lent W s)) : Type 0 where
+  pub pins : new.pins ≡ (merge_pinned None old).pins
+  pub left : LeavesFiles (files_in job) old.stock new.stock
+
+-- The same, where the engine may have halted before, or the merge may have been raced.
+abbrev pub PutsStock : {H R W : Type 0} {s : _} → (job : Job (Base H R) H W s) → (before after : Core H)
+    → (old new : Removing (Lent W s)) → Option Tallied → (lent : ℕ)
+    → Result (Unit {0}) (InstallFail (Base H R) H W s) → Type 0
+PutsStock job before after old new tally lent (Ok done) = InstallsStock job before after old new tally lent (Ok done)
+PutsStock job before after old new tally lent (Err (install.Halted name)) = GivesUpFiles job old new
+PutsStock job before after old new tally lent (Err (install.Raced key number)) = GivesUpFiles job old new
+PutsStock job before after old new tally lent (Err (install.Exhausted counter)) = GivesUpFiles job old new
+PutsStock job before after old new tally lent (Err (install.NoMemory back)) =
+    InstallsStock job before after old new tally lent (Err (install.NoMemory back))
+PutsStock job before after old new tally lent (Err (install.Disk name)) = new.pins ≡ (merge_pinned None old).pins

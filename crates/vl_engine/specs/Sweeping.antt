@@ -116,6 +116,19 @@ pub record HasSwept {D W : Type 0} (g : Ghosts D) (w : Writers W) {s : _} (bound
   pub capacity : deque_capacity after.stock.trash ≡ deque_capacity before.stock.trash
   pub pins : PinsStay version before.pins after.pins
 
+-- How many have gone where it fails: the one at which it failed doesn't wait any more either.
+abbrev pub gone_before : {L : Type 0} → (old new : Removing L) → ℕ
+gone_before old new = length old.stock.trash.items - (length new.stock.trash.items + 1)
+
+-- These went, and the files that are behind the one at which it failed wait yet, as those do that are held. Nothing else of what is
+-- kept changes.
+pub record StaysBehind {L : Type 0} (bound : ℕ) (before after : Removing L) (went behind : List (RetiredFile L)) : Type 0 where
+  pub counted : length went ≡ gone_before before after
+  pub ready_are : ready bound after.stock.trash.items ≡ behind
+  pub held_are : held bound after.stock.trash.items ≡ held bound before.stock.trash.items
+  pub in_use : after.stock.in_use ≡ before.stock.in_use
+  pub capacity : deque_capacity after.stock.trash ≡ deque_capacity before.stock.trash
+
 -- so it is with what a sweep answers: a halted engine does nothing, and a fault halts
 abbrev pub SweepsAs : {D H W : Type 0} → Ghosts D → Writers W → {s : _} → (bound : ℕ) → (old new : D) → (core after : Core H)
     → (before now : Removing (Lent W s)) → Result ℕ SweepFail → Type 0
@@ -125,8 +138,9 @@ SweepsAs g w bound old new core after before now (Err (fails.Halted name)) =
     (core.front.halted ≡ Some name) × (after ≡ core) × (new ≡ old) × (now ≡ before)
 SweepsAs g w bound old new core after before now (Err (fails.Disk name)) = (core.front.halted ≡ None)
     × (after ≡ record core { front = record core.front { halted = Some name } })
-    × StopsRemoving g w (ready bound before.stock.trash.items) old new name
+    × (stops : StopsRemoving g w (ready bound before.stock.trash.items) old new name)
     × PinsStay core.back.version_number before.pins now.pins
+    × StaysBehind bound before now stops.before stops.behind
 
 -- ---- as the ruling has it
 
@@ -140,10 +154,6 @@ abbrev pub sweep_effects : {L : Type 0} → ℕ → List (RetiredFile L) → Res
 sweep_effects {L} bound trash (Ok count) =
     record { calls = count; gone = map (λ (file : RetiredFile L). file_of file.name) (ready bound trash) }
 sweep_effects bound trash (Err why) = no_effects
-
--- How many have gone where it fails: the one at which it failed doesn't wait any more either.
-abbrev pub gone_before : {L : Type 0} → (old new : Removing L) → ℕ
-gone_before old new = length old.stock.trash.items - (length new.stock.trash.items + 1)
 
 -- where it fails so many of the files have gone, the earliest retired first
 abbrev pub sweep_otherwise : Option ℕ → Layout → ℕ → Otherwise

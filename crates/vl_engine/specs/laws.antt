@@ -1,3 +1,4 @@
+pub mod CollectsLaws
 pub mod InstallApplies
 pub mod InstallBase
 pub mod InstallLaws

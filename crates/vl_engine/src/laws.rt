@@ -1,4 +1,4 @@
-// Laws of what is seen, and of installs: each is the contract of a function that does nothing.
+// Laws of what is seen, of what is collected, and of installs and sweeps: each is the contract of a function that does nothing.
 ghost use Rattle.std.specs.Prelude.{List, ℕ, Some, ◌≡◌};
 ghost use Rattle.vl_disk.specs.Crash.{WhileRemoving};
 ghost use Rattle.vl_disk.specs.DiskState.{DiskState, File, IsLawful, without};
@@ -10,18 +10,34 @@ ghost use Rattle.vl_core.specs.Laid.{AreLevelsOf, HasLayout};
 ghost use Rattle.vl_core.specs.Pointed.{layout_logs};
 ghost use Rattle.vl_engine.specs.Sees.{Sees, SeesAlone};
 ghost use Rattle.vl_core.specs.Shown.{LeavesBetween};
+ghost use Rattle.vl_core.specs.declared.kept.Core.{Core};
+ghost use Rattle.vl_engine.specs.Collecting.{Collects};
+ghost use Rattle.vl_engine.specs.declared.open.Collecting.{Collecting};
 ghost use Rattle.vl_engine.specs.declared.txn.Txn.{Txn};
 ghost use Rattle.vl_engine.specs.declared.view.View.{View};
+ghost use Rattle.vl_engine.specs.laws.CollectsLaws.{IsAlike};
 ghost use Rattle.vl_engine.specs.laws.InstallApplies.{edits_of};
 ghost use Rattle.vl_engine.specs.laws.InstallBase.{CanInstall};
 ghost use Rattle.vl_engine.specs.laws.InstallLaws.{IsHeldTidy};
 ghost use Rattle.vl_engine.specs.laws.SweepHolds.{IsOutside};
 ghost use Rattle.vl_core.specs.laws.SwitchLaws.{switch_frame};
 ghost use Rattle.vl_layout.specs.Jobs.{Made};
+ghost use Rattle.vl_layout.specs.Relocation.{Candidate, Pass};
+ghost use Rattle.vl_layout.specs.Ruling.{ended, halted_at};
+ghost use Rattle.vl_layout.specs.Rulings.Abandon.{abandon_ruling};
+ghost use Rattle.vl_layout.specs.Rulings.Begin.{begin_ruling};
+ghost use Rattle.vl_layout.specs.Rulings.Commit.{Transaction, commit_ruling};
+ghost use Rattle.vl_layout.specs.Rulings.Drain.{drain_ruling};
+ghost use Rattle.vl_layout.specs.Rulings.Fresh.{fresh_ruling};
 ghost use Rattle.vl_layout.specs.Rulings.Install.{install_ruling, installed};
+ghost use Rattle.vl_layout.specs.Rulings.Keep.{keep_ruling};
+ghost use Rattle.vl_layout.specs.Rulings.Plan.{plan_ruling};
+ghost use Rattle.vl_layout.specs.Rulings.Relocate.{relocate_ruling};
 ghost use Rattle.vl_layout.specs.Sources.{tables};
 ghost use Rattle.vl_layout.specs.Tidy.{IsTidy};
 ghost use Rattle.vl_layout.specs.declared.job.OpenJob.{OpenJob};
+ghost use Rattle.vl_layout.specs.declared.file_name.FileName.{FileName};
+ghost use Rattle.vl_layout.specs.declared.job.Job.{Job};
 ghost use Rattle.vl_layout.specs.declared.layout.Layout.{Layout};
 ghost use Rattle.vl_manifest.specs.Switching.{WhileSwitching, switched};
 ghost use Rattle.vl_model.specs.History.{Extends, History};
@@ -38,6 +54,27 @@ pub fn what_is_seen_stays<H: HeldFile, R: Reader<Held = H>>()
         → Sees H.bytes txn least reads → Sees H.bytes txn most reads }
     ensures view { (view : View H R) (least most : History) → Extends least most
         → SeesAlone H.bytes view least → SeesAlone H.bytes view most }
+{}
+
+/// What an engine keeps of where space comes back from is that of the layout which a call leaves, where the call leaves what is kept,
+/// and the layout is alike: it has the same sealed logs, tables and open pass. The ruling on each call that says no more of it leaves
+/// such a layout, whether it was done, lost at a fault, or ended what was open.
+pub fn what_is_collected_stays<H: HeldFile>()
+    ensures stays { (before after : Core H) (old new : Collecting) (l m : Layout)
+        → after.version.behind.logs ≡ before.version.behind.logs → new ≡ old → IsAlike l m → Collects before old l
+        → Collects after new m }
+    ensures same { (l : Layout) → IsAlike l l }
+    ensures halted { (l m : Layout) (name : FileName) → IsAlike l m → IsAlike l (halted_at name m) }
+    ensures begun { (l : Layout) (h : History) → IsAlike l (begin_ruling l h).layout }
+    ensures committed { (l : Layout) (h : History) (t : Transaction) → IsAlike l (commit_ruling l h t).layout }
+    ensures over { (l : Layout) (ticket : ℕ) → IsAlike l (ended ticket l) }
+    ensures keeping { (l : Layout) (h : History) (versions : ℕ) → IsAlike l (keep_ruling l h versions).layout }
+    ensures planned { (l : Layout) (h : History) → IsAlike l (plan_ruling l h).layout }
+    ensures drained { (l : Layout) (h : History) (segment : ℕ) → IsAlike l (drain_ruling l h segment).layout }
+    ensures drawn { (l : Layout) (h : History) → IsAlike l (fresh_ruling l h).layout }
+    ensures abandoned { (l : Layout) (h : History) (job : Job) (made : Made) → IsAlike l (abandon_ruling l h job made).layout }
+    ensures relocated { (l : Layout) (h : History) (pass : Pass) (batch : List Candidate)
+        → IsAlike l (relocate_ruling l h pass batch).layout }
 {}
 
 /// While a switch puts the tables of a merge in the place of its inputs, whatever a crash leaves shows the history; and behind it

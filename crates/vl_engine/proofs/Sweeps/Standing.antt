@@ -12,7 +12,6 @@ use Rattle.vl_core.specs.laws.AsideLaws.{same_stands}
 use Rattle.vl_disk.specs.declared.name.Name.{Name}
 use Rattle.vl_disk.specs.declared.watched.Watched.{Ghosts}
 use Rattle.vl_disk.specs.declared.writer.Writer.{Ghosts as Writers}
-use Rattle.vl_engine.proofs.Collected.{collects_alike, collects_same}
 use Rattle.vl_engine.proofs.Committing.{decides_answered, decides_failed}
 use Rattle.vl_engine.proofs.Drawing.{stands_undrawn}
 use Rattle.vl_engine.proofs.Sweeps.Freed.{all_filtered, left_are, swept_are, swept_count}
@@ -27,6 +26,7 @@ use Rattle.vl_engine.specs.declared.fails.SweepFail.{SweepFail}
 use Rattle.vl_engine.specs.declared.open.Collecting.{Collecting}
 use Rattle.vl_engine.specs.declared.open.OpenMerge.{OpenMerge}
 use Rattle.vl_engine.specs.declared.open.Removing.{Removing}
+use Rattle.vl_engine.specs.laws.CollectsLaws.{collects_alike, collects_same}
 use Rattle.vl_layout.specs.Decides.{effects_of, no_effects}
 use Rattle.vl_layout.specs.Ruling.{halted_at}
 use Rattle.vl_layout.specs.Rulings.Sweep.{Halted, Removed, sweep_lost, sweep_unless, swept, without_files}

@@ -4,19 +4,21 @@ use Rattle.std.specs.Prelude.{if◌then◌else◌, is_some, true, false, refl}
 use Rattle.std.specs.List.{AllByRecursion, filter}
 use Rattle.std.specs.Option.{ForSome}
 use Rattle.std.specs.VecDeque.{deque_capacity, deque_len}
-use Rattle.std.proofs.Common.{sym, subst, ap, ◌∙◌, arith}
+use Rattle.std.proofs.Common.{sym, subst, ap, ◌∙◌, arith, length-append}
+use Rattle.std.proofs.Math.Nat.{eq-sub_of_add-eq}
 use Rattle.std.proofs.lemmas.List.Elements.{recursion_from_All}
 use Rattle.vl_compact.specs.declared.files.Lent.{Lent}
 use Rattle.vl_core.specs.Fit.{IsFitFor}
 use Rattle.vl_core.specs.declared.kept.Core.{Core}
 use Rattle.vl_disk.specs.declared.errors.Failed.{Failed}
+use Rattle.vl_disk.specs.declared.name.Name.{Name}
 use Rattle.vl_disk.specs.declared.watched.Watched.{Ghosts}
 use Rattle.vl_disk.specs.declared.writer.Writer.{Ghosts as Writers}
 use Rattle.vl_engine.proofs.There.Going.{Goes, one_goes}
 use Rattle.vl_engine.proofs.There.Left.{fit_still, lent_still, there_on}
 use Rattle.vl_engine.specs.Lent.{AreLent}
 use Rattle.vl_engine.specs.Removing.{IsThere, IsWaiting}
-use Rattle.vl_engine.specs.Sweeping.{HasSwept, PinsStay, RemovesAll, RemovesOne, StopsRemoving, held, ready}
+use Rattle.vl_engine.specs.Sweeping.{HasSwept, PinsStay, RemovesAll, RemovesOne, StaysBehind, StopsRemoving, held, ready}
 use Rattle.vl_engine.specs.declared.open.OpenMerge.{OpenMerge}
 use Rattle.vl_engine.specs.declared.open.Removing.{Removing}
 use Rattle.vl_pins.specs.Files.{IsNoneTaken, IsTaken, is_up_to}
@@ -66,6 +68,17 @@ module _ {X : Type 0} (p : X → Bool) where
   length_put : (xs : List X) (x : X) → length (xs ++ x ∷ []) ≡ length xs + 1
   length_put [] x = refl
   length_put (z ∷ xs) x = omega (arith, length_put xs x)
+
+  -- those of which it is so, and the others, are all
+  length_filtered : (xs : List X) → length xs ≡ length (filter p xs) + length (filter (λ (x : X). not (p x)) xs)
+  length_filtered [] = refl
+  length_filtered (x ∷ xs) = by (p x) (length_filtered xs)
+    where
+      by : (b : Bool) → length xs ≡ length (filter p xs) + length (filter (λ (y : X). not (p y)) xs)
+          → length (x ∷ xs) ≡ length (if b then x ∷ filter p xs else filter p xs)
+          + length (if not b then x ∷ filter (λ (y : X). not (p y)) xs else filter (λ (y : X). not (p y)) xs)
+      by true rest = omega (arith, rest)
+      by false rest = omega (arith, rest)
 
 -- ---- what is taken
 
@@ -144,20 +157,64 @@ module _ {D W : Type 0} (g : Ghosts D) (w : Writers W) {s : _} where
     }
 
     -- or has failed at the next.
-    pub stops_gone : (later : List (RetiredFile (Lent W s))) (file : RetiredFile (Lent W s)) (new : D) (failed : Failed)
-        → IsTaken bound now later file → RemovesOne g w file mid new (Err failed)
-        → StopsRemoving g w (ready bound before) old new file.name
-    stops_gone later file new failed taken one = record {
+    stops_gone : (later : List (RetiredFile (Lent W s))) (file : RetiredFile (Lent W s)) (new : D) (name : Name) (failed : Failed)
+        → name ≡ file.name → IsTaken bound now later file → RemovesOne g w file mid new (Err failed)
+        → StopsRemoving g w (ready bound before) old new name
+    stops_gone later file new name failed named taken one = record {
       before = gone.went;
       at = file;
       behind = ready bound later;
       files_are = gone.parts ∙ ap (λ (l : List (RetiredFile (Lent W s))). gone.went ++ l) (taken_ready bound now later file taken);
-      name_is = refl;
+      name_is = named;
       mid = mid;
       went = gone.removes;
       failed = failed;
       stops = one;
     }
+
+    behind_gone : (kept left : Removing (Lent W s)) (file : RetiredFile (Lent W s)) → kept.stock.trash.items ≡ before
+        → IsTaken bound now left.stock.trash.items file → left.stock.in_use ≡ kept.stock.in_use
+        → deque_capacity left.stock.trash ≡ deque_capacity kept.stock.trash
+        → StaysBehind bound kept left gone.went (ready bound left.stock.trash.items)
+    behind_gone kept left file is_before taken in_use capacity = record {
+      counted = eq-sub_of_add-eq (length gone.went) (length later + 1)
+          (all_there ∙ ap length (sym is_before));
+      ready_are = refl;
+      held_are = held_yet ∙ ap (held bound) (sym is_before);
+      in_use = in_use;
+      capacity = capacity;
+    }
+      where
+        later : List (RetiredFile (Lent W s))
+        later = left.stock.trash.items
+
+        held_yet : held bound later ≡ held bound before
+        held_yet = sym (gone.others ∙ taken_held bound now later file taken)
+
+        parted : length (ready bound before) ≡ length gone.went + length (file ∷ ready bound later)
+        parted = ap length (gone.parts ∙ ap (λ (l : List (RetiredFile (Lent W s))). gone.went ++ l)
+            (taken_ready bound now later file taken)) ∙ length-append gone.went (file ∷ ready bound later)
+
+        all_there : length gone.went + (length later + 1) ≡ length before
+        all_there =
+            let all = length_filtered (is_up_to bound) before in
+            let rest = length_filtered (is_up_to bound) later in
+            let same = ap length held_yet in
+            omega (arith, all, rest, same, parted)
+
+    -- Both together.
+    pub stops_behind : (version : ℕ) (kept left : Removing (Lent W s)) (file : RetiredFile (Lent W s)) (new : D) (name : Name)
+        (failed : Failed) → kept.stock.trash.items ≡ before → name ≡ file.name → IsTaken bound now left.stock.trash.items file
+        → RemovesOne g w file mid new (Err failed) → left.stock.in_use ≡ kept.stock.in_use
+        → deque_capacity left.stock.trash ≡ deque_capacity kept.stock.trash → PinsStay version kept.pins left.pins
+        → (stops : StopsRemoving g w (ready bound before) old new name) × PinsStay version kept.pins left.pins
+        × StaysBehind bound kept left stops.before stops.behind
+    unfolding stops_gone
+    stops_behind version kept left file new name failed is_before named taken one in_use capacity pins = (
+      stops_gone left.stock.trash.items file new name failed named taken one,
+      pins,
+      behind_gone kept left file is_before taken in_use capacity,
+    )
 
 -- ---- what is kept then
 

@@ -21,7 +21,7 @@ ghost use Rattle.vl_layout.specs.declared.layout.Layout.{Layout};
 ghost use Rattle.vl_model.specs.History.{History};
 ghost use Rattle.vl_engine.specs.Lent.{Opens};
 ghost use Rattle.vl_engine.specs.Removing.{Removes, lent_in};
-ghost use Rattle.vl_engine.specs.Retiring.{FlushesStock};
+ghost use Rattle.vl_engine.specs.Retiring.{FlushesStock, MakesStock};
 
 use crate::collecting::{head_of, idle_logs};
 use crate::flushing::{ReadyFlush, ready_flush};
@@ -111,6 +111,11 @@ impl<D: Disk> Engine<D> {
             → Decides (λ _ l. Removes self.new.core self.new.removing l) h l (flush_ruling l h) (as_before l l)
             (step_outcome result) (flush_effects result) }
         ensures pins { self.new.removing.pins ≡ self.old.removing.pins }
+
+        // Whatever the disk tells: the table came into use, and the logs below the head of which no table has anything live are
+        // retired; where none was made, what is in use and what waits stays.
+        ensures retires { MakesStock self.old.core self.new.core self.old.removing.stock self.new.removing.stock
+            self.new.collecting.tally (length (lent_in self.old.merging)) result }
     {
         if let Some(name) = self.core.front.halted {
             return Err(StepFail::Halted { name });

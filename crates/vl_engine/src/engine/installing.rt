@@ -12,7 +12,7 @@ ghost use Rattle.vl_engine.specs.Installing.{HandsBack, InstallFailed, InstallLe
 ghost use Rattle.vl_engine.specs.Installing.{InstallsUnraced, IsHandedIn, IsInstallWritten, KeepsAllBut, MayInstall};
 ghost use Rattle.vl_engine.specs.Installing.{StopsInstall, WritesInstall, install_otherwise};
 ghost use Rattle.vl_engine.specs.Removing.{Removes, lent_in};
-ghost use Rattle.vl_engine.specs.Retiring.{InstallsStock, LeavesFiles, files_in};
+ghost use Rattle.vl_engine.specs.Retiring.{InstallsStock, LeavesFiles, PutsStock, files_in};
 ghost use Rattle.vl_engine.specs.UnderWay.{IsUnderWay};
 ghost use Rattle.vl_engine.specs.Merging.{HasAllMerge, StandsOpen, install_effects, install_outcome, made_numbers};
 ghost use Rattle.vl_core.specs.Represents.{Represents};
@@ -135,6 +135,11 @@ impl<D: Disk> Engine<D> {
             → Collects self.old.core self.old.collecting l → Removes self.old.core self.old.removing l
             → Decides (λ _ l. Removes self.new.core self.new.removing l) h l (install_ruling l h o.job (made_of job o.job))
             (install_otherwise l (made_of job o.job)) (install_outcome result) (install_effects result) }
+
+        // Whatever the disk tells: the tables that were put in came into use, and the inputs and the logs that have nothing live
+        // any more are retired. Where the merge ended without them its files wait, unless the disk failed.
+        ensures retires { PutsStock job self.old.core self.new.core self.old.removing self.new.removing self.new.collecting.tally
+            (length (lent_in self.old.merging)) result }
 
         // In memory a version is made, or nothing changes beside the open merge, unless a fault halts. A halted engine does nothing.
         ensures core { InstallsCore self.old.core self.new.core result }

@@ -20,7 +20,7 @@ ghost use Rattle.vl_layout.specs.declared.layout.Layout.{Layout};
 ghost use Rattle.vl_model.specs.History.{History};
 ghost use Rattle.vl_engine.specs.Lent.{Opens};
 ghost use Rattle.vl_engine.specs.Removing.{Removes, lent_in};
-ghost use Rattle.vl_engine.specs.Retiring.{SealsStock};
+ghost use Rattle.vl_engine.specs.Retiring.{RotatesStock, SealsStock};
 
 use crate::making::lent_count;
 use crate::rotating::{refusal, stage_rotation};
@@ -105,6 +105,10 @@ impl<D: Disk> Engine<D> {
             → Decides (λ _ l. Removes self.new.core self.new.removing l) h l (rotate_ruling l h) (as_before l l)
             (step_outcome result) (rotate_effects result) }
         ensures pins { self.new.removing.pins ≡ self.old.removing.pins }
+
+        // Whatever the disk tells: the sealed log came into use; where none was sealed, what is in use and what waits stays.
+        ensures retires { RotatesStock self.old.core self.old.removing.stock self.new.removing.stock
+            (length (lent_in self.old.merging)) result }
     {
         match refusal(&self.core) {
             Some(answer) => answer,

@@ -21,6 +21,8 @@ use Rattle.vl_engine.proofs.Retired.Installs.{ended_by, fewer_leavings, halted_o
 use Rattle.vl_engine.proofs.Retired.Installs.{short_by, way_of, whole_numbers}
 use Rattle.vl_engine.specs.Removing.{Removes, lent_in}
 use Rattle.vl_layout.specs.Jobs.{job_ended}
+use Rattle.vl_engine.proofs.Retired.Calls.{puts_stock}
+use Rattle.vl_engine.proofs.Retired.Changing.{stays_itself}
 use Rattle.vl_engine.proofs.engine.Engine.install.Goals as goal
 
 -- a call failed before
@@ -492,6 +494,24 @@ returns-in-Err-clause-removes g c state h l o told is opened files whole lent ha
     short_by (StandsOpen g.D.Held.HeldFile.bytes c.args.self.now.core c.args.self.now.merging)
     (λ k x. Removes c.args.self.now.core c.args.self.now.removing x) h l o.job (made_of c.args.job o.job) no_effects removes
     (returns-in-Err-clause-stands g c state h l o told is opened files whole lent)
+
+-- what is in use, whatever is told
+
+pub returns-in-Some-clause-retires : goal.returns-in-Some-clause-retires
+returns-in-Some-clause-retires g c = record { pins = c.give_up.ensures.pins; left = c.give_up.ensures.left }
+
+pub returns-in-Ok-Some-clause-retires : goal.returns-in-Ok-Some-clause-retires
+returns-in-Ok-Some-clause-retires g c =
+    record { pins = c.give_up-in-Ok-Some.ensures.pins; left = c.give_up-in-Ok-Some.ensures.left }
+
+pub returns-in-Err-clause-retires : goal.returns-in-Err-clause-retires
+returns-in-Err-clause-retires g c = (refl, stays_itself c.args.self.now.core c.args.self.now.removing.stock)
+
+pub returns-in-Ok-None-clause-retires : goal.returns-in-Ok-None-clause-retires
+returns-in-Ok-None-clause-retires g c =
+    puts_stock c.args.job c.args.self.now.core c.install_unraced.new.self.core c.args.self.now.removing
+    c.install_unraced.new.self.removing c.install_unraced.new.self.collecting.tally (length (lent_in c.args.self.now.merging))
+    c.install_unraced.result c.install_unraced.ensures.retires
 
 -- the files in use stand
 

@@ -1,12 +1,14 @@
 use Rattle.std.proofs.Common.{arith, refl, subst, sym}
+use Rattle.std.specs.Prelude.{length}
 use Rattle.vl_core.specs.Represents.{Fronts}
 use Rattle.vl_engine.proofs.Begins.{keeps_told}
 use Rattle.vl_engine.proofs.Collected.{refused_undone, rotate_collects, rotate_leaves, rotate_passes, step_left}
 use Rattle.vl_engine.proofs.Fitted.{rotate_refused, rotated_by}
 use Rattle.vl_engine.proofs.Leaving.{rotate_within}
 use Rattle.vl_engine.proofs.RotateSteps.{leaves_numbers, running_so}
+use Rattle.vl_engine.proofs.Retired.Calls.{refused_stock, rotates_stock}
 use Rattle.vl_engine.proofs.Retired.Rotating.{rotate_leaves_so, rotate_removes}
-use Rattle.vl_engine.specs.Removing.{Removes}
+use Rattle.vl_engine.specs.Removing.{Removes, lent_in}
 use Rattle.vl_engine.proofs.Rotated.{begins_by, calls_by, can_by, carries_as_refused, carries_by, fronts_as_refused}
 use Rattle.vl_engine.proofs.Rotated.{fronts_by, numbers_held, refused_calls, refused_no_disk, stands_as_refused}
 use Rattle.vl_engine.proofs.Rotated.{stands_by, stopped_by, untouched_by}
@@ -197,3 +199,15 @@ returns-in-None-clause-removes g c h l is opens has removes =
     c.seal_active.ensures.pins g.D.Watched c.args.self.now.disk c.seal_active.new.self.disk (Fronts c.seal_active.new.self.core)
     (rotate_effects c.seal_active.result) c.seal_active.result c.seal_active.ensures.as_rotated c.seal_active.ensures.sealed
     (returns-in-None-clause-decides g c h l is.fronts has is.tidy.true_logs.0)
+
+-- what is in use, whatever is told
+
+pub returns-in-Some-clause-retires : goal.returns-in-Some-clause-retires
+returns-in-Some-clause-retires g c =
+    refused_stock c.args.self.now.core c.args.self.now.removing.stock (length (lent_in c.args.self.now.merging)) c.in-Some.answer
+    c.in-Some.ensures.refused
+
+pub returns-in-None-clause-retires : goal.returns-in-None-clause-retires
+returns-in-None-clause-retires g c =
+    rotates_stock c.args.self.now.core c.args.self.now.removing.stock c.seal_active.new.self.removing.stock
+    (length (lent_in c.args.self.now.merging)) c.seal_active.result c.seal_active.ensures.sealed

@@ -1,8 +1,8 @@
 use Rattle.std.proofs.Common.{◌≡◌, ℕ, None, Some, Ok, Err, ap, subst, ◌∙◌, arith, refl, true, false}
 use Rattle.vl_core.specs.declared.kept.Core.{Core}
 use Rattle.vl_engine.proofs.There.Swept.{more_gone, taken_fit, taken_lent, taken_there}
-use Rattle.vl_engine.proofs.There.Swept.{has_swept, taken_waits}
-use Rattle.vl_engine.specs.Sweeping.{HasSwept}
+use Rattle.vl_engine.proofs.There.Swept.{has_swept, stops_behind, taken_waits}
+use Rattle.vl_engine.specs.Sweeping.{HasSwept, PinsStay, StaysBehind, StopsRemoving, ready}
 use Rattle.vl_engine.proofs.engine.Engine.sweep_up_to.Goals as goal
 
 pub remove_file-requires : goal.remove_file-requires
@@ -88,3 +88,24 @@ returns-clause-as_swept g c = let was = c.loop-file.invariant in let took = c.in
       (record { pins = c.loop-file.self.removing.pins; stock = c.take_up_to.new.self }) refl took.taken (took.in_use ∙ was.in_use)
       (took.capacity ∙ was.capacity) was.pins),
 )
+
+pub returns-in-Err-clause-as_swept : goal.returns-in-Err-clause-as_swept
+returns-in-Err-clause-as_swept g c = let was = c.loop-file.invariant in let took = c.in-Some-take_up_to.ensures in
+    let removes = c.in-Err.ensures.removes in
+    let ends = subst (λ (b : ℕ). (stops : StopsRemoving g.D.Watched g.D.Writer.Writer (ready b c.args.self.now.removing.stock.trash.items)
+    c.args.self.now.disk c.remove_file.new.disk c.in-Err.name)
+    × PinsStay c.args.self.now.core.back.version_number c.args.self.now.removing.pins c.loop-file.self.removing.pins
+    × StaysBehind b c.args.self.now.removing
+    (record { pins = c.loop-file.self.removing.pins; stock = c.take_up_to.new.self }) stops.before stops.behind) was.bound
+    (stops_behind g.D.Watched g.D.Writer.Writer c.bound-bound.result c.args.self.now.removing.stock.trash.items
+    c.loop-file.self.removing.stock.trash.items c.args.self.now.disk c.loop-file.self.disk c.loop-file.count was.gone
+    c.args.self.now.core.back.version_number c.args.self.now.removing
+    (record { pins = c.loop-file.self.removing.pins; stock = c.take_up_to.new.self }) c.in-Some-take_up_to.file
+    c.remove_file.new.disk c.in-Err.name removes.1 refl removes.0 took.taken removes.2 (took.in_use ∙ was.in_use)
+    (took.capacity ∙ was.capacity) was.pins) in (
+      was.running,
+      ap (λ (x : Core g.row.D-Held.Denot). record x { front = record x.front { halted = Some c.in-Err.name } }) was.core,
+      ends.0,
+      ends.1,
+      ends.2,
+    )
