@@ -1,4 +1,4 @@
-ghost use Rattle.std.specs.Prelude.{◌≡◌, ℕ, ◌+◌, ◌≤◌, length, Option, Some, IsTrue, All, IfOk, OnOk, OnErr, IsErr, IsErrOf};
+ghost use Rattle.std.specs.Prelude.{◌≡◌, ℕ, ◌+◌, ◌≤◌, length, Option, None, Some, IsTrue, All, IfOk, OnOk, OnErr, IsErr, IsErrOf};
 ghost use Rattle.std.specs.Option.{ForSome};
 ghost use Rattle.vl_disk.specs.declared.name.Name.{Name};
 ghost use Rattle.vl_disk.specs.Name.{IsNumbered};
@@ -131,4 +131,7 @@ pub trait Disk: Watched {
     /// It has counted a fault for each call that was to fail, and no other.
     ghost counts_past: { (disk : Self) (stop : Option ℕ)
         → Self.fails_past disk stop → CountsPast stop (Self.calls disk) (Self.faults disk) };
+
+    /// All of one type tell what they hold, or none does.
+    ghost alike: { (one other : Self) → Self.told one ≡ None → Self.told other ≡ None };
 }

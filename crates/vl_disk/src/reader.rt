@@ -1,4 +1,4 @@
-ghost use Rattle.std.specs.Prelude.{◌≡◌, ◌↔◌, ℕ, ◌+◌, ◌≤◌, List, length, Option, Some, OnOk, IsErr, IsTrue};
+ghost use Rattle.std.specs.Prelude.{◌≡◌, ◌↔◌, ℕ, ◌+◌, ◌≤◌, List, length, Option, None, Some, OnOk, IsErr, IsTrue};
 ghost use Rattle.std.specs.Option.{ForSome};
 ghost use Rattle.vl_disk.specs.declared.name.Name.{Name};
 ghost use Rattle.vl_disk.specs.Held.{AgreeAt};
@@ -40,6 +40,9 @@ pub trait HeldFile: Clone + Drop {
 
     /// A clone has the same name.
     ghost named_alike: { (held copy : Self) → Self.is_clone held copy → named copy ≡ named held };
+
+    /// All of one type tell their bytes, or none does.
+    ghost alike: { (held other : Self) → bytes held ≡ None → bytes other ≡ None };
 }
 
 /// What reads held files, beside the disk.

@@ -122,6 +122,8 @@ impl<R: Files<File = File> + Eprint + Copy> Disk for FolderDisk<R> {
 
     ghost counts_past = { λ _ _ past. absurd past };
 
+    ghost alike = { λ _ _ none. none };
+
     fn list(&mut self, alloc: Global) -> Result<Vec<Name>, DiskFail> {
         let names = match self.folder.list(alloc) {
             Ok(names) => names,

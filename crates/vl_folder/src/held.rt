@@ -154,6 +154,8 @@ impl HeldFile for FolderHeld {
 
     ghost named_alike = { λ held copy same. same.1 };
 
+    ghost alike = { λ _ _ none. none };
+
     fn len(&self) -> u64 {
         self.len
     }

@@ -1,7 +1,8 @@
 -- Files that a disk in memory shares.
-use Rattle.std.specs.Prelude.{◌≡◌, ℕ, List, length, Some}
+use Rattle.std.specs.Prelude.{◌≡◌, ℕ, List, length, None, Some}
 use Rattle.std.specs.Arc.{arc_value}
 use Rattle.std.proofs.Common.{sym, ap}
+use Rattle.std.proofs.lemmas.Option.{none-some}
 use Rattle.vl_mem.specs.declared.held.MemHeld.{MemHeld}
 use Rattle.vl_mem.specs.declared.held.File.{File}
 use Rattle.vl_mem.specs.declared.held.File.TheVariants.{Shared, Alone}
@@ -21,3 +22,7 @@ same_size there bytes is = ap length (sym same)
 
 pub same_shared : (held copy : List ℕ) → copy ≡ held → (Some copy ≡ Some held) × (length copy ≡ length held)
 same_shared held copy same = (ap Some same, ap length same)
+
+-- of what is told, nothing is that holds of what isn't
+pub is_told : {T P : Type 0} (told : T) → Some told ≡ None → P
+is_told told is = absurd (none-some told (sym is))

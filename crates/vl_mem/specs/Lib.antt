@@ -8,4 +8,5 @@ pub mod Kept
 pub mod laws
 pub mod MemDisk
 pub mod StoppingDisk
+pub mod SureDisk
 pub mod Written

@@ -2,7 +2,7 @@
 ghost use Rattle.std.specs.Prelude.{◌≡◌, ◌↔◌, ℕ, ◌+◌, ◌≤◌, length, Some, IsTrue};
 ghost use Rattle.vl_disk.specs.DiskState.{bytes_at};
 ghost use Rattle.vl_disk.specs.Held.{AgreeAt};
-ghost use Rattle.vl_mem.specs.Held.{held_bytes, same_size, same_shared};
+ghost use Rattle.vl_mem.specs.Held.{held_bytes, is_told, same_size, same_shared};
 
 use std::alloc::{AllocError, Global};
 use std::sync::Arc;
@@ -73,6 +73,8 @@ impl HeldFile for MemHeld {
     ghost shared = { λ held copy same. same_shared (held_bytes held) (held_bytes copy) same.0 };
 
     ghost named_alike = { λ held copy same. same.1 };
+
+    ghost alike = { λ held other none. is_told (held_bytes held) none };
 
     fn len(&self) -> u64 {
         self.bytes().len() as u64

@@ -16,6 +16,7 @@ mod reading;
 mod steady_reader;
 mod steady_writer;
 mod stopping_disk;
+mod sure_disk;
 mod written;
 
 pub use held::MemHeld;
@@ -26,3 +27,4 @@ pub use outcome::Outcome;
 pub use steady_reader::SteadyReader;
 pub use steady_writer::SteadyWriter;
 pub use stopping_disk::StoppingDisk;
+pub use sure_disk::SureDisk;

@@ -192,7 +192,8 @@ impl Disk for MemDisk {
     ghost use Rattle.vl_disk.specs.FaultPlan.{new_plan};
     ghost use Rattle.vl_disk.specs.Spare.{IsReady, CanAppend, SameSpare, SameSpareElsewhere, UsesHold};
     ghost use Rattle.vl_mem.specs.Event.{told_lawful, counts_present, only_present};
-    ghost use Rattle.vl_mem.specs.MemDisk.{told_by, room_of, changes_of, reads_of, reads_by, writers_of, failing_at};
+    ghost use Rattle.vl_mem.specs.Held.{is_told};
+    ghost use Rattle.vl_mem.specs.MemDisk.{state_of, told_by, room_of, changes_of, reads_of, reads_by, writers_of, failing_at};
     ghost use Rattle.vl_mem.specs.MemDisk.{writes_of, file_by, CountsChange, CountsRead, KeepsOtherWriters};
     ghost use Rattle.vl_mem.specs.MemDisk.{KeepsWriters};
     ghost use Rattle.vl_mem.specs.FailsPast.{counted_past};
@@ -204,6 +205,8 @@ impl Disk for MemDisk {
     ghost only_now = { λ m. only_present m.events.items };
 
     ghost counts_past = { counted_past };
+
+    ghost alike = { λ one other none. is_told (state_of one) none };
 
     fn list(&mut self, alloc: Global) -> Result<Vec<Name>, DiskFail>
         ensures names { IfOk result (λ names. ForSome (told_by self.old) (Lists names.items)) }

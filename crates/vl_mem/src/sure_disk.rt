@@ -1,0 +1,130 @@
+// A disk in memory that never fails.
+ghost use Rattle.std.specs.Prelude.{None};
+ghost use Rattle.vl_mem.specs.FailsPast.{FailsPast};
+
+use crate::held::MemHeld;
+use crate::mem_disk::MemDisk;
+use crate::steady_reader::SteadyReader;
+use crate::steady_writer::SteadyWriter;
+use std::alloc::Global;
+use vl_disk::{Disk, DiskFail, Failed, Name, NoMemory, Watched};
+
+/// A disk in memory of which nothing fails: neither its calls, nor what reads the files that it shares or writes those that it
+/// lends. Only memory may run out.
+#[derive(Drop)]
+pub struct SureDisk {
+    disk: MemDisk,
+    ghost sure: { FailsPast disk None },
+}
+
+impl SureDisk {
+    ghost use Rattle.std.specs.Prelude.{◌≡◌};
+    ghost use Rattle.vl_disk.specs.DiskState.{empty_disk};
+    ghost use Rattle.vl_mem.specs.SureDisk.{calls_on, state_on};
+
+    /// An empty disk.
+    pub fn new(alloc: Global) -> Self
+        ensures empty { state_on result ≡ empty_disk }
+        ensures calls { calls_on result ≡ 0 }
+    {
+        SureDisk {
+            disk: MemDisk::new(alloc, Vec::new(alloc), Vec::new(alloc)),
+        }
+    }
+}
+
+impl Watched for SureDisk {
+    ghost use Rattle.std.specs.Prelude.{true};
+    ghost use Rattle.vl_mem.specs.MemDisk.{told_by, moment_of, was_since, changes_of, faults_of, room_of};
+
+    ghost told = { λ d. told_by d.disk };
+
+    ghost moment = { λ d. moment_of d.disk };
+
+    ghost states_since = { λ d. was_since d.disk };
+
+    ghost calls = { λ d. (changes_of d.disk).listed.calls };
+
+    ghost faults = { λ d. faults_of d.disk };
+
+    ghost spare = { λ d. room_of d.disk };
+
+    ghost fails_cleanly = { true };
+
+    ghost fails_past = { λ d. FailsPast d.disk };
+}
+
+impl Disk for SureDisk {
+    type Held = MemHeld;
+
+    type Reader = SteadyReader;
+
+    type Writer = SteadyWriter;
+
+    ghost use Rattle.vl_mem.specs.Event.{told_lawful, counts_present, only_present};
+    ghost use Rattle.vl_mem.specs.FailsPast.{counted_past};
+    ghost use Rattle.vl_mem.specs.Held.{is_told};
+    ghost use Rattle.vl_mem.specs.MemDisk.{state_of};
+
+    ghost lawful = { λ d. told_lawful d.disk.events.items d.disk.kept.sound };
+
+    ghost counts_now = { λ d. counts_present d.disk.events.items };
+
+    ghost only_now = { λ d. only_present d.disk.events.items };
+
+    ghost counts_past = { λ d. counted_past d.disk };
+
+    ghost alike = { λ one other none. is_told (state_of one.disk) none };
+
+    fn list(&mut self, alloc: Global) -> Result<Vec<Name>, DiskFail> {
+        self.disk.list(alloc)
+    }
+
+    fn size(&mut self, name: Name) -> Result<u64, Failed> {
+        self.disk.size(name)
+    }
+
+    fn read(&mut self, name: Name, place: u64, out: &mut [u8]) -> Result<(), Failed> {
+        self.disk.read(name, place, out)
+    }
+
+    fn ready(&mut self, name: Name, bytes: u64) -> Result<(), NoMemory> {
+        self.disk.ready(name, bytes)
+    }
+
+    fn create(&mut self, name: Name) -> Result<(), Failed> {
+        self.disk.create(name)
+    }
+
+    fn append(&mut self, name: Name, piece: &[u8]) -> Result<(), Failed> {
+        self.disk.append(name, piece)
+    }
+
+    fn sync(&mut self, name: Name) -> Result<(), Failed> {
+        self.disk.sync(name)
+    }
+
+    fn cut(&mut self, name: Name, len: u64) -> Result<(), Failed> {
+        self.disk.cut(name, len)
+    }
+
+    fn remove(&mut self, name: Name) -> Result<(), Failed> {
+        self.disk.remove(name)
+    }
+
+    fn hold(&mut self, name: Name) -> Result<MemHeld, DiskFail> {
+        self.disk.hold(name)
+    }
+
+    fn lend(&mut self, name: Name) -> Result<SteadyWriter, Failed> {
+        Ok(SteadyWriter::new(self.disk.lend(name)?))
+    }
+
+    fn adopt(&mut self, writer: SteadyWriter) {
+        self.disk.adopt(writer.into_writer());
+    }
+
+    fn reader(&self, _alloc: Global) -> Result<SteadyReader, NoMemory> {
+        Ok(SteadyReader {})
+    }
+}
