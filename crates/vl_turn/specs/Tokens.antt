@@ -15,6 +15,13 @@ pub record IsTokenOf {T E : Type 0} (name : TableId) (start : T) (token : Seat (
   pub unclosed : token.me.0.closed ≡ false
   pub slots : token.me.1 ≡ []
 
+-- It can be made one with another token of the lock with this name: it is a token of it, and doesn't have the turn.
+pub record MayJoin {T E : Type 0} (name : TableId) (token : Seat (Option T) (View T E)) : Type 0 where
+  pub here : token.table_id ≡ name
+  pub idle : token.me.0.holds ≡ false
+  pub unclosed : token.me.0.closed ≡ false
+  pub slots : token.me.1 ≡ []
+
 -- it has the turn, and the value was taken out
 pub record HasTurn {T E : Type 0} (name : TableId) (start : T) (token : Seat (Option T) (View T E)) : Type 0 where
   pub here : token.table_id ≡ name

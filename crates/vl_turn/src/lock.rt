@@ -4,7 +4,7 @@ ghost use mathlib.Core.List.{IsPrefix};
 ghost use Rattle.vl_turn.specs.Views.{IsRoot, root, filled, entered, gave, copied, counted, disowned, dealt, joined, looked};
 ghost use Rattle.vl_turn.specs.Entries.{with_entry};
 ghost use Rattle.vl_turn.specs.Steps.{MayEnter};
-ghost use Rattle.vl_turn.specs.Tokens.{IsTokenOf, HasTurn, IsEmpty, IsWhole, Begins, Ends};
+ghost use Rattle.vl_turn.specs.Tokens.{IsTokenOf, MayJoin, HasTurn, IsEmpty, IsWhole, Begins, Ends};
 ghost use Rattle.vl_turn.specs.Fails.{refused};
 
 use crate::fails::LockFail;
@@ -134,7 +134,7 @@ impl<T: Standing> TurnLock<T> {
     /// numbers any more.
     pub fn meet(&self, mine: &mut Token<T>, note: Token<T>)
         requires mine { IsTokenOf (lock_name self.now) (lock_start self.now) mine.old }
-        requires note { IsTokenOf (lock_name self.now) (lock_start self.now) note }
+        requires note { MayJoin (lock_name self.now) note }
         ensures token { IsTokenOf (lock_name self.now) (lock_start self.now) mine.new }
         ensures met { mine.new.me.0 ≡ looked (joined mine.old.me.0 note.me.0) }
 

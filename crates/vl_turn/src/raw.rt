@@ -6,7 +6,7 @@ ghost use Rattle.std.specs.Bool.{OnTrue, OnFalse};
 ghost use mathlib.Core.List.{IsPrefix};
 ghost use Rattle.vl_turn.specs.Views.{IsRoot, root, entered, gave, opened, closing, looked, copied, joined, counted, disowned, dealt};
 ghost use Rattle.vl_turn.specs.Steps.{HoldsValue, IsTaken, MayEnter};
-ghost use Rattle.vl_turn.specs.Tokens.{IsTokenOf, HasTurn, IsEmpty, IsWhole};
+ghost use Rattle.vl_turn.specs.Tokens.{IsTokenOf, MayJoin, HasTurn, IsEmpty, IsWhole};
 
 use crate::plays::{Both, Close, Copied, Dealt, Enter, Give, Load, Number, Open, Take};
 use crate::rule::{Law, Token};
@@ -159,7 +159,7 @@ impl<T: Standing> RawLock<T> {
     /// Join: one token of two, with the longer of what they had seen, and the sessions of both.
     pub(crate) fn join(&self, stay: &mut Token<T>, gone: Token<T>)
         requires stay { IsTokenOf (raw_name self.now) (raw_start self.now) stay.old }
-        requires gone { IsTokenOf (raw_name self.now) (raw_start self.now) gone }
+        requires gone { MayJoin (raw_name self.now) gone }
         ensures here { stay.new.table_id ≡ stay.old.table_id }
         ensures joined { stay.new.me ≡ (joined stay.old.me.0 gone.me.0, stay.old.me.1) }
     {
