@@ -56,6 +56,8 @@ impl Disk for MendedDisk {
 
     ghost use Rattle.vl_mem.specs.Event.{told_lawful, counts_present, only_present};
     ghost use Rattle.vl_mem.specs.FailsPast.{counted_past};
+    ghost use Rattle.vl_mem.specs.Held.{is_told};
+    ghost use Rattle.vl_mem.specs.MemDisk.{state_of};
 
     ghost lawful = { λ d. told_lawful d.disk.events.items d.disk.kept.sound };
 
@@ -64,6 +66,8 @@ impl Disk for MendedDisk {
     ghost only_now = { λ d. only_present d.disk.events.items };
 
     ghost counts_past = { λ d. counted_past d.disk };
+
+    ghost alike = { λ one other none. is_told (state_of one.disk) none };
 
     fn list(&mut self, alloc: Global) -> Result<Vec<Name>, DiskFail> {
         self.disk.list(alloc)

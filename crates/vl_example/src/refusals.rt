@@ -3,7 +3,7 @@
 use crate::stock::make_room;
 use anyhow::{Error, Result, anyhow};
 use vlstore::{
-    CommitFail, Disk, Engine, MergeFail, MoveFail, OpenError, PickFail, StepFail, SweepFail,
+    Cached, CommitFail, Disk, Engine, MergeFail, MoveFail, OpenError, PickFail, StepFail, SweepFail,
 };
 
 /// Why a store wasn't opened, and what may be done.
@@ -22,7 +22,10 @@ pub fn not_opened(why: OpenError) -> Error {
 
 /// Does what a refusal of a commit asks for, so that the change can begin anew; or says why it can't. A transaction that was handed
 /// back is given up.
-pub fn go_on<D: Disk>(store: &mut Engine<D>, fail: CommitFail<D::Held, D::Reader>) -> Result<()> {
+pub fn go_on<D: Disk>(
+    store: &mut Engine<D>,
+    fail: CommitFail<D::Held, Cached<D::Reader>>,
+) -> Result<()> {
     match fail {
         CommitFail::Conflict { .. } => Ok(()),
         CommitFail::Full { txn, .. } => {

@@ -21,6 +21,7 @@ use open::Open;
 use passing::Passing;
 use planned::Planned;
 use std::alloc::Global;
+use vl_cache::Cached;
 use vl_disk::Disk;
 use vl_engine::Engine;
 use vl_sequential::Halt;
@@ -32,7 +33,7 @@ pub struct Served<D: Disk> {
     alloc: Global,
     engine: Engine<D>,
     /// The names that transactions and views have. No name stands here twice.
-    opens: Vec<Open<D::Held, D::Reader>>,
+    opens: Vec<Open<D::Held, Cached<D::Reader>>>,
 }
 
 /// A store on a disk, which answers a script's lines.

@@ -1,4 +1,5 @@
 ghost use Rattle.std.specs.Prelude.{◌≡◌, [], IfOk};
+ghost use Rattle.lru.specs.LruCache.{lru_cache};
 ghost use Rattle.vl_engine.specs.Answers.{begin_outcome, view_outcome};
 ghost use Rattle.vl_engine.specs.Past.{beginning};
 ghost use Rattle.vl_core.specs.LiesOver.{IsInMemory};
@@ -19,14 +20,18 @@ ghost use Rattle.vl_engine.specs.Removing.{Removes};
 use crate::past::past_of;
 use crate::pinning::begin;
 use crate::{BeginFail, Engine, Txn, View};
-use vl_disk::Disk;
+use vl_cache::Cached;
+use vl_disk::{Disk, NoMemory};
 use vl_manifest::ManifestState;
 use vl_table::{BlockReader, KEPT_BLOCKS};
 use vl_txn::{Reads, Writes};
 
+/// How many reads a transaction or a view keeps beside the blocks that it has tested.
+const CACHED_READS: u32 = 64;
+
 impl<D: Disk> Engine<D> {
     /// Begins a transaction, which reads what is committed now.
-    pub fn begin(&mut self) -> Result<Txn<D::Held, D::Reader>, BeginFail>
+    pub fn begin(&mut self) -> Result<Txn<D::Held, Cached<D::Reader>>, BeginFail>
         // It is answered as the ruling has it: too many are live exactly at the limit.
         ensures decides { (h : History) (l : Layout) → Fronts self.old.core h l
             → Decides (Fronts self.new.core) h l (begin_ruling l h) (as_before l l) (begin_outcome result) no_effects }
@@ -63,6 +68,9 @@ impl<D: Disk> Engine<D> {
         ensures version { IfOk result (λ txn. txn.version ≡ self.old.core.version) }
         ensures blocks { (files : Files) → IfOk result (λ txn. AreKept files txn.reader) }
 
+        // It may keep so many reads, and keeps none yet.
+        ensures cache { IfOk result (λ txn. txn.reader.reader.kept ≡ lru_cache [] 64) }
+
         // The disk isn't asked, and what steps and the open merge need stays.
         ensures disk { self.new.disk ≡ self.old.disk }
         ensures back { self.new.core.back ≡ self.old.core.back }
@@ -93,7 +101,7 @@ impl<D: Disk> Engine<D> {
     }
 
     /// Begins a view, which reads what is committed now, and may not write.
-    pub fn view(&mut self) -> Result<View<D::Held, D::Reader>, BeginFail>
+    pub fn view(&mut self) -> Result<View<D::Held, Cached<D::Reader>>, BeginFail>
         ensures decides { (h : History) (l : Layout) → Fronts self.old.core h l
             → Decides (Fronts self.new.core) h l (view_ruling l h) (as_before l l) (view_outcome result) no_effects }
         ensures stands { (h : History) (l : Layout) → StandsFor D.Held.bytes self.old.core h l
@@ -120,6 +128,9 @@ impl<D: Disk> Engine<D> {
         // Its version is the engine's, and its reader keeps no block that doesn't stand, whatever the files.
         ensures version { IfOk result (λ view. view.version ≡ self.old.core.version) }
         ensures blocks { (files : Files) → IfOk result (λ view. AreKept files view.reader) }
+
+        // It may keep so many reads, and keeps none yet.
+        ensures cache { IfOk result (λ view. view.reader.reader.kept ≡ lru_cache [] 64) }
         ensures disk { self.new.disk ≡ self.old.disk }
         ensures back { self.new.core.back ≡ self.old.core.back }
         ensures merging { self.new.merging ≡ self.old.merging }
@@ -128,16 +139,9 @@ impl<D: Disk> Engine<D> {
         ensures stock { self.new.removing.stock ≡ self.old.removing.stock }
         ensures logs { self.new.core.version.behind.logs ≡ self.old.core.version.behind.logs }
     {
-        let Ok(reader) = self.disk.reader(self.alloc) else {
+        let Ok(reader) = self.looks() else {
             return Err(BeginFail::NoMemory);
         };
-        // Where there are no tables there is no block to keep: the least room is enough.
-        let blocks = if has_tables(&self.core.back.state) {
-            KEPT_BLOCKS
-        } else {
-            1
-        };
-        let reader = BlockReader::new(self.alloc, reader, blocks)?;
         let version = self.core.version.share()?;
         let past = past_of(&self.core);
         match begin(
@@ -155,6 +159,20 @@ impl<D: Disk> Engine<D> {
             }),
             Err(why) => Err(why),
         }
+    }
+
+    // What a transaction or a view reads with. Where there are no tables there is no block to keep: the least room is enough.
+    fn looks(&self) -> Result<BlockReader<Cached<D::Reader>>, NoMemory>
+        ensures blocks { (files : Files) → IfOk result (AreKept files) }
+        ensures cache { IfOk result (λ looks. looks.reader.kept ≡ lru_cache [] 64) }
+    {
+        let reader = Cached::new(self.alloc, self.disk.reader(self.alloc)?, CACHED_READS)?;
+        let blocks = if has_tables(&self.core.back.state) {
+            KEPT_BLOCKS
+        } else {
+            1
+        };
+        Ok(BlockReader::new(self.alloc, reader, blocks)?)
     }
 }
 

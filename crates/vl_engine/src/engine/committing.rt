@@ -30,6 +30,7 @@ ghost use Rattle.vl_engine.specs.Removing.{Removes};
 use crate::staging::{StagedCommit, stage_commit};
 use crate::writing::append_durably;
 use crate::{CommitFail, Done, Engine, Txn};
+use vl_cache::Cached;
 use vl_disk::{Disk, Name};
 use vl_front::Decision;
 use vl_model::reads_without_conflict_stay_explained;
@@ -40,8 +41,8 @@ impl<D: Disk> Engine<D> {
     /// and all memory is taken before these. A transaction that is handed back lives on as it was; otherwise it has ended.
     pub fn commit(
         &mut self,
-        txn: Txn<D::Held, D::Reader>,
-    ) -> Result<Done, CommitFail<D::Held, D::Reader>>
+        txn: Txn<D::Held, Cached<D::Reader>>,
+    ) -> Result<Done, CommitFail<D::Held, Cached<D::Reader>>>
         // It is answered as the ruling has it on whatever reads the transaction has noted, while it is live.
         ensures decides { (h : History) (l : Layout) (reads : List Read) → Fronts self.old.core h l
             → IsLive l txn.ticket txn.number → AreNotesOf reads txn.reads.keys txn.reads.spans
@@ -86,7 +87,7 @@ impl<D: Disk> Engine<D> {
         ensures untold { OnOk result (StaysUntold (D.told self.old.disk) (D.told self.new.disk)) }
 
         // One that is handed back is as it was.
-        ensures back { (back : Txn D.Held D.Reader) → handed_back result ≡ Some back → back ≡ txn }
+        ensures back { (back : Txn D.Held _) → handed_back result ≡ Some back → back ≡ txn }
 
         // A fault of the disk is counted, and named by the file; and nothing else raises the count.
         ensures cause { HasCause (D.faults self.old.disk) (D.faults self.new.disk) (CommitFailed result) }
@@ -141,10 +142,10 @@ impl<D: Disk> Engine<D> {
     // Writes the commit of a transaction, which may be written.
     fn write(
         &mut self,
-        txn: Txn<D::Held, D::Reader>,
-    ) -> Result<Done, CommitFail<D::Held, D::Reader>>
+        txn: Txn<D::Held, Cached<D::Reader>>,
+    ) -> Result<Done, CommitFail<D::Held, Cached<D::Reader>>>
         requires { MayWrite self.old.core.front (entries txn.writes) }
-        ensures back { (back : Txn D.Held D.Reader) → handed_back result ≡ Some back → back ≡ txn }
+        ensures back { (back : Txn D.Held _) → handed_back result ≡ Some back → back ≡ txn }
         ensures cause { HasCause (D.faults self.old.disk) (D.faults self.new.disk) (CommitFailed result) }
         ensures steps { self.new.core.back ≡ self.old.core.back }
         ensures merging { self.new.merging ≡ self.old.merging }

@@ -8,11 +8,12 @@ ghost use Rattle.vl_engine.specs.Pinning.{unpinned};
 ghost use Rattle.vl_engine.specs.Removing.{Removes};
 
 use crate::{Engine, Txn, View};
+use vl_cache::Cached;
 use vl_disk::Disk;
 
 impl<D: Disk> Engine<D> {
     /// Gives up a transaction, and what it has written with it. It wants no memory.
-    pub fn forget(&mut self, txn: Txn<D::Held, D::Reader>)
+    pub fn forget(&mut self, txn: Txn<D::Held, Cached<D::Reader>>)
         ensures decides { (h : History) (l : Layout) → Fronts self.old.core h l → Fronts self.new.core h (ended txn.ticket l) }
         ensures stands { (h : History) (l : Layout) → StandsFor D.Held.bytes self.old.core h l
             → StandsFor D.Held.bytes self.new.core h (ended txn.ticket l) }
@@ -35,7 +36,7 @@ impl<D: Disk> Engine<D> {
     }
 
     /// Ends a view. It wants no memory.
-    pub fn release(&mut self, view: View<D::Held, D::Reader>)
+    pub fn release(&mut self, view: View<D::Held, Cached<D::Reader>>)
         ensures decides { (h : History) (l : Layout) → Fronts self.old.core h l → Fronts self.new.core h (ended view.ticket l) }
         ensures stands { (h : History) (l : Layout) → StandsFor D.Held.bytes self.old.core h l
             → StandsFor D.Held.bytes self.new.core h (ended view.ticket l) }

@@ -75,7 +75,7 @@ impl<H: HeldFile, R: Reader<Held = H> + Drop> View<H, R> {
         Ok(self.get(key)?.map(tagged_value))
     }
 
-    /// The value of a key read to the front of the caller's bytes, where it fits. It wants no memory. After a fault of the
+    /// The value of a key read to the front of the caller's bytes, where it fits. It answers no want of memory. After a fault of the
     /// reader or damage these bytes may be anything; at a refused key they are as they were.
     pub fn get_into(&mut self, key: &[u8], out: &mut [u8]) -> Result<Found, ReadFault>
         ensures value { (h : History) → SeesAlone H.bytes self.old h

@@ -56,9 +56,9 @@ none_there job made e = cc
 itself_beside : (l : Layout) → IsBeside l l
 itself_beside l = record { live = refl; bare = λ ticket none. none }
 
-module _ {W H R : Type 0} (w : Writers W) (bytes : H → Option (List ℕ)) {k : Writers W} (seen now : Option DiskState)
+module _ {W H R S : Type 0} (w : Writers W) (bytes : H → Option (List ℕ)) {k : Writers W} (seen now : Option DiskState)
     (before after : Core H)
-    (merging merging' : Option OpenMerge) (os : List (Open H R)) (s : State) (stands : StandsIn bytes seen before os s)
+    (merging merging' : Option OpenMerge) (os : List (Open H S)) (s : State) (stands : StandsIn bytes seen before os s)
     (p : Planned (Base H R) H W k) (merges : Merges w bytes merging (Some p) s.store.things s.store.layout)
     (name : Name) (named : p.name ≡ name)
     -- what the engine is behind it
@@ -129,9 +129,9 @@ module _ {W H R : Type 0} (w : Writers W) (bytes : H → Option (List ℕ)) {k :
 
 -- ---- the disk, which isn't asked
 
-module _ {D W H R : Type 0} (g : Ghosts D) (watched : IsWatched g) (w : Writers W) (bytes : H → Option (List ℕ))
+module _ {D W H R S : Type 0} (g : Ghosts D) (watched : IsWatched g) (w : Writers W) (bytes : H → Option (List ℕ))
     {k : Writers W} (disk : D) (before after : Core H)
-    (merging : Option OpenMerge) (os : List (Open H R)) (s : State) (stands : StandsIn bytes (g.told disk) before os s)
+    (merging : Option OpenMerge) (os : List (Open H S)) (s : State) (stands : StandsIn bytes (g.told disk) before os s)
     (p : Planned (Base H R) H W k) (merges : Merges w bytes merging (Some p) s.store.things s.store.layout)
     (name : Name) (named : p.name ≡ name)
     (core : after ≡ before) where

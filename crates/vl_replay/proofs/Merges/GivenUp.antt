@@ -175,8 +175,8 @@ next_above s name j choice plans running bare count few fits =
     omega (arith, next, few))
     (cases_lt (max_file_number + 1) (s.store.layout.next_table + total_of j))
 
-module _ {D W H R : Type 0} (g : Ghosts D) (watched : IsWatched g) (w : Writers W) (bytes : H → Option (List ℕ)) {k : Writers W}
-    (old new : D) (before core : Core H) (merging : Option OpenMerge) (os : List (Open H R)) (s : State)
+module _ {D W H R S : Type 0} (g : Ghosts D) (watched : IsWatched g) (w : Writers W) (bytes : H → Option (List ℕ)) {k : Writers W}
+    (old new : D) (before core : Core H) (merging : Option OpenMerge) (os : List (Open H S)) (s : State)
     (stands : StandsIn bytes (g.told old) before os s) (choice : Choice) (name : Name) (bare : thing_of s.store name ≡ None)
     (free : open_in os name ≡ None)
     (job : TheJob (Base H R) H W k) (result : Result (Option Counter) Halt)

@@ -356,8 +356,8 @@ told_as result fail other is same =
 
 -- ---- the line
 
-module _ {D H R W : Type 0} (g : Ghosts D) (w : Writers W) (bytes : H → Option (List ℕ)) {k : _} (before after : Core H) (old new : D)
-    (merging : Option OpenMerge) (os : List (Open H R)) (s : State) (stands : StandsIn bytes (g.told old) before os s) (name : Name)
+module _ {D H R S W : Type 0} (g : Ghosts D) (w : Writers W) (bytes : H → Option (List ℕ)) {k : _} (before after : Core H) (old new : D)
+    (merging : Option OpenMerge) (os : List (Open H S)) (s : State) (stands : StandsIn bytes (g.told old) before os s) (name : Name)
     (planned : Planned (Base H R) H W k) (named : planned.name ≡ name)
     (waits : IsWaiting w bytes planned s.store.things s.store.layout) where
   abbrev h : History
@@ -393,9 +393,9 @@ module _ {D H R W : Type 0} (g : Ghosts D) (w : Writers W) (bytes : H → Option
   -- nothing that reads has its name
   free : open_in os name ≡ None
   free = none_open (open_in os name)
-      (subst (λ (o : Option Thing). Corresponds {H = H} {R = R} bytes h l (open_in os name) o) there (stands.names.each name))
+      (subst (λ (o : Option Thing). Corresponds {H = H} {R = S} bytes h l (open_in os name) o) there (stands.names.each name))
     where
-      none_open : (o : Option (OpenThing H R)) → Corresponds bytes h l o (Some (AJob j made)) → o ≡ None
+      none_open : (o : Option (OpenThing H S)) → Corresponds bytes h l o (Some (AJob j made)) → o ≡ None
       none_open None is = refl
       none_open (Some (Transaction txn)) is = absurd is
       none_open (Some (View view)) is = absurd is
@@ -765,8 +765,8 @@ module _ {D H R W : Type 0} (g : Ghosts D) (w : Writers W) (bytes : H → Option
     pub within : (InstallFailed result → ⊥) → before.back.state.next_log ≤ before.back.next_log
         → after.back.state.next_log ≤ after.back.next_log
 
-  module _ (watched : IsWatched g) (handed : IsHandedIn g w old before.front.halted merging job)
-      (lent : lending.AreLent g old before.back.state.next_table merging) (os : List (Open H R)) (s : State)
+  module _ {S : Type 0} (watched : IsWatched g) (handed : IsHandedIn g w old before.front.halted merging job)
+      (lent : lending.AreLent g old before.back.state.next_table merging) (os : List (Open H S)) (s : State)
       (stands : StandsIn bytes (g.told old) before os s) (opens : Opens merging s.store.layout.job) (name its_name : Name)
       (named : its_name ≡ name)
       (waits : IsWaiting w bytes (waiting_as its_name job) s.store.things s.store.layout)
@@ -855,9 +855,9 @@ module _ {D H R W : Type 0} (g : Ghosts D) (w : Writers W) (bytes : H → Option
 
 -- ---- the line, by what its call takes out, and by what the engine says
 
-module _ {D H R W : Type 0} (g : Ghosts D) (w : Writers W) (bytes : H → Option (List ℕ)) {k : _} (before after : Core H) (old new : D)
+module _ {D H R S W : Type 0} (g : Ghosts D) (w : Writers W) (bytes : H → Option (List ℕ)) {k : _} (before after : Core H) (old new : D)
     (merging merging' : Option OpenMerge) (job : TheJob (Base H R) H W k) (watched : IsWatched g)
-    (lent : lending.AreLent g old before.back.state.next_table merging) (os : List (Open H R)) (s : State)
+    (lent : lending.AreLent g old before.back.state.next_table merging) (os : List (Open H S)) (s : State)
     (stands : StandsIn bytes (g.told old) before os s)
     -- the name as the call had it, and as the line has it
     (q name : Name) (same : q ≡ name) (planned planned' : Option (Planned (Base H R) H W k))

@@ -21,9 +21,9 @@ use Rattle.vl_replay.specs.declared.replayer.open.Open.{Open}
 use Rattle.vl_replay.proofs.Merges.Planned.{Plans}
 use Rattle.vl_replay.proofs.Merges.Planning.{planned_state}
 
-module _ {W H R : Type 0} (w k : Writers W) (bytes : H → Option (List ℕ)) (told : Option DiskState)
+module _ {W H R S : Type 0} (w k : Writers W) (bytes : H → Option (List ℕ)) (told : Option DiskState)
     (before after : Core H) (merging : Option OpenMerge)
-    (os : List (Open H R)) (s : State) (stands : StandsIn bytes told before os s) (job : TheJob (Base H R) H W k) (j : Job)
+    (os : List (Open H S)) (s : State) (stands : StandsIn bytes told before os s) (job : TheJob (Base H R) H W k) (j : Job)
     (choice : Choice) (plans : Plans choice s.store.layout (history_of s) j) (core : after ≡ before) where
   abbrev ruling : Ruling (Option Job)
   ruling = chosen choice s.store.layout (history_of s)

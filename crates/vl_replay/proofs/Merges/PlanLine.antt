@@ -135,9 +135,9 @@ pub record WasMerged {D H R W : Type 0} (g : Ghosts D) (w : Writers W) (bytes : 
   -- a disk that held the state held it with the open merge too
   pub held : HoldsState g IsStored s old → HoldsState g IsStored (planned_state j s) old
 
-module _ {D H R W E : Type 0} (g : Ghosts D) (w : Writers W) (bytes : H → Option (List ℕ)) {k : Writers W}
+module _ {D H R S W E : Type 0} (g : Ghosts D) (w : Writers W) (bytes : H → Option (List ℕ)) {k : Writers W}
     (before after : Core H) (old new : D)
-    (merging merging' : Option OpenMerge) (os : List (Open H R)) (s : State) (stands : StandsIn bytes (g.told old) before os s)
+    (merging merging' : Option OpenMerge) (os : List (Open H S)) (s : State) (stands : StandsIn bytes (g.told old) before os s)
     (result : Result (Option (TheJob (Base H R) H W k)) E)
     (core : after ≡ before) (disk : new ≡ old) (choice : Choice) where
   abbrev h : History
@@ -235,9 +235,9 @@ module _ {D H R W E : Type 0} (g : Ghosts D) (w : Writers W) (bytes : H → Opti
 
 -- ---- it has all of its tables
 
-module _ {D H R W : Type 0} (g : Ghosts D) (watched : IsWatched g) (w : Writers W) (bytes : H → Option (List ℕ))
+module _ {D H R S W : Type 0} (g : Ghosts D) (watched : IsWatched g) (w : Writers W) (bytes : H → Option (List ℕ))
     {k : Writers W} (before core : Core H)
-    (old new : D) (merging : Option OpenMerge) (job : TheJob (Base H R) H W k) (os : List (Open H R)) (s : State)
+    (old new : D) (merging : Option OpenMerge) (job : TheJob (Base H R) H W k) (os : List (Open H S)) (s : State)
     (stands : StandsIn bytes (g.told old) before os s) (choice : Choice) (name : Name) (bare : thing_of s.store name ≡ None)
     (free : open_in os name ≡ None) (result : Result (Option Counter) Halt)
     (was : WasMerged g w bytes old new core merging job choice s result) (is : result ≡ Ok None) where

@@ -196,7 +196,7 @@ module _ (s : State) (name : Name) (j : Job) where
 
 -- ---- and as the replayer stands for it
 
-module _ {H R : Type 0} (bytes : H → Option (List ℕ)) (told : Option DiskState) (core : Core H) (os : List (Open H R))
+module _ {H S : Type 0} (bytes : H → Option (List ℕ)) (told : Option DiskState) (core : Core H) (os : List (Open H S))
     (s : State) (name : Name) (j : Job)
     (choice : Choice) (plans : Plans choice s.store.layout (history_of s) j)
     (names : Stand bytes os s.store.things (history_of s) s.store.layout) (sound : IsSound s)
@@ -227,7 +227,8 @@ module _ {H R : Type 0} (bytes : H → Option (List ℕ)) (told : Option DiskSta
         )
 
     -- and waits
-    pub whole_waits : {W : Type 0} (w k : Writers W) (job : TheJob (Base H R) H W k) → HasTablesFrom w bytes job j s.store.layout.next_table
+    pub whole_waits : {R W : Type 0} (w k : Writers W) (job : TheJob (Base H R) H W k)
+        → HasTablesFrom w bytes job j s.store.layout.next_table
         → ((other : Name) (job' : Job) (made' : Made) → thing_in s.store.things other ≡ Some (AJob job' made') → ⊥)
         → let x = step_to s (line_for choice name) in
         Merges w bytes merging (Some (record { name = name; job = job })) x.state.things x.state.layout
@@ -284,10 +285,10 @@ module _ {H R : Type 0} (bytes : H → Option (List ℕ)) (told : Option DiskSta
           }),
         )
 
-    pub given_up_waits : {W : Type 0} (w k : Writers W)
+    pub given_up_waits : {R W : Type 0} (w k : Writers W)
         → ((other : Name) (job' : Job) (made' : Made) → thing_in s.store.things other ≡ Some (AJob job' made') → ⊥)
         → let x = step_to s (line_for choice name) in Merges {H = H} {R = R} w bytes {g = k} merging None x.state.things x.state.layout
-    given_up_waits w k free' = subst
+    given_up_waits {R} w k free' = subst
         (λ (x : Step). Merges {H = H} {R = R} w bytes {g = k} merging None x.state.things x.state.layout)
         (sym (given_up_is s name j choice plans running bare count few fits none)) (record {
           opens = serves.opens;

@@ -94,7 +94,7 @@ no_opened bytes h l (Some (View view)) p batch is = absurd is
 none_there : (p : Pass) (batch : Option (List Candidate)) → None ≡ Some (APass p batch) → ⊥
 none_there p batch e = cc
 
-module _ {H R : Type 0} (bytes : H → Option (List ℕ)) (told : Option DiskState) (before after : Core H) (os : List (Open H R)) (s : State)
+module _ {H R S : Type 0} (bytes : H → Option (List ℕ)) (told : Option DiskState) (before after : Core H) (os : List (Open H S)) (s : State)
     (stands : StandsIn bytes told before os s) (passing : Passing (Base H R) H)
     (going : IsPassing bytes passing s.store.things s.store.layout) (name : Name) (named : passing.name ≡ name)
     (core : after ≡ before) where
@@ -174,8 +174,8 @@ module _ {H R : Type 0} (bytes : H → Option (List ℕ)) (told : Option DiskSta
         jobs = jobs_without_pass s.store.things name (λ job made is. pass_no_job going.pass passing.batch job made (sym there ∙ is));
       })) merges
 
-module _ {D H R : Type 0} (g : Ghosts D) (watched : IsWatched g) (bytes : H → Option (List ℕ)) (disk : D) (before after : Core H)
-    (os : List (Open H R)) (s : State) (stands : StandsIn bytes (g.told disk) before os s) (passing : Passing (Base H R) H)
+module _ {D H R S : Type 0} (g : Ghosts D) (watched : IsWatched g) (bytes : H → Option (List ℕ)) (disk : D) (before after : Core H)
+    (os : List (Open H S)) (s : State) (stands : StandsIn bytes (g.told disk) before os s) (passing : Passing (Base H R) H)
     (going : IsPassing bytes passing s.store.things s.store.layout)
     (name : Name) (named : passing.name ≡ name) (core : after ≡ before) where
   pub end_carries : (IsTrue s.openable → engine.Represents bytes after (g.told disk) (history_of s) (without_pass s.store.layout))

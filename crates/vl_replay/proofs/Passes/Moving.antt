@@ -198,7 +198,7 @@ waits_there bytes core collecting s name going passes name_is batch waits =
 
 -- ---- steps
 
-module _ {H R : Type 0} (bytes : H → Option (List ℕ)) (seen now : Option DiskState) (before after : Core H) (os : List (Open H R))
+module _ {H S : Type 0} (bytes : H → Option (List ℕ)) (seen now : Option DiskState) (before after : Core H) (os : List (Open H S))
     (s : State) (stands : StandsIn bytes seen before os s) (name : Name) (p : Pass) (batch : List Candidate)
     (there : thing_of s.store name ≡ Some (APass p (Some batch))) where
   abbrev h : History
@@ -320,7 +320,7 @@ module _ {H R : Type 0} (bytes : H → Option (List ℕ)) (seen now : Option Dis
 
   -- ---- the pass that is open
 
-  module _ (old new : Collecting) (kept : new ≡ old) (logs : after.version.behind.logs ≡ before.version.behind.logs)
+  module _ {R : Type 0} (old new : Collecting) (kept : new ≡ old) (logs : after.version.behind.logs ≡ before.version.behind.logs)
       (going next : Passing (Base H R) H) (passes : Passes bytes before old (Some going) s.store.things l) (name_is : name ≡ going.name)
       (its : passes.is_open.pass ≡ p) (keeps_name : next.name ≡ going.name) (keeps_pass : next.pass ≡ going.pass) where
     new_name : next.name ≡ name

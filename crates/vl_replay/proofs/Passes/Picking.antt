@@ -87,7 +87,7 @@ module _ (l : Layout) (h : History) where
 
 -- ---- one was picked
 
-module _ {H R : Type 0} (bytes : H → Option (List ℕ)) (told : Option DiskState) (before after : Core H) (os : List (Open H R)) (s : State)
+module _ {H S : Type 0} (bytes : H → Option (List ℕ)) (told : Option DiskState) (before after : Core H) (os : List (Open H S)) (s : State)
     (stands : StandsIn bytes told before os s) (back : after.back ≡ before.back) (name : Name) (bare : thing_of s.store name ≡ None)
     (percent : ℕ) where
   abbrev h : History
@@ -105,7 +105,7 @@ module _ {H R : Type 0} (bytes : H → Option (List ℕ)) (told : Option DiskSta
   free : open_in os name ≡ None
   free = unread_of bytes h l (open_in os name) (thing_of s.store name) (stands.names.each name) bare
 
-  module _ (pass : ThePass (Base H R) H) (picked : IsPicked bytes pass r.layout r.answer) where
+  module _ {R : Type 0} (pass : ThePass (Base H R) H) (picked : IsPicked bytes pass r.layout r.answer) where
     abbrev its : Pass
     its = picked.of
 
@@ -228,7 +228,7 @@ module _ {H R : Type 0} (bytes : H → Option (List ℕ)) (told : Option DiskSta
     pub refused_keeps : Keeps s.store picking
     refused_keeps = subst (Keeps s.store) (sym (refused_step a answer refusal is)) (stats_keeps s.store answer)
 
-    pub refused_passes : (old new : Collecting) (passing : Option (Passing (Base H R) H)) → after ≡ before
+    pub refused_passes : {R : Type 0} (old new : Collecting) (passing : Option (Passing (Base H R) H)) → after ≡ before
         → Collects after new l → Passes bytes before old passing s.store.things l
         → Passes bytes after new passing picking.state.things picking.state.layout
     refused_passes old new passing core collects passes =

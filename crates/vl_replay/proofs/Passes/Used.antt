@@ -84,8 +84,8 @@ open_named passing going is q name same test test_is it p there named =
 
 -- ---- names in use
 
-module _ {W H R : Type 0} (w : Writers W) (bytes : H → Option (List ℕ)) {k : Writers W} (planned : Option (Planned (Base H R) H W k))
-    (passing : Option (Passing (Base H R) H)) (os : List (Open H R)) (ts : List (Name × Thing)) (h : History) (l : Layout) (name : Name)
+module _ {W H R S : Type 0} (w : Writers W) (bytes : H → Option (List ℕ)) {k : Writers W} (planned : Option (Planned (Base H R) H W k))
+    (passing : Option (Passing (Base H R) H)) (os : List (Open H S)) (ts : List (Name × Thing)) (h : History) (l : Layout) (name : Name)
     (stand : Stand bytes os ts h l) (waits : Waits w bytes planned ts l) (going : IsOpenPass bytes passing ts l) where
   -- one of the three has it, or it stands for nothing
   pub used_is : (is_some (open_in os name) || (is_waiting w bytes {g = k} name planned || is_open_as {H = H} {R = R} bytes name passing))
@@ -95,7 +95,7 @@ module _ {W H R : Type 0} (w : Writers W) (bytes : H → Option (List ℕ)) {k :
     where
       by : (a : Bool) → is_some (open_in os name) ≡ a → (b : Bool) → is_waiting w bytes {g = k} name planned ≡ b
           → (c : Bool) → is_open_as {H = H} {R = R} bytes name passing ≡ c → (a || (b || c)) ≡ is_some (thing_in ts name)
-      by true reads b merges c passes = sym (some_there H R bytes h l (open_in os name) (thing_in ts name) reads (stand.each name))
+      by true reads b merges c passes = sym (some_there H S bytes h l (open_in os name) (thing_in ts name) reads (stand.each name))
       by false reads true merges c passes = sym (waiting_there w bytes {g = k} planned ts l name waits merges)
       by false reads false merges true passes = sym (open_there bytes ts l name passing going passes)
       by false reads false merges false passes = sym (ap is_some
@@ -104,11 +104,11 @@ module _ {W H R : Type 0} (w : Writers W) (bytes : H → Option (List ℕ)) {k :
           (open_free bytes ts l name passing going passes)))
 
   -- so it is as a call had these names and its name
-  pub tested : (slice : List (Open H R)) → slice ≡ os → (q : Name) → q ≡ name → (used : Bool)
+  pub tested : (slice : List (Open H S)) → slice ≡ os → (q : Name) → q ≡ name → (used : Bool)
       → used ≡ (is_some (open_in slice q) || (is_waiting w bytes {g = k} q planned || is_open_as {H = H} {R = R} bytes q passing))
       → used ≡ is_some (thing_in ts name)
   tested slice value q same used is =
-      is ∙ ap (λ (xs : List (Open H R)). is_some (open_in xs q)
+      is ∙ ap (λ (xs : List (Open H S)). is_some (open_in xs q)
       || (is_waiting w bytes {g = k} q planned || is_open_as {H = H} {R = R} bytes q passing)) value
       ∙ ap (λ (n : Name). is_some (open_in os n)
       || (is_waiting w bytes {g = k} n planned || is_open_as {H = H} {R = R} bytes n passing)) same

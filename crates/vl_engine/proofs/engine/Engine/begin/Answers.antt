@@ -18,3 +18,14 @@ pub returns-in_err-alloc-clause-pins : goal.returns-in_err-alloc-clause-pins
 returns-in_err-alloc-clause-pins g c =
     refused_pins c.args.self.now.core.back.version_number c.args.self.now.removing.pins c.view.new.self.removing.pins
     c.from_residual.result c.in_err-alloc.field-0.0 c.from_residual.ensures.1 c.in_err-alloc.ensures.pins
+
+pub returns-clause-sees : goal.returns-clause-sees
+returns-clause-sees g c h l is =
+    let sees = c.in_ok-alloc.ensures.sees h l is in
+    record {
+      version = sees.version;
+      files = sees.files;
+      reader = sees.reader;
+      notes = c.new.ensures.of_none;
+      explained = tt;
+    }

@@ -64,7 +64,7 @@ pub returns-in-Ok-begin-clause-sees : goal.returns-in-Ok-begin-clause-sees
 returns-in-Ok-begin-clause-sees g c h l is =
     sees_now g.D.Held.HeldFile.bytes c.args.self.now.core h l is _ c.in_ok-version.ensures.shared
     (c.last.ensures.last ∙ ap (λ (o : LiveTickets). o.last) c.in-Ok-begin.ensures.ok.1 ∙ is.fronts.front.last)
-    c.past_of-past.ensures c.in_ok-reader.ensures.kept
+    c.past_of-past.ensures c.in-Ok.ensures.blocks
 
 pub returns-in-Ok-begin-clause-began : goal.returns-in-Ok-begin-clause-began
 returns-in-Ok-begin-clause-began g c h l is =
