@@ -1,2 +1,5 @@
+pub mod Generator
 pub mod Numbers
 pub mod Script
+pub mod Steps
+pub mod Summary

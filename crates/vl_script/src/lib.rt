@@ -4,16 +4,22 @@
 mod answer;
 mod digits;
 mod finding;
+mod generator;
+mod laws;
 mod limits;
 mod line;
 mod numbers;
 mod parse;
 mod print;
+mod summary;
 
 pub use answer::{Answer, SegmentLine};
 pub use finding::find_byte;
+pub use generator::Gen;
+pub use laws::a_worked_benchmark;
 pub use limits::{MAX_IDENT_BYTES, MAX_LINE_BYTES};
 pub use line::{Ident, Line};
 pub use numbers::parse_number;
 pub use parse::parse_line;
 pub use print::{NUMBER_ROOM, print_answer, print_bad_line, print_rows};
+pub use summary::{Summary, print_summary};

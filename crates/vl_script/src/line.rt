@@ -1,3 +1,6 @@
+ghost use Rattle.std.specs.Prelude.{◌≡◌};
+ghost use Rattle.vl_script.specs.Summary.{is_commit};
+
 use vl_model::{Bytes, Way};
 
 /// A name that a script gives to a transaction, a view, a merge or a pass: 1 to 16 of `a` to `z` and `0` to `9`.
@@ -103,4 +106,13 @@ pub enum Line {
     Move {
         name: Ident,
     },
+}
+
+impl Line {
+    /// Whether it ends a transaction with its writes as the next commit.
+    pub fn is_commit(&self) -> bool
+        ensures { result ≡ is_commit self.now }
+    {
+        matches!(self, Line::Commit { .. })
+    }
 }

@@ -76,7 +76,7 @@ fn print_segment(text: &mut Vec<u8>, segment: &SegmentLine) -> Result<(), AllocE
 }
 
 // Without the line's end.
-fn push_number(text: &mut Vec<u8>, front: &[u8], number: u64) -> Result<(), AllocError>
+pub(crate) fn push_number(text: &mut Vec<u8>, front: &[u8], number: u64) -> Result<(), AllocError>
     ensures { OnOk result (text.new.items ≡ text.old.items ++ front.now ++ decimal number) }
 {
     let mut digits = itoa::Buffer::new();
@@ -109,7 +109,7 @@ pub fn print_bad_line(text: &mut Vec<u8>, number: u64) -> Result<(), AllocError>
     print_number(text, b"bad line ", number)
 }
 
-fn print_number(text: &mut Vec<u8>, front: &[u8], number: u64) -> Result<(), AllocError>
+pub(crate) fn print_number(text: &mut Vec<u8>, front: &[u8], number: u64) -> Result<(), AllocError>
     ensures text { OnOk result (text.new.items ≡ text.old.items ++ front.now ++ decimal number ++ (10 ∷ [])) }
     ensures room { length text.old.items + length front.now + 21 ≤ vec_capacity text.old → IsOk result }
 {
