@@ -1,0 +1,12 @@
+mod Balances
+mod Counts
+mod Driven
+mod Gathering
+mod Keeping
+mod Playing
+mod Prefixes
+mod Scoring
+mod Small
+mod Sums
+mod Trying
+mod Turning

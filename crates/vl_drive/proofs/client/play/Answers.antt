@@ -1,0 +1,46 @@
+use Rattle.std.proofs.Common.{Bool, refl, ap, ◌∙◌, subst, arith}
+use Rattle.vl_drive.proofs.Playing.{on_itself, on_then}
+use Rattle.vl_drive.proofs.Scoring.{draws, next_turn, score_none, turn_committed, turn_refused}
+use Rattle.vl_drive.specs.Numbers.{transfer_of}
+use Rattle.vl_drive.specs.Playing.{HasTaken}
+use Rattle.vl_drive.proofs.client.play.Goals.{then-branch, else-branch}
+use Rattle.vl_drive.proofs.client.play.Goals as goal
+
+pub loop-turn-init : goal.loop-turn-init
+loop-turn-init g c =
+    let v = g.S.Shop.knows c.args.shop.now in
+    (on_itself v, refl, refl, λ none. score_none (draws c.args.seed) v none)
+
+pub loop-turn-preserved : goal.loop-turn-preserved
+loop-turn-preserved g c =
+    let inv = c.loop-turn.invariant in
+    let shop = g.S.Shop in
+    let v = shop.knows c.args.shop.now in
+    let u = shop.knows c.loop-turn.shop in
+    let w = shop.knows c.take_turn.new.shop in
+    let seed = c.args.seed in
+    let turn = c.loop-turn.turn in
+    let x = c.loop-turn.x in
+    let score = c.loop-turn.score in
+    let t = c.of.result in
+    let on = on_then v u w inv.0 c.in_ok-take_turn.ensures.on in
+    let next = c.next_number-x.ensures ∙ next_turn seed turn x inv.1 in
+    let is = c.of.ensures ∙ ap transfer_of c.next_number-x.ensures in
+    let taken = c.in_ok-take_turn.ensures.taken in
+    let count = inv.2 in
+    elim c.if-branch.branch [
+      | then-branch b ↦ rw b.score-is (
+        on,
+        next,
+        omega (arith, count),
+        λ none. turn_committed seed turn score.commits score.conflicts x t u w inv.1 is (inv.3 none)
+            (subst (λ (committed : Bool). HasTaken t committed u w) b.if-branch.true taken),
+      )
+      | else-branch b ↦ rw b.score-is (
+        on,
+        next,
+        omega (arith, count),
+        λ none. turn_refused seed turn score.commits score.conflicts x t u w inv.1 is (inv.3 none)
+            (subst (λ (committed : Bool). HasTaken t committed u w) b.if-branch.false taken),
+      )
+    ]

@@ -1,0 +1,23 @@
+use Rattle.vl_drive.proofs.Keeping.{opened_later}
+use Rattle.vl_drive.proofs.Playing.{on_then}
+use Rattle.vl_drive.proofs.keeper.keep_up.Goals as goal
+
+pub loop-preserved : goal.loop-preserved
+loop-preserved g c =
+    let v = g.S.Shop.knows c.args.shop.now in
+    let u = g.S.Shop.knows c.loop.shop in
+    let one = g.S.Shop.knows c.rotate.new.self in
+    let two = g.S.Shop.knows c.flush.new.self in
+    let three = g.S.Shop.knows c.merge.new.self in
+    let four = g.S.Shop.knows c.collect.new.self in
+    let five = g.S.Shop.knows c.sweep.new.self in
+    let p = c.rotate.ensures.steps in
+    let q = c.flush.ensures.steps in
+    let r = c.merge.ensures.steps in
+    let s = c.collect.ensures.steps in
+    let t = c.sweep.ensures.steps in (
+      on_then v u five c.loop.invariant.0 (on_then u one five p.on (on_then one two five q.on (on_then two three five r.on
+          (on_then three four five s.on t.on)))),
+      λ opened. opened_later four five (opened_later three four (opened_later two three (opened_later one two
+          (opened_later u one (c.loop.invariant.1 opened) p) q) r) s) t,
+    )

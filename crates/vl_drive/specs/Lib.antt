@@ -1,0 +1,12 @@
+pub mod Accounts
+pub mod Answers
+pub mod Clients
+pub mod Driven
+pub mod Entries
+pub mod Knowing
+pub mod laws
+pub mod Numbers
+pub mod Players
+pub mod Playing
+pub mod Steps
+pub mod Turns

@@ -1,0 +1,3 @@
+pub mod SinceLaws
+pub mod StepLaws
+pub mod TurnLaws

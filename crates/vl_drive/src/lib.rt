@@ -1,0 +1,33 @@
+//! Many clients over one store, side by side: each has a session of it, and takes turns that move amounts between
+//! accounts.
+//!
+//! `drive` runs them over any `Shop`, which is one session of a store. What each shop knows when it comes back
+//! (`AreDriven` of `specs/Clients`) and the list of all steps under the closed store's lock together give the theorem (`IsDriven` of
+//! `specs/Driven`, by `a_closed_list_is_driven`): each turn that was committed is its transfer on the balances at its
+//! beginning; a turn is a conflict just where a commit since its beginning names one of its accounts; the commits, the
+//! conflicts, the store's number and the sum of all balances are as they must be then.
+#![tactic(auto)]
+
+mod accounts;
+mod client;
+mod committing;
+mod driving;
+mod fails;
+mod gate;
+mod keeper;
+mod laws;
+mod shop;
+mod transfer;
+mod trouble;
+
+pub use driving::{DriveFail, Tally, drive};
+pub use fails::{BeginFail, CommitFail, Done, ReadFail, StepFail};
+pub use gate::{Gate, NoGate, Point};
+pub use laws::{
+    a_balance_is_read_as_written, a_closed_list_is_driven, a_commit_is_ruled_by_its_conflict,
+    a_conflict_is_a_crossing, a_transfer_has_two_accounts, a_turn_goes_on, steps_are_counted,
+    sure_shops_meet_no_fault, turns_go_on,
+};
+pub use shop::Shop;
+pub use transfer::Transfer;
+pub use trouble::Cause;

@@ -1,0 +1,5 @@
+//! A test of the commit lock.
+#![tactic(auto)]
+
+#[cfg(test)]
+mod waiting;

@@ -1,0 +1,23 @@
+use Rattle.std.specs.Prelude.{ℕ, None}
+use Rattle.std.specs.Option.{option_map}
+use Rattle.vl_compact.specs.Progress.{made_of}
+use Rattle.vl_layout.specs.Decides.{Answered}
+use Rattle.vl_layout.specs.LockHistory.{open_job}
+use Rattle.vl_layout.specs.declared.job.Job.{Job}
+use Rattle.vlstore.specs.Entries.{abandon_entry}
+use Rattle.vlstore.proofs.Planning.{job_or}
+use Rattle.vlstore.specs.Knowing.{session_in}
+use Rattle.vlstore.specs.Lists.{history_by, layout_by}
+use Rattle.vl_turn.specs.Locks.{lock_start}
+use Rattle.vlstore.proofs.session.Session.abandon.Given as goal
+
+abbrev pub ghosts-finish : goal.ghosts-finish
+ghosts-finish g a =
+    let o = (lock_start a.lock.now).origin.me.0 in
+    let v = a.turn.token.now.me.0 in
+    let l = layout_by o v.seen in
+    let h = history_by o v.seen in
+    record {
+      entry = abandon_entry (made_of a.asked.now.value
+          (job_or (option_map (λ (x : ℕ × Job). x.1) (open_job None v.seen)))) (session_in v.owns) l h (Answered tt);
+    }

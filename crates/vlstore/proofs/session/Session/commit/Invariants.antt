@@ -1,0 +1,16 @@
+use Rattle.std.specs.FinMap.{entries}
+use Rattle.vl_engine.specs.Answers.{commit_outcome}
+use Rattle.vlstore.specs.Entries.{commit_entry}
+use Rattle.vlstore.specs.Knowing.{session_in}
+use Rattle.vlstore.specs.Lists.{history_by, layout_by}
+use Rattle.vl_turn.specs.Locks.{lock_start}
+use Rattle.vlstore.proofs.session.Session.commit.Given as goal
+
+abbrev pub ghosts-finish : goal.ghosts-finish
+ghosts-finish g a =
+    let o = (lock_start a.lock.now).origin.me.0 in
+    let v = a.turn.token.now.me.0 in
+    record {
+      entry = commit_entry a.asked.now.value.ticket (entries a.asked.now.value.writes) (session_in v.owns)
+          (layout_by o v.seen) (history_by o v.seen) (commit_outcome a.answer.now);
+    }

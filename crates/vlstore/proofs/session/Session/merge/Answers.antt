@@ -1,0 +1,153 @@
+use Rattle.std.proofs.Common.{◌≡◌, refl, sym, ap, ◌∙◌, subst}
+use Rattle.std.specs.Prelude.{true, length, min, ◌^◌, ◌-◌, Option, None, Some, Ok}
+use Rattle.vl_compact.specs.Laid.{AreBoth}
+use Rattle.vl_compact.specs.Progress.{made_of}
+use Rattle.vl_disk.specs.declared.errors.NoMemory.{NoMemory}
+use Rattle.vl_engine.specs.Merging.{HasMerge, install_outcome, plan_outcome}
+use Rattle.vl_layout.specs.Decides.{Answered}
+use Rattle.vl_layout.specs.Merging.{merged_entries}
+use Rattle.vl_layout.specs.Rulings.Abandon.{abandon_ruling}
+use Rattle.vl_layout.specs.Rulings.Install.{install_ruling}
+use Rattle.vl_layout.specs.Rulings.Plan.{plan_ruling}
+use Rattle.vl_layout.specs.declared.job.Job.{Job}
+use Rattle.vlstore.specs.Entries.{abandon_entry, install_entry, plan_entry}
+use Rattle.vlstore.specs.Knowing.{Stepped}
+use Rattle.vlstore.specs.Merging.{IsWork, PutIn}
+use Rattle.vlstore.specs.Standing.{NeverFails}
+use Rattle.vlstore.proofs.Making.{given_back, on_and_on}
+use Rattle.vlstore.proofs.Merged.{abandon_works, did_on, did_work, install_works, none_due, one_due, own_stays, plan_works}
+use Rattle.vlstore.proofs.Merged.{planned_own, planned_some, prefix_itself, same_own, stepped_so, was_put_in}
+use Rattle.vlstore.proofs.Stores.{prefix_on}
+use Rattle.vlstore.proofs.session.Session.merge.Goals as goal
+
+-- ---- what its calls ask
+
+pub carry_out-requires-clause-under_way : goal.carry_out-requires-clause-under_way
+carry_out-requires-clause-under_way g c = c.in_ok-job.ensures.under_way c.in-Some.job c.in-Some.is
+
+pub carry_out-requires-clause-looks : goal.carry_out-requires-clause-looks
+carry_out-requires-clause-looks g c told =
+    c.in_ok-job.ensures.looks (sym c.plan.ensures.on.tells ∙ told) c.in-Some.job c.in-Some.is
+
+pub given_up-requires : goal.given_up-requires
+given_up-requires g c =
+    given_back c.install.new.self g.D.Writer.Writer g.D.Held.HeldFile.bytes c.in-Err-install.fail c.in-Err-install.ensures.again
+
+-- ---- what is seen
+
+pub returns-in-Err-clause-on : goal.returns-in-Err-clause-on
+returns-in-Err-clause-on g c =
+    on_and_on c.args.self.now c.plan.new.self c.abandon.new.self c.plan.ensures.on
+    (on_and_on c.plan.new.self c.carry_out.new.self c.abandon.new.self c.carry_out.ensures.on c.abandon.ensures.on)
+
+pub returns-in-Ok-clause-on : goal.returns-in-Ok-clause-on
+returns-in-Ok-clause-on g c =
+    on_and_on c.args.self.now c.plan.new.self c.install.new.self c.plan.ensures.on
+    (on_and_on c.plan.new.self c.carry_out.new.self c.install.new.self c.carry_out.ensures.on c.install.ensures.on)
+
+pub returns-in-Err-install-clause-on : goal.returns-in-Err-install-clause-on
+returns-in-Err-install-clause-on g c =
+    on_and_on c.args.self.now c.plan.new.self c.given_up.new.self c.plan.ensures.on
+    (on_and_on c.plan.new.self c.carry_out.new.self c.given_up.new.self c.carry_out.ensures.on
+    (on_and_on c.carry_out.new.self c.install.new.self c.given_up.new.self c.install.ensures.on c.given_up.ensures.on))
+
+-- ---- what its own steps are
+
+pub returns-in_err-job-clause-works : goal.returns-in_err-job-clause-works
+returns-in_err-job-clause-works g c told =
+    let s = c.plan.ensures.steps told in
+    stepped_so IsWork c.args.self.now c.plan.new.self (λ l h. plan_ruling l h) plan_entry (plan_outcome s.0 c.plan.result)
+    (λ n l h. plan_works n l h (plan_outcome s.0 c.plan.result)) s.1
+
+pub returns-in_default-clause-works : goal.returns-in_default-clause-works
+returns-in_default-clause-works g c told =
+    let s = c.plan.ensures.steps told in
+    stepped_so IsWork c.args.self.now c.plan.new.self (λ l h. plan_ruling l h) plan_entry (plan_outcome s.0 c.plan.result)
+    (λ n l h. plan_works n l h (plan_outcome s.0 c.plan.result)) s.1
+
+pub returns-in-Err-clause-works : goal.returns-in-Err-clause-works
+returns-in-Err-clause-works g c told =
+    let s = c.plan.ensures.steps told in
+    let planned_so = stepped_so IsWork c.args.self.now c.plan.new.self (λ l h. plan_ruling l h) plan_entry
+    (plan_outcome s.0 c.plan.result) (λ n l h. plan_works n l h (plan_outcome s.0 c.plan.result)) s.1 in
+    let told_then = c.plan.ensures.on.tells ∙ told in
+    let made_so = did_work c.plan.new.self c.carry_out.new.self (c.carry_out.ensures.changes told_then) in
+    let way = c.carry_out.ensures.under_way in
+    let made = made_of c.carry_out.new.job way.planned in
+    did_on IsWork c.args.self.now c.plan.new.self c.abandon.new.self planned_so
+    (did_on IsWork c.plan.new.self c.carry_out.new.self c.abandon.new.self made_so
+    (stepped_so IsWork c.carry_out.new.self c.abandon.new.self (λ l h. abandon_ruling l h way.planned made) (abandon_entry made)
+    (Answered tt) (abandon_works made)
+    (c.abandon.ensures.steps (c.carry_out.ensures.on.tells ∙ told_then) way.planned way.own)))
+
+pub returns-in-Ok-clause-works : goal.returns-in-Ok-clause-works
+returns-in-Ok-clause-works g c told =
+    let s = c.plan.ensures.steps told in
+    let planned_so = stepped_so IsWork c.args.self.now c.plan.new.self (λ l h. plan_ruling l h) plan_entry
+    (plan_outcome s.0 c.plan.result) (λ n l h. plan_works n l h (plan_outcome s.0 c.plan.result)) s.1 in
+    let told_then = c.plan.ensures.on.tells ∙ told in
+    let made_so = did_work c.plan.new.self c.carry_out.new.self (c.carry_out.ensures.changes told_then) in
+    let way = c.carry_out.ensures.under_way in
+    let made = made_of c.carry_out.new.job way.planned in
+    did_on IsWork c.args.self.now c.plan.new.self c.install.new.self planned_so
+    (did_on IsWork c.plan.new.self c.carry_out.new.self c.install.new.self made_so
+    (stepped_so IsWork c.carry_out.new.self c.install.new.self (λ l h. install_ruling l h way.planned made)
+    (install_entry way.planned made) (install_outcome c.install.result)
+    (λ n l h. install_works way.planned made n l h (install_outcome c.install.result))
+    (c.install.ensures.steps (c.carry_out.ensures.on.tells ∙ told_then) way.planned way.own)))
+
+pub returns-in-Err-install-clause-works : goal.returns-in-Err-install-clause-works
+returns-in-Err-install-clause-works g c told =
+    let s = c.plan.ensures.steps told in
+    let planned_so = stepped_so IsWork c.args.self.now c.plan.new.self (λ l h. plan_ruling l h) plan_entry
+    (plan_outcome s.0 c.plan.result) (λ n l h. plan_works n l h (plan_outcome s.0 c.plan.result)) s.1 in
+    let told_then = c.plan.ensures.on.tells ∙ told in
+    let told_made = c.carry_out.ensures.on.tells ∙ told_then in
+    let made_so = did_work c.plan.new.self c.carry_out.new.self (c.carry_out.ensures.changes told_then) in
+    let way = c.carry_out.ensures.under_way in
+    let made = made_of c.carry_out.new.job way.planned in
+    did_on IsWork c.args.self.now c.plan.new.self c.given_up.new.self planned_so
+    (did_on IsWork c.plan.new.self c.carry_out.new.self c.given_up.new.self made_so
+    (did_on IsWork c.carry_out.new.self c.install.new.self c.given_up.new.self
+    (stepped_so IsWork c.carry_out.new.self c.install.new.self (λ l h. install_ruling l h way.planned made)
+    (install_entry way.planned made) (install_outcome c.install.result)
+    (λ n l h. install_works way.planned made n l h (install_outcome c.install.result))
+    (c.install.ensures.steps told_made way.planned way.own))
+    (c.given_up.ensures.works (c.install.ensures.on.tells ∙ told_made))))
+
+-- ---- which merge it was
+
+pub returns-in_default-clause-merged : goal.returns-in_default-clause-merged
+returns-in_default-clause-merged g c told =
+    let s = c.in_ok-job.ensures.steps told in
+    let sure = NeverFails g.D.Watched.faults g.D.Reader.Reader.faults g.D.Writer.Writer.faults in
+    none_due c.args.self.now c.plan.new.self c.plan.new.self
+    (subst (λ (o : Option _). Stepped sure c.args.self.now c.plan.new.self (λ l h. plan_ruling l h) plan_entry
+    (plan_outcome {E = NoMemory} s.0 (Ok o))) c.in_default.is s.1) (prefix_itself c.plan.new.self.seen)
+
+pub returns-in-Ok-clause-merged : goal.returns-in-Ok-clause-merged
+returns-in-Ok-clause-merged g c told =
+    let s = c.in_ok-job.ensures.steps told in
+    let sure = NeverFails g.D.Watched.faults g.D.Reader.Reader.faults g.D.Writer.Writer.faults in
+    let fits = HasMerge g.D.Writer.Writer g.D.Held.HeldFile.bytes in
+    let u = c.args.self.now in
+    let v = c.plan.new.self in
+    let some = planned_some fits c.in-Some.job s.0 (subst (λ (o : Option _). AreBoth fits o s.0) c.in-Some.is s.2) in
+    let step = subst (λ (p : Option Job). Stepped sure u v (λ l h. plan_ruling l h) plan_entry (Answered p)) some.1
+    (subst (λ (o : Option _). Stepped sure u v (λ l h. plan_ruling l h) plan_entry (plan_outcome {E = NoMemory} s.0 (Ok o)))
+    c.in-Some.is s.1) in
+    let told_then = c.plan.ensures.on.tells ∙ told in
+    let handed = c.in_default-carry_out.ensures.handed in
+    let same = same_own c.carry_out.new.self handed.under_way.planned some.0 handed.under_way.own
+    (own_stays v c.carry_out.new.self some.0 c.carry_out.ensures.on.session (c.carry_out.ensures.changes told_then)
+    (planned_own u v some.0 c.plan.ensures.on.session step)) in
+    one_due u v c.install.new.self some.0 c.kept_count-kept.result
+    (subst (λ (j : Job). c.kept_count-kept.result ≡ min (length (merged_entries j)) (2 ^ 64 - 1)) same
+    (c.kept_count-kept.ensures handed.under_way.planned (handed.has_all (c.carry_out.ensures.on.tells ∙ told_then)))) step
+    (prefix_on v.seen c.carry_out.new.self.seen c.install.new.self.seen c.carry_out.ensures.on.seen c.install.ensures.on.seen)
+    (subst (λ (j : Job). PutIn u c.install.new.self j) same
+    (was_put_in u c.carry_out.new.self c.install.new.self handed.under_way.planned
+    (made_of c.carry_out.new.job handed.under_way.planned) (c.carry_out.ensures.on.origin ∙ c.plan.ensures.on.origin)
+    (c.carry_out.ensures.on.session ∙ c.plan.ensures.on.session)
+    (prefix_on u.seen v.seen c.carry_out.new.self.seen c.plan.ensures.on.seen c.carry_out.ensures.on.seen)
+    (c.in-Ok.ensures.steps (c.carry_out.ensures.on.tells ∙ told_then) handed.under_way.planned handed.under_way.own)))

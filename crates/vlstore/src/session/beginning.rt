@@ -1,0 +1,149 @@
+ghost use Rattle.std.specs.Prelude.{◌≡◌, true, [], IfOk, is_some};
+ghost use Rattle.vl_engine.specs.Answers.{begin_outcome, view_outcome};
+ghost use Rattle.vl_engine.specs.Sees.{IsNew, Sees, SeesAlone, asked, asked_view};
+ghost use Rattle.vl_layout.specs.Decides.{Answered};
+ghost use Rattle.vl_layout.specs.Rulings.Begin.{begin_ruling};
+ghost use Rattle.vl_layout.specs.Rulings.Forget.{forget_ruling};
+ghost use Rattle.vl_layout.specs.Rulings.Release.{release_ruling};
+ghost use Rattle.vl_layout.specs.Rulings.View.{view_ruling};
+ghost use Rattle.vl_layout.specs.declared.layout.Layout.{Layout};
+ghost use Rattle.vl_layout.specs.declared.lock_history.LockStep.{LockStep};
+ghost use Rattle.vlstore.specs.Entries.{begin_done, begin_entry, done_by, end_entry};
+ghost use Rattle.vlstore.specs.Knowing.{GoesOn, IsOwnTicket, KeepsOwnMerge, Stepped, WhereTold};
+ghost use Rattle.vlstore.specs.Lists.{history_by};
+ghost use Rattle.vlstore.specs.Standing.{NeverFails};
+
+use super::Session;
+use super::finishing::finish;
+use std::marker::Brand;
+use std::snapshot::Snapshot;
+use std::sync::Wait;
+use vl_cache::Cached;
+use vl_disk::Disk;
+use vl_engine::{BeginFail, Txn, View};
+
+impl<D: Disk> Session<D> {
+    /// Begins a transaction of this session, which reads what is committed now. Its own calls wait for nobody.
+    /// It ends by this session's `commit` or `forget`. `TooMany`: 1,024 transactions and views live in the
+    /// store; end some. Behind that and `NoMemory` all is as before.
+    pub fn begin<R: Wait>(&mut self, rt: &R) -> Result<Txn<D::Held, Cached<D::Reader>>, BeginFail>
+        ensures on { GoesOn self.old self.new }
+        ensures merge { KeepsOwnMerge self.old self.new }
+        ensures steps { self.old.tells ≡ true
+            → Stepped (NeverFails D.faults D.Reader.faults D.Writer.faults) self.old self.new
+            begin_ruling begin_entry (begin_outcome result) }
+
+        // It is the session's own, and sees the history that was seen by now at its number.
+        ensures own { self.old.tells ≡ true → IfOk result (λ txn. IsOwnTicket self.new txn.ticket txn.number) }
+        ensures sees { self.old.tells ≡ true
+            → IfOk result (λ txn. Sees D.Held.bytes txn (history_by self.new.origin self.new.seen) []) }
+        ensures fresh { IfOk result IsNew }
+    {
+        let lock = &*self.lock;
+        let mut turn = lock.take(rt, &mut self.token);
+        let locked = turn.value();
+        let answer = locked.engine.begin();
+        let enters = has_begun(&answer);
+        finish::<D, Brand, R, (), Result<Txn<D::Held, Cached<D::Reader>>, BeginFail>>(
+            lock,
+            rt,
+            turn,
+            &(),
+            &answer,
+            enters,
+        );
+        answer
+    }
+
+    /// Begins a view of this session, which reads what is committed now, and may not write. It ends by this
+    /// session's `release`. It is refused as `begin` is.
+    pub fn view<R: Wait>(&mut self, rt: &R) -> Result<View<D::Held, Cached<D::Reader>>, BeginFail>
+        ensures on { GoesOn self.old self.new }
+        ensures merge { KeepsOwnMerge self.old self.new }
+        ensures steps { self.old.tells ≡ true
+            → Stepped (NeverFails D.faults D.Reader.faults D.Writer.faults) self.old self.new
+            view_ruling begin_entry (view_outcome result) }
+        ensures own { self.old.tells ≡ true → IfOk result (λ view. IsOwnTicket self.new view.ticket view.number) }
+        ensures sees { self.old.tells ≡ true
+            → IfOk result (λ view. SeesAlone D.Held.bytes view (history_by self.new.origin self.new.seen)) }
+    {
+        let lock = &*self.lock;
+        let mut turn = lock.take(rt, &mut self.token);
+        let locked = turn.value();
+        let answer = locked.engine.view();
+        let enters = is_begun(&answer);
+        finish::<D, Brand, R, (), Result<View<D::Held, Cached<D::Reader>>, BeginFail>>(
+            lock,
+            rt,
+            turn,
+            &(),
+            &answer,
+            enters,
+        );
+        answer
+    }
+
+    /// Ends a transaction of this session, and what it has written goes with it. It wants no memory.
+    pub fn forget<R: Wait>(&mut self, rt: &R, txn: Txn<D::Held, Cached<D::Reader>>)
+        requires { WhereTold D.told self.old (IsOwnTicket self.old txn.ticket txn.number) }
+        ensures on { GoesOn self.old self.new }
+        ensures merge { KeepsOwnMerge self.old self.new }
+        ensures steps { self.old.tells ≡ true
+            → Stepped (NeverFails D.faults D.Reader.faults D.Writer.faults) self.old self.new
+            (λ l h. forget_ruling l h (asked txn [])) (end_entry txn.ticket) (Answered tt) }
+    {
+        let asked = Snapshot::of(&txn);
+        let lock = &*self.lock;
+        let mut turn = lock.take(rt, &mut self.token);
+        let locked = turn.value();
+        locked.engine.forget(txn);
+        finish::<D, Brand, R, Snapshot<Txn<D::Held, Cached<D::Reader>>>, ()>(
+            lock,
+            rt,
+            turn,
+            &asked,
+            &(),
+            true,
+        );
+    }
+
+    /// Ends a view of this session. It wants no memory.
+    pub fn release<R: Wait>(&mut self, rt: &R, view: View<D::Held, Cached<D::Reader>>)
+        requires { WhereTold D.told self.old (IsOwnTicket self.old view.ticket view.number) }
+        ensures on { GoesOn self.old self.new }
+        ensures merge { KeepsOwnMerge self.old self.new }
+        ensures steps { self.old.tells ≡ true
+            → Stepped (NeverFails D.faults D.Reader.faults D.Writer.faults) self.old self.new
+            (λ l h. release_ruling l h (asked_view view)) (end_entry view.ticket) (Answered tt) }
+    {
+        let asked = Snapshot::of(&view);
+        let lock = &*self.lock;
+        let mut turn = lock.take(rt, &mut self.token);
+        let locked = turn.value();
+        locked.engine.release(view);
+        finish::<D, Brand, R, Snapshot<View<D::Held, Cached<D::Reader>>>, ()>(
+            lock,
+            rt,
+            turn,
+            &asked,
+            &(),
+            true,
+        );
+    }
+}
+
+// Whether a transaction was begun.
+fn has_begun<H, R>(answer: &Result<Txn<H, R>, BeginFail>) -> bool
+    ensures { (l : Layout) (failed : LockStep × Layout)
+        → result ≡ is_some (done_by (begin_done l) failed (begin_outcome answer.now)) }
+{
+    matches!(answer, Ok(_))
+}
+
+// Whether a view was begun.
+fn is_begun<H, R>(answer: &Result<View<H, R>, BeginFail>) -> bool
+    ensures { (l : Layout) (failed : LockStep × Layout)
+        → result ≡ is_some (done_by (begin_done l) failed (view_outcome answer.now)) }
+{
+    matches!(answer, Ok(_))
+}

@@ -1,0 +1,90 @@
+ghost use Rattle.std.specs.Prelude.{◌≡◌, IfOk, OnOk, true};
+ghost use Rattle.vl_engine.specs.Merging.{FitsReaders};
+ghost use Rattle.vlstore.specs.Handing.{IfHandedBack, IsHandedInto, IsUnderWayIn};
+ghost use Rattle.vlstore.specs.Knowing.{GoesOn};
+ghost use Rattle.vlstore.specs.Merging.{Did, IsChange, IsWork, MergedAt};
+
+use super::Session;
+use std::alloc::Global;
+use std::sync::Wait;
+use vl_compact::Job;
+use vl_disk::Disk;
+use vl_engine::{InstallFail, MergeFail};
+use vl_model::{Counter, MAX_FILE_NUMBER};
+use vl_version::Base;
+
+impl<D: Disk> Session<D> {
+    /// Does a whole merge of tables: `plan`, then `ready`, `fresh` and `fill` beside the lock until all of its
+    /// tables are made, then `install`. It answers how many entries the new tables have; none where a merge is
+    /// open, of this session or another, or where no level is due. Refusals are those of these calls; the merge
+    /// is given up then, all contents stand, and a later call begins another one. A failed read, or write of a
+    /// merge's file, doesn't halt the store.
+    pub fn merge<R: Wait>(&mut self, rt: &R, alloc: Global) -> Result<Option<u64>, MergeFail>
+        ensures on { GoesOn self.old self.new }
+        // Its own steps commit nothing and leave what it began. The merge is the one that the ruling on plans has.
+        ensures works { self.old.tells ≡ true → Did IsWork self.old self.new }
+        ensures merged { self.old.tells ≡ true → IfOk result (MergedAt self.old self.new) }
+    {
+        let Some(mut job) = self.plan(rt)? else {
+            return Ok(None);
+        };
+        if let Err(fail) = self.carry_out(rt, alloc, &mut job) {
+            self.abandon(rt, job);
+            return Err(fail);
+        }
+        let kept = job.kept_count();
+        match self.install(rt, job) {
+            Ok(()) => Ok(Some(kept)),
+            Err(fail) => Err(self.given_up(rt, fail)),
+        }
+    }
+
+    /// Makes all tables of a merge of this session, which is ready for `install` then. Where it is refused the
+    /// merge is this session's yet: try again, or abandon it.
+    pub fn carry_out<R: Wait>(
+        &mut self,
+        rt: &R,
+        alloc: Global,
+        job: &mut Job<Base<D::Held, D::Reader>, D::Held, D::Writer>,
+    ) -> Result<(), MergeFail>
+        requires under_way { IsUnderWayIn self.old D.Writer.Writer D.Held.bytes job.old }
+        requires looks { self.old.tells ≡ true → FitsReaders D.Held.bytes job.old }
+        ensures on { GoesOn self.old self.new }
+        ensures changes { self.old.tells ≡ true → Did IsChange self.old self.new }
+        ensures under_way { IsUnderWayIn self.new D.Writer.Writer D.Held.bytes job.new }
+        ensures handed { OnOk result (IsHandedInto self.new D.Writer.Writer D.Held.bytes job.new) }
+    {
+        let mut reader = self.reader(rt)?;
+        'making: for _ in 0..MAX_FILE_NUMBER {
+            if !job.ready(alloc, &mut reader)? {
+                return Ok(());
+            }
+            let file = self.fresh(rt, job)?;
+            job.fill(alloc, &mut reader, file)?;
+        }
+        // Each table took a number of its own.
+        Err(MergeFail::Exhausted(Counter::Table))
+    }
+
+    // The tables weren't put in: the merge is over, also where it was handed back.
+    fn given_up<R: Wait>(
+        &mut self,
+        rt: &R,
+        fail: InstallFail<Base<D::Held, D::Reader>, D::Held, D::Writer>,
+    ) -> MergeFail
+        requires { IfHandedBack self.old D.Writer.Writer D.Held.bytes fail }
+        ensures on { GoesOn self.old self.new }
+        ensures works { self.old.tells ≡ true → Did IsWork self.old self.new }
+    {
+        match fail {
+            InstallFail::Halted { name } => MergeFail::Halted { name },
+            InstallFail::Raced { .. } => MergeFail::Raced,
+            InstallFail::Exhausted(counter) => MergeFail::Exhausted(counter),
+            InstallFail::NoMemory(job) => {
+                self.abandon(rt, job);
+                MergeFail::NoMemory
+            }
+            InstallFail::Disk { name } => MergeFail::Disk { name },
+        }
+    }
+}
