@@ -14,6 +14,15 @@ pub enum Order {
 const STEP: u64 = 2_654_435_761;
 
 impl Order {
+    /// The order of this name.
+    pub fn named(name: &str) -> Result<Self> {
+        match name {
+            "rising" => Ok(Order::Rising),
+            "scattered" => Ok(Order::Scattered),
+            _ => bail!("the order is rising or scattered"),
+        }
+    }
+
     /// The place of the key that comes at this turn, among so many.
     pub fn at(self, turn: usize, count: usize) -> usize {
         match self {

@@ -1,79 +1,126 @@
-//! Measures the embedded store: how long its calls take over a folder, with so many keys and so many bytes in each value. On a
-//! folder in memory the disk is left out. A log that is full, of ROOM bytes, is sealed, and its entries are written to a table.
-//! It prints a line of JSON for each kind of work: how many times it measured, how many operations that makes in a second, and
-//! within how many microseconds 50, 95 and 99 of 100 were done. With the word `counts` it does the same work, and prints no
-//! times.
+//! Measures the embedded store: how long its calls take over a folder, with so many keys and so many bytes in each value. The
+//! first fill goes through the keys in rising order, or scattered. A log that is full, of ROOM bytes, is sealed, and its
+//! entries are written to a table.
+//!
+//! Each commit is synced. What a sync costs is the folder's: one on a disk waits for it, and one in memory (/dev/shm) doesn't,
+//! so a run there leaves the disk out.
+//!
+//! It prints a line of JSON for each kind of work: how many operations it did, and how many of them it makes in a second; the
+//! microseconds of the processor that one took; within how many microseconds 50, 95 and 99 of 100 were done; how many bytes
+//! the process wrote meanwhile (Linux tells them), and how many the files have behind it. With the word `counts` it does the
+//! same work, and prints no more than the counts.
 #![tactic(auto)]
 
+mod bytes;
 mod keys;
 mod laps;
+mod space;
 mod work;
 
 use crate::keys::Order;
 use crate::laps::{Laps, Report};
-use crate::work::{Work, make_room};
+use crate::space::{collect, make_room, merge};
+use crate::work::{ViewOf, Work};
 use anyhow::{Result, bail};
 use std::env;
 use vlstore::{Disk, Engine, FolderDisk, MAX_ROOM};
 
+/// So often the store is opened.
+const OPENINGS: usize = 5;
+
 fn main(rt: HostRuntime) -> Result<()> {
     let mut words = env::args(&rt)?.skip(1);
-    let (Some(folder), Some(spelling), Some(count), Some(bytes), Some(room)) = (
+    let (Some(folder), Some(order), Some(spelling), Some(count), Some(bytes), Some(room)) = (
+        words.next(),
         words.next(),
         words.next(),
         words.next(),
         words.next(),
         words.next(),
     ) else {
-        println!(rt; "usage: vl_bench DIR digits|bytes KEYS BYTES ROOM [counts]")?;
+        println!(rt; "usage: vl_bench DIR rising|scattered digits|bytes KEYS BYTES ROOM [counts]")?;
         return Ok(());
     };
-    let room = room.parse()?;
     let report = Report {
         rt: &rt,
+        folder: folder.as_str(),
         bytes: bytes.parse()?,
         timed: words.next().is_none(),
     };
     let work = Work::new(report, &spelling, count.parse()?)?;
-    run(&work, &folder, room)?;
-    let mut laps = Laps::start(report, 1)?;
-    drop(open(&rt, &folder, room)?.close());
-    laps.lap(1)?;
-    laps.print("open", Order::Rising)
+    run(&work, Order::named(&order)?, room.parse()?)
 }
 
-/// Does each kind of work once.
-fn run(work: &Work<'_>, folder: &str, room: u64) -> Result<()> {
-    let mut store = open(work.report.rt, folder, room)?;
-    work.write("fill", &mut store, Order::Rising, Some(&work.value))?;
-    read(work, &mut store)?;
-    work.write("overwrite", &mut store, Order::Scattered, Some(&work.value))?;
-    read(work, &mut store)?;
-    work.write("delete", &mut store, Order::Scattered, None)?;
-    make_room(&mut store)?;
+/// Fills a new store, and does all other work over one that was opened again, where what was filled in stands in tables.
+fn run(work: &Work<'_>, order: Order, room: u64) -> Result<()> {
+    let mut store = open(work.report, room)?;
+    let done = fill(work, &mut store, order);
     drop(store.close());
-    Ok(())
+    done?;
+    open_again(work, room)?;
+    let mut store = open(work.report, room)?;
+    let done = go_on(work, &mut store);
+    drop(store.close());
+    done
 }
 
-/// Does each kind of reading once, in a view.
-fn read<D: Disk>(work: &Work<'_>, store: &mut Engine<D>) -> Result<()> {
+/// Fills a store, and reads from it while the last log's entries are in memory.
+fn fill<D: Disk>(work: &Work<'_>, store: &mut Engine<D>, order: Order) -> Result<()> {
+    work.write("fill", store, order, Some(&work.value))?;
+    read(work, store, ["get", "range", "scan"])?;
+    make_room(store)
+}
+
+/// Reads from tables, and overwrites, merges, collects and deletes.
+fn go_on<D: Disk>(work: &Work<'_>, store: &mut Engine<D>) -> Result<()> {
+    work.get_cold(store)?;
+    read_warm(work, store)?;
+    read(work, store, ["get_table", "range_table", "scan_table"])?;
+    work.write("overwrite", store, Order::Scattered, Some(&work.value))?;
+    merge(work, store)?;
+    collect(work, store)?;
+    work.write("delete", store, Order::Scattered, None)
+}
+
+/// Reads keys, a hundred rows at a time, and a thousand, in a view.
+fn read<D: Disk>(work: &Work<'_>, store: &mut Engine<D>, names: [&str; 3]) -> Result<()> {
     let mut view = store.view()?;
-    work.get::<D>(&mut view, Order::Rising)?;
-    work.get::<D>(&mut view, Order::Scattered)?;
-    work.scan::<D>("range", &mut view, Order::Scattered, 100)?;
-    work.scan::<D>("scan", &mut view, Order::Rising, 1000)?;
+    let done = read_in::<D>(work, &mut view, names);
     store.release(view);
-    Ok(())
+    done
 }
 
-/// Opens the store in a folder, whose logs may have so many bytes.
-fn open<'a>(
-    rt: &'a HostRuntime,
-    folder: &str,
-    room: u64,
-) -> Result<Engine<FolderDisk<&'a HostRuntime>>> {
-    let disk = FolderDisk::new(rt, rt.alloc(), String::from_str(rt.alloc(), folder)?);
-    match Engine::open(rt.alloc(), disk, room.min(MAX_ROOM)) {
+fn read_in<D: Disk>(work: &Work<'_>, view: &mut ViewOf<D>, names: [&str; 3]) -> Result<()> {
+    let [get, range, scan] = names;
+    work.get::<D>(get, view, Order::Rising)?;
+    work.get::<D>(get, view, Order::Scattered)?;
+    work.scan::<D>(range, view, Order::Scattered, 100)?;
+    work.scan::<D>(scan, view, Order::Rising, 1000)
+}
+
+/// Reads a few keys in a view, often.
+fn read_warm<D: Disk>(work: &Work<'_>, store: &mut Engine<D>) -> Result<()> {
+    let mut view = store.view()?;
+    let done = work.get_warm::<D>(&mut view);
+    store.release(view);
+    done
+}
+
+/// Opens and closes the store some times.
+fn open_again(work: &Work<'_>, room: u64) -> Result<()> {
+    let mut laps = Laps::start(work.report, OPENINGS)?;
+    for _ in 0..OPENINGS {
+        drop(open(work.report, room)?.close());
+        laps.lap(1)?;
+    }
+    laps.print("open", None)
+}
+
+/// Opens the store, whose logs may have so many bytes.
+fn open(report: Report<'_>, room: u64) -> Result<Engine<FolderDisk<&HostRuntime>>> {
+    let (rt, alloc) = (report.rt, report.rt.alloc());
+    let disk = FolderDisk::new(rt, alloc, String::from_str(alloc, report.folder)?);
+    match Engine::open(alloc, disk, room.min(MAX_ROOM)) {
         Ok(store) => Ok(store),
         Err(fail) => bail!("the store wasn't opened: {:?}", fail.why),
     }

@@ -1,9 +1,19 @@
-//! The kinds of work that are measured.
+//! What is done with each key.
 
 use crate::keys::{Order, keys};
 use crate::laps::{Laps, Report};
+use crate::space::make_room;
 use anyhow::{Result, bail};
-use vlstore::{CommitFail, Disk, Engine, View, Way};
+use vlstore::{Cached, CommitFail, Disk, Engine, Txn, View, Way};
+
+/// So few keys are read again and again where reads are to be warm.
+const WARM: usize = 4;
+
+/// What a store over such a disk gives to write with.
+type TxnOf<D> = Txn<<D as Disk>::Held, Cached<<D as Disk>::Reader>>;
+
+/// What it gives to read with.
+pub type ViewOf<D> = View<<D as Disk>::Held, Cached<<D as Disk>::Reader>>;
 
 /// What work is done on: the keys in rising order, and the value that is written to them.
 #[derive(Drop)]
@@ -25,6 +35,19 @@ impl<'a> Work<'a> {
         })
     }
 
+    /// How many keys there are.
+    pub fn count(&self) -> usize {
+        self.keys.len()
+    }
+
+    /// The key that comes at this turn.
+    pub fn key(&self, order: Order, turn: usize) -> &[u8] {
+        match self.keys.get(order.at(turn, self.count())) {
+            Some(key) => key,
+            None => &[],
+        }
+    }
+
     /// Writes a value to each key, or deletes each, in a transaction of its own.
     pub fn write<D: Disk>(
         &self,
@@ -33,88 +56,105 @@ impl<'a> Work<'a> {
         order: Order,
         value: Option<&Vec<u8>>,
     ) -> Result<()> {
-        let mut laps = Laps::start(self.report, self.keys.len())?;
-        for turn in 0..self.keys.len() {
-            write(store, self.key(order, turn), value)?;
+        let mut laps = Laps::start(self.report, self.count())?;
+        for turn in 0..self.count() {
+            put(store, self.key(order, turn), value)?;
             laps.lap(1)?;
         }
-        laps.print(work, order)
+        laps.print(work, Some(order))
     }
 
     /// Reads each key in a view.
-    pub fn get<D: Disk>(&self, view: &mut View<D::Held, D::Reader>, order: Order) -> Result<()> {
-        let mut laps = Laps::start(self.report, self.keys.len())?;
-        for turn in 0..self.keys.len() {
-            read::<D>(view, self.key(order, turn))?;
+    pub fn get<D: Disk>(&self, work: &str, view: &mut ViewOf<D>, order: Order) -> Result<()> {
+        let mut laps = Laps::start(self.report, self.count())?;
+        for turn in 0..self.count() {
+            get::<D>(view, self.key(order, turn))?;
             laps.lap(1)?;
         }
-        laps.print("get", order)
+        laps.print(work, Some(order))
     }
 
-    /// Reads so many rows at a time in a view, from each key on that comes so many behind the last. Their time is parted
-    /// evenly among them.
+    /// Reads a few keys again and again in a view, which keeps the blocks that it has read.
+    pub fn get_warm<D: Disk>(&self, view: &mut ViewOf<D>) -> Result<()> {
+        let mut laps = Laps::start(self.report, self.count())?;
+        for turn in 0..self.count() {
+            get::<D>(view, self.key(Order::Scattered, turn % WARM))?;
+            laps.lap(1)?;
+        }
+        laps.print("get_warm", Some(Order::Scattered))
+    }
+
+    /// Reads each key in a view of its own, which has read no block before.
+    pub fn get_cold<D: Disk>(&self, store: &mut Engine<D>) -> Result<()> {
+        let mut laps = Laps::start(self.report, self.count())?;
+        for turn in 0..self.count() {
+            let mut view = store.view()?;
+            let done = get::<D>(&mut view, self.key(Order::Scattered, turn));
+            store.release(view);
+            done?;
+            laps.lap(1)?;
+        }
+        laps.print("get_cold", Some(Order::Scattered))
+    }
+
+    /// Reads up to so many rows at a time in a view, from each key on that comes so many behind the last. A row is an
+    /// operation.
     pub fn scan<D: Disk>(
         &self,
         work: &str,
-        view: &mut View<D::Held, D::Reader>,
+        view: &mut ViewOf<D>,
         order: Order,
         rows: u16,
     ) -> Result<()> {
-        let mut laps = Laps::start(self.report, self.keys.len())?;
-        for turn in (0..self.keys.len()).step_by((rows as usize).max(1)) {
-            rows_from::<D>(view, self.key(order, turn), rows)?;
-            laps.lap(rows as usize)?;
+        let mut laps = Laps::start(self.report, self.count())?;
+        for turn in (0..self.count()).step_by((rows as usize).max(1)) {
+            let count = view
+                .scan(self.key(order, turn), b"", rows.max(1), Way::Up)?
+                .len();
+            laps.lap(count)?;
         }
-        laps.print(work, order)
-    }
-
-    /// The key that comes at this turn.
-    fn key(&self, order: Order, turn: usize) -> &[u8] {
-        match self.keys.get(order.at(turn, self.keys.len())) {
-            Some(key) => key,
-            None => &[],
-        }
+        laps.print(work, Some(order))
     }
 }
 
 /// Writes a key, or deletes it, in a transaction of its own.
-fn write<D: Disk>(store: &mut Engine<D>, key: &[u8], value: Option<&Vec<u8>>) -> Result<()> {
+pub fn put<D: Disk>(store: &mut Engine<D>, key: &[u8], value: Option<&Vec<u8>>) -> Result<()> {
     let mut txn = store.begin()?;
-    match value {
-        Some(value) => txn.set(key, value)?,
-        None => txn.delete(key)?,
+    if let Err(error) = change::<D>(&mut txn, key, value) {
+        store.forget(txn);
+        return Err(error);
     }
     match store.commit(txn) {
         Ok(_) => Ok(()),
-        Err(CommitFail::Full { txn, .. }) => {
-            make_room(store)?;
-            match store.commit(txn) {
-                Ok(_) => Ok(()),
-                Err(_) => bail!("a commit failed"),
-            }
-        }
+        Err(CommitFail::Full { txn, .. }) => commit_again(store, txn),
         Err(_) => bail!("a commit failed"),
     }
 }
 
-/// Seals the log, and writes what it has to a table.
-pub fn make_room<D: Disk>(store: &mut Engine<D>) -> Result<()> {
-    if store.rotate().is_err() || store.flush().is_err() {
-        bail!("the log wasn't sealed, or not flushed");
+fn change<D: Disk>(txn: &mut TxnOf<D>, key: &[u8], value: Option<&Vec<u8>>) -> Result<()> {
+    match value {
+        Some(value) => txn.set(key, value)?,
+        None => txn.delete(key)?,
     }
     Ok(())
+}
+
+/// Commits a transaction for which the log was too full.
+fn commit_again<D: Disk>(store: &mut Engine<D>, txn: TxnOf<D>) -> Result<()> {
+    if let Err(error) = make_room(store) {
+        store.forget(txn);
+        return Err(error);
+    }
+    match store.commit(txn) {
+        Ok(_) => Ok(()),
+        Err(_) => bail!("a commit failed"),
+    }
 }
 
 /// Reads a key, which is to have a value.
-fn read<D: Disk>(view: &mut View<D::Held, D::Reader>, key: &[u8]) -> Result<()> {
+fn get<D: Disk>(view: &mut ViewOf<D>, key: &[u8]) -> Result<()> {
     if view.get(key)?.is_none() {
         bail!("a key has no value");
     }
-    Ok(())
-}
-
-/// Reads so many rows from a key on.
-fn rows_from<D: Disk>(view: &mut View<D::Held, D::Reader>, key: &[u8], rows: u16) -> Result<()> {
-    view.scan(key, b"", rows.max(1), Way::Up)?;
     Ok(())
 }
