@@ -1,5 +1,5 @@
-//! What a run prints, and how it ends: replays and trials, the words, the limits, and faults of the source and the sink. All that
-//! is wanted was written by hand.
+//! What a run prints, and how it ends: replays, trials and benchmarks, the words, the limits, and faults of the source and the sink.
+//! All that is wanted was written by hand.
 
 use std::alloc::Global;
 use std::test::Fail;
@@ -195,7 +195,10 @@ const RUNS: &str = "\
         reopened 1;rows 1;61 *65*;|0\n\
     trial 18 2|||begin t;set t 61 *65*;commit t;rotate;flush;pick g 1;batch g;move g;|ok 0;ok;ok 1;ok 1;ok 1;ok 1;found 1;moved 1;\
         reopened 1;rows 1;61 *65*;|0\n\
-    trial 1000000 0|||begin a;set a 61 01;commit a;|ok 0;ok;ok 1;reopened 1;rows 1;61 01;|0";
+    trial 1000000 0|||begin a;set a 61 01;commit a;|ok 0;ok;ok 1;reopened 1;rows 1;61 01;|0\n\
+    bench 0 1||||commits 1;rows 1;moved 0;bytes 158 live 0;|0\n\
+    bench 0 1|1||fetch;|commits 1;rows 1;moved 0;bytes 158 live 0;|0\n\
+    bench 0 1||1|||7";
 
 /// Three commits: of two keys, of a deletion, and of an empty value. They make the calls 7 and 8, 9 and 10, 11 and 12.
 const COMMITS: &str =
@@ -253,7 +256,8 @@ const SWEEP_STOPS: &str = "\
 /// Words that aren't plain, between the bars.
 const NOT_PLAIN: &str =
     "|replay|replay -h|replay |replay . .|--help|help|-h .|--help .|trial|trial 1|trial 1 3|trial 1 -\
-    |trial 1 00|trial 1 0 0|trial  0|trial 01 0|trial +1 0|trial 1000001 0";
+    |trial 1 00|trial 1 0 0|trial  0|trial 01 0|trial +1 0|trial 1000001 0|bench|bench 1|bench 1 0|bench 1 100001|bench 1 1 1\
+    |bench -1 1|bench +1 1|bench 01 1|bench 1 01|bench  1|bench 1 |bench 1 a|bench 18446744073709551616 1|Bench 1 1";
 
 const USAGE: &str =
     "usage: vlstore replay DIR, trial STOP OUTCOME, bench SEED COUNT or drive CLIENTS TXNS SEED;";
@@ -420,6 +424,18 @@ fn words_that_are_not_plain_get_the_usage_line(rt: HostRuntime) -> Result<(), Fa
         assert!(rt; printed.as_slice() == usage.as_slice(), "{words}");
         assert!(rt; status.as_str() == "2", "{words}");
     }
+    Ok(())
+}
+
+/// Each of its transactions has one write and is alone, so that each commit is answered with a number.
+#[test]
+fn a_benchmark_prints_the_same_twice(rt: HostRuntime) -> Result<(), Fail> {
+    let (first, status) = ran(rt.alloc(), "bench 7 20000", "", "", "")?;
+    assert!(rt; first.as_slice().starts_with(b"commits 20000\n"));
+    assert!(rt; status.as_str() == "0");
+    let (second, again) = ran(rt.alloc(), "bench 7 20000", "", "", "")?;
+    assert!(rt; second.as_slice() == first.as_slice());
+    assert!(rt; again.as_str() == "0");
     Ok(())
 }
 

@@ -1,11 +1,15 @@
 ghost use Rattle.std.specs.Prelude.{◌≡◌, map, string_bytes};
-ghost use Rattle.vl_sequential.specs.Words.{command_of, is_plain_word, outcome_of};
+ghost use Rattle.vl_script.specs.Numbers.{number_of};
+ghost use Rattle.vl_sequential.specs.Words.{bench_of, command_of, is_plain_word, most_rounds, most_seed, outcome_of};
 
 use vl_mem::Outcome;
 use vl_script::parse_number;
 
 /// The most changing calls that a trial lets pass.
 const MAX_STOP: u64 = 1_000_000;
+
+/// The most rounds of a benchmark.
+const MAX_ROUNDS: u64 = 100_000;
 
 /// What plain words ask for.
 #[derive(Clone, Copy)]
@@ -14,6 +18,8 @@ pub enum Command {
     Replay,
     /// The lines of the input are tried over an empty disk that stops behind so many changing calls.
     Trial(u32, Outcome),
+    /// The lines that a seed and so many rounds give are answered over an empty disk, and summed up.
+    Bench(u64, u32),
 }
 
 /// What the words ask for; none where they aren't plain.
@@ -31,8 +37,22 @@ pub fn command_in(words: &[String]) -> Option<Command>
                 outcome_in(outcome.as_bytes())?,
             ))
         }
+        [command, seed, count] if command.as_bytes() == b"bench".as_slice() => {
+            bench_in(seed.as_bytes(), count.as_bytes())
+        }
         _ => None,
     }
+}
+
+fn bench_in(seed: &[u8], count: &[u8]) -> Option<Command>
+    ensures { result ≡ bench_of (number_of most_seed seed.now) (number_of most_rounds count.now) }
+{
+    let seed = parse_number(seed, u64::MAX)?;
+    let count = parse_number(count, MAX_ROUNDS)?;
+    if count == 0 {
+        return None;
+    }
+    Some(Command::Bench(seed, count as u32))
 }
 
 /// Whether a word isn't empty and doesn't begin with `-`.
