@@ -2,6 +2,7 @@ pub mod Begins
 pub mod Calls
 pub mod Collecting
 pub mod Counted
+pub mod Crosses
 pub mod Drawing
 pub mod Faults
 pub mod First

@@ -27,7 +27,7 @@ mod store;
 pub use fails::StoreFail;
 pub use laws::{
     an_opened_engine_is_whole, an_opened_engine_stands_for_no_steps, commits_are_numbered_once,
-    what_lasted_has_lasted, what_was_begun_stays_own,
+    what_lasted_has_lasted, what_was_begun_stays_own, what_was_picked_stays_own,
 };
 pub use locked::{Locked, Origin};
 pub use mark::{Mark, Starts};

@@ -48,8 +48,9 @@ impl<D: Disk + Drop> Store<D> {
     }
 
     /// A store round an engine in which nothing lives and nothing is open, and so many sessions, which are
-    /// numbered from 0 on. The engine stands for what was told of it: where its disk tells its bytes, it
-    /// represents that history and that layout. `NoMemory` hands it back as it was.
+    /// numbered from 0 on. What the engine stands for is told in `origin`: where its disk tells its bytes, it
+    /// represents that history and that layout. So it is for programs with contracts, and `open` for others.
+    /// `NoMemory` hands the engine back as it was.
     pub fn new(
         alloc: Global,
         engine: Engine<D>,
