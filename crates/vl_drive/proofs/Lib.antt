@@ -3,6 +3,7 @@ mod Counts
 mod Driven
 mod Gathering
 mod Keeping
+mod Modest
 mod Playing
 mod Prefixes
 mod Scoring

@@ -16,7 +16,10 @@ mod fails;
 mod gate;
 mod keeper;
 mod laws;
+mod modest;
+mod running;
 mod shop;
+mod shops;
 mod transfer;
 mod trouble;
 
@@ -28,6 +31,9 @@ pub use laws::{
     a_conflict_is_a_crossing, a_transfer_has_two_accounts, a_turn_goes_on, steps_are_counted,
     sure_shops_meet_no_fault, turns_go_on,
 };
+pub use modest::no_call_of_modest_shops_stops;
+pub use running::{Driven, Undriven, drive_store};
 pub use shop::Shop;
+pub use shops::{Closed, Shops};
 pub use transfer::Transfer;
 pub use trouble::Cause;

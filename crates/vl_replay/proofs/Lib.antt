@@ -1,3 +1,4 @@
+pub mod Benchmarks
 pub mod CarryingDisk
 pub mod CarryingDraws
 pub mod CarryingJob

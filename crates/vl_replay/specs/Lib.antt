@@ -1,3 +1,4 @@
+pub mod Benchmark
 pub mod Choosing
 pub mod Drawn
 pub mod Handed

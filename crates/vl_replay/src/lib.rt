@@ -3,6 +3,7 @@
 #![tactic(auto)]
 
 mod answering;
+mod benchmark;
 mod carrying;
 mod command_line;
 mod contents;
@@ -11,6 +12,7 @@ mod replayer;
 mod running;
 mod trying;
 
+pub use benchmark::bench;
 pub use command_line::{CommandEnded, refuse_without_words, run};
 pub use process::{Served, process_words, serve};
 pub use replayer::Replayer;

@@ -38,7 +38,7 @@ use Rattle.vlstore.specs.Standing.{NeverFails}
 abbrev pub Unfailing : {A : Type 0} → Outcome A → Type 0
 Unfailing outcome = (name : FileName) → outcome ≡ Failed name → ⊥
 
-abbrev pub IsNoFault : {A : Type 0} → Outcome A → Type 0
+IsNoFault : {A : Type 0} → Outcome A → Type 0
 IsNoFault (Answered a) = Unit {0}
 IsNoFault NoMemory = Unit {0}
 IsNoFault (Failed name) = ⊥
@@ -61,7 +61,7 @@ module _ {D R W : Type 0} (faults : D → ℕ) (read_faults : R → ℕ) (write_
       none_rose (faults old) (faults new) (surely.disks old) (surely.disks new) (cause.rose (is_failure name at))
 
   pub move_unfailing : (old new : D) (looks looks_now : R) (log : ℕ) (r : Result ℕ MoveFail)
-      → MoveCounts log (faults old) (faults new) (read_faults looks) (read_faults looks_now) r → NeverFails faults read_faults write_faults
+      → MoveCounts log (faults old) (faults new) (read_faults looks) (read_faults looks_now) r → NeverFails faults read_faults
       → Unfailing (move_outcome r)
   move_unfailing old new looks looks_now log (Ok count) counts surely name at = no_fault at tt
   move_unfailing old new looks looks_now log (Err (move.Halted file)) counts surely name at = no_fault at tt
@@ -117,7 +117,7 @@ sweep_fails (Err (sweep.Disk file)) name at = tt
 
 -- ---- calls that ask no file
 
-pub always_answers : Unfailing {A = Unit {0}} (Answered tt)
+pub always_answers : Unfailing {Unit {0}} (Answered tt)
 always_answers name at = no_fault at tt
 
 pub begin_answers : {H R : Type 0} (r : Result (Txn H R) BeginFail) → Unfailing (begin_outcome r)

@@ -14,9 +14,13 @@ pub mod Making
 pub mod Merged
 pub mod Moving
 pub mod Owning
+pub mod PassLaws
 pub mod Picking
 pub mod Planning
 pub mod Sessions
+pub mod ShopReads
+pub mod Shopping
+pub mod SmallWrites
 pub mod Steps
 pub mod Stores
 pub mod Sweeping

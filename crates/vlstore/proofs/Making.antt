@@ -28,7 +28,7 @@ use Rattle.vlstore.specs.Knowing.{GoesOn, Knows}
 use Rattle.vlstore.specs.Merges.{lent_in}
 use Rattle.vlstore.specs.declared.locked.Origin.{Origin}
 use Rattle.vlstore.proofs.Drawing.{some_is}
-use Rattle.vlstore.proofs.Stores.{nil_after, prefix_on}
+use Rattle.vlstore.proofs.Stores.{prefix_on}
 
 -- ---- numbers
 
@@ -72,8 +72,8 @@ together (x ∷ xs) ys n = ap (λ (l : List ℕ). x ∷ l) (together xs ys n)
 
 -- what isn't true is false
 is_off : (b : Bool) → (b ≡ true → ⊥) → b ≡ false
-is_off true never = absurd (never refl)
-is_off false never = refl
+is_off true no = absurd (no refl)
+is_off false no = refl
 
 -- ---- what is so where there is none, or some
 
@@ -146,12 +146,9 @@ module _ {W H R : Type 0} (writers : Writers W) (bytes : H → Option (List ℕ)
   }
 
   -- all of its tables are made
-  pub all_made : (old new : Job (Base H R) H W k) (way : IsUnderWayIn v writers bytes old) → KeepsAll old new
-      → (v.tells ≡ true → HasMerge writers bytes new way.planned) → new.ended ≡ true
-      → (v.tells ≡ true → HasAllMerge writers bytes new way.planned) → IsHandedInto v writers bytes new
-  unfolding asked_way
-  all_made old new way kept has_merge ended has_all =
-      record { under_way = asked_way old new way kept has_merge; ended = ended; has_all = has_all }
+  pub all_made : (job : Job (Base H R) H W k) (way : IsUnderWayIn v writers bytes job) → job.ended ≡ true
+      → (v.tells ≡ true → HasAllMerge writers bytes job way.planned) → IsHandedInto v writers bytes job
+  all_made job way ended has_all = record { under_way = way; ended = ended; has_all = has_all }
 
   -- ---- a file that was lent to it
 
@@ -175,7 +172,6 @@ module _ {W H R : Type 0} (writers : Writers W) (bytes : H → Option (List ℕ)
     -- became a table,
     pub taken_way : Takes writers file old new → (v.tells ≡ true → IsSome (writers.file file.writer))
         → (v.tells ≡ true → HasMerge writers bytes new way.planned) → IsUnderWayIn v writers bytes new
-    unfolding made left
     taken_way takes empty has_merge = record {
       planned = way.planned;
       own = way.own;
@@ -208,7 +204,6 @@ module _ {W H R : Type 0} (writers : Writers W) (bytes : H → Option (List ℕ)
 
     -- or didn't.
     pub left_way : Leaves writers file old new → (v.tells ≡ true → IsSome (writers.file file.writer)) → IsUnderWayIn v writers bytes new
-    unfolding made left
     left_way leaves empty = record {
       planned = way.planned;
       own = way.own;
@@ -278,15 +273,4 @@ on_and_on u v w first then = record {
   session = then.session ∙ first.session;
   seen = prefix_on u.seen v.seen w.seen first.seen then.seen;
   own = prefix_on u.own v.own w.own first.own then.own;
-}
-
--- nothing was done
-pub on_same : (v : Knows) → GoesOn v v
-on_same v = record {
-  store = refl;
-  origin = refl;
-  tells = refl;
-  session = refl;
-  seen = ([], sym (nil_after v.seen));
-  own = ([], sym (nil_after v.own));
 }

@@ -2,31 +2,27 @@
 use Rattle.std.proofs.Common.{◌≡◌, ℕ, List, [], ◌∷◌, ◌++◌, refl, sym, ap, ◌∙◌, subst, append_assoc}
 use Rattle.std.specs.Prelude.{Option, None, Some, length, min, ◌^◌, ◌-◌}
 use Rattle.std.specs.List.{AllByRecursion}
-use Rattle.vl_compact.specs.Laid.{AreBoth}
 use Rattle.vl_engine.specs.Whole.{kept_of}
 use Rattle.vl_layout.specs.Decides.{Answered, Damaged, Failed, NoMemory, Outcome}
 use Rattle.vl_layout.specs.Jobs.{Made}
-use Rattle.vl_layout.specs.LockHistory.{job_after, open_job}
+use Rattle.vl_layout.specs.LockHistory.{open_job}
 use Rattle.vl_layout.specs.Merging.{merged_entries}
 use Rattle.vl_layout.specs.Ruling.{Ruling}
 use Rattle.vl_layout.specs.Rulings.Fresh as fresh
 use Rattle.vl_layout.specs.Rulings.Fresh.{FreshAnswer}
-use Rattle.vl_layout.specs.Rulings.Install.{InstallAnswer, Installed, install_ruling}
+use Rattle.vl_layout.specs.Rulings.Install.{InstallAnswer}
 use Rattle.vl_layout.specs.Rulings.Plan.{plan_ruling}
 use Rattle.vl_layout.specs.declared.job.Job.{Job}
 use Rattle.vl_layout.specs.declared.layout.Layout.{Layout}
 use Rattle.vl_layout.specs.declared.lock_history.LockEntry.{LockEntry}
 use Rattle.vl_layout.specs.declared.lock_history.LockStep.{LockStep}
-use Rattle.vl_layout.specs.declared.lock_history.LockStep.TheVariants.{Changed, JobEnded}
-use Rattle.vl_layout.specs.laws.LockHistoryLaws.{none≢some}
+use Rattle.vl_layout.specs.declared.lock_history.LockStep.TheVariants.{Changed}
 use Rattle.vl_model.specs.History.{History}
 use Rattle.vl_turn.specs.Entries.{with_entry}
 use Rattle.vlstore.specs.Entries.{abandon_entry, fresh_entry, install_entry, plan_entry}
 use Rattle.vlstore.specs.Knowing.{GoesOn, IsOwnJob, Knows, Stepped}
 use Rattle.vlstore.specs.Lists.{history_by, layout_by}
-use Rattle.vlstore.specs.Merging.{Did, IsChange, IsWork, MergedAt, PutIn}
-use Rattle.vlstore.specs.declared.locked.Origin.{Origin}
-use Rattle.vlstore.proofs.Drawing.{some_is}
+use Rattle.vlstore.specs.Merging.{Did, IsChange, IsWork, MergedAt}
 use Rattle.vlstore.proofs.Lending.{open_job-append}
 use Rattle.vlstore.proofs.Stores.{nil_after, prefix_on}
 use mathlib.Core.List.{IsPrefix}
@@ -115,11 +111,6 @@ stepped_so is v w ruling entry outcome so stepped =
     did_entry is v w (entry v.session (layout_by v.origin stepped.before) (history_by v.origin stepped.before) outcome) stepped.own
     (so v.session (layout_by v.origin stepped.before) (history_by v.origin stepped.before))
 
--- it ends the merge
-abbrev pub EndsJob : Option LockEntry → Type 0
-EndsJob None = ⊥
-EndsJob (Some e) = e.step ≡ JobEnded
-
 -- ---- which merge it was
 
 entry_behind : (list now : List LockEntry) (e : Option LockEntry) → now ≡ with_entry list e → IsPrefix list now
@@ -128,96 +119,21 @@ entry_behind list now (Some e) is = (e ∷ [], sym is)
 
 module _ (u v w : Knows) where
   -- none was due
-  pub none_due : {sure : Type 0} → Stepped sure u v (λ l h. plan_ruling l h) plan_entry (Answered None)
-      → IsPrefix v.seen w.seen → MergedAt u w None
-  none_due step on =
-      let is : None ≡ (plan_ruling (layout_by u.origin step.before) (history_by u.origin step.before)).answer = step.answer None refl in
-      record {
-        before = step.before;
-        later = step.later;
-        within = prefix_on step.before v.seen w.seen (entry_behind step.before v.seen
-            (plan_entry u.session (layout_by u.origin step.before) (history_by u.origin step.before) (Answered None)) step.seen) on;
-        counts = ap kept_of is;
-        put_in = λ job at. absurd (none≢some job (is ∙ at));
-      }
+  pub none_due : {sure : Type 0} → Stepped sure u v (λ l h. plan_ruling l h) plan_entry (Answered None) → GoesOn v w
+      → MergedAt u w None
+  none_due step on = record {
+    before = step.before;
+    later = step.later;
+    within = prefix_on step.before v.seen w.seen (entry_behind step.before v.seen _ step.seen) on.seen;
+    counts = ap kept_of (step.answer None refl);
+  }
 
   -- this one was
   pub one_due : {sure : Type 0} (job : Job) (kept : ℕ) → kept ≡ min (length (merged_entries job)) (2 ^ 64 - 1)
-      → Stepped sure u v (λ l h. plan_ruling l h) plan_entry (Answered (Some job)) → IsPrefix v.seen w.seen → PutIn u w job
-      → MergedAt u w (Some kept)
-  one_due job kept is step on put_in =
-      let ruled : Some job ≡ (plan_ruling (layout_by u.origin step.before) (history_by u.origin step.before)).answer =
-      step.answer (Some job) refl in
-      record {
-        before = step.before;
-        later = step.later;
-        within = prefix_on step.before v.seen w.seen (entry_behind step.before v.seen
-            (plan_entry u.session (layout_by u.origin step.before) (history_by u.origin step.before) (Answered (Some job))) step.seen)
-            on;
-        counts = ap Some is ∙ ap kept_of ruled;
-        put_in = λ other at. subst (PutIn u w) (some_is job other (ruled ∙ at)) put_in;
-      }
-
--- it was put in, by an install of what the session had seen before
-pub was_put_in : {sure : Type 0} (u v w : Knows) (job : Job) (made : Made) → v.origin ≡ u.origin → v.session ≡ u.session
-    → IsPrefix u.seen v.seen
-    → Stepped sure v w (λ l h. install_ruling l h job made) (install_entry job made) (Answered Installed) → PutIn u w job
-was_put_in u v w job made origin session on step = record {
-  made = made;
-  before = step.before;
-  later = prefix_on u.seen v.seen step.before on step.later;
-  installed = sym (subst (λ (o : Origin). Installed
-      ≡ (install_ruling (layout_by o step.before) (history_by o step.before) job made).answer) origin (step.answer Installed refl));
-  seen = subst (λ (o : Origin). w.seen ≡ step.before ++ record {
-    session = u.session;
-    step = JobEnded;
-    layout = (install_ruling (layout_by o step.before) (history_by o step.before) job made).layout;
-  } ∷ []) origin (subst (λ (n : ℕ). w.seen ≡ step.before ++ record {
-    session = n;
-    step = JobEnded;
-    layout = (install_ruling (layout_by v.origin step.before) (history_by v.origin step.before) job made).layout;
-  } ∷ []) session step.seen);
-}
-
--- ---- no merge of its own is left open
-
--- behind its own end of it
-pub job_ended : {A : Type 0} {sure : Type 0} (v w : Knows) (ruling : Layout → History → Ruling A)
-    (entry : ℕ → Layout → History → Outcome A → Option LockEntry) (outcome : Outcome A)
-    → ((s : ℕ) (l : Layout) (h : History) → EndsJob (entry s l h outcome))
-    → Stepped sure v w ruling entry outcome → open_job None w.own ≡ None
-job_ended v w ruling entry outcome so step =
-    by_entry (entry v.session (layout_by v.origin step.before) (history_by v.origin step.before) outcome) step.own
-    (so v.session (layout_by v.origin step.before) (history_by v.origin step.before))
-  where
-    by_entry : (e : Option LockEntry) → w.own ≡ with_entry v.own e → EndsJob e → open_job None w.own ≡ None
-    by_entry None now ends = absurd ends
-    by_entry (Some e) now ends = ap (open_job None) now ∙ (open_job-append None v.own (e ∷ [])
-        ∙ ap (λ (step : LockStep). job_after e.session step e.layout (open_job None v.own)) ends)
-
-pub none_own : (v : Knows) → open_job None v.own ≡ None → (job : Job) → IsOwnJob v job → ⊥
-none_own v none job own = none≢some _ (sym none ∙ own)
-
--- what is seen begins itself
-pub prefix_itself : (es : List LockEntry) → IsPrefix es es
-prefix_itself es = ([], sym (nil_after es))
-
--- where a merge came the ruling planned one
-pub planned_some : {J : Type 0} (fits : J → Job → Type 0) (job : J) (planned : Option Job) → AreBoth fits (Some job) planned
-    → (j : Job) × (planned ≡ Some j)
-planned_some fits job None both = absurd both
-planned_some fits job (Some j) both = (j, refl)
-
--- the session's own, once it was planned
-pub planned_own : {sure : Type 0} (u v : Knows) (job : Job) → v.session ≡ u.session
-    → Stepped sure u v (λ l h. plan_ruling l h) plan_entry (Answered (Some job)) → IsOwnJob v job
-planned_own u v job session step =
-    ap (open_job None) step.own ∙ (open_job-append None u.own _ ∙ ap (λ (n : ℕ). Some (n, job)) (sym session))
-
--- there is one at most
-pub same_own : (v : Knows) (one other : Job) → IsOwnJob v one → IsOwnJob v other → one ≡ other
-same_own v one other is too = ap job_of (sym is ∙ too)
-  where
-    job_of : Option (ℕ × Job) → Job
-    job_of None = one
-    job_of (Some x) = x.1
+      → Stepped sure u v (λ l h. plan_ruling l h) plan_entry (Answered (Some job)) → GoesOn v w → MergedAt u w (Some kept)
+  one_due job kept is step on = record {
+    before = step.before;
+    later = step.later;
+    within = prefix_on step.before v.seen w.seen (entry_behind step.before v.seen _ step.seen) on.seen;
+    counts = ap Some is ∙ ap kept_of (step.answer (Some job) refl);
+  }

@@ -55,7 +55,7 @@ module _ {H L : Type 0} {sure : Type 0} (bytes : H → Option (List ℕ)) (o : O
   Last next = (log : SealedLog H) → Lasts bytes log l → Lasts bytes log next
 
   -- nothing was changed
-  pub stays : LeadsTo bytes o list l.halted None h l
+  pub stays : {at : Option FileName} → LeadsTo bytes o list at None h l
   stays = (refl, refl)
 
   -- an entry that commits nothing

@@ -63,7 +63,7 @@ module _ {H L : Type 0} {sure : Type 0} (bytes : H → Option (List ℕ)) (o : O
   abbrev l : Layout
   l = layout_by o list
 
-  nothing : LeadsTo bytes o list l.halted None h l
+  nothing : {at : Option FileName} → LeadsTo bytes o list at None h l
   nothing = stays bytes o list x is session
 
   either : {A : Type 0} (P : Ruling A → Type 0) (b : Bool) (r s : Ruling A) → P r → P s → P (if b then r else s)

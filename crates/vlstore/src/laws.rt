@@ -13,9 +13,10 @@ ghost use Rattle.vl_seglog.specs.declared.sealed.SealedLog.{SealedLog};
 ghost use Rattle.vlstore.specs.Handing.{HasLasted};
 ghost use Rattle.vlstore.specs.Knowing.{GoesOn, IsOwnTicket, Knows, LeavesTicket};
 ghost use Rattle.vlstore.specs.Lists.{history_by, numbers_from, numbers_put};
-ghost use Rattle.vlstore.specs.Standing.{IsWhole, NeverFails, Parts, Stands};
+ghost use Rattle.vlstore.specs.Standing.{IsWhole, Parts, Stands};
 ghost use Rattle.vlstore.specs.declared.locked.Origin.{Origin};
 
+use crate::session::Session;
 use vl_disk::{Disk, HeldFile};
 
 /// The commits of lawful steps have the numbers behind that of the last one before, in order and each once.
@@ -26,10 +27,9 @@ pub fn commits_are_numbered_once()
 
 /// An engine in which nothing lives and nothing is open, as one that was just opened, stands for no steps: so a store
 /// may be made of it.
-pub fn an_opened_engine_stands_for_no_steps<D: Disk, L>()
-    ensures { (o : Origin) (tells : Bool) (x : Parts D.Held L) → x.merging ≡ None → HasOpen nothing_open o.layout
-        → (tells ≡ true → IsWhole D.Held.bytes x (history_by o []) o.layout)
-        → Stands D.Held.bytes (NeverFails D.faults D.Reader.faults D.Writer.faults) o tells [] x }
+pub fn an_opened_engine_stands_for_no_steps<H: HeldFile, L>()
+    ensures { (sure : Type 0) (o : Origin) (tells : Bool) (x : Parts H L) → x.merging ≡ None → HasOpen nothing_open o.layout
+        → (tells ≡ true → IsWhole H.bytes x (history_by o []) o.layout) → Stands H.bytes sure o tells [] x }
 {}
 
 /// A log over which a pass may go, and that lasted at a moment that a session had seen, lasts as well for what it has seen later.
@@ -50,3 +50,16 @@ pub fn an_opened_engine_is_whole<H: HeldFile, L>()
         → Represents H.bytes x.core x.told h l → Fits x.told x.core h l → Collects x.core x.collecting l
         → Removes x.core x.removing l → IsWhole H.bytes x h l }
 {}
+
+/// A session may move to another thread where its disk may, and what files are held, read and written by, of which
+/// threads share what is held. It does nothing.
+pub fn a_session_may_move<D: Disk + Send>(session: &Session<D>)
+where
+    D::Held: Send + Sync,
+    D::Reader: Send + Sync,
+    D::Writer: Send,
+{
+    may_move(session);
+}
+
+fn may_move<T: Send>(_value: &T) {}

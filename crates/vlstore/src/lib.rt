@@ -1,12 +1,12 @@
 //! The store that a service embeds: an engine over a folder, or over any other disk, and a store for several threads.
 //! docs/API.md tells what its calls answer and cost, and what to do about each error.
 //!
-//! One thread makes the calls of an `Engine`. For several threads `Store::open` puts the engine under a lock and makes
-//! sessions, one for each thread. A call of a session takes the turn, is one step of the engine, and gives the turn
-//! back, with an entry where the layout was changed (`merge` and `carry_out` are several such calls). So all that
-//! sessions did stands in one list of entries, which exists in proofs alone. A call is answered as an engine of one
-//! thread answers it at one place of that list: on the history and the layout that the entries before come to
-//! (`Stepped` of `specs/Knowing`). Beside the lock transactions and views read, merges are made, and passes go on.
+//! One thread makes the calls of an `Engine`. For several threads `Store::new` puts the engine under a lock and makes
+//! sessions, one for each thread. Each call of a session takes the turn, makes one call of the engine, and gives the
+//! turn back, with an entry where the layout was changed. So all that sessions did stands in one list of entries,
+//! which exists in proofs alone. A call is answered as an engine of one thread answers it at one place of that list:
+//! on the history and the layout that the entries before come to (`Stepped` of `specs/Knowing`). Beside the lock
+//! transactions and views read, merges are made, and passes go on.
 //!
 //! A session knows a beginning of the list, which it has seen, and its own entries, which are all of its in the list.
 //! A note brings what one session has seen to another. `Store::close` gives back the engine, which stands for the
@@ -22,17 +22,19 @@ mod locked;
 mod mark;
 mod note;
 mod session;
+mod shop;
 mod store;
 
 pub use fails::StoreFail;
 pub use laws::{
-    an_opened_engine_is_whole, an_opened_engine_stands_for_no_steps, commits_are_numbered_once,
-    what_lasted_has_lasted, what_was_begun_stays_own,
+    a_session_may_move, an_opened_engine_is_whole, an_opened_engine_stands_for_no_steps,
+    commits_are_numbered_once, what_lasted_has_lasted, what_was_begun_stays_own,
 };
 pub use locked::{Locked, Origin};
 pub use mark::{Mark, Starts};
 pub use note::Note;
 pub use session::Session;
+pub use shop::{SureEngine, SureSession, SureStore};
 pub use store::Store;
 pub use vl_cache::Cached;
 pub use vl_collect::{Batch, Pass, PassFault};

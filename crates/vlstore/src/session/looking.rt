@@ -52,8 +52,8 @@ impl<D: Disk> Session<D> {
         answer
     }
 
-    /// What a merge and a pass read with. It keeps no block yet. One reader serves a whole merge or pass.
-    /// `NoMemory`: try again.
+    /// What a merge and a pass read with. It keeps no block yet. It is good for what the store has at this
+    /// moment: behind a rotation, a flush or an install take another. `NoMemory`: try again.
     pub fn reader<R: Wait>(
         &mut self,
         rt: &R,

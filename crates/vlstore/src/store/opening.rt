@@ -37,7 +37,7 @@ impl<D: Disk + Drop> Store<D> {
         ensures first { IfOk result (λ r. AreFirst r.0 0 r.1.items) }
     {
         let engine = Engine::open(alloc, disk, room)?;
-        match opened::<D, Brand>(alloc, engine, sessions) {
+        match Store::new(alloc, engine, sessions) {
             Ok(made) => Ok(made),
             Err(StoreFail::NoMemory(engine)) => Err(OpenFail {
                 why: OpenError::NoMemory,

@@ -4,7 +4,7 @@ use Rattle.vl_layout.specs.Store.Commits.{AreProper}
 use Rattle.vl_sequential.specs.Trial.{EndsTrial, begun}
 use Rattle.vl_sequential.specs.Trying.{trial_of}
 use Rattle.vl_sequential.specs.declared.words.Command.{Command}
-use Rattle.vl_sequential.specs.declared.words.Command.TheVariants.{Replay, Trial}
+use Rattle.vl_sequential.specs.declared.words.Command.TheVariants.{Bench, Replay, Trial}
 use Rattle.vl_script.specs.Script.{lines_of}
 use Rattle.vl_sequential.specs.Endings.{CountsFaultsOf, TheDisk, TheSource, TheSink, status_of, usage_line}
 use Rattle.vl_disk.specs.Faults.{Rose}
@@ -16,6 +16,9 @@ use Rattle.vl_sequential.specs.declared.ending.Ending.TheVariants.{Damaged, Read
 use Rattle.vl_sequential.specs.declared.fails.Refusal.{Refusal}
 use Rattle.vl_sequential.specs.laws.WordLaws.{disk_steady, rose_or_unread, source_status, sink_status, is_refused, is_bad_words}
 use Rattle.vl_sequential.specs.laws.WordLaws.{rose_by, steady_by, refused_status, refused_rose, refused_steady}
+use Rattle.vl_sequential.specs.declared.ending.Ending.{Ending}
+use Rattle.vl_replay.specs.Benchmark.{PrintsSummary, summary_of}
+use Rattle.vl_replay.proofs.Benchmarks.{bench_ends}
 use Rattle.vl_replay.proofs.command_line.run.Goals as goal
 
 -- the store on an empty disk has no commits
@@ -54,6 +57,29 @@ same_trial stop n outcome other is found asked = apart n stop other outcome (sym
   where
     apart : (a b : ℕ) (o p : Outcome) → Some (Trial a o) ≡ Some (Trial b p) → (a ≡ b) × (o ≡ p)
     apart a b o p e = (cc, cc)
+
+-- the words ask for one command
+one_asked : {o p : Option Command} (command other : Command) → o ≡ p → o ≡ Some command → p ≡ Some other → command ≡ other
+one_asked command other is found asked = of command other (sym found ∙ is ∙ asked)
+  where
+    of : (a b : Command) → Some a ≡ Some b → a ≡ b
+    of a b e = cc
+
+no_replay : (seed count : ℕ) → Bench seed count ≡ Replay → ⊥
+no_replay seed count e = cc
+
+no_trial_asked : (seed count stop : ℕ) (outcome : Outcome) → Bench seed count ≡ Trial stop outcome → ⊥
+no_trial_asked seed count stop outcome e = cc
+
+no_bench : (seed count : ℕ) → Replay ≡ Bench seed count → ⊥
+no_bench seed count e = cc
+
+no_bench_tried : (stop seed count : ℕ) (outcome : Outcome) → Trial stop outcome ≡ Bench seed count → ⊥
+no_bench_tried stop seed count outcome e = cc
+
+same_bench : (seed count other_seed other_count : ℕ) → Bench seed count ≡ Bench other_seed other_count
+    → (seed ≡ other_seed) × (count ≡ other_count)
+same_bench seed count other_seed other_count e = (cc, cc)
 
 below : (n m : ℕ) → n < 6 → 6 ≤ m → n ≢ m
 below n m less le e = omega arith
@@ -185,6 +211,11 @@ pub returns-in-Some-Replay-clause-no_fault_in_trial : goal.returns-in-Some-Repla
 returns-in-Some-Replay-clause-no_fault_in_trial g c stop outcome asked = absurd
     (no_trial stop outcome c.command_in.ensures (c.in-Some-Replay.is ∙ ap Some c.in-Some-Replay.field-0-is) asked)
 
+pub returns-in-Some-Replay-clause-benches : goal.returns-in-Some-Replay-clause-benches
+returns-in-Some-Replay-clause-benches g c seed count asked = absurd
+    (no_bench seed count
+    (one_asked Replay (Bench seed count) c.command_in.ensures (c.in-Some-Replay.is ∙ ap Some c.in-Some-Replay.field-0-is) asked))
+
 pub returns-in-Some-Replay-clause-again : goal.returns-in-Some-Replay-clause-again
 returns-in-Some-Replay-clause-again g c s input starts told = c.replay-ending.ensures.again s input starts told
 
@@ -252,6 +283,9 @@ returns-in-None-clause-input g c plain = absurd (none_asked Replay c.command_in.
 pub returns-in-None-clause-tries : goal.returns-in-None-clause-tries
 returns-in-None-clause-tries g c stop outcome input asked = absurd (none_asked (Trial stop outcome) c.command_in.ensures c.in-None.is asked)
 
+pub returns-in-None-clause-benches : goal.returns-in-None-clause-benches
+returns-in-None-clause-benches g c seed count asked = absurd (none_asked (Bench seed count) c.command_in.ensures c.in-None.is asked)
+
 pub returns-in-None-clause-untouched : goal.returns-in-None-clause-untouched
 returns-in-None-clause-untouched g c stop outcome asked = refl
 
@@ -278,6 +312,12 @@ returns-in-Some-Trial-clause-tries g c stop outcome input asked told =
           (g.K.Sink.held c.trial.new.sink) (g.S.Source.left c.trial.new.source) c.trial.result) same.1
           (c.trial.ensures.ends input told)),
     )
+
+pub returns-in-Some-Trial-clause-benches : goal.returns-in-Some-Trial-clause-benches
+returns-in-Some-Trial-clause-benches g c seed count asked = absurd
+    (no_bench_tried c.in-Some-Trial.stop seed count c.in-Some-Trial.outcome
+    (one_asked (Trial c.in-Some-Trial.stop c.in-Some-Trial.outcome) (Bench seed count) c.command_in.ensures
+    (c.in-Some-Trial.is ∙ ap Some c.in-Some-Trial.field-0-is) asked))
 
 pub returns-in-Some-Trial-clause-explained : goal.returns-in-Some-Trial-clause-explained
 returns-in-Some-Trial-clause-explained g c s input starts = all_explained
@@ -354,3 +394,112 @@ pub returns-in-Some-Trial-clause-input : goal.returns-in-Some-Trial-clause-input
 returns-in-Some-Trial-clause-input g c asked = absurd
     (other_asked c.in-Some-Trial.stop c.in-Some-Trial.outcome c.command_in.ensures
     (c.in-Some-Trial.is ∙ ap Some c.in-Some-Trial.field-0-is) asked)
+
+-- ---- a benchmark
+
+pub returns-in-Some-Bench-clause-benches : goal.returns-in-Some-Bench-clause-benches
+returns-in-Some-Bench-clause-benches g c seed count asked =
+    let same = same_bench c.in-Some-Bench.seed c.in-Some-Bench.count seed count
+    (one_asked (Bench c.in-Some-Bench.seed c.in-Some-Bench.count) (Bench seed count) c.command_in.ensures
+    (c.in-Some-Bench.is ∙ ap Some c.in-Some-Bench.field-0-is) asked) in (
+      refl,
+      refl,
+      (
+        c.bench.result,
+        c.status-status-in-Some-Bench.ensures,
+        subst (λ (n : ℕ). PrintsSummary g.K.Sink (summary_of n count) c.args.sink.now c.bench.new.sink c.bench.result) same.0
+            (subst (λ (n : ℕ). PrintsSummary g.K.Sink (summary_of c.in-Some-Bench.seed n) c.args.sink.now c.bench.new.sink
+            c.bench.result) same.1 c.bench.ensures.prints),
+      ),
+    )
+
+pub returns-in-Some-Bench-clause-answers : goal.returns-in-Some-Bench-clause-answers
+returns-in-Some-Bench-clause-answers g c asked = absurd
+    (no_replay c.in-Some-Bench.seed c.in-Some-Bench.count
+    (one_asked (Bench c.in-Some-Bench.seed c.in-Some-Bench.count) Replay c.command_in.ensures
+    (c.in-Some-Bench.is ∙ ap Some c.in-Some-Bench.field-0-is) asked))
+
+pub returns-in-Some-Bench-clause-tries : goal.returns-in-Some-Bench-clause-tries
+returns-in-Some-Bench-clause-tries g c stop outcome input asked = absurd
+    (no_trial_asked c.in-Some-Bench.seed c.in-Some-Bench.count stop outcome
+    (one_asked (Bench c.in-Some-Bench.seed c.in-Some-Bench.count) (Trial stop outcome) c.command_in.ensures
+    (c.in-Some-Bench.is ∙ ap Some c.in-Some-Bench.field-0-is) asked))
+
+pub returns-in-Some-Bench-clause-explained : goal.returns-in-Some-Bench-clause-explained
+returns-in-Some-Bench-clause-explained g c s input starts = all_explained c.reads_without_conflict_stay_explained.ensures
+    g.D.Watched c.args.disk s (lines_of input) starts
+
+pub returns-in-Some-Bench-clause-explained_in_trial : goal.returns-in-Some-Bench-clause-explained_in_trial
+returns-in-Some-Bench-clause-explained_in_trial g c input = explained_from c.reads_without_conflict_stay_explained.ensures
+    begun (lines_of input) empty_proper refl
+
+pub returns-in-Some-Bench-clause-no_usage_line : goal.returns-in-Some-Bench-clause-no_usage_line
+returns-in-Some-Bench-clause-no_usage_line g c command plain is = absurd
+    (bench_ends g.K.Sink _ _ _ c.bench.result (λ (e : Ending). status_of e ≢ 2) c.bench.ensures.prints (λ e. omega arith) (λ e. omega arith)
+    (λ e. omega arith) (sym c.status-status-in-Some-Bench.ensures ∙ is))
+
+pub returns-in-Some-Bench-clause-not_plain : goal.returns-in-Some-Bench-clause-not_plain
+returns-in-Some-Bench-clause-not_plain g c other = absurd
+    (is_asked (Bench c.in-Some-Bench.seed c.in-Some-Bench.count) c.command_in.ensures
+    (c.in-Some-Bench.is ∙ ap Some c.in-Some-Bench.field-0-is) other)
+
+pub returns-in-Some-Bench-clause-untouched : goal.returns-in-Some-Bench-clause-untouched
+returns-in-Some-Bench-clause-untouched g c stop outcome asked = refl
+
+pub returns-in-Some-Bench-clause-no_fault_in_trial : goal.returns-in-Some-Bench-clause-no_fault_in_trial
+returns-in-Some-Bench-clause-no_fault_in_trial g c stop outcome asked = absurd
+    (no_trial_asked c.in-Some-Bench.seed c.in-Some-Bench.count stop outcome
+    (one_asked (Bench c.in-Some-Bench.seed c.in-Some-Bench.count) (Trial stop outcome) c.command_in.ensures
+    (c.in-Some-Bench.is ∙ ap Some c.in-Some-Bench.field-0-is) asked))
+
+pub returns-in-Some-Bench-clause-disk_fault : goal.returns-in-Some-Bench-clause-disk_fault
+returns-in-Some-Bench-clause-disk_fault g c is = absurd
+    (bench_ends g.K.Sink _ _ _ c.bench.result (λ (e : Ending). status_of e ≢ 3) c.bench.ensures.prints (λ e. omega arith) (λ e. omega arith)
+    (λ e. omega arith) (sym c.status-status-in-Some-Bench.ensures ∙ is))
+
+pub returns-in-Some-Bench-clause-reader_fault : goal.returns-in-Some-Bench-clause-reader_fault
+returns-in-Some-Bench-clause-reader_fault g c s starts is = absurd
+    (bench_ends g.K.Sink _ _ _ c.bench.result (λ (e : Ending). status_of e ≢ 3) c.bench.ensures.prints (λ e. omega arith) (λ e. omega arith)
+    (λ e. omega arith) (sym c.status-status-in-Some-Bench.ensures ∙ is))
+
+pub returns-in-Some-Bench-clause-no_disk_fault : goal.returns-in-Some-Bench-clause-no_disk_fault
+returns-in-Some-Bench-clause-no_disk_fault g c other whole = refl
+
+pub returns-in-Some-Bench-clause-refused : goal.returns-in-Some-Bench-clause-refused
+returns-in-Some-Bench-clause-refused g c asked is = absurd
+    (no_replay c.in-Some-Bench.seed c.in-Some-Bench.count
+    (one_asked (Bench c.in-Some-Bench.seed c.in-Some-Bench.count) Replay c.command_in.ensures
+    (c.in-Some-Bench.is ∙ ap Some c.in-Some-Bench.field-0-is) asked))
+
+pub returns-in-Some-Bench-clause-refuses : goal.returns-in-Some-Bench-clause-refuses
+returns-in-Some-Bench-clause-refuses g c asked = absurd
+    (no_replay c.in-Some-Bench.seed c.in-Some-Bench.count
+    (one_asked (Bench c.in-Some-Bench.seed c.in-Some-Bench.count) Replay c.command_in.ensures
+    (c.in-Some-Bench.is ∙ ap Some c.in-Some-Bench.field-0-is) asked))
+
+pub returns-in-Some-Bench-clause-read_fault : goal.returns-in-Some-Bench-clause-read_fault
+returns-in-Some-Bench-clause-read_fault g c is = absurd
+    (bench_ends g.K.Sink _ _ _ c.bench.result (λ (e : Ending). status_of e ≢ 6) c.bench.ensures.prints (λ e. omega arith) (λ e. omega arith)
+    (λ e. omega arith) (sym c.status-status-in-Some-Bench.ensures ∙ is))
+
+pub returns-in-Some-Bench-clause-write_fault : goal.returns-in-Some-Bench-clause-write_fault
+returns-in-Some-Bench-clause-write_fault g c is = rose_by TheSink 7 sink_status c.bench.result _ _
+    c.bench.ensures.sink_faults (sym c.status-status-in-Some-Bench.ensures ∙ is)
+
+pub returns-in-Some-Bench-clause-no_stream_fault : goal.returns-in-Some-Bench-clause-no_stream_fault
+returns-in-Some-Bench-clause-no_stream_fault g c less =
+    let ending = c.bench.result in
+    let small : status_of ending < 6 = subst (λ (n : ℕ). n < 6) c.status-status-in-Some-Bench.ensures less in (
+      refl,
+      steady_by TheSink 7 sink_status ending _ _ c.bench.ensures.sink_faults
+          (below (status_of ending) 7 small (omega arith)) (below (status_of ending) 7 small (omega arith)),
+    )
+
+pub returns-in-Some-Bench-clause-again : goal.returns-in-Some-Bench-clause-again
+returns-in-Some-Bench-clause-again g c s input starts told may = may
+
+pub returns-in-Some-Bench-clause-input : goal.returns-in-Some-Bench-clause-input
+returns-in-Some-Bench-clause-input g c asked = absurd
+    (no_replay c.in-Some-Bench.seed c.in-Some-Bench.count
+    (one_asked (Bench c.in-Some-Bench.seed c.in-Some-Bench.count) Replay c.command_in.ensures
+    (c.in-Some-Bench.is ∙ ap Some c.in-Some-Bench.field-0-is) asked))

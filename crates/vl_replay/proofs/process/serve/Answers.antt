@@ -17,6 +17,7 @@ returns-clause-served g c =
         answers = ran.answers;
         input = ran.input;
         tries = ran.tries;
+        benches = ran.benches;
         not_plain = ran.not_plain;
         no_usage_line = ran.no_usage_line;
         disk_fault = ran.disk_fault;

@@ -1,6 +1,5 @@
-use Rattle.vlstore.specs.Standing.{NeverFails}
 use Rattle.vlstore.proofs.First.{no_steps}
 use Rattle.vlstore.proofs.laws.an_opened_engine_stands_for_no_steps.Goals as goal
 
 pub returns : goal.returns
-returns g c = no_steps g.D.Held.HeldFile.bytes (NeverFails g.D.Watched.faults g.D.Reader.Reader.faults g.D.Writer.Writer.faults)
+returns g c = no_steps g.H.HeldFile.bytes

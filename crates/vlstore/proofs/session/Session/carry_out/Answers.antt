@@ -51,8 +51,9 @@ returns-then-not-branch-clause-under_way g c =
 pub returns-then-not-branch-clause-handed : goal.returns-then-not-branch-clause-handed
 returns-then-not-branch-clause-handed g c =
     let inv = c.making.invariant in
-    all_made g.D.Writer.Writer g.D.Held.HeldFile.bytes c.making.self c.making.job c.ready.new.self inv.way c.ready.ensures.kept
-    (λ told. (c.in_ok-ready.ensures.answers inv.way.planned (inv.fits told) (inv.way.has_merge told)).state)
+    all_made g.D.Writer.Writer g.D.Held.HeldFile.bytes c.making.self c.ready.new.self
+    (asked_way g.D.Writer.Writer g.D.Held.HeldFile.bytes c.making.self c.making.job c.ready.new.self inv.way c.ready.ensures.kept
+    (λ told. (c.in_ok-ready.ensures.answers inv.way.planned (inv.fits told) (inv.way.has_merge told)).state))
     (c.in_ok-ready.ensures.asked.1 c.if-not-branch.true)
     (λ told. (c.in_ok-ready.ensures.answers inv.way.planned (inv.fits told) (inv.way.has_merge told)).all c.if-not-branch.true)
 

@@ -51,6 +51,6 @@ returns-in-Ok-clause-undamaged g c h l stands lasts there =
 
 pub returns-in-Ok-clause-cause : goal.returns-in-Ok-clause-cause
 returns-in-Ok-clause-cause g c surely name at =
-    move_unfailing g.D.Watched.faults g.D.Reader.Reader.faults g.D.Writer.Writer.faults c.args.engine.now.disk
-    c.relocate.new.self.disk c.in-Ok.reader.looks.reader c.relocate.new.looks.reader c.args.engine.now.core.front.log.number c.relocate.result
+    move_unfailing g.D.Watched.faults g.D.Reader.Reader.faults c.args.engine.now.disk c.relocate.new.self.disk
+    c.in-Ok.reader.looks.reader c.relocate.new.looks.reader c.args.engine.now.core.front.log.number c.relocate.result
     c.relocate.ensures.cause surely name at

@@ -22,7 +22,7 @@ returns-in-Ok-clause-engine g c =
     subst (λ (u : Knows). Left bytes sure u x) c.self.view_is
     (record {
       list = list;
-      stands = over c.in-Ok.ensures.ok
+      stands = over c.in-Ok.ensures
           (λ (k : _). Stands bytes sure (lock_start k).origin.me.0 (is_some (g.D.Watched.told (lock_start k).engine.disk)) list x)
           ends.meaning.1;
       seen = ends.later;

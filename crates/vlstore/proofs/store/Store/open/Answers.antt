@@ -5,8 +5,8 @@ use Rattle.vlstore.specs.Standing.{NeverFails, parts}
 use Rattle.vlstore.proofs.First.{no_steps, none_told}
 use Rattle.vlstore.proofs.store.Store.open.Goals as goal
 
-pub opened-requires : goal.opened-requires
-opened-requires g c =
+pub new-requires : goal.new-requires
+new-requires g c =
     let engine = c.in_ok-engine.engine in
     no_steps g.D.Held.HeldFile.bytes (NeverFails g.D.Watched.faults g.D.Reader.Reader.faults g.D.Writer.Writer.faults) new_origin
     (is_some (g.D.Watched.told engine.disk))
