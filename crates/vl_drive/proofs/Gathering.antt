@@ -3,12 +3,14 @@ use Rattle.std.proofs.Common.{◌≡◌, inl, inr, ℕ, suc, ◌+◌, ◌^◌, �
 use Rattle.std.proofs.lemmas.Bool.{false≢true}
 use Rattle.std.specs.Prelude.{IfErr, IfOk, OnOk, Option, None, Some, Result, Ok, Err, slice_index_or}
 use Rattle.std.specs.List.{AllByRecursion, AllZip}
+use Rattle.vl_drive.proofs.Modesty.{idle_modest, idle_new, modest_more}
 use Rattle.vl_drive.proofs.Playing.{on_itself, on_then, trouble_since}
 use Rattle.atomic_table.specs.Seated.{TableId}
 use Rattle.vl_drive.specs.Clients.{AreDriven, HasOpened, HasPlayed, IsNewAt, count_all}
 use Rattle.vl_drive.specs.Knowing.{GoesOn, Knows}
+use Rattle.vl_drive.specs.Modest.{AreModest, IsModest}
 use Rattle.vl_drive.specs.Numbers.{transfer_in}
-use Rattle.vl_drive.specs.Players.{AreReady, AreSeated, Gathers, HasActed, HasEnd, IsCauseOfOne, IsFew, IsSeated, IsStopped, KeepsUp, all_commits, all_conflicts}
+use Rattle.vl_drive.specs.Players.{AreReady, AreSeated, Gathers, HasActed, HasEnd, IsCauseOfOne, IsFew, IsSeated, IsStopped, KeepsUp, LeavesModest, all_commits, all_conflicts}
 use Rattle.vl_drive.specs.Players.{IsLast, commits_of, conflicts_of, is_done, is_fault, last_of, shop_of}
 use Rattle.vl_drive.specs.Playing.{HasScored, IsCause, IsTrouble}
 use Rattle.vl_drive.specs.Steps.{is_ended, is_put}
@@ -78,6 +80,21 @@ module _ {S : Type 0} (knows : S → Knows) (txns seed : ℕ) where
   all_on client (u ∷ vs) v (p ∷ ps) last [] seated keeps zip = absurd zip
   all_on client (u ∷ vs) v (p ∷ ps) last (q ∷ qs) seated keeps zip =
       (on_then u (knows p.shop) (knows q.shop) seated.0.on zip.0.on, all_on (client + 1) vs v ps last qs seated.1 keeps zip.1)
+
+  -- ---- all are modest
+
+  pub all_modest : (client : ℕ) (vs : List Knows) (v : Knows) (ps : List (Player S)) (last : Player S) (qs : List (Player S))
+      → AreSeated knows client vs ps → KeepsUp knows v last → AllZip (HasActed knows txns seed) (ps ++ last ∷ []) qs
+      → AreModest txns (known knows qs)
+  all_modest client [] v [] last [] seated keeps zip = absurd zip
+  all_modest client [] v [] last (q ∷ []) seated keeps zip =
+      (zip.0.still_modest keeps.keeps (modest_more 0 txns (knows last.shop) (omega arith) keeps.modest), tt)
+  all_modest client [] v [] last (q ∷ r ∷ qs) seated keeps zip = absurd zip.1
+  all_modest client [] v (p ∷ ps) last qs seated keeps zip = absurd seated
+  all_modest client (u ∷ vs) v [] last qs seated keeps zip = absurd seated
+  all_modest client (u ∷ vs) v (p ∷ ps) last [] seated keeps zip = absurd zip
+  all_modest client (u ∷ vs) v (p ∷ ps) last (q ∷ qs) seated keeps zip =
+      (zip.0.modest seated.0.plays seated.0.own, all_modest (client + 1) vs v ps last qs seated.1 keeps zip.1)
 
   -- ---- all have ended well
 
@@ -222,6 +239,16 @@ module _ {S : Type 0} (knows : S → Knows) (store : TableId) where
   new_last [] x all = all.0
   new_last (y ∷ ys) x all = new_last ys x all.1
 
+  pub new_modest : (turns : ℕ) (xs : List S) → AllByRecursion (IsNewAt store) (map knows xs) → AreModest turns (map knows xs)
+  new_modest turns [] all = tt
+  new_modest turns (x ∷ xs) all =
+      (modest_more 0 turns (knows x) (omega arith) (idle_modest 0 (knows x) (idle_new (knows x) all.0.own)), new_modest turns xs all.1)
+
+pub modest_last : {S : Type 0} (knows : S → Knows) (turns : ℕ) (xs : List S) (x : S) → AreModest turns (map knows xs)
+    → IsModest turns (knows x) → AreModest turns (map knows (xs ++ x ∷ []))
+modest_last knows turns [] x all is = (is, tt)
+modest_last knows turns (y ∷ ys) x all is = (all.0, modest_last knows turns ys x all.1 is)
+
 -- ---- behind them
 
 few_end : (txns : ℕ) → txns < 2 ^ 32 → (end : Result Score Trouble) → IfOk end (λ (s : Score). s.commits + s.conflicts ≤ txns)
@@ -244,6 +271,7 @@ module _ {S : Type 0} (knows : S → Knows) (txns seed : ℕ) (vs : List Knows) 
     keeps = ready.4.keeps;
     on = on_then v u (knows ready.1.shop) on ready.4.on;
     opened = ready.4.opened;
+    modest = ready.4.modest;
   }
 
   parted : AllZip (HasActed knows txns seed) (ready.0 ++ ready.1 ∷ []) qs
@@ -270,6 +298,16 @@ module _ {S : Type 0} (knows : S → Knows) (txns seed : ℕ) (vs : List Knows) 
       → IfErr result (IsStopped knows (vs ++ v ∷ []))
   end_stopped (Ok r) gathers = gathers
   end_stopped (Err fail) gathers = stopped_as fail gathers
+
+  left_modest : (fail : DriveFail S) → Gathers qs fail → LeavesModest knows txns fail
+  left_modest fails.NoMemory gathers = tt
+  left_modest (fails.Stopped shops why) gathers =
+      subst (AreModest txns) (sym (ap (map knows) gathers.0)) (all_modest knows txns seed 0 vs v ready.0 ready.1 qs ready.3 keeps parted)
+
+  pub end_modest : {A : Type 0} (result : Result A (DriveFail S)) → IfErr result (Gathers qs)
+      → IfErr result (LeavesModest knows txns)
+  end_modest (Ok r) gathers = gathers
+  end_modest (Err fail) gathers = left_modest fail gathers
 
 -- ---- sure shops
 

@@ -1,8 +1,9 @@
 mod Balances
 mod Counts
-mod Driven
 mod Gathering
 mod Keeping
+mod Modest
+mod Modesty
 mod Playing
 mod Prefixes
 mod Scoring
@@ -10,3 +11,5 @@ mod Small
 mod Sums
 mod Trying
 mod Turning
+mod WholeList
+mod WholeStore

@@ -63,3 +63,27 @@ sum-shared f g each (suc n) shared =
     let rest = sum-shared f g each n (λ k less. shared k (omega (arith, less))) in
     let here = shared n (omega arith) in
     omega (arith, rest, here)
+
+-- fewer come to at most as much
+pub sum-of-fewer : (f : ℕ → ℕ) (m n : ℕ) → m ≤ n → sum_of f m ≤ sum_of f n
+sum-of-fewer f m zero less = let same : m ≡ zero = omega (arith, less) in let here = ap (sum_of f) same in omega (arith, here)
+sum-of-fewer f m (suc n) less = by_test (m == suc n) refl (λ below. sum-of-fewer f m n below)
+  where
+    by_test : (b : Bool) → (m == suc n) ≡ b → (m ≤ n → sum_of f m ≤ sum_of f n) → sum_of f m ≤ f n + sum_of f n
+    by_test true is rest = let same : m ≡ suc n = grind (arith, nat_tests) in let here = ap (sum_of f) same in omega (arith, here)
+    by_test false is rest =
+        let below : m ≤ n = grind (arith, nat_tests, less, is) in
+        let there = rest below in
+        omega (arith, there)
+
+-- one more
+pub sum-fits : (f : ℕ → ℕ) (k n bound sum one : ℕ) → k < n → sum_of f n < bound → sum ≡ sum_of f k → one ≡ f k → sum + one < bound
+sum-fits f k n bound sum one less fits is here =
+    let most = sum-of-fewer f (suc k) n (omega (arith, less)) in
+    omega (arith, most, fits, is, here)
+
+pub sum-next : (f : ℕ → ℕ) (k sum one : ℕ) → sum ≡ sum_of f k → one ≡ f k → sum + one ≡ sum_of f (k + 1)
+sum-next f k sum one is here =
+    let up : k + 1 ≡ suc k = omega arith in
+    let same = ap (sum_of f) up in
+    omega (arith, is, here, same)

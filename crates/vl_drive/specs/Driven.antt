@@ -6,16 +6,18 @@ use Rattle.vl_drive.specs.Knowing.{Knows}
 use Rattle.vl_drive.specs.Numbers.{transfer_in}
 use Rattle.vl_drive.specs.Steps.{Origin, count_by, history_by, is_end, is_ended, is_put}
 use Rattle.vl_drive.specs.Turns.{AreTurns, IsOpenedBy}
+use Rattle.vl_drive.specs.declared.running.Driven.{Driven}
 use Rattle.vl_layout.specs.LockHistory.{IsLegal, entries_by}
 use Rattle.vl_layout.specs.declared.lock_history.LockEntry.{LockEntry}
 use Rattle.vl_model.specs.History.{last_number}
 use mathlib.Core.List.{IsPrefix}
 
--- The sessions below `clients` each took so many turns, and the session with that number made the first commit. The
+-- The list is lawful. The sessions below `clients` each took so many turns, and the session with that number made the first commit. The
 -- commits are the clients' commits in the list, and the conflicts what they ended there without one; each end is its
 -- turn's. Both together are all turns.
 -- The store's number and the sum of all balances are as they must be then.
 pub record IsDriven (o : Origin) (clients txns seed commits conflicts : ℕ) (list : List LockEntry) : Type 0 where
+  pub legal : IsLegal o.number list
   pub opened : IsOpenedBy clients list
   pub turns : (client : ℕ) → client < clients → AreTurns o (transfer_in seed client) client list
   pub each : (client : ℕ) → client < clients → count_by is_end client list ≡ txns
@@ -24,6 +26,14 @@ pub record IsDriven (o : Origin) (clients txns seed commits conflicts : ℕ) (li
   pub both : commits + conflicts ≡ clients * txns
   pub number : last_number (history_by o list) ≡ o.number + commits + 1
   pub total : total_after (history_by o list) ≡ 64000
+
+-- So it was for some list of all steps of a store that had no commit before, and the sum of all balances in the end was read.
+pub record HasDriven (clients txns seed : ℕ) (d : Driven) : Type 0 where
+  pub origin : Origin
+  pub list : List LockEntry
+  pub new : origin.number ≡ 0
+  pub driven : IsDriven origin clients txns seed d.commits d.conflicts list
+  pub total : d.total ≡ total_after (history_by origin list)
 
 -- What each has seen begins the list, and its own steps are all of its in the list. The sessions count from this number on.
 abbrev pub AreIn : Origin → (session : ℕ) → List LockEntry → List Knows → Type 0

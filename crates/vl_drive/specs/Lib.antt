@@ -5,8 +5,10 @@ pub mod Driven
 pub mod Entries
 pub mod Knowing
 pub mod laws
+pub mod Modest
 pub mod Numbers
 pub mod Players
 pub mod Playing
 pub mod Steps
+pub mod Stores
 pub mod Turns

@@ -4,6 +4,7 @@ use Rattle.std.specs.Prelude.{IfErr, IfOk, Result, Ok, Err, Option, None, Some}
 use Rattle.std.specs.List.{AllByRecursion, AllZip}
 use Rattle.vl_drive.specs.Clients.{HasOpened}
 use Rattle.vl_drive.specs.Knowing.{GoesOn, Knows}
+use Rattle.vl_drive.specs.Modest.{AreModest, IsModest}
 use Rattle.vl_drive.specs.Numbers.{transfer_in}
 use Rattle.vl_drive.specs.Playing.{HasScored, IsCause, IsTrouble}
 use Rattle.vl_drive.specs.declared.client.Score.{Score}
@@ -37,6 +38,11 @@ module _ {S : Type 0} (knows : S → Knows) where
   IsStopped vs (fails.Stopped shops why) =
       AllZip GoesOn vs (map knows shops.items) × IsCauseOfOne why vs (map knows shops.items)
 
+  -- and are modest
+  abbrev pub LeavesModest : (turns : ℕ) → DriveFail S → Type 0
+  LeavesModest turns fails.NoMemory = Unit {0}
+  LeavesModest turns (fails.Stopped shops why) = AreModest turns (map knows shops.items)
+
   -- ---- players
 
   -- a client before its first turn, with what it knew when it was handed in
@@ -58,6 +64,7 @@ module _ {S : Type 0} (knows : S → Knows) where
     pub keeps : p.keeps_up ≡ true
     pub on : GoesOn v (knows p.shop)
     pub opened : HasOpened (knows p.shop)
+    pub modest : IsModest 0 (knows p.shop)
 
   -- clients, and behind them the one that keeps up
   abbrev pub AreReady : (vs : List Knows) → Knows → List (Player S) → Type 0
@@ -71,6 +78,8 @@ module _ {S : Type 0} (knows : S → Knows) where
         → IfOk q.end (λ score. HasScored (transfer_in seed p.client) txns score.commits score.conflicts (knows q.shop))
     pub kept_up : p.keeps_up ≡ true → HasOpened (knows p.shop)
         → IfOk q.end (λ score. (score.commits ≡ 0) × (score.conflicts ≡ 0) × HasOpened (knows q.shop))
+    pub modest : p.keeps_up ≡ false → (knows p.shop).own ≡ [] → IsModest txns (knows q.shop)
+    pub still_modest : p.keeps_up ≡ true → IsModest txns (knows p.shop) → IsModest txns (knows q.shop)
     pub count : IfOk q.end (λ score. score.commits + score.conflicts ≤ txns)
     pub trouble : IfErr q.end (IsTrouble (knows p.shop) (knows q.shop))
 

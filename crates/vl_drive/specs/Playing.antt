@@ -2,6 +2,7 @@
 use Rattle.std.specs.Prelude.{◌≡◌, ◌<◌, ℕ, ◌+◌, Bool, true, false, List, [], ◌∷◌, ◌++◌, None, Some}
 use Rattle.vl_drive.specs.Clients.{HasPlayed}
 use Rattle.vl_drive.specs.Knowing.{GoesOn, IsOwnTicket, Knows}
+use Rattle.vl_drive.specs.Modest.{IsBusy, IsIdle}
 use Rattle.vl_drive.specs.Steps.{AreBy, Origin, count_by, history_by, is_aside, is_end, is_ended, is_put, layout_by}
 use Rattle.vl_drive.specs.Turns.{EndsTurn, InTurn}
 use Rattle.vl_drive.specs.declared.committing.Tried.{Tried}
@@ -93,6 +94,11 @@ pub record HasEnded (txn : Transaction) (committed : Bool) (v w : Knows) : Type 
 abbrev pub HasTried : {T : Type 0} → T → Transaction → (v w : Knows) → Tried T → Type 0
 HasTried txn asked v w (tried.Ended committed) = HasEnded asked committed v w
 HasTried txn asked v w (tried.Again back) = (back ≡ txn) × Waits v w × IsOwnTicket w asked.ticket asked.number
+
+-- what of the session's own is open behind that try
+abbrev pub StaysModest : {T : Type 0} → (ticket number turns : ℕ) → Knows → Tried T → Type 0
+StaysModest ticket number turns w (tried.Ended committed) = IsIdle (turns + 1) w
+StaysModest ticket number turns w (tried.Again back) = IsBusy ticket number turns w
 
 -- A turn was taken: it was begun behind steps among which were all of the session's own.
 pub record HasTaken (t : Transfer) (committed : Bool) (v w : Knows) : Type 0 where

@@ -1,3 +1,4 @@
+pub mod ModestLaws
 pub mod SinceLaws
 pub mod StepLaws
 pub mod TurnLaws

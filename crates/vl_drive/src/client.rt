@@ -1,8 +1,9 @@
 //! A client's turns.
-ghost use Rattle.std.specs.Prelude.{◌≡◌, ◌≢◌, ◌<◌, ◌+◌, ◌++◌, ◌∷◌, [], ℕ, List, IfErr, IfOk, OnOk, true};
+ghost use Rattle.std.specs.Prelude.{◌≡◌, ◌≢◌, ◌<◌, ◌+◌, ◌++◌, ◌∷◌, [], ℕ, List, IfErr, IfOk, OnErr, OnOk, true};
 ghost use Rattle.std.specs.FinMap.{empty, entries};
 ghost use Rattle.vl_drive.specs.Accounts.{IsSmall, account_key, balance_in, with_balance};
 ghost use Rattle.vl_drive.specs.Knowing.{GoesOn, IsOwnTicket, Looks};
+ghost use Rattle.vl_drive.specs.Modest.{IsBusy, IsIdle, IsModest};
 ghost use Rattle.vl_drive.specs.Numbers.{number_in_turn, transfer_of};
 ghost use Rattle.vl_drive.specs.Playing.{HasBegun, HasScored, HasTaken, IsTrouble};
 ghost use Rattle.vl_drive.specs.Steps.{history_by};
@@ -39,6 +40,7 @@ pub(crate) fn play<R: Wait, S: Shop, G: Gate>(
     ensures scored { (S.knows shop.old).own ≡ [] → IfOk result (λ score.
         HasScored (λ turn. transfer_of (number_in_turn seed turn)) txns score.commits score.conflicts (S.knows shop.new)) }
     ensures count { IfOk result (λ score. score.commits + score.conflicts ≡ txns) }
+    ensures modest { (S.knows shop.old).own ≡ [] → IsModest txns (S.knows shop.new) }
     ensures trouble { IfErr result (IsTrouble (S.knows shop.old) (S.knows shop.new)) }
 {
     let mut score = Score {
@@ -69,6 +71,8 @@ fn take_turn<R: Wait, S: Shop, G: Gate>(
     requires two { transfer.from ≢ transfer.to }
     ensures on { GoesOn (S.knows shop.old) (S.knows shop.new) }
     ensures taken { IfOk result (λ committed. HasTaken transfer committed (S.knows shop.old) (S.knows shop.new)) }
+    ensures idle { (turns : ℕ) → IsIdle turns (S.knows shop.old) → OnOk result (IsIdle (turns + 1) (S.knows shop.new)) }
+    ensures modest { (turns : ℕ) → IsIdle turns (S.knows shop.old) → OnErr result (IsModest turns (S.knows shop.new)) }
     ensures trouble { IfErr result (IsTrouble (S.knows shop.old) (S.knows shop.new)) }
 {
     let mut txn = begin(rt, shop)?;
@@ -91,6 +95,9 @@ pub(crate) fn begin<R: Wait, S: Shop>(rt: &R, shop: &mut S) -> Result<S::Txn, Tr
     ensures own { IfOk result (λ txn. IsOwnTicket (S.knows shop.new) (S.ticket txn) (S.number txn)) }
     ensures sees { IfOk result (λ txn. S.sees txn (history_by (S.knows shop.new).origin (S.knows shop.new).seen) []) }
     ensures new { IfOk result (λ txn. S.writes txn ≡ empty) }
+    ensures busy { (turns : ℕ) → IsIdle turns (S.knows shop.old)
+        → IfOk result (λ txn. IsBusy (S.ticket txn) (S.number txn) turns (S.knows shop.new)) }
+    ensures modest { (turns : ℕ) → IsIdle turns (S.knows shop.old) → OnErr result (IsModest turns (S.knows shop.new)) }
     ensures trouble { IfErr result (IsTrouble (S.knows shop.old) (S.knows shop.new)) }
 {
     match shop.begin(rt) {

@@ -1,9 +1,10 @@
 //! Commits of transactions that have writes.
-ghost use Rattle.std.specs.Prelude.{◌≢◌, [], List, IfErr, IfOk};
+ghost use Rattle.std.specs.Prelude.{◌≢◌, ◌+◌, [], ℕ, List, IfErr, IfOk, OnErr, OnOk};
 ghost use Rattle.std.specs.FinMap.{entries};
 ghost use Rattle.vl_drive.specs.Answers.{asked, is_step_fault};
 ghost use Rattle.vl_drive.specs.Knowing.{GoesOn, IsCounted, IsOwnTicket, Knows};
-ghost use Rattle.vl_drive.specs.Playing.{HasAll, HasEnded, HasTried, IsTrouble};
+ghost use Rattle.vl_drive.specs.Modest.{IsBusy, IsIdle, IsModest};
+ghost use Rattle.vl_drive.specs.Playing.{HasAll, HasEnded, HasTried, IsTrouble, StaysModest};
 ghost use Rattle.vl_model.specs.History.{History};
 ghost use Rattle.vl_model.specs.Reads.{Read};
 
@@ -30,6 +31,10 @@ pub(crate) fn commit<R: Wait, S: Shop>(rt: &R, shop: &mut S, txn: S::Txn) -> Res
     ensures ended { (h : History) (reads : List Read) → S.sees txn h reads → IfOk result (λ committed.
         HasEnded (asked (S.ticket txn) (S.number txn) reads (entries (S.writes txn))) committed
         (S.knows shop.old) (S.knows shop.new)) }
+    ensures idle { (turns : ℕ) → IsBusy (S.ticket txn) (S.number txn) turns (S.knows shop.old)
+        → OnOk result (IsIdle (turns + 1) (S.knows shop.new)) }
+    ensures modest { (turns : ℕ) → IsBusy (S.ticket txn) (S.number txn) turns (S.knows shop.old)
+        → OnErr result (IsModest turns (S.knows shop.new)) }
     ensures trouble { IfErr result (IsTrouble (S.knows shop.old) (S.knows shop.new)) }
 {
     let mut txn = txn;
@@ -52,6 +57,10 @@ fn try_commit<R: Wait, S: Shop>(rt: &R, shop: &mut S, txn: S::Txn) -> Result<Tri
     ensures tried { (h : History) (reads : List Read) → S.sees txn h reads → IfOk result
         (HasTried txn (asked (S.ticket txn) (S.number txn) reads (entries (S.writes txn)))
         (S.knows shop.old) (S.knows shop.new)) }
+    ensures stays { (turns : ℕ) → IsBusy (S.ticket txn) (S.number txn) turns (S.knows shop.old)
+        → IfOk result (StaysModest (S.ticket txn) (S.number txn) turns (S.knows shop.new)) }
+    ensures modest { (turns : ℕ) → IsBusy (S.ticket txn) (S.number txn) turns (S.knows shop.old)
+        → OnErr result (IsModest turns (S.knows shop.new)) }
     ensures trouble { IfErr result (IsTrouble (S.knows shop.old) (S.knows shop.new)) }
 {
     let txn = match shop.commit(rt, txn) {

@@ -1,10 +1,11 @@
 //! Clients side by side, each in a thread of its own, and one more thread for the upkeep.
-ghost use Rattle.std.specs.Prelude.{◌≡◌, ◌≤◌, ◌++◌, ◌+◌, ◌<◌, ◌^◌, ◌∷◌, [], Err, IfErr, IfOk, Ok, length, map, true};
+ghost use Rattle.std.specs.Prelude.{◌≡◌, ◌≤◌, ◌++◌, ◌+◌, ◌<◌, ◌^◌, ◌∷◌, [], ℕ, Err, IfErr, IfOk, Ok, length, map, true};
 ghost use Rattle.std.specs.List.{AllByRecursion, AllZip};
 ghost use Rattle.vl_drive.specs.Clients.{AreDriven, AreNew, HasOpened, IsNewAt, count_all};
 ghost use Rattle.vl_drive.specs.Knowing.{GoesOn, Knows};
-ghost use Rattle.vl_drive.specs.Players.{AreReady, Gathers, HasActed, IsFew, IsStopped, all_commits, all_conflicts};
-ghost use Rattle.vl_drive.specs.Players.{commits_of, conflicts_of, is_done, last_of, shop_of};
+ghost use Rattle.vl_drive.specs.Modest.{AreModest, IsModest};
+ghost use Rattle.vl_drive.specs.Players.{AreReady, Gathers, HasActed, IsFew, IsStopped, LeavesModest, all_commits};
+ghost use Rattle.vl_drive.specs.Players.{all_conflicts, commits_of, conflicts_of, is_done, last_of, shop_of};
 ghost use Rattle.vl_drive.specs.Playing.{IsTrouble};
 ghost use Rattle.vl_drive.specs.Steps.{is_ended, is_put};
 ghost use Rattle.vl_drive.specs.declared.driving.Player.{Player};
@@ -65,8 +66,9 @@ pub fn drive<R: Threads + Wait + Sync, S: Shop + Send, G: Gate + Sync>(
     ensures driven { IfOk result (λ r. AreDriven seed txns 0 (map S.knows r.1.items)) }
     ensures commits { IfOk result (λ r. r.0.commits ≡ count_all is_put (map S.knows r.1.items)) }
     ensures conflicts { IfOk result (λ r. r.0.conflicts ≡ count_all is_ended (map S.knows r.1.items)) }
-    // Else the cause is one of the shops'.
+    // Else the cause is one of the shops'. Few of their transactions live then, and they made few commits.
     ensures stopped { IfErr result (IsStopped S.knows (map S.knows shops.items)) }
+    ensures modest { IfErr result (LeavesModest S.knows txns) }
 {
     let mut shops = shops;
     let Some(mut keeper) = shops.pop() else {
@@ -91,6 +93,7 @@ fn played<R: Threads + Wait + Sync, S: Shop + Send, G: Gate + Sync>(
     requires few { length shops.items < 64 }
     requires new { AllByRecursion (IsNewAt (S.knows keeper).store) (map S.knows shops.items) }
     requires opened { HasOpened (S.knows keeper) }
+    requires modest { IsModest 0 (S.knows keeper) }
     ensures on { (v : Knows) → GoesOn v (S.knows keeper)
         → IfOk result (λ r. AllZip GoesOn (map S.knows shops.items ++ v ∷ []) (map S.knows r.1.items)) }
     ensures driven { IfOk result (λ r. AreDriven seed txns 0 (map S.knows r.1.items)) }
@@ -98,6 +101,7 @@ fn played<R: Threads + Wait + Sync, S: Shop + Send, G: Gate + Sync>(
     ensures conflicts { IfOk result (λ r. r.0.conflicts ≡ count_all is_ended (map S.knows r.1.items)) }
     ensures stopped { (v : Knows) → GoesOn v (S.knows keeper)
         → IfErr result (IsStopped S.knows (map S.knows shops.items ++ v ∷ [])) }
+    ensures modest { IfErr result (LeavesModest S.knows txns) }
 {
     let Ok(mut players) = seated(alloc, shops, keeper) else {
         return Err(DriveFail::NoMemory);
@@ -116,8 +120,10 @@ fn played<R: Threads + Wait + Sync, S: Shop + Send, G: Gate + Sync>(
 
 // The shops again, where there was no first commit.
 fn unopened<S: Shop>(shops: Vec<S>, keeper: S, trouble: Trouble) -> DriveFail<S>
-    ensures { (v : Knows) → GoesOn v (S.knows keeper) → IsTrouble v (S.knows keeper) trouble
+    ensures stopped { (v : Knows) → GoesOn v (S.knows keeper) → IsTrouble v (S.knows keeper) trouble
         → IsStopped S.knows (map S.knows shops.items ++ v ∷ []) result }
+    ensures modest { (turns : ℕ) → AreModest turns (map S.knows shops.items) → IsModest turns (S.knows keeper)
+        → LeavesModest S.knows turns result }
 {
     let mut shops = shops;
     if shops.push(keeper).is_err() {
@@ -134,6 +140,7 @@ fn seated<S: Shop>(alloc: Global, shops: Vec<S>, keeper: S) -> Result<Vec<Player
     requires few { length shops.items < 64 }
     requires new { AllByRecursion (IsNewAt (S.knows keeper).store) (map S.knows shops.items) }
     requires opened { HasOpened (S.knows keeper) }
+    requires modest { IsModest 0 (S.knows keeper) }
     ensures ready { IfOk result (λ players. AreReady S.knows (map S.knows shops.items) (S.knows keeper) players.items) }
     ensures few { IfOk result (λ players. length players.items ≤ 64) }
 {

@@ -1,7 +1,8 @@
 //! The first commit, and the upkeep beside the clients.
-ghost use Rattle.std.specs.Prelude.{◌≡◌, [], IfErr, IfOk, OnOk};
+ghost use Rattle.std.specs.Prelude.{◌≡◌, [], ℕ, IfErr, IfOk, OnOk};
 ghost use Rattle.vl_drive.specs.Clients.{HasOpened};
 ghost use Rattle.vl_drive.specs.Knowing.{GoesOn};
+ghost use Rattle.vl_drive.specs.Modest.{IsModest};
 ghost use Rattle.vl_drive.specs.Playing.{IsTrouble};
 
 use crate::client::{Score, begin, set};
@@ -15,6 +16,7 @@ use std::sync::Wait;
 pub(crate) fn open_accounts<R: Wait, S: Shop>(rt: &R, shop: &mut S) -> Result<(), Trouble>
     ensures on { GoesOn (S.knows shop.old) (S.knows shop.new) }
     ensures opened { (S.knows shop.old).own ≡ [] → OnOk result (HasOpened (S.knows shop.new)) }
+    ensures modest { (S.knows shop.old).own ≡ [] → IsModest 0 (S.knows shop.new) }
     ensures trouble { IfErr result (IsTrouble (S.knows shop.old) (S.knows shop.new)) }
 {
     let mut txn = begin(rt, shop)?;
@@ -34,6 +36,7 @@ pub(crate) fn keep_up<R: Wait, S: Shop>(
 ) -> Result<Score, Trouble>
     ensures on { GoesOn (S.knows shop.old) (S.knows shop.new) }
     ensures opened { HasOpened (S.knows shop.old) → OnOk result (HasOpened (S.knows shop.new)) }
+    ensures modest { (turns : ℕ) → IsModest turns (S.knows shop.old) → IsModest turns (S.knows shop.new) }
     ensures none { IfOk result (λ score. (score.commits ≡ 0) × (score.conflicts ≡ 0)) }
     ensures trouble { IfErr result (IsTrouble (S.knows shop.old) (S.knows shop.new)) }
 {

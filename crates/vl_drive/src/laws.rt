@@ -1,5 +1,5 @@
 // Laws of clients' turns: each is the contract of a function that does nothing.
-ghost use Rattle.std.specs.Prelude.{[], ◌≡◌, ◌≢◌, ◌<◌, ◌+◌, ◌∷◌, ◌++◌, ◌||◌, ◌^◌, ℕ, Bool, false, true, List};
+ghost use Rattle.std.specs.Prelude.{[], ◌≡◌, ◌≢◌, ◌≤◌, ◌<◌, ◌+◌, ◌*◌, ◌∷◌, ◌++◌, ◌||◌, ◌^◌, ℕ, Bool, false, true, List};
 ghost use Rattle.std.specs.Prelude.{None, Some, length};
 ghost use Rattle.std.specs.List.{AllByRecursion, AllZip};
 ghost use Rattle.std.specs.Ordering.{eq_by_cmp};
@@ -7,14 +7,16 @@ ghost use Rattle.vl_drive.specs.Accounts.{account_key, balance_bytes, balance_of
 ghost use Rattle.vl_drive.specs.Clients.{AreDriven, count_all};
 ghost use Rattle.vl_drive.specs.Driven.{IsClosed, IsDriven};
 ghost use Rattle.vl_drive.specs.Knowing.{GoesOn, Knows};
+ghost use Rattle.vl_drive.specs.Modest.{AreModest};
 ghost use Rattle.vl_drive.specs.Numbers.{transfer_of};
 ghost use Rattle.vl_drive.specs.Players.{IsCauseOfOne, is_fault};
-ghost use Rattle.vl_drive.specs.Steps.{AreBy, Origin, count_by, history_by, is_aside, is_end, is_ended, is_put};
+ghost use Rattle.vl_drive.specs.Steps.{AreBy, Origin, count_by, history_by, is_aside, is_end, is_ended, is_put, layout_by};
 ghost use Rattle.vl_drive.specs.Turns.{AreTurns, EndsTurn, InTurn, is_crossed};
 ghost use Rattle.vl_drive.specs.declared.trouble.Cause.{Cause};
 ghost use Rattle.vl_drive.specs.declared.transfer.Transfer.{Transfer};
-ghost use Rattle.vl_layout.specs.LockHistory.{entries_by};
-ghost use Rattle.vl_layout.specs.Rulings.Commit.{At, Conflict, Nothing, Transaction, commit_ruling};
+ghost use Rattle.vl_layout.specs.LockHistory.{HasOpen, entries_by, nothing_open};
+ghost use Rattle.vl_layout.specs.Rulings.Begin.{TooMany, begin_ruling};
+ghost use Rattle.vl_layout.specs.Rulings.Commit.{At, Conflict, Exhausted, Nothing, Transaction, commit_ruling};
 ghost use Rattle.vl_layout.specs.declared.layout.Layout.{Layout};
 ghost use Rattle.vl_layout.specs.declared.lock_history.LockEntry.{LockEntry};
 ghost use Rattle.vl_layout.specs.declared.lock_history.LockStep.{LockStep};
@@ -22,7 +24,10 @@ ghost use Rattle.vl_layout.specs.declared.lock_history.LockStep.TheVariants.{Beg
 ghost use Rattle.vl_model.specs.Conflicts.{Named, first_conflict};
 ghost use Rattle.vl_model.specs.History.{History, last_number, value_at};
 ghost use Rattle.vl_model.specs.Keys.{key_cmp};
+ghost use Rattle.vl_model.specs.Limits.{max_commit_number};
 ghost use Rattle.vl_model.specs.Reads.{Read, is_read};
+ghost use Rattle.vl_model.specs.declared.counter.Counter.TheVariants.{Commit as CommitNumber};
+ghost use mathlib.Core.List.{IsPrefix};
 
 /// What the shops know when all turns were taken, over the closed list: commits, conflicts, number and total.
 pub fn a_closed_list_is_driven()
@@ -108,4 +113,15 @@ pub fn a_balance_is_read_as_written()
 pub fn sure_shops_meet_no_fault()
     ensures { (vs ws : List Knows) (why : Cause) → AllZip GoesOn vs ws → AllByRecursion (λ (v : Knows). v.sure ≡ true) vs
         → IsCauseOfOne why vs ws → is_fault why ≡ false }
+{}
+
+/// Over the closed list of up to 64 modest shops no begin is refused for what lives, at no place of it; and no commit
+/// for want of a number, where the numbers reach for all of their commits.
+pub fn no_call_of_modest_shops_stops()
+    ensures begins { (o : Origin) (turns : ℕ) (vs : List Knows) (list before : List LockEntry) → IsClosed o vs list
+        → AreModest turns vs → IsPrefix before list → HasOpen nothing_open o.layout → length vs ≤ 64
+        → (begin_ruling (layout_by o before) (history_by o before)).answer ≢ TooMany }
+    ensures commits { (o : Origin) (turns : ℕ) (vs : List Knows) (list before : List LockEntry) → IsClosed o vs list
+        → AreModest turns vs → IsPrefix before list → o.number + length vs * (turns + 1) < max_commit_number
+        → (txn : Transaction) → (commit_ruling (layout_by o before) (history_by o before) txn).answer ≢ Exhausted CommitNumber }
 {}

@@ -6,6 +6,10 @@
 //! `specs/Driven`, by `a_closed_list_is_driven`): each turn that was committed is its transfer on the balances at its
 //! beginning; a turn is a conflict just where a commit since its beginning names one of its accounts; the commits, the
 //! conflicts, the store's number and the sum of all balances are as they must be then.
+//!
+//! `drive_store` opens a whole store (`Shops`) first, and closes it in the end, so that all of this is one answer. Nothing
+//! but memory may be wanting then: at no place of the whole list could a shop have stopped, since few of their
+//! transactions live at a time and they make few commits (`IsModest` of `specs/Modest`).
 #![tactic(auto)]
 
 mod accounts;
@@ -16,7 +20,9 @@ mod fails;
 mod gate;
 mod keeper;
 mod laws;
+mod running;
 mod shop;
+mod shops;
 mod transfer;
 mod trouble;
 
@@ -25,9 +31,11 @@ pub use fails::{BeginFail, CommitFail, Done, ReadFail, StepFail};
 pub use gate::{Gate, NoGate, Point};
 pub use laws::{
     a_balance_is_read_as_written, a_closed_list_is_driven, a_commit_is_ruled_by_its_conflict,
-    a_conflict_is_a_crossing, a_transfer_has_two_accounts, a_turn_goes_on, steps_are_counted,
-    sure_shops_meet_no_fault, turns_go_on,
+    a_conflict_is_a_crossing, a_transfer_has_two_accounts, a_turn_goes_on,
+    no_call_of_modest_shops_stops, steps_are_counted, sure_shops_meet_no_fault, turns_go_on,
 };
+pub use running::{Driven, drive_store};
 pub use shop::Shop;
+pub use shops::{Closed, Shops};
 pub use transfer::Transfer;
 pub use trouble::Cause;

@@ -1,5 +1,5 @@
 -- A call fails only where a fault was counted, which none is over disks that never fail.
-use Rattle.std.proofs.Common.{◌≡◌, ℕ, refl, sym, ◌∙◌, subst, arith}
+use Rattle.std.proofs.Common.{◌≡◌, ℕ, subst, arith}
 use Rattle.std.specs.Prelude.{Option, None, Some, Result, Ok, Err, ◌≤◌}
 use Rattle.vl_compact.specs.declared.files.Lent.{Lent}
 use Rattle.vl_disk.specs.Faults.{HasCause, Rose}

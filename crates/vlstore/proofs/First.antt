@@ -1,7 +1,7 @@
 -- An engine in which nothing lives and nothing is open stands for no steps.
 use Rattle.std.proofs.Common.{◌≡◌, ℕ, List, [], refl, sym, ap, ◌∙◌, subst}
 use Rattle.std.proofs.lemmas.Bool.{false≢true}
-use Rattle.std.specs.Prelude.{Bool, false, true, Option, None, Some, is_some}
+use Rattle.std.specs.Prelude.{Bool, true, Option, None, Some, is_some}
 use Rattle.std.specs.Option.{option_map}
 use Rattle.vl_core.specs.MayStep.{Fits}
 use Rattle.vl_core.specs.Represents.{Represents}

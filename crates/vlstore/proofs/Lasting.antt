@@ -1,17 +1,18 @@
 -- What a session knows of what it began stays so behind later calls.
-use Rattle.std.proofs.Common.{◌≡◌, ◌≢◌, ℕ, List, [], ◌∷◌, ◌++◌, refl, sym, ap, ◌∙◌, subst, arith}
+use Rattle.std.proofs.Common.{◌≡◌, ℕ, List, [], ◌∷◌, ◌++◌, refl, sym, ap, ◌∙◌, subst, arith}
 use Rattle.std.proofs.lemmas.Bool.Decides.{nat_tests}
 use Rattle.std.specs.Prelude.{Bool, true, false, cond, ◌==◌, ◌&&◌, not, nat_lt, Option, None, Some}
-use Rattle.std.specs.List.{AllByRecursion, filter}
+use Rattle.std.specs.List.{AllByRecursion}
 use Rattle.vl_core.specs.Lasts.{Lasts}
-use Rattle.vl_layout.specs.LockHistory.{OpenTicket, closed, is_of, number_of, open_tickets, opened, tickets_after}
+use Rattle.vl_layout.specs.LockHistory.{OpenTicket, closed, number_of, open_pass, open_tickets, opened, pass_after, tickets_after}
+use Rattle.vl_layout.specs.declared.layout.Layout.{Layout}
 use Rattle.vl_layout.specs.declared.lock_history.LockEntry.{LockEntry}
 use Rattle.vl_layout.specs.declared.lock_history.LockStep.{LockStep}
 use Rattle.vl_layout.specs.declared.lock_history.LockStep.TheVariants.{Begun, Changed, Ended, JobEnded, PassEnded, Picked}
 use Rattle.vl_layout.specs.declared.lock_history.LockStep.TheVariants.{Planned, Put}
 use Rattle.vl_seglog.specs.declared.sealed.SealedLog.{SealedLog}
 use Rattle.vlstore.specs.Handing.{HasLasted}
-use Rattle.vlstore.specs.Knowing.{GoesOn, IsOwnTicket, Knows, LeavesTicket}
+use Rattle.vlstore.specs.Knowing.{GoesOn, IsOwnPass, IsOwnTicket, Knows, LeavesPass, LeavesTicket}
 use Rattle.vlstore.specs.Lists.{layout_by}
 use Rattle.vlstore.specs.declared.locked.Origin.{Origin}
 use Rattle.vlstore.proofs.Stores.{prefix_on}
@@ -91,3 +92,31 @@ pub own_on : (v w : Knows) (ticket number : ℕ) (more : List LockEntry) → w.o
 own_on v w ticket number more now all own =
     ap (λ (es : List LockEntry). number_of ticket (open_tickets [] es)) now
     ∙ (ap (number_of ticket) (open_more [] v.own more) ∙ (still_numbers ticket (open_tickets [] v.own) more all ∙ own))
+
+-- ---- passes
+
+pass_more : (p : Option (ℕ × ℕ)) (es more : List LockEntry) → open_pass p (es ++ more) ≡ open_pass (open_pass p es) more
+pass_more p [] more = refl
+pass_more p (e ∷ es) more = pass_more (pass_after e.session e.step e.layout p) es more
+
+still_passing : (s : ℕ) (step : LockStep) (l : Layout) (p : Option (ℕ × ℕ)) → LeavesPass step → pass_after s step l p ≡ p
+still_passing s (Begun ticket number) l p leaves = refl
+still_passing s (Put ticket number writes) l p leaves = refl
+still_passing s (Ended ticket) l p leaves = refl
+still_passing s Planned l p leaves = refl
+still_passing s JobEnded l p leaves = refl
+still_passing s Picked l p leaves = absurd leaves
+still_passing s PassEnded l p leaves = absurd leaves
+still_passing s Changed l p leaves = refl
+
+still_picked : (p : Option (ℕ × ℕ)) (more : List LockEntry) → AllByRecursion (λ (e : LockEntry). LeavesPass e.step) more
+    → open_pass p more ≡ p
+still_picked p [] all = refl
+still_picked p (e ∷ more) all =
+    still_picked (pass_after e.session e.step e.layout p) more all.1 ∙ still_passing e.session e.step e.layout p all.0
+
+pub pass_on : (v w : Knows) (segment : ℕ) (more : List LockEntry) → w.session ≡ v.session → w.own ≡ v.own ++ more
+    → AllByRecursion (λ (e : LockEntry). LeavesPass e.step) more → IsOwnPass v segment → IsOwnPass w segment
+pass_on v w segment more session now all own =
+    ap (open_pass None) now ∙ (pass_more None v.own more ∙ (still_picked (open_pass None v.own) more all
+    ∙ (own ∙ ap (λ (n : ℕ). Some (n, segment)) (sym session))))

@@ -13,7 +13,7 @@ use Rattle.vl_layout.specs.laws.LockHistoryLaws.{last_layout-append, legal-appen
 use Rattle.vl_model.specs.History.{History}
 use Rattle.vl_seglog.specs.declared.sealed.SealedLog.{SealedLog}
 use Rattle.vlstore.specs.Lists.{history_by, layout_by, open_by}
-use Rattle.vlstore.specs.Standing.{AreLasting, IsBehind, IsWhole, Lasting, Parts}
+use Rattle.vlstore.specs.Standing.{AreLasting, IsBehind, IsWhole, Parts}
 use Rattle.vlstore.specs.declared.locked.Origin.{Origin}
 use Rattle.vl_turn.specs.Entries.{with_entry}
 

@@ -2,7 +2,9 @@ pub mod Begins
 pub mod Calls
 pub mod Collecting
 pub mod Counted
+pub mod Crosses
 pub mod Drawing
+pub mod EmptyDisk
 pub mod Faults
 pub mod First
 pub mod Installing
@@ -14,11 +16,17 @@ pub mod Making
 pub mod Merged
 pub mod Moving
 pub mod Owning
+pub mod PassLaws
 pub mod Picking
 pub mod Planning
 pub mod Sessions
+pub mod ShopReads
+pub mod ShopStores
+pub mod Shopping
+pub mod SmallWrites
 pub mod Steps
 pub mod Stores
+pub mod SureDisks
 pub mod Sweeping
 pub mod Tickets
 pub mod Wholes

@@ -2,7 +2,7 @@
 use Rattle.std.proofs.Common.{◌≡◌, ℕ, List, [], ◌∷◌, ◌++◌, map, refl, sym, ap, ◌∙◌, subst, arith}
 use Rattle.std.proofs.lemmas.Bool.Decides.{nat_tests}
 use Rattle.std.proofs.lemmas.List.{map-append}
-use Rattle.std.specs.Prelude.{Bool, true, false, ◌==◌, ◌||◌, Option, None, Some, Result, Ok, Err, IsSome}
+use Rattle.std.specs.Prelude.{Bool, true, false, ◌==◌, ◌||◌, Option, None, Some, Err, IsSome}
 use Rattle.std.specs.List.{AllByRecursion}
 use Rattle.std.specs.Option.{ForSome}
 use Rattle.vl_compact.specs.Keys.{all_named}

@@ -1,9 +1,12 @@
 -- A whole merge of a session: what its steps are, and which merge it was.
 use Rattle.std.proofs.Common.{◌≡◌, ℕ, List, [], ◌∷◌, ◌++◌, refl, sym, ap, ◌∙◌, subst, append_assoc}
-use Rattle.std.specs.Prelude.{Option, None, Some, length, min, ◌^◌, ◌-◌}
+use Rattle.std.specs.Prelude.{Option, None, Some, Err, length, min, ◌^◌, ◌-◌}
 use Rattle.std.specs.List.{AllByRecursion}
 use Rattle.vl_compact.specs.Laid.{AreBoth}
+use Rattle.vl_engine.specs.Merging.{install_outcome}
 use Rattle.vl_engine.specs.Whole.{kept_of}
+use Rattle.vl_engine.specs.declared.fails.InstallFail.{InstallFail}
+use Rattle.vl_engine.specs.declared.fails.InstallFail.TheVariants as fails
 use Rattle.vl_layout.specs.Decides.{Answered, Damaged, Failed, NoMemory, Outcome}
 use Rattle.vl_layout.specs.Jobs.{Made}
 use Rattle.vl_layout.specs.LockHistory.{job_after, open_job}
@@ -17,12 +20,13 @@ use Rattle.vl_layout.specs.declared.job.Job.{Job}
 use Rattle.vl_layout.specs.declared.layout.Layout.{Layout}
 use Rattle.vl_layout.specs.declared.lock_history.LockEntry.{LockEntry}
 use Rattle.vl_layout.specs.declared.lock_history.LockStep.{LockStep}
-use Rattle.vl_layout.specs.declared.lock_history.LockStep.TheVariants.{Changed, JobEnded}
+use Rattle.vl_layout.specs.declared.lock_history.LockStep.TheVariants.{JobEnded}
 use Rattle.vl_layout.specs.laws.LockHistoryLaws.{none≢some}
 use Rattle.vl_model.specs.History.{History}
 use Rattle.vl_turn.specs.Entries.{with_entry}
 use Rattle.vlstore.specs.Entries.{abandon_entry, fresh_entry, install_entry, plan_entry}
-use Rattle.vlstore.specs.Knowing.{GoesOn, IsOwnJob, Knows, Stepped}
+use Rattle.vlstore.specs.Handing.{IsHandedBack}
+use Rattle.vlstore.specs.Knowing.{IsOwnJob, Knows, Stepped}
 use Rattle.vlstore.specs.Lists.{history_by, layout_by}
 use Rattle.vlstore.specs.Merging.{Did, IsChange, IsWork, MergedAt, PutIn}
 use Rattle.vlstore.specs.declared.locked.Origin.{Origin}
@@ -221,3 +225,17 @@ same_own v one other is too = ap job_of (sym is ∙ too)
     job_of : Option (ℕ × Job) → Job
     job_of None = one
     job_of (Some x) = x.1
+
+-- where nothing was done what is its own was so before
+pub own_back : (v w : Knows) → w.own ≡ v.own → w.session ≡ v.session → (job : Job) → IsOwnJob w job → IsOwnJob v job
+own_back v w same session job own =
+    ap (open_job None) (sym same) ∙ (own ∙ ap (λ (n : ℕ). Some (n, job)) session)
+
+-- an install that doesn't hand its merge back ends it
+pub install_ends : {V H W : Type 0} {k : _} (job : Job) (made : Made) (fail : InstallFail V H W k) → (IsHandedBack fail → ⊥)
+    → (s : ℕ) (l : Layout) (h : History) → EndsJob (install_entry job made s l h (install_outcome (Err fail)))
+install_ends job made (fails.Halted name) never s l h = refl
+install_ends job made (fails.Raced key number) never s l h = refl
+install_ends job made (fails.Exhausted counter) never s l h = refl
+install_ends job made (fails.NoMemory back) never s l h = absurd (never tt)
+install_ends job made (fails.Disk name) never s l h = refl

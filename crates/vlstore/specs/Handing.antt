@@ -69,6 +69,14 @@ module _ (v : Knows) where
     pub seen : IsPrefix before v.seen
     pub lasts : Lasts bytes log (layout_by v.origin before)
 
+-- the merge was handed back
+abbrev pub IsHandedBack : {V H W : Type 0} {s : _} → InstallFail V H W s → Type 0
+IsHandedBack (fails.Halted name) = ⊥
+IsHandedBack (fails.Raced key number) = ⊥
+IsHandedBack (fails.Exhausted counter) = ⊥
+IsHandedBack (fails.NoMemory job) = Unit {0}
+IsHandedBack (fails.Disk name) = ⊥
+
 -- a merge that an install handed back is the session's yet
 abbrev pub IfHandedBack : {W H R : Type 0} → Knows → Writers W → (H → Option (List ℕ)) → {s : _}
     → InstallFail (Base H R) H W s → Type 0

@@ -93,6 +93,17 @@ LeavesTicket ticket Picked = Unit {0}
 LeavesTicket ticket PassEnded = Unit {0}
 LeavesTicket ticket Changed = Unit {0}
 
+-- a step that neither begins nor ends a pass
+abbrev pub LeavesPass : LockStep → Type 0
+LeavesPass (Begun ticket number) = Unit {0}
+LeavesPass (Put ticket number writes) = Unit {0}
+LeavesPass (Ended ticket) = Unit {0}
+LeavesPass Planned = Unit {0}
+LeavesPass JobEnded = Unit {0}
+LeavesPass Picked = ⊥
+LeavesPass PassEnded = ⊥
+LeavesPass Changed = Unit {0}
+
 -- it planned this merge, and didn't end it
 abbrev pub IsOwnJob : Knows → Job → Type 0
 IsOwnJob v job = open_job None v.own ≡ Some (v.session, job)

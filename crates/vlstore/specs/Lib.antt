@@ -4,5 +4,6 @@ pub mod Knowing
 pub mod Lists
 pub mod Merges
 pub mod Merging
+pub mod Shops
 pub mod Standing
 pub mod Stores

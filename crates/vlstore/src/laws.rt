@@ -11,7 +11,7 @@ ghost use Rattle.vl_layout.specs.declared.lock_history.LockEntry.{LockEntry};
 ghost use Rattle.vl_model.specs.History.{History};
 ghost use Rattle.vl_seglog.specs.declared.sealed.SealedLog.{SealedLog};
 ghost use Rattle.vlstore.specs.Handing.{HasLasted};
-ghost use Rattle.vlstore.specs.Knowing.{GoesOn, IsOwnTicket, Knows, LeavesTicket};
+ghost use Rattle.vlstore.specs.Knowing.{GoesOn, IsOwnPass, IsOwnTicket, Knows, LeavesPass, LeavesTicket};
 ghost use Rattle.vlstore.specs.Lists.{history_by, numbers_from, numbers_put};
 ghost use Rattle.vlstore.specs.Standing.{IsWhole, NeverFails, Parts, Stands};
 ghost use Rattle.vlstore.specs.declared.locked.Origin.{Origin};
@@ -42,6 +42,12 @@ pub fn what_was_begun_stays_own()
     ensures { (v w : Knows) (ticket number : ℕ) (more : List LockEntry) → w.own ≡ v.own ++ more
         → AllByRecursion (λ (e : LockEntry). LeavesTicket ticket e.step) more → IsOwnTicket v ticket number
         → IsOwnTicket w ticket number }
+{}
+
+/// And so does a pass that it picked, behind steps that neither begin nor end one.
+pub fn what_was_picked_stays_own()
+    ensures { (v w : Knows) (segment : ℕ) (more : List LockEntry) → w.session ≡ v.session → w.own ≡ v.own ++ more
+        → AllByRecursion (λ (e : LockEntry). LeavesPass e.step) more → IsOwnPass v segment → IsOwnPass w segment }
 {}
 
 /// An engine that was opened is whole, by what its opening says of a history and of the layout at its start.

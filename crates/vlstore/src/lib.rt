@@ -22,18 +22,24 @@ mod locked;
 mod mark;
 mod note;
 mod session;
+mod shop;
+mod silent;
 mod store;
+mod unfailing;
 
 pub use fails::StoreFail;
 pub use laws::{
     an_opened_engine_is_whole, an_opened_engine_stands_for_no_steps, commits_are_numbered_once,
-    what_lasted_has_lasted, what_was_begun_stays_own,
+    what_lasted_has_lasted, what_was_begun_stays_own, what_was_picked_stays_own,
 };
 pub use locked::{Locked, Origin};
 pub use mark::{Mark, Starts};
 pub use note::Note;
 pub use session::Session;
+pub use shop::{SureEngine, SureSession, SureStore};
+pub use silent::Silent;
 pub use store::Store;
+pub use unfailing::Unfailing;
 pub use vl_cache::Cached;
 pub use vl_collect::{Batch, Pass, PassFault};
 pub use vl_compact::{Job, JobReader, Lent};

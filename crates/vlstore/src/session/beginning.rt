@@ -1,4 +1,5 @@
 ghost use Rattle.std.specs.Prelude.{◌≡◌, true, [], IfOk, is_some};
+ghost use Rattle.lru.specs.LruCache.{lru_cache};
 ghost use Rattle.vl_engine.specs.Answers.{begin_outcome, view_outcome};
 ghost use Rattle.vl_engine.specs.Sees.{IsNew, Sees, SeesAlone, asked, asked_view};
 ghost use Rattle.vl_layout.specs.Decides.{Answered};
@@ -8,6 +9,8 @@ ghost use Rattle.vl_layout.specs.Rulings.Release.{release_ruling};
 ghost use Rattle.vl_layout.specs.Rulings.View.{view_ruling};
 ghost use Rattle.vl_layout.specs.declared.layout.Layout.{Layout};
 ghost use Rattle.vl_layout.specs.declared.lock_history.LockStep.{LockStep};
+ghost use Rattle.vl_table.specs.Kept.{Files};
+ghost use Rattle.vl_table.specs.KeptBlocks.{AreKept};
 ghost use Rattle.vlstore.specs.Entries.{begin_done, begin_entry, done_by, end_entry};
 ghost use Rattle.vlstore.specs.Knowing.{GoesOn, IsOwnTicket, KeepsOwnMerge, Stepped, WhereTold};
 ghost use Rattle.vlstore.specs.Lists.{history_by};
@@ -38,6 +41,9 @@ impl<D: Disk> Session<D> {
         ensures sees { self.old.tells ≡ true
             → IfOk result (λ txn. Sees D.Held.bytes txn (history_by self.new.origin self.new.seen) []) }
         ensures fresh { IfOk result IsNew }
+        // Its reader keeps no block that doesn't stand, whatever the files, and no read yet, of 64 that it may.
+        ensures blocks { (files : Files) → IfOk result (λ txn. AreKept files txn.reader) }
+        ensures cache { IfOk result (λ txn. txn.reader.reader.kept ≡ lru_cache [] 64) }
     {
         let lock = &*self.lock;
         let mut turn = lock.take(rt, &mut self.token);
@@ -66,6 +72,8 @@ impl<D: Disk> Session<D> {
         ensures own { self.old.tells ≡ true → IfOk result (λ view. IsOwnTicket self.new view.ticket view.number) }
         ensures sees { self.old.tells ≡ true
             → IfOk result (λ view. SeesAlone D.Held.bytes view (history_by self.new.origin self.new.seen)) }
+        ensures blocks { (files : Files) → IfOk result (λ view. AreKept files view.reader) }
+        ensures cache { IfOk result (λ view. view.reader.reader.kept ≡ lru_cache [] 64) }
     {
         let lock = &*self.lock;
         let mut turn = lock.take(rt, &mut self.token);

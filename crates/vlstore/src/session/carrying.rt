@@ -1,7 +1,8 @@
 ghost use Rattle.std.specs.Prelude.{◌≡◌, IfOk, OnOk, true};
 ghost use Rattle.vl_engine.specs.Merging.{FitsReaders};
-ghost use Rattle.vlstore.specs.Handing.{IfHandedBack, IsHandedInto, IsUnderWayIn};
-ghost use Rattle.vlstore.specs.Knowing.{GoesOn};
+ghost use Rattle.vl_layout.specs.declared.job.Job as laid_job;
+ghost use Rattle.vlstore.specs.Handing.{IfHandedBack, IsHandedBack, IsHandedInto, IsUnderWayIn};
+ghost use Rattle.vlstore.specs.Knowing.{GoesOn, IsOwnJob};
 ghost use Rattle.vlstore.specs.Merging.{Did, IsChange, IsWork, MergedAt};
 
 use super::Session;
@@ -24,6 +25,8 @@ impl<D: Disk> Session<D> {
         // Its own steps commit nothing and leave what it began. The merge is the one that the ruling on plans has.
         ensures works { self.old.tells ≡ true → Did IsWork self.old self.new }
         ensures merged { self.old.tells ≡ true → IfOk result (MergedAt self.old self.new) }
+        // No merge of its own is left open that wasn't before.
+        ensures over { self.old.tells ≡ true → (job : laid_job.Job) → IsOwnJob self.new job → IsOwnJob self.old job }
     {
         let Some(mut job) = self.plan(rt)? else {
             return Ok(None);
@@ -75,6 +78,8 @@ impl<D: Disk> Session<D> {
         requires { IfHandedBack self.old D.Writer.Writer D.Held.bytes fail }
         ensures on { GoesOn self.old self.new }
         ensures works { self.old.tells ≡ true → Did IsWork self.old self.new }
+        ensures over { self.old.tells ≡ true → (job : laid_job.Job) → IsOwnJob self.new job
+            → IsOwnJob self.old job × (IsHandedBack fail → ⊥) }
     {
         match fail {
             InstallFail::Halted { name } => MergeFail::Halted { name },

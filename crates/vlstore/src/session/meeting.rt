@@ -18,8 +18,9 @@ impl<D: Disk> Session<D> {
         Ok(Note { token })
     }
 
-    /// Makes what is noted a part of what this session has seen. It waits for nobody. A note of another store
-    /// isn't taken, by condition.
+    /// Makes what is noted a part of what this session has seen. It waits for nobody. The note is of this
+    /// store, by condition: a program without contracts sends it as a result of a thread, and not by a channel,
+    /// which loses that.
     pub fn meet(&mut self, note: Note<D>)
         requires { note.store ≡ self.old.store }
         ensures { Meets self.old self.new note }

@@ -1,5 +1,7 @@
 ghost use Rattle.std.specs.Prelude.{◌≡◌, ◌+◌, ◌≤◌, false, is_some, [], IfErr, IfOk, None, length};
 ghost use Rattle.std.specs.Arc.{arc_value};
+ghost use Rattle.vl_disk.specs.Faults.{HasCause};
+ghost use Rattle.vl_engine.specs.Opening.{IsDiskFault, reader_faults, why_of};
 ghost use Rattle.vl_model.specs.Limits.{max_room};
 ghost use Rattle.vlstore.specs.Standing.{NeverFails, Stands, parts};
 ghost use Rattle.vlstore.specs.Stores.{AreFirst, IsFirst, numbering, refused, store_of};
@@ -35,6 +37,9 @@ impl<D: Disk + Drop> Store<D> {
         ensures tells { IfOk result (λ r. r.0.tells ≡ false) }
         ensures count { IfOk result (λ r. (r.0.session ≡ sessions) × (length r.1.items ≡ sessions)) }
         ensures first { IfOk result (λ r. AreFirst r.0 0 r.1.items) }
+        // A fault is counted, by the disk or by the reader that is handed back.
+        ensures cause { IfErr result (λ fail. HasCause (D.faults disk) (D.faults fail.disk)
+            (IsDiskFault (reader_faults D.Reader.faults result) (why_of result))) }
     {
         let engine = Engine::open(alloc, disk, room)?;
         match opened::<D, Brand>(alloc, engine, sessions) {
@@ -48,8 +53,9 @@ impl<D: Disk + Drop> Store<D> {
     }
 
     /// A store round an engine in which nothing lives and nothing is open, and so many sessions, which are
-    /// numbered from 0 on. The engine stands for what was told of it: where its disk tells its bytes, it
-    /// represents that history and that layout. `NoMemory` hands it back as it was.
+    /// numbered from 0 on. What the engine stands for is told in `origin`: where its disk tells its bytes, it
+    /// represents that history and that layout. So it is for programs with contracts, and `open` for others.
+    /// `NoMemory` hands the engine back as it was.
     pub fn new(
         alloc: Global,
         engine: Engine<D>,

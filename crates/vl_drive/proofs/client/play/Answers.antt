@@ -1,4 +1,5 @@
 use Rattle.std.proofs.Common.{Bool, refl, ap, ◌∙◌, subst, arith}
+use Rattle.vl_drive.proofs.Modesty.{idle_modest, idle_new, modest_more}
 use Rattle.vl_drive.proofs.Playing.{on_itself, on_then}
 use Rattle.vl_drive.proofs.Scoring.{draws, next_turn, score_none, turn_committed, turn_refused}
 use Rattle.vl_drive.specs.Numbers.{transfer_of}
@@ -9,7 +10,7 @@ use Rattle.vl_drive.proofs.client.play.Goals as goal
 pub loop-turn-init : goal.loop-turn-init
 loop-turn-init g c =
     let v = g.S.Shop.knows c.args.shop.now in
-    (on_itself v, refl, refl, λ none. score_none (draws c.args.seed) v none)
+    (on_itself v, refl, refl, λ none. score_none (draws c.args.seed) v none, λ none. idle_new v none)
 
 pub loop-turn-preserved : goal.loop-turn-preserved
 loop-turn-preserved g c =
@@ -35,6 +36,7 @@ loop-turn-preserved g c =
         omega (arith, count),
         λ none. turn_committed seed turn score.commits score.conflicts x t u w inv.1 is (inv.3 none)
             (subst (λ (committed : Bool). HasTaken t committed u w) b.if-branch.true taken),
+        λ none. c.in_ok-take_turn.ensures.idle turn (inv.4 none),
       )
       | else-branch b ↦ rw b.score-is (
         on,
@@ -42,5 +44,20 @@ loop-turn-preserved g c =
         omega (arith, count),
         λ none. turn_refused seed turn score.commits score.conflicts x t u w inv.1 is (inv.3 none)
             (subst (λ (committed : Bool). HasTaken t committed u w) b.if-branch.false taken),
+        λ none. c.in_ok-take_turn.ensures.idle turn (inv.4 none),
       )
     ]
+
+pub returns-in_err-take_turn-clause-modest : goal.returns-in_err-take_turn-clause-modest
+returns-in_err-take_turn-clause-modest g c none =
+    let turn = c.loop-turn.turn in
+    let below = c.loop-turn-test.true in
+    modest_more turn c.args.txns (g.S.Shop.knows c.take_turn.new.shop) (omega (arith, below))
+    (c.in_err-take_turn.ensures.modest turn (c.loop-turn.invariant.4 none))
+
+pub returns-clause-modest : goal.returns-clause-modest
+returns-clause-modest g c none =
+    let turn = c.loop-turn.turn in
+    let end = c.loop-turn.auto.turn-end in
+    let w = g.S.Shop.knows c.loop-turn.shop in
+    modest_more turn c.args.txns w (omega (arith, end)) (idle_modest turn w (c.loop-turn.invariant.4 none))

@@ -1,5 +1,6 @@
 use Rattle.std.proofs.Common.{◌+◌, ◌-◌, ◌^◌, ◌∷◌, [], min, ap, sym, ◌∙◌, subst, arith}
 use Rattle.std.specs.FinMap.{empty, entries}
+use Rattle.vl_drive.proofs.Modesty.{busy_as, busy_looked, busy_modest, on_err}
 use Rattle.vl_drive.proofs.Playing.{looks_then}
 use Rattle.vl_drive.proofs.Small.{small_below, small_more, small_none, some_written}
 use Rattle.vl_drive.proofs.Turning.{reads_of, turn_done}
@@ -85,3 +86,75 @@ returns-clause-taken g c =
     (looks_then (shop.knows c.balance-2.new.shop) (shop.knows c.set.new.shop) x c.in_ok-set.ensures.looks c.in_ok-set-2.ensures.looks)) in
     turn_done (shop.ticket begun) (shop.number begun) c.in_ok-txn.ensures.begun.0 v u c.in_ok-txn.ensures.begun.1 t committed x w from to
     c.in_ok-txn.ensures.on looks (c.in_ok-from.ensures.value h [] c.in_ok-txn.ensures.sees) to_is written
+
+pub returns-in_err-from-clause-modest : goal.returns-in_err-from-clause-modest
+returns-in_err-from-clause-modest g c turns idle =
+    let shop = g.S.Shop in
+    let ticket = shop.ticket c.in_ok-txn.txn in
+    let number = shop.number c.in_ok-txn.txn in
+    on_err _ (busy_modest ticket number turns (shop.knows c.balance.new.shop)
+    (busy_looked ticket number turns (shop.knows c.begin.new.shop) (shop.knows c.balance.new.shop) c.balance.ensures.looks
+    (c.in_ok-txn.ensures.busy turns idle)))
+
+pub returns-in_err-to-clause-modest : goal.returns-in_err-to-clause-modest
+returns-in_err-to-clause-modest g c turns idle =
+    let shop = g.S.Shop in
+    let ticket = shop.ticket c.in_ok-txn.txn in
+    let number = shop.number c.in_ok-txn.txn in
+    on_err _ (busy_modest ticket number turns (shop.knows c.balance-2.new.shop)
+    (busy_looked ticket number turns (shop.knows c.balance.new.shop) (shop.knows c.balance-2.new.shop) c.balance-2.ensures.looks
+    (busy_looked ticket number turns (shop.knows c.begin.new.shop) (shop.knows c.balance.new.shop) c.balance.ensures.looks
+    (c.in_ok-txn.ensures.busy turns idle))))
+
+pub returns-in_err-set-clause-modest : goal.returns-in_err-set-clause-modest
+returns-in_err-set-clause-modest g c turns idle =
+    let shop = g.S.Shop in
+    let ticket = shop.ticket c.in_ok-txn.txn in
+    let number = shop.number c.in_ok-txn.txn in
+    on_err _ (busy_modest ticket number turns (shop.knows c.set.new.shop)
+    (busy_looked ticket number turns (shop.knows c.balance-2.new.shop) (shop.knows c.set.new.shop) c.set.ensures.looks
+    (busy_looked ticket number turns (shop.knows c.balance.new.shop) (shop.knows c.balance-2.new.shop) c.balance-2.ensures.looks
+    (busy_looked ticket number turns (shop.knows c.begin.new.shop) (shop.knows c.balance.new.shop) c.balance.ensures.looks
+    (c.in_ok-txn.ensures.busy turns idle)))))
+
+pub returns-in_err-set-2-clause-modest : goal.returns-in_err-set-2-clause-modest
+returns-in_err-set-2-clause-modest g c turns idle =
+    let shop = g.S.Shop in
+    let ticket = shop.ticket c.in_ok-txn.txn in
+    let number = shop.number c.in_ok-txn.txn in
+    on_err _ (busy_modest ticket number turns (shop.knows c.set-2.new.shop)
+    (busy_looked ticket number turns (shop.knows c.set.new.shop) (shop.knows c.set-2.new.shop) c.set-2.ensures.looks
+    (busy_looked ticket number turns (shop.knows c.balance-2.new.shop) (shop.knows c.set.new.shop) c.set.ensures.looks
+    (busy_looked ticket number turns (shop.knows c.balance.new.shop) (shop.knows c.balance-2.new.shop) c.balance-2.ensures.looks
+    (busy_looked ticket number turns (shop.knows c.begin.new.shop) (shop.knows c.balance.new.shop) c.balance.ensures.looks
+    (c.in_ok-txn.ensures.busy turns idle))))))
+
+pub returns-in_err-committed-clause-modest : goal.returns-in_err-committed-clause-modest
+returns-in_err-committed-clause-modest g c turns idle =
+    let shop = g.S.Shop in
+    let ticket = shop.ticket c.in_ok-txn.txn in
+    let number = shop.number c.in_ok-txn.txn in
+    let last = c.set-2.new.txn in
+    let tickets = c.in_ok-set-2.ensures.ticket ∙ c.in_ok-set.ensures.ticket ∙ c.in_ok-to.ensures.ticket ∙ c.in_ok-from.ensures.ticket in
+    let numbers = c.in_ok-set-2.ensures.number ∙ c.in_ok-set.ensures.number ∙ c.in_ok-to.ensures.number ∙ c.in_ok-from.ensures.number in
+    on_err _ (c.in_err-committed.ensures.modest turns (busy_as ticket number (shop.ticket last) (shop.number last) turns (shop.knows c.set-2.new.shop) tickets numbers
+    (busy_looked ticket number turns (shop.knows c.set.new.shop) (shop.knows c.set-2.new.shop) c.set-2.ensures.looks
+    (busy_looked ticket number turns (shop.knows c.balance-2.new.shop) (shop.knows c.set.new.shop) c.set.ensures.looks
+    (busy_looked ticket number turns (shop.knows c.balance.new.shop) (shop.knows c.balance-2.new.shop) c.balance-2.ensures.looks
+    (busy_looked ticket number turns (shop.knows c.begin.new.shop) (shop.knows c.balance.new.shop) c.balance.ensures.looks
+    (c.in_ok-txn.ensures.busy turns idle)))))))
+
+pub returns-clause-idle : goal.returns-clause-idle
+returns-clause-idle g c turns idle =
+    let shop = g.S.Shop in
+    let ticket = shop.ticket c.in_ok-txn.txn in
+    let number = shop.number c.in_ok-txn.txn in
+    let last = c.set-2.new.txn in
+    let tickets = c.in_ok-set-2.ensures.ticket ∙ c.in_ok-set.ensures.ticket ∙ c.in_ok-to.ensures.ticket ∙ c.in_ok-from.ensures.ticket in
+    let numbers = c.in_ok-set-2.ensures.number ∙ c.in_ok-set.ensures.number ∙ c.in_ok-to.ensures.number ∙ c.in_ok-from.ensures.number in
+    (c.in_ok-committed.ensures.idle turns (busy_as ticket number (shop.ticket last) (shop.number last) turns (shop.knows c.set-2.new.shop) tickets numbers
+    (busy_looked ticket number turns (shop.knows c.set.new.shop) (shop.knows c.set-2.new.shop) c.set-2.ensures.looks
+    (busy_looked ticket number turns (shop.knows c.balance-2.new.shop) (shop.knows c.set.new.shop) c.set.ensures.looks
+    (busy_looked ticket number turns (shop.knows c.balance.new.shop) (shop.knows c.balance-2.new.shop) c.balance-2.ensures.looks
+    (busy_looked ticket number turns (shop.knows c.begin.new.shop) (shop.knows c.balance.new.shop) c.balance.ensures.looks
+    (c.in_ok-txn.ensures.busy turns idle)))))))

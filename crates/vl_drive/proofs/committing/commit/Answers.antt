@@ -1,9 +1,11 @@
 use Rattle.std.proofs.Common.{List, sym, ◌∙◌, subst}
 use Rattle.std.specs.FinMap.{entries}
+use Rattle.vl_drive.proofs.Modesty.{on_err}
 use Rattle.vl_drive.proofs.Playing.{waits_ended, waits_then}
 use Rattle.vl_drive.specs.Answers.{asked}
 use Rattle.vl_drive.specs.Knowing.{IsOwnTicket}
-use Rattle.vl_drive.specs.Playing.{HasEnded, HasTried}
+use Rattle.vl_drive.specs.Modest.{IsBusy}
+use Rattle.vl_drive.specs.Playing.{HasEnded, HasTried, StaysModest}
 use Rattle.vl_model.specs.History.{History}
 use Rattle.vl_model.specs.Reads.{Read}
 use Rattle.vl_drive.proofs.committing.commit.Goals as goal
@@ -41,4 +43,18 @@ loop-preserved g c =
       again.0 ∙ inv.0,
       waits_then v u w inv.1 again.1,
       subst (λ t. IsOwnTicket w (shop.ticket t) (shop.number t)) (sym again.0) again.2,
+      λ turns busy. let stays = c.in_ok-committed.ensures.stays turns (inv.3 turns busy) in
+          let still = subst (StaysModest (shop.ticket txn) (shop.number txn) turns w) c.in-Again.is stays in
+          subst (λ t. IsBusy (shop.ticket t) (shop.number t) turns w) (sym again.0) still,
     )
+
+pub returns-in_err-committed-clause-modest : goal.returns-in_err-committed-clause-modest
+returns-in_err-committed-clause-modest g c turns busy =
+    on_err _ (c.in_err-committed.ensures.modest turns (c.loop.invariant.3 turns busy))
+
+pub returns-in-Ended-clause-idle : goal.returns-in-Ended-clause-idle
+returns-in-Ended-clause-idle g c turns busy =
+    let shop = g.S.Shop in
+    let txn = c.loop.txn in
+    let stays = c.in_ok-committed.ensures.stays turns (c.loop.invariant.3 turns busy) in
+    subst (StaysModest (shop.ticket txn) (shop.number txn) turns (shop.knows c.try_commit.new.shop)) c.in-Ended.is stays

@@ -19,6 +19,8 @@ returns g c =
         played = λ plays none. absurd (false≢true (sym plays ∙ w.if-player.true));
         kept_up = λ keeps opened. kept_of (HasOpened (knows w.keep_up-player.new.shop)) w.keep_up-player.result
             w.keep_up-player.ensures.none (w.keep_up-player.ensures.opened opened);
+        modest = λ plays none. absurd (false≢true (sym plays ∙ w.if-player.true));
+        still_modest = λ keeps modest. w.keep_up-player.ensures.modest txns modest;
         count = none_up txns w.keep_up-player.result w.keep_up-player.ensures.none;
         trouble = w.keep_up-player.ensures.trouble;
       }))
@@ -28,6 +30,8 @@ returns g c =
             HasScored (draws s) txns score.commits score.conflicts (knows w.play-player.new.shop)))
             w.seed_of.ensures (w.play-player.ensures.scored none);
         kept_up = λ keeps opened. absurd (false≢true (sym w.if-player.false ∙ keeps));
+        modest = λ plays none. w.play-player.ensures.modest none;
+        still_modest = λ keeps modest. absurd (false≢true (sym w.if-player.false ∙ keeps));
         count = count_up txns w.play-player.result w.play-player.ensures.count;
         trouble = w.play-player.ensures.trouble;
       }))

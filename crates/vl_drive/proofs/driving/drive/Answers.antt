@@ -1,7 +1,8 @@
 use Rattle.std.proofs.Common.{[], ◌∷◌, length, map, ap, sym, ◌∙◌, subst, arith, length-append}
 use Rattle.std.specs.List.{AllByRecursion, AllZip}
 use Rattle.std.specs.Prelude.{IfErr, IfOk}
-use Rattle.vl_drive.proofs.Gathering.{map_more, new_front, new_last}
+use Rattle.vl_drive.proofs.Gathering.{map_more, new_front, new_last, new_modest}
+use Rattle.vl_drive.proofs.Modesty.{modest_more}
 use Rattle.vl_drive.specs.Clients.{IsNewAt}
 use Rattle.vl_drive.specs.Knowing.{GoesOn}
 use Rattle.vl_drive.specs.Players.{IsStopped}
@@ -50,4 +51,21 @@ returns-in-Err-clause-stopped g c =
     let knows = g.S.Shop.knows in
     let all = ap (map knows) c.in-Some.ensures.items ∙ map_more knows c.pop.new.self.items c.in-Some.keeper in
     subst (λ vs. IsStopped knows vs c.unopened.result) (sym all)
-    (c.unopened.ensures (knows c.in-Some.keeper) c.open_accounts.ensures.on c.in-Err.ensures.trouble)
+    (c.unopened.ensures.stopped (knows c.in-Some.keeper) c.open_accounts.ensures.on c.in-Err.ensures.trouble)
+
+pub played-requires-clause-modest : goal.played-requires-clause-modest
+played-requires-clause-modest g c κs within =
+    let knows = g.S.Shop.knows in
+    let store = c.requires.new.0 in
+    let all = subst (λ xs. AllByRecursion (IsNewAt store) (map knows xs)) c.in-Some.ensures.items c.requires.new.1 in
+    c.open_accounts.ensures.modest (new_last knows store c.pop.new.self.items c.in-Some.keeper all).own
+
+pub returns-in-Err-clause-modest : goal.returns-in-Err-clause-modest
+returns-in-Err-clause-modest g c =
+    let knows = g.S.Shop.knows in
+    let store = c.requires.new.0 in
+    let front = c.pop.new.self.items in
+    let all = subst (λ xs. AllByRecursion (IsNewAt store) (map knows xs)) c.in-Some.ensures.items c.requires.new.1 in
+    let own = (new_last knows store front c.in-Some.keeper all).own in
+    c.unopened.ensures.modest c.args.txns (new_modest knows store c.args.txns front (new_front knows store front c.in-Some.keeper all))
+    (modest_more 0 c.args.txns (knows c.open_accounts.new.shop) (omega arith) (c.open_accounts.ensures.modest own))

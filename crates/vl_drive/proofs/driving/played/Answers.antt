@@ -1,7 +1,7 @@
 use Rattle.std.proofs.Common.{◌≡◌, true, [], ◌∷◌, ◌++◌, length, map, ap, sym, ◌∙◌, subst}
 use Rattle.std.specs.List.{AllByRecursion, AllZip}
 use Rattle.std.specs.Prelude.{IfErr, IfOk, slice_index_or}
-use Rattle.vl_drive.proofs.Gathering.{all_few, commits_by, conflicts_by, driven_by, each_zip, end_driven, end_on, end_stopped, on_by, written_back}
+use Rattle.vl_drive.proofs.Gathering.{all_few, commits_by, conflicts_by, driven_by, each_zip, end_driven, end_modest, end_on, end_stopped, on_by, written_back}
 use Rattle.vl_drive.proofs.Playing.{on_itself}
 use Rattle.vl_drive.specs.Players.{Gathers, HasActed, IsFew, all_commits, all_conflicts, is_done, shop_of}
 use Rattle.vl_drive.proofs.driving.played.Goals as goal
@@ -133,4 +133,25 @@ returns-clause-stopped g c v on =
     let acted : AllZip (HasActed knows txns seed) players s =
     subst (λ xs. AllZip (HasActed knows txns seed) xs s) c.as_mut_slice.ensures.value zip in
     end_stopped knows txns seed vs v u on players s c.in-Ok.ensures.ready acted c.gathered.result
+    (subst (λ qs. IfErr c.gathered.result (Gathers qs)) back c.gathered.ensures.stopped)
+
+pub returns-clause-modest : goal.returns-clause-modest
+returns-clause-modest g c =
+    let knows = g.S.Shop.knows in
+    let txns = c.args.txns in
+    let seed = c.args.seed in
+    let vs = map knows c.args.shops.items in
+    let u = knows c.args.keeper in
+    let players = c.in-Ok.players.items in
+    let s = c.for_each_mut.new.s in
+    let was = c.as_mut_slice.result.now in
+    let zip : AllZip (HasActed knows txns seed) was s = each_zip (HasActed knows txns seed) was s c.for_each_mut.auto.s
+    (λ i d less. let k = (c.for_each_mut.ensures i d less).1 in
+    subst (λ x. HasActed knows txns seed x (slice_index_or s i d)) k.argument_is
+    (subst (λ y. HasActed knows txns seed k.argument.now y) k.left k.call)) in
+    let long = c.for_each_mut.auto.s ∙ ap length c.as_mut_slice.ensures.value in
+    let back = written_back c.in-Ok.players.len s players c.in-Ok.players.ok.0 long in
+    let acted : AllZip (HasActed knows txns seed) players s =
+    subst (λ xs. AllZip (HasActed knows txns seed) xs s) c.as_mut_slice.ensures.value zip in
+    end_modest knows txns seed vs u u (on_itself u) players s c.in-Ok.ensures.ready acted c.gathered.result
     (subst (λ qs. IfErr c.gathered.result (Gathers qs)) back c.gathered.ensures.stopped)

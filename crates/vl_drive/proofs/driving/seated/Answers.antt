@@ -5,6 +5,7 @@ use Rattle.vl_drive.proofs.Gathering.{map_length, map_more, nothing_left, seated
 use Rattle.vl_drive.proofs.Playing.{on_itself}
 use Rattle.vl_drive.specs.Clients.{HasOpened, IsNewAt}
 use Rattle.vl_drive.specs.Knowing.{GoesOn}
+use Rattle.vl_drive.specs.Modest.{IsModest}
 use Rattle.vl_drive.specs.Players.{AreSeated, IsSeated}
 use Rattle.vl_drive.proofs.driving.seated.Goals as goal
 
@@ -69,6 +70,7 @@ returns-clause-ready g c =
         keeps = c.seat-last.ensures.keeps_up;
         on = subst (GoesOn (knows c.args.keeper)) (sym same) (on_itself (knows c.args.keeper));
         opened = subst HasOpened (sym same) c.requires.opened;
+        modest = subst (IsModest 0) (sym same) c.requires.modest;
       },
     )
 

@@ -1,6 +1,7 @@
 use Rattle.std.proofs.Common.{◌≡◌, [], refl, ap, sym, ◌∙◌, subst, arith}
 use Rattle.std.specs.FinMap.{entries}
 use Rattle.vl_drive.proofs.Keeping.{opens}
+use Rattle.vl_drive.proofs.Modesty.{busy_as, busy_looked, busy_modest, idle_new, idle_next}
 use Rattle.vl_drive.proofs.Playing.{looks_itself, looks_then}
 use Rattle.vl_drive.proofs.Small.{first_more, small_below, small_first, some_first}
 use Rattle.vl_drive.specs.Accounts.{IsSmall, first_balances, with_balance}
@@ -59,3 +60,42 @@ returns-clause-opened g c none =
     (inv.4 ∙ ap first_balances all) at_number in
     opens committed v u x w (shop.ticket begun) (shop.number begun) c.in_ok-txn.ensures.begun.0 none c.in_ok-txn.ensures.on
     c.in_ok-txn.ensures.begun.1 inv.0 written
+
+pub returns-in_err-txn-clause-modest : goal.returns-in_err-txn-clause-modest
+returns-in_err-txn-clause-modest g c none = c.in_err-txn.ensures.modest 0 (idle_new (g.S.Shop.knows c.args.shop.now) none)
+
+pub returns-in_err-set-clause-modest : goal.returns-in_err-set-clause-modest
+returns-in_err-set-clause-modest g c none =
+    let inv = c.loop-account.invariant in
+    let shop = g.S.Shop in
+    let ticket = shop.ticket c.in_ok-txn.txn in
+    let number = shop.number c.in_ok-txn.txn in
+    let x = shop.knows c.loop-account.shop in
+    let w = shop.knows c.set.new.shop in
+    busy_modest ticket number 0 w (busy_looked ticket number 0 x w c.set.ensures.looks
+    (busy_looked ticket number 0 (shop.knows c.begin.new.shop) x inv.0
+    (c.in_ok-txn.ensures.busy 0 (idle_new (shop.knows c.args.shop.now) none))))
+
+pub returns-in_err-commit-clause-modest : goal.returns-in_err-commit-clause-modest
+returns-in_err-commit-clause-modest g c none =
+    let inv = c.loop-account.invariant in
+    let shop = g.S.Shop in
+    let ticket = shop.ticket c.in_ok-txn.txn in
+    let number = shop.number c.in_ok-txn.txn in
+    let x = shop.knows c.loop-account.shop in
+    c.in_err-commit.ensures.modest 0
+    (busy_as ticket number (shop.ticket c.loop-account.txn) (shop.number c.loop-account.txn) 0 x inv.2 inv.3
+    (busy_looked ticket number 0 (shop.knows c.begin.new.shop) x inv.0
+    (c.in_ok-txn.ensures.busy 0 (idle_new (shop.knows c.args.shop.now) none))))
+
+pub returns-clause-modest : goal.returns-clause-modest
+returns-clause-modest g c none =
+    let inv = c.loop-account.invariant in
+    let shop = g.S.Shop in
+    let ticket = shop.ticket c.in_ok-txn.txn in
+    let number = shop.number c.in_ok-txn.txn in
+    let x = shop.knows c.loop-account.shop in
+    idle_next 0 (shop.knows c.commit.new.shop) (c.in_ok-commit.ensures.idle 0
+    (busy_as ticket number (shop.ticket c.loop-account.txn) (shop.number c.loop-account.txn) 0 x inv.2 inv.3
+    (busy_looked ticket number 0 (shop.knows c.begin.new.shop) x inv.0
+    (c.in_ok-txn.ensures.busy 0 (idle_new (shop.knows c.args.shop.now) none)))))

@@ -1,4 +1,4 @@
-use Rattle.vl_drive.proofs.Driven.{list-driven}
+use Rattle.vl_drive.proofs.WholeList.{list-driven}
 use Rattle.vl_drive.proofs.laws.a_closed_list_is_driven.Goals as goal
 
 pub returns : goal.returns

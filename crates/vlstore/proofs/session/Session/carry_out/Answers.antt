@@ -1,5 +1,5 @@
-use Rattle.std.proofs.Common.{◌≡◌, refl, sym, ap, ◌∙◌, subst}
-use Rattle.std.specs.Prelude.{true, Some, IsSome}
+use Rattle.std.proofs.Common.{◌≡◌, refl, sym, ◌∙◌, subst}
+use Rattle.std.specs.Prelude.{true, IsSome}
 use Rattle.vl_compact.specs.declared.job.Job.{Job}
 use Rattle.vl_disk.specs.DiskState.{new_file}
 use Rattle.vl_engine.specs.Merging.{fresh_outcome}

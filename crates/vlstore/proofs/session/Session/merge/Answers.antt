@@ -1,5 +1,5 @@
-use Rattle.std.proofs.Common.{◌≡◌, refl, sym, ap, ◌∙◌, subst}
-use Rattle.std.specs.Prelude.{true, length, min, ◌^◌, ◌-◌, Option, None, Some, Ok}
+use Rattle.std.proofs.Common.{◌≡◌, refl, sym, ◌∙◌, subst}
+use Rattle.std.specs.Prelude.{length, min, ◌^◌, ◌-◌, Option, Ok, Err}
 use Rattle.vl_compact.specs.Laid.{AreBoth}
 use Rattle.vl_compact.specs.Progress.{made_of}
 use Rattle.vl_disk.specs.declared.errors.NoMemory.{NoMemory}
@@ -7,7 +7,7 @@ use Rattle.vl_engine.specs.Merging.{HasMerge, install_outcome, plan_outcome}
 use Rattle.vl_layout.specs.Decides.{Answered}
 use Rattle.vl_layout.specs.Merging.{merged_entries}
 use Rattle.vl_layout.specs.Rulings.Abandon.{abandon_ruling}
-use Rattle.vl_layout.specs.Rulings.Install.{install_ruling}
+use Rattle.vl_layout.specs.Rulings.Install.{Installed, install_ruling}
 use Rattle.vl_layout.specs.Rulings.Plan.{plan_ruling}
 use Rattle.vl_layout.specs.declared.job.Job.{Job}
 use Rattle.vlstore.specs.Entries.{abandon_entry, install_entry, plan_entry}
@@ -15,7 +15,8 @@ use Rattle.vlstore.specs.Knowing.{Stepped}
 use Rattle.vlstore.specs.Merging.{IsWork, PutIn}
 use Rattle.vlstore.specs.Standing.{NeverFails}
 use Rattle.vlstore.proofs.Making.{given_back, on_and_on}
-use Rattle.vlstore.proofs.Merged.{abandon_works, did_on, did_work, install_works, none_due, one_due, own_stays, plan_works}
+use Rattle.vlstore.proofs.Merged.{abandon_works, did_on, did_work, install_ends, install_works, job_ended, none_due, none_own, one_due}
+use Rattle.vlstore.proofs.Merged.{own_back, own_stays, plan_works}
 use Rattle.vlstore.proofs.Merged.{planned_own, planned_some, prefix_itself, same_own, stepped_so, was_put_in}
 use Rattle.vlstore.proofs.Stores.{prefix_on}
 use Rattle.vlstore.proofs.session.Session.merge.Goals as goal
@@ -151,3 +152,47 @@ returns-in-Ok-clause-merged g c told =
     (c.carry_out.ensures.on.session ∙ c.plan.ensures.on.session)
     (prefix_on u.seen v.seen c.carry_out.new.self.seen c.plan.ensures.on.seen c.carry_out.ensures.on.seen)
     (c.in-Ok.ensures.steps (c.carry_out.ensures.on.tells ∙ told_then) handed.under_way.planned handed.under_way.own)))
+
+-- ---- none is left open
+
+pub returns-in_err-job-clause-over : goal.returns-in_err-job-clause-over
+returns-in_err-job-clause-over g c told job own =
+    own_back c.args.self.now c.plan.new.self (c.in_err-job.ensures.steps told).1.own c.plan.ensures.on.session job own
+
+pub returns-in_default-clause-over : goal.returns-in_default-clause-over
+returns-in_default-clause-over g c told job own =
+    let s = c.in_ok-job.ensures.steps told in
+    let sure = NeverFails g.D.Watched.faults g.D.Reader.Reader.faults g.D.Writer.Writer.faults in
+    let step = subst (λ (o : Option _). Stepped sure c.args.self.now c.plan.new.self (λ l h. plan_ruling l h) plan_entry
+    (plan_outcome {E = NoMemory} s.0 (Ok o))) c.in_default.is s.1 in
+    own_back c.args.self.now c.plan.new.self step.own c.plan.ensures.on.session job own
+
+pub returns-in-Err-clause-over : goal.returns-in-Err-clause-over
+returns-in-Err-clause-over g c told job own =
+    let way = c.carry_out.ensures.under_way in
+    let made = made_of c.carry_out.new.job way.planned in
+    absurd (none_own c.abandon.new.self
+    (job_ended c.carry_out.new.self c.abandon.new.self (λ l h. abandon_ruling l h way.planned made) (abandon_entry made)
+    (Answered tt) (λ s l h. refl)
+    (c.abandon.ensures.steps (c.carry_out.ensures.on.tells ∙ (c.plan.ensures.on.tells ∙ told)) way.planned way.own)) job own)
+
+pub returns-in-Ok-clause-over : goal.returns-in-Ok-clause-over
+returns-in-Ok-clause-over g c told job own =
+    let way = c.carry_out.ensures.under_way in
+    let made = made_of c.carry_out.new.job way.planned in
+    absurd (none_own c.install.new.self
+    (job_ended c.carry_out.new.self c.install.new.self (λ l h. install_ruling l h way.planned made)
+    (install_entry way.planned made) (Answered Installed) (λ s l h. refl)
+    (c.in-Ok.ensures.steps (c.carry_out.ensures.on.tells ∙ (c.plan.ensures.on.tells ∙ told)) way.planned way.own)) job own)
+
+pub returns-in-Err-install-clause-over : goal.returns-in-Err-install-clause-over
+returns-in-Err-install-clause-over g c told job own =
+    let way = c.carry_out.ensures.under_way in
+    let made = made_of c.carry_out.new.job way.planned in
+    let told_made = c.carry_out.ensures.on.tells ∙ (c.plan.ensures.on.tells ∙ told) in
+    let left = c.given_up.ensures.over (c.install.ensures.on.tells ∙ told_made) job own in
+    let fail = c.in-Err-install.fail in
+    absurd (none_own c.install.new.self
+    (job_ended c.carry_out.new.self c.install.new.self (λ l h. install_ruling l h way.planned made)
+    (install_entry way.planned made) (install_outcome (Err fail)) (install_ends way.planned made fail left.1)
+    (c.in-Err-install.ensures.steps told_made way.planned way.own)) job left.0)

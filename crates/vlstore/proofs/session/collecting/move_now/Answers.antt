@@ -1,5 +1,5 @@
 use Rattle.std.proofs.Common.{refl, ap}
-use Rattle.std.specs.Prelude.{[], Result, Ok, Err}
+use Rattle.std.specs.Prelude.{[]}
 use Rattle.vl_engine.specs.Merging.{StandsOpen}
 use Rattle.vl_engine.specs.Relocating.{IsOfPass, move_effects, move_outcome}
 use Rattle.vl_layout.specs.Decides.{as_before}

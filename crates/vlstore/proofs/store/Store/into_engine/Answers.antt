@@ -1,4 +1,4 @@
-use Rattle.std.proofs.Common.{List, subst, ◌∙◌, sym}
+use Rattle.std.proofs.Common.{List, subst}
 use Rattle.std.specs.Prelude.{is_some}
 use Rattle.vl_layout.specs.declared.lock_history.LockEntry.{LockEntry}
 use Rattle.vlstore.specs.Knowing.{Knows}

@@ -1,5 +1,5 @@
-use Rattle.std.proofs.Common.{◌≡◌, refl, sym, ap, ◌∙◌, subst}
-use Rattle.std.specs.Prelude.{is_some, true, None}
+use Rattle.std.proofs.Common.{refl}
+use Rattle.std.specs.Prelude.{is_some}
 use Rattle.vlstore.specs.Lists.{new_origin}
 use Rattle.vlstore.specs.Standing.{NeverFails, parts}
 use Rattle.vlstore.proofs.First.{no_steps, none_told}

@@ -267,6 +267,7 @@ list-driven o clients seed txns vs list many driven closed =
     let both = sum-shared (by_session is_put list) (by_session is_ended list) txns clients
     (λ client less. sym (ends-counted client list) ∙ (each client (omega arith) less).1) in
     record {
+      legal = closed.legal;
       opened = opened;
       turns = turns;
       each = λ client less. (each client (omega arith) less).1;
