@@ -7,13 +7,19 @@ use std::process::ExitCode;
 use vl_folder::FolderDisk;
 use vl_io::{StdSink, StdSource};
 use vl_replay::{Served, process_words, serve};
+use vlstore::SureStore;
 
 fn main(rt: HostRuntime) -> ExitCode {
     let mut source = StdSource::new(rt.reader());
     let mut sink = StdSink::new(io::writer(&rt));
     let words = process_words(&rt);
-    let Served { exit, disk: _ } = serve(rt.alloc(), words, &mut source, &mut sink, |folder| {
-        FolderDisk::new(&rt, rt.alloc(), folder)
-    });
+    let Served { exit, disk: _ } = serve::<SureStore, HostRuntime, _, _, _, _>(
+        &rt,
+        rt.alloc(),
+        words,
+        &mut source,
+        &mut sink,
+        |folder| FolderDisk::new(&rt, rt.alloc(), folder),
+    );
     exit
 }

@@ -7,11 +7,11 @@ use Rattle.vl_compact.specs.declared.files.Lent.{Lent}
 use Rattle.vl_compact.specs.declared.job.Job.{Job as TheJob}
 use Rattle.vl_compact.specs.declared.job_reader.JobReader.{JobReader}
 use Rattle.vl_core.specs.declared.kept.Core.{Core}
-use Rattle.vl_engine.specs.Merging.{fresh_effects, fresh_outcome}
+use Rattle.vl_engine.specs.Merging.{fresh_outcome}
 use Rattle.vl_engine.specs.declared.fails.StepFail.{StepFail}
 use Rattle.vl_engine.specs.declared.fails.StepFail.TheVariants as fails
 use Rattle.vl_engine.specs.declared.open.OpenMerge.{OpenMerge}
-use Rattle.vl_layout.specs.Decides.{Decides, Effects, Otherwise, as_before}
+use Rattle.vl_layout.specs.Decides.{Decides, Effects, Otherwise}
 use Rattle.vl_layout.specs.Ruling.{Ruling, has_no_number, leaving}
 use Rattle.vl_layout.specs.Rulings.Fresh as fresh
 use Rattle.vl_layout.specs.Rulings.Fresh.{FreshAnswer, drawn, fresh_ruling, fresh_unless}
@@ -24,7 +24,7 @@ use Rattle.vl_model.specs.declared.counter.Counter.TheVariants as counters
 use Rattle.vl_table.specs.declared.block_reader.BlockReader.{BlockReader}
 use Rattle.vl_version.specs.declared.base.Base.{Base}
 use Rattle.vl_replay.specs.Drawn.{IsServing, drawn_all, drawn_state}
-use Rattle.vl_replay.specs.Rounds.{IsUnderWay, RoundLeaves, Rounds, round_by}
+use Rattle.vl_replay.specs.Rounds.{RoundLeaves, Rounds, round_by}
 use Rattle.vl_replay.specs.declared.carrying.Round.{Round}
 use Rattle.vl_replay.specs.declared.carrying.Round.TheVariants as rounds
 use Rattle.vl_sequential.specs.Halts.{HaltsByDisk}

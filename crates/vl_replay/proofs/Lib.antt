@@ -1,3 +1,4 @@
+pub mod Benchmarks
 pub mod CarryingDisk
 pub mod CarryingDraws
 pub mod CarryingJob
@@ -6,9 +7,11 @@ pub mod CarryingRemoved
 pub mod CarryingRounds
 pub mod CarryingTables
 pub mod Disk
+pub mod Driven
 pub mod Lines
 pub mod Merges
 pub mod Names
+pub mod NotBegun
 pub mod Openings
 pub mod Passes
 pub mod Runs

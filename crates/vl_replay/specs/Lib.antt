@@ -1,5 +1,7 @@
+pub mod Benchmark
 pub mod Choosing
 pub mod Drawn
+pub mod Driving
 pub mod Handed
 pub mod Opened
 pub mod Passing

@@ -14,10 +14,12 @@ use Rattle.vl_sequential.specs.Start.{StartsIn}
 use Rattle.vl_sequential.specs.Trying.{trial_of}
 use Rattle.vl_sequential.specs.declared.ending.Ending.{Ending}
 use Rattle.vl_sequential.specs.declared.ending.Ending.TheVariants.{BadWords}
+use Rattle.vl_replay.specs.Benchmark.{StatusOfBench, summary_of}
+use Rattle.vl_replay.specs.Driving.{StatusOfDrive}
 use Rattle.vl_replay.specs.Run.{AreNotPlain, AskFor, EndsBy, FailedAtTables, FailedToRead, HasCountedFault}
 use Rattle.vl_replay.specs.Run.{StatusOfAnswers, StatusOfTrial, TellsOfInput}
 use Rattle.vl_sequential.specs.declared.words.Command.{Command}
-use Rattle.vl_sequential.specs.declared.words.Command.TheVariants.{Replay, Trial}
+use Rattle.vl_sequential.specs.declared.words.Command.TheVariants.{Bench, Drive, Replay, Trial}
 
 -- the folder that the second word names, and the working folder where there is none
 abbrev pub folder_of : List (List ℕ) → List ℕ
@@ -46,6 +48,10 @@ pub record ServedOver {S K D R W : Type 0} (s : source.Ghosts S) (k : sink.Ghost
   pub tries : (stop : ℕ) (outcome : Outcome) (input : List ℕ) → AskFor words (Trial stop outcome)
       → s.left source ≡ Some input
       → StatusOfTrial (trial_of stop input outcome) (k.held sink) (k.held sink') (s.left source') status
+  pub benches : (seed count : ℕ) → AskFor words (Bench seed count)
+      → (source' ≡ source) × (left ≡ made) × StatusOfBench k (summary_of seed count) sink sink' status
+  pub drives : (clients txns seed : ℕ) → AskFor words (Drive clients txns seed)
+      → (source' ≡ source) × (left ≡ made) × StatusOfDrive k clients txns seed sink sink' status
   pub not_plain : AreNotPlain words → (source' ≡ source) × (left ≡ made) × EndsBy k sink sink' BadWords status
   pub no_usage_line : (command : Command) → AskFor words command → status ≢ 2
   -- status 3 comes only by a fault of the disk, of a read or of a merge's write, and all others but 7 only without a fault of the disk

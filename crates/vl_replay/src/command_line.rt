@@ -20,14 +20,21 @@ ghost use Rattle.vl_sequential.specs.declared.fails.Refusal.{Refusal};
 ghost use Rattle.vl_sequential.specs.Trial.{begun};
 ghost use Rattle.vl_sequential.specs.Trying.{trial_of};
 ghost use Rattle.vl_mem.specs.declared.outcome.Outcome.{Outcome};
+ghost use Rattle.vl_replay.specs.Benchmark.{StatusOfBench, summary_of};
+ghost use Rattle.vl_replay.specs.Driving.{StatusOfDrive};
 ghost use Rattle.vl_replay.specs.Run.{AreNotPlain, AskFor, EndsBy, FailedAtTables, FailedToRead, HasCountedFault};
 ghost use Rattle.vl_replay.specs.Run.{MetDamage, StatusOfAnswers, StatusOfTrial, StatusWithoutOpening, TellsOfInput};
 ghost use Rattle.vl_sequential.specs.declared.words.Command.{Command as Commands};
 
+use crate::benchmark::bench;
+use crate::driving::drive;
 use crate::running::replay;
 use crate::trying::trial;
 use std::alloc::Global;
+use std::sync::Wait;
+use std::thread::Threads;
 use vl_disk::Disk;
+use vl_drive::Shops;
 use vl_io::{Sink, Source};
 use vl_model::reads_without_conflict_stay_explained;
 use vl_sequential::{Command, Ended, Ending, NO_MEMORY, USAGE, command_in, finish};
@@ -45,8 +52,10 @@ pub fn refuse_without_words<K: Sink>(sink: &mut K) -> u8
     finish(sink, NO_MEMORY, Ending::NoMemory).status()
 }
 
-/// Carries out a command line: its words, without the program's name.
-pub fn run<S: Source, K: Sink, D: Disk>(
+/// Carries out a command line: its words, without the program's name. `T` is the store in memory that clients share. It may
+/// wait where they do, and else it waits for nobody.
+pub fn run<T: Shops, R: Threads + Wait + Sync, S: Source, K: Sink, D: Disk>(
+    rt: &R,
     alloc: Global,
     words: &[String],
     source: &mut S,
@@ -64,6 +73,17 @@ pub fn run<S: Source, K: Sink, D: Disk>(
     ensures tries { (stop : ℕ) (outcome : Outcome) (input : List ℕ) → AskFor (map string_bytes words.now) (Command.Trial stop outcome)
         → S.left source.old ≡ Some input
         → StatusOfTrial (trial_of stop input outcome) (K.held sink.old) (K.held sink.new) (S.left source.new) result.status }
+
+    // Where they ask for a benchmark, the summary of the answers to its lines is printed. Source and disk are left untouched.
+    ensures benches { (seed count : ℕ) → AskFor (map string_bytes words.now) (Command.Bench seed count)
+        → (source.new ≡ source.old) × (result.disk ≡ disk)
+        × StatusOfBench K.Sink (summary_of seed count) sink.old sink.new result.status }
+
+    // Where they ask for clients, the counts of their commits and conflicts are printed, and the sum of all balances. Source and
+    // disk are left untouched.
+    ensures drives { (clients txns seed : ℕ) → AskFor (map string_bytes words.now) (Command.Drive clients txns seed)
+        → (source.new ≡ source.old) × (result.disk ≡ disk)
+        × StatusOfDrive K.Sink clients txns seed sink.old sink.new result.status }
 
     // What was read is explained by the history at the reader's own number, and that grows by accepted commits alone. This is a law
     // of the sequential store's answers, and says nothing of the body. It stands here so that this contract has the whole headline.
@@ -85,7 +105,7 @@ pub fn run<S: Source, K: Sink, D: Disk>(
     // Status 3 comes only by a fault of the disk, or where something failed of which the disk counts no fault: a line's read of an
     // open store's file, a merge's write of a file that was lent to it, or an opening's read of a table. Over a disk on which a run
     // may begin, the disk, or some reader or writer of its kind, has counted a fault then. All other statuses but 7 come only without
-    // a fault of the disk. A trial never comes to 3: its stop is not reported.
+    // a fault of the disk. A trial never comes to 3: its stop is not reported. Nor do a benchmark and clients.
     ensures no_fault_in_trial { (stop : ℕ) (outcome : Outcome) → AskFor (map string_bytes words.now) (Command.Trial stop outcome)
         → result.status ≢ 3 }
     ensures disk_fault { result.status ≡ 3 → Rose (D.faults disk) (D.faults result.disk)
@@ -131,7 +151,11 @@ pub fn run<S: Source, K: Sink, D: Disk>(
         result.status }
 {
     reads_without_conflict_stay_explained();
-    match command_in(words) {
+    let Ok(command) = command_in(alloc, words) else {
+        let status = finish(sink, NO_MEMORY, Ending::NoMemory).status();
+        return CommandEnded { status, disk };
+    };
+    match command {
         Some(Command::Replay) => {
             let Ended { ending, disk } = replay(alloc, source, sink, disk);
             let status = ending.status();
@@ -139,6 +163,14 @@ pub fn run<S: Source, K: Sink, D: Disk>(
         }
         Some(Command::Trial(stop, outcome)) => {
             let status = trial(alloc, source, sink, stop, outcome).status();
+            CommandEnded { status, disk }
+        }
+        Some(Command::Bench(seed, count)) => {
+            let status = bench(alloc, sink, seed, count).status();
+            CommandEnded { status, disk }
+        }
+        Some(Command::Drive(clients, txns, seed)) => {
+            let status = drive::<T, R, K>(rt, alloc, sink, clients, txns, seed).status();
             CommandEnded { status, disk }
         }
         None => {

@@ -3,15 +3,19 @@
 #![tactic(auto)]
 
 mod answering;
+mod benchmark;
 mod carrying;
 mod command_line;
 mod contents;
+mod driving;
 mod process;
 mod replayer;
 mod running;
 mod trying;
 
+pub use benchmark::bench;
 pub use command_line::{CommandEnded, refuse_without_words, run};
+pub use driving::drive;
 pub use process::{Served, process_words, serve};
 pub use replayer::Replayer;
 pub use running::replay;

@@ -13,8 +13,11 @@ use crate::command_line::{CommandEnded, refuse_without_words, run};
 use std::alloc::{AllocError, Global};
 use std::process::ExitCode;
 use std::rt::Env;
+use std::sync::Wait;
+use std::thread::Threads;
 use std::{env, io};
 use vl_disk::Disk;
+use vl_drive::Shops;
 use vl_io::{Sink, Source};
 
 /// How a process ended, and the disk of its run; none where there was no memory for its words or their folder.
@@ -25,7 +28,15 @@ pub struct Served<D> {
 
 /// Carries out a process's command line over a source and a sink, and over the disk that is made for the folder of the
 /// second word. Where the words found no memory (`None`) no disk is made.
-pub fn serve<S: Source, K: Sink, D: Disk, M: FnOnce(String) -> D>(
+pub fn serve<
+    T: Shops,
+    R: Threads + Wait + Sync,
+    S: Source,
+    K: Sink,
+    D: Disk,
+    M: FnOnce(String) -> D,
+>(
+    rt: &R,
     alloc: Global,
     words: Option<Vec<String>>,
     source: &mut S,
@@ -52,7 +63,14 @@ pub fn serve<S: Source, K: Sink, D: Disk, M: FnOnce(String) -> D>(
         return Served { exit, disk: None };
     };
     let disk = make_disk(folder);
-    let CommandEnded { status, disk } = run(alloc, words.as_slice(), source, sink, disk);
+    let CommandEnded { status, disk } = run::<T, R, S, K, D>(
+        rt,
+        alloc,
+        words.as_slice(),
+        source,
+        sink,
+        disk,
+    );
     let exit = ExitCode::from(status);
     Served {
         exit,

@@ -2,10 +2,13 @@
 //! the line that meets the stop, and then the rows that a plain model has of the commits that are there.
 
 use std::alloc::Global;
+use std::sync::Wait;
 use std::test::Fail;
+use std::thread::Threads;
 use vl_io::{SliceSource, VecSink};
 use vl_mem::MemDisk;
 use vl_replay::{CommandEnded, run};
+use vlstore::SureStore;
 
 /// How many lines the script has.
 const LINES: u64 = 5000;
@@ -245,7 +248,12 @@ fn make_script(alloc: Global) -> Result<Script, Fail> {
 }
 
 /// What a run over an empty disk prints; none where it doesn't end with status 0.
-fn printed(alloc: Global, words: &str, input: &str) -> Result<Option<Vec<u8>>, Fail> {
+fn printed<R: Threads + Wait + Sync>(
+    rt: &R,
+    alloc: Global,
+    words: &str,
+    input: &str,
+) -> Result<Option<Vec<u8>>, Fail> {
     let mut all = Vec::new(alloc);
     for word in words.split(' ') {
         all.push(String::from_str(alloc, word)?)?;
@@ -253,7 +261,14 @@ fn printed(alloc: Global, words: &str, input: &str) -> Result<Option<Vec<u8>>, F
     let mut source = SliceSource::new(input.as_bytes(), Vec::new(alloc));
     let mut sink = VecSink::new(alloc, ROOM, Vec::new(alloc))?;
     let disk = MemDisk::new(alloc, Vec::new(alloc), Vec::new(alloc));
-    let CommandEnded { status, disk: _ } = run(alloc, all.as_slice(), &mut source, &mut sink, disk);
+    let CommandEnded { status, disk: _ } = run::<SureStore, R, _, _, _>(
+        rt,
+        alloc,
+        all.as_slice(),
+        &mut source,
+        &mut sink,
+        disk,
+    );
     Ok(if status == 0 {
         Some(sink.into_bytes())
     } else {
@@ -460,7 +475,9 @@ impl Model {
 fn trials_of_a_long_script_print_what_its_replay_did(rt: HostRuntime) -> Result<(), Fail> {
     let alloc = rt.alloc();
     let script = make_script(alloc)?;
-    let replayed = printed(alloc, "replay .", script.text.as_str())?.unwrap_or(Vec::new(alloc));
+    let replayed = printed(&rt, alloc, "replay .", script.text.as_str())?.unwrap_or(Vec::new(
+        alloc,
+    ));
     let model = model_of(alloc, script.asked.as_slice(), replayed.as_slice())?;
     let calls = model.marks.as_slice().last().map_or(0, |mark| mark.calls);
     assert!(rt; calls > 1000, "{calls} calls");
@@ -468,7 +485,7 @@ fn trials_of_a_long_script_print_what_its_replay_did(rt: HostRuntime) -> Result<
         let stop = calls.wrapping_mul(i) / (STOPS - 1);
         let outcome = i % 3;
         let words = format!(in alloc; "trial {stop} {outcome}")?;
-        let text = printed(alloc, words.as_str(), script.text.as_str())?;
+        let text = printed(&rt, alloc, words.as_str(), script.text.as_str())?;
         let wanted = model.trial_text(alloc, replayed.as_slice(), stop, outcome == 1)?;
         assert!(rt;
             text.is_some_and(|text| text.as_slice() == wanted.as_slice()),

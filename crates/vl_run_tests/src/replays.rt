@@ -1,12 +1,15 @@
-//! What a run prints, and how it ends: replays and trials, the words, the limits, and faults of the source and the sink. All that
-//! is wanted was written by hand.
+//! What a run prints, and how it ends: replays, trials and benchmarks, the words, the limits, and faults of the source and the sink.
+//! All that is wanted was written by hand.
 
 use std::alloc::Global;
+use std::sync::Wait;
 use std::test::Fail;
+use std::thread::Threads;
 use vl_disk::{Failed, Name};
 use vl_io::{SliceSource, VecSink};
 use vl_mem::MemDisk;
 use vl_replay::{CommandEnded, Halt, run};
+use vlstore::SureStore;
 
 /// Runs over an empty disk, one a line. Between the bars stand the words, the numbers of the call of the source and of the sink
 /// that fail, the input, what is printed, and the status. A `;` stands for a line's end, `*n*` for n bytes `66`, spelled, and
@@ -195,7 +198,13 @@ const RUNS: &str = "\
         reopened 1;rows 1;61 *65*;|0\n\
     trial 18 2|||begin t;set t 61 *65*;commit t;rotate;flush;pick g 1;batch g;move g;|ok 0;ok;ok 1;ok 1;ok 1;ok 1;found 1;moved 1;\
         reopened 1;rows 1;61 *65*;|0\n\
-    trial 1000000 0|||begin a;set a 61 01;commit a;|ok 0;ok;ok 1;reopened 1;rows 1;61 01;|0";
+    trial 1000000 0|||begin a;set a 61 01;commit a;|ok 0;ok;ok 1;reopened 1;rows 1;61 01;|0\n\
+    bench 0 1||||commits 1;rows 1;moved 0;bytes 158 live 0;|0\n\
+    bench 0 1|1||fetch;|commits 1;rows 1;moved 0;bytes 158 live 0;|0\n\
+    bench 0 1||1|||7\n\
+    drive 1 1 0||||commits 1;conflicts 0;total 64000;|0\n\
+    drive 1 1 0|1||fetch;|commits 1;conflicts 0;total 64000;|0\n\
+    drive 1 1 0||1|||7";
 
 /// Three commits: of two keys, of a deletion, and of an empty value. They make the calls 7 and 8, 9 and 10, 11 and 12.
 const COMMITS: &str =
@@ -253,7 +262,10 @@ const SWEEP_STOPS: &str = "\
 /// Words that aren't plain, between the bars.
 const NOT_PLAIN: &str =
     "|replay|replay -h|replay |replay . .|--help|help|-h .|--help .|trial|trial 1|trial 1 3|trial 1 -\
-    |trial 1 00|trial 1 0 0|trial  0|trial 01 0|trial +1 0|trial 1000001 0";
+    |trial 1 00|trial 1 0 0|trial  0|trial 01 0|trial +1 0|trial 1000001 0|bench|bench 1|bench 1 0|bench 1 100001|bench 1 1 1\
+    |bench -1 1|bench +1 1|bench 01 1|bench 1 01|bench  1|bench 1 |bench 1 a|bench 18446744073709551616 1|Bench 1 1\
+    |drive|drive 1|drive 1 1|drive 0 1 1|drive 17 1 1|drive 1 0 1|drive 1 100001 1|drive 1 1 18446744073709551616|drive 1 1 1 1\
+    |drive -1 1 1|drive 01 1 1|drive 1 01 1|drive 1 1 01|drive 1 1 |drive a 1 1|Drive 1 1 1";
 
 const USAGE: &str =
     "usage: vlstore replay DIR, trial STOP OUTCOME, bench SEED COUNT or drive CLIENTS TXNS SEED;";
@@ -312,7 +324,8 @@ fn failing(alloc: Global, number: &str) -> Result<Vec<u64>, Fail> {
 }
 
 /// What a run over an empty disk prints, and its status, in decimal. Its words stand apart by one space each.
-fn ran(
+fn ran<R: Threads + Wait + Sync>(
+    rt: &R,
     alloc: Global,
     words: &str,
     reads: &str,
@@ -327,7 +340,14 @@ fn ran(
     let mut source = SliceSource::new(&input, failing(alloc, reads)?);
     let mut sink = VecSink::new(alloc, 16_384, failing(alloc, puts)?)?;
     let disk = MemDisk::new(alloc, Vec::new(alloc), Vec::new(alloc));
-    let CommandEnded { status, disk: _ } = run(alloc, all.as_slice(), &mut source, &mut sink, disk);
+    let CommandEnded { status, disk: _ } = run::<SureStore, R, _, _, _>(
+        rt,
+        alloc,
+        all.as_slice(),
+        &mut source,
+        &mut sink,
+        disk,
+    );
     Ok((sink.into_bytes(), status.to_string(alloc)?))
 }
 
@@ -340,7 +360,7 @@ fn runs_print_what_is_listed(rt: HostRuntime) -> Result<(), Fail> {
         let puts = fields.next().unwrap_or("");
         let input = fields.next().unwrap_or("");
         let wanted = spelled(rt.alloc(), fields.next().unwrap_or(""))?;
-        let (printed, status) = ran(rt.alloc(), words, reads, puts, input)?;
+        let (printed, status) = ran(&rt, rt.alloc(), words, reads, puts, input)?;
         assert!(rt; printed.as_slice() == wanted.as_slice(), "{row}");
         assert!(rt; Some(status.as_str()) == fields.next(), "{row}");
     }
@@ -354,7 +374,8 @@ fn stops_of(text: &str) -> (u32, u32) {
 }
 
 /// The words of the first trial of a script, under one of the stops of a row, that doesn't print this or ends with another status.
-fn first_not(
+fn first_not<R: Threads + Wait + Sync>(
+    rt: &R,
     alloc: Global,
     script: &str,
     stops: &str,
@@ -365,7 +386,7 @@ fn first_not(
     let (first, last) = stops_of(stops);
     for stop in first..=last {
         let words = format!(in alloc; "trial {stop} {outcome}")?;
-        let (printed, status) = ran(alloc, words.as_str(), "", "", script)?;
+        let (printed, status) = ran(rt, alloc, words.as_str(), "", "", script)?;
         if printed.as_slice() != wanted.as_slice() || status.as_str() != "0" {
             return Ok(Some(words));
         }
@@ -374,7 +395,12 @@ fn first_not(
 }
 
 /// The words of the first trial of a script that isn't as the table of its stops has it.
-fn first_wrong(alloc: Global, script: &str, table: &str) -> Result<Option<String>, Fail> {
+fn first_wrong<R: Threads + Wait + Sync>(
+    rt: &R,
+    alloc: Global,
+    script: &str,
+    table: &str,
+) -> Result<Option<String>, Fail> {
     for row in table.split('\n') {
         let mut fields = row.split('|');
         let stops = fields.next().unwrap_or("");
@@ -383,7 +409,7 @@ fn first_wrong(alloc: Global, script: &str, table: &str) -> Result<Option<String
         let kept = fields.next().unwrap_or("");
         for (outcome, rows) in [("0", lost), ("1", kept), ("2", lost)] {
             let wanted = format!(in alloc; "{answers}{rows}")?;
-            let wrong = first_not(alloc, script, stops, outcome, wanted.as_str())?;
+            let wrong = first_not(rt, alloc, script, stops, outcome, wanted.as_str())?;
             if wrong.is_some() {
                 return Ok(wrong);
             }
@@ -395,7 +421,7 @@ fn first_wrong(alloc: Global, script: &str, table: &str) -> Result<Option<String
 #[test]
 fn steps_are_tried_under_each_stop(rt: HostRuntime) -> Result<(), Fail> {
     for (script, table) in [(COMMITS, STOPS), (STEPS, STEP_STOPS), (SWEEPS, SWEEP_STOPS)] {
-        let wrong = first_wrong(rt.alloc(), script, table)?;
+        let wrong = first_wrong(&rt, rt.alloc(), script, table)?;
         let words = wrong.as_ref().map_or("", |it| it.as_str());
         assert!(rt; wrong.is_none(), "{words}");
     }
@@ -405,7 +431,7 @@ fn steps_are_tried_under_each_stop(rt: HostRuntime) -> Result<(), Fail> {
 #[test]
 fn what_is_no_line_ends_a_run(rt: HostRuntime) -> Result<(), Fail> {
     for text in NO_LINES.split('|') {
-        let (printed, status) = ran(rt.alloc(), "replay .", "", "", text)?;
+        let (printed, status) = ran(&rt, rt.alloc(), "replay .", "", "", text)?;
         assert!(rt; printed.as_slice() == b"bad line 1\n".as_slice(), "{text}");
         assert!(rt; status.as_str() == "1", "{text}");
     }
@@ -416,10 +442,22 @@ fn what_is_no_line_ends_a_run(rt: HostRuntime) -> Result<(), Fail> {
 fn words_that_are_not_plain_get_the_usage_line(rt: HostRuntime) -> Result<(), Fail> {
     let usage = spelled(rt.alloc(), USAGE)?;
     for words in NOT_PLAIN.split('|') {
-        let (printed, status) = ran(rt.alloc(), words, "", "", "begin a;")?;
+        let (printed, status) = ran(&rt, rt.alloc(), words, "", "", "begin a;")?;
         assert!(rt; printed.as_slice() == usage.as_slice(), "{words}");
         assert!(rt; status.as_str() == "2", "{words}");
     }
+    Ok(())
+}
+
+/// Each of its transactions has one write and is alone, so that each commit is answered with a number.
+#[test]
+fn a_benchmark_prints_the_same_twice(rt: HostRuntime) -> Result<(), Fail> {
+    let (first, status) = ran(&rt, rt.alloc(), "bench 7 20000", "", "", "")?;
+    assert!(rt; first.as_slice().starts_with(b"commits 20000\n"));
+    assert!(rt; status.as_str() == "0");
+    let (second, again) = ran(&rt, rt.alloc(), "bench 7 20000", "", "", "")?;
+    assert!(rt; second.as_slice() == first.as_slice());
+    assert!(rt; again.as_str() == "0");
     Ok(())
 }
 
@@ -434,7 +472,7 @@ fn one_more_than_may_be_open_is_refused(rt: HostRuntime) -> Result<(), Fail> {
         let answer = if number < 1024 { "ok 0;" } else { "toomany;" };
         push_lines(&mut wanted, answer)?;
     }
-    let (printed, status) = ran(alloc, "replay .", "", "", input.as_str())?;
+    let (printed, status) = ran(&rt, alloc, "replay .", "", "", input.as_str())?;
     assert!(rt; printed.as_slice() == wanted.as_slice());
     assert!(rt; status.as_str() == "0");
     Ok(())
@@ -453,7 +491,7 @@ fn one_key_more_than_a_transaction_may_write_is_refused(rt: HostRuntime) -> Resu
     }
     input.push_str("set a 010000 02;")?;
     push_lines(&mut wanted, "ok;")?;
-    let (printed, status) = ran(alloc, "replay .", "", "", input.as_str())?;
+    let (printed, status) = ran(&rt, alloc, "replay .", "", "", input.as_str())?;
     assert!(rt; printed.as_slice() == wanted.as_slice());
     assert!(rt; status.as_str() == "0");
     Ok(())

@@ -4,6 +4,7 @@ use std::test::Fail;
 use vl_io::{SliceSource, VecSink};
 use vl_mem::MemDisk;
 use vl_replay::{CommandEnded, process_words, run};
+use vlstore::SureStore;
 
 /// The name and one word of a process: a byte each that begins no letter of UTF-8.
 #[derive(Drop)]
@@ -40,7 +41,8 @@ fn a_word_that_is_no_text_gets_the_usage_line(rt: HostRuntime) -> Result<(), Fai
     let mut source = SliceSource::new(b"begin a\n", Vec::new(alloc));
     let mut sink = VecSink::new(alloc, 4096, Vec::new(alloc))?;
     let disk = MemDisk::new(alloc, Vec::new(alloc), Vec::new(alloc));
-    let CommandEnded { status, disk: _ } = run(
+    let CommandEnded { status, disk: _ } = run::<SureStore, HostRuntime, _, _, _>(
+        &rt,
         alloc,
         words.as_slice(),
         &mut source,

@@ -1,4 +1,4 @@
--- What is printed of a store's contents.
+-- What is printed of a store's contents, and of clients over a store.
 use Rattle.std.specs.Prelude.{ℕ, List, [], ◌∷◌, ◌++◌, codes, length}
 use Rattle.std.specs.FinMap.{entries}
 use Rattle.std.specs.Fmt.{decimal}
@@ -22,3 +22,9 @@ contents_text number rows =
 -- the same of pairs, which are printed with their keys rising
 abbrev pub reopened_text : ℕ → Pairs → List ℕ
 reopened_text number pairs = contents_text number (entries pairs)
+
+-- what clients over a store came to: a line for the commits, one for the conflicts, and one for the sum of all balances
+abbrev pub driven_text : (commits conflicts total : ℕ) → List ℕ
+driven_text commits conflicts total =
+    codes "commits " ++ decimal commits ++ (10 ∷ []) ++ codes "conflicts " ++ decimal conflicts ++ (10 ∷ [])
+    ++ codes "total " ++ decimal total ++ (10 ∷ [])

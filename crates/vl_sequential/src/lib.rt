@@ -16,5 +16,5 @@ pub use ending::{
 pub use fails::{Halt, InputFail, Refusal};
 pub use input::{Buffer, Next, read_line};
 pub use refusing::{end_at_damage, end_unopened};
-pub use text::contents_text;
+pub use text::{contents_text, driven_text};
 pub use words::{Command, command_in};

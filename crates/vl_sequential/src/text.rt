@@ -1,7 +1,7 @@
 ghost use Rattle.std.specs.Prelude.{◌≡◌, ◌++◌, ◌∷◌, [], IfOk, OnOk};
 ghost use Rattle.std.specs.Fmt.{decimal};
 ghost use Rattle.vl_script.specs.Script.{bytes_text};
-ghost use Rattle.vl_sequential.specs.Text.{contents_text, row_text};
+ghost use Rattle.vl_sequential.specs.Text.{contents_text, driven_text, row_text};
 
 use std::alloc::{AllocError, Global};
 use vl_model::{Bytes, Key, Value};
@@ -21,6 +21,23 @@ pub fn contents_text(
     for (key, value) in rows {
         push_row(alloc, &mut text, key, value)?;
     }
+    Ok(text)
+}
+
+/// What is printed of clients over a store: `commits n`, how many transfers were committed, `conflicts m`, how many met a
+/// conflict, and `total s`, the sum of all balances in the end.
+pub fn driven_text(
+    alloc: Global,
+    commits: u64,
+    conflicts: u64,
+    total: u64,
+) -> Result<Vec<u8>, AllocError>
+    ensures { IfOk result (λ text. text.items ≡ driven_text commits conflicts total) }
+{
+    let mut text = Vec::new(alloc);
+    push_count(&mut text, b"commits ", commits)?;
+    push_count(&mut text, b"conflicts ", conflicts)?;
+    push_count(&mut text, b"total ", total)?;
     Ok(text)
 }
 

@@ -7,7 +7,7 @@ use std::test::Fail;
 use vl_disk::Name;
 use vl_io::{SliceSource, VecSink};
 use vl_mem::MemDisk;
-use vl_replay::{CommandEnded, run};
+use vl_replay::{Ended, replay};
 
 /// A replay of an input: what it prints, and its status.
 #[derive(Clone, Copy)]
@@ -39,14 +39,10 @@ pub fn outcome_of(
     input: &str,
     disk: MemDisk,
 ) -> Result<(u8, Vec<u8>, MemDisk), Fail> {
-    let mut words = Vec::new(alloc);
-    for word in ["replay", "."] {
-        words.push(String::from_str(alloc, word)?)?;
-    }
     let mut source = SliceSource::new(input.as_bytes(), Vec::new(alloc));
     let mut sink = VecSink::new(alloc, 16_384, Vec::new(alloc))?;
-    let CommandEnded { status, disk } = run(alloc, words.as_slice(), &mut source, &mut sink, disk);
-    Ok((status, sink.into_bytes(), disk))
+    let Ended { ending, disk } = replay(alloc, &mut source, &mut sink, disk);
+    Ok((ending.status(), sink.into_bytes(), disk))
 }
 
 /// The manifest of a new store.

@@ -4,7 +4,6 @@ use Rattle.std.proofs.Common.{refl, ap}
 use Rattle.std.proofs.Common.{sym, ◌∙◌, subst, arith}
 use Rattle.std.proofs.lemmas.List.Elements.{recursion_from_All}
 use Rattle.std.specs.Prelude.{◌≢◌, Option, None, Some, Ok, Err, Result, OnOk}
-use Rattle.std.specs.FinMap.{get}
 use Rattle.std.specs.List.{AllByRecursion, filter}
 use Rattle.vl_compact.specs.declared.files.Lent.{Lent}
 use Rattle.vl_core.specs.MayStep.{LeavesNumbers}
@@ -37,12 +36,11 @@ use Rattle.vl_layout.specs.Rulings.Sweep as rulings
 use Rattle.vl_layout.specs.Rulings.Sweep.{SweepAnswer, sweep_ruling, sweep_unless, swept}
 use Rattle.vl_layout.specs.Stock.{IsDrawn, is_in}
 use Rattle.vl_layout.specs.Store.Dispatch.{sweep_by}
-use Rattle.vl_layout.specs.declared.file_name.FileName as laid
 use Rattle.vl_layout.specs.declared.file_name.Retired.{Retired}
 use Rattle.vl_layout.specs.declared.layout.Layout.{Layout}
 use Rattle.vl_mem.specs.laws.CrashChance.{IsTornByPieces}
 use Rattle.vl_model.specs.History.{History, last_number}
-use Rattle.vl_pins.specs.Files.{is_up_to, retired_of}
+use Rattle.vl_pins.specs.Files.{is_up_to}
 use Rattle.vl_pins.specs.declared.retired_file.RetiredFile.{RetiredFile}
 use Rattle.vl_recover.specs.crash.Alike.{IsLeft}
 use Rattle.vl_sequential.specs.Between.{ShowsBetween}

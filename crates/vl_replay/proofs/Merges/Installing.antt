@@ -25,7 +25,6 @@ use Rattle.vl_disk.specs.declared.writer.Writer.{Ghosts as Writers}
 use Rattle.vl_disk.specs.laws.NameMap.{get_inserted, get_inserted_other, same_or_other}
 use Rattle.std.specs.FinMap.{get}
 use Rattle.vl_core.specs.Carries.{Carries}
-use Rattle.vl_engine.specs.Collecting.{Collects}
 use Rattle.vl_engine.specs.Installing.{InstallFailed, InstallLeavesDisk, IsHandedIn, KeepsAllBut, MayInstall}
 use Rattle.vl_engine.specs.Installing.{StopsInstall, StopsSwitching, WritesInstall, at_manifest, at_table}
 use Rattle.vl_engine.specs.Installing.{install_otherwise, numbers_in}
@@ -41,7 +40,6 @@ use Rattle.vl_engine.specs.UnderWay.{IsUnderWay}
 use Rattle.vl_engine.specs.declared.fails.InstallFail.{InstallFail}
 use Rattle.vl_engine.specs.declared.fails.InstallFail.TheVariants as uninstalled
 use Rattle.vl_core.specs.declared.kept.Core.{Core}
-use Rattle.vl_engine.specs.declared.open.Collecting.{Collecting}
 use Rattle.vl_engine.specs.declared.open.OpenMerge.{OpenMerge}
 use Rattle.vl_core.specs.laws.InstallRulings.{GoesOn, install_made_so, install_version}
 use Rattle.vl_layout.specs.Decides.{Answered, Decides}

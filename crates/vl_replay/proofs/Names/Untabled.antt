@@ -1,12 +1,11 @@
 -- Which readers read no table, and that a layout behind a step still has those that one reads.
 use Rattle.std.proofs.Common.{◌≡◌, ◌≤◌, ℕ, ◌+◌, ◌==◌, ◌||◌, ◌&&◌, Bool, true, false, cond, not, List, [], ◌∷◌, ◌++◌, map, refl, ap, sym}
-use Rattle.std.proofs.Common.{◌∙◌, subst, arith}
+use Rattle.std.proofs.Common.{◌∙◌, arith}
 use Rattle.std.proofs.lemmas.Bool.Decides.{nat_tests}
-use Rattle.std.specs.Prelude.{Option, None, Some, nat_lt}
+use Rattle.std.specs.Prelude.{None, Some, nat_lt}
 use Rattle.std.specs.FinMap.{find}
-use Rattle.std.specs.List.{AllByRecursion, filter, list_any}
+use Rattle.std.specs.List.{AllByRecursion, filter}
 use Rattle.std.specs.Ordering.{eq_by_cmp, nat_cmp}
-use Rattle.vl_core.specs.Represents.{IsLive}
 use Rattle.vl_layout.specs.Rising.{put_by}
 use Rattle.vl_layout.specs.Ruling.{ended, pin_of, retired_at}
 use Rattle.vl_layout.specs.Rulings.Begin.{begun}

@@ -4,7 +4,7 @@ use Rattle.vl_layout.specs.Store.Commits.{AreProper}
 use Rattle.vl_sequential.specs.Trial.{EndsTrial, begun}
 use Rattle.vl_sequential.specs.Trying.{trial_of}
 use Rattle.vl_sequential.specs.declared.words.Command.{Command}
-use Rattle.vl_sequential.specs.declared.words.Command.TheVariants.{Replay, Trial}
+use Rattle.vl_sequential.specs.declared.words.Command.TheVariants.{Bench, Drive, Replay, Trial}
 use Rattle.vl_script.specs.Script.{lines_of}
 use Rattle.vl_sequential.specs.Endings.{CountsFaultsOf, TheDisk, TheSource, TheSink, status_of, usage_line}
 use Rattle.vl_disk.specs.Faults.{Rose}
@@ -14,8 +14,15 @@ use Rattle.vl_sequential.specs.Reading.{ReadsInput, streams}
 use Rattle.vl_sequential.specs.Start.{EndsAtTables, all_explained, explained_from}
 use Rattle.vl_sequential.specs.declared.ending.Ending.TheVariants.{Damaged, ReaderFault, Refused}
 use Rattle.vl_sequential.specs.declared.fails.Refusal.{Refusal}
+use Rattle.vl_sequential.specs.laws.Laws.{keeps_up_at_first}
 use Rattle.vl_sequential.specs.laws.WordLaws.{disk_steady, rose_or_unread, source_status, sink_status, is_refused, is_bad_words}
 use Rattle.vl_sequential.specs.laws.WordLaws.{rose_by, steady_by, refused_status, refused_rose, refused_steady}
+use Rattle.vl_sequential.specs.declared.ending.Ending.{Ending}
+use Rattle.vl_replay.specs.Benchmark.{PrintsSummary, summary_of}
+use Rattle.vl_replay.specs.Driving.{PrintsDriven}
+use Rattle.vl_replay.proofs.Benchmarks.{bench_ends}
+use Rattle.vl_replay.proofs.Driven.{drive_ends}
+use Rattle.vl_replay.proofs.NotBegun.{answers_nothing, reads_nothing, reported, tries_nothing}
 use Rattle.vl_replay.proofs.command_line.run.Goals as goal
 
 -- the store on an empty disk has no commits
@@ -55,6 +62,50 @@ same_trial stop n outcome other is found asked = apart n stop other outcome (sym
     apart : (a b : ℕ) (o p : Outcome) → Some (Trial a o) ≡ Some (Trial b p) → (a ≡ b) × (o ≡ p)
     apart a b o p e = (cc, cc)
 
+-- the words ask for one command
+one_asked : {o p : Option Command} (command other : Command) → o ≡ p → o ≡ Some command → p ≡ Some other → command ≡ other
+one_asked command other is found asked = of command other (sym found ∙ is ∙ asked)
+  where
+    of : (a b : Command) → Some a ≡ Some b → a ≡ b
+    of a b e = cc
+
+no_replay : (seed count : ℕ) → Bench seed count ≡ Replay → ⊥
+no_replay seed count e = cc
+
+no_trial_asked : (seed count stop : ℕ) (outcome : Outcome) → Bench seed count ≡ Trial stop outcome → ⊥
+no_trial_asked seed count stop outcome e = cc
+
+no_bench : (seed count : ℕ) → Replay ≡ Bench seed count → ⊥
+no_bench seed count e = cc
+
+no_bench_tried : (stop seed count : ℕ) (outcome : Outcome) → Trial stop outcome ≡ Bench seed count → ⊥
+no_bench_tried stop seed count outcome e = cc
+
+same_bench : (seed count other_seed other_count : ℕ) → Bench seed count ≡ Bench other_seed other_count
+    → (seed ≡ other_seed) × (count ≡ other_count)
+same_bench seed count other_seed other_count e = (cc, cc)
+
+no_drive : (clients txns seed : ℕ) → Replay ≡ Drive clients txns seed → ⊥
+no_drive clients txns seed e = cc
+
+no_drive_tried : (stop clients txns seed : ℕ) (outcome : Outcome) → Trial stop outcome ≡ Drive clients txns seed → ⊥
+no_drive_tried stop clients txns seed outcome e = cc
+
+no_drive_benched : (one count clients txns seed : ℕ) → Bench one count ≡ Drive clients txns seed → ⊥
+no_drive_benched one count clients txns seed e = cc
+
+no_replay_driven : (clients txns seed : ℕ) → Drive clients txns seed ≡ Replay → ⊥
+no_replay_driven clients txns seed e = cc
+
+no_trial_driven : (clients txns seed stop : ℕ) (outcome : Outcome) → Drive clients txns seed ≡ Trial stop outcome → ⊥
+no_trial_driven clients txns seed stop outcome e = cc
+
+no_bench_driven : (one count clients txns seed : ℕ) → Drive clients txns seed ≡ Bench one count → ⊥
+no_bench_driven one count clients txns seed e = cc
+
+same_drive : (clients txns seed n m s : ℕ) → Drive clients txns seed ≡ Drive n m s → (clients ≡ n) × (txns ≡ m) × (seed ≡ s)
+same_drive clients txns seed n m s e = (cc, cc, cc)
+
 below : (n m : ℕ) → n < 6 → 6 ≤ m → n ≢ m
 below n m less le e = omega arith
 
@@ -62,7 +113,13 @@ below n m less le e = omega arith
 
 pub returns-in-Some-Replay-clause-answers : goal.returns-in-Some-Replay-clause-answers
 returns-in-Some-Replay-clause-answers g c
-    plain = (c.replay-ending.result.ending, c.status-status.ensures, c.replay-ending.ensures.reported, c.replay-ending.ensures.runs)
+    plain = (c.replay-ending.result.ending, c.status-status-in-Some-Replay.ensures, c.replay-ending.ensures.reported, c.replay-ending.ensures.runs)
+
+pub returns-in-Some-Replay-clause-drives : goal.returns-in-Some-Replay-clause-drives
+returns-in-Some-Replay-clause-drives g c clients txns seed asked = absurd
+    (no_drive clients txns seed
+    (one_asked Replay (Drive clients txns seed) c.in-Ok.ensures.command
+    (c.in-Some-Replay.is ∙ ap Some (rw c.in-Some-Replay.is at c.in-Some-Replay.field-0-is)) asked))
 
 pub returns-in-Some-Replay-clause-explained : goal.returns-in-Some-Replay-clause-explained
 returns-in-Some-Replay-clause-explained g c s input starts = all_explained
@@ -74,11 +131,11 @@ returns-in-Some-Replay-clause-explained_in_trial g c input = explained_from
 
 pub returns-in-Some-Replay-clause-no_usage_line : goal.returns-in-Some-Replay-clause-no_usage_line
 returns-in-Some-Replay-clause-no_usage_line g c command plain two = c.replay-ending.ensures.not_the_words
-    (is_bad_words c.replay-ending.result.ending (sym c.status-status.ensures ∙ two))
+    (is_bad_words c.replay-ending.result.ending (sym c.status-status-in-Some-Replay.ensures ∙ two))
 
 pub returns-in-Some-Replay-clause-not_plain : goal.returns-in-Some-Replay-clause-not_plain
 returns-in-Some-Replay-clause-not_plain g c other = absurd
-    (is_asked Replay c.command_in.ensures (c.in-Some-Replay.is ∙ ap Some c.in-Some-Replay.field-0-is) other)
+    (is_asked Replay c.in-Ok.ensures.command (c.in-Some-Replay.is ∙ ap Some (rw c.in-Some-Replay.is at c.in-Some-Replay.field-0-is)) other)
 
 pub returns-in-Some-Replay-clause-disk_fault : goal.returns-in-Some-Replay-clause-disk_fault
 returns-in-Some-Replay-clause-disk_fault g c is =
@@ -92,7 +149,7 @@ returns-in-Some-Replay-clause-disk_fault g c is =
     (λ (rose : Rose before now). inl rose)
     (λ (unread : ending ≡ ReaderFault). inr
     (inl (λ input told. subst (ReadsInput input old new) unread (c.replay-ending.ensures.input input told))))
-    (rose_or_unread ending before now counts (sym c.status-status.ensures ∙ is)))
+    (rose_or_unread ending before now counts (sym c.status-status-in-Some-Replay.ensures ∙ is)))
     (λ (tables : EndsAtTables g.D.Watched g.D.Reader.Reader.faults g.K.Sink c.args.disk c.replay-ending.result.disk
     c.args.sink.now c.replay-ending.new.sink ending
     × (c.replay-ending.new.source ≡ c.args.source.now)). inr (inr (tables.1, (ending, tables.0))))
@@ -107,7 +164,7 @@ returns-in-Some-Replay-clause-reader_fault g c s starts is =
     (λ (counts : CountsFaultsOf TheDisk (Some ending) before now). ⊎_elim
     (λ (rose : Rose before now). inl rose)
     (λ (unread : ending ≡ ReaderFault). inr (c.replay-ending.ensures.reader_fault s starts unread))
-    (rose_or_unread ending before now counts (sym c.status-status.ensures ∙ is)))
+    (rose_or_unread ending before now counts (sym c.status-status-in-Some-Replay.ensures ∙ is)))
     (λ (tables : EndsAtTables g.D.Watched g.D.Reader.Reader.faults g.K.Sink c.args.disk c.replay-ending.result.disk
     c.args.sink.now c.replay-ending.new.sink ending
     × (c.replay-ending.new.source ≡ c.args.source.now)).
@@ -121,7 +178,7 @@ returns-in-Some-Replay-clause-no_disk_fault g c other whole =
     let now = g.D.Watched.faults c.replay-ending.result.disk in
     ⊎_elim
     (λ (counts : CountsFaultsOf TheDisk (Some ending) before now).
-    disk_steady ending before now counts (λ e. other (c.status-status.ensures ∙ e)) (λ e. whole (c.status-status.ensures ∙ e)))
+    disk_steady ending before now counts (λ e. other (c.status-status-in-Some-Replay.ensures ∙ e)) (λ e. whole (c.status-status-in-Some-Replay.ensures ∙ e)))
     (λ (tables : EndsAtTables g.D.Watched g.D.Reader.Reader.faults g.K.Sink c.args.disk c.replay-ending.result.disk
     c.args.sink.now c.replay-ending.new.sink ending
     × (c.replay-ending.new.source ≡ c.args.source.now)). tables.0.0.steady)
@@ -137,16 +194,16 @@ returns-in-Some-Replay-clause-refused g c plain is =
     in inl ((by.0, refused.0), refused.1))
     (λ (by : (name : Name) × (place : ℕ) × (ending ≡ Damaged name place)).
     inr (by.0, by.1, λ input told. subst (ReadsInput input old new) by.2 (c.replay-ending.ensures.input input told)))
-    (is_refused ending (sym c.status-status.ensures ∙ is))
+    (is_refused ending (sym c.status-status-in-Some-Replay.ensures ∙ is))
 
 pub returns-in-Some-Replay-clause-refuses : goal.returns-in-Some-Replay-clause-refuses
 returns-in-Some-Replay-clause-refuses g c plain state read refusal told is_read is_refused =
     let stays = c.replay-ending.ensures.refuses state read refusal told is_read is_refused in
-    ((c.replay-ending.result.ending, c.status-status.ensures, stays.0), stays.1)
+    ((c.replay-ending.result.ending, c.status-status-in-Some-Replay.ensures, stays.0), stays.1)
 
 pub returns-in-Some-Replay-clause-read_fault : goal.returns-in-Some-Replay-clause-read_fault
 returns-in-Some-Replay-clause-read_fault g c is =
-    let six = sym c.status-status.ensures ∙ is in (
+    let six = sym c.status-status-in-Some-Replay.ensures ∙ is in (
       rose_by TheSource 6 source_status c.replay-ending.result.ending _ _ c.replay-ending.ensures.source_faults six,
       steady_by TheSink 7 sink_status c.replay-ending.result.ending _ _ c.replay-ending.ensures.sink_faults
           (λ e. apart (sym six ∙ e)) (λ e. apart (sym six ∙ e)),
@@ -157,12 +214,12 @@ returns-in-Some-Replay-clause-read_fault g c is =
 
 pub returns-in-Some-Replay-clause-write_fault : goal.returns-in-Some-Replay-clause-write_fault
 returns-in-Some-Replay-clause-write_fault g c is = rose_by TheSink 7 sink_status c.replay-ending.result.ending _ _
-    c.replay-ending.ensures.sink_faults (sym c.status-status.ensures ∙ is)
+    c.replay-ending.ensures.sink_faults (sym c.status-status-in-Some-Replay.ensures ∙ is)
 
 pub returns-in-Some-Replay-clause-no_stream_fault : goal.returns-in-Some-Replay-clause-no_stream_fault
 returns-in-Some-Replay-clause-no_stream_fault g c less =
     let ending = c.replay-ending.result.ending in
-    let small : status_of ending < 6 = subst (λ (n : ℕ). n < 6) c.status-status.ensures less in (
+    let small : status_of ending < 6 = subst (λ (n : ℕ). n < 6) c.status-status-in-Some-Replay.ensures less in (
       steady_by TheSource 6 source_status ending _ _ c.replay-ending.ensures.source_faults
           (below (status_of ending) 6 small (omega arith)) (below (status_of ending) 7 small (omega arith)),
       steady_by TheSink 7 sink_status ending _ _ c.replay-ending.ensures.sink_faults
@@ -171,19 +228,24 @@ returns-in-Some-Replay-clause-no_stream_fault g c less =
 
 pub returns-in-Some-Replay-clause-input : goal.returns-in-Some-Replay-clause-input
 returns-in-Some-Replay-clause-input g c plain input
-    told = (c.replay-ending.result.ending, c.status-status.ensures, c.replay-ending.ensures.input input told)
+    told = (c.replay-ending.result.ending, c.status-status-in-Some-Replay.ensures, c.replay-ending.ensures.input input told)
 
 pub returns-in-Some-Replay-clause-tries : goal.returns-in-Some-Replay-clause-tries
 returns-in-Some-Replay-clause-tries g c stop outcome input asked = absurd
-    (no_trial stop outcome c.command_in.ensures (c.in-Some-Replay.is ∙ ap Some c.in-Some-Replay.field-0-is) asked)
+    (no_trial stop outcome c.in-Ok.ensures.command (c.in-Some-Replay.is ∙ ap Some (rw c.in-Some-Replay.is at c.in-Some-Replay.field-0-is)) asked)
 
 pub returns-in-Some-Replay-clause-untouched : goal.returns-in-Some-Replay-clause-untouched
 returns-in-Some-Replay-clause-untouched g c stop outcome asked = absurd
-    (no_trial stop outcome c.command_in.ensures (c.in-Some-Replay.is ∙ ap Some c.in-Some-Replay.field-0-is) asked)
+    (no_trial stop outcome c.in-Ok.ensures.command (c.in-Some-Replay.is ∙ ap Some (rw c.in-Some-Replay.is at c.in-Some-Replay.field-0-is)) asked)
 
 pub returns-in-Some-Replay-clause-no_fault_in_trial : goal.returns-in-Some-Replay-clause-no_fault_in_trial
 returns-in-Some-Replay-clause-no_fault_in_trial g c stop outcome asked = absurd
-    (no_trial stop outcome c.command_in.ensures (c.in-Some-Replay.is ∙ ap Some c.in-Some-Replay.field-0-is) asked)
+    (no_trial stop outcome c.in-Ok.ensures.command (c.in-Some-Replay.is ∙ ap Some (rw c.in-Some-Replay.is at c.in-Some-Replay.field-0-is)) asked)
+
+pub returns-in-Some-Replay-clause-benches : goal.returns-in-Some-Replay-clause-benches
+returns-in-Some-Replay-clause-benches g c seed count asked = absurd
+    (no_bench seed count
+    (one_asked Replay (Bench seed count) c.in-Ok.ensures.command (c.in-Some-Replay.is ∙ ap Some (rw c.in-Some-Replay.is at c.in-Some-Replay.field-0-is)) asked))
 
 pub returns-in-Some-Replay-clause-again : goal.returns-in-Some-Replay-clause-again
 returns-in-Some-Replay-clause-again g c s input starts told = c.replay-ending.ensures.again s input starts told
@@ -191,7 +253,7 @@ returns-in-Some-Replay-clause-again g c s input starts told = c.replay-ending.en
 -- ---- words that aren't plain
 
 pub returns-in-None-clause-answers : goal.returns-in-None-clause-answers
-returns-in-None-clause-answers g c plain = absurd (none_asked Replay c.command_in.ensures c.in-None.is plain)
+returns-in-None-clause-answers g c plain = absurd (none_asked Replay c.in-Ok.ensures.command c.in-None.is plain)
 
 pub returns-in-None-clause-explained : goal.returns-in-None-clause-explained
 returns-in-None-clause-explained g c s input starts = all_explained c.reads_without_conflict_stay_explained.ensures
@@ -202,44 +264,44 @@ returns-in-None-clause-explained_in_trial g c input = explained_from c.reads_wit
     begun (lines_of input) empty_proper refl
 
 pub returns-in-None-clause-no_usage_line : goal.returns-in-None-clause-no_usage_line
-returns-in-None-clause-no_usage_line g c command plain = absurd (none_asked command c.command_in.ensures c.in-None.is plain)
+returns-in-None-clause-no_usage_line g c command plain = absurd (none_asked command c.in-Ok.ensures.command c.in-None.is plain)
 
 pub returns-in-None-clause-not_plain : goal.returns-in-None-clause-not_plain
 returns-in-None-clause-not_plain g c
-    other = (refl, refl, (c.finish.result, c.status-status-in-None.ensures, (usage_line, refl, c.finish.ensures)))
+    other = (refl, refl, (c.finish-in-None.result, c.status-status-in-None.ensures, (usage_line, refl, c.finish-in-None.ensures)))
 
 pub returns-in-None-clause-disk_fault : goal.returns-in-None-clause-disk_fault
 returns-in-None-clause-disk_fault g c is = absurd
-    (refused_status g.K.Sink _ _ _ c.finish.result c.finish.ensures 3 (λ e. omega arith) (λ e. omega arith)
+    (refused_status g.K.Sink _ _ _ c.finish-in-None.result c.finish-in-None.ensures 3 (λ e. omega arith) (λ e. omega arith)
     (sym c.status-status-in-None.ensures ∙ is))
 
 pub returns-in-None-clause-reader_fault : goal.returns-in-None-clause-reader_fault
 returns-in-None-clause-reader_fault g c s starts is = absurd
-    (refused_status g.K.Sink _ _ _ c.finish.result c.finish.ensures 3 (λ e. omega arith) (λ e. omega arith)
+    (refused_status g.K.Sink _ _ _ c.finish-in-None.result c.finish-in-None.ensures 3 (λ e. omega arith) (λ e. omega arith)
     (sym c.status-status-in-None.ensures ∙ is))
 
 pub returns-in-None-clause-refused : goal.returns-in-None-clause-refused
 returns-in-None-clause-refused g c plain is = absurd
-    (refused_status g.K.Sink _ _ _ c.finish.result c.finish.ensures 4 (λ e. omega arith) (λ e. omega arith)
+    (refused_status g.K.Sink _ _ _ c.finish-in-None.result c.finish-in-None.ensures 4 (λ e. omega arith) (λ e. omega arith)
     (sym c.status-status-in-None.ensures ∙ is))
 
 pub returns-in-None-clause-refuses : goal.returns-in-None-clause-refuses
-returns-in-None-clause-refuses g c plain = absurd (none_asked Replay c.command_in.ensures c.in-None.is plain)
+returns-in-None-clause-refuses g c plain = absurd (none_asked Replay c.in-Ok.ensures.command c.in-None.is plain)
 
 pub returns-in-None-clause-read_fault : goal.returns-in-None-clause-read_fault
 returns-in-None-clause-read_fault g c is = absurd
-    (refused_status g.K.Sink _ _ _ c.finish.result c.finish.ensures 6 (λ e. omega arith) (λ e. omega arith)
+    (refused_status g.K.Sink _ _ _ c.finish-in-None.result c.finish-in-None.ensures 6 (λ e. omega arith) (λ e. omega arith)
     (sym c.status-status-in-None.ensures ∙ is))
 
 pub returns-in-None-clause-write_fault : goal.returns-in-None-clause-write_fault
-returns-in-None-clause-write_fault g c is = refused_rose g.K.Sink _ _ _ c.finish.result c.finish.ensures
+returns-in-None-clause-write_fault g c is = refused_rose g.K.Sink _ _ _ c.finish-in-None.result c.finish-in-None.ensures
     (sym c.status-status-in-None.ensures ∙ is)
 
 pub returns-in-None-clause-no_stream_fault : goal.returns-in-None-clause-no_stream_fault
 returns-in-None-clause-no_stream_fault g c
     less = (
       refl,
-      refused_steady g.K.Sink _ _ _ c.finish.result c.finish.ensures
+      refused_steady g.K.Sink _ _ _ c.finish-in-None.result c.finish-in-None.ensures
           (subst (λ (n : ℕ). n < 6) c.status-status-in-None.ensures less),
     )
 
@@ -247,29 +309,32 @@ pub returns-in-None-clause-again : goal.returns-in-None-clause-again
 returns-in-None-clause-again g c s input starts told may = may
 
 pub returns-in-None-clause-input : goal.returns-in-None-clause-input
-returns-in-None-clause-input g c plain = absurd (none_asked Replay c.command_in.ensures c.in-None.is plain)
+returns-in-None-clause-input g c plain = absurd (none_asked Replay c.in-Ok.ensures.command c.in-None.is plain)
 
 pub returns-in-None-clause-tries : goal.returns-in-None-clause-tries
-returns-in-None-clause-tries g c stop outcome input asked = absurd (none_asked (Trial stop outcome) c.command_in.ensures c.in-None.is asked)
+returns-in-None-clause-tries g c stop outcome input asked = absurd (none_asked (Trial stop outcome) c.in-Ok.ensures.command c.in-None.is asked)
+
+pub returns-in-None-clause-benches : goal.returns-in-None-clause-benches
+returns-in-None-clause-benches g c seed count asked = absurd (none_asked (Bench seed count) c.in-Ok.ensures.command c.in-None.is asked)
 
 pub returns-in-None-clause-untouched : goal.returns-in-None-clause-untouched
 returns-in-None-clause-untouched g c stop outcome asked = refl
 
 pub returns-in-None-clause-no_fault_in_trial : goal.returns-in-None-clause-no_fault_in_trial
 returns-in-None-clause-no_fault_in_trial g c stop outcome asked = absurd
-    (none_asked (Trial stop outcome) c.command_in.ensures c.in-None.is asked)
+    (none_asked (Trial stop outcome) c.in-Ok.ensures.command c.in-None.is asked)
 
 -- ---- a trial
 
 pub returns-in-Some-Trial-clause-answers : goal.returns-in-Some-Trial-clause-answers
 returns-in-Some-Trial-clause-answers g c asked = absurd
-    (other_asked c.in-Some-Trial.stop c.in-Some-Trial.outcome c.command_in.ensures
-    (c.in-Some-Trial.is ∙ ap Some c.in-Some-Trial.field-0-is) asked)
+    (other_asked c.in-Some-Trial.stop c.in-Some-Trial.outcome c.in-Ok.ensures.command
+    (c.in-Some-Trial.is ∙ ap Some (rw c.in-Some-Trial.is at c.in-Some-Trial.field-0-is)) asked)
 
 pub returns-in-Some-Trial-clause-tries : goal.returns-in-Some-Trial-clause-tries
 returns-in-Some-Trial-clause-tries g c stop outcome input asked told =
-    let same = same_trial stop c.in-Some-Trial.stop outcome c.in-Some-Trial.outcome c.command_in.ensures
-    (c.in-Some-Trial.is ∙ ap Some c.in-Some-Trial.field-0-is) asked in (
+    let same = same_trial stop c.in-Some-Trial.stop outcome c.in-Some-Trial.outcome c.in-Ok.ensures.command
+    (c.in-Some-Trial.is ∙ ap Some (rw c.in-Some-Trial.is at c.in-Some-Trial.field-0-is)) asked in (
       c.trial.result,
       c.status-status-in-Some-Trial.ensures,
       subst (λ (n : ℕ). EndsTrial (trial_of n input outcome) (g.K.Sink.held c.args.sink.now)
@@ -278,6 +343,18 @@ returns-in-Some-Trial-clause-tries g c stop outcome input asked told =
           (g.K.Sink.held c.trial.new.sink) (g.S.Source.left c.trial.new.source) c.trial.result) same.1
           (c.trial.ensures.ends input told)),
     )
+
+pub returns-in-Some-Trial-clause-benches : goal.returns-in-Some-Trial-clause-benches
+returns-in-Some-Trial-clause-benches g c seed count asked = absurd
+    (no_bench_tried c.in-Some-Trial.stop seed count c.in-Some-Trial.outcome
+    (one_asked (Trial c.in-Some-Trial.stop c.in-Some-Trial.outcome) (Bench seed count) c.in-Ok.ensures.command
+    (c.in-Some-Trial.is ∙ ap Some (rw c.in-Some-Trial.is at c.in-Some-Trial.field-0-is)) asked))
+
+pub returns-in-Some-Trial-clause-drives : goal.returns-in-Some-Trial-clause-drives
+returns-in-Some-Trial-clause-drives g c clients txns seed asked = absurd
+    (no_drive_tried c.in-Some-Trial.stop clients txns seed c.in-Some-Trial.outcome
+    (one_asked (Trial c.in-Some-Trial.stop c.in-Some-Trial.outcome) (Drive clients txns seed) c.in-Ok.ensures.command
+    (c.in-Some-Trial.is ∙ ap Some (rw c.in-Some-Trial.is at c.in-Some-Trial.field-0-is)) asked))
 
 pub returns-in-Some-Trial-clause-explained : goal.returns-in-Some-Trial-clause-explained
 returns-in-Some-Trial-clause-explained g c s input starts = all_explained
@@ -293,8 +370,8 @@ returns-in-Some-Trial-clause-no_usage_line g c command plain two = c.trial.ensur
 
 pub returns-in-Some-Trial-clause-not_plain : goal.returns-in-Some-Trial-clause-not_plain
 returns-in-Some-Trial-clause-not_plain g c other = absurd
-    (is_asked (Trial c.in-Some-Trial.stop c.in-Some-Trial.outcome) c.command_in.ensures
-    (c.in-Some-Trial.is ∙ ap Some c.in-Some-Trial.field-0-is) other)
+    (is_asked (Trial c.in-Some-Trial.stop c.in-Some-Trial.outcome) c.in-Ok.ensures.command
+    (c.in-Some-Trial.is ∙ ap Some (rw c.in-Some-Trial.is at c.in-Some-Trial.field-0-is)) other)
 
 pub returns-in-Some-Trial-clause-untouched : goal.returns-in-Some-Trial-clause-untouched
 returns-in-Some-Trial-clause-untouched g c stop outcome asked = refl
@@ -315,13 +392,13 @@ returns-in-Some-Trial-clause-no_disk_fault g c other whole = refl
 
 pub returns-in-Some-Trial-clause-refused : goal.returns-in-Some-Trial-clause-refused
 returns-in-Some-Trial-clause-refused g c asked is = absurd
-    (other_asked c.in-Some-Trial.stop c.in-Some-Trial.outcome c.command_in.ensures
-    (c.in-Some-Trial.is ∙ ap Some c.in-Some-Trial.field-0-is) asked)
+    (other_asked c.in-Some-Trial.stop c.in-Some-Trial.outcome c.in-Ok.ensures.command
+    (c.in-Some-Trial.is ∙ ap Some (rw c.in-Some-Trial.is at c.in-Some-Trial.field-0-is)) asked)
 
 pub returns-in-Some-Trial-clause-refuses : goal.returns-in-Some-Trial-clause-refuses
 returns-in-Some-Trial-clause-refuses g c asked = absurd
-    (other_asked c.in-Some-Trial.stop c.in-Some-Trial.outcome c.command_in.ensures
-    (c.in-Some-Trial.is ∙ ap Some c.in-Some-Trial.field-0-is) asked)
+    (other_asked c.in-Some-Trial.stop c.in-Some-Trial.outcome c.in-Ok.ensures.command
+    (c.in-Some-Trial.is ∙ ap Some (rw c.in-Some-Trial.is at c.in-Some-Trial.field-0-is)) asked)
 
 pub returns-in-Some-Trial-clause-read_fault : goal.returns-in-Some-Trial-clause-read_fault
 returns-in-Some-Trial-clause-read_fault g c is =
@@ -352,5 +429,274 @@ returns-in-Some-Trial-clause-again g c s input starts told may = may
 
 pub returns-in-Some-Trial-clause-input : goal.returns-in-Some-Trial-clause-input
 returns-in-Some-Trial-clause-input g c asked = absurd
-    (other_asked c.in-Some-Trial.stop c.in-Some-Trial.outcome c.command_in.ensures
-    (c.in-Some-Trial.is ∙ ap Some c.in-Some-Trial.field-0-is) asked)
+    (other_asked c.in-Some-Trial.stop c.in-Some-Trial.outcome c.in-Ok.ensures.command
+    (c.in-Some-Trial.is ∙ ap Some (rw c.in-Some-Trial.is at c.in-Some-Trial.field-0-is)) asked)
+
+-- ---- a benchmark
+
+pub returns-in-Some-Bench-clause-benches : goal.returns-in-Some-Bench-clause-benches
+returns-in-Some-Bench-clause-benches g c seed count asked =
+    let same = same_bench c.in-Some-Bench.seed c.in-Some-Bench.count seed count
+    (one_asked (Bench c.in-Some-Bench.seed c.in-Some-Bench.count) (Bench seed count) c.in-Ok.ensures.command
+    (c.in-Some-Bench.is ∙ ap Some (rw c.in-Some-Bench.is at c.in-Some-Bench.field-0-is)) asked) in (
+      refl,
+      refl,
+      (
+        c.bench.result,
+        c.status-status-in-Some-Bench.ensures,
+        subst (λ (n : ℕ). PrintsSummary g.K.Sink (summary_of n count) c.args.sink.now c.bench.new.sink c.bench.result) same.0
+            (subst (λ (n : ℕ). PrintsSummary g.K.Sink (summary_of c.in-Some-Bench.seed n) c.args.sink.now c.bench.new.sink
+            c.bench.result) same.1 c.bench.ensures.prints),
+      ),
+    )
+
+pub returns-in-Some-Bench-clause-drives : goal.returns-in-Some-Bench-clause-drives
+returns-in-Some-Bench-clause-drives g c clients txns seed asked = absurd
+    (no_drive_benched c.in-Some-Bench.seed c.in-Some-Bench.count clients txns seed
+    (one_asked (Bench c.in-Some-Bench.seed c.in-Some-Bench.count) (Drive clients txns seed) c.in-Ok.ensures.command
+    (c.in-Some-Bench.is ∙ ap Some (rw c.in-Some-Bench.is at c.in-Some-Bench.field-0-is)) asked))
+
+pub returns-in-Some-Bench-clause-answers : goal.returns-in-Some-Bench-clause-answers
+returns-in-Some-Bench-clause-answers g c asked = absurd
+    (no_replay c.in-Some-Bench.seed c.in-Some-Bench.count
+    (one_asked (Bench c.in-Some-Bench.seed c.in-Some-Bench.count) Replay c.in-Ok.ensures.command
+    (c.in-Some-Bench.is ∙ ap Some (rw c.in-Some-Bench.is at c.in-Some-Bench.field-0-is)) asked))
+
+pub returns-in-Some-Bench-clause-tries : goal.returns-in-Some-Bench-clause-tries
+returns-in-Some-Bench-clause-tries g c stop outcome input asked = absurd
+    (no_trial_asked c.in-Some-Bench.seed c.in-Some-Bench.count stop outcome
+    (one_asked (Bench c.in-Some-Bench.seed c.in-Some-Bench.count) (Trial stop outcome) c.in-Ok.ensures.command
+    (c.in-Some-Bench.is ∙ ap Some (rw c.in-Some-Bench.is at c.in-Some-Bench.field-0-is)) asked))
+
+pub returns-in-Some-Bench-clause-explained : goal.returns-in-Some-Bench-clause-explained
+returns-in-Some-Bench-clause-explained g c s input starts = all_explained c.reads_without_conflict_stay_explained.ensures
+    g.D.Watched c.args.disk s (lines_of input) starts
+
+pub returns-in-Some-Bench-clause-explained_in_trial : goal.returns-in-Some-Bench-clause-explained_in_trial
+returns-in-Some-Bench-clause-explained_in_trial g c input = explained_from c.reads_without_conflict_stay_explained.ensures
+    begun (lines_of input) empty_proper refl
+
+pub returns-in-Some-Bench-clause-no_usage_line : goal.returns-in-Some-Bench-clause-no_usage_line
+returns-in-Some-Bench-clause-no_usage_line g c command plain is = absurd
+    (bench_ends g.K.Sink _ _ _ c.bench.result (λ (e : Ending). status_of e ≢ 2) c.bench.ensures.prints (λ e. omega arith) (λ e. omega arith)
+    (λ e. omega arith) (sym c.status-status-in-Some-Bench.ensures ∙ is))
+
+pub returns-in-Some-Bench-clause-not_plain : goal.returns-in-Some-Bench-clause-not_plain
+returns-in-Some-Bench-clause-not_plain g c other = absurd
+    (is_asked (Bench c.in-Some-Bench.seed c.in-Some-Bench.count) c.in-Ok.ensures.command
+    (c.in-Some-Bench.is ∙ ap Some (rw c.in-Some-Bench.is at c.in-Some-Bench.field-0-is)) other)
+
+pub returns-in-Some-Bench-clause-untouched : goal.returns-in-Some-Bench-clause-untouched
+returns-in-Some-Bench-clause-untouched g c stop outcome asked = refl
+
+pub returns-in-Some-Bench-clause-no_fault_in_trial : goal.returns-in-Some-Bench-clause-no_fault_in_trial
+returns-in-Some-Bench-clause-no_fault_in_trial g c stop outcome asked = absurd
+    (no_trial_asked c.in-Some-Bench.seed c.in-Some-Bench.count stop outcome
+    (one_asked (Bench c.in-Some-Bench.seed c.in-Some-Bench.count) (Trial stop outcome) c.in-Ok.ensures.command
+    (c.in-Some-Bench.is ∙ ap Some (rw c.in-Some-Bench.is at c.in-Some-Bench.field-0-is)) asked))
+
+pub returns-in-Some-Bench-clause-disk_fault : goal.returns-in-Some-Bench-clause-disk_fault
+returns-in-Some-Bench-clause-disk_fault g c is = absurd
+    (bench_ends g.K.Sink _ _ _ c.bench.result (λ (e : Ending). status_of e ≢ 3) c.bench.ensures.prints (λ e. omega arith) (λ e. omega arith)
+    (λ e. omega arith) (sym c.status-status-in-Some-Bench.ensures ∙ is))
+
+pub returns-in-Some-Bench-clause-reader_fault : goal.returns-in-Some-Bench-clause-reader_fault
+returns-in-Some-Bench-clause-reader_fault g c s starts is = absurd
+    (bench_ends g.K.Sink _ _ _ c.bench.result (λ (e : Ending). status_of e ≢ 3) c.bench.ensures.prints (λ e. omega arith) (λ e. omega arith)
+    (λ e. omega arith) (sym c.status-status-in-Some-Bench.ensures ∙ is))
+
+pub returns-in-Some-Bench-clause-no_disk_fault : goal.returns-in-Some-Bench-clause-no_disk_fault
+returns-in-Some-Bench-clause-no_disk_fault g c other whole = refl
+
+pub returns-in-Some-Bench-clause-refused : goal.returns-in-Some-Bench-clause-refused
+returns-in-Some-Bench-clause-refused g c asked is = absurd
+    (no_replay c.in-Some-Bench.seed c.in-Some-Bench.count
+    (one_asked (Bench c.in-Some-Bench.seed c.in-Some-Bench.count) Replay c.in-Ok.ensures.command
+    (c.in-Some-Bench.is ∙ ap Some (rw c.in-Some-Bench.is at c.in-Some-Bench.field-0-is)) asked))
+
+pub returns-in-Some-Bench-clause-refuses : goal.returns-in-Some-Bench-clause-refuses
+returns-in-Some-Bench-clause-refuses g c asked = absurd
+    (no_replay c.in-Some-Bench.seed c.in-Some-Bench.count
+    (one_asked (Bench c.in-Some-Bench.seed c.in-Some-Bench.count) Replay c.in-Ok.ensures.command
+    (c.in-Some-Bench.is ∙ ap Some (rw c.in-Some-Bench.is at c.in-Some-Bench.field-0-is)) asked))
+
+pub returns-in-Some-Bench-clause-read_fault : goal.returns-in-Some-Bench-clause-read_fault
+returns-in-Some-Bench-clause-read_fault g c is = absurd
+    (bench_ends g.K.Sink _ _ _ c.bench.result (λ (e : Ending). status_of e ≢ 6) c.bench.ensures.prints (λ e. omega arith) (λ e. omega arith)
+    (λ e. omega arith) (sym c.status-status-in-Some-Bench.ensures ∙ is))
+
+pub returns-in-Some-Bench-clause-write_fault : goal.returns-in-Some-Bench-clause-write_fault
+returns-in-Some-Bench-clause-write_fault g c is = rose_by TheSink 7 sink_status c.bench.result _ _
+    c.bench.ensures.sink_faults (sym c.status-status-in-Some-Bench.ensures ∙ is)
+
+pub returns-in-Some-Bench-clause-no_stream_fault : goal.returns-in-Some-Bench-clause-no_stream_fault
+returns-in-Some-Bench-clause-no_stream_fault g c less =
+    let ending = c.bench.result in
+    let small : status_of ending < 6 = subst (λ (n : ℕ). n < 6) c.status-status-in-Some-Bench.ensures less in (
+      refl,
+      steady_by TheSink 7 sink_status ending _ _ c.bench.ensures.sink_faults
+          (below (status_of ending) 7 small (omega arith)) (below (status_of ending) 7 small (omega arith)),
+    )
+
+pub returns-in-Some-Bench-clause-again : goal.returns-in-Some-Bench-clause-again
+returns-in-Some-Bench-clause-again g c s input starts told may = may
+
+pub returns-in-Some-Bench-clause-input : goal.returns-in-Some-Bench-clause-input
+returns-in-Some-Bench-clause-input g c asked = absurd
+    (no_replay c.in-Some-Bench.seed c.in-Some-Bench.count
+    (one_asked (Bench c.in-Some-Bench.seed c.in-Some-Bench.count) Replay c.in-Ok.ensures.command
+    (c.in-Some-Bench.is ∙ ap Some (rw c.in-Some-Bench.is at c.in-Some-Bench.field-0-is)) asked))
+
+-- ---- clients
+
+pub returns-in-Some-Drive-clause-drives : goal.returns-in-Some-Drive-clause-drives
+returns-in-Some-Drive-clause-drives g c clients txns seed asked =
+    let same = same_drive c.in-Some-Drive.clients c.in-Some-Drive.txns c.in-Some-Drive.seed clients txns seed
+    (one_asked (Drive c.in-Some-Drive.clients c.in-Some-Drive.txns c.in-Some-Drive.seed) (Drive clients txns seed) c.in-Ok.ensures.command
+    (c.in-Some-Drive.is ∙ ap Some (rw c.in-Some-Drive.is at c.in-Some-Drive.field-0-is)) asked) in (
+      refl,
+      refl,
+      (
+        c.drive.result,
+        c.status-status-in-Some-Drive.ensures,
+        subst (λ (n : ℕ). PrintsDriven g.K.Sink n txns seed c.args.sink.now c.drive.new.sink c.drive.result) same.0
+            (subst (λ (n : ℕ). PrintsDriven g.K.Sink c.in-Some-Drive.clients n seed c.args.sink.now c.drive.new.sink c.drive.result) same.1
+            (subst (λ (n : ℕ). PrintsDriven g.K.Sink c.in-Some-Drive.clients c.in-Some-Drive.txns n c.args.sink.now c.drive.new.sink
+            c.drive.result) same.2 c.drive.ensures.prints)),
+      ),
+    )
+
+pub returns-in-Some-Drive-clause-benches : goal.returns-in-Some-Drive-clause-benches
+returns-in-Some-Drive-clause-benches g c seed count asked = absurd
+    (no_bench_driven seed count c.in-Some-Drive.clients c.in-Some-Drive.txns c.in-Some-Drive.seed
+    (one_asked (Drive c.in-Some-Drive.clients c.in-Some-Drive.txns c.in-Some-Drive.seed) (Bench seed count) c.in-Ok.ensures.command
+    (c.in-Some-Drive.is ∙ ap Some (rw c.in-Some-Drive.is at c.in-Some-Drive.field-0-is)) asked))
+
+pub returns-in-Some-Drive-clause-answers : goal.returns-in-Some-Drive-clause-answers
+returns-in-Some-Drive-clause-answers g c asked = absurd
+    (no_replay_driven c.in-Some-Drive.clients c.in-Some-Drive.txns c.in-Some-Drive.seed
+    (one_asked (Drive c.in-Some-Drive.clients c.in-Some-Drive.txns c.in-Some-Drive.seed) Replay c.in-Ok.ensures.command
+    (c.in-Some-Drive.is ∙ ap Some (rw c.in-Some-Drive.is at c.in-Some-Drive.field-0-is)) asked))
+
+pub returns-in-Some-Drive-clause-tries : goal.returns-in-Some-Drive-clause-tries
+returns-in-Some-Drive-clause-tries g c stop outcome input asked = absurd
+    (no_trial_driven c.in-Some-Drive.clients c.in-Some-Drive.txns c.in-Some-Drive.seed stop outcome
+    (one_asked (Drive c.in-Some-Drive.clients c.in-Some-Drive.txns c.in-Some-Drive.seed) (Trial stop outcome) c.in-Ok.ensures.command
+    (c.in-Some-Drive.is ∙ ap Some (rw c.in-Some-Drive.is at c.in-Some-Drive.field-0-is)) asked))
+
+pub returns-in-Some-Drive-clause-explained : goal.returns-in-Some-Drive-clause-explained
+returns-in-Some-Drive-clause-explained g c s input starts = all_explained c.reads_without_conflict_stay_explained.ensures
+    g.D.Watched c.args.disk s (lines_of input) starts
+
+pub returns-in-Some-Drive-clause-explained_in_trial : goal.returns-in-Some-Drive-clause-explained_in_trial
+returns-in-Some-Drive-clause-explained_in_trial g c input = explained_from c.reads_without_conflict_stay_explained.ensures
+    begun (lines_of input) empty_proper refl
+
+pub returns-in-Some-Drive-clause-no_usage_line : goal.returns-in-Some-Drive-clause-no_usage_line
+returns-in-Some-Drive-clause-no_usage_line g c command plain is = absurd
+    (drive_ends g.K.Sink _ _ _ _ _ c.drive.result (λ (e : Ending). status_of e ≢ 2) c.drive.ensures.prints (λ e. omega arith) (λ e. omega arith)
+    (λ e. omega arith) (sym c.status-status-in-Some-Drive.ensures ∙ is))
+
+pub returns-in-Some-Drive-clause-not_plain : goal.returns-in-Some-Drive-clause-not_plain
+returns-in-Some-Drive-clause-not_plain g c other = absurd
+    (is_asked (Drive c.in-Some-Drive.clients c.in-Some-Drive.txns c.in-Some-Drive.seed) c.in-Ok.ensures.command
+    (c.in-Some-Drive.is ∙ ap Some (rw c.in-Some-Drive.is at c.in-Some-Drive.field-0-is)) other)
+
+pub returns-in-Some-Drive-clause-untouched : goal.returns-in-Some-Drive-clause-untouched
+returns-in-Some-Drive-clause-untouched g c stop outcome asked = refl
+
+pub returns-in-Some-Drive-clause-no_fault_in_trial : goal.returns-in-Some-Drive-clause-no_fault_in_trial
+returns-in-Some-Drive-clause-no_fault_in_trial g c stop outcome asked = absurd
+    (no_trial_driven c.in-Some-Drive.clients c.in-Some-Drive.txns c.in-Some-Drive.seed stop outcome
+    (one_asked (Drive c.in-Some-Drive.clients c.in-Some-Drive.txns c.in-Some-Drive.seed) (Trial stop outcome) c.in-Ok.ensures.command
+    (c.in-Some-Drive.is ∙ ap Some (rw c.in-Some-Drive.is at c.in-Some-Drive.field-0-is)) asked))
+
+pub returns-in-Some-Drive-clause-disk_fault : goal.returns-in-Some-Drive-clause-disk_fault
+returns-in-Some-Drive-clause-disk_fault g c is = absurd
+    (drive_ends g.K.Sink _ _ _ _ _ c.drive.result (λ (e : Ending). status_of e ≢ 3) c.drive.ensures.prints (λ e. omega arith) (λ e. omega arith)
+    (λ e. omega arith) (sym c.status-status-in-Some-Drive.ensures ∙ is))
+
+pub returns-in-Some-Drive-clause-reader_fault : goal.returns-in-Some-Drive-clause-reader_fault
+returns-in-Some-Drive-clause-reader_fault g c s starts is = absurd
+    (drive_ends g.K.Sink _ _ _ _ _ c.drive.result (λ (e : Ending). status_of e ≢ 3) c.drive.ensures.prints (λ e. omega arith) (λ e. omega arith)
+    (λ e. omega arith) (sym c.status-status-in-Some-Drive.ensures ∙ is))
+
+pub returns-in-Some-Drive-clause-no_disk_fault : goal.returns-in-Some-Drive-clause-no_disk_fault
+returns-in-Some-Drive-clause-no_disk_fault g c other whole = refl
+
+pub returns-in-Some-Drive-clause-refused : goal.returns-in-Some-Drive-clause-refused
+returns-in-Some-Drive-clause-refused g c asked is = absurd
+    (no_replay_driven c.in-Some-Drive.clients c.in-Some-Drive.txns c.in-Some-Drive.seed
+    (one_asked (Drive c.in-Some-Drive.clients c.in-Some-Drive.txns c.in-Some-Drive.seed) Replay c.in-Ok.ensures.command
+    (c.in-Some-Drive.is ∙ ap Some (rw c.in-Some-Drive.is at c.in-Some-Drive.field-0-is)) asked))
+
+pub returns-in-Some-Drive-clause-refuses : goal.returns-in-Some-Drive-clause-refuses
+returns-in-Some-Drive-clause-refuses g c asked = absurd
+    (no_replay_driven c.in-Some-Drive.clients c.in-Some-Drive.txns c.in-Some-Drive.seed
+    (one_asked (Drive c.in-Some-Drive.clients c.in-Some-Drive.txns c.in-Some-Drive.seed) Replay c.in-Ok.ensures.command
+    (c.in-Some-Drive.is ∙ ap Some (rw c.in-Some-Drive.is at c.in-Some-Drive.field-0-is)) asked))
+
+pub returns-in-Some-Drive-clause-read_fault : goal.returns-in-Some-Drive-clause-read_fault
+returns-in-Some-Drive-clause-read_fault g c is = absurd
+    (drive_ends g.K.Sink _ _ _ _ _ c.drive.result (λ (e : Ending). status_of e ≢ 6) c.drive.ensures.prints (λ e. omega arith) (λ e. omega arith)
+    (λ e. omega arith) (sym c.status-status-in-Some-Drive.ensures ∙ is))
+
+pub returns-in-Some-Drive-clause-write_fault : goal.returns-in-Some-Drive-clause-write_fault
+returns-in-Some-Drive-clause-write_fault g c is = rose_by TheSink 7 sink_status c.drive.result _ _
+    c.drive.ensures.sink_faults (sym c.status-status-in-Some-Drive.ensures ∙ is)
+
+pub returns-in-Some-Drive-clause-no_stream_fault : goal.returns-in-Some-Drive-clause-no_stream_fault
+returns-in-Some-Drive-clause-no_stream_fault g c less =
+    let ending = c.drive.result in
+    let small : status_of ending < 6 = subst (λ (n : ℕ). n < 6) c.status-status-in-Some-Drive.ensures less in (
+      refl,
+      steady_by TheSink 7 sink_status ending _ _ c.drive.ensures.sink_faults
+          (below (status_of ending) 7 small (omega arith)) (below (status_of ending) 7 small (omega arith)),
+    )
+
+pub returns-in-Some-Drive-clause-again : goal.returns-in-Some-Drive-clause-again
+returns-in-Some-Drive-clause-again g c s input starts told may = may
+
+pub returns-in-Some-Drive-clause-input : goal.returns-in-Some-Drive-clause-input
+returns-in-Some-Drive-clause-input g c asked = absurd
+    (no_replay_driven c.in-Some-Drive.clients c.in-Some-Drive.txns c.in-Some-Drive.seed
+    (one_asked (Drive c.in-Some-Drive.clients c.in-Some-Drive.txns c.in-Some-Drive.seed) Replay c.in-Ok.ensures.command
+    (c.in-Some-Drive.is ∙ ap Some (rw c.in-Some-Drive.is at c.in-Some-Drive.field-0-is)) asked))
+
+-- ---- plain words for which there was no memory
+
+pub returns-in_default-clause-answers : goal.returns-in_default-clause-answers
+returns-in_default-clause-answers g c plain = (
+  c.finish.result,
+  c.status-status.ensures,
+  reported g.K.Sink c.args.sink.now c.finish.new.sink c.finish.result c.finish.ensures,
+  answers_nothing g.K.Sink c.args.sink.now c.finish.new.sink c.finish.result c.finish.ensures g.D.Watched
+      (record { only_now = g.met.D.Disk.only_now; counts_now = g.met.D.Disk.counts_now }) g.D.Reader.Reader.faults c.args.disk
+      (g.S.Source.left c.args.source.now) (g.S.Source.asked c.args.source.now) (g.S.Source.faults c.args.source.now)
+      (λ input told. keeps_up_at_first input (g.S.Source.asked c.args.source.now) (g.met.S.Source.since_asked c.args.source.now input told)),
+)
+
+pub returns-in_default-clause-tries : goal.returns-in_default-clause-tries
+returns-in_default-clause-tries g c stop outcome input asked told = (
+  c.finish.result,
+  c.status-status.ensures,
+  tries_nothing g.K.Sink c.args.sink.now c.finish.new.sink c.finish.result c.finish.ensures (trial_of stop input outcome)
+      (g.S.Source.left c.args.source.now),
+)
+
+pub returns-in_default-clause-explained : goal.returns-in_default-clause-explained
+returns-in_default-clause-explained g c s input starts = all_explained c.reads_without_conflict_stay_explained.ensures
+    g.D.Watched c.args.disk s (lines_of input) starts
+
+pub returns-in_default-clause-explained_in_trial : goal.returns-in_default-clause-explained_in_trial
+returns-in_default-clause-explained_in_trial g c input = explained_from c.reads_without_conflict_stay_explained.ensures
+    begun (lines_of input) empty_proper refl
+
+pub returns-in_default-clause-input : goal.returns-in_default-clause-input
+returns-in_default-clause-input g c plain input told = (
+  c.finish.result,
+  c.status-status.ensures,
+  reads_nothing g.K.Sink c.args.sink.now c.finish.new.sink c.finish.result c.finish.ensures input (g.S.Source.left c.args.source.now)
+      (g.S.Source.asked c.args.source.now)
+      (keeps_up_at_first input (g.S.Source.asked c.args.source.now) (g.met.S.Source.since_asked c.args.source.now input told)),
+)

@@ -1,11 +1,4 @@
 -- Behind a line the replayer stands for the state that the line leaves.
-use Rattle.std.proofs.Common.{sym, subst}
-use Rattle.std.specs.Prelude.{Err}
-use Rattle.vl_core.specs.Shown.{Shown}
-use Rattle.vl_sequential.specs.Durable.{CarriesOut}
-use Rattle.vl_sequential.specs.Sequential.{state_after}
-use Rattle.vl_sequential.specs.Stored.{IsStopped, IsStored}
-use Rattle.vl_script.specs.declared.answer.Answer.{Answer}
 use Rattle.vl_replay.proofs.Names.Returning.{stands_after}
 use Rattle.vl_replay.proofs.replayer.Replayer.line.Goals as goal
 

@@ -1,6 +1,6 @@
 -- A sweep is answered as its ruling has it, and carried out so.
-use Rattle.std.proofs.Common.{◌≡◌, ap, sym, ◌∙◌, subst}
-use Rattle.std.specs.Prelude.{None, OnOk, Result}
+use Rattle.std.proofs.Common.{sym, ◌∙◌, subst}
+use Rattle.std.specs.Prelude.{OnOk, Result}
 use Rattle.vl_core.specs.Represents as engine
 use Rattle.vl_engine.specs.Collecting.{Collects}
 use Rattle.vl_engine.specs.Merging.{StandsOpen}
