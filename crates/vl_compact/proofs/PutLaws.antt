@@ -4,6 +4,7 @@ use Rattle.std.specs.List.{AllZip, insert}
 use Rattle.std.proofs.Common.{◌≡◌, ℕ, zero, suc, ◌+◌, ◌-◌, ◌<◌, ◌≤◌, List, [], ◌∷◌, ◌++◌, length, take, drop, refl}
 use Rattle.std.proofs.Common.{ap, sym, subst, ◌∙◌, arith, append_assoc, length-append}
 use Rattle.vl_compact.proofs.PlaceLaws.{level_next, level_without, next_level}
+use Rattle.vl_compact.proofs.Zips.{zip_length}
 use Rattle.vl_compact.specs.Laid.{AreLevelsOf, AreTablesOf, IsTableOf}
 use Rattle.vl_compact.specs.Places.{first_key, put_at}
 use Rattle.vl_compact.specs.Replacing.{AreReady}
@@ -55,6 +56,20 @@ module _ {H : Type 0} (bytes : H → Option (List ℕ)) where
       (append_assoc front new (t ∷ back) ∙ ap (λ (l : List laid.Table). front ++ l) (sym (append_assoc new (t ∷ []) back)))
       (zip_insert (IsTableOf bytes) xs (front ++ new) back table t next place
       (subst (AreTablesOf bytes xs) (sym (append_assoc front new back)) zip) one))
+
+  -- the place of the next one is there
+  pub next_there : (xs : List (Table H)) (ts new : List laid.Table) (position next : ℕ) → position ≤ length ts
+      → next ≡ position + length new → AreTablesOf bytes xs (put_at position new ts) → next ≤ length xs
+  next_there xs ts new position next within at zip =
+      let front = take position ts in
+      let back = drop position ts in omega (
+        arith,
+        at,
+        taken_length position ts within,
+        zip_length (IsTableOf bytes) xs (put_at position new ts) zip,
+        length-append front (new ++ back),
+        length-append new back,
+      )
 
   pub next_is : (next position : ℕ) (new : List laid.Table) (t : laid.Table) → next ≡ position + length new
       → next + 1 ≡ position + length (new ++ t ∷ [])

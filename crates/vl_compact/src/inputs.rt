@@ -16,7 +16,7 @@ use vl_table::Table;
 
 /// The tables that a merge takes, in the order of the sources, and where its outputs are put.
 #[derive(Drop)]
-pub struct Inputs<H> {
+pub struct Inputs<H: HeldFile> {
     pub tables: Vec<Table<H>>,
     pub target: Target,
 }

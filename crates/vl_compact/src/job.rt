@@ -21,7 +21,7 @@ use vl_table::{TableCursor, TableFault};
 
 /// A merge of tables that is under way.
 #[derive(Drop)]
-pub struct Job<V, H, W: Writer> {
+pub struct Job<V, H: HeldFile, W: Writer> {
     // The sources as the plan found them.
     base: V,
     inputs: Inputs<H>,
@@ -42,7 +42,7 @@ pub struct Job<V, H, W: Writer> {
     ended: bool,
 }
 
-impl<V, H, W: Writer> Job<V, H, W> {
+impl<V, H: HeldFile, W: Writer> Job<V, H, W> {
     ghost use Rattle.std.specs.Prelude.{◌≡◌, OnOk};
     ghost use Rattle.std.specs.Option.{option_map};
     ghost use Rattle.vl_compact.specs.Progress.{HasRoom};
@@ -88,7 +88,7 @@ impl<V, H, W: Writer> Job<V, H, W> {
     }
 }
 
-impl<V: Drop, H: Drop, W: Writer + Drop> Job<V, H, W> {
+impl<V: Drop, H: HeldFile, W: Writer + Drop> Job<V, H, W> {
     ghost use Rattle.std.specs.Prelude.{◌≡◌};
 
     /// What it merged, its tables, and its other files.

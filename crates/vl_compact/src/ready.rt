@@ -1,6 +1,6 @@
 //! Levels that wait for the tables that a merge made.
 
-ghost use Rattle.std.specs.Prelude.{◌≡◌, ◌≤◌, length, slice_set};
+ghost use Rattle.std.specs.Prelude.{◌≡◌, slice_set};
 
 use vl_disk::HeldFile;
 use vl_table::Table;
@@ -8,7 +8,7 @@ use vl_version::{Level, Levels};
 
 /// The levels behind an install, as far as its outputs were put, for which there is room.
 #[derive(Drop)]
-pub struct ReadyLevels<H> {
+pub struct ReadyLevels<H: HeldFile> {
     /// To which level the outputs are put, and how many of its tables that aren't inputs stand before them.
     pub level: u8,
     pub position: u32,
@@ -19,7 +19,6 @@ pub struct ReadyLevels<H> {
     pub(crate) tables: Vec<Table<H>>,
     // So many of these stand before the next output.
     pub(crate) next: usize,
-    pub ghost within: { next ≤ length tables.items },
 }
 
 impl<H: HeldFile> ReadyLevels<H> {
@@ -41,8 +40,9 @@ impl<H: HeldFile> ReadyLevels<H> {
         ensures level { self.new.level ≡ self.old.level }
         ensures position { self.new.position ≡ self.old.position }
     {
-        let _ = self.tables.insert(self.next, table);
-        self.next += 1;
+        let next = self.next.min(self.tables.len());
+        let _ = self.tables.insert(next, table);
+        self.next = next + 1;
     }
 
     /// The levels with the outputs that were put. It wants no memory.

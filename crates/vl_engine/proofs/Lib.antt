@@ -16,6 +16,7 @@ pub mod Flushed
 mod Footers
 pub mod HandedIn
 mod HeldLogs
+mod HeldRoom
 mod InputNumbers
 pub mod InstallDisk
 pub mod InstallDiskLeaves
@@ -33,6 +34,7 @@ pub mod Leaving
 pub mod LeftRemoved
 pub mod Lending
 pub mod LendsNew
+mod Leveled
 mod MergeRemoved
 mod MoveRemoved
 mod OpenedThere

@@ -6,7 +6,7 @@ use std::alloc::AllocError;
 use thiserror::Error;
 use vl_collect::Batch;
 use vl_compact::Job;
-use vl_disk::{Name, NoMemory, Writer};
+use vl_disk::{HeldFile, Name, NoMemory, Writer};
 use vl_model::{Counter, Key};
 use vl_table::TableFault;
 use vl_txn::KeyFail;
@@ -147,7 +147,7 @@ impl From<VersionFault> for AtFail {
 
 /// Why a transaction isn't a commit. Where it is handed back it lives on as it was, and else it has ended.
 #[derive(Drop)]
-pub enum CommitFail<H, R> {
+pub enum CommitFail<H: HeldFile, R> {
     /// An earlier step failed at this file, and nothing is changed any more.
     Halted {
         name: Name,
@@ -223,7 +223,7 @@ pub enum KeepFail {
 /// ended: no call reads its files any more, and a sweep or the next opening removes them, but where the disk failed that opening
 /// may have them in use.
 #[derive(Drop)]
-pub enum InstallFail<V, H, W: Writer> {
+pub enum InstallFail<V, H: HeldFile, W: Writer> {
     /// An earlier step failed at this file, and nothing is changed any more.
     Halted { name: Name },
     /// The merge dropped the deletion of a key of which a record was relocated meanwhile, by the step that made this version

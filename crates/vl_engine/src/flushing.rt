@@ -15,7 +15,7 @@ ghost use Rattle.vl_version.specs.Flushing.{IsFlushed};
 use std::alloc::{AllocError, Global};
 use vl_back::{StageFail, StagedFlush};
 use vl_core::Core;
-use vl_disk::Disk;
+use vl_disk::{Disk, HeldFile};
 use vl_memtable::Memtable;
 use vl_merge::{Merge, merge_of_told_sources};
 use vl_model::{Cursor, Way};
@@ -24,7 +24,7 @@ use vl_version::FlushedVersion;
 
 /// What a flush is made of, before anything of it is written.
 #[derive(Drop)]
-pub struct ReadyFlush<H> {
+pub struct ReadyFlush<H: HeldFile> {
     pub staged: StagedFlush,
     /// The version behind it, but for the table.
     pub version: FlushedVersion<H>,

@@ -28,7 +28,7 @@ use vl_version::{Base, Levels, ReplacedVersion};
 
 /// What an install is made of, before anything of it is written.
 #[derive(Drop)]
-pub struct ReadyInstall<H> {
+pub struct ReadyInstall<H: HeldFile> {
     pub staged: StagedInstall,
     /// The version behind it, but for its levels.
     pub version: ReplacedVersion<H>,

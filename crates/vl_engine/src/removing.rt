@@ -170,7 +170,7 @@ pub fn leave_files<W: Writer + Drop>(
 }
 
 /// The merge that is open has ended without its tables: it pins nothing, and its files wait for their removal.
-pub fn give_up<V: Drop, H: Drop, W: Writer + Drop>(
+pub fn give_up<V: Drop, H: HeldFile, W: Writer + Drop>(
     removing: &mut Removing<Lent<W>>,
     job: Job<V, H, W>,
 )

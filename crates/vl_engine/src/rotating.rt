@@ -14,13 +14,13 @@ use crate::StepFail;
 use std::alloc::Global;
 use vl_back::Decision;
 use vl_core::Core;
-use vl_disk::{Disk, DiskFail, Name};
+use vl_disk::{Disk, DiskFail, HeldFile, Name};
 use vl_seglog::{ActiveLog, LOG_HEADER_BYTES};
 use vl_version::Version;
 
 /// What a rotation is answered where no log is begun: the engine is halted, no commit stands in the active log, or no number is
 /// left.
-pub fn refusal<H>(core: &Core<H>) -> Option<Result<Option<u32>, StepFail>>
+pub fn refusal<H: HeldFile>(core: &Core<H>) -> Option<Result<Option<u32>, StepFail>>
     ensures refused { IfSome result (IsRefusedSo core.now) }
     ensures may { result ≡ None → MayBegin core.now }
 {

@@ -6,6 +6,7 @@ mod writing;
 use crate::past::Past;
 pub(crate) use reading::tagged_value;
 use std::alloc::Global;
+use vl_disk::HeldFile;
 use vl_table::BlockReader;
 use vl_txn::{Reads, Writes};
 use vl_version::Version;
@@ -13,7 +14,7 @@ use vl_version::Version;
 /// A transaction that an engine began. It reads what was committed before it began, under its own writes, and is given back to
 /// that engine while it lives.
 #[derive(Drop)]
-pub struct Txn<H, R> {
+pub struct Txn<H: HeldFile, R> {
     pub(crate) alloc: Global,
     /// Of the live things of its engine none other has this one.
     pub(crate) ticket: u32,

@@ -4,12 +4,13 @@ mod reading;
 
 use crate::past::Past;
 use std::alloc::Global;
+use vl_disk::HeldFile;
 use vl_table::BlockReader;
 use vl_version::Version;
 
 /// A view that an engine began. It reads what was committed before it began, and is given back to that engine while it lives.
 #[derive(Drop)]
-pub struct View<H, R> {
+pub struct View<H: HeldFile, R> {
     pub(crate) alloc: Global,
     /// Of the live things of its engine none other has this one.
     pub(crate) ticket: u32,

@@ -10,7 +10,7 @@ use vl_table::{TableCursor, TableFault};
 
 /// A source of a merge.
 #[derive(Drop)]
-pub enum Source<H, R> {
+pub enum Source<H: HeldFile, R> {
     Memory(RunCursor),
     Table(TableCursor<H, R>),
 }

@@ -1,4 +1,4 @@
-use vl_disk::Name;
+use vl_disk::{HeldFile, Name};
 use vl_manifest::{ManifestState, Waiting};
 use vl_memtable::FrozenLog;
 use vl_model::Entry;
@@ -93,7 +93,7 @@ pub(crate) struct LogsFound<H> {
 
 /// The files that an opened store holds for its readers.
 #[derive(Drop)]
-pub(crate) struct HeldFiles<H> {
+pub(crate) struct HeldFiles<H: HeldFile> {
     /// The tables that the manifest names, for each level from 0 to 6, in its order.
     pub levels: Vec<Vec<Table<H>>>,
     /// The logs below head that tables lead into, and those from head on but for the last one. There is room for that too.

@@ -1,3 +1,4 @@
+use vl_disk::HeldFile;
 use vl_manifest::{ManifestLog, ManifestState, Waiting};
 use vl_memtable::FrozenLog;
 use vl_seglog::{ActiveLog, SealedLog};
@@ -5,7 +6,7 @@ use vl_table::Table;
 
 /// An opened store, and its disk, whose held files are `H`.
 #[derive(Drop)]
-pub struct Parts<D, H> {
+pub struct Parts<D, H: HeldFile> {
     pub disk: D,
     /// How many bytes a log may have.
     pub room: u64,

@@ -27,7 +27,7 @@ use crate::preparing::prepare;
 use crate::repairing::repair;
 use crate::{OpenError, OpenFail, Parts};
 use std::alloc::Global;
-use vl_disk::Disk;
+use vl_disk::{Disk, HeldFile};
 use vl_manifest::{IoFail, ManifestLog};
 use vl_seglog::{ActiveLog, SealedLog};
 
@@ -156,7 +156,7 @@ pub fn recover<D: Disk>(
 }
 
 // The store as it is opened, behind its repairing.
-fn opened<D, H>(
+fn opened<D, H: HeldFile>(
     disk: D,
     room: u64,
     manifest: ManifestLog,

@@ -1,4 +1,6 @@
 -- How what a cursor has left follows from its steps.
+use Rattle.std.specs.declared.clone.Clone as Clone
+use Rattle.vl_disk.specs.declared.reader.HeldFile as HeldFile
 use Rattle.std.specs.Prelude.{◌≡◌, ◌+◌, ◌-◌, ℕ, Bool, true, List, [], ◌∷◌, ◌++◌, Option, Result, Ok, Err, OnErr}
 use Rattle.std.specs.List.{AllByRecursion, slice_get}
 use Rattle.std.proofs.Common.{ap, sym, subst, ◌∙◌, append_assoc}
@@ -19,26 +21,26 @@ all_behind : {X : Type 0} (P : X → Type 0) (xs : List X) (y : X) → AllByRecu
 all_behind P [] y all here = (here, tt)
 all_behind P (x ∷ xs) y all here = (all.0, all_behind P xs y all.1 here)
 
-module _ {H R : Type 0} where
-  pub rise_same : (c d : TableCursor H R) → GoesOn c d → rise_over d.span d.tables.items ≡ rise_over c.span c.tables.items
+module _ {H R : Type 0} {g : HeldFile.Ghosts H} {k : Clone.Ghosts H} where
+  pub rise_same : (c d : TableCursor H R g k) → GoesOn c d → rise_over d.span d.tables.items ≡ rise_over c.span c.tables.items
   rise_same c d goes = λ i. rise_over (goes.span i) (goes.tables i).items
 
-  pub goes_on : (c d e : TableCursor H R) → GoesOn c d → GoesOn d e → GoesOn c e
+  pub goes_on : (c d e : TableCursor H R g k) → GoesOn c d → GoesOn d e → GoesOn c e
   goes_on c d e first second = record
       { tables = second.tables ∙ first.tables; span = second.span ∙ first.span; way = second.way ∙ first.way }
 
-  pub unread_stays : (c d : TableCursor H R) → StaysIn c d → unread d ≡ unread c
+  pub unread_stays : (c d : TableCursor H R g k) → StaysIn c d → unread d ≡ unread c
   unread_stays c d s = λ i.
       blocks_at (s.goes.way i) (slice_get ((s.goes.tables i).items) (s.table i)) (s.blocks i)
       ++ blocks_over (s.goes.span i) (s.goes.way i) (on_way (s.goes.way i) (stretch_of (s.later i) ((s.goes.tables i).items)))
 
-  pub blocks_stay : (c d : TableCursor H R) → StaysIn c d → blocks_left d ≡ blocks_left c
+  pub blocks_stay : (c d : TableCursor H R g k) → StaysIn c d → blocks_left d ≡ blocks_left c
   blocks_stay c d s = λ i.
       ((s.blocks i).end - (s.blocks i).first) + block_count (on_way (s.goes.way i) (stretch_of (s.later i) ((s.goes.tables i).items)))
 
-module _ {H R : Type 0} (bytes_of : H → Option (List ℕ)) where
+module _ {H R : Type 0} {g : HeldFile.Ghosts H} {k : Clone.Ghosts H} (bytes_of : H → Option (List ℕ)) where
   -- nothing is read or given
-  pub keeps_step : (c d : TableCursor H R) → GoesOn c d → (rise_over c.span c.tables.items ≡ true → unread d ≡ unread c)
+  pub keeps_step : (c d : TableCursor H R g k) → GoesOn c d → (rise_over c.span c.tables.items ≡ true → unread d ≡ unread c)
       → in_block d ≡ in_block c
       → Keeps (cursor_left bytes_of c) (cursor_left bytes_of d)
   keeps_step c d goes same here =
@@ -49,7 +51,7 @@ module _ {H R : Type 0} (bytes_of : H → Option (List ℕ)) where
       (λ rises. sym (λ i. entries_told bytes_of (goes.span i) (goes.way i) (same rises i))) (sym here))
 
   -- a block is read
-  pub keeps_read : (c d : TableCursor H R) → GoesOn c d → ReadsNext bytes_of c d → in_block c ≡ []
+  pub keeps_read : (c d : TableCursor H R g k) → GoesOn c d → ReadsNext bytes_of c d → in_block c ≡ []
       → Keeps (cursor_left bytes_of c) (cursor_left bytes_of d)
   keeps_read c d goes next none =
       subst (Keeps (cursor_left bytes_of c))
@@ -58,7 +60,7 @@ module _ {H R : Type 0} (bytes_of : H → Option (List ℕ)) where
       (in_block c) (in_block d) next.passed next.stood none next.taken)
 
   -- a block is read later
-  pub reads_later : (c d e : TableCursor H R) → GoesOn c d
+  pub reads_later : (c d e : TableCursor H R g k) → GoesOn c d
       → (rise_over c.span c.tables.items ≡ true → unread d ≡ unread c) → ReadsNext bytes_of d e → ReadsNext bytes_of c e
   reads_later c d e goes same next = record {
     block = next.block;
@@ -68,10 +70,10 @@ module _ {H R : Type 0} (bytes_of : H → Option (List ℕ)) where
     taken = next.taken ∙ (λ i. within (goes.span i) (on_way (goes.way i) next.entries));
   }
 
-  pub reads_none : (c d : TableCursor H R) → (rise_over c.span c.tables.items ≡ true → unread d ≡ unread c) → HasRead bytes_of c d
+  pub reads_none : (c d : TableCursor H R g k) → (rise_over c.span c.tables.items ≡ true → unread d ≡ unread c) → HasRead bytes_of c d
   reads_none c d same = record { read = []; passed = λ rises. sym (same rises); stood = tt }
 
-  pub reads_on : (c d e : TableCursor H R) → GoesOn c d → HasRead bytes_of c d
+  pub reads_on : (c d e : TableCursor H R g k) → GoesOn c d → HasRead bytes_of c d
       → (rise_over d.span d.tables.items ≡ true → unread e ≡ unread d) → HasRead bytes_of c e
   reads_on c d e goes has same = record {
     read = has.read;
@@ -79,7 +81,7 @@ module _ {H R : Type 0} (bytes_of : H → Option (List ℕ)) where
     stood = has.stood;
   }
 
-  pub reads_one : (c d e : TableCursor H R) → GoesOn c d → HasRead bytes_of c d → ReadsNext bytes_of d e → HasRead bytes_of c e
+  pub reads_one : (c d e : TableCursor H R g k) → GoesOn c d → HasRead bytes_of c d → ReadsNext bytes_of d e → HasRead bytes_of c e
   reads_one c d e goes has next = record {
     read = has.read ++ next.block ∷ [];
     passed = λ rises. has.passed rises ∙ ap (λ (l : List (Block H)). has.read ++ l) (next.passed (rise_same c d goes ∙ rises))

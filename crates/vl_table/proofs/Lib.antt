@@ -16,6 +16,7 @@ mod SeekSteps
 mod SpanParts
 mod Stages
 mod StretchSteps
+mod TestedSteps
 mod TrueTables
 pub mod Results
 mod WholeSpans

@@ -1,8 +1,8 @@
 -- The entries of a block that was read into memory.
-use Rattle.std.specs.Prelude.{◌≡◌, ◌≤◌, ◌<◌, ℕ, zero, suc, List, [], ◌∷◌, ◌++◌, drop, get_or, length, take}
+use Rattle.std.specs.Prelude.{◌≡◌, ◌-◌, ◌≤◌, ◌<◌, ℕ, zero, suc, List, [], ◌∷◌, ◌++◌, drop, get_or, length, take}
 use Rattle.std.specs.List.{AllByRecursion}
 use Rattle.std.proofs.Common.{ap, arith, length-append, length-drop, length-take, refl, subst, sym, append_assoc, ◌∙◌}
-use Rattle.std.proofs.lemmas.List.{drop-append-le, get_or-map, get_or-take, length-map, take-append-drop}
+use Rattle.std.proofs.lemmas.List.{drop-append-le, drop-drop, get_or-map, get_or-take, length-map, take-append-drop}
 use Rattle.vl_frame.specs.Frame.{check_of, frame_bytes}
 use Rattle.vl_frame.specs.declared.kinds.FrameKind.TheVariants as kinds
 use Rattle.vl_model.specs.declared.entry.Entry.{Entry}
@@ -11,10 +11,12 @@ use Rattle.vl_block.specs.Entries.{IsEntry, entry_bytes}
 use Rattle.vl_block.specs.Lists.{items_bytes}
 use Rattle.vl_block.specs.Starts.{AreStarts, StartsAt}
 use Rattle.vl_block.specs.laws.BlockLaws.{entry_is_some}
+use Rattle.vl_block.specs.laws.Lengths.{length-block_body}
 use Rattle.vl_table.specs.BlockEntries.{entry_in}
 use Rattle.vl_table.specs.Kept.{HasFrame, StandsBlock}
 use Rattle.vl_table.specs.declared.slot.BlockId.{BlockId}
 use Rattle.vl_table.specs.OpenBlocks.{Begins, IsOpen, said_at}
+use Rattle.vl_table.specs.Tested.{body_in}
 use Rattle.vl_table.proofs.BlockSays.{entry_in-says, framed}
 
 -- more bytes behind those in which an entry starts make no difference
@@ -78,8 +80,26 @@ module _ (format number place : ℕ) (body rest : List ℕ) (es : List Entry) (s
   pub said : said_at format (drop 9 (frame_bytes number place kinds.Block body ++ rest)) starts ≡ es
   said = said_all format (drop 9 (frame_bytes number place kinds.Block body ++ rest)) starts es says.lawful.each inside
 
-  pub begins : AllByRecursion (Begins format (drop 9 (frame_bytes number place kinds.Block body ++ rest))) starts
-  begins = begin_all format (drop 9 (frame_bytes number place kinds.Block body ++ rest)) starts es says.lawful.each inside
+-- Whatever frame it is: what is read of its body begins at these places, in all that stands behind head and count.
+module _ (format : ℕ) (frame rest : List ℕ) (es : List Entry) (starts : List ℕ) (says : SpellsBlock format (body_in frame) es)
+    (are : AreStarts format (drop 4 (body_in frame)) starts es) where
+  behind_head : (tail : List ℕ) × (drop 9 (frame ++ rest) ≡ drop 4 (body_in frame) ++ tail)
+  behind_head =
+      let n = length frame - 8 - 5 in
+      let tail = drop n (drop 5 frame) in
+      let long : 4 ≤ length (body_in frame) = omega (arith, ap length says.spelled, length-block_body format es) in
+      let enough : 5 ≤ length frame = omega (arith, long, length-take n (drop 5 frame), length-drop 5 frame) in
+      let split : drop 5 (frame ++ rest) ≡ body_in frame ++ (tail ++ rest) =
+      drop-append-le 5 frame rest enough ∙ ap (λ (l : List ℕ). l ++ rest) (sym (take-append-drop n (drop 5 frame)))
+      ∙ append_assoc (body_in frame) tail rest in (
+        tail ++ rest,
+        sym (drop-drop 4 5 (frame ++ rest)) ∙ ap (drop 4) split ∙ drop-append-le 4 (body_in frame) (tail ++ rest) long,
+      )
+
+  pub begins : AllByRecursion (Begins format (drop 9 (frame ++ rest))) starts
+  begins = begin_all format (drop 9 (frame ++ rest)) starts es says.lawful.each
+      (subst (λ (l : List ℕ). AreStarts format l starts es) (sym behind_head.1)
+      (all_longer format (drop 4 (body_in frame)) behind_head.0 starts es are))
 
 -- ---- one of them
 

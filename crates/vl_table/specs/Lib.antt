@@ -17,6 +17,7 @@ pub mod Seeks
 pub mod SpanBlocks
 pub mod Stretches
 pub mod Tables
+pub mod Tested
 pub mod Used
 pub mod Worked
 pub mod laws

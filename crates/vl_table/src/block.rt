@@ -3,22 +3,29 @@
 ghost use Rattle.std.specs.Prelude.{◌≡◌, ◌+◌, ◌≤◌, ℕ, IfOk, IsTrue, List, Some, drop, length, take};
 ghost use Rattle.std.specs.List.{AllByRecursion};
 ghost use Rattle.vl_model.specs.declared.entry.Entry.{Entry};
+ghost use Rattle.vl_frame.specs.Frame.{frame_bytes};
+ghost use Rattle.vl_frame.specs.declared.kinds.FrameKind.TheVariants as kinds;
 ghost use Rattle.vl_table.specs.Answers.{Answers, NeedsNoMemory};
+ghost use Rattle.vl_table.specs.Begun.{FrameAt};
 ghost use Rattle.vl_table.specs.OpenBlocks.{Begins};
 ghost use Rattle.vl_table.specs.Kept.{HasFrame, IsMissing, StandsBlock};
 
 use crate::fault::{TableFault, damaged};
 use crate::part::{body_of, read_into};
+use crate::reading::fill;
 use crate::slot::{BlockId, MAX_FRAME_BYTES};
+use crate::tested::Tested;
 use vl_block::{MAX_BLOCK_ENTRIES, find_starts};
 use vl_disk::{HeldFile, Reader};
 use vl_frame::FrameKind;
 
-/// Reads the frame of a block to the front of one slice, and puts to the front of another where its entries begin. It says
-/// how many there are.
+/// Reads the frame of the block with an index to the front of one slice, and puts to the front of another where its entries
+/// begin. It says how many there are. A block that was tested isn't tested again.
 pub fn read_block<H: HeldFile, R: Reader<Held = H>>(
     reader: &mut R,
     held: &H,
+    tested: &Tested<H>,
+    at: usize,
     id: BlockId,
     frame: &mut [u8],
     starts: &mut [u16],
@@ -38,12 +45,39 @@ pub fn read_block<H: HeldFile, R: Reader<Held = H>>(
         return Err(damaged(id.number, id.place));
     }
     let size = id.length as usize;
-    let kind = FrameKind::Block;
-    read_into(reader, held, id.number, id.place, kind, &mut frame[..size])?;
+    read_tested(reader, held, tested, at, id, &mut frame[..size])?;
     match find_starts(id.format, body_of(&frame[..size]), starts) {
         None => Err(damaged(id.number, id.place)),
         Some(count) => Ok(count),
     }
+}
+
+// Fills a slice with the frame of the block with an index, and tests it where that wasn't done yet.
+fn read_tested<H: HeldFile, R: Reader<Held = H>>(
+    reader: &mut R,
+    held: &H,
+    tested: &Tested<H>,
+    at: usize,
+    id: BlockId,
+    frame: &mut [u8],
+) -> Result<(), TableFault>
+    requires inside { id.place + length frame.old ≤ H.size held.now }
+    requires sized { length frame.old ≡ id.length }
+    ensures answers { Answers (R.faults reader.old) (R.faults reader.new) id.number (H.bytes held.now)
+        (λ bytes done. (body : List ℕ) × FrameAt id.number bytes id.place (length frame.old) kinds.Block body
+        × (frame.new ≡ frame_bytes id.number id.place kinds.Block body))
+        (λ bytes damage. ((body : List ℕ) → FrameAt id.number bytes id.place (length frame.old) kinds.Block body → ⊥)
+        × (damage ≡ id.place))
+        result }
+    ensures no_memory { NeedsNoMemory result }
+{
+    if tested.has(held, at, id) {
+        return fill(reader, held, id.number, id.place, frame);
+    }
+    let kind = FrameKind::Block;
+    read_into(reader, held, id.number, id.place, kind, frame)?;
+    tested.note(held, at, id);
+    Ok(())
 }
 
 // Whether a block's frame has a length that is read, and lies inside the file.

@@ -15,6 +15,7 @@ use crate::entries::Entries;
 use crate::fault::TableFault;
 use crate::slot::{BlockId, Slot};
 use crate::table::Table;
+use crate::tested::Tested;
 use std::alloc::{AllocError, Global};
 use std::mem;
 use vl_disk::{HeldFile, Reader};
@@ -60,7 +61,7 @@ impl<R: Drop> BlockReader<R> {
 impl<R: Reader> BlockReader<R> {
     ghost use Rattle.vl_table.specs.KeptBlocks.{AreKept, ReadsOf, keeps};
 
-    /// Brings a block of a table to the front, and reads and tests it where it isn't kept. After a fault one slot is empty.
+    /// Brings a block of a table to the front, and reads it where it isn't kept. After a fault one slot is empty.
     pub(crate) fn load<H: HeldFile>(
         &mut self,
         table: &Table<H>,
@@ -91,11 +92,17 @@ impl<R: Reader> BlockReader<R> {
     {
         let shape = table.shape();
         let id = BlockId::of(shape, &shape.blocks[at]);
-        self.load_block(table.held(), id)
+        self.load_block(table.held(), table.tested(), at, id)
     }
 
-    // Brings a block to the front, and reads and tests it where it isn't kept.
-    fn load_block<H: HeldFile>(&mut self, held: &H, id: BlockId) -> Result<(), TableFault>
+    // Brings the block with an index to the front, and reads it where it isn't kept.
+    fn load_block<H: HeldFile>(
+        &mut self,
+        held: &H,
+        tested: &Tested<H>,
+        at: usize,
+        id: BlockId,
+    ) -> Result<(), TableFault>
     where
         R: Reader<Held = H>,
         ensures kept { (files : Files) → AreKept files self.old → files id.number ≡ H.bytes held.now → AreKept files self.new }
@@ -112,7 +119,7 @@ impl<R: Reader> BlockReader<R> {
         if bring(&mut self.front, &mut self.others, &id) {
             return Ok(());
         }
-        self.front.load(&mut self.reader, held, id)
+        self.front.load(&mut self.reader, held, tested, at, id)
     }
 
     /// The entries of the block that is at the front.

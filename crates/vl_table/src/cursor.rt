@@ -19,7 +19,7 @@ use vl_model::{Cursor, Entry, Span, Way};
 /// reader of their files; between two calls it may be kept. It reads each block that may have such keys once, and again only
 /// after a fault, into memory of its own.
 #[derive(Drop)]
-pub struct TableCursor<H, R> {
+pub struct TableCursor<H: HeldFile, R> {
     alloc: Global,
     tables: Vec<Table<H>>,
     span: Span,
@@ -199,7 +199,8 @@ impl<H: HeldFile, R: Reader<Held = H> + Drop> TableCursor<H, R> {
         let shape = table.shape();
         let id = BlockId::of(shape, &shape.blocks[at]);
         self.entries = Stretch { first: 0, end: 0 };
-        self.block.load(reader, table.held(), id)?;
+        self.block
+            .load(reader, table.held(), table.tested(), at, id)?;
         self.entries = Stretch {
             first: 0,
             end: self.block.len(),

@@ -23,6 +23,7 @@ mod slot;
 mod span_blocks;
 mod stretch;
 mod table;
+mod tested;
 
 pub use block_reader::{BlockReader, KEPT_BLOCKS};
 pub use cursor::TableCursor;

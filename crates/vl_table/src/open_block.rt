@@ -4,6 +4,7 @@
 use crate::block::read_block;
 use crate::fault::TableFault;
 use crate::slot::{BlockId, MAX_FRAME_BYTES};
+use crate::tested::Tested;
 use std::alloc::{AllocError, Global};
 use std::marker::Model;
 use vl_block::{EntryRef, MAX_BLOCK_ENTRIES, entry_at};
@@ -73,11 +74,13 @@ impl OpenBlock {
         }
     }
 
-    /// Reads a block and tests it. Where that fails there is no entry.
+    /// Reads the block with an index, and tests it where that wasn't done yet. Where that fails there is no entry.
     pub fn load<H: HeldFile, R: Reader<Held = H>>(
         &mut self,
         reader: &mut R,
         held: &H,
+        tested: &Tested<H>,
+        at: usize,
         id: BlockId,
     ) -> Result<(), TableFault>
         ensures answers { Answers (R.faults reader.old) (R.faults reader.new) id.number (H.bytes held.now)
@@ -88,7 +91,8 @@ impl OpenBlock {
         ensures no_memory { NeedsNoMemory result }
     {
         self.count = 0;
-        let count = read_block(reader, held, id, &mut self.frame, &mut self.starts)?;
+        let (frame, starts) = (&mut self.frame, &mut self.starts);
+        let count = read_block(reader, held, tested, at, id, frame, starts)?;
         self.format = id.format;
         self.count = count;
         Ok(())

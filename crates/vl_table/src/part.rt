@@ -1,6 +1,6 @@
 //! One frame of a table, of which it is known where it stands and how long it is.
 
-ghost use Rattle.std.specs.Prelude.{◌≡◌, ◌+◌, ◌<◌, ◌≤◌, ◌↔◌, ℕ, List, length, IsTrue, OnOk};
+ghost use Rattle.std.specs.Prelude.{◌≡◌, ◌+◌, ◌-◌, ◌<◌, ◌≤◌, ◌↔◌, ℕ, List, drop, length, take, IsTrue, OnOk};
 ghost use Rattle.vl_frame.specs.Frame.{IsSpelled, frame_bytes, frame_length};
 ghost use Rattle.vl_frame.specs.declared.kinds.FileKind.TheVariants as files;
 ghost use Rattle.vl_frame.specs.declared.kinds.FrameKind.{FrameKind};
@@ -87,9 +87,10 @@ pub fn is_same(kind: FrameKind, other: FrameKind) -> bool
     kind == other
 }
 
-/// The body of a frame.
+/// The body of a frame: all but its first five bytes and its last eight.
 pub fn body_of(frame: &[u8]) -> &[u8]
-    ensures { (number place : ℕ) (kind : FrameKind) (body : List ℕ)
+    ensures cut { result.now ≡ take (length frame.now - 8 - 5) (drop 5 frame.now) }
+    ensures framed { (number place : ℕ) (kind : FrameKind) (body : List ℕ)
         → frame.now ≡ frame_bytes number place kind body → result.now ≡ body }
 {
     if frame.len() < FRAME_BYTES {

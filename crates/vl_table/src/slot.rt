@@ -6,6 +6,7 @@ use crate::block::read_block;
 use crate::entries::Entries;
 use crate::fault::TableFault;
 use crate::part::body_of;
+use crate::tested::Tested;
 use std::alloc::{AllocError, Global};
 use vl_block::{BlockPlace, MAX_BLOCK_ENTRIES, MAX_BODY_BYTES, TableShape};
 use vl_disk::{HeldFile, Reader};
@@ -83,11 +84,13 @@ impl Slot {
         }
     }
 
-    /// Reads a block and tests it. Where that fails the slot is empty.
+    /// Reads the block with an index, and tests it where that wasn't done yet. Where that fails the slot is empty.
     pub fn load<H: HeldFile, R: Reader<Held = H>>(
         &mut self,
         reader: &mut R,
         held: &H,
+        tested: &Tested<H>,
+        at: usize,
         id: BlockId,
     ) -> Result<(), TableFault>
         ensures answers { Answers (R.faults reader.old) (R.faults reader.new) id.number (H.bytes held.now)
@@ -98,7 +101,8 @@ impl Slot {
         ensures no_memory { NeedsNoMemory result }
     {
         self.block = None;
-        let count = read_block(reader, held, id, &mut self.frame, &mut self.starts)?;
+        let (frame, starts) = (&mut self.frame, &mut self.starts);
+        let count = read_block(reader, held, tested, at, id, frame, starts)?;
         self.count = count;
         self.block = Some(id);
         Ok(())

@@ -26,6 +26,7 @@ use crate::block_reader::BlockReader;
 use crate::entries::Scan;
 use crate::opening::read_shape;
 use crate::span_blocks::{is_from, is_up_to};
+use crate::tested::Tested;
 use std::alloc::{AllocError, Global};
 use std::sync::Arc;
 use vl_block::{BlockPlace, Found, TableShape};
@@ -35,20 +36,27 @@ use vl_model::Span;
 
 /// A table in a held file.
 #[derive(Drop)]
-pub struct Table<H> {
+pub struct Table<H: HeldFile> {
     held: H,
     shape: Arc<TableShape, Global>,
+    tested: Tested<H>,
 }
 
 impl<H: HeldFile> Table<H> {
-    /// The table with this shape, in this file. It takes no memory.
+    /// The table with this shape, in this file. Where there is memory it notes which of its blocks were tested.
     pub fn of(held: H, shape: Arc<TableShape, Global>) -> Self
         ensures shape { shape_of result ≡ arc_value shape }
         ensures held { result.held ≡ held }
         ensures table { (number : ℕ) (es : List Entry) → IsShapeOf number es (arc_value shape)
             → H.bytes held ≡ Some (table_bytes (arc_value shape).format number es) → IsOf H.bytes result es }
     {
-        Table { held, shape }
+        let blocks = &shape.blocks;
+        let tested = Tested::new(*blocks.allocator(), &held, blocks.len());
+        Table {
+            held,
+            shape,
+            tested,
+        }
     }
 
     /// Opens the table with this number. It reads the header, the footer, the index and the filter, and no block.
@@ -70,7 +78,7 @@ impl<H: HeldFile> Table<H> {
     {
         let shape = read_shape(alloc, reader, &held, number)?;
         match Arc::new(alloc, shape) {
-            Ok(shape) => Ok(Table { held, shape }),
+            Ok(shape) => Ok(Table::of(held, shape)),
             Err(_) => Err(TableFault::NoMemory),
         }
     }
@@ -81,7 +89,12 @@ impl<H: HeldFile> Table<H> {
     {
         let held = self.held.clone()?;
         let shape = Arc::try_clone(&self.shape)?;
-        Ok(Table { held, shape })
+        let tested = self.tested.share()?;
+        Ok(Table {
+            held,
+            shape,
+            tested,
+        })
     }
 
     /// What is known of it beside its blocks.
@@ -96,6 +109,11 @@ impl<H: HeldFile> Table<H> {
         ensures { result.now ≡ self.now.held }
     {
         &self.held
+    }
+
+    /// Which of its blocks were tested.
+    pub(crate) fn tested(&self) -> &Tested<H> {
+        &self.tested
     }
 
     /// Whether it may have a key: false where the key is below the first or above the last, or the filter says no.

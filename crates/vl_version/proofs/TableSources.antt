@@ -1,4 +1,6 @@
 -- Cursors over tables as sources of a scan.
+use Rattle.std.specs.declared.clone.Clone as Clone
+use Rattle.vl_disk.specs.declared.reader.HeldFile as HeldFile
 use Rattle.std.proofs.Common.{◌≡◌, ℕ, zero, suc, ◌+◌, ◌<◌, List, [], ◌∷◌, ◌++◌, length, take, drop, refl, ap, sym}
 use Rattle.std.proofs.Common.{◌∙◌, subst, append-nil, append_assoc, arith}
 use Rattle.std.proofs.Common.{Global, get_or, inl, inr}
@@ -137,9 +139,9 @@ module _ {H : Type 0} (bytes_of : H → Option (List ℕ)) where
       let one = of_get ts ess may.0 may.1 are may.2 in
       no_bad_block bytes_of may.1 one.0 at one.1 (may.4 (table_bytes (shape_of may.1).format (number_of may.1) one.0) one.1.told)
 
-  module _ {R : Type 0} (span : Span) (way : Way) (ts met : List (Table H)) (tabled : List (List Entry)) (apart : AreApart ts)
+  module _ {R : Type 0} {g : HeldFile.Ghosts H} {k : Clone.Ghosts H} (span : Span) (way : Way) (ts met : List (Table H)) (tabled : List (List Entry)) (apart : AreApart ts)
       (are : AreOf bytes_of ts tabled) (within_met : HaveWithin bytes_of span (joined tabled) met) where
-    pub adds_cursor : (cursor : TableCursor H R) (old now : List (Source H R))
+    pub adds_cursor : (cursor : TableCursor H R g k) (old now : List (Source H R g k))
         → ((ess : List (List Entry)) → AreOf bytes_of met ess → cursor_left bytes_of cursor ≡ Some (along way (within span (joined ess))))
         → ((why : TableFault) → MayFailOn bytes_of cursor.tables.items why → MayFailOn bytes_of met why)
         → now ≡ old ++ Tables cursor ∷ [] → Adds bytes_of span way (joined tabled) old now
@@ -156,7 +158,7 @@ module _ {H : Type 0} (bytes_of : H → Option (List ℕ)) where
         by name place (inr none) = none
 
     -- without any of them
-    pub adds_without : (old : List (Source H R)) → met ≡ [] → Adds bytes_of span way (joined tabled) old old
+    pub adds_without : (old : List (Source H R g k)) → met ≡ [] → Adds bytes_of span way (joined tabled) old old
     adds_without old none =
         adds_more bytes_of span way (joined tabled) old [] old (sym (append-nil old)) (record {
           left = [];
@@ -173,16 +175,16 @@ module _ {H : Type 0} (bytes_of : H → Option (List ℕ)) where
 
   -- ---- more tables
 
-  module _ {R : Type 0} (span : Span) (way : Way) where
+  module _ {R : Type 0} {g : HeldFile.Ghosts H} {k : Clone.Ghosts H} (span : Span) (way : Way) where
     -- what these tables add
-    abbrev pub AddTables : List (Table H) → List (Source H R) → List (Source H R) → Type 0
+    abbrev pub AddTables : List (Table H) → List (Source H R g k) → List (Source H R g k) → Type 0
     AddTables ts old now = (tabled : List (List Entry)) → AreOf bytes_of ts tabled → Adds bytes_of span way (joined tabled) old now
 
-    pub adds_no_tables : (old : List (Source H R)) → AddTables [] old old
+    pub adds_no_tables : (old : List (Source H R g k)) → AddTables [] old old
     adds_no_tables old [] are = adds_none bytes_of span way old
     adds_no_tables old (es ∷ ess) are = absurd are
 
-    pub adds_next : (ts us : List (Table H)) (old mid now : List (Source H R)) → AddTables ts old mid → AddTables us mid now
+    pub adds_next : (ts us : List (Table H)) (old mid now : List (Source H R g k)) → AddTables ts old mid → AddTables us mid now
         → AddTables (ts ++ us) old now
     adds_next ts us old mid now first second tabled are =
         let both = both_of bytes_of ts us tabled are in
@@ -191,7 +193,7 @@ module _ {H : Type 0} (bytes_of : H → Option (List ℕ)) where
         (second both.back both.are_behind))
 
     -- a table alone is apart
-    pub adds_one : (t : Table H) (ts : List (Table H)) (old now : List (Source H R)) → ts ≡ t ∷ []
+    pub adds_one : (t : Table H) (ts : List (Table H)) (old now : List (Source H R g k)) → ts ≡ t ∷ []
         → ((tabled : List (List Entry)) → AreOf bytes_of ts tabled → AreApart ts → Adds bytes_of span way (joined tabled) old now)
         → AddTables (t ∷ []) old now
     adds_one t ts old now alone adds tabled are =
@@ -215,6 +217,17 @@ module _ {H : Type 0} (bytes_of : H → Option (List ℕ)) where
       (sym (tables-split levels i level inside is) ∙ none))
 
 -- ---- lists without elements
+
+-- the element with an index, and the slice of it alone
+pub item_at : {T : Type 0} (xs : List T) (i : ℕ) → i < length xs → (x : T) × (x ≡ get_or xs i x)
+item_at [] i inside = absurd (omega arith)
+item_at (x ∷ xs) zero inside = (x, refl)
+item_at (x ∷ xs) (suc i) inside = item_at xs i (omega arith)
+
+pub one_at : {T : Type 0} (xs : List T) (i n : ℕ) (x : T) → i < length xs → x ≡ get_or xs i x → n ≡ 1 → take n (drop i xs) ≡ x ∷ []
+one_at [] i n x inside is one = absurd (omega arith)
+one_at (y ∷ ys) zero n x inside is one = ap (λ (k : ℕ). take k (y ∷ ys)) one ∙ ap (λ (z : _). z ∷ []) (sym is)
+one_at (y ∷ ys) (suc i) n x inside is one = one_at ys i n x (omega arith) is one
 
 pub no_items : {T : Type 0} (v : Vec T Global) → (vec_len v == 0) ≡ true → v.items ≡ []
 no_items {T} v none = by v.items (ap (λ (n : ℕ). n == 0) (sym v.ok.0) ∙ none)

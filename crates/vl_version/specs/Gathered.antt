@@ -1,4 +1,6 @@
 -- What cursors over sources have left, cut to an interval.
+use Rattle.std.specs.declared.clone.Clone as Clone
+use Rattle.vl_disk.specs.declared.reader.HeldFile as HeldFile
 use Rattle.std.specs.Prelude.{◌≡◌, ◌++◌, ℕ, false, List, map, Option, Some, None, if◌then◌else◌}
 use Rattle.std.specs.List.{AllByRecursion, flat_map}
 use Rattle.vl_block.specs.Cutting.{joined}
@@ -28,9 +30,9 @@ pub record GiveWinners (span : Span) (way : Way) (es : List Entry) (left : List 
   pub winners : (key : List ℕ) (number : ℕ)
       → winner (flat_map (λ fs. fs) left) key number ≡ (if is_in_span span key then winner es key number else None)
 
-module _ {H R : Type 0} (bytes_of : H → Option (List ℕ)) where
+module _ {H R : Type 0} {g : HeldFile.Ghosts H} {k : Clone.Ghosts H} (bytes_of : H → Option (List ℕ)) where
   -- what is left of these sources is told, and so it is with that; and none of them is damaged
-  pub record TellWinners (span : Span) (way : Way) (es : List Entry) (sources : List (Source H R)) : Type 0 where
+  pub record TellWinners (span : Span) (way : Way) (es : List Entry) (sources : List (Source H R g k)) : Type 0 where
     pub left : List (List Entry)
     pub told : map (λ source. left_in bytes_of source) sources ≡ map Some left
     pub give : GiveWinners span way es left
@@ -38,12 +40,12 @@ module _ {H R : Type 0} (bytes_of : H → Option (List ℕ)) where
         → OneMayFail (λ source fault. SourceMayFail bytes_of source fault) sources (Damaged name place) → ⊥
 
   -- behind the entries of the sources before there are these in those after
-  abbrev pub Adds : Span → Way → List Entry → List (Source H R) → List (Source H R) → Type 0
+  abbrev pub Adds : Span → Way → List Entry → List (Source H R g k) → List (Source H R g k) → Type 0
   Adds span way es old new =
       (before : List Entry) → TellWinners span way before old → TellWinners span way (before ++ es) new
 
   -- none of these sources reads
-  abbrev pub IsQuiet : List (Source H R) → Type 0
+  abbrev pub IsQuiet : List (Source H R g k) → Type 0
   IsQuiet sources = (fault : ReadFault) → OneMayFail (λ source why. SourceMayFail bytes_of source why) sources fault
       → is_disk_fault fault ≡ false
 

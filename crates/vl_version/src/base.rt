@@ -14,7 +14,7 @@ use vl_table::{BlockReader, TableFault};
 /// What memory has costs a look-up in each memtable. Of the tables each of level 0 is asked, and of a deeper level one at most;
 /// one isn't read whose range, filter or greatest version says that it hasn't got what is looked for.
 #[derive(Drop)]
-pub struct Base<H, R> {
+pub struct Base<H: HeldFile, R> {
     version: Version<H>,
     read_with: PhantomData<R>,
 }

@@ -3,12 +3,13 @@ use std::alloc::{AllocError, Global};
 use std::marker::Model;
 use std::mem;
 use std::sync::Arc;
+use vl_disk::HeldFile;
 use vl_memtable::FrozenLog;
 use vl_seglog::SealedLog;
 
 /// The sources behind the memtable that takes commits, and the logs into which they lead.
 #[derive(Drop)]
-pub struct Behind<H> {
+pub struct Behind<H: HeldFile> {
     /// The logs whose memtables wait for their flush, the newest first.
     pub frozen: Vec<FrozenLog>,
     /// The tables of all levels.
@@ -19,18 +20,18 @@ pub struct Behind<H> {
 
 // Where it stands: until it is shared for the first time, by itself, so that to make it takes no memory.
 #[derive(Drop)]
-enum Place<H> {
+enum Place<H: HeldFile> {
     Own(Behind<H>),
     Shared(Arc<Behind<H>, Global>),
 }
 
 /// The same as several versions share it. Clauses see what is shared.
 #[derive(Drop)]
-pub struct SharedBehind<H> {
+pub struct SharedBehind<H: HeldFile> {
     place: Place<H>,
 }
 
-impl<H> Model for SharedBehind<H> {
+impl<H: HeldFile> Model for SharedBehind<H> {
     ghost use Rattle.vl_version.specs.declared.behind.Behind.{Behind};
 
     ghost Value = { Behind H };
@@ -40,7 +41,7 @@ impl<H> Model for SharedBehind<H> {
     ghost view = { λ a. behind_of a.place };
 }
 
-impl<H: Drop> SharedBehind<H> {
+impl<H: HeldFile> SharedBehind<H> {
     ghost use Rattle.std.specs.Prelude.{◌≡◌, IfOk};
 
     pub fn new(behind: Behind<H>) -> Self
@@ -81,7 +82,7 @@ impl<H: Drop> SharedBehind<H> {
     }
 }
 
-impl<H: Drop> Place<H> {
+impl<H: HeldFile> Place<H> {
     ghost use Rattle.std.specs.Prelude.{◌≡◌};
     ghost use Rattle.vl_version.specs.Place.{behind_of};
 

@@ -15,12 +15,11 @@ use vl_table::Table;
 
 /// The version behind the flush of the oldest frozen log, but for the table of its entries, for which there is room.
 #[derive(Drop)]
-pub struct FlushedVersion<H> {
+pub struct FlushedVersion<H: HeldFile> {
     active: Memtable,
     frozen: Vec<FrozenLog>,
     levels: Levels<H>,
     logs: Vec<SealedLog<H>>,
-    pub ghost room: { vec_len levels.newest < vec_capacity levels.newest },
 }
 
 impl<H: HeldFile> Version<H> {
@@ -61,6 +60,7 @@ impl<H: HeldFile> FlushedVersion<H> {
     /// The version with this table in front of level 0, where the active log has this number. Of the logs that are idle, as far as
     /// the caller knows, it holds just those that it needs. It wants no memory.
     pub fn with_table(self, table: Table<H>, active: u32, idle: &[u32]) -> Version<H>
+        requires { vec_len self.levels.newest < vec_capacity self.levels.newest }
         ensures active { result.active ≡ self.active }
         ensures frozen { result.behind.frozen.items ≡ self.frozen.items }
         ensures newest { result.behind.levels.newest.items ≡ table ∷ self.levels.newest.items }

@@ -82,7 +82,7 @@ fn add_memtable<'a, H: HeldFile, R: Drop>(
     add_runs(sources, memtable.cursors_within(span, way)?)
 }
 
-fn add_runs<'a, H: Drop, R: Drop>(
+fn add_runs<'a, H: HeldFile, R: Drop>(
     sources: &mut Vec<Source<'a, H, R>>,
     runs: Vec<RunCursor>,
 ) -> Result<(), AllocError>

@@ -33,14 +33,14 @@ use vl_table::{BlockReader, Table, TableFault};
 
 /// The tables of a store by their levels.
 #[derive(Drop)]
-pub struct Levels<H> {
+pub struct Levels<H: HeldFile> {
     // Level 0, the newest table first. Its tables may overlap.
     newest: Vec<Table<H>>,
     // The levels below it, the next one first.
     deeper: Vec<Level<H>>,
 }
 
-impl<H> Levels<H> {
+impl<H: HeldFile> Levels<H> {
     /// The levels with these tables: those of level 0, the newest first, and the levels below it.
     pub fn new(newest: Vec<Table<H>>, deeper: Vec<Level<H>>) -> Self
         ensures newest { result.newest ≡ newest }

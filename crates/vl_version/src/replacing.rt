@@ -16,7 +16,7 @@ use vl_seglog::SealedLog;
 
 /// The version behind an install, but for its levels.
 #[derive(Drop)]
-pub struct ReplacedVersion<H> {
+pub struct ReplacedVersion<H: HeldFile> {
     active: Memtable,
     frozen: Vec<FrozenLog>,
     logs: Vec<SealedLog<H>>,

@@ -10,7 +10,7 @@ use vl_table::TableCursor;
 /// The entries of one source: the caller's own writes, a run in memory, or tables. It is read with any reader of the version's
 /// files.
 #[derive(Drop)]
-pub enum Source<'a, H, R> {
+pub enum Source<'a, H: HeldFile, R> {
     Own(OwnCursor<'a>),
     Held(RunCursor),
     Tables(TableCursor<H, R>),

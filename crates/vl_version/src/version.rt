@@ -40,7 +40,7 @@ use vl_txn::Writes;
 
 /// The sources of a store at one moment. It is shared by all who read there, and only its memtable takes commits.
 #[derive(Drop)]
-pub struct Version<H> {
+pub struct Version<H: HeldFile> {
     pub(crate) active: Memtable,
     pub(crate) behind: SharedBehind<H>,
 }

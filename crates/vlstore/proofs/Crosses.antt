@@ -43,9 +43,9 @@ recent = search (sendable, crosses, knot.send-Tree, knot.send-Node) depth 30
 front : IsSend Front.the_row
 front = declared_send Front.the_type (oracle.the_send, (recent, (active.the_send, (search sendable, (search (rules, sendable, crosses, name.the_send) depth 20, tt)))))
 
-module _ (H : RattleType) (s : IsSend H) (y : IsSync H) where
-  pub core : IsSend (Core.the_row H)
-  core = declared_send (Core.the_type H) (version.the_send H s y, (front, (back.the_send, tt)))
+module _ (H : RattleType) (h : HeldFile.Ghosts H.Denot) (c : Clone.Ghosts H.Denot) (s : IsSend H) (y : IsSync H) where
+  pub core : IsSend (Core.the_row H h c)
+  core = declared_send (Core.the_type H h c) (version.the_send H h c s y, (front, (back.the_send, tt)))
 
 merging : IsSend (Option.the_row OpenMerge.the_row)
 merging = search (rules, sendable, crosses, merge.the_send) depth 20
@@ -53,7 +53,7 @@ merging = search (rules, sendable, crosses, merge.the_send) depth 20
 module _ (D H R W : RattleType) (w : Watched.Ghosts D.Denot) (h : HeldFile.Ghosts H.Denot) (c : Clone.Ghosts H.Denot) (r : Reader.Ghosts R.Denot H.Denot) (x : Writer.Ghosts W.Denot) where
   pub engine : IsSend D → IsSend H → IsSync H → IsSend W → IsSend (Engine.the_row D H R W w h c r x)
   engine d s y e = declared_send (Engine.the_type D H R W w h c r x)
-      (search (sendable, crosses), (as_row_send (row_field D) d, (core H s y, (merging, (collecting.the_send, (removing.the_send _ (lent.the_send W x e), tt))))))
+      (search (sendable, crosses), (as_row_send (row_field D) d, (core H h c s y, (merging, (collecting.the_send, (removing.the_send _ (lent.the_send W x e), tt))))))
 
   locked : IsSend D → IsSend H → IsSync H → IsSend W → IsSend (Locked.the_row D H R W w h c r x)
   locked d s y e = declared_send (Locked.the_type D H R W w h c r x) (engine d s y e, (search (sendable, seat.the_send), tt))

@@ -21,7 +21,7 @@ ghost use Rattle.vl_engine.specs.Removing.{Removes};
 
 use crate::{Engine, KeepFail};
 use vl_core::Core;
-use vl_disk::{Disk, Name};
+use vl_disk::{Disk, HeldFile, Name};
 use vl_manifest::Edit;
 
 // How many of the newest versions of a key may be kept.
@@ -146,7 +146,7 @@ impl<D: Disk> Engine<D> {
 }
 
 // Since when so many versions are kept: where they are more than before, older ones may be gone already.
-fn next_since<H>(core: &Core<H>, versions: u8) -> u64
+fn next_since<H: HeldFile>(core: &Core<H>, versions: u8) -> u64
     ensures { result ≡ facts.next_since core.now versions }
 {
     if versions > core.back.state.keep {

@@ -34,7 +34,7 @@ use crate::{Engine, OpenError, OpenFail};
 use std::alloc::Global;
 use vl_back::Back;
 use vl_core::Core;
-use vl_disk::Disk;
+use vl_disk::{Disk, HeldFile};
 use vl_front::Front;
 use vl_pins::{Pins, Stock};
 use vl_recover::{Parts, recover};
@@ -192,7 +192,7 @@ impl<D: Disk> Engine<D> {
 }
 
 // The levels with these tables, those of level 0 first. There is room for the ones below it.
-fn with_levels<H: Drop>(tables: Vec<Vec<Table<H>>>, deeper: Vec<Level<H>>) -> Levels<H>
+fn with_levels<H: HeldFile>(tables: Vec<Vec<Table<H>>>, deeper: Vec<Level<H>>) -> Levels<H>
     requires some { 1 ≤ length tables.items }
     requires room { length tables.items ≤ vec_capacity deeper + 1 }
     requires empty { deeper.items ≡ [] }

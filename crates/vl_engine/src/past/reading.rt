@@ -17,7 +17,7 @@ use vl_txn::check_key;
 use vl_version::{ReadFault, Version};
 
 /// How far back what begins now may read.
-pub fn past_of<H>(core: &Core<H>) -> Past
+pub fn past_of<H: HeldFile>(core: &Core<H>) -> Past
     ensures { result ≡ past_now core.now }
 {
     Past {

@@ -103,6 +103,18 @@ module _ {W H R : Type 0} (writers : Writers W) (bytes : H → Option (List ℕ)
 -- ---- it was taken out, or not
 
 module _ {V H W : Type 0} {g : _} where
+  -- the one that was there has the name, and goes
+  pub takes : (name : Name) (old new : Option (Planned V H W g)) (p : Planned V H W g) → old ≡ Some p
+      → option_map_or (λ (waiting : Planned V H W g). bytes_eq name waiting.name) old false ≡ true → new ≡ None
+      → TakesPlanned name old new (Some p.job)
+  takes name None new p is named none = absurd cc
+  takes name (Some q) new p is named none =
+      let one : q ≡ p = same q p is in
+      (none, sym ((bytes_eq-Decides name q.name).0 named), sym (ap (λ (x : Planned V H W g). x.job) one))
+    where
+      same : (a b : Planned V H W g) → Some a ≡ Some b → a ≡ b
+      same a b e = cc
+
   pub took : (q name : Name) → q ≡ name → (planned new : Option (Planned V H W g)) (result : Option (TheJob V H W g)) (job : TheJob V H W g)
       → TakesPlanned q planned new result → result ≡ Some job
       → (p : Planned V H W g) × (planned ≡ Some p) × (p.name ≡ name) × (job ≡ p.job) × (new ≡ None)

@@ -26,7 +26,7 @@ use crate::replayer::passing::Passing;
 use crate::replayer::planned::Planned;
 use crate::replayer::{Replayer, Served};
 use std::alloc::AllocError;
-use vl_disk::{Disk, Writer};
+use vl_disk::{Disk, HeldFile, Writer};
 use vl_script::{Answer, Ident, Line};
 use vl_sequential::Halt;
 use vl_version::Base;
@@ -150,7 +150,7 @@ fn name_in_use<D: Disk>(
 }
 
 // Whether a reader, the merge that waits or the pass that is open has this name.
-fn is_used<H, R, V, W: Writer>(
+fn is_used<H: HeldFile, R, V, W: Writer>(
     opens: &[Open<H, R>],
     planned: &Option<Planned<V, H, W>>,
     passing: &Option<Passing<V, H>>,

@@ -34,14 +34,17 @@ use crate::replayer::Served;
 use crate::replayer::choice::Choice;
 use crate::replayer::planned::Planned;
 use vl_compact::Job;
-use vl_disk::{Disk, NoMemory, Writer};
+use vl_disk::{Disk, HeldFile, NoMemory, Writer};
 use vl_engine::{Engine, InstallFail};
 use vl_script::{Answer, Ident};
 use vl_sequential::Halt;
 use vl_version::Base;
 
 /// Whether the merge that waits has this name.
-pub(super) fn is_planned<V, H, W: Writer>(planned: &Option<Planned<V, H, W>>, name: &[u8]) -> bool
+pub(super) fn is_planned<V, H: HeldFile, W: Writer>(
+    planned: &Option<Planned<V, H, W>>,
+    name: &[u8],
+) -> bool
     ensures { result ≡ option_map_or (λ waiting. bytes_eq name.now waiting.name) planned.now false }
 {
     match planned {
@@ -51,7 +54,7 @@ pub(super) fn is_planned<V, H, W: Writer>(planned: &Option<Planned<V, H, W>>, na
 }
 
 /// The merge that waits, taken out, where it has this name.
-fn take_planned<V, H, W: Writer>(
+fn take_planned<V, H: HeldFile, W: Writer>(
     planned: &mut Option<Planned<V, H, W>>,
     name: &[u8],
 ) -> Option<Job<V, H, W>>

@@ -12,7 +12,6 @@ ghost use Rattle.vl_version.specs.levels.LevelsLooked.{AreInOrder, tables_of};
 use crate::levels::{Level, Levels};
 use crate::source::Source;
 use std::alloc::{AllocError, Global};
-use std::slice;
 use vl_disk::{HeldFile, Reader};
 use vl_model::{Key, Span, Way};
 use vl_table::{Table, TableCursor};
@@ -46,8 +45,8 @@ fn add_newest<'a, H: HeldFile, R: Reader<Held = H> + Drop>(
         → Adds H.bytes span.now way (joined tabled) sources.old.items sources.new.items) }
     ensures quiet { OnOk result (tables.now ≡ [] → sources.new.items ≡ sources.old.items) }
 {
-    for table in tables {
-        add_tables(alloc, sources, slice::from_ref(table), span, way)?;
+    for at in 0..tables.len() {
+        add_tables(alloc, sources, &tables[at..at + 1], span, way)?;
     }
     Ok(())
 }

@@ -11,11 +11,11 @@ use vl_table::Table;
 
 /// The tables of a level below level 0, in key order. None of them overlaps.
 #[derive(Drop)]
-pub struct Level<H> {
+pub struct Level<H: HeldFile> {
     tables: Vec<Table<H>>,
 }
 
-impl<H> Model for Level<H> {
+impl<H: HeldFile> Model for Level<H> {
     ghost use Rattle.std.specs.Prelude.{List};
     ghost use Rattle.vl_table.specs.declared.table.Table.{Table};
 
@@ -24,7 +24,7 @@ impl<H> Model for Level<H> {
     ghost view = { λ a. a.tables.items };
 }
 
-impl<H> Level<H> {
+impl<H: HeldFile> Level<H> {
     /// The level with these tables.
     pub fn new(tables: Vec<Table<H>>) -> Self
         ensures { result ≡ tables.items }

@@ -22,7 +22,7 @@ use std::marker::Brand;
 use std::snapshot::Snapshot;
 use std::sync::Wait;
 use vl_cache::Cached;
-use vl_disk::Disk;
+use vl_disk::{Disk, HeldFile};
 use vl_engine::{BeginFail, Txn, View};
 
 impl<D: Disk> Session<D> {
@@ -141,7 +141,7 @@ impl<D: Disk> Session<D> {
 }
 
 // Whether a transaction was begun.
-fn has_begun<H, R>(answer: &Result<Txn<H, R>, BeginFail>) -> bool
+fn has_begun<H: HeldFile, R>(answer: &Result<Txn<H, R>, BeginFail>) -> bool
     ensures { (l : Layout) (failed : LockStep × Layout)
         → result ≡ is_some (done_by (begin_done l) failed (begin_outcome answer.now)) }
 {
@@ -149,7 +149,7 @@ fn has_begun<H, R>(answer: &Result<Txn<H, R>, BeginFail>) -> bool
 }
 
 // Whether a view was begun.
-fn is_begun<H, R>(answer: &Result<View<H, R>, BeginFail>) -> bool
+fn is_begun<H: HeldFile, R>(answer: &Result<View<H, R>, BeginFail>) -> bool
     ensures { (l : Layout) (failed : LockStep × Layout)
         → result ≡ is_some (done_by (begin_done l) failed (view_outcome answer.now)) }
 {

@@ -21,7 +21,7 @@ use std::marker::Brand;
 use std::snapshot::Snapshot;
 use std::sync::Wait;
 use vl_cache::Cached;
-use vl_disk::Disk;
+use vl_disk::{Disk, HeldFile};
 use vl_engine::{CommitFail, Done, Txn};
 
 impl<D: Disk> Session<D> {
@@ -64,7 +64,7 @@ impl<D: Disk> Session<D> {
 }
 
 // Whether the transaction has ended.
-fn has_ended<H, R>(answer: &Result<Done, CommitFail<H, R>>) -> bool
+fn has_ended<H: HeldFile, R>(answer: &Result<Done, CommitFail<H, R>>) -> bool
     ensures { (ticket : ℕ) (writes : List (List ℕ × Change)) (l : Layout) (h : History) (failed : LockStep × Layout)
         → result ≡ is_some (done_by (commit_done ticket writes l h) failed (commit_outcome answer.now)) }
 {

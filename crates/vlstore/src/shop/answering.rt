@@ -7,11 +7,12 @@ ghost use Rattle.vl_model.specs.Keys.{Stored};
 ghost use Rattle.vlstore.specs.Shops.{IsFaultyCommit, IsFaultyStep, IsFaultySweep, IsOnlyWant, IsOnlyWantOfSet};
 
 use std::alloc::AllocError;
+use vl_disk::HeldFile;
 use vl_engine::{BeginFail, CommitFail, Done, ReadFail, SetFail, StepFail, SweepFail, Txn};
 use vl_model::Value;
 
 // A begin's answer.
-pub(super) fn as_begin<H: Drop, R: Drop>(
+pub(super) fn as_begin<H: HeldFile, R: Drop>(
     answer: Result<Txn<H, R>, BeginFail>,
 ) -> Result<Txn<H, R>, vl_drive::BeginFail>
     ensures outcome { drive.begin_outcome (λ t. t.ticket) (λ t. t.number) result ≡ begin_outcome answer }
@@ -25,7 +26,7 @@ pub(super) fn as_begin<H: Drop, R: Drop>(
 }
 
 // A commit's answer.
-pub(super) fn as_commit<H: Drop, R: Drop>(
+pub(super) fn as_commit<H: HeldFile, R: Drop>(
     answer: Result<Done, CommitFail<H, R>>,
 ) -> Result<vl_drive::Done, vl_drive::CommitFail<Txn<H, R>>>
     requires { IsFaultyCommit answer → ⊥ }

@@ -13,9 +13,9 @@ use Rattle.vl_compact.proofs.merging.cursors.Given as goal
 abbrev pub invariant-loop-table : goal.invariant-loop-table
 invariant-loop-table g l = record {
   left : (ts : List laid.Table) → AreTablesOf g.H.HeldFile.bytes l.tables ts
-      → AllZip (HasBehind (λ (c : TableCursor g.row.H.Denot g.row.R.Denot). cursor_left g.H.HeldFile.bytes c) l.after) l.cursors.items
+      → AllZip (HasBehind (λ (c : TableCursor g.row.H.Denot g.row.R.Denot g.H.HeldFile g.H.Clone). cursor_left g.H.HeldFile.bytes c) l.after) l.cursors.items
       (take l.table-index ts);
   fails : (fault : TableFault)
-      → OneMayFail (λ (c : TableCursor g.row.H.Denot g.row.R.Denot) (f : TableFault). MayFailOn g.H.HeldFile.bytes c.tables.items f)
+      → OneMayFail (λ (c : TableCursor g.row.H.Denot g.row.R.Denot g.H.HeldFile g.H.Clone) (f : TableFault). MayFailOn g.H.HeldFile.bytes c.tables.items f)
       l.cursors.items fault → MayFailOn g.H.HeldFile.bytes l.tables fault;
 }

@@ -13,7 +13,7 @@ use Rattle.vl_compact.proofs.merging.merged.Goals as goal
 
 pub returns-clause-left : goal.returns-clause-left
 returns-clause-left g c = λ ts are.
-    let left = λ (x : TableCursor g.row.H.Denot g.row.R.Denot). cursor_left g.H.HeldFile.bytes x in
+    let left = λ (x : TableCursor g.row.H.Denot g.row.R.Denot g.H.HeldFile g.H.Clone). cursor_left g.H.HeldFile.bytes x in
     let after = c.args.after.now in
     let ess = map (λ (t : laid.Table). behind after t.entries) ts in
     IfOk-weaker c.new.result _ _

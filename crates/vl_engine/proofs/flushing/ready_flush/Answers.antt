@@ -1,6 +1,7 @@
 use Rattle.std.proofs.Common.{ap, arith, sym, ◌∙◌}
 use Rattle.std.specs.Prelude.{Some}
 use Rattle.vl_engine.proofs.FlushLawful.{no_memory, oldest_spells, oldest_there, same_fault, switch_applies}
+use Rattle.vl_engine.proofs.Lending.{leaves_staged}
 use Rattle.vl_memtable.specs.Contents.{Contents}
 use Rattle.vl_engine.proofs.flushing.ready_flush.Goals as goal
 
@@ -12,6 +13,12 @@ returns-clause-of g c = record {
       (c.in_ok-entries.ensures ∙ ap (λ (m : Contents). Some m.entries) c.memtable.ensures);
   numbered = c.in_ok-staged.ensures.numbered;
 }
+
+pub returns-clause-lent : goal.returns-clause-lent
+returns-clause-lent g c =
+    let back = c.args.core.now.back in
+    leaves_staged g.D.Watched c.args.disk.now c.stage_flush.new.disk back.manifest.number back.state.next_table
+    c.in_ok-staged.ensures.no_change.told c.in_ok-staged.ensures.beside
 
 pub returns-in_default-clause-lawful : goal.returns-in_default-clause-lawful
 returns-in_default-clause-lawful g c h l is refused =

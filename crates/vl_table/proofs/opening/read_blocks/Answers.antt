@@ -14,7 +14,7 @@ returns g c =
       λ ps stands.
           let same = one_frame files.Table c.args.number c.args.place _ kinds.Index kinds.Index read.0 stands.body
           read.1.frame stands.frame.frame in
-          let body = c.body_of.ensures c.args.number c.args.place kinds.Index read.0 (c.deref.ensures.value ∙ read.2) in
+          let body = c.body_of.ensures.framed c.args.number c.args.place kinds.Index read.0 (c.deref.ensures.value ∙ read.2) in
           let none = rw c.in-None.is at c.in_ok-blocks.ensures.none in
           none ps (subst (λ (b : List ℕ). SpellsIndex b ps) (sym (body ∙ same.1)) stands.says),
       bad,

@@ -14,7 +14,7 @@ returns g c =
       λ bits stands.
           let same = one_frame files.Table c.args.number place _ kinds.Filter kinds.Filter read.0 stands.body
           read.1.frame stands.frame.frame in
-          let body = c.body_of.ensures c.args.number place kinds.Filter read.0 (c.deref.ensures.value ∙ read.2) in
+          let body = c.body_of.ensures.framed c.args.number place kinds.Filter read.0 (c.deref.ensures.value ∙ read.2) in
           c.in-None.ensures.none bits (subst (λ (b : List ℕ). SpellsFilter b bits) (sym (body ∙ same.1)) stands.says),
       bad,
     ))

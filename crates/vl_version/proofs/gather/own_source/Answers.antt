@@ -11,10 +11,10 @@ returns-clause-winners g c =
     c.as_slice.result.now c.within-writes.result c.push.new.self.items c.as_slice.ensures.entries c.as_slice.ensures.rising
     c.within-writes.ensures
     (c.in_ok-push.ensures.items
-    ∙ ap (λ (l : List (Source g.row.H.Denot g.row.R.Denot)). l ++ Own c.within-writes.result ∷ []) c.new-sources.ensures.items)
+    ∙ ap (λ (l : List (Source g.row.H.Denot g.row.R.Denot g.H.HeldFile g.H.Clone)). l ++ Own c.within-writes.result ∷ []) c.new-sources.ensures.items)
 
 pub returns-clause-quiet : goal.returns-clause-quiet
 returns-clause-quiet g c =
     quiet_own g.H.HeldFile.bytes c.within-writes.result c.push.new.self.items
     (c.in_ok-push.ensures.items
-    ∙ ap (λ (l : List (Source g.row.H.Denot g.row.R.Denot)). l ++ Own c.within-writes.result ∷ []) c.new-sources.ensures.items)
+    ∙ ap (λ (l : List (Source g.row.H.Denot g.row.R.Denot g.H.HeldFile g.H.Clone)). l ++ Own c.within-writes.result ∷ []) c.new-sources.ensures.items)

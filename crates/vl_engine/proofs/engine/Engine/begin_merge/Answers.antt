@@ -7,6 +7,21 @@ use Rattle.vl_version.specs.declared.version.Version.{Version}
 use Rattle.vl_engine.proofs.UnderWay.{just_planned}
 use Rattle.vl_engine.proofs.engine.Engine.begin_merge.Goals as goal
 
+-- the version was shared, and all is as it was
+pub invariant_of-self : goal.invariant_of-self
+invariant_of-self g c =
+    let before = c.args.self.now in
+    record {
+      ready = λ state told. fit_still before.core _ refl refl refl state (before.ready state told);
+      numbered = before.numbered;
+      lent = before.lent;
+      known = subst (λ (v : Version g.row.D-Held.Denot). are_known before.core.front.oracle.last v.active.entries ≡ true)
+          (sym c.share.ensures.same) before.known;
+      there = λ running. there_told g.D.Watched g.D.Writer.Writer before.disk before.disk before.core _ before.merging before.merging
+          before.removing.stock before.removing.stock (ap (λ (v : Version g.row.D-Held.Denot). v.behind) c.share.ensures.same) refl
+          (omega arith) refl refl refl (leaves_none g.D.Watched before.disk before.core.back.state.next_table) (before.there running);
+    }
+
 pub invariant_of-self-2-clause-ready : goal.invariant_of-self-2-clause-ready
 invariant_of-self-2-clause-ready g c state told =
     fit_still c.args.self.now.core _ refl refl refl state (c.args.self.now.ready state told)

@@ -11,19 +11,20 @@ use Rattle.vl_table.proofs.table.Table.open.Goals as goal
 
 pub returns-in-Ok-clause-answers : goal.returns-in-Ok-clause-answers
 returns-in-Ok-clause-answers g c =
-    let table : Table g.row.H.Denot = record { held = c.args.held; shape = c.in-Ok.shape } in
+    let table = c.of.result in
     and_then _ _ _ c.args.number _ _ (λ bytes (t : Table g.row.H.Denot). t ≡ table) _ _ (λ bytes damage. ⊥) _ c.in_ok-shape.shape _
     (λ bytes told read t is. subst (λ (u : Table g.row.H.Denot). IsRead c.args.number bytes (said_by (shape_of u))) (sym is)
-    (subst (λ (s : TableShape). IsRead c.args.number bytes (said_by s)) (sym c.in-Ok.ensures.ok) read))
+    (subst (λ (s : TableShape). IsRead c.args.number bytes (said_by s)) (sym (c.of.ensures.shape ∙ c.in-Ok.ensures.ok)) read))
     (λ bytes told read damage none. absurd none)
     c.in_ok-shape.ensures.answers
     (gives _ c.args.number _ _ _ table (λ bytes told. refl))
 
 pub returns-in-Ok-clause-opens : goal.returns-in-Ok-clause-opens
 returns-in-Ok-clause-opens g c = λ format es first readable is told.
-    let table : Table g.row.H.Denot = record { held = c.args.held; shape = c.in-Ok.shape } in
+    let table = c.of.result in
     opens_as g.H.HeldFile.bytes _ _ c.args.number c.args.held format es (Ok table) (returns-in-Ok-clause-answers g c)
-    (ap (λ (s : TableShape). s.number) c.in-Ok.ensures.ok ∙ c.in_ok-shape.ensures.number) refl first readable is told
+    (ap (λ (s : TableShape). s.number) (c.of.ensures.shape ∙ c.in-Ok.ensures.ok) ∙ c.in_ok-shape.ensures.number)
+    c.of.ensures.held first readable is told
 
 pub returns-in_err-shape-clause-opens : goal.returns-in_err-shape-clause-opens
 returns-in_err-shape-clause-opens g c = λ format es first readable is told.

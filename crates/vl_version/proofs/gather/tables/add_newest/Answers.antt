@@ -1,35 +1,36 @@
-use Rattle.std.proofs.Common.{refl, ◌∷◌, [], ap, arith, length, sym, subst, List, take}
+use Rattle.std.proofs.Common.{◌≡◌, ◌<◌, ◌∙◌, ◌∷◌, ◌+◌, ◌-◌, [], ap, arith, drop, length, refl, sym, subst, List, take}
 use Rattle.std.proofs.lemmas.List.{take_all}
 use Rattle.vl_table.specs.OfTables.{AreOf}
 use Rattle.vl_table.specs.declared.table.Table.{Table}
-use Rattle.vl_version.proofs.TableSources.{adds_next, adds_no_tables, adds_one}
+use Rattle.vl_version.proofs.TableSources.{adds_next, adds_no_tables, adds_one, item_at, one_at}
 use Rattle.vl_version.proofs.looking.Parts.{take_next}
 use Rattle.vl_version.proofs.gather.tables.add_newest.Goals as goal
 
-pub loop-table-init : goal.loop-table-init
-loop-table-init g c = record {
+pub loop-at-init : goal.loop-at-init
+loop-at-init g c = record {
   adds = adds_no_tables g.H.HeldFile.bytes c.args.span.now c.args.way c.args.sources.now.items;
   quiet = λ none. refl;
 }
 
-pub loop-table-preserved : goal.loop-table-preserved
-loop-table-preserved g c =
+pub loop-at-preserved : goal.loop-at-preserved
+loop-at-preserved g c =
     let bytes = g.H.HeldFile.bytes in
     let ts = c.args.tables.now in
-    let i = c.loop-table.table-index in
-    let t = c.table-item.result in
+    let i = c.loop-at.at in
+    let inside : i < length ts = omega (arith, c.loop-at-test.true) in
+    let t = item_at ts i inside in
     record {
-      adds = λ tabled are. adds_next bytes c.args.span.now c.args.way (take i ts) (t ∷ []) c.args.sources.now.items
-          c.loop-table.sources.items
-          c.add_tables.new.sources.items c.loop-table.invariant.adds
-          (adds_one bytes c.args.span.now c.args.way t c.from_ref.result.now c.loop-table.sources.items c.add_tables.new.sources.items
-          c.from_ref.ensures.value c.in_ok-add_tables.ensures.winners) tabled
-          (subst (λ (l : List (Table g.row.H.Denot)). AreOf bytes l tabled) (take_next ts i t c.loop-table-test.true c.table-item.is) are);
-      quiet = λ none. let some = c.loop-table-test.true in absurd (omega (arith, some, ap length none));
+      adds = λ tabled are. adds_next bytes c.args.span.now c.args.way (take i ts) (t.0 ∷ []) c.args.sources.now.items
+          c.loop-at.sources.items
+          c.add_tables.new.sources.items c.loop-at.invariant.adds
+          (adds_one bytes c.args.span.now c.args.way t.0 (take (i + 1 - i) (drop i ts)) c.loop-at.sources.items
+          c.add_tables.new.sources.items (one_at ts i (i + 1 - i) t.0 inside t.1 (omega arith)) c.in_ok-add_tables.ensures.winners) tabled
+          (subst (λ (l : List (Table g.row.H.Denot)). AreOf bytes l tabled) (take_next ts i t.0 inside t.1) are);
+      quiet = λ none. absurd (omega (arith, inside, ap length none));
     }
 
 pub returns-clause-winners : goal.returns-clause-winners
 returns-clause-winners g c tabled are =
-    c.loop-table.invariant.adds tabled
+    c.loop-at.invariant.adds tabled
     (subst (λ (l : List (Table g.row.H.Denot)). AreOf g.H.HeldFile.bytes l tabled)
-    (sym (take_all c.loop-table.table-index c.args.tables.now c.loop-table-test.false)) are)
+    (sym (take_all c.loop-at.at c.args.tables.now c.loop-at-test.false)) are)

@@ -1,13 +1,13 @@
-use Rattle.std.proofs.Common.{◌≡◌, [], List, take}
+use Rattle.std.proofs.Common.{◌≡◌, ◌≤◌, [], List, length, take}
 use Rattle.vl_block.specs.Cutting.{joined}
 use Rattle.vl_model.specs.declared.entry.Entry.{Entry}
 use Rattle.vl_table.specs.OfTables.{AreOf}
 use Rattle.vl_version.specs.Gathered.{Adds}
 use Rattle.vl_version.proofs.gather.tables.add_newest.Given as goal
 
-abbrev pub invariant-loop-table : goal.invariant-loop-table
-invariant-loop-table g l = record {
-  adds : (tabled : List (List Entry)) → AreOf g.H.HeldFile.bytes (take l.table-index l.tables) tabled
+abbrev pub invariant-loop-at : goal.invariant-loop-at
+invariant-loop-at g l = record {
+  adds : (tabled : List (List Entry)) → AreOf g.H.HeldFile.bytes (take l.at l.tables) tabled
       → Adds g.H.HeldFile.bytes l.span l.way (joined tabled) l.initial.sources.items l.sources.items;
   quiet : l.tables ≡ [] → l.sources.items ≡ l.initial.sources.items;
 }

@@ -24,6 +24,7 @@ returns g c =
         deeper = subst (λ (levels : Vec (List (Table H)) Global). AllZip (AreSameTables bytes) behind.levels.deeper.items levels.items)
             (sym c.make_room.ensures.deeper) shared.deeper;
       };
+      room = c.in_ok-make_room.ensures.room;
       logs = subst (λ (logs : List (SealedLog H)). AreSameLogs bytes logs c.in_ok-share_logs.field-0.items)
           (c.deref-2.ensures.value ∙ ap (λ (b : Behind H). b.logs.items) c.as_ref-behind.ensures) c.in_ok-share_logs.ensures;
     }
