@@ -1,5 +1,5 @@
-//! The program: the command line over the process's words and streams, and over the folder that they name. Its stored run has a
-//! bad line behind good ones, and ends with status 1.
+//! The program: the command line over the process's words and streams, and over the folder that they name. Its stored run reads
+//! what an earlier run committed, goes on, and ends with status 1 at a bad line.
 #![tactic(auto)]
 
 use std::io;
