@@ -17,27 +17,3 @@ mod tree;
 
 pub use laws::{commits_are_remembered, floor_may_rise, nothing_is_remembered_at_first};
 pub use recent::Recent;
-
-#[cfg(test)]
-mod tests {
-    use super::*;
-    use std::boxed::BoxedSlice;
-    use std::collections::BTreeSet;
-    use std::test::Fail;
-    use vl_model::Key;
-
-    #[test]
-    fn a_later_commit_conflicts(rt: HostRuntime) -> Result<(), Fail> {
-        let key = Key::copy_of(rt.alloc(), b"key")?;
-        let mut recent = Recent::new(rt.alloc());
-        recent.reserve(1)?;
-        recent.note(key, 5);
-        let mut keys = BTreeSet::new(rt.alloc());
-        keys.insert(BoxedSlice::from_slice(rt.alloc(), b"key")?)?;
-        assert!(rt; recent.check(4, &keys, &[])?.is_some());
-        assert!(rt; recent.check(5, &keys, &[])?.is_none());
-        recent.prune(5);
-        assert!(rt; recent.check(4, &keys, &[])?.is_none());
-        Ok(())
-    }
-}

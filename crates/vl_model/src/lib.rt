@@ -45,21 +45,3 @@ pub use pointer::Pointer;
 pub use span::Span;
 pub use value::Value;
 pub use way::Way;
-
-#[cfg(test)]
-mod tests {
-    use super::*;
-    use std::test::Fail;
-
-    #[test]
-    fn bytes_are_kept(rt: HostRuntime) -> Result<(), Fail> {
-        let bytes = Bytes::copy_of(rt.alloc(), b"key")?;
-        assert_eq!(rt; bytes.as_slice(), b"key".as_slice());
-        assert_eq!(rt; bytes.len(), 3);
-        assert!(rt; !bytes.is_empty());
-        let shared = bytes.share()?;
-        assert_eq!(rt; shared.as_slice(), b"key".as_slice());
-        assert!(rt; Bytes::new(Vec::new(rt.alloc()))?.is_empty());
-        Ok(())
-    }
-}

@@ -15,20 +15,3 @@ mod ticket_list;
 pub use begin_fail::BeginFail;
 pub use laws::{floor_is_the_least, free_ticket_is_the_least};
 pub use oracle::Oracle;
-
-#[cfg(test)]
-mod tests {
-    use super::*;
-    use std::test::Fail;
-
-    #[test]
-    fn begins_and_ends(rt: HostRuntime) -> Result<(), Fail> {
-        let mut oracle = Oracle::new(rt.alloc(), 7);
-        assert_eq!(rt; oracle.begin()?, 0);
-        assert_eq!(rt; oracle.begin()?, 1);
-        oracle.end(0);
-        assert_eq!(rt; oracle.begin()?, 0);
-        assert_eq!(rt; oracle.floor(), 7);
-        Ok(())
-    }
-}

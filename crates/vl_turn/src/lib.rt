@@ -19,8 +19,6 @@ mod lock;
 mod plays;
 mod raw;
 mod rule;
-#[cfg(test)]
-mod tests;
 mod turn;
 mod view;
 
