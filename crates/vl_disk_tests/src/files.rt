@@ -1,26 +1,33 @@
 use crate::setting::{
-    LOG, TABLE, disk_over, four_of, has_bytes, has_only, has_two, inside, is_long, made_disk,
-    make_four, over, write,
+    Folder, LOG, TABLE, disk_over, four_of, has_bytes, has_only, has_two, hold_four, inside,
+    is_long, made_disk, make_four, over, write,
 };
 use std::os::unix::fs::symlink;
 use std::test::Fail;
 use vl_disk::{Disk, HeldFile, Name, make_file};
+use vl_folder::FolderHeld;
 
 // Held files and readers go to other threads.
 fn may_be_sent<T: Send>(_sent: &T) {}
 
 fn may_be_shared<T: Sync>(_shared: &T) {}
 
-// The folder is made, and its parents.
-fn writes(rt: &HostRuntime, top: &str) -> Result<bool, Fail> {
-    let path = inside(rt, top, "one/two")?;
-    let mut disk = made_disk(rt, &path)?;
+// Three bytes and two more, of which the last is cut off, and one behind them.
+fn write_and_cut(disk: &mut Folder<'_>) -> Result<(), Fail> {
     disk.ready(LOG, 3)?;
-    make_file(&mut disk, LOG, b"abc")?;
+    make_file(disk, LOG, b"abc")?;
     disk.append(LOG, b"de")?;
     disk.cut(LOG, 4)?;
     disk.append(LOG, b"f")?;
     disk.sync(LOG)?;
+    Ok(())
+}
+
+// The folder is made, and its parents.
+fn writes(rt: &HostRuntime, top: &str) -> Result<bool, Fail> {
+    let path = inside(rt, top, "one/two")?;
+    let mut disk = made_disk(rt, &path)?;
+    write_and_cut(&mut disk)?;
     let told = is_long(&mut disk, LOG, 5) && has_two(&mut disk, LOG, 1, *b"bc");
     let listed = has_only(rt, &mut disk, LOG);
     Ok(has_bytes(rt, &path, "0000000001.vlog", b"abcdf")? && told && listed)
@@ -32,26 +39,32 @@ fn a_file_is_written_cut_and_synced(rt: HostRuntime) -> Result<(), Fail> {
     Ok(())
 }
 
-// What was held is read after the file's removal, and beside a new file of its name, which is another one.
-fn holds(rt: &HostRuntime, path: &str) -> Result<bool, Fail> {
-    let mut disk = made_disk(rt, path)?;
-    make_four(&mut disk, LOG, 1)?;
-    let first = disk.hold(LOG)?;
-    disk.remove(LOG)?;
-    make_four(&mut disk, LOG, 2)?;
-    let second = disk.hold(LOG)?;
-    disk.remove(LOG)?;
+// Whether these held files have the numbers 1 and 2, the first by a copy.
+fn reads_both(
+    rt: &HostRuntime,
+    disk: &Folder<'_>,
+    first: &FolderHeld,
+    second: &FolderHeld,
+) -> Result<bool, Fail> {
     let mut reader = disk.reader(rt.alloc())?;
-    may_be_sent(&first);
-    may_be_shared(&first);
     may_be_sent(&reader);
     let copy = first.clone()?;
     Ok(
         copy.len() == 4
             && four_of(&mut reader, &copy) == Some(1)
-            && four_of(&mut reader, &second) == Some(2)
-            && disk.list(rt.alloc())?.is_empty(),
+            && four_of(&mut reader, second) == Some(2),
     )
+}
+
+// What was held is read after the file's removal, and beside a new file of its name, which is another one.
+fn holds(rt: &HostRuntime, path: &str) -> Result<bool, Fail> {
+    let mut disk = made_disk(rt, path)?;
+    let first = hold_four(&mut disk, 1)?;
+    let second = hold_four(&mut disk, 2)?;
+    may_be_sent(&first);
+    may_be_shared(&first);
+    let read = reads_both(rt, &disk, &first, &second)?;
+    Ok(read && disk.list(rt.alloc())?.is_empty())
 }
 
 #[test]

@@ -1,4 +1,4 @@
-use crate::setting::{LOG, TABLE, has_bytes, inside, is_long, made_disk, make_four, over};
+use crate::setting::{Folder, LOG, TABLE, has_bytes, inside, is_long, made_disk, make_four, over};
 use std::fs::{File, OpenOptions};
 use std::io;
 use std::test::Fail;
@@ -46,18 +46,23 @@ fn fill_up(file: &File) -> io::Result<u64> {
     Ok(end)
 }
 
+// Whether of three bytes a file of this length takes fewer, and one byte behind a cut.
+fn takes_fewer(disk: &mut Folder<'_>, long: &File, end: u64) -> Result<bool, Fail> {
+    disk.ready(LOG, 3)?;
+    let was = is_long(disk, LOG, end);
+    let failed = disk.append(LOG, b"abc").is_err();
+    let taken = is_long(disk, LOG, long.metadata()?.len());
+    disk.cut(LOG, 0)?;
+    disk.append(LOG, b"d")?;
+    Ok(was && failed && taken && is_long(disk, LOG, 1))
+}
+
 // A piece that the system takes in part is a fault, and the file has what it took.
 fn takes_part(rt: &HostRuntime, path: &str) -> Result<bool, Fail> {
     let mut disk = made_disk(rt, path)?;
     let long = File::create(rt, inside(rt, path, "0000000001.vlog")?)?;
     let end = fill_up(&long)?;
-    disk.ready(LOG, 3)?;
-    let was = is_long(&mut disk, LOG, end);
-    let failed = disk.append(LOG, b"abc").is_err();
-    let taken = is_long(&mut disk, LOG, long.metadata()?.len());
-    disk.cut(LOG, 0)?;
-    disk.append(LOG, b"d")?;
-    Ok(was && failed && taken && is_long(&mut disk, LOG, 1))
+    takes_fewer(&mut disk, &long, end)
 }
 
 #[test]
@@ -66,16 +71,21 @@ fn a_piece_that_is_taken_in_part_is_a_fault(rt: HostRuntime) -> Result<(), Fail>
     Ok(())
 }
 
+// The log, as long as it can be.
+fn filled_up(rt: &HostRuntime, path: &str) -> Result<File, Fail> {
+    let path = inside(rt, path, "0000000001.vlog")?;
+    let long = OpenOptions::new().write(true).open(rt, path)?;
+    fill_up(&long)?;
+    Ok(long)
+}
+
 // The same of a file that a writer has.
 fn writer_takes_part(rt: &HostRuntime, path: &str) -> Result<bool, Fail> {
     let mut disk = made_disk(rt, path)?;
     disk.ready(LOG, 3)?;
     disk.create(LOG)?;
     let mut writer = disk.lend(LOG)?;
-    let long = OpenOptions::new()
-        .write(true)
-        .open(rt, inside(rt, path, "0000000001.vlog")?)?;
-    fill_up(&long)?;
+    let long = filled_up(rt, path)?;
     let failed = writer.append(b"abc").is_err();
     disk.adopt(writer);
     Ok(failed && is_long(&mut disk, LOG, long.metadata()?.len()))

@@ -1,4 +1,4 @@
-use crate::setting::{Folder, LOG, four_of, made_disk, make_four, over};
+use crate::setting::{Folder, four_of, hold_four, made_disk, make_four, over};
 use std::io::Read;
 use std::rt::Files;
 use std::test::Fail;
@@ -78,17 +78,20 @@ fn remove_many(disk: &mut Folder<'_>) -> Result<(), Fail> {
     Ok(())
 }
 
+// Whether a file that was removed is read as it is held.
+fn reads_removed(rt: &HostRuntime, disk: &mut Folder<'_>) -> Result<bool, Fail> {
+    let held = hold_four(disk, 5)?;
+    let mut reader = disk.reader(rt.alloc())?;
+    Ok(four_of(&mut reader, &held) == Some(5))
+}
+
 // A file that was removed is closed once nothing holds it.
 fn closes(rt: &HostRuntime, path: &str) -> Result<bool, Fail> {
     let mut disk = made_disk(rt, path)?;
     let before = open_files(rt)?;
     remove_many(&mut disk)?;
     let closed = open_files(rt)? == before;
-    make_four(&mut disk, LOG, 5)?;
-    let held = disk.hold(LOG)?;
-    disk.remove(LOG)?;
-    let read = four_of(&mut disk.reader(rt.alloc())?, &held) == Some(5);
-    drop(held);
+    let read = reads_removed(rt, &mut disk)?;
     Ok(closed && read && open_files(rt)? == before)
 }
 

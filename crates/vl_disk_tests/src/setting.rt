@@ -95,6 +95,14 @@ pub fn make_four(disk: &mut Folder<'_>, name: Name, number: u32) -> Result<(), F
     Ok(())
 }
 
+/// Holds a log of the four bytes of this number, which is removed then.
+pub fn hold_four(disk: &mut Folder<'_>, number: u32) -> Result<FolderHeld, Fail> {
+    make_four(disk, LOG, number)?;
+    let held = disk.hold(LOG)?;
+    disk.remove(LOG)?;
+    Ok(held)
+}
+
 /// The number that the first four bytes of a held file spell, if they can be read.
 pub fn four_of(reader: &mut FolderReader<&HostRuntime>, held: &FolderHeld) -> Option<u32> {
     if held.len() < 4 {
