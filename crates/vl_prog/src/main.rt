@@ -2,11 +2,15 @@
 //! what an earlier run committed, goes on, and ends with status 1 at a bad line.
 #![tactic(auto)]
 
+mod command_line;
+mod driving;
+mod process;
+
+use crate::process::{Served, process_words, serve};
 use std::io;
 use std::process::ExitCode;
 use vl_folder::FolderDisk;
 use vl_io::{StdSink, StdSource};
-use vl_replay::{Served, process_words, serve};
 use vlstore::SureStore;
 
 fn main(rt: HostRuntime) -> ExitCode {

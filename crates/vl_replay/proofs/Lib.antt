@@ -7,13 +7,10 @@ pub mod CarryingRemoved
 pub mod CarryingRounds
 pub mod CarryingTables
 pub mod Disk
-pub mod Driven
 pub mod Lines
 pub mod Merges
 pub mod Names
-pub mod NotBegun
 pub mod Openings
 pub mod Passes
 pub mod Runs
-pub mod Serving
 pub mod Trials

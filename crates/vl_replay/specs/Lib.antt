@@ -1,12 +1,9 @@
 pub mod Benchmark
 pub mod Choosing
 pub mod Drawn
-pub mod Driving
 pub mod Handed
 pub mod Opened
 pub mod Passing
-pub mod Process
 pub mod Replaying
 pub mod Rounds
-pub mod Run
 pub mod Standing

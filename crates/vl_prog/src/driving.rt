@@ -1,7 +1,7 @@
 //! Clients over a store in memory, each in a thread of its own, and what they came to.
 ghost use Rattle.std.specs.Prelude.{◌≡◌, ◌≤◌, Some};
 ghost use Rattle.std.specs.Option.{ForSome};
-ghost use Rattle.vl_replay.specs.Driving.{PrintsDriven, TellsDriven};
+ghost use Rattle.vl_prog.specs.Driving.{PrintsDriven, TellsDriven};
 ghost use Rattle.vl_sequential.specs.Endings.{CountsFaultsOf, TheSink};
 
 use std::alloc::Global;

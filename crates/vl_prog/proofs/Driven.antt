@@ -1,7 +1,7 @@
 -- How clients over a store end.
 use Rattle.std.proofs.Common.{◌≡◌, ◌⊎◌, ⊎_elim, ℕ, List}
 use Rattle.vl_io.specs.declared.sink.Sink as sink
-use Rattle.vl_replay.specs.Driving.{PrintsDriven, TellsDriven}
+use Rattle.vl_prog.specs.Driving.{PrintsDriven, TellsDriven}
 use Rattle.vl_sequential.specs.Endings.{no_memory_line}
 use Rattle.vl_sequential.specs.Steps.{Finishes}
 use Rattle.vl_sequential.specs.declared.ending.Ending.{Ending}

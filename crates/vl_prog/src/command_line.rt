@@ -21,15 +21,12 @@ ghost use Rattle.vl_sequential.specs.Trial.{begun};
 ghost use Rattle.vl_sequential.specs.Trying.{trial_of};
 ghost use Rattle.vl_mem.specs.declared.outcome.Outcome.{Outcome};
 ghost use Rattle.vl_replay.specs.Benchmark.{StatusOfBench, summary_of};
-ghost use Rattle.vl_replay.specs.Driving.{StatusOfDrive};
-ghost use Rattle.vl_replay.specs.Run.{AreNotPlain, AskFor, EndsBy, FailedAtTables, FailedToRead, HasCountedFault};
-ghost use Rattle.vl_replay.specs.Run.{MetDamage, StatusOfAnswers, StatusOfTrial, StatusWithoutOpening, TellsOfInput};
+ghost use Rattle.vl_prog.specs.Driving.{StatusOfDrive};
+ghost use Rattle.vl_prog.specs.Run.{AreNotPlain, AskFor, EndsBy, FailedAtTables, FailedToRead, HasCountedFault};
+ghost use Rattle.vl_prog.specs.Run.{MetDamage, StatusOfAnswers, StatusOfTrial, StatusWithoutOpening, TellsOfInput};
 ghost use Rattle.vl_sequential.specs.declared.words.Command.{Command as Commands};
 
-use crate::benchmark::bench;
 use crate::driving::drive;
-use crate::running::replay;
-use crate::trying::trial;
 use std::alloc::Global;
 use std::sync::Wait;
 use std::thread::Threads;
@@ -37,6 +34,7 @@ use vl_disk::Disk;
 use vl_drive::Shops;
 use vl_io::{Sink, Source};
 use vl_model::reads_without_conflict_stay_explained;
+use vl_replay::{bench, replay, trial};
 use vl_sequential::{Command, Ended, Ending, NO_MEMORY, USAGE, command_in, finish};
 
 /// How a run ended: the process's status, as docs/SCRIPT.md lists them, and the disk.

@@ -1,8 +1,8 @@
 use Rattle.std.proofs.Common.{◌∙◌, ap, sym}
 use Rattle.std.specs.Prelude.{map, string_bytes}
-use Rattle.vl_replay.specs.Process.{folder_of}
-use Rattle.vl_replay.proofs.Serving.{over_same}
-use Rattle.vl_replay.proofs.process.serve.Goals as goal
+use Rattle.vl_prog.specs.Process.{folder_of}
+use Rattle.vl_prog.proofs.Serving.{over_same}
+use Rattle.vl_prog.proofs.process.serve.Goals as goal
 
 pub returns-clause-served : goal.returns-clause-served
 returns-clause-served g c =

@@ -19,11 +19,11 @@ use Rattle.vl_sequential.specs.laws.WordLaws.{disk_steady, rose_or_unread, sourc
 use Rattle.vl_sequential.specs.laws.WordLaws.{rose_by, steady_by, refused_status, refused_rose, refused_steady}
 use Rattle.vl_sequential.specs.declared.ending.Ending.{Ending}
 use Rattle.vl_replay.specs.Benchmark.{PrintsSummary, summary_of}
-use Rattle.vl_replay.specs.Driving.{PrintsDriven}
+use Rattle.vl_prog.specs.Driving.{PrintsDriven}
 use Rattle.vl_replay.proofs.Benchmarks.{bench_ends}
-use Rattle.vl_replay.proofs.Driven.{drive_ends}
-use Rattle.vl_replay.proofs.NotBegun.{answers_nothing, reads_nothing, reported, tries_nothing}
-use Rattle.vl_replay.proofs.command_line.run.Goals as goal
+use Rattle.vl_prog.proofs.Driven.{drive_ends}
+use Rattle.vl_prog.proofs.NotBegun.{answers_nothing, reads_nothing, reported, tries_nothing}
+use Rattle.vl_prog.proofs.command_line.run.Goals as goal
 
 -- the store on an empty disk has no commits
 empty_proper : AreProper begun.store.commits

@@ -8,8 +8,8 @@ use Rattle.vl_sequential.specs.Endings.{status_of}
 use Rattle.vl_sequential.specs.Runs.{IsFront}
 use Rattle.vl_sequential.specs.declared.ending.Ending.{Ending}
 use Rattle.vl_sequential.specs.declared.ending.Ending.TheVariants.{BadWords, NoMemory, WriteFault}
-use Rattle.vl_replay.specs.Process.{MayExitWith, ServedOver}
-use Rattle.vl_replay.specs.Run.{AreNotPlain, AskFor, EndsBy}
+use Rattle.vl_prog.specs.Process.{MayExitWith, ServedOver}
+use Rattle.vl_prog.specs.Run.{AreNotPlain, AskFor, EndsBy}
 use Rattle.vl_sequential.specs.declared.words.Command.{Command}
 
 -- a run that wasn't begun has the status of what it was to end by, or the sink's

@@ -15,9 +15,9 @@ use Rattle.vl_sequential.specs.Trying.{trial_of}
 use Rattle.vl_sequential.specs.declared.ending.Ending.{Ending}
 use Rattle.vl_sequential.specs.declared.ending.Ending.TheVariants.{BadWords}
 use Rattle.vl_replay.specs.Benchmark.{StatusOfBench, summary_of}
-use Rattle.vl_replay.specs.Driving.{StatusOfDrive}
-use Rattle.vl_replay.specs.Run.{AreNotPlain, AskFor, EndsBy, FailedAtTables, FailedToRead, HasCountedFault}
-use Rattle.vl_replay.specs.Run.{StatusOfAnswers, StatusOfTrial, TellsOfInput}
+use Rattle.vl_prog.specs.Driving.{StatusOfDrive}
+use Rattle.vl_prog.specs.Run.{AreNotPlain, AskFor, EndsBy, FailedAtTables, FailedToRead, HasCountedFault}
+use Rattle.vl_prog.specs.Run.{StatusOfAnswers, StatusOfTrial, TellsOfInput}
 use Rattle.vl_sequential.specs.declared.words.Command.{Command}
 use Rattle.vl_sequential.specs.declared.words.Command.TheVariants.{Bench, Drive, Replay, Trial}
 

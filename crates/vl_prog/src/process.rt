@@ -6,8 +6,8 @@ ghost use Rattle.std.specs.Process.{exit_status};
 ghost use Rattle.vl_sequential.specs.Endings.{status_of};
 ghost use Rattle.vl_sequential.specs.declared.ending.Ending.{Ending as HowEnded};
 ghost use Rattle.vl_sequential.specs.declared.ending.Ending.TheVariants as endings;
-ghost use Rattle.vl_replay.specs.Run.{EndsBy};
-ghost use Rattle.vl_replay.specs.Process.{MayExitWith, ServedOver, folder_of};
+ghost use Rattle.vl_prog.specs.Run.{EndsBy};
+ghost use Rattle.vl_prog.specs.Process.{MayExitWith, ServedOver, folder_of};
 
 use crate::command_line::{CommandEnded, refuse_without_words, run};
 use std::alloc::{AllocError, Global};
