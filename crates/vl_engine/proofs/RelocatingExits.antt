@@ -1,5 +1,5 @@
 -- What a relocation comes to, at each of its exits, by the ruling on it.
-use Rattle.std.specs.Prelude.{◌≡◌, ◌≤◌, ℕ, zero, suc, ◌+◌, ◌&&◌, nat_le, is_none, Bool, true, List, [], ◌∷◌, ◌++◌}
+use Rattle.std.specs.Prelude.{◌≡◌, ◌≤◌, ◌<◌, ℕ, zero, suc, ◌+◌, ◌&&◌, nat_le, is_none, Bool, true, List, [], ◌∷◌, ◌++◌}
 use Rattle.std.specs.Prelude.{Option, None, Some, Result, Ok, Err, OnOk, refl}
 use Rattle.std.specs.List.{AllByRecursion, filter}
 use Rattle.std.specs.Option.{option_map}
@@ -7,7 +7,7 @@ use Rattle.std.proofs.Common.{sym, ap, subst, ◌∙◌, cond, arith}
 use Rattle.std.proofs.lemmas.Bool.Decides.{nat_tests}
 use Rattle.vl_core.specs.Carries.{Carries}
 use Rattle.vl_core.specs.MayStep.{Fits}
-use Rattle.vl_core.specs.MoveFacts.{HasMoved, move_log}
+use Rattle.vl_core.specs.MoveFacts.{HasMoved, move_length, move_log}
 use Rattle.vl_core.specs.Pointed.{layout_logs}
 use Rattle.vl_core.specs.Represents.{Fronts, Represents, file_of}
 use Rattle.vl_core.specs.declared.kept.Core.{Core}
@@ -72,6 +72,12 @@ all_kept es last (m ∷ ms) new up =
         let below = up.0 in
         let known : nat_le m.version last ≡ true = grind (arith, nat_tests, below) in
         ap (λ (b : Bool). b && is_none (exact es m.key m.version)) known ∙ ap is_none new.0
+
+-- ---- what is too long
+
+over_then : (room long long' frame frame' : ℕ) → long ≡ long' → frame ≡ frame' → room < long + frame → room < long' + frame'
+over_then room long long' frame frame' long_is frame_is over =
+    subst (λ (n : ℕ). room < n + frame') long_is (subst (λ (n : ℕ). room < long + n) frame_is over)
 
 -- ---- what is noted
 
@@ -162,7 +168,7 @@ module _ {D H R : Type 0} (g : Ghosts D) (bytes : H → Option (List ℕ)) (faul
       ap (λ (n : ℕ). leaving (answers.Full n frame) h l) full.length_is
       ∙ ap (λ (n : ℕ). leaving (answers.Full old.core.front.log.length n) h l) full.frame_is
       ∙ is_full l h p batch old.core fronts full.moved (found_is full.moved has.found.finds) has.found.running has.some has.left
-      (omega (arith, over, length_is, frame_is))
+      (over_then old.core.front.room long old.core.front.log.length frame (move_length full.moved) full.length_is full.frame_is full.over)
 
   read_runs : (name : Name) → HasFailedToRead g bytes faults_of old new log.number batch name → l.halted ≡ None
   read_runs name read = runs l h p batch old.core fronts read.fails.running
