@@ -18,7 +18,7 @@ use std::alloc::{AllocError, Global};
 use std::sync::Wait;
 use std::thread::Threads;
 use std::{env, thread};
-use vlstore::{FolderDisk, MAX_ROOM, Session, Silent, Store};
+use vlstore::{Engine, FolderDisk, MAX_ROOM, Session, Silent, Store};
 
 /// How many threads transfer.
 const TELLERS: u32 = 4;
@@ -54,39 +54,72 @@ where
     D::Reader: Send,
     D::Writer: Send,
 {
-    let mut lines = Vec::new(alloc);
-
     // A session for each thread.
     let (store, mut sessions) = match Store::open(alloc, disk, MAX_ROOM, TELLERS + 2) {
         Ok(opened) => opened,
         Err(fail) => return Err(not_opened(fail.why)),
     };
+    let opened = open_accounts(rt, alloc, &mut sessions)?;
+
+    // Each session goes to its thread, which works beside the others until it is done.
+    let parts = with_roles(alloc, sessions)?;
+    let played = play_all(rt, alloc, parts)?;
+
+    // No session is left, so the engine is for one thread again.
+    let Ok(engine) = store.into_engine(rt) else {
+        bail!("a session is left");
+    };
+    let summed = sum_up(alloc, engine)?;
+    in_order(alloc, opened, played, summed)
+}
+
+/// Opens the accounts where there are none.
+fn open_accounts<D: Silent, R: Wait>(
+    rt: &R,
+    alloc: Global,
+    sessions: &mut Vec<Session<D>>,
+) -> Result<String> {
     let Some(first) = sessions.get_mut(0) else {
         bail!("no session");
     };
-    lines.push(match fill(rt, alloc, first)? {
+    Ok(match fill(rt, alloc, first)? {
         Some(number) => format!(in alloc; "accounts were opened by commit {number}")?,
         None => format!(in alloc; "there are accounts already")?,
-    })?;
+    })
+}
 
-    // Each session goes to its thread, which works beside the others until it is done.
+/// The sessions with what their threads do.
+fn with_roles<D: Silent>(
+    alloc: Global,
+    sessions: Vec<Session<D>>,
+) -> std::result::Result<Vec<(Role, Session<D>)>, AllocError> {
     let mut parts = Vec::new(alloc);
     for (n, session) in (0..TELLERS + 2).zip(sessions) {
         parts.push((role_of(n), session))?;
     }
-    for line in play_all(rt, alloc, parts)? {
-        lines.push(line?)?;
-    }
+    Ok(parts)
+}
 
-    // No session is left, so the engine is for one thread again.
-    let Ok(mut engine) = store.into_engine(rt) else {
-        bail!("a session is left");
-    };
+/// What the accounts have in all.
+fn sum_up<D: Silent>(alloc: Global, mut engine: Engine<D>) -> Result<String> {
     let mut view = engine.view()?;
     let total = total(&mut view);
     engine.release(view);
     let (total, number) = (total?, engine.number());
-    lines.push(format!(in alloc; "the accounts have {total} in all, behind commit {number}")?)?;
+    Ok(format!(in alloc; "the accounts have {total} in all, behind commit {number}")?)
+}
+
+fn in_order(
+    alloc: Global,
+    opened: String,
+    played: Vec<Result<String>>,
+    summed: String,
+) -> Result<Vec<String>> {
+    let mut lines = vec![in alloc; opened]?;
+    for line in played {
+        lines.push(line?)?;
+    }
+    lines.push(summed)?;
     Ok(lines)
 }
 
