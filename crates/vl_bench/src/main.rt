@@ -29,15 +29,10 @@ use vlstore::{Disk, Engine, FolderDisk, MAX_ROOM};
 const OPENINGS: usize = 5;
 
 fn main(rt: HostRuntime) -> Result<()> {
-    let mut words = env::args(&rt)?.skip(1);
-    let (Some(folder), Some(order), Some(spelling), Some(count), Some(bytes), Some(room)) = (
-        words.next(),
-        words.next(),
-        words.next(),
-        words.next(),
-        words.next(),
-        words.next(),
-    ) else {
+    let mut words = env::args(&rt)?;
+    words.next();
+    let words: Vec<String> = words.collect(rt.alloc())?;
+    let [folder, order, spelling, count, bytes, room, more @ ..] = words.as_slice() else {
         println!(rt; "usage: vl_bench DIR rising|scattered digits|bytes KEYS BYTES ROOM [counts]")?;
         return Ok(());
     };
@@ -45,19 +40,25 @@ fn main(rt: HostRuntime) -> Result<()> {
         rt: &rt,
         folder: folder.as_str(),
         bytes: bytes.parse()?,
-        timed: words.next().is_none(),
+        timed: more.is_empty(),
     };
-    let work = Work::new(report, &spelling, count.parse()?)?;
-    run(&work, Order::named(&order)?, room.parse()?)
+    let work = Work::new(report, spelling, count.parse()?)?;
+    let (order, room) = (Order::named(order)?, room.parse()?);
+    fill_new(&work, order, room)?;
+    open_again(&work, room)?;
+    go_on_with(&work, room)
 }
 
-/// Fills a new store, and does all other work over one that was opened again, where what was filled in stands in tables.
-fn run(work: &Work<'_>, order: Order, room: u64) -> Result<()> {
+/// Fills a new store.
+fn fill_new(work: &Work<'_>, order: Order, room: u64) -> Result<()> {
     let mut store = open(work.report, room)?;
     let done = fill(work, &mut store, order);
     drop(store.close());
-    done?;
-    open_again(work, room)?;
+    done
+}
+
+/// Does all other work over the store when it was opened again, so that what was filled in stands in tables.
+fn go_on_with(work: &Work<'_>, room: u64) -> Result<()> {
     let mut store = open(work.report, room)?;
     let done = go_on(work, &mut store);
     drop(store.close());
