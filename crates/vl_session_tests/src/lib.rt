@@ -1,4 +1,4 @@
-//! Tests of sessions over a folder, in several threads and in one.
+//! Tests of sessions over a folder, in several threads and in one, and of clients that share a store in memory.
 #![tactic(auto)]
 
 #[cfg(test)]
@@ -11,5 +11,9 @@ mod counting;
 mod folder;
 #[cfg(test)]
 mod notes;
+#[cfg(test)]
+mod side_by_side;
+#[cfg(test)]
+mod whole;
 #[cfg(test)]
 mod working;
