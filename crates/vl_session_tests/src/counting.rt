@@ -133,6 +133,42 @@ struct Counted {
     count_again: u64,
 }
 
+// The clients, of whom the second does the work on files.
+fn counters<D: Silent>(
+    alloc: Global,
+    sessions: Vec<Session<D>>,
+) -> Result<Vec<(Counter, Session<D>)>, AllocError> {
+    let mut parts = Vec::new(alloc);
+    for (works, session) in [false, true].into_iter().zip(sessions) {
+        parts.push((Counter { works }, session))?;
+    }
+    Ok(parts)
+}
+
+fn sum_of(all: Vec<u64>) -> u64 {
+    let mut sum = 0u64;
+    for commits in all {
+        sum = sum.saturating_add(commits);
+    }
+    sum
+}
+
+// What the number comes to behind so many commits, then and once the store is opened again.
+fn counted<D: Silent>(alloc: Global, mut engine: Engine<D>, made: u64) -> Option<Counted> {
+    let number = engine.number();
+    let count = count_in(&mut engine)?;
+    let mut again = Engine::open(alloc, engine.close(), ROOM).ok()?;
+    let number_again = again.number();
+    let count_again = count_in(&mut again)?;
+    Some(Counted {
+        made,
+        number,
+        count,
+        number_again,
+        count_again,
+    })
+}
+
 fn counts<D: Silent + Send, R: Wait + Threads + Sync>(
     rt: &R,
     alloc: Global,
@@ -144,25 +180,10 @@ where
     D::Writer: Send,
 {
     let (store, sessions) = Store::open(alloc, disk, ROOM, 2).ok()?;
-    let mut parts = Vec::new(alloc);
-    for (works, session) in [false, true].into_iter().zip(sessions) {
-        parts.push((Counter { works }, session)).ok()?;
-    }
-    let mut made = 0u64;
-    for commits in count_all(rt, alloc, parts).ok()? {
-        made = made.saturating_add(commits);
-    }
-    let mut engine = store.into_engine(rt).ok()?;
-    let number = engine.number();
-    let count = count_in(&mut engine)?;
-    let mut again = Engine::open(alloc, engine.close(), ROOM).ok()?;
-    Some(Counted {
-        made,
-        number,
-        count,
-        number_again: again.number(),
-        count_again: count_in(&mut again)?,
-    })
+    let parts = counters(alloc, sessions).ok()?;
+    let made = sum_of(count_all(rt, alloc, parts).ok()?);
+    let engine = store.into_engine(rt).ok()?;
+    counted(alloc, engine, made)
 }
 
 #[test]
