@@ -154,7 +154,7 @@ fn sum_of(all: Vec<u64>) -> u64 {
 }
 
 // What the number comes to behind so many commits, then and once the store is opened again.
-fn counted<D: Silent>(alloc: Global, mut engine: Engine<D>, made: u64) -> Option<Counted> {
+fn summed_up<D: Silent>(alloc: Global, mut engine: Engine<D>, made: u64) -> Option<Counted> {
     let number = engine.number();
     let count = count_in(&mut engine)?;
     let mut again = Engine::open(alloc, engine.close(), ROOM).ok()?;
@@ -183,7 +183,7 @@ where
     let parts = counters(alloc, sessions).ok()?;
     let made = sum_of(count_all(rt, alloc, parts).ok()?);
     let engine = store.into_engine(rt).ok()?;
-    counted(alloc, engine, made)
+    summed_up(alloc, engine, made)
 }
 
 #[test]
