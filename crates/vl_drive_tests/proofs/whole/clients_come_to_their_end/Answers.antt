@@ -5,7 +5,7 @@ use Rattle.vl_mem.proofs.steady_writer.SteadyWriter.TheSendSync as writer
 use Rattle.vl_mem.proofs.sure_disk.SureDisk.TheSendSync as disk
 use Rattle.vl_mem.specs.contracts.steady_reader.SteadyReader as reader
 use Rattle.vlstore.proofs.Crosses.{note, sure_session}
-use Rattle.vl_session_tests.proofs.whole.clients_come_to_their_end.Goals as goal
+use Rattle.vl_drive_tests.proofs.whole.clients_come_to_their_end.Goals as goal
 
 pub drive_store-requires-send-T-Shop : goal.drive_store-requires-send-T-Shop
 drive_store-requires-send-T-Shop g c κs =

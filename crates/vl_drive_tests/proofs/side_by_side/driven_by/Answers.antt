@@ -3,7 +3,7 @@ use Rattle.std.specs.List.{AllByRecursion}
 use Rattle.vl_drive.specs.Clients.{IsNewAt}
 use Rattle.vl_drive.specs.Knowing.{Knows}
 use Rattle.vl_drive.specs.Stores.{AreFirst, Opened}
-use Rattle.vl_session_tests.proofs.side_by_side.driven_by.Goals as goal
+use Rattle.vl_drive_tests.proofs.side_by_side.driven_by.Goals as goal
 
 first_new : (o : Opened) (first : ℕ) (vs : List Knows) → AreFirst o first vs → AllByRecursion (IsNewAt o.store) vs
 first_new o first [] are = tt

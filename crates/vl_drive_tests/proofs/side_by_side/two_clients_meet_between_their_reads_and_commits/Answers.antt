@@ -5,7 +5,7 @@ use Rattle.vl_mem.proofs.steady_writer.SteadyWriter.TheSendSync as writer
 use Rattle.vl_mem.proofs.sure_disk.SureDisk.TheSendSync as disk
 use Rattle.vl_mem.specs.contracts.steady_reader.SteadyReader as reader
 use Rattle.vlstore.proofs.Crosses.{note, sure_session}
-use Rattle.vl_session_tests.proofs.side_by_side.two_clients_meet_between_their_reads_and_commits.Goals as goal
+use Rattle.vl_drive_tests.proofs.side_by_side.two_clients_meet_between_their_reads_and_commits.Goals as goal
 
 pub driven_by-requires-send-T-Shop : goal.driven_by-requires-send-T-Shop
 driven_by-requires-send-T-Shop g c κs =
