@@ -3,7 +3,7 @@ ghost use Rattle.std.specs.Prelude.{All, IfOk};
 ghost use Rattle.vl_disk.specs.Name.{IsNumbered};
 
 use crate::stores::{
-    DAMAGED_MANIFEST, LAST_COMMIT_MANIFEST, LAST_LOG_MANIFEST, LAST_MANIFEST, LOG_BYTES,
+    Case, DAMAGED_MANIFEST, LAST_COMMIT_MANIFEST, LAST_LOG_MANIFEST, LAST_MANIFEST, LOG_BYTES,
     MANIFEST_BYTES, MOVED_LOG_BYTES, NEWER_MANIFEST, OLD_LOG, OLD_MANIFEST, OLD_SECOND_LOG,
     OLD_SECOND_MANIFEST, SECOND_LOG_BYTES, SECOND_LOG_HEADER, SECOND_MANIFEST_BYTES,
     THIRD_LOG_BYTES, THIRD_MANIFEST_BYTES, holds, outcome_over, plain, started, store, with,
@@ -54,37 +54,17 @@ fn a_store_is_opened_again(rt: HostRuntime) -> Result<(), Fail> {
     Ok(())
 }
 
-#[test]
-fn a_torn_end_is_cut(rt: HostRuntime) -> Result<(), Fail> {
-    // A manifest is made, the log is cut and synced, and the old manifest removed: so call 7 doesn't come.
-    let files = store(rt.alloc(), &MANIFEST_BYTES, &LOG_BYTES[..50])?;
-    let disk = started(rt.alloc(), files, &[7])?;
-    let first = plain("view b\nget b 61\n", "ok 0\nnone\n", 0);
-    let (status, printed, disk) = outcome_over(rt.alloc(), &first, disk)?;
-    assert_eq!(rt; printed.as_slice(), first.printed.as_bytes());
-    assert_eq!(rt; status, first.status);
-    assert!(rt; holds(&disk, Name::Log(1), &LOG_BYTES[..16]));
-    assert!(rt; holds(&disk, Name::Manifest(2), &SECOND_MANIFEST_BYTES));
-
-    // The same log takes the next commits.
-    let files = store(rt.alloc(), &MANIFEST_BYTES, &LOG_BYTES[..50])?;
-    let second = plain("begin a\nset a 61 01\ncommit a\n", "ok 0\nok\nok 1\n", 0);
-    let (status, printed, disk) = outcome_over(
-        rt.alloc(),
-        &second,
-        started(rt.alloc(), files, &[])?,
-    )?;
-    assert_eq!(rt; printed.as_slice(), second.printed.as_bytes());
-    assert_eq!(rt; status, second.status);
-    assert!(rt; holds(&disk, Name::Log(1), &LOG_BYTES));
-    assert!(rt; disk.bytes(Name::Log(2)).is_none());
-    Ok(())
-}
-
-/// The disk behind a run over it that is refused with this line; none where it ends otherwise.
-fn refused(alloc: Global, disk: MemDisk, line: &'static str) -> Result<Option<MemDisk>, Fail> {
-    let (status, printed, disk) = outcome_over(alloc, &plain("begin a\n", line, 4), disk)?;
-    let as_wanted = status == 4 && printed.as_slice() == line.as_bytes();
+/// The disk behind a run over these files, of whose changing calls these fail; none where it ends otherwise than it should.
+fn ran(
+    alloc: Global,
+    files: Vec<(Name, Vec<u8>)>,
+    failing: &[u64],
+    case: &Case,
+) -> Result<Option<MemDisk>, Fail>
+    requires { All (λ file. IsNumbered file.0) files.items }
+{
+    let (status, printed, disk) = outcome_over(alloc, case, started(alloc, files, failing)?)?;
+    let as_wanted = status == case.status && printed.as_slice() == case.printed.as_bytes();
     Ok(if as_wanted { Some(disk) } else { None })
 }
 
@@ -96,6 +76,100 @@ fn left(disk: &Option<MemDisk>, name: Name, bytes: &[u8]) -> bool {
     }
 }
 
+/// Whether there is a disk, on which no such file stands.
+fn lacks(disk: &Option<MemDisk>, name: Name) -> bool {
+    match disk {
+        Some(disk) => disk.bytes(name).is_none(),
+        None => false,
+    }
+}
+
+// A manifest is made, the log is cut and synced, and the old manifest removed: so call 7 doesn't come.
+fn is_cut(alloc: Global) -> Result<bool, Fail> {
+    let files = store(alloc, &MANIFEST_BYTES, &LOG_BYTES[..50])?;
+    let disk = ran(
+        alloc,
+        files,
+        &[7],
+        &plain("view b\nget b 61\n", "ok 0\nnone\n", 0),
+    )?;
+    Ok(
+        left(&disk, Name::Log(1), &LOG_BYTES[..16])
+            && left(&disk, Name::Manifest(2), &SECOND_MANIFEST_BYTES),
+    )
+}
+
+// The same log takes the next commits.
+fn takes_the_next(alloc: Global) -> Result<bool, Fail> {
+    let files = store(alloc, &MANIFEST_BYTES, &LOG_BYTES[..50])?;
+    let case = plain("begin a\nset a 61 01\ncommit a\n", "ok 0\nok\nok 1\n", 0);
+    let disk = ran(alloc, files, &[], &case)?;
+    Ok(left(&disk, Name::Log(1), &LOG_BYTES) && lacks(&disk, Name::Log(2)))
+}
+
+#[test]
+fn a_torn_end_is_cut(rt: HostRuntime) -> Result<(), Fail> {
+    assert!(rt; is_cut(rt.alloc())?);
+    assert!(rt; takes_the_next(rt.alloc())?);
+    Ok(())
+}
+
+/// Whether a run over these files is refused with this line, and leaves two of them as they are.
+fn refuses(
+    alloc: Global,
+    files: Vec<(Name, Vec<u8>)>,
+    line: &'static str,
+    first: (Name, &[u8]),
+    second: (Name, &[u8]),
+) -> Result<bool, Fail>
+    requires { All (λ file. IsNumbered file.0) files.items }
+{
+    let disk = ran(alloc, files, &[], &plain("begin a\n", line, 4))?;
+    Ok(left(&disk, first.0, first.1) && left(&disk, second.0, second.1))
+}
+
+/// Of one file.
+fn refuses_one(alloc: Global, name: Name, bytes: &[u8], line: &'static str) -> Result<bool, Fail>
+    requires { IsNumbered name }
+{
+    let files = with(alloc, Vec::new(alloc), name, bytes)?;
+    refuses(alloc, files, line, (name, bytes), (name, bytes))
+}
+
+/// Of manifest 1 and a log.
+fn refuses_two(
+    alloc: Global,
+    manifest: &[u8],
+    name: Name,
+    log: &[u8],
+    line: &'static str,
+) -> Result<bool, Fail>
+    requires { IsNumbered name }
+{
+    let files = with(alloc, Vec::new(alloc), Name::Manifest(1), manifest)?;
+    let files = with(alloc, files, name, log)?;
+    refuses(
+        alloc,
+        files,
+        line,
+        (Name::Manifest(1), manifest),
+        (name, log),
+    )
+}
+
+/// Of a new store's manifest and log 1, behind which log 2 was begun.
+fn refuses_before(alloc: Global, log: &[u8], line: &'static str) -> Result<bool, Fail> {
+    let files = store(alloc, &MANIFEST_BYTES, log)?;
+    let files = with(alloc, files, Name::Log(2), &SECOND_LOG_HEADER)?;
+    refuses(
+        alloc,
+        files,
+        line,
+        (Name::Log(1), log),
+        (Name::Log(2), &SECOND_LOG_HEADER),
+    )
+}
+
 #[test]
 fn what_is_no_store_is_refused(rt: HostRuntime) -> Result<(), Fail> {
     let alloc = rt.alloc();
@@ -103,19 +177,17 @@ fn what_is_no_store_is_refused(rt: HostRuntime) -> Result<(), Fail> {
     // One bit of the length of the manifest's frame is altered, so that no frame stands there.
     let mut altered = MANIFEST_BYTES;
     altered[20] = 27;
-    let disk = started(alloc, store(alloc, &altered, &LOG_BYTES)?, &[])?;
-    let disk = refused(alloc, disk, "not a store\n")?;
-    assert!(rt; left(&disk, Name::Manifest(1), &altered));
-    assert!(rt; left(&disk, Name::Log(1), &LOG_BYTES));
-
-    let files = with(alloc, Vec::new(alloc), Name::Log(1), &LOG_BYTES)?;
-    let disk = refused(alloc, started(alloc, files, &[])?, "not a store\n")?;
-    assert!(rt; left(&disk, Name::Log(1), &LOG_BYTES));
-
-    let disk = started(alloc, store(alloc, &NEWER_MANIFEST, &LOG_BYTES)?, &[])?;
-    let disk = refused(alloc, disk, "newer format 5\n")?;
-    assert!(rt; left(&disk, Name::Manifest(1), &NEWER_MANIFEST));
-    assert!(rt; left(&disk, Name::Log(1), &LOG_BYTES));
+    assert!(rt; refuses_two(alloc, &altered, Name::Log(1), &LOG_BYTES, "not a store\n")?);
+    assert!(rt; refuses_one(alloc, Name::Log(1), &LOG_BYTES, "not a store\n")?);
+    assert!(rt;
+        refuses_two(
+            alloc,
+            &NEWER_MANIFEST,
+            Name::Log(1),
+            &LOG_BYTES,
+            "newer format 5\n"
+        )?
+    );
     Ok(())
 }
 
@@ -124,45 +196,33 @@ fn damaged_stores_are_refused(rt: HostRuntime) -> Result<(), Fail> {
     let alloc = rt.alloc();
 
     // A log that isn't the last must be whole.
-    let files = store(alloc, &MANIFEST_BYTES, &LOG_BYTES[..50])?;
-    let files = with(alloc, files, Name::Log(2), &SECOND_LOG_HEADER)?;
-    let disk = refused(alloc, started(alloc, files, &[])?, "damaged log 1 at 16\n")?;
-    assert!(rt; left(&disk, Name::Log(1), &LOG_BYTES[..50]));
-    assert!(rt; left(&disk, Name::Log(2), &SECOND_LOG_HEADER));
-
-    let files = store(alloc, &MANIFEST_BYTES, &SECOND_LOG_BYTES)?;
-    let files = with(alloc, files, Name::Log(2), &SECOND_LOG_HEADER)?;
-    let disk = refused(alloc, started(alloc, files, &[])?, "damaged log 1 at 0\n")?;
-    assert!(rt; left(&disk, Name::Log(1), &SECOND_LOG_BYTES));
+    assert!(rt; refuses_before(alloc, &LOG_BYTES[..50], "damaged log 1 at 16\n")?);
+    assert!(rt; refuses_before(alloc, &SECOND_LOG_BYTES, "damaged log 1 at 0\n")?);
 
     // Commit 2 doesn't come first.
-    let files = with(alloc, Vec::new(alloc), Name::Manifest(1), &MANIFEST_BYTES)?;
-    let files = with(alloc, files, Name::Log(2), &SECOND_LOG_BYTES)?;
-    let disk = refused(alloc, started(alloc, files, &[])?, "damaged log 2 at 16\n")?;
-    assert!(rt; left(&disk, Name::Log(2), &SECOND_LOG_BYTES));
+    let line = "damaged log 2 at 16\n";
+    assert!(rt;
+        refuses_two(
+            alloc,
+            &MANIFEST_BYTES,
+            Name::Log(2),
+            &SECOND_LOG_BYTES,
+            line
+        )?
+    );
 
-    let disk = started(alloc, store(alloc, &DAMAGED_MANIFEST, &LOG_BYTES)?, &[])?;
-    let disk = refused(alloc, disk, "damaged manifest 1 at 16\n")?;
-    assert!(rt; left(&disk, Name::Manifest(1), &DAMAGED_MANIFEST));
+    let line = "damaged manifest 1 at 16\n";
+    assert!(rt; refuses_two(alloc, &DAMAGED_MANIFEST, Name::Log(1), &LOG_BYTES, line)?);
     Ok(())
 }
 
 #[test]
 fn stores_without_a_number_left_are_refused(rt: HostRuntime) -> Result<(), Fail> {
     let alloc = rt.alloc();
-    let files = with(
-        alloc,
-        Vec::new(alloc),
-        Name::Manifest(1),
-        &LAST_LOG_MANIFEST,
-    )?;
-    let disk = refused(alloc, started(alloc, files, &[])?, "exhausted log\n")?;
-    assert!(rt; left(&disk, Name::Manifest(1), &LAST_LOG_MANIFEST));
-
+    let first = Name::Manifest(1);
+    assert!(rt; refuses_one(alloc, first, &LAST_LOG_MANIFEST, "exhausted log\n")?);
     let last = Name::Manifest(4_294_967_294);
-    let files = with(alloc, Vec::new(alloc), last, &LAST_MANIFEST)?;
-    let disk = refused(alloc, started(alloc, files, &[])?, "exhausted manifest\n")?;
-    assert!(rt; left(&disk, last, &LAST_MANIFEST));
+    assert!(rt; refuses_one(alloc, last, &LAST_MANIFEST, "exhausted manifest\n")?);
     Ok(())
 }
 
