@@ -1,22 +1,23 @@
 -- Where entries begin is found one by one.
-use Rattle.std.specs.Prelude.{◌≡◌, ◌+◌, ◌-◌, ◌*◌, ◌<◌, ◌≤◌, ℕ, zero, suc, List, [], ◌∷◌, ◌++◌, Option, None, Some}
+use Rattle.std.specs.Prelude.{◌≡◌, ◌+◌, ◌-◌, ◌*◌, ◌<◌, ◌≤◌, ℕ, Bool, zero, suc, List, [], ◌∷◌, ◌++◌, Option, None, Some}
 use Rattle.std.specs.Prelude.{drop, length, slice_set, take}
 use Rattle.std.specs.Option.{option_map}
 use Rattle.std.proofs.Common.{sym, ap, subst, refl, ◌∙◌, arith, length-append}
 use Rattle.std.proofs.lemmas.List.{drop_at}
 use Rattle.vl_model.specs.declared.entry.Entry.{Entry}
 use Rattle.vl_block.specs.declared.entry_ref.EntryRef.{EntryRef}
-use Rattle.vl_block.specs.Blocks.{entries}
+use Rattle.vl_block.specs.Blocks.{walked}
 use Rattle.vl_block.specs.Entries.{entry_bytes, entry_of, IsEntry}
 use Rattle.vl_block.specs.Lists.{IsNext, IsRun, items_bytes}
 use Rattle.vl_block.specs.Starts.{AreStarts, StartsAt}
 use Rattle.vl_block.specs.laws.BlockLaws.{entries-few}
 use Rattle.vl_block.specs.laws.ListLaws.{done}
+use Rattle.vl_block.specs.laws.WalkedLaws.{walked_bytes}
 use Rattle.vl_block.proofs.Scans.{UnderWay, reads_one}
 
 -- so many entries were read, of which the last is this, and it is known where they begin
-pub record Finding (format : ℕ) (bytes : List ℕ) (total count : ℕ) (starts : List ℕ) (last : Option EntryRef) (rest : List ℕ) : Type 0 where
-  pub under_way : UnderWay format bytes total count last rest
+pub record Finding (tested : Bool) (format : ℕ) (bytes : List ℕ) (total count : ℕ) (starts : List ℕ) (last : Option EntryRef) (rest : List ℕ) : Type 0 where
+  pub under_way : UnderWay tested format bytes total count last rest
   pub found : AreStarts format bytes (take count starts) under_way.taken
 
 starts-push : (format : ℕ) (bytes places : List ℕ) (es : List Entry) (place : ℕ) (e : Entry) → AreStarts format bytes places es
@@ -26,10 +27,10 @@ starts-push format bytes [] (f ∷ fs) place e are here = absurd are
 starts-push format bytes (p ∷ ps) [] place e are here = absurd are
 starts-push format bytes (p ∷ ps) (f ∷ fs) place e are here = (are.0, starts-push format bytes ps fs place e are.1 here)
 
-module _ (format : ℕ) (bytes : List ℕ) (total count : ℕ) (starts : List ℕ) (last : Option EntryRef) (rest : List ℕ)
-    (f : Finding format bytes total count starts last rest) where
+module _ (tested : Bool) (format : ℕ) (bytes : List ℕ) (total count : ℕ) (starts : List ℕ) (last : Option EntryRef) (rest : List ℕ)
+    (f : Finding tested format bytes total count starts last rest) where
   pub rest-within : length rest ≤ length bytes
-  rest-within = omega (arith, ap length f.under_way.so_far.spelled, length-append (items_bytes (entries format) f.under_way.taken) rest)
+  rest-within = omega (arith, ap length f.under_way.so_far.spelled, length-append (items_bytes (walked tested format) f.under_way.taken) rest)
 
   module _ (e : Entry) (after : List ℕ) (lawful : IsEntry format e) (here : rest ≡ entry_bytes format e ++ after) where
     -- there are so few that each has room
@@ -38,9 +39,10 @@ module _ (format : ℕ) (bytes : List ℕ) (total count : ℕ) (starts : List �
         omega (
           arith,
           ap length f.under_way.so_far.spelled,
-          length-append (items_bytes (entries format) f.under_way.taken) rest,
+          length-append (items_bytes (walked tested format) f.under_way.taken) rest,
           ap length here,
           length-append (entry_bytes format e) after,
+          ap length (walked_bytes tested format f.under_way.taken),
           entries-few format f.under_way.taken f.under_way.so_far.each,
           entries-few format (e ∷ []) (lawful, tt),
           length-append (entry_bytes format e) [],
@@ -52,49 +54,50 @@ module _ (format : ℕ) (bytes : List ℕ) (total count : ℕ) (starts : List �
       rest = after;
       spelled =
           ap (drop (length bytes - length rest)) f.under_way.so_far.spelled
-          ∙ drop_at (items_bytes (entries format) f.under_way.taken) rest (length bytes - length rest)
-          (omega (arith, ap length f.under_way.so_far.spelled, length-append (items_bytes (entries format) f.under_way.taken) rest))
+          ∙ drop_at (items_bytes (walked tested format) f.under_way.taken) rest (length bytes - length rest)
+          (omega (arith, ap length f.under_way.so_far.spelled, length-append (items_bytes (walked tested format) f.under_way.taken) rest))
           ∙ here;
     }
 
 -- one more is found
-pub finds_one : (format : ℕ) (bytes : List ℕ) (total count : ℕ) (starts new : List ℕ) (last : Option EntryRef)
+pub finds_one : (tested : Bool) (format : ℕ) (bytes : List ℕ) (total count : ℕ) (starts new : List ℕ) (last : Option EntryRef)
     (rest : List ℕ) (e : EntryRef) (after : List ℕ)
-    → Finding format bytes total count starts last rest → IsEntry format (entry_of e) → rest ≡ entry_bytes format (entry_of e) ++ after
-    → IsNext (entries format) (option_map entry_of last) (entry_of e)
+    → Finding tested format bytes total count starts last rest → IsEntry format (entry_of e) → rest ≡ entry_bytes format (entry_of e) ++ after
+    → IsNext (walked tested format) (option_map entry_of last) (entry_of e)
     → take (count + 1) new ≡ take count starts ++ (length bytes - length rest) ∷ []
-    → Finding format bytes total (count + 1) new (Some e) after
+    → Finding tested format bytes total (count + 1) new (Some e) after
 unfolding reads_one
-finds_one format bytes total count starts new last rest e after f lawful here follows put = record {
-  under_way = reads_one format bytes total count last rest e after f.under_way lawful here follows;
+finds_one tested format bytes total count starts new last rest e after f lawful here follows put = record {
+  under_way = reads_one tested format bytes total count last rest e after f.under_way lawful here follows;
   found = subst (λ (l : List ℕ). AreStarts format bytes l (f.under_way.taken ++ entry_of e ∷ [])) (sym put)
       (starts-push format bytes (take count starts) f.under_way.taken (length bytes - length rest) (entry_of e) f.found
-      (starts_here format bytes total count starts last rest f (entry_of e) after lawful here));
+      (starts_here tested format bytes total count starts last rest f (entry_of e) after lawful here));
 }
 
-pub all_found : (format : ℕ) (bytes : List ℕ) (total count : ℕ) (starts : List ℕ) (last : Option EntryRef) (rest : List ℕ)
-    → Finding format bytes total count starts last rest → count ≡ total → length rest ≡ 0
-    → (es : List Entry) × IsRun (entries format) bytes total es × AreStarts format bytes (take total starts) es
-all_found format bytes total count starts last rest f all empty = (
+pub all_found : (tested : Bool) (format : ℕ) (bytes : List ℕ) (total count : ℕ) (starts : List ℕ) (last : Option EntryRef) (rest : List ℕ)
+    → Finding tested format bytes total count starts last rest → count ≡ total → length rest ≡ 0
+    → (es : List Entry) × IsRun (walked tested format) bytes total es × AreStarts format bytes (take total starts) es
+all_found tested format bytes total count starts last rest f all empty = (
   f.under_way.taken,
-  done (entries format) bytes total count f.under_way.taken rest f.under_way.so_far all empty,
+  done (walked tested format) bytes total count f.under_way.taken rest f.under_way.so_far all empty,
   subst (λ (n : ℕ). AreStarts format bytes (take n starts) f.under_way.taken) all f.found,
 )
 
-pub few_found : (format : ℕ) (bytes : List ℕ) (total count : ℕ) (starts : List ℕ) (last : Option EntryRef) (rest : List ℕ)
-    → Finding format bytes total count starts last rest → 12 * count ≤ length bytes
-few_found format bytes total count starts last rest f =
+pub few_found : (tested : Bool) (format : ℕ) (bytes : List ℕ) (total count : ℕ) (starts : List ℕ) (last : Option EntryRef) (rest : List ℕ)
+    → Finding tested format bytes total count starts last rest → 12 * count ≤ length bytes
+few_found tested format bytes total count starts last rest f =
     omega (
       arith,
       ap length f.under_way.so_far.spelled,
-      length-append (items_bytes (entries format) f.under_way.taken) rest,
+      length-append (items_bytes (walked tested format) f.under_way.taken) rest,
+      ap length (walked_bytes tested format f.under_way.taken),
       entries-few format f.under_way.taken f.under_way.so_far.each,
       f.under_way.so_far.counted,
     )
 
 -- none is found yet
-pub none_found : (format : ℕ) (bytes : List ℕ) (total : ℕ) (starts : List ℕ) → Finding format bytes total 0 starts None bytes
-none_found format bytes total starts = record {
+pub none_found : (tested : Bool) (format : ℕ) (bytes : List ℕ) (total : ℕ) (starts : List ℕ) → Finding tested format bytes total 0 starts None bytes
+none_found tested format bytes total starts = record {
   under_way = record {
     taken = [];
     so_far = record {

@@ -6,4 +6,5 @@ pub mod FooterLaws
 pub mod Lengths
 pub mod ListLaws
 pub mod Places
+pub mod WalkedLaws
 pub mod WritingLaws

@@ -3,7 +3,7 @@
 ghost use Rattle.std.specs.Prelude.{◌↔◌, ◌+◌, ◌≤◌, List, Option, IfNone, IfSome, IsTrue, drop, length, take};
 ghost use Rattle.std.specs.Option.{option_map};
 ghost use Rattle.vl_model.specs.declared.entry.Entry.{Entry};
-ghost use Rattle.vl_block.specs.Blocks.{SpellsBlock, entries};
+ghost use Rattle.vl_block.specs.Blocks.{SpellsBlock, SpellsWalked, walked};
 ghost use Rattle.vl_block.specs.Entries.{entry_of};
 ghost use Rattle.vl_block.specs.Lists.{IsNext, IsRun};
 ghost use Rattle.vl_block.specs.Starts.{AreStarts};
@@ -20,10 +20,11 @@ pub const MAX_BODY_BYTES: usize = 4177;
 pub const MAX_BLOCK_ENTRIES: usize = 347;
 
 /// Tests a block's body, and finds where its entries begin, in the bytes behind their count. It gives how many there are,
-/// and puts as many places to the front of `starts`; None where the body isn't a block's.
-pub fn find_starts(format: u32, body: &[u8], starts: &mut [u16]) -> Option<usize>
+/// and puts as many places to the front of `starts`; None where the body isn't a block's. Of one that was tested before the
+/// order of the entries isn't tested again.
+pub fn find_starts(format: u32, body: &[u8], tested: bool, starts: &mut [u16]) -> Option<usize>
     requires { MAX_BLOCK_ENTRIES ≤ length starts.old }
-    ensures found { IfSome result (λ count. (es : List Entry) × SpellsBlock format body.now es
+    ensures found { IfSome result (λ count. (es : List Entry) × SpellsWalked tested format body.now es
         × AreStarts format (drop 4 body.now) (take count starts.new) es) }
     ensures none { IfNone result ((es : List Entry) → SpellsBlock format body.now es → ⊥) }
     ensures within { IfSome result (λ count. count ≤ MAX_BLOCK_ENTRIES) }
@@ -32,20 +33,21 @@ pub fn find_starts(format: u32, body: &[u8], starts: &mut [u16]) -> Option<usize
         return None;
     }
     let (count, bytes) = take_u32(body)?;
-    if !are_entries(format, count, bytes, starts) {
+    if !are_entries(format, count, bytes, tested, starts) {
         return None;
     }
     Some(count as usize)
 }
 
-// Whether these bytes are so many entries, one behind the other, in order. Where they are, it finds where each begins.
-fn are_entries(format: u32, count: u32, bytes: &[u8], starts: &mut [u16]) -> bool
+// Whether these bytes are so many entries, one behind the other, in order, if that wasn't tested before. Where they are, it
+// finds where each begins.
+fn are_entries(format: u32, count: u32, bytes: &[u8], tested: bool, starts: &mut [u16]) -> bool
     requires room { MAX_BLOCK_ENTRIES ≤ length starts.old }
     requires short { length bytes.now + 4 ≤ MAX_BODY_BYTES }
-    ensures found { IsTrue result → (es : List Entry) × IsRun (entries format) bytes.now count es
+    ensures found { IsTrue result → (es : List Entry) × IsRun (walked tested format) bytes.now count es
         × AreStarts format bytes.now (take count starts.new) es }
     ensures few { IsTrue result → count ≤ MAX_BLOCK_ENTRIES }
-    ensures whole { (es : List Entry) → IsRun (entries format) bytes.now count es → IsTrue result }
+    ensures whole { (es : List Entry) → IsRun (walked tested format) bytes.now count es → IsTrue result }
 {
     let mut last: Option<EntryRef> = None;
     let mut rest = bytes;
@@ -53,7 +55,7 @@ fn are_entries(format: u32, count: u32, bytes: &[u8], starts: &mut [u16]) -> boo
         match take_entry(format, rest) {
             None => return false,
             Some((entry, after)) => {
-                if !is_next(format, &last, &entry) {
+                if !is_next(format, tested, &last, &entry) {
                     return false;
                 }
                 starts[i as usize] = (bytes.len() - rest.len()) as u16;
@@ -65,10 +67,13 @@ fn are_entries(format: u32, count: u32, bytes: &[u8], starts: &mut [u16]) -> boo
     rest.is_empty()
 }
 
-// Whether an entry comes behind the last one, where there is one.
-fn is_next(format: u32, last: &Option<EntryRef>, entry: &EntryRef) -> bool
-    ensures { IsTrue result ↔ IsNext (entries format) (option_map entry_of last.now) (entry_of entry.now) }
+// Whether an entry comes behind the last one, where there is one, if that wasn't tested before.
+fn is_next(format: u32, tested: bool, last: &Option<EntryRef>, entry: &EntryRef) -> bool
+    ensures { IsTrue result ↔ IsNext (walked tested format) (option_map entry_of last.now) (entry_of entry.now) }
 {
+    if tested {
+        return true;
+    }
     match last {
         None => true,
         Some(last) => place_order(&last.place(), &entry.place()).is_lt(),

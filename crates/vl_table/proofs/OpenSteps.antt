@@ -1,12 +1,12 @@
 -- The entries of a block that was read into memory.
-use Rattle.std.specs.Prelude.{◌≡◌, ◌-◌, ◌≤◌, ◌<◌, ℕ, zero, suc, List, [], ◌∷◌, ◌++◌, drop, get_or, length, take}
+use Rattle.std.specs.Prelude.{◌≡◌, ◌-◌, ◌≤◌, ◌<◌, ℕ, zero, suc, Bool, List, [], ◌∷◌, ◌++◌, drop, get_or, length, take}
 use Rattle.std.specs.List.{AllByRecursion}
 use Rattle.std.proofs.Common.{ap, arith, length-append, length-drop, length-take, refl, subst, sym, append_assoc, ◌∙◌}
 use Rattle.std.proofs.lemmas.List.{drop-append-le, drop-drop, get_or-map, get_or-take, length-map, take-append-drop}
 use Rattle.vl_frame.specs.Frame.{check_of, frame_bytes}
 use Rattle.vl_frame.specs.declared.kinds.FrameKind.TheVariants as kinds
 use Rattle.vl_model.specs.declared.entry.Entry.{Entry}
-use Rattle.vl_block.specs.Blocks.{SpellsBlock, entries}
+use Rattle.vl_block.specs.Blocks.{SpellsBlock, SpellsWalked, entries}
 use Rattle.vl_block.specs.Entries.{IsEntry, entry_bytes}
 use Rattle.vl_block.specs.Lists.{items_bytes}
 use Rattle.vl_block.specs.Starts.{AreStarts, StartsAt}
@@ -81,7 +81,8 @@ module _ (format number place : ℕ) (body rest : List ℕ) (es : List Entry) (s
   said = said_all format (drop 9 (frame_bytes number place kinds.Block body ++ rest)) starts es says.lawful.each inside
 
 -- Whatever frame it is: what is read of its body begins at these places, in all that stands behind head and count.
-module _ (format : ℕ) (frame rest : List ℕ) (es : List Entry) (starts : List ℕ) (says : SpellsBlock format (body_in frame) es)
+module _ (tested : Bool) (format : ℕ) (frame rest : List ℕ) (es : List Entry) (starts : List ℕ)
+    (says : SpellsWalked tested format (body_in frame) es)
     (are : AreStarts format (drop 4 (body_in frame)) starts es) where
   behind_head : (tail : List ℕ) × (drop 9 (frame ++ rest) ≡ drop 4 (body_in frame) ++ tail)
   behind_head =
@@ -97,7 +98,7 @@ module _ (format : ℕ) (frame rest : List ℕ) (es : List Entry) (starts : List
       )
 
   pub begins : AllByRecursion (Begins format (drop 9 (frame ++ rest))) starts
-  begins = begin_all format (drop 9 (frame ++ rest)) starts es says.lawful.each
+  begins = begin_all format (drop 9 (frame ++ rest)) starts es says.each
       (subst (λ (l : List ℕ). AreStarts format l starts es) (sym behind_head.1)
       (all_longer format (drop 4 (body_in frame)) behind_head.0 starts es are))
 

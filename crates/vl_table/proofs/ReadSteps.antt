@@ -1,5 +1,5 @@
 -- What was read of a block.
-use Rattle.std.specs.Prelude.{◌≡◌, ℕ, List, ◌++◌, drop, length, take}
+use Rattle.std.specs.Prelude.{◌≡◌, ℕ, Bool, true, List, ◌++◌, drop, length, take}
 use Rattle.std.proofs.Common.{ap, sym, subst, ◌∙◌}
 use Rattle.std.proofs.lemmas.List.{take_at}
 use Rattle.vl_frame.specs.Frame.{frame_bytes}
@@ -7,8 +7,9 @@ use Rattle.vl_frame.specs.declared.kinds.FileKind.TheVariants as files
 use Rattle.vl_frame.specs.declared.kinds.FrameKind.TheVariants as kinds
 use Rattle.vl_frame.specs.laws.Laws.{length-frame_bytes, one_frame}
 use Rattle.vl_model.specs.declared.entry.Entry.{Entry}
-use Rattle.vl_block.specs.Blocks.{SpellsBlock}
+use Rattle.vl_block.specs.Blocks.{IsSomeBlock, SpellsBlock, SpellsWalked}
 use Rattle.vl_block.specs.Starts.{AreStarts}
+use Rattle.vl_block.specs.laws.WalkedLaws.{walked_block}
 use Rattle.vl_table.specs.Begun.{FrameAt}
 use Rattle.vl_table.specs.Kept.{HasFrame, StandsBlock}
 use Rattle.vl_table.specs.declared.slot.BlockId.{BlockId}
@@ -32,6 +33,12 @@ module _ (id : BlockId) (bytes written old body : List ℕ) (size : ℕ) (sized 
     framed = front_is;
     are = subst (λ (b : List ℕ). AreStarts id.format (drop 4 b) starts es) same are;
   }
+
+  -- what was walked over is a block, where one that is known was tested before
+  pub says_block : (known : Bool) (said : List ℕ) (es : List Entry) → said ≡ body → SpellsWalked known id.format said es
+      → (known ≡ true → IsSomeBlock id.format body) → SpellsBlock id.format said es
+  says_block known said es same walked before =
+      walked_block known id.format said es walked (λ is. subst (IsSomeBlock id.format) (sym same) (before is))
 
   -- what isn't a block isn't one that stands there
   pub not_block : (said : List ℕ) → said ≡ body → ((es : List Entry) → SpellsBlock id.format said es → ⊥)

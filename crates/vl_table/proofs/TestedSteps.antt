@@ -8,7 +8,9 @@ use Rattle.vl_frame.specs.Frame.{frame_bytes, frame_length}
 use Rattle.vl_frame.specs.laws.Laws.{length-frame_bytes}
 use Rattle.vl_frame.specs.declared.kinds.FrameKind.TheVariants as kinds
 use Rattle.vl_table.specs.Begun.{FrameAt}
-use Rattle.vl_table.specs.Tested.{IsFrameOf, IsTested, body_in}
+use Rattle.vl_block.specs.Blocks.{IsSomeBlock, SpellsBlock}
+use Rattle.vl_model.specs.declared.entry.Entry.{Entry}
+use Rattle.vl_table.specs.Tested.{IsBlockFrame, IsFrameOf, IsTested, body_in}
 use Rattle.vl_table.specs.declared.slot.BlockId.{BlockId}
 use Rattle.vl_table.proofs.Parts.{body_behind, cut_out, stands}
 
@@ -24,17 +26,27 @@ module _ (id : BlockId) (bytes : List ℕ) where
       (record { in_file = refl; short = is.1; rest = []; spelled = is.0 ∙ sym (append-nil (frame_bytes id.number id.place kinds.Block body)) })
       sized (is.2 ∙ sym sized)
 
-  pub stands_frame : (body : List ℕ) → FrameAt id.number bytes id.place id.length kinds.Block body
-      → IsFrameOf id (bytes_at id.place id.length bytes)
+  stands_frame : (body : List ℕ) → FrameAt id.number bytes id.place id.length kinds.Block body
+      → IsFrameOf id (bytes_at id.place id.length bytes) × (body_in (bytes_at id.place id.length bytes) ≡ body)
   stands_frame body at =
       let frame = bytes_at id.place id.length bytes in
       let is : frame ≡ frame_bytes id.number id.place kinds.Block body =
       cut_out id.number id.place id.length kinds.Block bytes body at in
       let same : body_in frame ≡ body = body_behind id.number id.place kinds.Block body frame is in (
-        is ∙ ap (frame_bytes id.number id.place kinds.Block) (sym same),
-        subst (λ (b : List ℕ). length b < 2 ^ 32) (sym same) at.frame.short,
-        at.sized ∙ ap (λ (b : List ℕ). frame_length (length b)) (sym same),
+        (
+          is ∙ ap (frame_bytes id.number id.place kinds.Block) (sym same),
+          subst (λ (b : List ℕ). length b < 2 ^ 32) (sym same) at.frame.short,
+          at.sized ∙ ap (λ (b : List ℕ). frame_length (length b)) (sym same),
+        ),
+        same,
       )
+
+  -- a block that stands was tested
+  pub stands_block : (body : List ℕ) (es : List Entry) → FrameAt id.number bytes id.place id.length kinds.Block body
+      → SpellsBlock id.format body es → IsBlockFrame id (bytes_at id.place id.length bytes)
+  stands_block body es at says =
+      let is = stands_frame body at in
+      (is.0, λ none. none es (subst (λ (b : List ℕ). SpellsBlock id.format b es) (sym is.1) says))
 
 -- two files with the same bytes there have the same block there
 pub tested_alike : {H : Type 0} (bytes_of : H → Option (List ℕ)) (held other : H) (id : BlockId)
@@ -43,13 +55,13 @@ pub tested_alike : {H : Type 0} (bytes_of : H → Option (List ℕ)) (held other
 tested_alike bytes_of held other id alike agree tested = λ bytes told. by (bytes_of other) refl bytes told
   where
     by : (o : Option (List ℕ)) → bytes_of other ≡ o → (bytes : List ℕ) → bytes_of held ≡ Some bytes
-        → IsFrameOf id (bytes_at id.place id.length bytes)
+        → IsBlockFrame id (bytes_at id.place id.length bytes)
     by None is bytes told = absurd (none (sym told ∙ alike is))
       where
         none : Some bytes ≡ None → ⊥
         none e = cc
     by (Some more) is bytes told =
-        subst (IsFrameOf id) (sym (agree bytes told more is)) (tested more is)
+        subst (IsBlockFrame id) (sym (agree bytes told more is)) (tested more is)
 
 -- blocks that a test finds equal are one
 pub equal_ids : (a b : BlockId)

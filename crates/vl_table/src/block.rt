@@ -1,14 +1,16 @@
 //! How a block is read and tested.
 
-ghost use Rattle.std.specs.Prelude.{◌≡◌, ◌+◌, ◌≤◌, ℕ, IfOk, IsTrue, List, Some, drop, length, take};
+ghost use Rattle.std.specs.Prelude.{◌≡◌, ◌+◌, ◌≤◌, ℕ, true, false, IfOk, IsTrue, List, Some, drop, length, take};
 ghost use Rattle.std.specs.List.{AllByRecursion};
 ghost use Rattle.vl_model.specs.declared.entry.Entry.{Entry};
+ghost use Rattle.vl_block.specs.Blocks.{IsSomeBlock};
 ghost use Rattle.vl_frame.specs.Frame.{frame_bytes};
 ghost use Rattle.vl_frame.specs.declared.kinds.FrameKind.TheVariants as kinds;
 ghost use Rattle.vl_table.specs.Answers.{Answers, NeedsNoMemory};
 ghost use Rattle.vl_table.specs.Begun.{FrameAt};
 ghost use Rattle.vl_table.specs.OpenBlocks.{Begins};
 ghost use Rattle.vl_table.specs.Kept.{HasFrame, IsMissing, StandsBlock};
+ghost use Rattle.vl_table.specs.Tested.{IsTested};
 
 use crate::fault::{TableFault, damaged};
 use crate::part::{body_of, read_into};
@@ -20,7 +22,7 @@ use vl_disk::{HeldFile, Reader};
 use vl_frame::FrameKind;
 
 /// Reads the frame of the block with an index to the front of one slice, and puts to the front of another where its entries
-/// begin. It says how many there are. A block that was tested isn't tested again.
+/// begin. It says how many there are. Of a block that was tested neither the check nor the order is tested again.
 pub fn read_block<H: HeldFile, R: Reader<Held = H>>(
     reader: &mut R,
     held: &H,
@@ -45,14 +47,26 @@ pub fn read_block<H: HeldFile, R: Reader<Held = H>>(
         return Err(damaged(id.number, id.place));
     }
     let size = id.length as usize;
-    read_tested(reader, held, tested, at, id, &mut frame[..size])?;
-    match find_starts(id.format, body_of(&frame[..size]), starts) {
+    let known = read_tested(reader, held, tested, at, id, &mut frame[..size])?;
+    match find_starts(id.format, body_of(&frame[..size]), known, starts) {
         None => Err(damaged(id.number, id.place)),
-        Some(count) => Ok(count),
+        Some(count) => {
+            note_new(tested, known, held, at, id);
+            Ok(count)
+        }
     }
 }
 
-// Fills a slice with the frame of the block with an index, and tests it where that wasn't done yet.
+// Notes that the block with an index was tested, where it wasn't known before.
+fn note_new<H: HeldFile>(tested: &Tested<H>, known: bool, held: &H, at: usize, id: BlockId)
+    requires { known ≡ false → IsTested H.bytes held.now id }
+{
+    if !known {
+        tested.note(held, at, id);
+    }
+}
+
+// Fills a slice with the frame of the block with an index, and says whether it was tested before. Else it tests the check.
 fn read_tested<H: HeldFile, R: Reader<Held = H>>(
     reader: &mut R,
     held: &H,
@@ -60,24 +74,24 @@ fn read_tested<H: HeldFile, R: Reader<Held = H>>(
     at: usize,
     id: BlockId,
     frame: &mut [u8],
-) -> Result<(), TableFault>
+) -> Result<bool, TableFault>
     requires inside { id.place + length frame.old ≤ H.size held.now }
     requires sized { length frame.old ≡ id.length }
     ensures answers { Answers (R.faults reader.old) (R.faults reader.new) id.number (H.bytes held.now)
-        (λ bytes done. (body : List ℕ) × FrameAt id.number bytes id.place (length frame.old) kinds.Block body
-        × (frame.new ≡ frame_bytes id.number id.place kinds.Block body))
+        (λ bytes known. (body : List ℕ) × FrameAt id.number bytes id.place (length frame.old) kinds.Block body
+        × (frame.new ≡ frame_bytes id.number id.place kinds.Block body) × (known ≡ true → IsSomeBlock id.format body))
         (λ bytes damage. ((body : List ℕ) → FrameAt id.number bytes id.place (length frame.old) kinds.Block body → ⊥)
         × (damage ≡ id.place))
         result }
     ensures no_memory { NeedsNoMemory result }
 {
     if tested.has(held, at, id) {
-        return fill(reader, held, id.number, id.place, frame);
+        fill(reader, held, id.number, id.place, frame)?;
+        return Ok(true);
     }
     let kind = FrameKind::Block;
     read_into(reader, held, id.number, id.place, kind, frame)?;
-    tested.note(held, at, id);
-    Ok(())
+    Ok(false)
 }
 
 // Whether a block's frame has a length that is read, and lies inside the file.

@@ -162,7 +162,7 @@ module _ {Item : Type 0} (S : Spelling Item) where
 
   -- ---- a counted list
 
-  same_items : (items others : List Item) → AllByRecursion S.lawful items → AllByRecursion S.lawful others → length items ≡ length others
+  pub same_items : (items others : List Item) → AllByRecursion S.lawful items → AllByRecursion S.lawful others → length items ≡ length others
       → items_bytes S items ≡ items_bytes S others → items ≡ others
   same_items [] [] i j n e = refl
   same_items [] (b ∷ others) i j n e = absurd (omega arith)
