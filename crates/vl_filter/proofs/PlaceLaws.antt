@@ -6,8 +6,8 @@ use Rattle.std.specs.List.{list_any}
 use Rattle.std.proofs.lemmas.List.Folds.{list_any-append}
 use Rattle.std.proofs.Math.Seq.{take-suc}
 use Rattle.vl_filter.specs.Bits.{is_set}
-use Rattle.vl_filter.specs.Filters.{are_set, is_marked, may_hold}
-use Rattle.vl_filter.specs.Places.{has_place, has_place_below, hashes_of, place}
+use Rattle.vl_filter.specs.Filters.{are_set, is_marked}
+use Rattle.vl_filter.specs.Places.{has_place, has_place_below, place}
 use Rattle.vl_filter.specs.declared.hashes.Hashes.{Hashes}
 
 or_assoc : (a b c : Bool) → (a || (b || c)) ≡ ((a || b) || c)
@@ -91,15 +91,14 @@ pub more_set : (bytes : List ℕ) (hashes : Hashes) (n : ℕ) → is_set bytes (
 more_set bytes hashes n set before =
     ap (are_set bytes hashes) (add-one n) ∙ and_true (is_set bytes (place (8 * length bytes) hashes n)) (are_set bytes hashes n) set before
 
--- ---- a key's seven bits
+-- ---- all seven bits
 
-module _ (key : List ℕ) (hashes : Hashes) (n : ℕ) (are : hashes ≡ hashes_of key) where
-  pub all_set : (bytes : List ℕ) → n ≡ 7 → are_set bytes hashes n ≡ true → true ≡ may_hold bytes key
-  all_set bytes whole is = sym is ∙ ap (are_set bytes hashes) whole ∙ ap (λ k. are_set bytes k 7) are
+module _ (hashes : Hashes) (n : ℕ) where
+  pub all_set : (bytes : List ℕ) → n ≡ 7 → are_set bytes hashes n ≡ true → true ≡ are_set bytes hashes 7
+  all_set bytes whole is = sym is ∙ ap (are_set bytes hashes) whole
 
   pub one_unset : (bytes : List ℕ) (bits q : ℕ) (b : Bool) → n < 7 → bits ≡ 8 * length bytes → q ≡ place bits hashes n
       → b ≡ is_set bytes q → b ≡ false
-      → false ≡ may_hold bytes key
+      → false ≡ are_set bytes hashes 7
   one_unset bytes bits q b within bits_is q_is b_is unset =
       sym (not_all bytes hashes n 7 within (ap (is_set bytes) (sym (q_is ∙ ap (λ k. place k hashes n) bits_is)) ∙ sym b_is ∙ unset))
-      ∙ ap (λ k. are_set bytes k 7) are

@@ -1,8 +1,9 @@
 ghost use Rattle.std.specs.Prelude.{◌≡◌, ◌≤◌, ◌<◌, ◌*◌, ◌^◌, List, ℕ, length, IfNone, IfSome};
-ghost use Rattle.vl_filter.specs.Filters.{SpellsFilter, may_hold, passes};
+ghost use Rattle.vl_filter.specs.Filters.{SpellsFilter, are_set, may_hold, passes};
 
 use crate::bits::is_set;
 use crate::hashes::Hashes;
+use crate::last_key::LastKey;
 use byteorder::{BigEndian, ByteOrder};
 
 /// A filter where it lies in the body of a frame.
@@ -30,14 +31,15 @@ pub fn read(body: &[u8]) -> Option<Filter<'_>>
     }
 }
 
-/// Whether bits let a key pass. No bits, or too many for a filter, let every key pass.
-pub fn passes(bits: &[u8], key: &[u8]) -> bool
+/// Whether bits let a key pass. No bits, or too many for a filter, let every key pass, and it isn't hashed then. The last key
+/// is the one that was asked before, of whatever bits.
+pub fn passes(bits: &[u8], key: &[u8], last: &mut LastKey) -> bool
     ensures { result ≡ passes bits.now key.now }
 {
     if bits.len() < 8 || bits.len() >= 1 << 29 {
         return true;
     }
-    Filter { bytes: bits }.may_hold(key)
+    Filter { bytes: bits }.has_bits_of(last.hashes(key))
 }
 
 impl Filter<'_> {
@@ -52,7 +54,13 @@ impl Filter<'_> {
     pub fn may_hold(&self, key: &[u8]) -> bool
         ensures { result ≡ may_hold self.now.bytes.now key.now }
     {
-        let hashes = Hashes::of(key);
+        self.has_bits_of(Hashes::of(key))
+    }
+
+    // Whether the seven bits of a key with these hashes are all 1.
+    fn has_bits_of(&self, hashes: Hashes) -> bool
+        ensures { result ≡ are_set self.now.bytes.now hashes 7 }
+    {
         let bits = self.bytes.len() as u64 * 8;
         for index in 0..7 {
             if !is_set(self.bytes, hashes.place(bits, index)) {

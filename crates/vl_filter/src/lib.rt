@@ -2,18 +2,20 @@
 //!
 //! A filter of n keys has ten bits for each, and seven of them are 1 for the key. Of a key that it was built of it always
 //! says that it may be there; of other keys it says so of about one in a hundred. `build` and `may_hold` compute a digest
-//! for each key, and look at seven bits.
+//! for each key, and look at seven bits. `passes` asks many filters for one key, and computes its digest once (`LastKey`).
 #![tactic(auto)]
 
 mod bits;
 mod building;
 mod filter;
 mod hashes;
+mod last_key;
 mod laws;
 
 pub use building::build;
 pub use filter::{Filter, passes, read};
 pub use hashes::Hashes;
+pub use last_key::LastKey;
 pub use laws::{
     a_worked_filter, built_filters_hold_their_keys, filters_are_read_in_one_way,
     filters_have_the_bits_of_their_keys, filters_of_zeros_hold_no_key,
