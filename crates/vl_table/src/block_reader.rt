@@ -19,12 +19,15 @@ use crate::tested::Tested;
 use std::alloc::{AllocError, Global};
 use std::mem;
 use vl_disk::{HeldFile, Reader};
+use vl_filter::LastKey;
 
 /// How many blocks a transaction, a view or a job keeps.
 pub const KEPT_BLOCKS: usize = 8;
 
 /// A reader of files, and room for blocks that were read with it. Each block that is kept was tested once. Where there is no
 /// room for another one, the one that wasn't used for longest goes.
+///
+/// It knows the hashes of the key that was asked last, so that one look-up over many tables hashes its key once.
 ///
 /// It wants no memory but what it takes when it is made.
 #[derive(Drop)]
@@ -34,6 +37,8 @@ pub struct BlockReader<R> {
     // The block that was used last, and the others, those used later first.
     front: Slot,
     others: Vec<Slot>,
+    // The key that was asked last, of whatever table.
+    pub(crate) last_key: LastKey,
 }
 
 impl<R: Drop> BlockReader<R> {
@@ -54,6 +59,7 @@ impl<R: Drop> BlockReader<R> {
             reader,
             front,
             others,
+            last_key: LastKey::none(),
         })
     }
 }

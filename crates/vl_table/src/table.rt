@@ -31,7 +31,7 @@ use std::alloc::{AllocError, Global};
 use std::sync::Arc;
 use vl_block::{BlockPlace, Found, TableShape};
 use vl_disk::{HeldFile, Reader};
-use vl_filter::passes;
+use vl_filter::{LastKey, passes};
 use vl_model::Span;
 
 /// A table in a held file.
@@ -116,14 +116,15 @@ impl<H: HeldFile> Table<H> {
         &self.tested
     }
 
-    /// Whether it may have a key: false where the key is below the first or above the last, or the filter says no.
-    pub fn may_hold(&self, key: &[u8]) -> bool
+    /// Whether it may have a key: false where the key is below the first or above the last, or the filter says no. The key is
+    /// hashed for the filter alone, and where it isn't the last one.
+    pub(crate) fn may_hold(&self, key: &[u8], last: &mut LastKey) -> bool
         ensures { result ≡ may_hold key.now (shape_of self.now) }
     {
         let shape = self.shape();
         !key.cmp(&shape.footer.first.as_slice()).is_lt()
             && !key.cmp(&shape.footer.last.as_slice()).is_gt()
-            && passes(&shape.filter, key)
+            && passes(&shape.filter, key, last)
     }
 
     /// Whether it may have keys of an interval: false where its last key is below that, or its first one above.
@@ -161,7 +162,7 @@ impl<H: HeldFile> Table<H> {
         ensures cause { HasCause (R.faults reader.old.reader) (R.faults reader.new.reader) (Failed result) }
         ensures no_memory { NeedsNoMemory result }
     {
-        if !self.may_hold(key) {
+        if !self.may_hold(key, &mut reader.last_key) {
             return Ok(None);
         }
         self.seek(reader, key, number)
@@ -187,7 +188,7 @@ impl<H: HeldFile> Table<H> {
         ensures cause { HasCause (R.faults reader.old.reader) (R.faults reader.new.reader) (Failed result) }
         ensures no_memory { NeedsNoMemory result }
     {
-        if !self.may_hold(key) {
+        if !self.may_hold(key, &mut reader.last_key) {
             return Ok(None);
         }
         let found = self.seek(reader, key, version)?;

@@ -15,7 +15,7 @@ returns-then-bring-clause-kept g c = λ files kept file.
     let slots = subst (λ (l : List Slot). brought c.args.id c.args.self.now.front
     l ≡ (c.bring.new.front, c.bring.new.others)) c.deref_mut.ensures.value c.bring.ensures.slots in
     let new : BlockReader g.row.R.Denot = record
-    { reader = old.reader; front = c.bring.new.front; others = with_items old.others c.bring.new.others } in
+    { reader = old.reader; front = c.bring.new.front; others = with_items old.others c.bring.new.others; last_key = tt } in
     still-kept files c.args.id old new c.bring.new.front c.bring.new.others kept slots
     (front-kept files c.args.id old new c.bring.new.front c.bring.new.others kept slots)
     (with_items_is old.others c.bring.new.others (omega (arith, c.bring.auto.others, c.deref_mut.ensures.len)))
@@ -35,7 +35,7 @@ returns-clause-kept g c = λ files kept file.
     let slots = subst (λ (l : List Slot). brought c.args.id c.args.self.now.front
     l ≡ (c.bring.new.front, c.bring.new.others)) c.deref_mut.ensures.value c.bring.ensures.slots in
     let new : BlockReader g.row.R.Denot = record
-    { reader = c.load.new.reader; front = c.load.new.self; others = with_items old.others c.bring.new.others } in
+    { reader = c.load.new.reader; front = c.load.new.self; others = with_items old.others c.bring.new.others; last_key = tt } in
     still-kept files c.args.id old new c.bring.new.front c.bring.new.others kept slots
     (loaded-kept files _ _ _ c.args.id c.load.new.self c.load.result c.load.ensures.has c.load.ensures.empty file c.load.ensures.answers)
     (with_items_is old.others c.bring.new.others (omega (arith, c.bring.auto.others, c.deref_mut.ensures.len)))
