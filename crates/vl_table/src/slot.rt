@@ -1,6 +1,6 @@
 //! Room for one block.
 
-ghost use Rattle.std.specs.Prelude.{◌≡◌, ◌≤◌, vec_len};
+ghost use Rattle.std.specs.Prelude.{◌≡◌, ◌≤◌, vec_capacity, vec_len};
 
 use crate::block::read_block;
 use crate::entries::Entries;
@@ -44,14 +44,15 @@ impl BlockId {
 #[derive(Drop)]
 pub struct Slot {
     block: Option<BlockId>,
-    // The block's frame stands at the front of this.
+    // The block's frame stands at the front of this. Until a block is read this and the next are empty.
     frame: Vec<u8>,
     // Where its entries begin, in the bytes behind their count, at the front of this.
     starts: Vec<u16>,
     count: usize,
-    ghost frame_room: { vec_len frame ≡ 4190 },
-    ghost starts_room: { vec_len starts ≡ 347 },
+    ghost frame_room: { 4190 ≤ vec_capacity frame },
+    ghost starts_room: { 347 ≤ vec_capacity starts },
     ghost count_room: { count ≤ 347 },
+    ghost count_within: { count ≤ vec_len starts },
 }
 
 impl Slot {
@@ -62,14 +63,14 @@ impl Slot {
     ghost use Rattle.vl_table.specs.Scans.{Lists};
     ghost use Rattle.vl_table.specs.declared.slot.BlockId.{BlockId};
 
-    /// Room without a block. All its memory is taken here.
+    /// Room without a block. All its memory is taken here, and none of it is written before a block is read.
     pub fn new(alloc: Global) -> Result<Self, AllocError>
         ensures { IfOk result (λ slot. slot.block ≡ None) }
     {
         Ok(Slot {
             block: None,
-            frame: vec![in alloc; 0; MAX_FRAME_BYTES]?,
-            starts: vec![in alloc; 0; MAX_BLOCK_ENTRIES]?,
+            frame: Vec::with_capacity(alloc, MAX_FRAME_BYTES)?,
+            starts: Vec::with_capacity(alloc, MAX_BLOCK_ENTRIES)?,
             count: 0,
         })
     }
@@ -101,6 +102,8 @@ impl Slot {
         ensures no_memory { NeedsNoMemory result }
     {
         self.block = None;
+        fill_up(&mut self.frame, MAX_FRAME_BYTES, 0);
+        fill_up(&mut self.starts, MAX_BLOCK_ENTRIES, 0);
         let (frame, starts) = (&mut self.frame, &mut self.starts);
         let count = read_block(reader, held, tested, at, id, frame, starts)?;
         self.count = count;
@@ -133,5 +136,17 @@ impl Slot {
                 starts: &self.starts[..self.count],
             },
         }
+    }
+}
+
+// Gives a list so many elements, where it hasn't as many yet. It has room for them: this wants no memory.
+fn fill_up<T: Copy>(elements: &mut Vec<T>, size: usize, value: T)
+    requires { size ≤ vec_capacity elements.old }
+    ensures len { vec_len elements.new ≡ size }
+    ensures capacity { vec_capacity elements.old ≤ vec_capacity elements.new }
+{
+    match elements.resize(size, value) {
+        Ok(()) => (),
+        Err(_) => unreachable!(),
     }
 }
