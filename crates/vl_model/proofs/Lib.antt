@@ -1,3 +1,4 @@
+mod KeyOrders
 mod PlacementLaws
 mod ReadLaws
 mod Rows

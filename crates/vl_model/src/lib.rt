@@ -8,6 +8,7 @@ mod counter;
 mod cursor;
 mod entry;
 mod formats;
+mod keys;
 mod laws;
 mod lengths;
 mod limits;
@@ -25,6 +26,7 @@ pub use counter::Counter;
 pub use cursor::Cursor;
 pub use entry::{Body, Entry};
 pub use formats::{LOG_FORMAT, MANIFEST_FORMAT, TABLE_FORMAT};
+pub use keys::key_order;
 pub use laws::{
     a_base_that_stands_at_a_number, constants_are_the_limits, contents_agree_with_values,
     overwritten_keys_are_read_and_named_later, placed_entries_may_stand_in_tables,

@@ -2,7 +2,7 @@ ghost use Rattle.std.specs.Prelude.{◌≡◌};
 ghost use Rattle.vl_model.specs.Entries.{entry_cmp};
 ghost use Rattle.vl_model.specs.Order.{place_cmp};
 
-use crate::Entry;
+use crate::{Entry, key_order};
 use std::cmp::Ordering;
 
 /// Where an entry stands among entries in order.
@@ -16,7 +16,7 @@ pub struct Place<'a> {
 pub fn place_order(a: &Place<'_>, b: &Place<'_>) -> Ordering
     ensures { result ≡ place_cmp a.now b.now }
 {
-    a.key.cmp(&b.key).then(b.version.cmp(&a.version))
+    key_order(a.key, b.key).then(b.version.cmp(&a.version))
 }
 
 /// How two entries stand to each other.

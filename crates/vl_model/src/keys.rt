@@ -1,0 +1,45 @@
+ghost use Rattle.byteorder.specs.Endian.{big_number};
+ghost use Rattle.std.specs.Prelude.{◌+◌, ◌≡◌, ◌≤◌, drop, length, min, take};
+ghost use Rattle.vl_model.specs.Keys.{key_cmp};
+
+use byteorder::{BigEndian, ByteOrder};
+use std::cmp::Ordering;
+
+/// How two keys stand to each other: by their first byte that differs, and else the shorter one comes first.
+pub fn key_order(a: &[u8], b: &[u8]) -> Ordering
+    ensures { result ≡ key_cmp a.now b.now }
+{
+    let both = a.len().min(b.len());
+    if both < 8 {
+        return a.cmp(&b);
+    }
+    long_order(a, b, both - 8)
+}
+
+// Compares by eight bytes at a time; the last eight that both have may begin before `last`.
+fn long_order(a: &[u8], b: &[u8], last: usize) -> Ordering
+    requires { last + 8 ≡ min (length a.now) (length b.now) }
+    ensures { result ≡ key_cmp a.now b.now }
+{
+    let mut at = 0;
+    while at < last {
+        let (x, y) = (word_at(a, at), word_at(b, at));
+        if x != y {
+            return x.cmp(&y);
+        }
+        at += 8;
+    }
+    let (x, y) = (word_at(a, last), word_at(b, last));
+    if x != y {
+        return x.cmp(&y);
+    }
+    a.len().cmp(&b.len())
+}
+
+// Eight bytes as a number, the first of them the highest.
+fn word_at(bytes: &[u8], at: usize) -> u64
+    requires { at + 8 ≤ length bytes.now }
+    ensures { result ≡ big_number 8 (drop at bytes.now) }
+{
+    BigEndian::read_u64(&bytes[at..])
+}
