@@ -29,7 +29,7 @@ use std::sync::Arc;
 use vl_block::TableShape;
 use vl_disk::Writer;
 use vl_merge::Sources;
-use vl_model::{Cursor, Entry, Key};
+use vl_model::{Cursor, Entry, Key, key_order};
 use vl_table::TableFault;
 use vl_table_writer::{AddFail, TableWriter, Tail};
 
@@ -183,7 +183,7 @@ fn closes(table: &TableWriter, last: &Key, entry: &Entry) -> bool
 fn is_of(key: &Key, entry: &Entry) -> bool
     ensures { result ≡ eq_by_cmp key_cmp key.now entry.now.key }
 {
-    key.as_slice().cmp(&entry.key.as_slice()).is_eq()
+    key_order(key.as_slice(), entry.key.as_slice()).is_eq()
 }
 
 // Whether the frames of the blocks have reached the measure of a full table.
@@ -260,7 +260,7 @@ fn up_to(found: Vec<(Key, u64)>, last: &Key) -> Vec<(Key, u64)>
 fn is_up_to(last: &Key, deletion: &(Key, u64)) -> bool
     ensures { result ≡ not (is_past (Some last.now) deletion.now.0) }
 {
-    !last.as_slice().cmp(&deletion.0.as_slice()).is_lt()
+    !key_order(last.as_slice(), deletion.0.as_slice()).is_lt()
 }
 
 // What refuses an entry is want of memory: the entries of true tables may all stand in one, in their order.

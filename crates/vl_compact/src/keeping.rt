@@ -15,7 +15,7 @@ use crate::last::Last;
 use crate::rules::{Fate, Rules};
 use std::alloc::AllocError;
 use vl_merge::Sources;
-use vl_model::{Cursor, Entry, Key};
+use vl_model::{Cursor, Entry, Key, key_order};
 use vl_table::TableFault;
 
 /// Entries of a merge's inputs, merged, and where it is among them. After a fault it is to be given up.
@@ -106,7 +106,8 @@ fn comes_again(last: &Option<Last>, entry: &Entry) -> bool
     match last {
         None => false,
         Some(last) => {
-            last.key.as_slice().cmp(&entry.key.as_slice()).is_eq() && entry.version == last.version
+            key_order(last.key.as_slice(), entry.key.as_slice()).is_eq()
+                && entry.version == last.version
         }
     }
 }
@@ -124,7 +125,7 @@ fn seen_before(last: &Option<Last>, entry: &Entry) -> u64
 fn seen_of(last: &Last, entry: &Entry) -> u64
     ensures { result ≡ (if eq_by_cmp key_cmp last.now.key entry.now.key then last.now.seen else 0) }
 {
-    if last.key.as_slice().cmp(&entry.key.as_slice()).is_eq() {
+    if key_order(last.key.as_slice(), entry.key.as_slice()).is_eq() {
         last.seen
     } else {
         0

@@ -11,7 +11,7 @@ ghost use Rattle.vl_table.specs.Tables.{number_of};
 use crate::files::Synced;
 use std::alloc::{AllocError, Global};
 use vl_disk::{HeldFile, Writer};
-use vl_model::Key;
+use vl_model::{Key, key_order};
 use vl_table::Table;
 
 /// The first of these keys, which come with their versions, that was moved, with the number of its last move, of moves of
@@ -53,7 +53,7 @@ fn last_move(moved: &[(Key, u64)], key: &Key) -> Option<u64>
 fn is_same(key: &Key, other: &Key) -> bool
     ensures { result ≡ eq_by_cmp key_cmp key.now other.now }
 {
-    key.as_slice().cmp(&other.as_slice()).is_eq()
+    key_order(key.as_slice(), other.as_slice()).is_eq()
 }
 
 /// How many entries these tables have, 2^64 - 1 where there are more.

@@ -10,6 +10,7 @@ ghost use Rattle.vl_layout.specs.declared.table.Table as laid;
 ghost use Rattle.vl_model.specs.Keys.{key_cmp};
 
 use vl_disk::HeldFile;
+use vl_model::key_order;
 use vl_table::Table;
 
 /// From the least to the greatest key of some tables.
@@ -56,13 +57,13 @@ pub fn widened<'a, H: HeldFile>(table: &'a Table<H>, range: Option<KeyRange<'a>>
 fn lesser_key<'a>(a: &'a [u8], b: &'a [u8]) -> &'a [u8]
     ensures { result.now ≡ layout.lesser_key a.now b.now }
 {
-    if b.cmp(&a).is_lt() { b } else { a }
+    if key_order(b, a).is_lt() { b } else { a }
 }
 
 fn greater_key<'a>(a: &'a [u8], b: &'a [u8]) -> &'a [u8]
     ensures { result.now ≡ layout.greater_key a.now b.now }
 {
-    if a.cmp(&b).is_lt() { b } else { a }
+    if key_order(a, b).is_lt() { b } else { a }
 }
 
 // Whether there is a range, and a table's range and this one have a key in common.
@@ -86,5 +87,5 @@ fn overlaps(range: KeyRange<'_>, first: &[u8], last: &[u8]) -> bool
     ensures { result ≡ (not (is_lt (key_cmp last.now range.entry.least.now))
         && not (is_lt (key_cmp range.entry.greatest.now first.now))) }
 {
-    !last.cmp(&range.least).is_lt() && !range.greatest.cmp(&first).is_lt()
+    !key_order(last, range.least).is_lt() && !key_order(range.greatest, first).is_lt()
 }

@@ -18,6 +18,7 @@ use crate::ready::ReadyLevels;
 use std::alloc::{AllocError, Global};
 use vl_disk::HeldFile;
 use vl_layout::Target;
+use vl_model::key_order;
 use vl_table::Table;
 use vl_version::{Level, Levels};
 
@@ -203,7 +204,7 @@ fn ends_before<H: HeldFile>(table: &Table<H>, key: &[u8]) -> bool
     ensures { (t : laid.Table) → IsTableOf H.bytes table.now t → result ≡ places.ends_before (Some key.now) t }
 {
     let last = table.shape().footer.last.as_slice();
-    last.cmp(&key).is_lt()
+    key_order(last, key).is_lt()
 }
 
 // The level and the position of the first table that is an input. Where there is none, the front.

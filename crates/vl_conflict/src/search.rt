@@ -10,7 +10,7 @@ ghost use Rattle.vl_conflict.specs.Recent.{is_late_at_any, is_late_within_any, l
 use crate::last_commit_map::LastCommitMap;
 use std::boxed::BoxedSlice;
 use std::collections::BTreeSet;
-use vl_model::{Key, Span};
+use vl_model::{Key, Span, key_order};
 
 /// The first of one of the keys with a number above this one.
 pub fn first_of_keys<'a>(
@@ -73,7 +73,7 @@ pub fn lesser<'a>(a: Option<(&'a Key, u64)>, b: Option<(&'a Key, u64)>) -> Optio
         (None, _) => b,
         (Some(_), None) => a,
         (Some((x, _)), Some((y, _))) => {
-            if x.as_slice().cmp(&y.as_slice()).is_gt() {
+            if key_order(x.as_slice(), y.as_slice()).is_gt() {
                 b
             } else {
                 a

@@ -10,7 +10,7 @@ ghost use Rattle.vl_conflict.specs.Trees.{AreNearlyLevel, AreLow, IsGrown, node_
 
 use std::cmp::Ordering;
 use std::mem;
-use vl_model::Key;
+use vl_model::{Key, key_order};
 
 // Keys, each with its number, as a search tree.
 #[cycle(tree)]
@@ -264,7 +264,7 @@ fn put_below(mut top: Box<Node>, node: Box<Node>) -> Box<Node>
 fn order(a: &Node, b: &Node) -> Ordering
     ensures { result ≡ key_cmp a.now.key b.now.key }
 {
-    a.key.as_slice().cmp(&b.key.as_slice())
+    key_order(a.key.as_slice(), b.key.as_slice())
 }
 
 // ---- searches
@@ -327,7 +327,7 @@ fn is_from(lo: Option<&[u8]>, key: &[u8]) -> bool
     ensures { result ≡ is_from (option_copied lo.entry) key.now }
 {
     match lo {
-        Some(low) => !key.cmp(&low).is_lt(),
+        Some(low) => !key_order(key, low).is_lt(),
         None => true,
     }
 }
@@ -336,8 +336,8 @@ fn is_up_to(hi: Option<&[u8]>, closed: bool, key: &[u8]) -> bool
     ensures { result ≡ is_up_to (option_copied hi.entry) closed key.now }
 {
     match hi {
-        Some(high) if closed => !high.cmp(&key).is_lt(),
-        Some(high) => key.cmp(&high).is_lt(),
+        Some(high) if closed => !key_order(high, key).is_lt(),
+        Some(high) => key_order(key, high).is_lt(),
         None => true,
     }
 }

@@ -5,7 +5,7 @@ ghost use Rattle.vl_model.specs.Keys.{key_cmp};
 ghost use Rattle.vl_model.specs.Winners.{newest_of};
 ghost use Rattle.vl_merge.specs.Held.{held_with, held_after, only_shown, passed_by, passed};
 
-use vl_model::{Body, Entry, newest_of};
+use vl_model::{Body, Entry, key_order, newest_of};
 
 // Takes one entry more, which counts where its version is at most the number. Where it is of another
 // key, that of the entry held is done, and its winner is given.
@@ -53,5 +53,5 @@ fn is_gone(body: &Body) -> bool
 fn is_of_one_key(a: &Entry, b: &Entry) -> bool
     ensures { result ≡ eq_by_cmp key_cmp a.now.key b.now.key }
 {
-    a.key.as_slice().cmp(&b.key.as_slice()).is_eq()
+    key_order(a.key.as_slice(), b.key.as_slice()).is_eq()
 }

@@ -22,7 +22,7 @@ use crate::place::{Sought, first_alike};
 use std::alloc::{AllocError, Global};
 use std::marker::Model;
 use std::sync::Arc;
-use vl_model::{Entry, Span, Way};
+use vl_model::{Entry, Span, Way, key_order};
 
 /// Entries that don't change, in order, with no key and version twice. Several may share them.
 #[derive(Drop)]
@@ -188,7 +188,7 @@ fn is_from(span: &Span, key: &[u8]) -> bool
     ensures { result ≡ is_from span.now.lo key.now }
 {
     match &span.lo {
-        Some(low) => !key.cmp(&low.as_slice()).is_lt(),
+        Some(low) => !key_order(key, low.as_slice()).is_lt(),
         None => true,
     }
 }
@@ -197,8 +197,8 @@ fn is_up_to(span: &Span, key: &[u8]) -> bool
     ensures { result ≡ is_up_to span.now.hi span.now.closed key.now }
 {
     match &span.hi {
-        Some(high) if span.closed => !high.as_slice().cmp(&key).is_lt(),
-        Some(high) => key.cmp(&high.as_slice()).is_lt(),
+        Some(high) if span.closed => !key_order(high.as_slice(), key).is_lt(),
+        Some(high) => key_order(key, high.as_slice()).is_lt(),
         None => true,
     }
 }

@@ -7,7 +7,7 @@ ghost use Rattle.vl_table.specs.SpanBlocks as spans;
 
 use crate::stretch::Stretch;
 use vl_block::{BlockPlace, TableShape};
-use vl_model::Span;
+use vl_model::{Span, key_order};
 
 /// The blocks of a table that may have keys of an interval: none where it begins above it.
 pub fn blocks_in(shape: &TableShape, span: &Span) -> Stretch
@@ -61,7 +61,7 @@ pub fn is_from(span: &Span, key: &[u8]) -> bool
     ensures { result ≡ reads.is_from span.now.lo key.now }
 {
     match &span.lo {
-        Some(low) => !key.cmp(&low.as_slice()).is_lt(),
+        Some(low) => !key_order(key, low.as_slice()).is_lt(),
         None => true,
     }
 }
@@ -71,8 +71,8 @@ pub fn is_up_to(span: &Span, key: &[u8]) -> bool
     ensures { result ≡ reads.is_up_to span.now.hi span.now.closed key.now }
 {
     match &span.hi {
-        Some(high) if span.closed => !high.as_slice().cmp(&key).is_lt(),
-        Some(high) => key.cmp(&high.as_slice()).is_lt(),
+        Some(high) if span.closed => !key_order(high.as_slice(), key).is_lt(),
+        Some(high) => key_order(key, high.as_slice()).is_lt(),
         None => true,
     }
 }

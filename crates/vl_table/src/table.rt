@@ -32,7 +32,7 @@ use std::sync::Arc;
 use vl_block::{BlockPlace, Found, TableShape};
 use vl_disk::{HeldFile, Reader};
 use vl_filter::{LastKey, passes};
-use vl_model::Span;
+use vl_model::{Span, key_order};
 
 /// A table in a held file.
 #[derive(Drop)]
@@ -122,8 +122,8 @@ impl<H: HeldFile> Table<H> {
         ensures { result ≡ may_hold key.now (shape_of self.now) }
     {
         let shape = self.shape();
-        !key.cmp(&shape.footer.first.as_slice()).is_lt()
-            && !key.cmp(&shape.footer.last.as_slice()).is_gt()
+        !key_order(key, shape.footer.first.as_slice()).is_lt()
+            && !key_order(key, shape.footer.last.as_slice()).is_gt()
             && passes(&shape.filter, key, last)
     }
 
@@ -243,5 +243,5 @@ fn first_block(blocks: &[BlockPlace], key: &[u8]) -> usize
         → result ≡ prefix_len (λ (p : BlockPlace). is_below key.now p.last) blocks.now }
     ensures within { result ≤ length blocks.now }
 {
-    blocks.partition_point(|block| key.cmp(&block.last.as_slice()).is_gt())
+    blocks.partition_point(|block| key_order(key, block.last.as_slice()).is_gt())
 }

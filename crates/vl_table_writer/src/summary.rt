@@ -16,7 +16,7 @@ use std::alloc::{AllocError, Global};
 use std::collections::BTreeMap;
 use vl_block::{Footer, FramePlace};
 use vl_filter::Hashes;
-use vl_model::{Body, Entry, Key, Place, place_order};
+use vl_model::{Body, Entry, Key, Place, key_order, place_order};
 
 /// What a table's footer will say of the entries so far.
 #[derive(Drop)]
@@ -130,7 +130,7 @@ fn note_key(keys: &mut Vec<Hashes>, last: &[u8], key: &[u8]) -> Result<(), Alloc
     ensures { OnOk result (keys.new.items
         ≡ (if eq_by_cmp key_cmp last.now key.now then keys.old.items else keys.old.items ++ hashes_of key.now ∷ [])) }
 {
-    if last.cmp(&key).is_eq() {
+    if key_order(last, key).is_eq() {
         return Ok(());
     }
     keys.push(Hashes::of(key))?;

@@ -14,6 +14,7 @@ use std::alloc::{AllocError, Global};
 use std::marker::Model;
 use vl_model::{
     Change, Key, LOG_FORMAT, MAX_TRANSACTION_BYTES, MAX_TRANSACTION_KEYS, Value, is_value_len,
+    key_order,
 };
 
 /// What a transaction has written: its keys in order, each with the last write of it.
@@ -157,7 +158,7 @@ fn place(entries: &[(Key, Change)], key: &[u8]) -> usize
     requires { IsTrue (map.is_sorted key_cmp entries.now) }
     ensures { result ≡ prefix_len (is_above key.now) entries.now }
 {
-    entries.partition_point(|entry| key.cmp(&entry.0.as_slice()).is_gt())
+    entries.partition_point(|entry| key_order(key, entry.0.as_slice()).is_gt())
 }
 
 // Writes a key, in the place of an earlier write of it.

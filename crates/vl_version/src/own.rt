@@ -7,7 +7,7 @@ ghost use Rattle.vl_model.specs.Keys.{key_cmp};
 ghost use Rattle.vl_model.specs.Reads.{is_within};
 
 use std::alloc::AllocError;
-use vl_model::{Body, Change, Cursor, Entry, Key, Way};
+use vl_model::{Body, Change, Cursor, Entry, Key, Way, key_order};
 
 /// Own writes, one after the other.
 #[derive(Drop)]
@@ -132,5 +132,5 @@ fn count_below(writes: &[(Key, Change)], key: &[u8]) -> usize
     ensures count { result ≡ prefix_len (is_key_below key.now) writes.now }
     ensures within { result ≤ length writes.now }
 {
-    writes.partition_point(|write| write.0.as_slice().cmp(&key).is_lt())
+    writes.partition_point(|write| key_order(write.0.as_slice(), key).is_lt())
 }

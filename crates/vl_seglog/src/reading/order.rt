@@ -5,7 +5,7 @@ ghost use Rattle.vl_model.specs.Keys.{key_cmp};
 ghost use Rattle.vl_seglog.specs.Reading.{write_of};
 
 use crate::frame::ReadRecord;
-use vl_model::Key;
+use vl_model::{Key, key_order};
 
 /// Whether the keys rise, so that none is there twice.
 #[tactic(auto, using(crate::proofs::Order::up_at, crate::proofs::Order::down_at, crate::proofs::Order::up_to_end))]
@@ -23,5 +23,5 @@ pub fn is_rising(records: &[ReadRecord]) -> bool
 fn is_below(key: &Key, other: &Key) -> bool
     ensures { result ≡ is_lt (key_cmp key.now other.now) }
 {
-    key.as_slice().cmp(&other.as_slice()).is_lt()
+    key_order(key.as_slice(), other.as_slice()).is_lt()
 }

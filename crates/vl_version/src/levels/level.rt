@@ -7,6 +7,7 @@ ghost use Rattle.vl_version.specs.levels.LevelTables.{ends_before};
 
 use std::marker::Model;
 use vl_disk::HeldFile;
+use vl_model::key_order;
 use vl_table::Table;
 
 /// The tables of a level below level 0, in key order. None of them overlaps.
@@ -45,5 +46,5 @@ pub fn ending_before<H: HeldFile>(tables: &[Table<H>], key: &[u8]) -> usize
     ensures first { IsParted (ends_before key.now) tables.now → result ≡ prefix_len (ends_before key.now) tables.now }
     ensures within { result ≤ length tables.now }
 {
-    tables.partition_point(|table| { key.cmp(&table.shape().footer.last.as_slice()).is_gt() })
+    tables.partition_point(|table| { key_order(key, table.shape().footer.last.as_slice()).is_gt() })
 }
