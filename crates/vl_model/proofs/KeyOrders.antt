@@ -1,5 +1,5 @@
--- Keys that are compared by eight bytes at a time: numbers of as many bytes, the highest first, stand to
--- each other as the bytes do.
+-- Keys that are compared by several bytes at a time: the numbers that they spell, the highest first, stand
+-- to each other as the bytes do.
 use Rattle.std.proofs.Common.{◌≡◌, ◌≢◌, ℕ, zero, suc, ◌+◌, ◌*◌, ◌^◌, ◌<◌, ◌≤◌, List, [], ◌∷◌, ◌++◌, length, length-drop, min, take, drop, get_or}
 use Rattle.std.proofs.Common.{refl, ap, ap₂, sym, ◌∙◌, subst, arith}
 use Rattle.std.proofs.Math.Nat.{mul-le-mul_right}
@@ -146,24 +146,25 @@ apart_then x y r apart = by (nat_cmp x y) refl
     by Equal is = absurd (apart (nat_cmp-IsAntisymmetric x y (sym is)))
     by Greater is = refl
 
--- two words behind bytes that are alike: where they differ they decide, and else all is alike up to behind them
-module _ (at : ℕ) (xs ys : List ℕ) (has : at + 8 ≤ length xs) (also : at + 8 ≤ length ys) (all : Bytes xs) (both : Bytes ys)
-    (alike : take at xs ≡ take at ys) (x y : ℕ) (left : x ≡ big_number 8 (drop at xs)) (right : y ≡ big_number 8 (drop at ys)) where
+-- two words of n bytes behind bytes that are alike: where they differ they decide, and else all is alike up
+-- to behind them
+module _ (n at : ℕ) (xs ys : List ℕ) (has : at + n ≤ length xs) (also : at + n ≤ length ys) (all : Bytes xs) (both : Bytes ys)
+    (alike : take at xs ≡ take at ys) (x y : ℕ) (left : x ≡ big_number n (drop at xs)) (right : y ≡ big_number n (drop at ys)) where
   pub words_decide : x ≢ y → nat_cmp x y ≡ key_cmp xs ys
   words_decide apart =
       sym (past_front at xs ys (omega arith) (omega arith) alike
-      ∙ by_number 8 (drop at xs) (drop at ys) (omega (arith, length-drop at xs)) (omega (arith, length-drop at ys))
+      ∙ by_number n (drop at xs) (drop at ys) (omega (arith, length-drop at xs)) (omega (arith, length-drop at ys))
       (dropped_bytes at xs all) (dropped_bytes at ys both)
-      ∙ ap₂ (λ s t. ordering_then (nat_cmp s t) (key_cmp (drop 8 (drop at xs)) (drop 8 (drop at ys)))) (sym left) (sym right)
+      ∙ ap₂ (λ s t. ordering_then (nat_cmp s t) (key_cmp (drop n (drop at xs)) (drop n (drop at ys)))) (sym left) (sym right)
       ∙ apart_then x y _ apart)
 
-  pub words_alike : x ≡ y → take (at + 8) xs ≡ take (at + 8) ys
+  pub words_alike : x ≡ y → take (at + n) xs ≡ take (at + n) ys
   words_alike is =
-      take-add at 8 xs
+      take-add at n xs
       ∙ ap₂ (λ (s t : List ℕ). s ++ t) alike
-      (same_bytes 8 (drop at xs) (drop at ys) (omega (arith, length-drop at xs)) (omega (arith, length-drop at ys))
+      (same_bytes n (drop at xs) (drop at ys) (omega (arith, length-drop at xs)) (omega (arith, length-drop at ys))
       (dropped_bytes at xs all) (dropped_bytes at ys both) (sym left ∙ is ∙ right))
-      ∙ sym (take-add at 8 ys)
+      ∙ sym (take-add at n ys)
 
 pub fewer_alike : (m n : ℕ) (xs ys : List ℕ) → m ≤ n → take n xs ≡ take n ys → take m xs ≡ take m ys
 fewer_alike m n xs ys fewer alike = sym (take-take m n xs fewer) ∙ ap (take m) alike ∙ take-take m n ys fewer
