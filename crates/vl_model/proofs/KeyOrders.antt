@@ -7,6 +7,7 @@ use Rattle.std.proofs.Math.Seq.{get_or-drop, take-add, take-take}
 use Rattle.std.proofs.lemmas.Cmp.{ranked}
 use Rattle.std.specs.Cmp.{nat_cmp_is}
 use Rattle.std.specs.FinMap.{nat_cmp-IsAntisymmetric}
+use Rattle.std.specs.List.{slice_index}
 use Rattle.std.specs.Ordering.{MatchOrdering, nat_cmp, ordering_then}
 use Rattle.std.specs.declared.cmp.Ordering.{Ordering}
 use Rattle.std.specs.declared.cmp.Ordering.TheVariants.{Less, Equal, Greater}
@@ -168,3 +169,11 @@ module _ (n at : ℕ) (xs ys : List ℕ) (has : at + n ≤ length xs) (also : at
 
 pub fewer_alike : (m n : ℕ) (xs ys : List ℕ) → m ≤ n → take n xs ≡ take n ys → take m xs ≡ take m ys
 fewer_alike m n xs ys fewer alike = sym (take-take m n xs fewer) ∙ ap (take m) alike ∙ take-take m n ys fewer
+
+-- one byte as a word
+pub byte_word : (at : ℕ) (xs : List ℕ) → get_or xs at 0 ≡ big_number 1 (drop at xs)
+byte_word at xs =
+    let place : at ≡ at + 0 = omega arith in
+    let is : get_or xs at 0 ≡ slice_index (drop at xs) 0 =
+    ap (λ (k : ℕ). get_or xs k 0) place ∙ sym (get_or-drop at xs 0 0) in
+    omega arith

@@ -17,7 +17,7 @@ pub fn key_order(a: &[u8], b: &[u8]) -> Ordering
     if 4 <= both {
         return short_order(a, b, both - 4);
     }
-    a.cmp(&b)
+    few_order(a, b, both)
 }
 
 // Compares by eight bytes at a time. The last eight that both have begin at `last`, and may overlap
@@ -54,6 +54,19 @@ fn short_order(a: &[u8], b: &[u8], last: usize) -> Ordering
     let (x, y) = (half_at(a, last), half_at(b, last));
     if x != y {
         return x.cmp(&y);
+    }
+    a.len().cmp(&b.len())
+}
+
+// The same byte by byte.
+fn few_order(a: &[u8], b: &[u8], both: usize) -> Ordering
+    requires { both ≡ min (length a.now) (length b.now) }
+    ensures { result ≡ key_cmp a.now b.now }
+{
+    for at in 0..both {
+        if a[at] != b[at] {
+            return a[at].cmp(&b[at]);
+        }
     }
     a.len().cmp(&b.len())
 }
