@@ -51,6 +51,6 @@ pub record SpellsWalked (tested : Bool) (format : ℕ) (body : List ℕ) (es : L
   pub ordered : tested ≡ false → AreOrdered (entries format) es
   pub spelled : body ≡ block_body format es
 
--- it can't be that the body is no block's
+-- The body is some block's. It is said so, by no list of entries, since a struct's ghost field must be a proposition.
 abbrev pub IsSomeBlock : ℕ → List ℕ → Type 0
 IsSomeBlock format body = ((es : List Entry) → SpellsBlock format body es → ⊥) → ⊥

@@ -1,4 +1,5 @@
-//! How a block's body is read. A body that isn't a block's to its last byte is none, and so is one that is too long.
+//! How a block's body is read. A body that isn't a block's to its last byte is none, and so is one that is too long. Only
+//! the order of its entries may be left to an earlier test.
 
 ghost use Rattle.std.specs.Prelude.{◌↔◌, ◌+◌, ◌≤◌, List, Option, IfNone, IfSome, IsTrue, drop, length, take};
 ghost use Rattle.std.specs.Option.{option_map};
@@ -19,9 +20,9 @@ pub const MAX_BODY_BYTES: usize = 4177;
 /// So many entries a block has at most: an entry has at least 12 bytes, and their count 4.
 pub const MAX_BLOCK_ENTRIES: usize = 347;
 
-/// Tests a block's body, and finds where its entries begin, in the bytes behind their count. It gives how many there are,
-/// and puts as many places to the front of `starts`; None where the body isn't a block's. Of one that was tested before the
-/// order of the entries isn't tested again.
+/// Finds where the entries of a block's body begin, in the bytes behind their count. It gives how many there are, and puts as
+/// many places to the front of `starts`; None where the body isn't a block's. With `tested` the order of the entries isn't
+/// looked at: who says so knows that the body is a block's, or takes them in whatever order they stand.
 pub fn find_starts(format: u32, body: &[u8], tested: bool, starts: &mut [u16]) -> Option<usize>
     requires { MAX_BLOCK_ENTRIES ≤ length starts.old }
     ensures found { IfSome result (λ count. (es : List Entry) × SpellsWalked tested format body.now es

@@ -2,8 +2,8 @@
 //! frame. docs/FORMATS.md lists them. Each body spells a list of items behind their count: a kind of item says how one is
 //! spelled (`Spelling`), and its reader takes them one after the other (`SoFar`).
 //!
-//! A body of the grammar is read as exactly what it spells, and any other as nothing. The bytes may be scanned as they lie
-//! there; only what is handed out on its own is copied.
+//! A body of the grammar is read as exactly what it spells, and any other as nothing; only the order of a block's entries may
+//! be left to an earlier test. The bytes may be scanned as they lie there; only what is handed out on its own is copied.
 #![tactic(auto)]
 
 mod block;

@@ -1,4 +1,4 @@
-ghost use Rattle.std.specs.Prelude.{◌≡◌, ◌≤◌, ◌<◌, ◌+◌, ◌-◌, ◌^◌, ◌++◌, ◌∷◌, ◌↔◌, max, min, true, IsTrue};
+ghost use Rattle.std.specs.Prelude.{◌≡◌, ◌≤◌, ◌<◌, ◌+◌, ◌-◌, ◌++◌, ◌∷◌, ◌↔◌, max, min, true, IsTrue};
 ghost use Rattle.std.specs.FinMap as map;
 ghost use Rattle.vl_model.specs.Keys.{key_cmp};
 ghost use Rattle.std.specs.Option.{option_copied};

@@ -31,8 +31,7 @@ pub fn read(body: &[u8]) -> Option<Filter<'_>>
     }
 }
 
-/// Whether bits let a key pass. No bits, or too many for a filter, let every key pass, and it isn't hashed then. The last key
-/// is the one that was asked before, of whatever bits.
+/// Whether bits let a key pass. No bits, or too many for a filter, let every key pass, and it isn't hashed then.
 pub fn passes(bits: &[u8], key: &[u8], last: &mut LastKey) -> bool
     ensures { result ≡ passes bits.now key.now }
 {

@@ -1,4 +1,4 @@
-//! The key that was hashed last.
+//! The last short key that was hashed.
 
 ghost use Rattle.std.specs.Prelude.{◌≡◌, ◌≤◌, IfSome, IsTrue, length, take};
 ghost use Rattle.vl_filter.specs.Places.{hashes_of};
@@ -6,8 +6,8 @@ ghost use Rattle.vl_filter.specs.Places.{hashes_of};
 use crate::hashes::Hashes;
 use std::marker::Model;
 
-/// The key that was hashed last, and its hashes: asked for the same key again, it hashes nothing. A key of more than 64 bytes
-/// isn't kept, and is hashed each time. It wants no memory.
+/// The last key of at most 64 bytes that was hashed, with its hashes. Most keys are so short; a copy of a longer one would
+/// want memory of its own, so such a key is hashed each time.
 #[derive(Drop)]
 pub struct LastKey {
     kept: Option<HashedKey>,
@@ -36,7 +36,7 @@ impl LastKey {
         LastKey { kept: None }
     }
 
-    /// The hashes of a key, which are computed where it isn't the last one.
+    /// The hashes of a key, which are computed where it isn't the one that is kept.
     pub fn hashes(&mut self, key: &[u8]) -> Hashes
         ensures { result ≡ hashes_of key.now }
     {
@@ -50,7 +50,7 @@ impl LastKey {
         hashes
     }
 
-    // The hashes of a key, if it is the last one.
+    // The hashes of a key, if it is the one that is kept.
     fn known(&self, key: &[u8]) -> Option<Hashes>
         ensures { IfSome result (λ hashes. hashes ≡ hashes_of key.now) }
     {

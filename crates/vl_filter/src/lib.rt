@@ -2,7 +2,8 @@
 //!
 //! A filter of n keys has ten bits for each, and seven of them are 1 for the key. Of a key that it was built of it always
 //! says that it may be there; of other keys it says so of about one in a hundred. `build` and `may_hold` compute a digest
-//! for each key, and look at seven bits. `passes` asks many filters for one key, and computes its digest once (`LastKey`).
+//! for each key, and look at seven bits. `passes` takes the digest from a `LastKey`, so that a short key that many filters
+//! are asked for is hashed once.
 #![tactic(auto)]
 
 mod bits;

@@ -1,5 +1,5 @@
 ghost use Rattle.byteorder.specs.Endian.{big_number};
-ghost use Rattle.std.specs.Prelude.{◌+◌, ◌≡◌, ◌≤◌, drop, length, min, take};
+ghost use Rattle.std.specs.Prelude.{◌+◌, ◌≡◌, ◌≤◌, drop, length, min};
 ghost use Rattle.vl_model.specs.Keys.{key_cmp};
 
 use byteorder::{BigEndian, ByteOrder};

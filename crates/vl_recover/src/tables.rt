@@ -17,6 +17,7 @@ use crate::one_table::open_table;
 use std::alloc::Global;
 use vl_disk::{Disk, HeldFile, Name};
 use vl_manifest::Levels;
+use vl_model::key_order;
 use vl_table::Table;
 
 /// Opens the tables of all levels, level by level. No block of them is read.
@@ -123,5 +124,5 @@ fn is_after<H: HeldFile>(before: &Table<H>, table: &Table<H>) -> bool
 {
     let last = before.shape().footer.last.as_slice();
     let first = table.shape().footer.first.as_slice();
-    last.cmp(first).is_lt()
+    key_order(last, first).is_lt()
 }

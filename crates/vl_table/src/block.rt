@@ -47,26 +47,27 @@ pub fn read_block<H: HeldFile, R: Reader<Held = H>>(
         return Err(damaged(id.number, id.place));
     }
     let size = id.length as usize;
-    let known = read_tested(reader, held, tested, at, id, &mut frame[..size])?;
-    match find_starts(id.format, body_of(&frame[..size]), known, starts) {
+    let was_tested = read_tested(reader, held, tested, at, id, &mut frame[..size])?;
+    match find_starts(id.format, body_of(&frame[..size]), was_tested, starts) {
         None => Err(damaged(id.number, id.place)),
         Some(count) => {
-            note_new(tested, known, held, at, id);
+            note_if_new(tested, was_tested, held, at, id);
             Ok(count)
         }
     }
 }
 
-// Notes that the block with an index was tested, where it wasn't known before.
-fn note_new<H: HeldFile>(tested: &Tested<H>, known: bool, held: &H, at: usize, id: BlockId)
-    requires { known ≡ false → IsTested H.bytes held.now id }
+// Notes that the block with an index was tested, where it wasn't before.
+fn note_if_new<H: HeldFile>(tested: &Tested<H>, was_tested: bool, held: &H, at: usize, id: BlockId)
+    requires { was_tested ≡ false → IsTested H.bytes held.now id }
 {
-    if !known {
+    if !was_tested {
         tested.note(held, at, id);
     }
 }
 
-// Fills a slice with the frame of the block with an index, and says whether it was tested before. Else it tests the check.
+// Fills a slice with the frame of the block with an index, and says whether it was tested before. One that wasn't has its check
+// tested here.
 fn read_tested<H: HeldFile, R: Reader<Held = H>>(
     reader: &mut R,
     held: &H,
@@ -78,8 +79,8 @@ fn read_tested<H: HeldFile, R: Reader<Held = H>>(
     requires inside { id.place + length frame.old ≤ H.size held.now }
     requires sized { length frame.old ≡ id.length }
     ensures answers { Answers (R.faults reader.old) (R.faults reader.new) id.number (H.bytes held.now)
-        (λ bytes known. (body : List ℕ) × FrameAt id.number bytes id.place (length frame.old) kinds.Block body
-        × (frame.new ≡ frame_bytes id.number id.place kinds.Block body) × (known ≡ true → IsSomeBlock id.format body))
+        (λ bytes was_tested. (body : List ℕ) × FrameAt id.number bytes id.place (length frame.old) kinds.Block body
+        × (frame.new ≡ frame_bytes id.number id.place kinds.Block body) × (was_tested ≡ true → IsSomeBlock id.format body))
         (λ bytes damage. ((body : List ℕ) → FrameAt id.number bytes id.place (length frame.old) kinds.Block body → ⊥)
         × (damage ≡ id.place))
         result }

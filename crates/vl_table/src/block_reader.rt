@@ -27,8 +27,6 @@ pub const KEPT_BLOCKS: usize = 8;
 /// A reader of files, and room for blocks that were read with it. Each block that is kept was tested once. Where there is no
 /// room for another one, the one that wasn't used for longest goes.
 ///
-/// It knows the hashes of the key that was asked last, so that one look-up over many tables hashes its key once.
-///
 /// It wants no memory but what it takes when it is made.
 #[derive(Drop)]
 pub struct BlockReader<R> {
@@ -37,7 +35,7 @@ pub struct BlockReader<R> {
     // The block that was used last, and the others, those used later first.
     front: Slot,
     others: Vec<Slot>,
-    // The key that was asked last, of whatever table.
+    // So that one look-up over many tables hashes its key once.
     pub(crate) last_key: LastKey,
 }
 

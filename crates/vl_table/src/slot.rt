@@ -139,7 +139,7 @@ impl Slot {
     }
 }
 
-// Gives a list so many elements, where it hasn't as many yet. It has room for them: this wants no memory.
+// Brings a list to so many elements. It has room for them, so this wants no memory.
 fn fill_up<T: Copy>(elements: &mut Vec<T>, size: usize, value: T)
     requires { size ≤ vec_capacity elements.old }
     ensures len { vec_len elements.new ≡ size }

@@ -116,8 +116,7 @@ impl<H: HeldFile> Table<H> {
         &self.tested
     }
 
-    /// Whether it may have a key: false where the key is below the first or above the last, or the filter says no. The key is
-    /// hashed for the filter alone, and where it isn't the last one.
+    /// Whether it may have a key: false where the key is below the first or above the last, or the filter says no.
     pub(crate) fn may_hold(&self, key: &[u8], last: &mut LastKey) -> bool
         ensures { result ≡ may_hold key.now (shape_of self.now) }
     {
@@ -157,7 +156,7 @@ impl<H: HeldFile> Table<H> {
             → may_hold key.now (shape_of self.now) ≡ true
             → LooksIn H.bytes (if_of_key key.now) self.now key.now number result }
 
-        // Nothing is looked at of a table that may not have the key.
+        // Nothing is looked at of a table that may not have the key; clauses don't see which key was hashed last.
         ensures unread { may_hold key.now (shape_of self.now) ≡ false → (result ≡ Ok None) × (reader.new ≡ reader.old) }
         ensures cause { HasCause (R.faults reader.old.reader) (R.faults reader.new.reader) (Failed result) }
         ensures no_memory { NeedsNoMemory result }

@@ -10,7 +10,8 @@ use std::marker::Model;
 use std::sync::{Arc, OnceLock};
 use vl_disk::HeldFile;
 
-/// The blocks of a table that were tested since it was opened or made, whoever read them. All that share the table share this.
+/// The blocks of a table that were tested since it was opened or made, whoever read them: a block's check is right, and its
+/// body is a block's, in order. All that share the table share this.
 /// No call waits or wants memory. Where there was no memory for it none is noted, and a block is tested each time.
 #[derive(Drop)]
 pub struct Tested<H: HeldFile> {

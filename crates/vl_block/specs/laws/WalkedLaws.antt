@@ -1,6 +1,5 @@
 -- Entries are walked over as they are read, and those whose order was tested before are a block's.
 use Rattle.std.specs.Prelude.{◌≡◌, ◌<◌, ◌≤◌, ◌^◌, ℕ, Bool, true, false, List, [], ◌∷◌, ◌++◌, length}
-use Rattle.std.specs.List.{AllByRecursion}
 use Rattle.std.specs.declared.cmp.Ordering.{Ordering}
 use Rattle.std.specs.declared.cmp.Ordering.TheVariants.{Less, Equal, Greater}
 use Rattle.std.proofs.Common.{ap, refl, subst, sym, ◌∙◌}
@@ -10,7 +9,7 @@ use Rattle.vl_model.specs.Entries.{entry_cmp}
 use Rattle.vl_model.specs.declared.entry.Entry.{Entry}
 use Rattle.vl_block.specs.Blocks.{IsSomeBlock, SpellsBlock, SpellsWalked, entries, walked}
 use Rattle.vl_block.specs.Cutting.{longest_body}
-use Rattle.vl_block.specs.Entries.{IsEntry, entry_bytes}
+use Rattle.vl_block.specs.Entries.{entry_bytes}
 use Rattle.vl_block.specs.Lists.{AreOrdered, IsRun, items_bytes}
 use Rattle.vl_block.specs.laws.ListLaws.{same_items}
 
@@ -56,6 +55,7 @@ module _ (tested : Bool) (format : ℕ) where
 
 -- ---- a block that was tested before
 
+-- order is decidable: what can't fail to be in order is
 less : (o : Ordering) → ((o ≡ Less → ⊥) → ⊥) → o ≡ Less
 less Less some = refl
 less Equal some = absurd (some (λ e. cc))

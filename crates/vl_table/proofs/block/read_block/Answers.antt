@@ -26,7 +26,7 @@ returns-in-None-clause-answers g c =
     let sized : length (take c.args.id.length c.args.frame.now) ≡ c.args.id.length =
     length-take-le c.args.id.length c.args.frame.now
     (omega (arith, c.requires.frame, c.lies_inside.ensures.short c.if-not-lies_inside.false)) in
-    and_then _ _ _ id.number _ _ _ _ _ (λ bytes damage. damage ≡ c.args.id.place) _ c.in_ok-known.known _
+    and_then _ _ _ id.number _ _ _ _ _ (λ bytes damage. damage ≡ c.args.id.place) _ c.in_ok-was_tested.was_tested _
     (λ bytes told read x good. good)
     (λ bytes told read damage bad. (
       not_block id bytes c.read_tested.new.frame c.args.frame.now read.0 _ sized read.1 read.2 c.body_of.result.now
@@ -35,7 +35,7 @@ returns-in-None-clause-answers g c =
           c.in-None.ensures.none,
       bad,
     ))
-    c.in_ok-known.ensures.answers
+    c.in_ok-was_tested.ensures.answers
     (refuses _ id.number id.place _ _ _ c.damaged-in-None.result c.damaged-in-None.ensures (λ bytes told. refl))
 
 pub returns-in-Some-clause-answers : goal.returns-in-Some-clause-answers
@@ -45,7 +45,7 @@ returns-in-Some-clause-answers g c =
     length-take-le c.args.id.length c.args.frame.now
     (omega (arith, c.requires.frame, c.lies_inside.ensures.short c.if-not-lies_inside.false)) in
     let found = c.in-Some.ensures.found in
-    and_then _ _ _ id.number _ _ (λ bytes n. n ≡ c.in-Some.count) _ _ (λ bytes damage. ⊥) _ c.in_ok-known.known _
+    and_then _ _ _ id.number _ _ (λ bytes n. n ≡ c.in-Some.count) _ _ (λ bytes damage. ⊥) _ c.in_ok-was_tested.was_tested _
     (λ bytes told read n is.
     let same = c.body_of.ensures.framed id.number id.place kinds.Block read.0
     (front_is id bytes c.read_tested.new.frame c.args.frame.now read.0 _ sized read.1 read.2) in (
@@ -54,11 +54,11 @@ returns-in-Some-clause-answers g c =
           (take m c.find_starts.new.starts) found.0) (sym is)
           (has_frame id bytes c.read_tested.new.frame c.args.frame.now read.0 _ sized read.1 read.2 c.body_of.result.now
           (take c.in-Some.count c.find_starts.new.starts) found.0 same
-          (says_block id bytes c.read_tested.new.frame c.args.frame.now read.0 _ sized read.1 read.2 c.in_ok-known.known
+          (says_block id bytes c.read_tested.new.frame c.args.frame.now read.0 _ sized read.1 read.2 c.in_ok-was_tested.was_tested
           c.body_of.result.now found.0 same found.1 read.3) found.2),
     ))
     (λ bytes told read damage none. absurd none)
-    c.in_ok-known.ensures.answers
+    c.in_ok-was_tested.ensures.answers
     (gives _ id.number _ _ _ c.in-Some.count (λ bytes told. refl))
 
 pub returns-in-Some-clause-begin : goal.returns-in-Some-clause-begin
@@ -72,14 +72,14 @@ returns-in-Some-clause-begin g c =
     (omega (arith, c.requires.frame, c.lies_inside.ensures.short c.if-not-lies_inside.false)) in
     let says : c.body_of.result.now ≡ body_in written =
     c.body_of.ensures.cut ∙ ap body_in (take_at written rest id.length sized) in
-    begins c.in_ok-known.known id.format written rest found.0 (take c.in-Some.count c.find_starts.new.starts)
-    (subst (λ (b : List ℕ). SpellsWalked c.in_ok-known.known id.format b found.0) says found.1)
+    begins c.in_ok-was_tested.was_tested id.format written rest found.0 (take c.in-Some.count c.find_starts.new.starts)
+    (subst (λ (b : List ℕ). SpellsWalked c.in_ok-was_tested.was_tested id.format b found.0) says found.1)
     (subst (λ (b : List ℕ). AreStarts id.format (drop 4 b) (take c.in-Some.count c.find_starts.new.starts) found.0) says found.2)
 
-pub note_new-requires : goal.note_new-requires
-note_new-requires g c = λ fresh bytes told.
+pub note_if_new-requires : goal.note_if_new-requires
+note_if_new-requires g c = λ fresh bytes told.
     let id = c.args.id in
-    let read = c.in_ok-known.ensures.answers.answer bytes told in
+    let read = c.in_ok-was_tested.ensures.answers.answer bytes told in
     let found = c.in-Some.ensures.found in
     let sized : length (take c.args.id.length c.args.frame.now) ≡ c.args.id.length =
     length-take-le c.args.id.length c.args.frame.now
@@ -89,5 +89,5 @@ note_new-requires g c = λ fresh bytes told.
     stands_block id bytes read.0 found.0
     (stands_at id bytes c.read_tested.new.frame c.args.frame.now read.0 _ sized read.1 read.2)
     (subst (λ (b : List ℕ). SpellsBlock id.format b found.0) same
-    (says_block id bytes c.read_tested.new.frame c.args.frame.now read.0 _ sized read.1 read.2 c.in_ok-known.known
+    (says_block id bytes c.read_tested.new.frame c.args.frame.now read.0 _ sized read.1 read.2 c.in_ok-was_tested.was_tested
     c.body_of.result.now found.0 same found.1 read.3))
