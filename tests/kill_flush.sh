@@ -1,11 +1,13 @@
 #!/usr/bin/env bash
 # Stops the example by SIGKILL at many points in time, all over one folder: in its commits, its rotation and its flush. After each
-# stop the next run must open at the last commit that was told, or at the one behind it. No gate calls this. The example is built
-# by `cd crates/vl_example && rt run`.
+# stop the next run must open at the last commit that was told, or at one of the few behind it. No gate calls this. The example is
+# built by `cd crates/vl_example && rt run`.
 set -eu
 home="$(cd "$(dirname "${BASH_SOURCE[0]}")/.." && pwd)"
 program="$home/crates/vl_example/out/vl_example"
 folder="$(mktemp -d)"
+# So many commits may stand behind the last that was told: the example tells nothing of its five labels, and else of one at most.
+untold=5
 trap 'rm -rf "$folder"' EXIT
 
 # The number behind "by commit" or "opened at" in the last line that has one, of which only whole lines count, or $1.
@@ -32,7 +34,7 @@ for stop in {1..100}; do
 
   opened="$(sed -n '1s/^opened at //p' "$folder/told")"
   if [ -n "$opened" ]; then
-    if [ "$opened" -lt "$told" ] || [ "$opened" -gt "$((told + 1))" ]; then
+    if [ "$opened" -lt "$told" ] || [ "$opened" -gt "$((told + untold))" ]; then
       echo "stop $stop: commit $told was told, and the next run opens at $opened" >&2
       exit 1
     fi
@@ -42,7 +44,7 @@ for stop in {1..100}; do
 done
 "$program" "$folder/store" >"$folder/told"
 opened="$(sed -n '1s/^opened at //p' "$folder/told")"
-if [ "$opened" -lt "$told" ] || [ "$opened" -gt "$((told + 1))" ]; then
+if [ "$opened" -lt "$told" ] || [ "$opened" -gt "$((told + untold))" ]; then
   echo "commit $told was told, and the last run opens at $opened" >&2
   exit 1
 fi
