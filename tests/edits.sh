@@ -1,6 +1,6 @@
 #!/usr/bin/env bash
-# Tries the wrong bodies in tests/edits: the prover must refuse each. They are of crates that take long to prove, and each
-# crate is proved once more for them, so no gate calls this. Words name crates; without words it tries all.
+# Tries the wrong bodies in tests/edits: the prover must refuse each. They are of crates whose wrong bodies the gate leaves out,
+# and each crate is proved once more for them, so no gate calls this. Words name crates; without words it tries all.
 set -eu
 home="$(cd "$(dirname "${BASH_SOURCE[0]}")/.." && pwd)"
 [ "$#" -gt 0 ] || set -- $(ls "$home/tests/edits")
