@@ -5,7 +5,7 @@ use Rattle.vl_disk.specs.Crash.{Image}
 use Rattle.vl_disk.specs.DiskState.{DiskState}
 use Rattle.vl_core.specs.Files.{HasLog, HasTable, found_levels}
 use Rattle.vl_core.specs.Pointed.{IsFramedAmong, stored_among}
-use Rattle.vl_core.specs.Spared.{IsSpared}
+use Rattle.vl_core.specs.Spared.{IsSpared, IsWhole}
 use Rattle.vl_layout.specs.Logs.{memtable}
 use Rattle.vl_layout.specs.Shown.{IsOf}
 use Rattle.vl_layout.specs.Shows.{AreUpTo, Shows}
@@ -35,12 +35,14 @@ entries_among levels = flat_map table_entries (tables_among levels)
 
 -- The entries show the history up to a number, each key from the least number on at which it can be read there; each of them
 -- is of a version of its key; and none is above that number.
-pub record EntriesShow (keep since : ℕ) (logs : Logs) (es : List Entry) (h : History) (m : ℕ) : Type 0 where
+pub record EntriesShow (keep since gone : ℕ) (logs : Logs) (es : List Entry) (h : History) (m : ℕ) : Type 0 where
   pub shows : Shows logs es h (low h m keep since) m
   pub versions : AllByRecursion (IsOf h) es
   pub up_to : AreUpTo m es
   -- what is missing of a key's versions doesn't tell on that number
   pub spared : IsSpared h es m m keep since
+  -- and no change above `gone` is missing
+  pub whole : IsWhole h es m m gone
 
 -- one of these logs has this number, and stands in the image
 pub record HasFramedAmong (image : Image) (logs : List Segment) (number : ℕ) : Type 0 where
@@ -61,7 +63,7 @@ pub record Shown (image : Image) (h : History) (m : ℕ) : Type 0 where
   pub sealed : List Segment
   pub led : (n : ℕ) → IsAmong (led_into opening.levels) n → HasFramedAmong image sealed n
   pub placed : AllByRecursion (λ (t : Table). AllByRecursion (IsPlacedIn sealed) t.entries) (tables_among levels)
-  pub entries : EntriesShow opening.state.keep opening.state.since (stored_among sealed)
+  pub entries : EntriesShow opening.state.keep opening.state.since opening.state.gone (stored_among sealed)
       (logs_entries opening.logs ++ entries_among levels) h m
   -- how many versions it keeps, and since when
   pub some : 1 ≤ opening.state.keep

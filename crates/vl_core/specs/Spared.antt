@@ -22,9 +22,20 @@ abbrev pub IsSpared : History → List Entry → (to floor keep since : ℕ) →
 IsSpared h es to floor keep since =
     2 ≤ keep → (key : List ℕ) → AreSpared (versions h key) (versions_in es key) to floor keep since
 
+-- Of each key a version that isn't left is at most `gone`, or is passed by one that is left and is at most the floor: as of
+-- kept versions, for one version, and with `gone` in the place of since. So it is whatever is kept. What counts of a key at a
+-- number from the floor on is then its newest version there, if that is above `gone`.
+abbrev pub IsWhole : History → List Entry → (to floor gone : ℕ) → Type 0
+IsWhole h es to floor gone = (key : List ℕ) → AreSpared (versions h key) (versions_in es key) to floor 1 gone
+
+-- Entries have both.
+pub record HasVersions (h : History) (es : List Entry) (to floor keep since gone : ℕ) : Type 0 where
+  pub past : IsSpared h es to floor keep since
+  pub whole : IsWhole h es to floor gone
+
 -- and with the sources of a layout
 abbrev pub Spares : Layout → History → Type 0
-Spares l h = IsSpared h (sources l) (last_number h) (floor l h) l.keep l.since
+Spares l h = HasVersions h (sources l) (last_number h) (floor l h) l.keep l.since l.gone
 
 -- and with what a ruling leaves
 abbrev pub SparesRuled : {A : Type 0} → Ruling A → Type 0

@@ -33,6 +33,7 @@ pub mod InstallSpares
 pub mod InstallTables
 pub mod InstallTaken
 pub mod InstallTidy
+pub mod InstallWhole
 pub mod IntactLaws
 pub mod KeepLaws
 pub mod KeptLaws

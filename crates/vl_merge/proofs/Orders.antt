@@ -15,7 +15,8 @@ use Rattle.std.specs.Ordering.{is_gt}
 use Rattle.vl_merge.specs.Merging.{IsFirst, IsAlong}
 use Rattle.vl_model.specs.Order.{way_cmp}
 use Rattle.vl_merge.proofs.GroupLaws.{grouped-along}
-use Rattle.vl_merge.specs.Visible.{is_counted, keys_of, shown, visible}
+use Rattle.vl_merge.specs.declared.hides.Hides.{Hides}
+use Rattle.vl_merge.specs.Visible.{is_hidden, is_counted, keys_of, shown, visible}
 use Rattle.vl_merge.specs.Held.{held_first, is_held_counted, held_with, held_after, passed_by, passed}
 use Rattle.vl_merge.proofs.Passing.{is_key, keys_at, visible-front}
 use Rattle.vl_merge.proofs.Steps.{passes}
@@ -44,9 +45,9 @@ winner-has P (e ∷ es) key number all = newest-has P (only_if (counts key numbe
     by true is = all.0 is
     by false is = tt
 
-shown-has : (P : Entry → Type 0) (w : Option Entry) → HasIt P w → AllByRecursion P (shown w)
-shown-has P None has = tt
-shown-has P (Some e) has = elim (is_gone e.body) as (λ b. AllByRecursion P (cond b [] (e ∷ []))) [
+shown-has : (hides : Hides) (P : Entry → Type 0) (w : Option Entry) → HasIt P w → AllByRecursion P (shown hides w)
+shown-has hides P None has = tt
+shown-has hides P (Some e) has = elim (is_hidden hides e) as (λ b. AllByRecursion P (cond b [] (e ∷ []))) [
   | true ↦ tt
   | false ↦ (has, tt)
 ]
@@ -63,14 +64,14 @@ all-each : (P : Entry → Type 0) (es : List Entry) → ((e : Entry) → P e) �
 all-each P [] each = tt
 all-each P (e ∷ es) each = (each e, all-each P es each)
 
-all-visible : (P : Entry → Type 0) (number : ℕ) (es : List Entry) → AllByRecursion P es → AllByRecursion P (visible number es)
-all-visible P number es all = over (keys_at number es)
+all-visible : (hides : Hides) (P : Entry → Type 0) (number : ℕ) (es : List Entry) → AllByRecursion P es → AllByRecursion P (visible hides number es)
+all-visible hides P number es all = over (keys_at number es)
   where
-    over : (keys : List (List ℕ)) → AllByRecursion P (flat_map (λ k. shown (winner es k number)) keys)
+    over : (keys : List (List ℕ)) → AllByRecursion P (flat_map (λ k. shown hides (winner es k number)) keys)
     over [] = tt
     over (k ∷ ks) =
-        all-join P (shown (winner es k number)) (flat_map (λ k. shown (winner es k number)) ks)
-        (shown-has P (winner es k number)
+        all-join P (shown hides (winner es k number)) (flat_map (λ k. shown hides (winner es k number)) ks)
+        (shown-has hides P (winner es k number)
         (winner-has P es k number (all-weaker P (λ e. counts k number e ≡ true → P e) es (λ e has _. has) all)))
         (over ks)
 
@@ -88,24 +89,24 @@ module _ (key : List ℕ) where
       (λ b. cond b (e ∷ filter (λ (e : Entry). is_key key e.key) es) (filter (λ (e : Entry). is_key key e.key) es)) all.0
       ∙ of_key-all false es all.1
 
-  module _ (number : ℕ) (es : List Entry) where
-    one-key : (k : List ℕ) → filter (λ (e : Entry). is_key key e.key) (shown (winner es k number)) ≡ cond (is_key key k)
-        (shown (winner es k number)) []
+  module _ (hides : Hides) (number : ℕ) (es : List Entry) where
+    one-key : (k : List ℕ) → filter (λ (e : Entry). is_key key e.key) (shown hides (winner es k number)) ≡ cond (is_key key k)
+        (shown hides (winner es k number)) []
     one-key k =
-        of_key-all (is_key key k) (shown (winner es k number))
-        (shown-has (λ e. is_key key e.key ≡ is_key key k) (winner es k number)
+        of_key-all (is_key key k) (shown hides (winner es k number))
+        (shown-has hides (λ e. is_key key e.key ≡ is_key key k) (winner es k number)
         (winner-has (λ e. is_key key e.key ≡ is_key key k) es k number
         (all-each (λ e. counts k number e ≡ true → is_key key e.key ≡ is_key key k) es
         (λ e of_k. ap (is_key key) (sym (same_key k e.key (and_parts (is_key k e.key) (is_counted number e) of_k).0))))))
 
     each-key : (keys : List (List ℕ))
-        → filter (λ (e : Entry). is_key key e.key) (flat_map (λ k. shown (winner es k number)) keys) ≡ flat_map
-        (λ k. cond (is_key key k) (shown (winner es k number)) []) keys
+        → filter (λ (e : Entry). is_key key e.key) (flat_map (λ k. shown hides (winner es k number)) keys) ≡ flat_map
+        (λ k. cond (is_key key k) (shown hides (winner es k number)) []) keys
     each-key [] = refl
     each-key (k ∷ ks) =
-        filter-append (λ (e : Entry). is_key key e.key) (shown (winner es k number)) (flat_map (λ k. shown (winner es k number)) ks)
-        ∙ ap (λ l. l ++ filter (λ (e : Entry). is_key key e.key) (flat_map (λ k. shown (winner es k number)) ks)) (one-key k)
-        ∙ ap (λ l. cond (is_key key k) (shown (winner es k number)) [] ++ l) (each-key ks)
+        filter-append (λ (e : Entry). is_key key e.key) (shown hides (winner es k number)) (flat_map (λ k. shown hides (winner es k number)) ks)
+        ∙ ap (λ l. l ++ filter (λ (e : Entry). is_key key e.key) (flat_map (λ k. shown hides (winner es k number)) ks)) (one-key k)
+        ∙ ap (λ l. cond (is_key key k) (shown hides (winner es k number)) [] ++ l) (each-key ks)
 
   -- the keys of entries come once
   module _ (f : List ℕ → List Entry) where
@@ -193,16 +194,16 @@ module _ (key : List ℕ) where
           and_false true = refl
           and_false false = refl
 
-  pub visible-of_key : (number : ℕ) (es : List Entry)
-      → filter (λ (e : Entry). is_key key e.key) (visible number es) ≡ shown (winner es key number)
-  visible-of_key number es =
-      each-key number es (keys_at number es) ∙ once (λ k. shown (winner es k number)) (filter (is_counted number) es)
+  pub visible-of_key : (hides : Hides) (number : ℕ) (es : List Entry)
+      → filter (λ (e : Entry). is_key key e.key) (visible hides number es) ≡ shown hides (winner es key number)
+  visible-of_key hides number es =
+      each-key hides number es (keys_at number es) ∙ once (λ k. shown hides (winner es k number)) (filter (is_counted number) es)
       ∙ by (list_any (λ (e : Entry). is_key key e.key) (filter (is_counted number) es)) refl
     where
       by : (b : Bool) → list_any (λ (e : Entry). is_key key e.key) (filter (is_counted number) es) ≡ b
-          → cond b (shown (winner es key number)) [] ≡ shown (winner es key number)
+          → cond b (shown hides (winner es key number)) [] ≡ shown hides (winner es key number)
       by true is = refl
-      by false is = sym (ap shown (no-winner number es is))
+      by false is = sym (ap (shown hides) (no-winner number es is))
 
 -- ---- in order
 
@@ -215,7 +216,7 @@ module _ (way : Way) where
   along-join None es first along = along
   along-join (Some w) es first along = (first, along)
 
-  module _ (number : ℕ) (e : Entry) (es : List Entry) where
+  module _ (hides : Hides) (number : ℕ) (e : Entry) (es : List Entry) where
     along-skip : (held : Option Entry) → IsAlong way (held_first held (e ∷ es)) → IsAlong way (held_first held es)
     along-skip None along = along.1
     along-skip (Some h) along = (along.0.1, along.1.1)
@@ -223,9 +224,9 @@ module _ (way : Way) where
     abbrev Goes : Option Entry → Option Entry → Type 0
     Goes now given = IsAlong way (held_first now es) × FirstOf given (held_first now es)
 
-    goes_with : (held : Option Entry) → IsAlong way (held_first held (e ∷ es)) → Goes (held_with held e) (passed_by held e)
+    goes_with : (held : Option Entry) → IsAlong way (held_first held (e ∷ es)) → Goes (held_with held e) (passed_by hides held e)
     goes_with None along = (along, tt)
-    goes_with (Some h) along = by (is_key h.key e.key) (nat_le e.version h.version) (is_gone h.body)
+    goes_with (Some h) along = by (is_key h.key e.key) (nat_le e.version h.version) (is_hidden hides h)
       where
         by : (b c d : Bool) → Goes (cond b (cond c (Some h) (Some e)) (Some e)) (cond b None (cond d None (Some h)))
         by true true d = (along-skip (Some h) along, tt)
@@ -233,34 +234,34 @@ module _ (way : Way) where
         by false c true = (along.1, tt)
         by false c false = (along.1, along.0)
 
-    goes : (held : Option Entry) → IsAlong way (held_first held (e ∷ es)) → Goes (held_after number held e) (passed number held e)
-    goes held along = elim (is_counted number e) as (λ b. Goes (cond b (held_with held e) held) (cond b (passed_by held e) None)) [
+    goes : (held : Option Entry) → IsAlong way (held_first held (e ∷ es)) → Goes (held_after number held e) (passed hides number held e)
+    goes held along = elim (is_counted number e) as (λ b. Goes (cond b (held_with held e) held) (cond b (passed_by hides held e) None)) [
       | true ↦ goes_with held along
       | false ↦ (along-skip held along, tt)
     ]
 
-  first-visible : (number : ℕ) (given : Option Entry) (es : List Entry) → FirstOf given es → FirstOf given (visible number es)
-  first-visible number None es first = tt
-  first-visible number (Some w) es first = all-visible (λ f. is_gt (way_cmp way w f) ≡ false) number es first
+  first-visible : (hides : Hides) (number : ℕ) (given : Option Entry) (es : List Entry) → FirstOf given es → FirstOf given (visible hides number es)
+  first-visible hides number None es first = tt
+  first-visible hides number (Some w) es first = all-visible hides (λ f. is_gt (way_cmp way w f) ≡ false) number es first
 
-  along-shown : (h : Entry) → IsAlong way (shown (Some h))
-  along-shown h = elim (is_gone h.body) as (λ b. IsAlong way (cond b [] (h ∷ []))) [
+  along-shown : (hides : Hides) (h : Entry) → IsAlong way (shown hides (Some h))
+  along-shown hides h = elim (is_hidden hides h) as (λ b. IsAlong way (cond b [] (h ∷ []))) [
     | true ↦ tt
     | false ↦ (tt, tt)
   ]
 
-  along-held : (number : ℕ) (es : List Entry) (held : Option Entry) → IsAlong way (held_first held es) → is_held_counted number held ≡ true
-      → IsAlong way (visible number (held_first held es))
-  along-held number [] None along counted = tt
-  along-held number [] (Some h) along counted =
-      subst (IsAlong way) (sym (visible-front number h [] counted refl ∙ append-nil (shown (Some h)))) (along-shown h)
-  along-held number (e ∷ es) held along counted =
-      let now = passes number held e es (grouped-along way (held_first held (e ∷ es)) along) counted in
-      let on = goes number e es held along in
+  along-held : (hides : Hides) (number : ℕ) (es : List Entry) (held : Option Entry) → IsAlong way (held_first held es) → is_held_counted number held ≡ true
+      → IsAlong way (visible hides number (held_first held es))
+  along-held hides number [] None along counted = tt
+  along-held hides number [] (Some h) along counted =
+      subst (IsAlong way) (sym (visible-front hides number h [] counted refl ∙ append-nil (shown hides (Some h)))) (along-shown hides h)
+  along-held hides number (e ∷ es) held along counted =
+      let now = passes hides number held e es (grouped-along way (held_first held (e ∷ es)) along) counted in
+      let on = goes hides number e es held along in
       subst (IsAlong way) (sym now.whole)
-      (along-join (passed number held e) (visible number (held_first (held_after number held e) es))
-      (first-visible number (passed number held e) (held_first (held_after number held e) es) on.1)
-      (along-held number es (held_after number held e) on.0 now.counted))
+      (along-join (passed hides number held e) (visible hides number (held_first (held_after number held e) es))
+      (first-visible hides number (passed hides number held e) (held_first (held_after number held e) es) on.1)
+      (along-held hides number es (held_after number held e) on.0 now.counted))
 
-  pub along-visible : (number : ℕ) (es : List Entry) → IsAlong way es → IsAlong way (visible number es)
-  along-visible number es along = along-held number es None along refl
+  pub along-visible : (hides : Hides) (number : ℕ) (es : List Entry) → IsAlong way es → IsAlong way (visible hides number es)
+  along-visible hides number es along = along-held hides number es None along refl

@@ -8,7 +8,8 @@ use Rattle.vl_model.specs.Winners.{counts, only_if, newest_of, winner}
 use Rattle.vl_model.specs.laws.WinnerLaws.{newest_of-assoc, same_key, key_tied}
 use Rattle.vl_model.specs.declared.entry.Entry.{Entry}
 use Rattle.vl_merge.specs.Grouped.{is_without, is_joined, is_grouped}
-use Rattle.vl_merge.specs.Visible.{is_counted, keys_of, shown, visible}
+use Rattle.vl_merge.specs.declared.hides.Hides.{Hides}
+use Rattle.vl_merge.specs.Visible.{is_hidden, is_counted, keys_of, shown, visible}
 use Rattle.vl_merge.specs.Held.{held_first}
 
 -- ---- keys
@@ -75,13 +76,13 @@ all-of P each [] = tt
 all-of P each (k ∷ ks) = (each k, all-of P each ks)
 
 -- the same keys with the same winners
-visible-same : (number : ℕ) (es fs : List Entry) → keys_at number es ≡ keys_at number fs
+visible-same : (hides : Hides) (number : ℕ) (es fs : List Entry) → keys_at number es ≡ keys_at number fs
     → ((key : List ℕ) → winner es key number ≡ winner fs key number)
-    → visible number es ≡ visible number fs
-visible-same number es fs keys winners =
-    flat_map-on (λ k. shown (winner es k number)) (λ k. shown (winner fs k number)) (keys_at number es)
-    (all-of (λ k. shown (winner es k number) ≡ shown (winner fs k number)) (λ k. ap shown (winners k)) (keys_at number es))
-    ∙ ap (flat_map (λ k. shown (winner fs k number))) keys
+    → visible hides number es ≡ visible hides number fs
+visible-same hides number es fs keys winners =
+    flat_map-on (λ k. shown hides (winner es k number)) (λ k. shown hides (winner fs k number)) (keys_at number es)
+    (all-of (λ k. shown hides (winner es k number) ≡ shown hides (winner fs k number)) (λ k. ap (shown hides) (winners k)) (keys_at number es))
+    ∙ ap (flat_map (λ k. shown hides (winner fs k number))) keys
 
 counted-in : (number : ℕ) (e : Entry) (es : List Entry) → is_counted number e ≡ true
     → filter (is_counted number) (e ∷ es) ≡ e ∷ filter (is_counted number) es
@@ -103,18 +104,18 @@ winner-above number e es key above =
     ap (λ b. newest_of (only_if (is_key key e.key && b) e) (winner es key number)) above
     ∙ ap (λ b. newest_of (only_if b e) (winner es key number)) (and_false (is_key key e.key))
 
-pub visible-above : (number : ℕ) (held : Option Entry) (e : Entry) (es : List Entry) → is_counted number e ≡ false
-    → visible number (held_first held (e ∷ es)) ≡ visible number (held_first held es)
-visible-above number None e es above =
-    visible-same number (e ∷ es) es (ap keys_of (counted-out number e es above)) (λ key. winner-above number e es key above)
-visible-above number (Some h) e es above =
-    visible-same number (h ∷ e ∷ es) (h ∷ es)
+pub visible-above : (hides : Hides) (number : ℕ) (held : Option Entry) (e : Entry) (es : List Entry) → is_counted number e ≡ false
+    → visible hides number (held_first held (e ∷ es)) ≡ visible hides number (held_first held es)
+visible-above hides number None e es above =
+    visible-same hides number (e ∷ es) es (ap keys_of (counted-out number e es above)) (λ key. winner-above number e es key above)
+visible-above hides number (Some h) e es above =
+    visible-same hides number (h ∷ e ∷ es) (h ∷ es)
     (ap (λ l. keys_of (cond (is_counted number h) (h ∷ l) l)) (counted-out number e es above))
     (λ key. ap (newest_of (only_if (counts key number h) h)) (winner-above number e es key above))
 
 -- ---- two of one key
 
-module _ (number : ℕ) (h e : Entry) (es : List Entry) (of_h : is_counted number h ≡ true) (of_e : is_counted number e ≡ true)
+module _ (hides : Hides) (number : ℕ) (h e : Entry) (es : List Entry) (of_h : is_counted number h ≡ true) (of_e : is_counted number e ≡ true)
     (one_key : is_key h.key e.key ≡ true) where
   same : h.key ≡ e.key
   same = same_key h.key e.key one_key
@@ -147,8 +148,8 @@ module _ (number : ℕ) (h e : Entry) (es : List Entry) (of_h : is_counted numbe
       by false = refl
 
   pub visible-one : (x : Entry) → newest_of (Some h) (Some e) ≡ Some x → x.key ≡ h.key → is_counted number x ≡ true
-      → visible number (h ∷ e ∷ es) ≡ visible number (x ∷ es)
-  visible-one x newest is of_x = visible-same number (h ∷ e ∷ es) (x ∷ es) (keys-one x is of_x) (winner-one x newest is of_x)
+      → visible hides number (h ∷ e ∷ es) ≡ visible hides number (x ∷ es)
+  visible-one x newest is of_x = visible-same hides number (h ∷ e ∷ es) (x ∷ es) (keys-one x is of_x) (winner-one x newest is of_x)
 
 -- ---- one in front of others of other keys
 
@@ -192,21 +193,21 @@ pub winner-other : (number : ℕ) (h : Entry) (rest : List Entry) (key : List �
 winner-other number h rest key apart =
     ap (λ b. newest_of (only_if (b && is_counted number h) h) (winner rest key number)) (key_turned h.key key apart)
 
-pub visible-front : (number : ℕ) (h : Entry) (rest : List Entry) → is_counted number h ≡ true → is_without h.key rest ≡ true
-    → visible number (h ∷ rest) ≡ shown (Some h) ++ visible number rest
-visible-front number h rest of_h without =
+pub visible-front : (hides : Hides) (number : ℕ) (h : Entry) (rest : List Entry) → is_counted number h ≡ true → is_without h.key rest ≡ true
+    → visible hides number (h ∷ rest) ≡ shown hides (Some h) ++ visible hides number rest
+visible-front hides number h rest of_h without =
     let keys = keys_at number rest in
     let are = keys-without number h.key rest without in
-    ap (λ l. flat_map (λ k. shown (winner (h ∷ rest) k number)) (keys_of l)) (counted-in number h rest of_h)
-    ∙ ap (λ l. shown (winner (h ∷ rest) h.key number) ++ flat_map (λ k. shown (winner (h ∷ rest) k number)) l) (others-all h.key keys are)
-    ∙ ap (λ w. shown w ++ flat_map (λ k. shown (winner (h ∷ rest) k number)) keys) (winner-front number h rest of_h without)
-    ∙ ap (λ l. shown (Some h) ++ l)
-    (flat_map-on (λ k. shown (winner (h ∷ rest) k number)) (λ k. shown (winner rest k number)) keys (each keys are))
+    ap (λ l. flat_map (λ k. shown hides (winner (h ∷ rest) k number)) (keys_of l)) (counted-in number h rest of_h)
+    ∙ ap (λ l. shown hides (winner (h ∷ rest) h.key number) ++ flat_map (λ k. shown hides (winner (h ∷ rest) k number)) l) (others-all h.key keys are)
+    ∙ ap (λ w. shown hides w ++ flat_map (λ k. shown hides (winner (h ∷ rest) k number)) keys) (winner-front number h rest of_h without)
+    ∙ ap (λ l. shown hides (Some h) ++ l)
+    (flat_map-on (λ k. shown hides (winner (h ∷ rest) k number)) (λ k. shown hides (winner rest k number)) keys (each keys are))
   where
     each : (keys : List (List ℕ)) → AreOthers h.key keys
-        → AllByRecursion (λ k. shown (winner (h ∷ rest) k number) ≡ shown (winner rest k number)) keys
+        → AllByRecursion (λ k. shown hides (winner (h ∷ rest) k number) ≡ shown hides (winner rest k number)) keys
     each [] are = tt
-    each (k ∷ ks) are = (ap shown (winner-other number h rest k are.0), each ks are.1)
+    each (k ∷ ks) are = (ap (shown hides) (winner-other number h rest k are.0), each ks are.1)
 
 -- ---- entries of one key stay together
 

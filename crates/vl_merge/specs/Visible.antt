@@ -6,6 +6,8 @@ use Rattle.vl_model.specs.Keys.{key_cmp}
 use Rattle.vl_model.specs.Entries.{is_gone}
 use Rattle.vl_model.specs.Winners.{winner}
 use Rattle.vl_model.specs.declared.entry.Entry.{Entry}
+use Rattle.vl_merge.specs.declared.hides.Hides.{Hides}
+use Rattle.vl_merge.specs.declared.hides.Hides.TheVariants.{Gone, UpTo}
 
 -- whether the version is at most the number
 abbrev pub is_counted : ℕ → Entry → Bool
@@ -16,12 +18,16 @@ abbrev pub keys_of : List Entry → List (List ℕ)
 keys_of [] = []
 keys_of (e ∷ es) = e.key ∷ filter (λ key. not (eq_by_cmp key_cmp e.key key)) (keys_of es)
 
--- a deletion isn't shown
-abbrev pub shown : Option Entry → List Entry
-shown None = []
-shown (Some e) = if is_gone e.body then [] else e ∷ []
+-- which winners aren't shown: deletions; or those whose version is at most a number, where deletions are shown
+abbrev pub is_hidden : Hides → Entry → Bool
+is_hidden Gone e = is_gone e.body
+is_hidden (UpTo since) e = nat_le e.version since
 
--- of each key that has a version of at most the number its winner, where that isn't a deletion
-abbrev pub visible : ℕ → List Entry → List Entry
-visible number es =
-    flat_map (λ key. shown (winner es key number)) (keys_of (filter (is_counted number) es))
+abbrev pub shown : Hides → Option Entry → List Entry
+shown hides None = []
+shown hides (Some e) = if is_hidden hides e then [] else e ∷ []
+
+-- of each key that has a version of at most the number its winner, where that is shown
+abbrev pub visible : Hides → ℕ → List Entry → List Entry
+visible hides number es =
+    flat_map (λ key. shown hides (winner es key number)) (keys_of (filter (is_counted number) es))

@@ -11,6 +11,7 @@
 
 mod build;
 mod held;
+mod hides;
 mod laws;
 mod lookahead;
 mod merge;
@@ -19,6 +20,7 @@ mod tree;
 mod visible;
 mod visible_laws;
 
+pub use hides::Hides;
 pub use laws::{
     merge_of_told_sources, merged_goes_along, merged_has_the_same_winners, merged_one_at_a_time,
 };

@@ -3,8 +3,9 @@ ghost use Rattle.std.specs.Option.{option_map};
 ghost use Rattle.vl_model.specs.Cursors.{Gives, Keeps, Spends, IsCounted};
 ghost use Rattle.vl_merge.specs.Held.{visible_left, held_budget};
 ghost use Rattle.vl_merge.specs.Visible.{visible};
+ghost use Rattle.vl_merge.specs.declared.hides.Hides.TheVariants.{Gone};
 
-use crate::Merge;
+use crate::{Hides, Merge};
 use crate::held::{only_shown, pass};
 use vl_model::{Cursor, Entry};
 
@@ -13,6 +14,7 @@ use vl_model::{Cursor, Entry};
 pub struct Visible<C> {
     merge: Merge<C>,
     number: u64,
+    hides: Hides,
     // Of the entries of a key that is being read the winner so far.
     held: Option<Entry>,
 }
@@ -22,7 +24,7 @@ impl<C: Cursor + Drop> Cursor for Visible<C> {
 
     type Reader = C::Reader;
 
-    ghost left = { λ v. visible_left v.number v.held (⟦<Merge<C> as Cursor>⟧.left v.merge) };
+    ghost left = { λ v. visible_left v.hides v.number v.held (⟦<Merge<C> as Cursor>⟧.left v.merge) };
 
     ghost budget = { λ v. held_budget v.held (⟦<Merge<C> as Cursor>⟧.budget v.merge) };
 
@@ -33,15 +35,26 @@ impl<C: Cursor + Drop> Cursor for Visible<C> {
     ghost may_fail = { λ v f. ⟦<Merge<C> as Cursor>⟧.may_fail v.merge f };
 
     fn next(&mut self, reader: &mut C::Reader) -> Result<Option<Entry>, C::Fault> {
-        next_visible(&mut self.merge, &mut self.held, self.number, reader)
+        next_visible(&mut self.merge, &mut self.held, self.number, self.hides, reader)
     }
 }
 
 impl<C: Cursor + Drop> Visible<C> {
-    /// What is visible of a merge's entries at a number.
+    /// What is visible of a merge's entries at a number: of each key its winner, but no deletion.
     pub fn new(merge: Merge<C>, number: u64) -> Self
         ensures left { ⟦<Visible<C> as Cursor>⟧.left result
-            ≡ option_map (visible number) (⟦<Merge<C> as Cursor>⟧.left merge) }
+            ≡ option_map (visible Gone number) (⟦<Merge<C> as Cursor>⟧.left merge) }
+        ensures budget { ⟦<Visible<C> as Cursor>⟧.budget result ≡ ⟦<Merge<C> as Cursor>⟧.budget merge }
+        ensures may_fail { (fault : C.Fault) → ⟦<Visible<C> as Cursor>⟧.may_fail result fault
+            → ⟦<Merge<C> as Cursor>⟧.may_fail merge fault }
+    {
+        Self::with(merge, number, Hides::Gone)
+    }
+
+    /// The winners of a merge's entries at a number, but those that are hidden.
+    pub fn with(merge: Merge<C>, number: u64, hides: Hides) -> Self
+        ensures left { ⟦<Visible<C> as Cursor>⟧.left result
+            ≡ option_map (visible hides number) (⟦<Merge<C> as Cursor>⟧.left merge) }
         ensures budget { ⟦<Visible<C> as Cursor>⟧.budget result ≡ ⟦<Merge<C> as Cursor>⟧.budget merge }
         ensures may_fail { (fault : C.Fault) → ⟦<Visible<C> as Cursor>⟧.may_fail result fault
             → ⟦<Merge<C> as Cursor>⟧.may_fail merge fault }
@@ -50,22 +63,24 @@ impl<C: Cursor + Drop> Visible<C> {
         Visible {
             merge,
             number,
+            hides,
             held: None,
         }
     }
 }
 
-// The next winner that isn't a deletion.
+// The next winner that isn't hidden.
 fn next_visible<M: Cursor>(
     merge: &mut M,
     held: &mut Option<Entry>,
     number: u64,
+    hides: Hides,
     reader: &mut M::Reader,
 ) -> Result<Option<Entry>, M::Fault>
-    ensures given { IfOk result (λ next. Gives (visible_left number held.old (M.left merge.old))
-        (visible_left number held.new (M.left merge.new)) next) }
-    ensures kept { OnErr result (Keeps (visible_left number held.old (M.left merge.old))
-        (visible_left number held.new (M.left merge.new))) }
+    ensures given { IfOk result (λ next. Gives (visible_left hides number held.old (M.left merge.old))
+        (visible_left hides number held.new (M.left merge.new)) next) }
+    ensures kept { OnErr result (Keeps (visible_left hides number held.old (M.left merge.old))
+        (visible_left hides number held.new (M.left merge.new))) }
     ensures spends { MatchResult result
         (Spends (held_budget held.old (M.budget merge.old)) (held_budget held.new (M.budget merge.new)))
         (λ _. held_budget held.new (M.budget merge.new) ≤ held_budget held.old (M.budget merge.old)) }
@@ -75,10 +90,10 @@ fn next_visible<M: Cursor>(
     ensures keeps { (fault : M.Fault) → M.may_fail merge.new fault → M.may_fail merge.old fault }
 {
     while let Some(entry) = merge.next(reader)? {
-        let winner = pass(held, entry, number);
+        let winner = pass(held, entry, number, hides);
         if winner.is_some() {
             return Ok(winner);
         }
     }
-    Ok(only_shown(held.take()))
+    Ok(only_shown(held.take(), hides))
 }

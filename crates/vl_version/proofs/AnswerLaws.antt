@@ -7,6 +7,7 @@ use Rattle.std.specs.FinMap.{entries, entries_sorted, find, get-entries}
 use Rattle.std.specs.List.{AllByRecursion}
 use Rattle.vl_disk.specs.declared.name.Name.{Name}
 use Rattle.vl_merge.specs.Merging.{IsAlong}
+use Rattle.vl_merge.specs.declared.hides.Hides.TheVariants as hiding
 use Rattle.vl_merge.specs.Visible.{shown}
 use Rattle.vl_model.specs.Entries.{is_gone}
 use Rattle.vl_model.specs.Keys.{Row, Writes, key_cmp}
@@ -35,7 +36,7 @@ use Rattle.vl_version.proofs.Winning.{winner-has, winner-version}
 some_same : {e f : Entry} → Some e ≡ Some f → e ≡ f
 some_same is = cc
 
-kept_of : (w : Option Entry) → AllByRecursion IsKept (shown w)
+kept_of : (w : Option Entry) → AllByRecursion IsKept (shown hiding.Gone w)
 kept_of None = tt
 kept_of (Some e) = by (is_gone e.body) refl
   where
@@ -48,7 +49,7 @@ module _ (held logs : Logs) (es : List Entry) (number : ℕ) (own : Writes) (wan
     (wins : (key : List ℕ) → winner all key number
     ≡ cond (is_in_span (span_of wanted.low.now wanted.high.now) key) (winner (own_entries number (entries own) ++ es) key number) None)
     (along : IsAlong wanted.way seen)
-    (winners : (key : List ℕ) → of_key key seen ≡ shown (winner all key number)) where
+    (winners : (key : List ℕ) → of_key key seen ≡ shown hiding.Gone (winner all key number)) where
   -- nothing that is visible is a deletion
   pub all_kept : AllByRecursion IsKept seen
   all_kept = all_by_key IsKept seen (λ key. subst (AllByRecursion IsKept) (sym (winners key)) (kept_of (winner all key number)))
@@ -64,7 +65,7 @@ module _ (held logs : Logs) (es : List Entry) (number : ℕ) (own : Writes) (wan
   both_near [] ys near too = too
   both_near (x ∷ xs) ys near too = (near.0, both_near xs ys near.1 too)
 
-  near_shown : (w : Option Entry) → ((e : Entry) → w ≡ Some e → IsNear e.body) → AreNear (shown w)
+  near_shown : (w : Option Entry) → ((e : Entry) → w ≡ Some e → IsNear e.body) → AreNear (shown hiding.Gone w)
   near_shown None near = tt
   near_shown (Some e) near = by (is_gone e.body)
     where
@@ -121,7 +122,7 @@ module _ (held logs : Logs) (es : List Entry) (number : ℕ) (own : Writes) (wan
       some_same (sym (newest_of-own number (key, c) w (λ f found. winner-version key number es f (is ∙ found))) ∙ win) in
       absurd (own_leads key c e name place mine astray.1)
 
-  of_winner : (key : List ℕ) (w : Option Entry) → winner all key number ≡ w → AllByRecursion Finds_astray (shown w)
+  of_winner : (key : List ℕ) (w : Option Entry) → winner all key number ≡ w → AllByRecursion Finds_astray (shown hiding.Gone w)
   of_winner key None is = tt
   of_winner key (Some e) is = by (is_gone e.body)
     where

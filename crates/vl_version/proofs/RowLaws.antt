@@ -22,6 +22,7 @@ use Rattle.vl_model.specs.declared.entry.Entry.{Entry}
 use Rattle.vl_model.specs.declared.way.Way.{Way}
 use Rattle.vl_model.specs.declared.way.Way.TheVariants.{Up, Down}
 use Rattle.vl_merge.specs.Merging.{IsAlong, IsFirst}
+use Rattle.vl_merge.specs.declared.hides.Hides.TheVariants as hiding
 use Rattle.vl_merge.specs.Visible.{shown}
 use Rattle.vl_version.specs.Rows.{AreRowsOf}
 use Rattle.vl_version.specs.Scans.{MayHave}
@@ -219,7 +220,7 @@ unwrapped (Some v) some = refl
 
 module _ (logs : Logs) (all : List Entry) (number : ℕ) (cut : List Row)
     (have : (key : List ℕ) → MayHave (resolved_at logs (winner all key number)) (find key_cmp key cut)) where
-  seen_of : (key : List ℕ) (w : Option Entry) → winner all key number ≡ w → AllByRecursion (Is_seen logs cut) (shown w)
+  seen_of : (key : List ℕ) (w : Option Entry) → winner all key number ≡ w → AllByRecursion (Is_seen logs cut) (shown hiding.Gone w)
   seen_of key None is = tt
   seen_of key (Some e) is = by (is_gone e.body) refl
     where
@@ -241,7 +242,7 @@ module _ (logs : Logs) (all : List Entry) (number : ℕ) (cut : List Row)
   gone-none key (Far pointer) value gone have = absurd cc
   gone-none key (Logged v pointer) value gone have = absurd cc
 
-  first-shown : (key : List ℕ) (w : Option Entry) → winner all key number ≡ w → first_of cut (shown w) ≡ find key_cmp key cut
+  first-shown : (key : List ℕ) (w : Option Entry) → winner all key number ≡ w → first_of cut (shown hiding.Gone w) ≡ find key_cmp key cut
   first-shown key None is =
       sym (subst (λ (w : Option Entry). MayHave (resolved_at logs w) (find key_cmp key cut)) is (have key))
   first-shown key (Some e) is = by (is_gone e.body) refl
@@ -255,7 +256,7 @@ module _ (logs : Logs) (all : List Entry) (number : ℕ) (cut : List Row)
           ap (λ k. Some (unwrap_or (find key_cmp k cut) (untagged []))) (sym (winner-key key number all e is))
           ∙ unwrapped (find key_cmp key cut) (led_by logs e.key e.body (find key_cmp key cut) kept here)
 
-  shown-once : (w : Option Entry) → length (shown w) ≤ 1
+  shown-once : (w : Option Entry) → length (shown hiding.Gone w) ≤ 1
   shown-once None = omega arith
   shown-once (Some e) = by (is_gone e.body)
     where
@@ -264,7 +265,7 @@ module _ (logs : Logs) (all : List Entry) (number : ℕ) (cut : List Row)
       by false = omega arith
 
   module _ (way : Way) (seen : List Entry) (along : IsAlong way seen)
-      (winners : (key : List ℕ) → of_key key seen ≡ shown (winner all key number))
+      (winners : (key : List ℕ) → of_key key seen ≡ shown hiding.Gone (winner all key number))
       (sorted : T (is_sorted key_cmp cut)) where
     once : AreOnce seen
     once key = subst (λ (es : List Entry). length es ≤ 1) (sym (winners key)) (shown-once (winner all key number))

@@ -15,6 +15,7 @@ use Rattle.vl_model.specs.declared.change.Change.TheVariants.{Set, Delete}
 use Rattle.vl_model.specs.declared.entry.Entry.{Entry}
 use Rattle.vl_model.specs.declared.way.Way.{Way}
 use Rattle.vl_merge.specs.Merging.{IsAlong}
+use Rattle.vl_merge.specs.declared.hides.Hides.TheVariants as hiding
 use Rattle.vl_merge.specs.Visible.{shown}
 use Rattle.vl_version.specs.Gathered.{span_of}
 use Rattle.vl_version.specs.Own.{own_entries, own_entry}
@@ -104,7 +105,7 @@ module _ (logs : Logs) (number : ℕ) (own : List (List ℕ × Change)) (es : Li
   pub rows_are_scanned : (low high : List ℕ) (way : Way) (n : ℕ) (all seen : List Entry) (rows rows_at : List Row)
       → ((key : List ℕ) → winner all key number
       ≡ cond (is_in_span (span_of low high) key) (winner (own_entries number own ++ es) key number) None)
-      → IsAlong way seen → ((key : List ℕ) → of_key key seen ≡ shown (winner all key number))
+      → IsAlong way seen → ((key : List ℕ) → of_key key seen ≡ shown hiding.Gone (winner all key number))
       → T (is_sorted key_cmp rows_at) → ((key : List ℕ) → MayHave (resolved_at logs (winner es key number)) (find key_cmp key rows_at))
       → AreRowsOf logs (take n seen) rows
       → rows ≡ take n (in_direction way (where_key key_cmp (is_within low high) (rows_written own rows_at)))

@@ -9,7 +9,7 @@ use Rattle.vl_core.specs.Begun.{base_begun, layout_begun}
 use Rattle.vl_core.specs.Held.{Holds, IsBase}
 use Rattle.vl_core.specs.Shown.{Shown}
 use Rattle.vl_core.specs.laws.BegunLaws.{begun_base, begun_holds, one_opening}
-use Rattle.vl_core.specs.laws.BegunShows.{begun_shows}
+use Rattle.vl_core.specs.laws.BegunShows.{begun_spares, begun_shows}
 use Rattle.vl_frame.specs.Runs.{HasFrame}
 use Rattle.vl_manifest.specs.Grammar.{edits_grammar}
 use Rattle.vl_manifest.specs.Manifest.{manifest_bytes}
@@ -93,7 +93,7 @@ module _ {read : Image} (found : Finds read) (start : DiskState) (begins : Begin
       pub repaired_base : IsBase (base_begun found manifest (but_last (logs_then found)))
           (layout_begun room found shown (but_last (logs_then found))) h
       repaired_base = begun_base found h shown room manifest fits (new_range found start begins) opened_number
-          (begun_shows found h shown room).spared
+          (begun_spares found h shown room)
         where
           fits : manifest.number < 2 ^ 32
           fits = let few = manifest_fits found start begins in omega (arith, few, numbered)

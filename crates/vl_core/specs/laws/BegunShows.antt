@@ -8,7 +8,7 @@ use Rattle.vl_core.specs.Begun.{layout_begun}
 use Rattle.vl_core.specs.Files.{found_levels}
 use Rattle.vl_core.specs.Pointed.{IsFramedAmong, layout_logs, stored_among, stored_of}
 use Rattle.vl_core.specs.Shown.{EntriesShow, HasFramedAmong, Shown, entries_among, logs_entries}
-use Rattle.vl_core.specs.Spared.{IsSpared}
+use Rattle.vl_core.specs.Spared.{IsSpared, IsWhole, Spares}
 use Rattle.vl_core.specs.laws.AmongLaws.{tables_led}
 use Rattle.vl_core.specs.laws.BegunLaws.{as_told, begun_led, led_alike, one_opening}
 use Rattle.vl_core.specs.laws.FileLaws.{segment_number}
@@ -91,7 +91,7 @@ module _ {read : Image} (found : Finds read) (h : History) (shown : Shown read h
       ∙ ap (λ (es : List Entry). es ++ entries_among shown.levels) (sym (entries-newest (filter has_frames (but_last (logs_then found)))))
 
   -- and show the history in its logs.
-  pub begun_shows : EntriesShow found.opening.state.keep found.opening.state.since
+  pub begun_shows : EntriesShow found.opening.state.keep found.opening.state.since found.opening.state.gone
       (layout_logs (layout_begun room found shown (but_last (logs_then found))))
       (sources (layout_begun room found shown (but_last (logs_then found)))) h (last_number h)
   begun_shows = record {
@@ -104,16 +104,21 @@ module _ {read : Image} (found : Finds read) (h : History) (shown : Shown read h
     versions = subst (AllByRecursion (IsOf h)) begun_sources was.versions;
     up_to = subst (AreUpTo (last_number h)) begun_sources was.up_to;
     spared = subst (λ (es : List Entry). IsSpared h es (last_number h) (last_number h) begun.keep begun.since) begun_sources was.spared;
+    whole = subst (λ (es : List Entry). IsWhole h es (last_number h) (last_number h) begun.gone) begun_sources was.whole;
   }
     where
       read_entries : List Entry
       read_entries = logs_entries shown.opening.logs ++ entries_among shown.levels
 
-      was : EntriesShow found.opening.state.keep found.opening.state.since (stored_among shown.sealed)
+      was : EntriesShow found.opening.state.keep found.opening.state.since found.opening.state.gone (stored_among shown.sealed)
           (logs_entries shown.opening.logs ++ entries_among shown.levels) h (last_number h)
-      was = subst (λ (o : Opening). EntriesShow o.state.keep o.state.since (stored_among shown.sealed)
+      was = subst (λ (o : Opening). EntriesShow o.state.keep o.state.since o.state.gone (stored_among shown.sealed)
           (logs_entries shown.opening.logs ++ entries_among shown.levels) h (last_number h)) (one_opening found h shown room) shown.entries
 
       entries_far : AreFarTo IsLed (logs_entries shown.opening.logs ++ entries_among shown.levels)
       entries_far = all_both (λ (e : Entry). IsFarTo IsLed e.body) (logs_entries shown.opening.logs) (entries_among shown.levels)
           (logs_near IsLed shown.opening.logs) (tables_led shown.levels)
+
+  -- and lack no version that they should have.
+  pub begun_spares : Spares (layout_begun room found shown (but_last (logs_then found))) h
+  begun_spares = record { past = begun_shows.spared; whole = begun_shows.whole }

@@ -12,7 +12,7 @@ use Rattle.vl_core.specs.Files.{HasLog, HasTable, HoldsLog, HoldsTable, bytes_of
 use Rattle.vl_core.specs.Held.{Base, Holds, HoldsBase, HoldsFiles, HoldsSources, IsBase, frames_of, logs_from}
 use Rattle.vl_core.specs.Pointed.{bytes_of_log, layout_logs}
 use Rattle.vl_core.specs.Shown.{EntriesShow, HasFramedAmong, Shown, entries_among, logs_entries}
-use Rattle.vl_core.specs.Spared.{IsSpared}
+use Rattle.vl_core.specs.Spared.{IsSpared, IsWhole}
 use Rattle.vl_core.specs.laws.FileLaws.{IsTableAmong, all_each, all_filtered, all_more, has_numbered, named_among}
 use Rattle.vl_core.specs.laws.FileLaws.{named_levels, named_logs, segment_all, segment_number}
 use Rattle.vl_core.specs.laws.LogEntries.{entries-append, entries-filtered, entries-newest}
@@ -237,15 +237,16 @@ module _ (b : Base) (l : Layout) (h : History) (base : IsBase b l h) where
 
   module _ (tidy : IsTidy (layout_logs l) l h) where
     -- The entries show the history at its last number.
-    pub held_entries_show : EntriesShow b.state.keep b.state.since (layout_logs l)
+    pub held_entries_show : EntriesShow b.state.keep b.state.since b.state.gone (layout_logs l)
         (logs_entries (logs_from b l) ++ entries_among l.levels) h (last_number h)
     held_entries_show =
-        subst (λ (es : List Entry). EntriesShow b.state.keep b.state.since (layout_logs l) es h (last_number h)) sources-logs (record {
+        subst (λ (es : List Entry). EntriesShow b.state.keep b.state.since b.state.gone (layout_logs l) es h (last_number h)) sources-logs (record {
           shows = shows_opened (layout_logs l) (sources l) h (floor l h) b.state.keep b.state.since (floor-up l h) from_floor;
           versions = tidy.versions;
           up_to = of_up_to h (sources l) tidy.versions;
           spared = subst (λ (k : ℕ). IsSpared h (sources l) (last_number h) (last_number h) k b.state.since) (sym base.keep)
-              (subst (λ (n : ℕ). IsSpared h (sources l) (last_number h) (last_number h) l.keep n) (sym base.since) base.spared);
+              (subst (λ (n : ℕ). IsSpared h (sources l) (last_number h) (last_number h) l.keep n) (sym base.since) base.spared.past);
+          whole = subst (λ (n : ℕ). IsWhole h (sources l) (last_number h) (last_number h) n) (sym base.gone) base.spared.whole;
         })
       where
         from_floor : Shows (layout_logs l) (sources l) h (low h (floor l h) b.state.keep b.state.since) (last_number h)

@@ -3,10 +3,13 @@ use Rattle.std.proofs.Common.{◌≡◌, ◌⊎◌, inl, inr, ⊎_elim, ℕ, ◌
 use Rattle.std.proofs.Common.{◌++◌, refl, ap, sym, ◌∙◌, subst, arith}
 use Rattle.std.specs.Prelude.{if◌then◌else◌, Option, None, Some}
 use Rattle.std.specs.List.{AllByRecursion, flat_map, list_any}
-use Rattle.vl_core.specs.Spared.{IsSpared, Spares, SparesRuled, at_rest}
+use Rattle.vl_core.specs.Spared.{IsSpared, IsWhole, Spares, SparesRuled, at_rest}
+use Rattle.vl_core.specs.laws.InstallWhole.{whole_left}
+use Rattle.vl_layout.specs.Merging.{gone_after, needless}
+use Rattle.vl_layout_laws.specs.laws.Gone.{raised-kept, raised-reached}
 use Rattle.vl_core.specs.laws.InstallSpared.{spared_left}
 use Rattle.vl_core.specs.laws.InstallTables.{made_stand, others_stay}
-use Rattle.vl_core.specs.laws.SparedLaws.{spared_later}
+use Rattle.vl_core.specs.laws.SparedLaws.{spared_later, whole_later}
 use Rattle.vl_layout.specs.Jobs.{AreOutputs, Made}
 use Rattle.vl_layout.specs.Levels.{due_from, is_among}
 use Rattle.vl_layout.specs.Logs.{memtable}
@@ -222,6 +225,19 @@ module _ (l : Layout) (h : History) (job : Job) (moved : List Named) (made : Mad
       (spared_left job moved (sourced l job.inputs) k.kept k.some h to floor l.keep l.since up k.fits
       (subst (λ (es : List Entry). IsSpared h es to floor l.keep l.since) (sym (plain-sourced l job.inputs)) spared))
 
+  pub whole_installed : (to floor : ℕ) → job.floor ≤ floor → IsWhole h (sources l) to floor l.gone
+      → IsWhole h (sources (installed job made l)) to floor (gone_after l.gone (needless job))
+  whole_installed to floor up whole =
+      let left = kept_of (marks_now job (sourced l job.inputs)) in
+      let after = gone_after l.gone (needless job) in
+      whole_later h h left (sources (installed job made l)) to to floor floor after after (omega arith) (omega arith)
+      (λ key n there. has-versions_in key n (sources (installed job made l))
+      ∙ left_stands l job moved made k.kept k.fitted k.roomy all key n (sym (has-versions_in key n left) ∙ there))
+      (λ key n le there missing. (le, there))
+      (whole_left job moved (sourced l job.inputs) k.kept k.some h to floor l.gone after up (raised-kept l.gone (needless job))
+      (raised-reached l.gone (needless job))
+      (subst (λ (es : List Entry). IsWhole h es to floor l.gone) (sym (plain-sourced l job.inputs)) whole))
+
   floor_up : job.floor ≤ floor l h
   floor_up = by l.live k.live
     where
@@ -231,11 +247,17 @@ module _ (l : Layout) (h : History) (job : Job) (moved : List Named) (made : Mad
 
   -- The sources behind an install spare versions as they should,
   pub spares_installed : Spares l h → Spares (installed job made l) h
-  spares_installed = spared_installed (last_number h) (floor l h) floor_up
+  spares_installed spares = record {
+    past = spared_installed (last_number h) (floor l h) floor_up spares.past;
+    whole = whole_installed (last_number h) (floor l h) floor_up spares.whole;
+  }
 
   -- and so they do where nothing lives.
   pub rest_spares_installed : Spares (at_rest l) h → Spares (at_rest (installed job made l)) h
-  rest_spares_installed = spared_installed (last_number h) (last_number h) k.last
+  rest_spares_installed spares = record {
+    past = spared_installed (last_number h) (last_number h) k.last spares.past;
+    whole = whole_installed (last_number h) (last_number h) k.last spares.whole;
+  }
 
 -- ---- what rulings on jobs leave
 

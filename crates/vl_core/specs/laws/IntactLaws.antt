@@ -187,8 +187,9 @@ module _ (image : Image) (h : History) (m : ℕ) (shown : Shown image h m) where
   all_resolve =
       let keep = shown.opening.state.keep in
       let since = shown.opening.state.since in
-      let show : EntriesShow keep since (stored_among shown.sealed) es (reopened h m) m =
-      entries_show_reopened keep since (stored_among shown.sealed) es h m shown.entries in record {
+      let gone = shown.opening.state.gone in
+      let show : EntriesShow keep since gone (stored_among shown.sealed) es (reopened h m) m =
+      entries_show_reopened keep since gone (stored_among shown.sealed) es h m shown.entries in record {
         base = past_up_to h m;
         versions = show.versions;
         shows = shows_replaced (stored_among shown.sealed) own es es (reopened h m) (low (reopened h m) m keep since) m

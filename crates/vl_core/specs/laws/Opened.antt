@@ -23,7 +23,7 @@ use Rattle.vl_core.specs.Shown.{LeavesBetween, Shown}
 use Rattle.vl_core.specs.declared.kept.Core.{Core}
 use Rattle.vl_core.specs.laws.BegunHolds.{begins_as, plan_as, repaired_base, repaired_layout}
 use Rattle.vl_core.specs.laws.BegunLaws.{one_opening}
-use Rattle.vl_core.specs.laws.BegunShows.{begun_shows}
+use Rattle.vl_core.specs.laws.BegunShows.{begun_spares, begun_shows}
 use Rattle.vl_core.specs.laws.BegunTidy.{begun_tidy}
 use Rattle.vl_core.specs.laws.FrontLaws.{front_known, front_started}
 use Rattle.vl_core.specs.laws.KeptLaws.{none_drawn}
@@ -252,7 +252,7 @@ module _ {D H : Type 0} (parts : Parts D H) (room : ℕ) (core : Core H) (made :
             (ap (λ (held : Contents). held.entries) made.active) made.frozen made.leveled made.logs (ap (λ (o : Opened). o.frozen) is)
             (ap (λ (o : Opened). o.levels) is) tables logs;
         tidy = begun_tidy found h shown room;
-        spared = (begun_shows found h shown room).spared;
+        spared = begun_spares found h shown room;
       }
 
       -- and where a store may be opened it represents them.

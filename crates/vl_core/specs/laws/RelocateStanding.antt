@@ -11,7 +11,7 @@ use Rattle.vl_core.specs.Represents.{Fronts, IsFront, StandsFor, file_of}
 use Rattle.vl_core.specs.Spared.{Spares, SparesRuled}
 use Rattle.vl_core.specs.declared.kept.Core.{Core}
 use Rattle.vl_core.specs.laws.RelocateRulings.{IsMoving, tidy_moving}
-use Rattle.vl_core.specs.laws.SparedLaws.{spared_later}
+use Rattle.vl_core.specs.laws.SparedLaws.{spared_later, whole_later}
 use Rattle.vl_core.specs.laws.SparedSteps.{has_logged}
 use Rattle.vl_core.specs.laws.Standing.{fronts_halted, stands_halted}
 use Rattle.vl_core.specs.laws.VersionLaws.{laid_relocated}
@@ -43,10 +43,14 @@ use Rattle.vl_model.specs.declared.log_frame.Moved.{Moved}
 
 -- A relocation takes no version away,
 pub relocated_spares : (l : Layout) (h : History) (moved : List Moved) → Spares l h → Spares (relocated l moved) h
-relocated_spares l h moved =
-    spared_later h h (sources l) (sources (relocated l moved)) (last_number h) (last_number h) (floor l h)
-    (floor (relocated l moved) h) l.keep l.since (omega arith) (has_logged l (Relocated moved))
-    (λ key n le there missing. (le, there))
+relocated_spares l h moved spares = record {
+  past = spared_later h h (sources l) (sources (relocated l moved)) (last_number h) (last_number h) (floor l h)
+      (floor (relocated l moved) h) l.keep l.since (omega arith) (has_logged l (Relocated moved))
+      (λ key n le there missing. (le, there)) spares.past;
+  whole = whole_later h h (sources l) (sources (relocated l moved)) (last_number h) (last_number h) (floor l h)
+      (floor (relocated l moved) h) l.gone l.gone (omega arith) (omega arith) (has_logged l (Relocated moved))
+      (λ key n le there missing. (le, there)) spares.whole;
+}
 
 -- so neither does the ruling on one,
 module _ (l : Layout) (h : History) (spares : Spares l h) where

@@ -55,9 +55,9 @@ of_reopened h m (e ∷ es) all up = (
   of_reopened h m es all.1 up.1,
 )
 
-pub entries_show_reopened : (keep since : ℕ) (logs : Logs) (es : List Entry) (h : History) (m : ℕ)
-    → EntriesShow keep since logs es h m → EntriesShow keep since logs es (reopened h m) m
-entries_show_reopened keep since logs es h m show = record {
+pub entries_show_reopened : (keep since gone : ℕ) (logs : Logs) (es : List Entry) (h : History) (m : ℕ)
+    → EntriesShow keep since gone logs es h m → EntriesShow keep since gone logs es (reopened h m) m
+entries_show_reopened keep since gone logs es h m show = record {
   shows = record {
     values = λ key number low high.
         show.shows.values key number (subst (λ (n : ℕ). n ≤ number) (low-reopened h m keep since key) low) high
@@ -70,6 +70,9 @@ entries_show_reopened keep since logs es h m show = record {
   up_to = show.up_to;
   spared = λ two key n le there missing.
       show.spared two key n le
+      (from-filtered m n (versions h key) (subst (λ (ns : List ℕ). has n ns ≡ true) (versions-reopened h m key) there)) missing;
+  whole = λ key n le there missing.
+      show.whole key n le
       (from-filtered m n (versions h key) (subst (λ (ns : List ℕ). has n ns ≡ true) (versions-reopened h m key) there)) missing;
 }
 
@@ -88,7 +91,7 @@ shown_reopened image h m shown = record {
   some = shown.some;
   since = shown.since;
   last = shown.last;
-  entries = entries_show_reopened shown.opening.state.keep shown.opening.state.since (stored_among shown.sealed)
+  entries = entries_show_reopened shown.opening.state.keep shown.opening.state.since shown.opening.state.gone (stored_among shown.sealed)
       (logs_entries shown.opening.logs ++ entries_among shown.levels) h m shown.entries;
 }
 
@@ -104,7 +107,7 @@ no_versions key =
     ap (λ (cs : List Numbered). naming key (filter (λ (c : Numbered). nat_le c.0 0) cs ++ [])) nothing
 
 -- No entries show a store without commits.
-pub none_show : (logs : Logs) → EntriesShow 1 0 logs [] no_history 0
+pub none_show : (logs : Logs) → EntriesShow 1 0 0 logs [] no_history 0
 none_show logs = record {
   shows = record {
     values = λ key number from to. ap Some (sym (value_at-first no_history number key to ∙ past_value-empty number key));
@@ -115,5 +118,7 @@ none_show logs = record {
   versions = tt;
   up_to = tt;
   spared = λ two key n le there missing.
+      absurd (true_false (sym (subst (λ (ns : List ℕ). has n ns ≡ true) (no_versions key) there)));
+  whole = λ key n le there missing.
       absurd (true_false (sym (subst (λ (ns : List ℕ). has n ns ≡ true) (no_versions key) there)));
 }

@@ -11,7 +11,7 @@ use Rattle.vl_core.specs.Pointed.{stored_among}
 use Rattle.vl_core.specs.Shown.{EntriesShow, HasFramedAmong, Shown, ShowsBetween, entries_among, logs_entries, tables_among}
 use Rattle.vl_core.specs.laws.FileLaws.{all_back, all_front, all_more, segment_number}
 use Rattle.vl_core.specs.laws.LogEntries.{entries-filled}
-use Rattle.vl_core.specs.laws.SparedLaws.{spared_extends}
+use Rattle.vl_core.specs.laws.SparedLaws.{spared_extends, whole_extends, whole_later}
 use Rattle.vl_layout.specs.Shown.{IsOf}
 use Rattle.vl_layout.specs.Sources.{numbers_of}
 use Rattle.vl_layout.specs.Tidy.{IsPlacedIn}
@@ -40,15 +40,27 @@ pub of_later : (h k : History) → Extends h k → (es : List Entry) → AllByRe
 of_later h k extends [] all = tt
 of_later h k extends (e ∷ es) all = (versions-stay h k extends e.key e.version all.0, of_later h k extends es all.1)
 
-pub entries_show_later : (keep since : ℕ) (logs : Logs) (es : List Entry) (h k : History) (m : ℕ) → Extends h k
-    → m ≤ last_number h → EntriesShow keep since logs es h m → EntriesShow keep since logs es k m
-entries_show_later keep since logs es h k m extends le show = record {
+pub entries_show_later : (keep since gone : ℕ) (logs : Logs) (es : List Entry) (h k : History) (m : ℕ) → Extends h k
+    → m ≤ last_number h → EntriesShow keep since gone logs es h m → EntriesShow keep since gone logs es k m
+entries_show_later keep since gone logs es h k m extends le show = record {
   shows = shows_from logs es k (low h m keep since) (low k m keep since) m
       (λ key. low_rises h k extends m m keep since key (omega arith))
       (shows-extends logs es h k (low h m keep since) m extends le show.shows);
   versions = of_later h k extends es show.versions;
   up_to = show.up_to;
   spared = spared_extends h k extends es m m keep since le show.spared;
+  whole = whole_extends h k extends es m m gone le show.whole;
+}
+
+-- a greater number for what is gone
+pub entries_show_gone : (keep since gone more : ℕ) (logs : Logs) (es : List Entry) (h : History) (m : ℕ) → gone ≤ more
+    → EntriesShow keep since gone logs es h m → EntriesShow keep since more logs es h m
+entries_show_gone keep since gone more logs es h m up show = record {
+  shows = show.shows;
+  versions = show.versions;
+  up_to = show.up_to;
+  spared = show.spared;
+  whole = whole_later h h es es m m m m gone more (omega arith) up (λ key n there. there) (λ key n le there missing. (le, there)) show.whole;
 }
 
 -- What an image shows of a history at one of its numbers it shows of each later history.
@@ -67,7 +79,7 @@ shown_later h k extends image m le shown = record {
   some = shown.some;
   since = shown.since;
   last = shown.last;
-  entries = entries_show_later shown.opening.state.keep shown.opening.state.since (stored_among shown.sealed)
+  entries = entries_show_later shown.opening.state.keep shown.opening.state.since shown.opening.state.gone (stored_among shown.sealed)
       (logs_entries shown.opening.logs ++ entries_among shown.levels) h k m extends le shown.entries;
 }
 
@@ -92,7 +104,7 @@ pub shown_by : (image : Image) (state : ManifestState) (logs : List Segment) (vi
     → ((n : ℕ) → IsAmong (led_into (found_levels levels)) n → HasFramedAmong image sealed n)
     → AllByRecursion (λ (t : laid.Table). AllByRecursion (IsPlacedIn sealed) t.entries) (tables_among levels)
     → 1 ≤ state.keep → state.since ≤ m → m ≤ max_commit_number
-    → EntriesShow state.keep state.since (stored_among sealed) (logs_entries logs ++ entries_among levels) h m → Shown image h m
+    → EntriesShow state.keep state.since state.gone (stored_among sealed) (logs_entries logs ++ entries_among levels) h m → Shown image h m
 shown_by image state logs view levels sealed h m found opens have led placed some since last show = record {
   opening = opening_held state view logs m;
   opens = opens;
@@ -106,7 +118,7 @@ shown_by image state logs view levels sealed h m found opens have led placed som
   some = some;
   since = since;
   last = last;
-  entries = subst (λ (es : List Entry). EntriesShow state.keep state.since (stored_among sealed) (es ++ entries_among levels) h m)
+  entries = subst (λ (es : List Entry). EntriesShow state.keep state.since state.gone (stored_among sealed) (es ++ entries_among levels) h m)
       (sym (entries-filled logs)) show;
 }
 
@@ -186,16 +198,17 @@ module _ (image other : Image) where
           (opened other shown.opening shown.opens).levels)
 
       -- the entries of an opening that has the same show the same
-      shows_with : (p : Opening) → ShowsAs p shown.opening → EntriesShow p.state.keep p.state.since (stored_among shown.sealed)
+      shows_with : (p : Opening) → ShowsAs p shown.opening → EntriesShow p.state.keep p.state.since p.state.gone (stored_among shown.sealed)
           (logs_entries p.logs ++ entries_among shown.levels) h m
       shows_with p alike =
           let logs = stored_among shown.sealed in
           let was = shown.opening.state in
           let more = entries_among shown.levels in
-          subst (λ (k : ℕ). EntriesShow k p.state.since logs (logs_entries p.logs ++ more) h m) (sym alike.state.keep)
-          (subst (λ (n : ℕ). EntriesShow was.keep n logs (logs_entries p.logs ++ more) h m) (sym alike.state.since)
-          (subst (λ (ss : List Segment). EntriesShow was.keep was.since logs (logs_entries ss ++ more) h m)
-          (sym alike.logs) shown.entries))
+          entries_show_gone p.state.keep p.state.since was.gone p.state.gone logs (logs_entries p.logs ++ more) h m alike.state.gone
+          (subst (λ (k : ℕ). EntriesShow k p.state.since was.gone logs (logs_entries p.logs ++ more) h m) (sym alike.state.keep)
+          (subst (λ (n : ℕ). EntriesShow was.keep n was.gone logs (logs_entries p.logs ++ more) h m) (sym alike.state.since)
+          (subst (λ (ss : List Segment). EntriesShow was.keep was.since was.gone logs (logs_entries ss ++ more) h m)
+          (sym alike.logs) shown.entries)))
 
       by : ((p : Opening) × Opens image (Ok p) × ShowsAs p shown.opening × SameNeeded image other shown.opening)
           → Shown image h m

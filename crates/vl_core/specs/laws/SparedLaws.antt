@@ -19,7 +19,7 @@ use Rattle.vl_model.specs.laws.NumberLaws as laws
 use Rattle.vl_model.specs.laws.NumberLaws.{AreRisen, IsFound, greatest-found, greatest-reaches, nth-fewer_than, nth-risen}
 use Rattle.vl_model.specs.laws.WinnerLaws.{same_key}
 use Rattle.vl_model.specs.laws.VersionLaws.{has-append, versions-extends_as, versions-stay, versions-up}
-use Rattle.vl_core.specs.Spared.{AreSpared, IsSpared}
+use Rattle.vl_core.specs.Spared.{AreSpared, IsSpared, IsWhole}
 
 true_false : true ≡ false → ⊥
 true_false is = cc
@@ -145,7 +145,29 @@ spared_later h h' es es' to to' floor floor' keep since up stand old spared two 
     not_in true at = absurd (true_false (sym (stand key n at) ∙ missing))
     not_in false at = at
 
+pub whole_later : (h h' : History) (es es' : List Entry) (to to' floor floor' gone gone' : ℕ) → floor ≤ floor' → gone ≤ gone'
+    → ((key : List ℕ) → AreAmong (versions_in es key) (versions_in es' key))
+    → ((key : List ℕ) (n : ℕ) → n ≤ to' → has n (versions h' key) ≡ true → has n (versions_in es' key) ≡ false
+    → (n ≤ to) × (has n (versions h key) ≡ true))
+    → IsWhole h es to floor gone → IsWhole h' es' to' floor' gone'
+whole_later h h' es es' to to' floor floor' gone gone' up more stand old whole key n le there missing =
+    let was = old key n le there missing in
+    ⊎_elim (λ (early : n ≤ gone). inl (omega (arith, early, more)))
+    (λ (p : Passes n (greatest_below (floor + 1) (versions_in es key))).
+    inr (passes_risen n (greatest_below (floor + 1) (versions_in es key)) (greatest_below (floor' + 1) (versions_in es' key))
+    (nth-risen (versions_in es key) (versions_in es' key) (stand key) (floor + 1) (floor' + 1) 1 (omega (arith, up))) p))
+    (whole key n was.0 was.1 (not_in (has n (versions_in es key)) refl))
+  where
+    not_in : (t : Bool) → has n (versions_in es key) ≡ t → has n (versions_in es key) ≡ false
+    not_in true at = absurd (true_false (sym (stand key n at) ∙ missing))
+    not_in false at = at
+
 -- a floor that isn't lower,
+pub whole_up : (h : History) (es : List Entry) (to floor floor' gone : ℕ) → floor ≤ floor'
+    → IsWhole h es to floor gone → IsWhole h es to floor' gone
+whole_up h es to floor floor' gone up =
+    whole_later h h es es to to floor floor' gone gone up (omega arith) (λ key n there. there) (λ key n le there missing. (le, there))
+
 pub spared_up : (h : History) (es : List Entry) (to floor floor' keep since : ℕ) → floor ≤ floor'
     → IsSpared h es to floor keep since → IsSpared h es to floor' keep since
 spared_up h es to floor floor' keep since up =
@@ -224,6 +246,11 @@ pub spared_extends : (least most : History) → Extends least most → (es : Lis
     → to ≤ last_number least → IsSpared least es to floor keep since → IsSpared most es to floor keep since
 spared_extends least most e es to floor keep since le spared two key n up there missing =
     spared two key n up (older least most e key n (omega (arith, up, le)) there) missing
+
+pub whole_extends : (least most : History) → Extends least most → (es : List Entry) (to floor gone : ℕ)
+    → to ≤ last_number least → IsWhole least es to floor gone → IsWhole most es to floor gone
+whole_extends least most e es to floor gone le whole key n up there missing =
+    whole key n up (older least most e key n (omega (arith, up, le)) there) missing
 
 -- and so does the least number at which a key can be read, over a floor that the earlier one has.
 pub low_stays : (least most : History) → Extends least most → (floor keep since : ℕ) (key : List ℕ) → floor ≤ last_number least

@@ -38,19 +38,23 @@ use Rattle.vl_model.specs.declared.entry.Entry.{Entry}
 use Rattle.vl_model.specs.declared.log_frame.LogFrame.{LogFrame}
 use Rattle.vl_model.specs.laws.HistoryLaws.{with_commit-extends}
 use Rattle.vl_model.specs.laws.VersionLaws.{has-append, versions-up, versions-with_commit}
-use Rattle.vl_core.specs.Spared.{IsSpared, Spares}
-use Rattle.vl_core.specs.laws.SparedLaws.{spared_keep, spared_later, spared_up}
+use Rattle.vl_core.specs.Spared.{IsSpared, IsWhole, Spares}
+use Rattle.vl_core.specs.laws.SparedLaws.{spared_keep, spared_later, spared_up, whole_later, whole_up}
 
 -- ---- the same sources
 
 -- A floor that isn't lower,
 pub spares_floor : (l next : Layout) (h : History) → sources next ≡ sources l → next.keep ≡ l.keep → next.since ≡ l.since
-    → floor l h ≤ floor next h → Spares l h → Spares next h
-spares_floor l next h same keep since up spared =
-    subst (λ (es : List Entry). IsSpared h es (last_number h) (floor next h) next.keep next.since) (sym same)
-    (subst (λ (n : ℕ). IsSpared h (sources l) (last_number h) (floor next h) n next.since) (sym keep)
-    (subst (λ (n : ℕ). IsSpared h (sources l) (last_number h) (floor next h) l.keep n) (sym since)
-    (spared_up h (sources l) (last_number h) (floor l h) (floor next h) l.keep l.since up spared)))
+    → next.gone ≡ l.gone → floor l h ≤ floor next h → Spares l h → Spares next h
+spares_floor l next h same keep since gone up spared = record {
+  past = subst (λ (es : List Entry). IsSpared h es (last_number h) (floor next h) next.keep next.since) (sym same)
+      (subst (λ (n : ℕ). IsSpared h (sources l) (last_number h) (floor next h) n next.since) (sym keep)
+      (subst (λ (n : ℕ). IsSpared h (sources l) (last_number h) (floor next h) l.keep n) (sym since)
+      (spared_up h (sources l) (last_number h) (floor l h) (floor next h) l.keep l.since up spared.past)));
+  whole = subst (λ (es : List Entry). IsWhole h es (last_number h) (floor next h) next.gone) (sym same)
+      (subst (λ (n : ℕ). IsWhole h (sources l) (last_number h) (floor next h) n) (sym gone)
+      (whole_up h (sources l) (last_number h) (floor l h) (floor next h) l.gone up spared.whole));
+}
 
 no_later : (h : History) → Extends h h
 no_later h = record { first = refl; base = refl; later = []; commits = nothing h.commits }
@@ -62,23 +66,26 @@ no_later h = record { first = refl; base = refl; later = []; commits = nothing h
 -- as behind a begin, an end,
 pub spares_begun : (l : Layout) (h : History) (ticket : ℕ) → Spares l h → Spares (begun l ticket (last_number h)) h
 spares_begun l h ticket =
-    spares_floor l (begun l ticket (last_number h)) h refl refl refl
+    spares_floor l (begun l ticket (last_number h)) h refl refl refl refl
     (let same = floor-begun l (begun l ticket (last_number h)) h
     (record { ticket = ticket; number = last_number h; pin = pin_of l }) refl refl
     in omega (arith, same))
 
 pub spares_ended : (l : Layout) (h : History) (ticket : ℕ) → Spares l h → Spares (ended ticket l) h
 spares_ended l h ticket =
-    spares_floor l (ended ticket l) h refl refl refl
+    spares_floor l (ended ticket l) h refl refl refl refl
     (floor-rises l (ended ticket l) h h (no_later h) (λ (x : Live). not (x.ticket == ticket)) refl)
 
 -- and a rotation.
 pub spares_rotated : (l : Layout) (h : History) → Spares l h → Spares (rotated l) h
-spares_rotated l h = spares_floor l (rotated l) h (sources-rotated l) refl refl (omega arith)
+spares_rotated l h = spares_floor l (rotated l) h (sources-rotated l) refl refl refl (omega arith)
 
 -- a change of how many are kept
 pub spares_keeping : (l : Layout) (h : History) (v : ℕ) → Spares l h → Spares (keeping v h l) h
-spares_keeping l h v = spared_keep h (sources l) (last_number h) (floor l h) l.keep l.since v
+spares_keeping l h v spares = record {
+  past = spared_keep h (sources l) (last_number h) (floor l h) l.keep l.since v spares.past;
+  whole = spares.whole;
+}
 
 -- ---- a frame
 
@@ -178,13 +185,23 @@ module _ (l : Layout) (h : History) (ticket : ℕ) (writes : Writes) where
           absurd (true_false (sym either ∙ ap (λ c. c || has n (naming key is_new)) is ∙ named_new false named))
 
   pub spares_committed : Spares l h → Spares then (with_commit h writes)
-  spares_committed =
-      spared_later h (with_commit h writes) (sources l) (sources then) (last_number h) (last_number (with_commit h writes))
-      (floor l h) (floor then (with_commit h writes)) l.keep l.since
-      (floor-rises l then h (with_commit h writes) (with_commit-extends h writes) (λ (x : Live). not (x.ticket == ticket)) refl)
-      (λ key n there. has_then key n
-      ∙ or_right (is_some (get writes key) && (last_number h + 1 == n)) (has n (versions_in (sources l) key)) there)
-      (λ key n le there missing. let was = was_one key n there missing in (versions-up h key n was, was))
+  spares_committed spares = record {
+    past = spared_later h (with_commit h writes) (sources l) (sources then) (last_number h) (last_number (with_commit h writes))
+        (floor l h) (floor then (with_commit h writes)) l.keep l.since up stand old spares.past;
+    whole = whole_later h (with_commit h writes) (sources l) (sources then) (last_number h) (last_number (with_commit h writes))
+        (floor l h) (floor then (with_commit h writes)) l.gone l.gone up (omega arith) stand old spares.whole;
+  }
+    where
+      up : floor l h ≤ floor then (with_commit h writes)
+      up = floor-rises l then h (with_commit h writes) (with_commit-extends h writes) (λ (x : Live). not (x.ticket == ticket)) refl
+
+      stand : (key : List ℕ) (n : ℕ) → has n (versions_in (sources l) key) ≡ true → has n (versions_in (sources then) key) ≡ true
+      stand key n there = has_then key n
+          ∙ or_right (is_some (get writes key) && (last_number h + 1 == n)) (has n (versions_in (sources l) key)) there
+
+      old : (key : List ℕ) (n : ℕ) → n ≤ last_number (with_commit h writes) → has n (versions (with_commit h writes) key) ≡ true
+          → has n (versions_in (sources then) key) ≡ false → (n ≤ last_number h) × (has n (versions h key) ≡ true)
+      old key n le there missing = let was = was_one key n there missing in (versions-up h key n was, was)
 
 -- ---- a flush
 
@@ -223,6 +240,10 @@ module _ (l : Layout) (h : History) (s : Segment) (waits : oldest l.frozen ≡ S
   has_flushed key n = has-versions_in key n (sources (flushed l s)) ∙ any_flushed key n ∙ sym (has-versions_in key n (sources l))
 
   pub spares_flushed : Spares l h → Spares (flushed l s) h
-  spares_flushed =
-      spared_later h h (sources l) (sources (flushed l s)) (last_number h) (last_number h) (floor l h) (floor (flushed l s) h)
-      l.keep l.since (omega arith) (λ key n there. has_flushed key n ∙ there) (λ key n le there missing. (le, there))
+  spares_flushed spares = record {
+    past = spared_later h h (sources l) (sources (flushed l s)) (last_number h) (last_number h) (floor l h) (floor (flushed l s) h)
+        l.keep l.since (omega arith) (λ key n there. has_flushed key n ∙ there) (λ key n le there missing. (le, there)) spares.past;
+    whole = whole_later h h (sources l) (sources (flushed l s)) (last_number h) (last_number h) (floor l h) (floor (flushed l s) h)
+        l.gone l.gone (omega arith) (omega arith) (λ key n there. has_flushed key n ∙ there) (λ key n le there missing. (le, there))
+        spares.whole;
+  }

@@ -1,10 +1,10 @@
 -- What is read of a manifest that was being made of a whole state.
 use Rattle.std.specs.Prelude.{◌≡◌, ◌⊎◌, ◌+◌, ◌==◌, ◌&&◌, ◌<◌, ◌≤◌, ◌^◌, ℕ, Bool, true, false, bytes_eq, if◌then◌else◌}
-use Rattle.std.specs.Prelude.{zero, suc, List, [], ◌∷◌, ◌++◌, drop, length, take, Option, None, Some, refl}
+use Rattle.std.specs.Prelude.{nat_le, zero, suc, List, [], ◌∷◌, ◌++◌, drop, length, take, Option, None, Some, refl}
 use Rattle.std.specs.List.{AllByRecursion}
 use Rattle.std.proofs.Common.{sym, ap, subst, ◌∙◌, inl, inr, ⊎_elim, arith}
 use Rattle.std.proofs.lemmas.Bool.{cases_Bool, cases_lt}
-use Rattle.std.proofs.lemmas.Bool.Decides.{not_from_Decides}
+use Rattle.std.proofs.lemmas.Bool.Decides.{nat_tests, not_from_Decides}
 use Rattle.std.proofs.lemmas.Slice.Eq.{bytes_eq-Decides}
 use Rattle.std.proofs.lemmas.List.{take_at, take-append-drop}
 use Rattle.vl_frame.specs.Header.{header_bytes}
@@ -21,7 +21,7 @@ use Rattle.vl_manifest.specs.Formats.{gone_format, keep_format}
 use Rattle.vl_manifest.specs.Grammar.{edits_grammar}
 use Rattle.vl_manifest.specs.Levels.{no_tables}
 use Rattle.vl_manifest.specs.Manifest.{HasHeader, IsReadable, ReadsManifest, SaysState, manifest_bytes}
-use Rattle.vl_manifest.specs.States.{adds_from, as_read, last_edits, read_in, state_behind, state_then, whole_edits}
+use Rattle.vl_manifest.specs.States.{adds_from, as_read, gone_edits, keep_edits, last_edits, read_in, state_behind, state_then, whole_edits}
 use Rattle.vl_manifest.specs.Tables.{SaysBareState, names_tables, read}
 use Rattle.vl_manifest.specs.laws.EditLaws.{edits_later}
 use Rattle.vl_manifest.specs.laws.ManifestLaws.{manifest_reads, whole_said}
@@ -124,6 +124,28 @@ record ReadableIn (format number : ℕ) (bytes : List ℕ) : Type 0 where
 pub record SaysAsRead (number : ℕ) (bytes : List ℕ) (s : ManifestState) : Type 0 where
   pub format : ℕ
   pub says : SaysState number bytes (as_read format s)
+  -- An earlier format has no edit for `gone`: a state that stands in it says none, and the covered number is read for it.
+  pub gone : s.gone ≤ (as_read format s).gone
+
+all_right : (format : ℕ) (xs ys : List Edit) → AllByRecursion (IsEdit format) (xs ++ ys) → AllByRecursion (IsEdit format) ys
+all_right format [] ys all = all
+all_right format (x ∷ xs) ys all = all_right format xs ys all.1
+
+raised_as_read : (format : ℕ) (s : ManifestState) → AllByRecursion (IsEdit format) (whole_edits s) → s.gone ≤ (as_read format s).gone
+raised_as_read format s all = by (nat_le gone_format format) refl
+  where
+    edits : AllByRecursion (IsEdit format) (gone_edits s.gone)
+    edits = all_right format (keep_edits s.keep s.since) (gone_edits s.gone)
+        (all_right format (adds_from 0 s.levels) (last_edits s) all).1.1
+
+    none : (b : Bool) → (s.gone == 0) ≡ b → (format < gone_format) → AllByRecursion (IsEdit format) (if b then [] else Gone s.gone ∷ [])
+        → s.gone ≤ s.covered
+    none true is less es = let zero_is : s.gone ≡ 0 = grind (arith, nat_tests, is) in omega (arith, zero_is)
+    none false is less es = let le = es.0.0 in absurd (omega (arith, le, less))
+
+    by : (b : Bool) → nat_le gone_format format ≡ b → s.gone ≤ (if b then s else record s { gone = s.covered }).gone
+    by true is = omega arith
+    by false is = let less : format < gone_format = grind (arith, nat_tests, is) in none (s.gone == 0) refl less edits
 
 -- what reads as a state's frame, in any format, says it as it is read there
 said_in : (number : ℕ) (s : ManifestState) (format : ℕ) (bytes : List ℕ) → IsInRange s
@@ -161,6 +183,7 @@ module _ (number : ℕ) (s : ManifestState) (has : HasFrame (edits_grammar manif
             λ edits more next. none edits more (stands_later format number _ rest edits more le next),
           );
         });
+        gone = raised_as_read format s all;
       }))
       (λ (not : AllByRecursion (IsEdit format) (whole_edits s) → ⊥). inl (λ readable.
       let same = one_item (edits_grammar manifest_format) number 16 (drop 16 bytes) readable.first (whole_edits s) readable.rest rest

@@ -144,7 +144,7 @@ module _ {read : Image} (found : Finds read) (start : DiskState) (begins : Begin
         (ap (λ (x : Opening). x.levels) one ∙ shows.levels) as_start)
         (λ (said : SaysAsRead n file.bytes new_s).
         let here_s = as_read said.format new_s in
-        let same_s : SameState here_s new_s = read_same said.format new_s in
+        let same_s : SameState here_s new_s = read_same said.format new_s said.gone in
         let current : IsCurrent image n file.bytes = record {
           here = record { stands = there; readable = says_readable n file.bytes here_s said.says };
           greatest = λ m others r. ⊎_elim

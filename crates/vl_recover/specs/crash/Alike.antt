@@ -1,6 +1,6 @@
 -- When one image opens like another, and when whatever a crash leaves of a disk opens like something that it could have left
 -- of an earlier one.
-use Rattle.std.specs.Prelude.{◌≡◌, ℕ, List, Ok}
+use Rattle.std.specs.Prelude.{◌≤◌, ◌≡◌, ℕ, List, Ok}
 use Rattle.std.specs.FinMap.{get}
 use Rattle.vl_disk.specs.Chance.{NoChanceMatch}
 use Rattle.vl_disk.specs.Crash.{Image, MayLeave}
@@ -15,14 +15,15 @@ use Rattle.vl_seglog.specs.Frames.{frames_grammar}
 use Rattle.vl_seglog.specs.LogReading.{HasHeader, IsLogFormat}
 use Rattle.vl_recover.specs.opening.Opening.{IsAmong, IsNamed, Opening, Opens, led_into}
 
--- Two manifests say the same, but for the numbers that may still be given. Neither is `gone` among it: where a crash tears
--- the new manifest's header into one of an older format, its covered number is read for it.
+-- Two manifests say the same, but for the numbers that may still be given. The first may say a greater `gone`: where a crash
+-- tears the new manifest's header into one of an older format, its covered number is read for it.
 pub record SameState (a b : ManifestState) : Type 0 where
   pub levels : a.levels ≡ b.levels
   pub head : a.head ≡ b.head
   pub covered : a.covered ≡ b.covered
   pub keep : a.keep ≡ b.keep
   pub since : a.since ≡ b.since
+  pub gone : b.gone ≤ a.gone
 
 -- so do two openings, which have the same tables, the same logs and the same last commit
 pub record ShowsAs (a b : Opening) : Type 0 where

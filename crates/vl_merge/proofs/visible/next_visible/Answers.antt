@@ -5,7 +5,7 @@ use Rattle.vl_merge.proofs.visible.next_visible.Goals as goal
 
 pub returns-then-is_some-clause-given : goal.returns-then-is_some-clause-given
 returns-then-is_some-clause-given g c =
-    step_given c.args.number c.loop-entry.held c.pass-winner.new.held _ (g.M.Cursor.left c.loop-entry.merge)
+    step_given c.args.hides c.args.number c.loop-entry.held c.pass-winner.new.held _ (g.M.Cursor.left c.loop-entry.merge)
     (g.M.Cursor.left c.next.new.self) c.loop-entry.invariant.kept
     c.in_ok-entry.field-0 c.in-Some.entry c.in_ok-entry.ensures.given c.in-Some.is c.pass-winner.ensures.held
     c.pass-winner.result c.pass-winner.ensures.gives
@@ -14,7 +14,7 @@ returns-then-is_some-clause-given g c =
 pub loop-entry-preserved : goal.loop-entry-preserved
 loop-entry-preserved g c = record {
   kept =
-      step_kept c.args.number c.loop-entry.held c.pass-winner.new.held _ (g.M.Cursor.left c.loop-entry.merge)
+      step_kept c.args.hides c.args.number c.loop-entry.held c.pass-winner.new.held _ (g.M.Cursor.left c.loop-entry.merge)
       (g.M.Cursor.left c.next.new.self) c.loop-entry.invariant.kept
       c.in_ok-entry.field-0 c.in-Some.entry c.in_ok-entry.ensures.given c.in-Some.is c.pass-winner.ensures.held
       c.pass-winner.result c.pass-winner.ensures.gives
@@ -29,7 +29,7 @@ loop-entry-preserved g c = record {
 
 pub returns-clause-given : goal.returns-clause-given
 returns-clause-given g c =
-    step_end c.args.number c.loop-entry.held c.take.new.self _ (g.M.Cursor.left c.loop-entry.merge)
+    step_end c.args.hides c.args.number c.loop-entry.held c.take.new.self _ (g.M.Cursor.left c.loop-entry.merge)
     (g.M.Cursor.left c.next.new.self) c.loop-entry.invariant.kept
     c.in_ok-entry.field-0 c.only_shown.result c.in_ok-entry.ensures.given c.in_default.is c.take.ensures.after
-    (c.only_shown.ensures ∙ ap only_shown c.take.ensures.value)
+    (c.only_shown.ensures ∙ ap (only_shown c.args.hides) c.take.ensures.value)

@@ -5,8 +5,8 @@ use Rattle.vl_merge.proofs.visible.next_visible.Given as goal
 
 abbrev pub invariant-loop-entry : goal.invariant-loop-entry
 invariant-loop-entry g l = record {
-  kept : Keeps (visible_left l.number l.initial.held (g.M.Cursor.left l.initial.merge))
-      (visible_left l.number l.held (g.M.Cursor.left l.merge));
+  kept : Keeps (visible_left l.hides l.number l.initial.held (g.M.Cursor.left l.initial.merge))
+      (visible_left l.hides l.number l.held (g.M.Cursor.left l.merge));
   spends : held_budget l.held (g.M.Cursor.budget l.merge) ≤ held_budget l.initial.held (g.M.Cursor.budget l.initial.merge);
   steady : g.M.Cursor.faults l.reader ≡ g.M.Cursor.faults l.initial.reader;
   fails : (fault : _) → g.M.Cursor.may_fail l.merge fault → g.M.Cursor.may_fail l.initial.merge fault;

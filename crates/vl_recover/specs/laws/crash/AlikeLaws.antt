@@ -29,16 +29,7 @@ use Rattle.vl_recover.specs.opening.Walk.{StandingLog, counted_behind, counted_w
 -- ---- states and images that are alike
 
 pub same_state : (s : ManifestState) → SameState s s
-same_state s = record { levels = refl; head = refl; covered = refl; keep = refl; since = refl }
-
-pub state_back : (a b : ManifestState) → SameState a b → SameState b a
-state_back a b same = record {
-  levels = sym same.levels;
-  head = sym same.head;
-  covered = sym same.covered;
-  keep = sym same.keep;
-  since = sym same.since;
-}
+same_state s = record { levels = refl; head = refl; covered = refl; keep = refl; since = refl; gone = omega arith }
 
 pub state_then : (a b c : ManifestState) → SameState a b → SameState b c → SameState a c
 state_then a b c p q = record {
@@ -47,15 +38,17 @@ state_then a b c p q = record {
   covered = p.covered ∙ q.covered;
   keep = p.keep ∙ q.keep;
   since = p.since ∙ q.since;
+  gone = (let one = p.gone in let other = q.gone in omega (arith, one, other));
 }
 
 -- what a format reads of a state is the same
-pub read_same : (format : ℕ) (s : ManifestState) → SameState (as_read format s) s
-read_same format s = by (nat_le gone_format format)
+pub read_same : (format : ℕ) (s : ManifestState) → s.gone ≤ (as_read format s).gone → SameState (as_read format s) s
+read_same format s gone = by (nat_le gone_format format) gone
   where
-    by : (b : Bool) → SameState (if b then s else record s { gone = s.covered }) s
-    by true = same_state s
-    by false = record { levels = refl; head = refl; covered = refl; keep = refl; since = refl }
+    by : (b : Bool) → s.gone ≤ (if b then s else record s { gone = s.covered }).gone
+        → SameState (if b then s else record s { gone = s.covered }) s
+    by true more = same_state s
+    by false more = record { levels = refl; head = refl; covered = refl; keep = refl; since = refl; gone = more }
 
 pub shows_same : (o : Opening) → ShowsAs o o
 shows_same o = record { state = same_state o.state; levels = refl; logs = refl; number = refl }

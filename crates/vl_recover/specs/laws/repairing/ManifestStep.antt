@@ -164,7 +164,7 @@ module _ (read : Image) (o : Opening) (is : IsOpened read o) (number : ℕ) (s :
       before,
       before_left,
       like_new image before (Led number bytes) here current (Ok here, said_as.says, refl)
-          (λ p found. state_then here s p.state (read_same said_as.format s) (before_says p found)) before_log before_table,
+          (λ p found. state_then here s p.state (read_same said_as.format s said_as.gone) (before_says p found)) before_log before_table,
     )
       where
         -- what the new manifest says, in the format that its header has
@@ -227,4 +227,4 @@ module _ (read : Image) (o : Opening) (is : IsOpened read o) (number : ℕ) (s :
           (subst (λ (x : Option File). IsLeftOne (Manifest number) x (get now.removed (Manifest number)) (get image (Manifest number)))
           stands
           (left_one now image left (Manifest number))).may)
-          (record { format = manifest_format; says = whole_manifest number s can.fits can.range can.has })
+          (record { format = manifest_format; says = whole_manifest number s can.fits can.range can.has; gone = omega arith })

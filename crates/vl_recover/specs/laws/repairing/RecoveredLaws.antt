@@ -1,6 +1,6 @@
 -- The store that an opening leaves opens as what the opening found.
 use Rattle.std.specs.Prelude.{◌≡◌, ℕ, Bool, true, false, if◌then◌else◌, List, [], ◌∷◌, ◌++◌, map, Option, None, Some, Result, Ok, Err, refl}
-use Rattle.std.proofs.Common.{sym, ap, subst, ◌∙◌}
+use Rattle.std.proofs.Common.{arith, sym, ap, subst, ◌∙◌}
 use Rattle.std.proofs.lemmas.List.{append-nil}
 use Rattle.vl_disk.specs.Crash.{Image}
 use Rattle.vl_layout.specs.Logs.{new_segment}
@@ -138,7 +138,7 @@ module _ {image : Image} (found : Finds image) where
   -- They show what was found.
   pub found_shows : ShowsAs (opening_held (new_state found.greatest o.state) (view_of found) (logs_then found) o.number) o
   found_shows = record {
-    state = record { levels = refl; head = refl; covered = refl; keep = refl; since = refl };
+    state = record { levels = refl; head = refl; covered = refl; keep = refl; since = refl; gone = omega arith };
     levels = refl;
     logs = filled_made made (as_segments found.logs) ∙ filled_kept found.logs ∙ ap filled (sym same_logs)
         ∙ sym is_opened.logs_are;

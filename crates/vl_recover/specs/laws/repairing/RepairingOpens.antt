@@ -104,7 +104,7 @@ module _ {read : Image} (found : Finds read) (start : DiskState) (begins : Begin
 
   manifest_law : (now : DiskState) → WhileMaking (Manifest number) piece start now → OpensAsOf start now
   manifest_law now during = manifest_step read found.opening is number s (can_write found start begins)
-      (record { levels = refl; head = refl; covered = refl; keep = refl; since = refl }) start now begins.is_read
+      (record { levels = refl; head = refl; covered = refl; keep = refl; since = refl; gone = omega arith }) start now begins.is_read
       begins.may.files (λ m from. manifests_nowhere found start begins m (omega (arith, from))) during
 
   pub first_leads : Leads number s v first

@@ -5,6 +5,7 @@ use Rattle.std.specs.Option.{option_map}
 use Rattle.vl_block.specs.Cutting.{joined}
 use Rattle.vl_merge.specs.MergeOf.{merge_of}
 use Rattle.vl_merge.specs.Merging.{merged}
+use Rattle.vl_merge.specs.declared.hides.Hides.TheVariants as hiding
 use Rattle.vl_merge.specs.Visible.{visible}
 use Rattle.vl_model.specs.Winners.{resolved_at, winner}
 use Rattle.vl_model.specs.declared.entry.Entry.{Entry}
@@ -40,14 +41,14 @@ returns-clause-answers g c es logs has =
     (subst (λ (b : Behind g.row.H.Denot). AreInOrder b.levels) (sym behind) has.in_order)) in
     let give = tells.give in
     let all : List Entry = flat_map (λ (l : List Entry). l) tells.left in
-    let seen : List Entry = visible number (merged way all) in
+    let seen : List Entry = visible hiding.Gone number (merged way all) in
     let led = λ (key : List ℕ). ap
     (λ (l : List (SealedLog g.row.H.Denot)). resolved_at (stored_in bytes l) (winner es key number)) kept
     ∙ same_led bytes self es logs has number key in
-    let along = c.visible_entries_are_the_winners.ensures.along way all number in
-    let winners = λ (key : List ℕ). c.visible_entries_are_the_winners.ensures.winners way all key number in
+    let along = c.visible_entries_are_the_winners.ensures.along hiding.Gone way all number in
+    let winners = λ (key : List ℕ). c.visible_entries_are_the_winners.ensures.winners hiding.Gone way all key number in
     let left = c.new-visible.ensures.left
-    ∙ ap (option_map (visible number))
+    ∙ ap (option_map (visible hiding.Gone number))
     (c.in_ok-new.ensures.left ∙ ap (merge_of way) tells.told ∙ c.merge_of_told_sources.ensures way tells.left give.along) in
     scan_answers (stored_in bytes c.deref.result.now) logs es number c.args.own.now wanted all seen led
     (λ key. give.winners key number) along winners _
@@ -73,11 +74,11 @@ returns-clause-near g c untabled near =
     (none_in_order b.levels none) in
     let give = tells.give in
     let all : List Entry = flat_map (λ (l : List Entry). l) tells.left in
-    let seen : List Entry = visible number (merged way all) in
-    let along = c.visible_entries_are_the_winners.ensures.along way all number in
-    let winners = λ (key : List ℕ). c.visible_entries_are_the_winners.ensures.winners way all key number in
+    let seen : List Entry = visible hiding.Gone number (merged way all) in
+    let along = c.visible_entries_are_the_winners.ensures.along hiding.Gone way all number in
+    let winners = λ (key : List ℕ). c.visible_entries_are_the_winners.ensures.winners hiding.Gone way all key number in
     let left = c.new-visible.ensures.left
-    ∙ ap (option_map (visible number))
+    ∙ ap (option_map (visible hiding.Gone number))
     (c.in_ok-new.ensures.left ∙ ap (merge_of way) tells.told ∙ c.merge_of_told_sources.ensures way tells.left give.along) in
     let held = stored_in bytes self.behind.logs.items in
     c.take_rows.ensures.near seen left
