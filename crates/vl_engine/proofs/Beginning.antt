@@ -178,7 +178,7 @@ module _ {H : Type 0} (bytes : H → Option (List ℕ)) (core : Core H) (h : His
       exact = λ key. subst
           (λ (b : Beginning). low_of (versions_in (sources l) key) b.floor b.keep b.since ≡ low h b.floor b.keep b.since key)
           (sym began) (low_exact h (sources l) (last_number h) (floor l h) l.keep l.since key (floor-up l h)
-          (are_of h (sources l) is.tidy.versions) is.spared);
+          (are_of h (sources l) is.tidy.versions) is.spared.past);
       floor = subst (λ (b : Beginning). b.floor ≤ last_number h) (sym began) (floor-up l h);
     }
 

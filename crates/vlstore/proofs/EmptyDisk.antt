@@ -110,7 +110,7 @@ shown_first = record {
   sealed = [];
   led = λ n among. absurd among;
   placed = tt;
-  entries = subst (λ (h : History). EntriesShow 1 0 (stored_among []) (logs_entries [] ++ entries_among no_tables) h 0) first_history
+  entries = subst (λ (h : History). EntriesShow 1 0 0 (stored_among []) (logs_entries [] ++ entries_among no_tables) h 0) first_history
       (none_show (stored_among []));
   some = omega arith;
   since = omega arith;

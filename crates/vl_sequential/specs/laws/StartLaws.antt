@@ -159,9 +159,9 @@ shown_same h k m n same at shown = record {
   led = shown.led;
   placed = shown.placed;
   entries =
-      subst (λ (g : History). EntriesShow shown.opening.state.keep shown.opening.state.since (stored_among shown.sealed)
+      subst (λ (g : History). EntriesShow shown.opening.state.keep shown.opening.state.since shown.opening.state.gone (stored_among shown.sealed)
       (logs_entries shown.opening.logs ++ entries_among shown.levels) g n) same
-      (subst (λ (k : ℕ). EntriesShow shown.opening.state.keep shown.opening.state.since (stored_among shown.sealed)
+      (subst (λ (k : ℕ). EntriesShow shown.opening.state.keep shown.opening.state.since shown.opening.state.gone (stored_among shown.sealed)
       (logs_entries shown.opening.logs ++ entries_among shown.levels) h k) at shown.entries);
   some = shown.some;
   since = subst (λ (k : ℕ). shown.opening.state.since ≤ k) at shown.since;
